@@ -1,0 +1,40 @@
+ghost use Rattle.std.specs.Prelude.{◌≡◌};
+ghost use Rattle.cra_io.specs.Adapters.{read_faults};
+
+use crate::traits::{Failed, Source};
+use std::io::Read;
+
+/// A source over a reader of std. It tells no content, and each error of the reader is a fault, an
+/// interrupted read too.
+#[derive(Debug, Drop)]
+pub struct ReadSource<R> {
+    reader: R,
+    faults: u64,
+}
+
+impl<R: Read> ReadSource<R> {
+    pub fn new(reader: R) -> ReadSource<R>
+        ensures { read_faults result ≡ 0 }
+    {
+        ReadSource { reader, faults: 0 }
+    }
+}
+
+impl<R: Read> Source for ReadSource<R> {
+    ghost use Rattle.std.specs.Prelude.{None};
+    ghost use Rattle.cra_io.specs.Adapters.{read_faults};
+
+    ghost left = { λ _. None };
+
+    ghost faults = { read_faults };
+
+    fn read(&mut self, into: &mut [u8]) -> Result<usize, Failed> {
+        match self.reader.read(into) {
+            Ok(count) => Ok(count),
+            Err(_) => {
+                self.faults = self.faults.saturating_add(1);
+                Err(Failed)
+            }
+        }
+    }
+}

@@ -1,0 +1,3 @@
+pub mod formers
+pub mod Gives
+pub mod Examples

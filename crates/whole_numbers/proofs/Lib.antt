@@ -1,0 +1,3 @@
+pub mod CommonDivisors
+pub mod Quotients
+pub mod Ring
