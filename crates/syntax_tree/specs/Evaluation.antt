@@ -1,0 +1,24 @@
+-- Evaluation as it goes on: a number, or why it stops. Only private functions say what they do in these words.
+use Rattle.std.specs.Prelude.{ℤ, Option, None, Some, Result, Ok, Err, [], ◌∷◌}
+use Rattle.std.specs.List.{find}
+use Rattle.syntax_tree.specs.declared.evaluation.EvalWide.{EvalWide}
+use Rattle.syntax_tree.specs.declared.evaluation.Stop.{Stop}
+use Rattle.syntax_tree.specs.declared.evaluation.Stop.TheVariants.{DividesByZero, Wide}
+use Rattle.syntax_tree.specs.declared.op.Sign.{Sign}
+use Rattle.syntax_tree.specs.Term.{Term}
+use Rattle.syntax_tree.specs.Value.{State, Step, evaluated, is_wide, sign_steps, signed, step_value, unless_wide}
+
+abbrev pub as_number : Result (Option ℤ) EvalWide → Result ℤ Stop
+as_number (Ok (Some x)) = Ok x
+as_number (Ok None) = Err DividesByZero
+as_number (Err wide) = Err (Wide wide)
+
+unfoldable pub number_of : Term → State → Result ℤ Stop
+number_of e s = as_number (evaluated e s)
+
+-- one step alone, and its value
+unfoldable pub step_number : Step → Result ℤ Stop
+step_number step = as_number (unless_wide (find is_wide (step ∷ [])) (step_value step))
+
+unfoldable pub sign_number : Sign → ℤ → Result ℤ Stop
+sign_number sign x = as_number (unless_wide (find is_wide (sign_steps sign x)) (Some (signed sign x)))

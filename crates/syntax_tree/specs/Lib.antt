@@ -1,0 +1,10 @@
+pub mod Name
+pub mod Term
+pub mod Code
+pub mod SourceExpr
+pub mod SourceLine
+pub mod Value
+pub mod Evaluation
+pub mod Cases
+pub mod Nodes
+pub mod WellFormed

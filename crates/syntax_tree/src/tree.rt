@@ -1,0 +1,98 @@
+ghost use Rattle.std.specs.Prelude.{◌≡◌, IfOk};
+
+use crate::line::{Line, copy_lines};
+use crate::name::Name;
+use items::Items;
+use std::alloc::{AllocError, Global};
+
+/// A text as it is parsed: its declarations in order.
+#[derive(Debug, PartialEq, Eq, Drop)]
+pub struct Tree {
+    pub items: Items<Item>,
+}
+
+/// A declaration at the level of the text. `at` is the place of its name, a byte offset, and `end` that
+/// of a body's closing brace. A prototype with empty brackets says nothing of its parameters.
+#[derive(Debug, PartialEq, Eq, Drop)]
+pub enum Item {
+    Global {
+        name: Name,
+        at: u32,
+        init: i128,
+    },
+    Proto {
+        name: Name,
+        at: u32,
+        returns: bool,
+        params: Option<u32>,
+    },
+    Body {
+        name: Name,
+        at: u32,
+        returns: bool,
+        params: Items<Param>,
+        lines: Items<Line>,
+        end: u32,
+    },
+}
+
+/// A parameter and the place of its name.
+#[derive(Debug, Clone, PartialEq, Eq, Drop)]
+pub struct Param {
+    pub name: Name,
+    pub at: u32,
+}
+
+impl Tree {
+    /// A copy of the tree.
+    pub fn copy(&self, alloc: Global) -> Result<Tree, AllocError>
+        ensures { IfOk result (λ c. c ≡ self.now) }
+    {
+        let mut items = Items::new(alloc);
+        for item in self.items.as_slice() {
+            items.push(item.copy(alloc)?)?;
+        }
+        Ok(Tree { items })
+    }
+}
+
+impl Item {
+    /// A copy of the declaration.
+    pub fn copy(&self, alloc: Global) -> Result<Item, AllocError>
+        ensures { IfOk result (λ c. c ≡ self.now) }
+    {
+        Ok(match self {
+            Item::Global { name, at, init } => Item::Global {
+                name: name.clone()?,
+                at: *at,
+                init: *init,
+            },
+            Item::Proto {
+                name,
+                at,
+                returns,
+                params,
+            } => Item::Proto {
+                name: name.clone()?,
+                at: *at,
+                returns: *returns,
+                params: *params,
+            },
+            Item::Body {
+                name,
+                at,
+                returns,
+                params,
+                lines,
+                end,
+            } => Item::Body {
+                name: name.clone()?,
+                at: *at,
+                returns: *returns,
+                params: params.clone()?,
+                lines: copy_lines(alloc, lines)?,
+                end: *end,
+            },
+        })
+    }
+}
