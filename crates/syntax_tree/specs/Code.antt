@@ -33,7 +33,8 @@ statement_layer (Stmt-F.Call proc args into) = Call proc (map term_of args) into
 statement_layer (Stmt-F.Guard cond) = Guard (term_of cond)
 statement_layer (Stmt-F.Check number cond) = Check number (term_of cond)
 statement_layer (Stmt-F.If cond on_true on_false) = If (term_of cond) (code_from on_true) (code_from on_false)
-statement_layer (Stmt-F.Loop pre cond body step first) = Loop (code_from pre) (term_of cond) (code_from body) (code_from step) first
+statement_layer (Stmt-F.Loop pre cond body step first) =
+    Loop (code_from pre) (term_of cond) (code_from body) (code_from step) first
 statement_layer Stmt-F.Break = Break
 statement_layer Stmt-F.Continue = Continue
 statement_layer Stmt-F.Return = Return

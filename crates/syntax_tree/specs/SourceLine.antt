@@ -32,7 +32,8 @@ source_line_layer (Line-F.Local name at init) = Local name at (option_map source
 source_line_layer (Line-F.Assign name at value) = Assign name at (source_expr_of value)
 source_line_layer (Line-F.Act call) = Act (source_expr_of call)
 source_line_layer (Line-F.If cond on_true on_false) = If (source_expr_of cond) (lines_from on_true) (lines_from on_false)
-source_line_layer (Line-F.Loop init cond step body first) = Loop (lines_from init) (source_expr_of cond) (lines_from step) (lines_from body) first
+source_line_layer (Line-F.Loop init cond step body first) =
+    Loop (lines_from init) (source_expr_of cond) (lines_from step) (lines_from body) first
 source_line_layer (Line-F.Break at) = Break at
 source_line_layer (Line-F.Continue at) = Continue at
 source_line_layer (Line-F.Return at value) = Return at (option_map source_expr_of value)

@@ -35,13 +35,18 @@ joint_operators [] = 0
 joint_operators (e ∷ rest) = operators_of e + joint_operators rest
 
 abbrev pub value_fits : ℕ → Term → Bool
-value_fits width e = columns_below width e && nat_le (operators_of e) MOST_OPERATORS && nat_le (cases_of e).value MOST_CASES
+value_fits width e =
+    columns_below width e && nat_le (operators_of e) MOST_OPERATORS && nat_le (cases_of e).value MOST_CASES
 
 abbrev pub cond_fits : ℕ → Term → Bool
-cond_fits width e = columns_below width e && nat_le (operators_of e) MOST_OPERATORS && nat_le (cases_of e).truth MOST_CASES && nat_le (cases_of e).falsity MOST_CASES
+cond_fits width e =
+    columns_below width e && nat_le (operators_of e) MOST_OPERATORS
+    && nat_le (cases_of e).truth MOST_CASES && nat_le (cases_of e).falsity MOST_CASES
 
 abbrev pub args_fit : ℕ → List Term → Bool
-args_fit width args = all_columns_below width args && nat_le (joint_operators args) MOST_OPERATORS && nat_le (joint_cases args) MOST_CASES
+args_fit width args =
+    all_columns_below width args && nat_le (joint_operators args) MOST_OPERATORS
+    && nat_le (joint_cases args) MOST_CASES
 
 abbrev pub into_fits : ℕ → Option ℕ → Bool
 into_fits width None = true
@@ -72,18 +77,21 @@ abbrev mutual
   statement_fits program width place (Call proc args into) =
       callee_fits (slice_get program.procs proc) (length args) (is_some into) && args_fit width args && into_fits width into
   statement_fits program width place (Guard cond) = cond_fits width cond
-  statement_fits program width place (Check number cond) = nat_le 1 number && nat_le number (length program.checks) && cond_fits width cond
+  statement_fits program width place (Check number cond) =
+      nat_le 1 number && nat_le number (length program.checks) && cond_fits width cond
   statement_fits program width place (If cond on_true on_false) =
       cond_fits width cond && code_fits program width place on_true && code_fits program width place on_false
   statement_fits program width place (Loop pre cond body step first) =
-      cond_fits width cond && code_fits program width InTest pre && code_fits program width (body_place place) body && code_fits program width InTest step
+      cond_fits width cond && code_fits program width InTest pre
+      && code_fits program width (body_place place) body && code_fits program width InTest step
   statement_fits program width place Break = may_leave place
   statement_fits program width place Continue = may_leave place
   statement_fits program width place Return = true
 
   pub code_fits : Program → ℕ → Place → Code → Bool
   code_fits program width place End = true
-  code_fits program width place (Then statement rest) = statement_fits program width place statement && code_fits program width place rest
+  code_fits program width place (Then statement rest) =
+      statement_fits program width place statement && code_fits program width place rest
 
 -- how often the assertion with this number stands in a statement, and in a list of statements
 abbrev mutual

@@ -166,7 +166,8 @@ fn procs_checks(procs: &[Proc], number: usize) -> usize
 }
 
 fn has_each_check(program: &Program) -> bool
-    ensures { IsTrue result ↔ ((k : ℕ) → 1 ≤ k → k ≤ length program.now.checks → procs_checks k program.now.procs ≡ 1) }
+    ensures { IsTrue result ↔ ((k : ℕ) → 1 ≤ k → k ≤ length program.now.checks
+        → procs_checks k program.now.procs ≡ 1) }
 {
     for number in 1..=program.checks.len() {
         if procs_checks(program.procs.as_slice(), number) != 1 {

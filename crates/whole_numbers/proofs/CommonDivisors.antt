@@ -126,7 +126,7 @@ gcd_of_assoc a b c =
     let right = IsGcd-gcd_of b c in
     let all = gcd_of a (gcd_of b c) in
     gcd_of_is (gcd_of a b) c all
-        (left.2 all whole.0 (dvd_trans all whole.1 right.0), dvd_trans all whole.1 right.1, λ d p q. whole.2 d (dvd_trans d p left.0) (right.2 d (dvd_trans d p left.1) q))
+    (left.2 all whole.0 (dvd_trans all whole.1 right.0), dvd_trans all whole.1 right.1, λ d p q. whole.2 d (dvd_trans d p left.0) (right.2 d (dvd_trans d p left.1) q))
 
 -- for Euclid's algorithm
 pub ruleset euclid = (gcd_of-mod, gcd_of-zero)

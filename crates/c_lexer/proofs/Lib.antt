@@ -1,0 +1,12 @@
+pub mod Cuts
+pub mod Found
+pub mod Slices
+pub mod Keywords
+pub mod Marks
+pub mod Shapes
+pub mod Lexemes
+pub mod Spaces
+pub mod Scanning
+pub mod Unique
+pub mod Outcomes
+pub mod OneOutcome

@@ -1,0 +1,7 @@
+use Rattle.std.proofs.Common.{◌≡◌, ◌-◌, ◌^◌, min, take}
+use Rattle.c_lexer.specs.Kinds.{decimal_value}
+use Rattle.c_lexer.proofs.number.decimal_value.Given as goal
+
+-- what the digits so far spell, where 64 bits hold it
+abbrev pub invariant-loop-digit : goal.invariant-loop-digit
+invariant-loop-digit l = l.value ≡ min (decimal_value (take l.digit-index l.digits)) (2 ^ 64 - 1)

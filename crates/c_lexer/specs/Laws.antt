@@ -1,0 +1,18 @@
+-- What may come of a text: one list of tokens, or one refusal.
+use Rattle.std.specs.Prelude.{◌≡◌, ℕ, List}
+use Rattle.c_lexer.specs.declared.token.Token.{Token}
+use Rattle.c_lexer.specs.declared.error.LexError.{LexError}
+use Rattle.c_lexer.specs.Tokens.{Tokenizes}
+use Rattle.c_lexer.specs.Refusals.{IsRefused}
+
+-- a text has one list of tokens at most
+abbrev pub TokensAreOne : Type 0
+TokensAreOne = (text : List ℕ) (one other : List Token) → Tokenizes text one → Tokenizes text other → one ≡ other
+
+-- a text that has tokens is not refused
+abbrev pub TokensAreNotRefused : Type 0
+TokensAreNotRefused = (text : List ℕ) (tokens : List Token) (e : LexError) → Tokenizes text tokens → IsRefused text e → ⊥
+
+-- a text is refused for one reason at most
+abbrev pub RefusalIsOne : Type 0
+RefusalIsOne = (text : List ℕ) (one other : LexError) → IsRefused text one → IsRefused text other → one ≡ other

@@ -1,0 +1,9 @@
+pub mod Bytes
+pub mod Spellings
+pub mod Kinds
+pub mod Pieces
+pub mod Found
+pub mod Tokens
+pub mod Refusals
+pub mod Scanned
+pub mod Laws

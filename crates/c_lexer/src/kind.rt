@@ -1,0 +1,14 @@
+use crate::{Keyword, Mark};
+use syntax_tree::Name;
+
+/// What a token is.
+#[derive(Clone, Debug, PartialEq, Eq, Drop)]
+pub enum Kind {
+    Word(Name),
+    Keyword(Keyword),
+    /// A number, with its value.
+    Number(i128),
+    Mark(Mark),
+    /// The end of the text.
+    End,
+}

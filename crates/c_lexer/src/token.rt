@@ -1,0 +1,9 @@
+use crate::Kind;
+
+/// A token of a text: what it is, the offset of its first byte, and how many bytes it has.
+#[derive(Clone, Debug, PartialEq, Eq, Drop)]
+pub struct Token {
+    pub kind: Kind,
+    pub at: u32,
+    pub len: u32,
+}

@@ -1,0 +1,14 @@
+pub use Rattle.items.specs.Gives
+pub use Rattle.whole_numbers.specs.Fits
+pub mod Col
+pub mod Equality
+pub mod Lookup
+pub mod Mono
+pub mod MonoFields
+pub mod MonoOrder
+pub mod Operations
+pub mod Polynomial
+pub mod Replacement
+pub mod Row
+pub mod TermError
+pub mod Value

@@ -1,0 +1,29 @@
+-- Monomials as lists of columns.
+use Rattle.std.specs.Prelude.{List, [], ◌∷◌, length, fold, Bool, true, ◌&&◌, not, if◌then◌else◌}
+use Rattle.std.specs.declared.cmp.Ordering.{Ordering}
+use Rattle.std.specs.Ordering.{nat_cmp, ordering_then, is_lt, is_gt}
+use Rattle.std.specs.Cmp.Lexicographic.{slice_cmp}
+use Rattle.linear_terms.specs.declared.col.Col.{Col}
+use Rattle.linear_terms.specs.Col.{col_cmp}
+
+-- print order: the greater degree first, and of one degree by the columns, the smaller first
+abbrev pub mono_cmp : List Col → List Col → Ordering
+mono_cmp m n = ordering_then (nat_cmp (length n) (length m)) (slice_cmp col_cmp m n)
+
+-- columns in order, with one more at its place
+abbrev pub placed : List Col → Col → List Col
+placed [] c = c ∷ []
+placed (d ∷ m) c = if is_lt (col_cmp c d) then c ∷ placed m d else d ∷ placed m c
+
+-- the columns put in order, the smaller first: each in turn is put at its place among those before it
+abbrev pub in_order : List Col → List Col
+in_order columns = fold placed [] columns
+
+-- whether no column stands before a smaller one
+abbrev pub starts_from : Col → List Col → Bool
+starts_from c [] = true
+starts_from c (d ∷ m) = not (is_gt (col_cmp c d))
+
+abbrev pub is_in_order : List Col → Bool
+is_in_order [] = true
+is_in_order (c ∷ m) = starts_from c m && is_in_order m

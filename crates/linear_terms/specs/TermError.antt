@@ -1,0 +1,24 @@
+-- Errors of the operations on polynomials.
+use Rattle.std.specs.Prelude.{ℤ, Option, Some, None, Result}
+use Rattle.items.specs.Gives.{lifted}
+use Rattle.whole_numbers.specs.declared.wide.Wide as Step
+use Rattle.whole_numbers.specs.Fits.{sum_of, product_of}
+use Rattle.linear_terms.specs.declared.error.TermError.{TermError}
+use Rattle.linear_terms.specs.declared.error.TermError.TheVariants.{Wide, Degree, Memory}
+
+-- the error of a step that leaves 128 bits
+abbrev pub wide : Step.Wide → TermError
+wide step = Wide step.left step.right step.times
+
+-- a sum of two numbers of 128 bits, and a product, or the error that names them
+abbrev pub plus : ℤ → ℤ → Result ℤ TermError
+plus a b = lifted wide (sum_of a b)
+
+abbrev pub times : ℤ → ℤ → Result ℤ TermError
+times a b = lifted wide (product_of a b)
+
+-- what an error tells: want of memory tells nothing, and each other is a fault of the operation itself
+abbrev pub cause : TermError → Option TermError
+cause (Wide left right times) = Some (Wide left right times)
+cause Degree = Some Degree
+cause Memory = None

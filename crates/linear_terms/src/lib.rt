@@ -1,0 +1,27 @@
+//! Polynomials over columns with numbers of 128 bits, rows that they make, and the normal form of a row.
+//! Each operation answers what the operation on plain polynomials is, or the first step that leaves 128
+//! bits or passes degree 4.
+#![tactic(auto)]
+
+mod col;
+mod error;
+mod mono;
+mod multiply;
+mod poly;
+mod row;
+mod scaling;
+mod substitute;
+mod sums;
+#[cfg(test)]
+mod tests;
+mod total;
+
+pub use col::Col;
+pub use error::TermError;
+pub use mono::Mono;
+pub use multiply::mul;
+pub use poly::Poly;
+pub use row::{Case, Kind, Normal, Row};
+pub use scaling::scale;
+pub use substitute::subst;
+pub use sums::add;

@@ -1,0 +1,111 @@
+ghost use Rattle.std.specs.Prelude.{◌≡◌, ◌↔◌, IsTrue, Ok, slice_get};
+ghost use Rattle.std.specs.Cmp.{partial_equiv_from_equiv};
+ghost use Rattle.items.specs.Gives.{Gives};
+ghost use Rattle.linear_terms.specs.TermError.{cause};
+ghost use Rattle.linear_terms.specs.Polynomial.{constant_of, column_of, coefficient_in};
+ghost use Rattle.linear_terms.specs.Equality.{poly_eq, poly_eq_equiv};
+
+use crate::{Col, Mono, TermError};
+use items::Items;
+use std::alloc::{AllocError, Global};
+use std::marker::Model;
+
+/// A sum of monomials with nonzero numbers, which stand in print order, and a constant.
+#[derive(Debug, Drop)]
+pub struct Poly {
+    pub(crate) terms: Items<(Mono, i128)>,
+    pub(crate) rest: i128,
+}
+
+impl Model for Poly {
+    ghost use Rattle.linear_terms.specs.Polynomial.{Polynomial, IsCanonical};
+
+    ghost Value = { Polynomial };
+
+    ghost view = { λ p. record { terms = p.terms; rest = p.rest } };
+
+    ghost invariant = { λ p. IsCanonical p.terms };
+}
+
+impl Poly {
+    /// A constant, which takes no memory.
+    #[tactic(auto, using(crate::proofs::Canonical::canonical))]
+    pub fn constant(alloc: Global, value: i128) -> Poly
+        ensures { result ≡ constant_of value }
+    {
+        Poly {
+            terms: Items::new(alloc),
+            rest: value,
+        }
+    }
+
+    /// One column, with coefficient 1.
+    #[tactic(auto, using(crate::proofs::Canonical::canonical))]
+    pub fn column(alloc: Global, col: Col) -> Result<Poly, TermError>
+        ensures { Gives cause (λ p. p) result (Ok (column_of col)) }
+    {
+        let mut terms = Items::new(alloc);
+        terms.push((Mono::of(col), 1))?;
+        Ok(Poly { terms, rest: 0 })
+    }
+
+    /// The coefficient of a monomial; zero where it is not there.
+    pub fn coefficient(&self, mono: &Mono) -> i128
+        ensures { result ≡ coefficient_in self.now.terms mono.now }
+    {
+        for (own, number) in self.terms.as_slice() {
+            if *own == *mono {
+                return *number;
+            }
+        }
+        0
+    }
+
+    /// The constant.
+    pub fn rest(&self) -> i128
+        ensures { result ≡ self.now.rest }
+    {
+        self.rest
+    }
+
+    /// Whether two polynomials are equal.
+    #[tactic(auto, using(crate::proofs::Equal::poly_eq_decides))]
+    pub fn same(&self, other: &Poly) -> bool
+        ensures { IsTrue result ↔ (self.now ≡ other.now) }
+    {
+        self == other
+    }
+
+    /// The monomial at a place, from 0, in print order, with its coefficient.
+    pub fn term(&self, at: usize) -> Option<(Mono, i128)>
+        ensures { result ≡ slice_get self.now.terms at }
+    {
+        self.terms.as_slice().get(at).copied()
+    }
+}
+
+impl Clone for Poly {
+    ghost is_clone = { λ a b. b ≡ a };
+
+    fn clone(&self) -> Result<Poly, AllocError> {
+        let terms = self.terms.clone()?;
+        Ok(Poly {
+            terms,
+            rest: self.rest,
+        })
+    }
+}
+
+impl PartialEq for Poly {
+    ghost eq = { poly_eq };
+
+    ghost laws = { partial_equiv_from_equiv poly_eq_equiv };
+
+    fn eq(&self, other: &Self) -> bool {
+        self.terms == other.terms && self.rest == other.rest
+    }
+}
+
+impl Eq for Poly {
+    ghost laws = { poly_eq_equiv };
+}

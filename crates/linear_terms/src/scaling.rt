@@ -1,0 +1,34 @@
+ghost use Rattle.std.specs.Prelude.{◌≡◌, ℤ, ◌*ℤ◌, IfOk};
+ghost use Rattle.items.specs.Gives.{Gives};
+ghost use Rattle.linear_terms.specs.TermError.{cause};
+ghost use Rattle.linear_terms.specs.Operations.{times_each, multiple_of};
+ghost use Rattle.linear_terms.specs.Value.{Valuation, value_of};
+
+use crate::{Mono, Poly, TermError};
+use items::Items;
+use std::alloc::Global;
+use whole_numbers::product;
+
+/// The polynomial times a number.
+#[tactic(auto, using(crate::proofs::Values::multiple_of_value, crate::proofs::Canonical::canonical))]
+pub fn scale(alloc: Global, a: &Poly, by: i128) -> Result<Poly, TermError>
+    ensures exact { Gives cause (λ p. p) result (multiple_of a.now by) }
+    ensures value { (at : Valuation) → IfOk result (λ p. value_of at p ≡ value_of at a.now *ℤ by) }
+{
+    let terms = scaled(alloc, a.terms.as_slice(), by)?;
+    let rest = product(a.rest, by)?;
+    Ok(Poly { terms, rest })
+}
+
+fn scaled(alloc: Global, terms: &[(Mono, i128)], by: i128) -> Result<Items<(Mono, i128)>, TermError>
+    ensures { Gives cause (λ made. made) result (times_each terms.now by) }
+{
+    let mut made = Items::new(alloc);
+    for (mono, number) in terms {
+        let number = product(*number, by)?;
+        if number != 0 {
+            made.push((*mono, number))?;
+        }
+    }
+    Ok(made)
+}

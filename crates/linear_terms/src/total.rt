@@ -1,0 +1,136 @@
+ghost use Rattle.std.specs.Prelude.{◌≡◌, pos, [], IfOk, IfErr, OnOk, Ok, Some};
+ghost use Rattle.items.specs.Gives.{FailsBy, Gives};
+ghost use Rattle.linear_terms.specs.TermError.{cause};
+ghost use Rattle.linear_terms.specs.Polynomial.{constant_of, IsCanonical};
+ghost use Rattle.linear_terms.specs.Operations.{sum_of_polys, put_term, put_part, add_product};
+ghost use Rattle.linear_terms.specs.Lookup.{lookup, added, stored};
+
+use crate::mono::DEGREE;
+use crate::{Col, Mono, Poly, TermError};
+use items::Items;
+use std::alloc::{AllocError, Global};
+use std::collections::BTreeMap;
+use std::marker::Model;
+use whole_numbers::{product, sum};
+
+/// The sum so far of a product, whose terms are found by their monomials.
+#[derive(Drop)]
+pub(crate) struct Total {
+    terms: BTreeMap<Mono, i128>,
+    rest: i128,
+}
+
+impl Model for Total {
+    ghost use Rattle.linear_terms.specs.Polynomial.{Polynomial, IsCanonical};
+
+    ghost Value = { Polynomial };
+
+    ghost view = { λ s. record { terms = s.terms.entries; rest = s.rest } };
+
+    ghost invariant = { λ s. IsCanonical s.terms.entries };
+}
+
+impl Total {
+    pub(crate) fn new(alloc: Global) -> Total
+        ensures { result ≡ constant_of (pos 0) }
+    {
+        Total {
+            terms: BTreeMap::new(alloc),
+            rest: 0,
+        }
+    }
+
+    /// Adds a polynomial, its terms in print order and then its constant.
+    pub(crate) fn add(&mut self, poly: &Poly) -> Result<(), TermError>
+        ensures ok { OnOk result (sum_of_polys self.old poly.now ≡ Ok self.new) }
+        ensures err { IfErr result (λ e. FailsBy (cause e) (sum_of_polys self.old poly.now)) }
+    {
+        for term in poly.terms.as_slice() {
+            self.put(term)?;
+        }
+        self.add_constant(&poly.rest)
+    }
+
+    /// Adds the product of two terms; the constant is a term of no columns.
+    pub(crate) fn add_product(
+        &mut self,
+        left: &[Col],
+        number: &i128,
+        right: &[Col],
+        other: &i128,
+    ) -> Result<(), TermError>
+        ensures ok { OnOk result (add_product left.now number.now right.now other.now self.old ≡ Ok self.new) }
+        ensures err { IfErr result (λ e. FailsBy (cause e) (add_product left.now number.now right.now other.now self.old)) }
+    {
+        if DEGREE < left.len() || DEGREE - left.len() < right.len() {
+            return Err(TermError::Degree);
+        }
+        let number = product(*number, *other)?;
+        if left.is_empty() && right.is_empty() {
+            self.add_constant(&number)
+        } else {
+            self.put(&(Mono::product(left, right), number))
+        }
+    }
+
+    /// Adds a number to the constant.
+    pub(crate) fn add_constant(&mut self, number: &i128) -> Result<(), TermError>
+        ensures ok { OnOk result (put_part [] number.now self.old ≡ Ok self.new) }
+        ensures err { IfErr result (λ e. FailsBy (cause e) (put_part [] number.now self.old)) }
+    {
+        self.rest = sum(self.rest, *number)?;
+        Ok(())
+    }
+
+    /// Adds a term.
+    #[tactic(auto, using(crate::proofs::Lookups::put_term_is))]
+    fn put(&mut self, term: &(Mono, i128)) -> Result<(), TermError>
+        ensures ok { OnOk result (put_term term.now.0 term.now.1 self.old ≡ Ok self.new) }
+        ensures err { IfErr result (λ e. FailsBy (cause e) (put_term term.now.0 term.now.1 self.old)) }
+    {
+        let term = added(self.coefficient(&term.0), term)?;
+        self.store(term)?;
+        Ok(())
+    }
+
+    fn coefficient(&self, mono: &Mono) -> Option<i128>
+        ensures coefficient { result ≡ lookup mono.now self.now.terms }
+        ensures canonical { IsCanonical self.now.terms }
+    {
+        self.terms.get(mono).copied()
+    }
+
+    fn store(&mut self, term: (Mono, i128)) -> Result<(), AllocError>
+        ensures { OnOk result (self.new ≡ record { terms = stored term.0 term.1 self.old.terms; rest = self.old.rest }) }
+    {
+        if term.1 == 0 {
+            self.terms.remove(&term.0);
+        } else {
+            self.terms.insert(term.0, term.1)?;
+        }
+        Ok(())
+    }
+
+    /// The sum as a polynomial.
+    pub(crate) fn into_poly(self, alloc: Global) -> Result<Poly, AllocError>
+        ensures { IfOk result (λ p. p ≡ self) }
+    {
+        let Total { terms, rest } = self;
+        let terms: Vec<(Mono, i128)> = terms.into_iter().collect(alloc)?;
+        Ok(Poly {
+            terms: Items::from_vec(terms),
+            rest,
+        })
+    }
+}
+
+/// The term with what its monomial had before.
+fn added(had: Option<i128>, term: &(Mono, i128)) -> Result<(Mono, i128), TermError>
+    ensures { Gives Some (λ t. t) result (added had term.now) }
+{
+    let number = match had {
+        Some(had) => sum(had, term.1)?,
+        None => term.1,
+    };
+    Ok((term.0, number))
+}

@@ -1,0 +1,12 @@
+pub mod Turns
+pub mod Language
+pub mod CellWalks
+pub mod WayWalks
+pub mod TableLemmas
+pub mod RunLemmas
+pub mod HoldLemmas
+pub mod SweepLemmas
+pub mod EliminationLemmas
+pub mod ArrivalLemmas
+pub mod FirstLemmas
+pub mod ReachLemmas

@@ -1,0 +1,10 @@
+pub mod PathExpr
+pub mod Algebra
+pub mod Walks
+pub mod Elimination
+pub mod Path
+pub mod Operations
+pub mod Runs
+pub mod Table
+pub mod Holds
+pub mod Sweeps
