@@ -1,0 +1,45 @@
+-- The interpreter's configurations as those of the machine. Its lists have the top call and the next task last.
+use Rattle.std.specs.Prelude.{List, [], ◌∷◌}
+use Rattle.syntax_tree.specs.Term.{term_of}
+use Rattle.syntax_tree.specs.Code.{code_of, statement_of}
+use Rattle.execution.specs.declared.interpreter.Repeat.{Repeat}
+use Rattle.execution.specs.declared.interpreter.Task.{Task}
+use Rattle.execution.specs.declared.interpreter.Task.TheVariants as task
+use Rattle.execution.specs.declared.interpreter.Activation.{Activation}
+use Rattle.execution.specs.declared.interpreter.Machine.{Machine}
+use Rattle.execution.specs.Machine.{Item, Do, Head, Test, Tail, LoopParts, Frame, Config, Top}
+
+abbrev pub parts_of : Repeat → LoopParts
+parts_of r = record { pre = code_of r.pre; cond = term_of r.cond; body = code_of r.body; step = code_of r.step; first = r.first }
+
+abbrev pub item_of : Task → Item
+item_of (task.Do stmt) = Do (statement_of stmt)
+item_of (task.Head r) = Head (parts_of r)
+item_of (task.Test r) = Test (parts_of r)
+item_of (task.Tail r) = Tail (parts_of r)
+
+abbrev pub items_onto : List Task → List Item → List Item
+items_onto [] rest = rest
+items_onto (t ∷ ts) rest = items_onto ts (item_of t ∷ rest)
+
+-- the items of a list of tasks, the last task first
+abbrev pub items_of : List Task → List Item
+items_of tasks = items_onto tasks []
+
+abbrev pub frame_of : Activation → Frame
+frame_of call = record { proc = call.proc; own = call.own; items = items_of call.tasks; into = call.into }
+
+abbrev pub frames_onto : List Activation → List Frame → List Frame
+frames_onto [] rest = rest
+frames_onto (call ∷ calls) rest = frames_onto calls (frame_of call ∷ rest)
+
+-- the frames of a list of calls, the last call first
+abbrev pub frames_of : List Activation → List Frame
+frames_of calls = frames_onto calls []
+
+abbrev pub machine_config : Machine → Config
+machine_config machine = record { globals = machine.globals; frames = frames_of machine.calls }
+
+-- a call on top of the others
+abbrev pub machine_top : Machine → Activation → Top
+machine_top machine call = record { globals = machine.globals; frame = frame_of call; below = frames_of machine.calls }

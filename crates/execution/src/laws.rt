@@ -1,0 +1,46 @@
+//! The laws of the machine. Each is the contract of a function that does nothing.
+ghost use Rattle.execution.specs.Laws.{ChangesRun, ColumnsDetermineStep, FailedCheckStops, FramesBelowStay, GlobalsStay, RunsChange, RunsJoin, StepIsDetermined};
+ghost use Rattle.execution.specs.Examples.{BreakInNestedLoop, CallThatNeverReturns, ContinueInDo};
+
+/// An execution that begins where another ends continues it.
+pub fn executions_join()
+    ensures { RunsJoin }
+{}
+
+/// A step that is no assignment of any number and no call has one outcome.
+pub fn step_is_determined()
+    ensures { StepIsDetermined }
+{}
+
+/// The only choice of a step is that of the values of the top frame's columns and of the globals.
+pub fn columns_determine_step()
+    ensures { ColumnsDetermineStep }
+{}
+
+/// A failed assertion ends the execution.
+pub fn failed_check_stops()
+    ensures { FailedCheckStops }
+{}
+
+/// A frame is not touched while there is one above it.
+pub fn frames_below_stay()
+    ensures { FramesBelowStay }
+{}
+
+/// An execution keeps the number of globals.
+pub fn globals_stay()
+    ensures { GlobalsStay }
+{}
+
+/// Simple statements run as they change the state one after another, and only so.
+pub fn straight_line()
+    ensures forwards { ChangesRun }
+    ensures backwards { RunsChange }
+{}
+
+/// `continue` in a `do` loop, a `break` in a nested loop, and a call that never returns, step by step.
+pub fn worked_examples()
+    ensures continues { ContinueInDo }
+    ensures breaks { BreakInNestedLoop }
+    ensures never_returns { CallThatNeverReturns }
+{}
