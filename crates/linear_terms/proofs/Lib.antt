@@ -2,6 +2,7 @@ pub mod Canonical
 pub mod Equal
 pub mod Lookups
 pub mod Merge
+pub mod Normals
 pub mod Order
 pub mod Placed
 pub mod Steps

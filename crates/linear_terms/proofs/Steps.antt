@@ -1,6 +1,8 @@
 -- What the loops over terms share.
-use Rattle.std.proofs.Common.{◌≡◌, ℕ, ◌+◌, ◌<◌, ◌≤◌, length, drop, get_or, subst, Option, Some, None, ℤ, pos, true, false, cond, List, [], ◌∷◌, ◌++◌, Result, Ok, Err, refl, sym, ap, ◌∙◌, append_assoc}
+use Rattle.std.proofs.Common.{◌≡◌, ℕ, ◌+◌, ◌<◌, ◌≤◌, length, drop, get_or, subst, Option, Some, None, ℤ, pos, Bool, All, true, false, cond, List, [], ◌∷◌, ◌++◌, Result, Ok, Err, refl, sym, ap, ◌∙◌, append_assoc}
+use Rattle.std.specs.Prelude.{IsTrue, ◌↔◌}
 use Rattle.std.specs.Ordering.{int_eq}
+use Rattle.std.proofs.lemmas.Bool.{false≢true}
 use Rattle.std.proofs.lemmas.List.{drop_more, drop_all}
 use Rattle.items.specs.Gives.{◌>>=◌, FailsBy}
 use Rattle.items.proofs.Gives.{FailsBy-bind}
@@ -31,7 +33,7 @@ with_front-dropped front m c (Err e) test = refl
 -- ---- the loops of the product
 
 -- what is left at an index begins with the item there
-at_index : (items : Terms) (i : ℕ) (t : List Col × ℤ) → i < length items → t ≡ get_or items i t → drop i items ≡ t ∷ drop (i + 1) items
+pub at_index : (items : Terms) (i : ℕ) (t : List Col × ℤ) → i < length items → t ≡ get_or items i t → drop i items ≡ t ∷ drop (i + 1) items
 at_index items i t h e = drop_more items i t h ∙ ap (λ u. u ∷ drop (i + 1) items) (sym e)
 
 pub add_row-next : (m : List Col) (c : ℤ) (items last : Terms) (i : ℕ) (t : List Col × ℤ) (sum made : Polynomial) → i < length items → t ≡ get_or items i t → add_product m c t.0 t.1 sum ≡ Ok made → add_row m c (drop i items ++ last) sum ≡ add_row m c (drop (i + 1) items ++ last) made
@@ -105,3 +107,8 @@ total-last before sum poly items i r h same constant rest =
     ap (λ s. s >>= λ ts. plus before.rest poly.rest >>= λ x. Ok (make ts x)) (sym same ∙ ap (put_all sum.terms) (drop_all i items h))
     ∙ ap (λ x. plus x poly.rest >>= λ y. Ok (make sum.terms y)) (sym constant)
     ∙ ap (λ x. plus sum.rest x >>= λ y. Ok (make sum.terms y)) (sym rest)
+
+-- ---- the loop that tests each monomial
+
+pub test_fails : (P : List Col → Type 0) (items : Terms) (i : ℕ) (t : List Col × ℤ) (b : Bool) → i < length items → t ≡ get_or items i t → IsTrue b ↔ P t.0 → b ≡ false → All (λ t. P t.0) items → ⊥
+test_fails P items i t b h e test fails all = false≢true (sym fails ∙ test.1 (subst (λ u. P u.0) (sym e) (all i t h)))

@@ -74,7 +74,7 @@ impl Mono {
     }
 
     /// Whether each column's number is below that of the entry columns, or of the auxiliaries.
-    pub fn is_below(&self, at: usize, aux: usize) -> bool
+    pub(crate) fn is_below(&self, at: usize, aux: usize) -> bool
         ensures { IsTrue result ↔ All (IsBelow at aux) self.now }
     {
         self.columns().iter().all(|col| col.is_below(at, aux))

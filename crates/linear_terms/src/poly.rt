@@ -1,8 +1,9 @@
-ghost use Rattle.std.specs.Prelude.{◌≡◌, ◌↔◌, IsTrue, Ok, slice_get};
+ghost use Rattle.std.specs.Prelude.{◌≡◌, ◌↔◌, IsTrue, Ok, All, slice_get};
 ghost use Rattle.std.specs.Cmp.{partial_equiv_from_equiv};
 ghost use Rattle.items.specs.Gives.{Gives};
 ghost use Rattle.linear_terms.specs.TermError.{cause};
 ghost use Rattle.linear_terms.specs.Polynomial.{constant_of, column_of, coefficient_in};
+ghost use Rattle.linear_terms.specs.Replacement.{IsBelow};
 ghost use Rattle.linear_terms.specs.Equality.{poly_eq, poly_eq_equiv};
 
 use crate::{Col, Mono, TermError};
@@ -74,6 +75,18 @@ impl Poly {
         ensures { IsTrue result ↔ (self.now ≡ other.now) }
     {
         self == other
+    }
+
+    /// Whether each entry column has a number below `at`, and each auxiliary one below `aux`.
+    pub fn is_covered(&self, at: usize, aux: usize) -> bool
+        ensures { IsTrue result ↔ All (λ t. All (IsBelow at aux) t.0) self.now.terms }
+    {
+        for (mono, _) in self.terms.as_slice() {
+            if !mono.is_below(at, aux) {
+                return false;
+            }
+        }
+        true
     }
 
     /// The monomial at a place, from 0, in print order, with its coefficient.

@@ -1,4 +1,4 @@
-use crate::{Col, Mono, Poly, TermError, add, mul, scale};
+use crate::{Col, Kind, Mono, Normal, Poly, Row, TermError, add, mul, normal, scale, subst};
 use std::alloc::{AllocError, Global};
 use std::fmt::Write;
 
@@ -263,6 +263,110 @@ fn multiples(rt: HostRuntime) -> Result<(), TermError> {
         let a = example(alloc, number)?;
         let made = shown(alloc, scale(alloc, &a, by))?;
         assert!(rt; made.as_str() == wanted, "{number} times {by}: {made}");
+    }
+    Ok(())
+}
+
+#[test]
+fn substitutions(rt: HostRuntime) -> Result<(), TermError> {
+    let alloc = rt.alloc();
+    let aux = [example(alloc, 4)?, example(alloc, 3)?];
+    for (number, first, second, wanted) in [
+        (1, 3, 2, "5"),
+        (
+            2,
+            5,
+            4,
+            "170141183460469231731687303715884105727*x0 + 170141183460469231731687303715884105727",
+        ),
+        (3, 3, 2, "-1*x0 + -2*x1 + 6"),
+        (
+            3,
+            5,
+            4,
+            "wide 170141183460469231731687303715884105727 false 2",
+        ),
+        (4, 3, 2, "1*x0*x0 + -1*x0*x1 + 1*x0 + 2*x1 + 1*a0 + -3"),
+        (
+            5,
+            3,
+            2,
+            "wide -2 true 170141183460469231731687303715884105727",
+        ),
+        (
+            6,
+            2,
+            1,
+            "wide 5 true -170141183460469231731687303715884105728",
+        ),
+        (7, 2, 1, "1*x0*x0*x0 + 35*x0 + -70*x1 + 104"),
+    ] {
+        let a = example(alloc, number)?;
+        let at = [example(alloc, first)?, example(alloc, second)?];
+        if !a.is_covered(at.len(), aux.len()) {
+            return Err(TermError::Degree);
+        }
+        let made = shown(alloc, subst(alloc, &a, &at, &aux))?;
+        assert!(rt;
+            made.as_str() == wanted,
+            "{number} with {first} and {second}: {made}"
+        );
+    }
+    let a = example(alloc, 7)?;
+    assert!(rt; !a.is_covered(1, 2));
+    assert!(rt; !a.is_covered(2, 1));
+    Ok(())
+}
+
+fn normal_shown(alloc: Global, made: Result<Normal, TermError>) -> Result<String, AllocError> {
+    match made {
+        Ok(Normal::Constant(holds)) => {
+            let mut text = String::new(alloc);
+            write!(text, "{holds}")?;
+            Ok(text)
+        }
+        Ok(Normal::Kept(row)) => shown(alloc, Ok(row.poly)),
+        Err(e) => shown(alloc, Err(e)),
+    }
+}
+
+#[test]
+fn normal_forms(rt: HostRuntime) -> Result<(), TermError> {
+    let alloc = rt.alloc();
+    for (first, by, second, at_most, equal) in [
+        (0, 1, 0, "true", "true"),
+        (0, 1, 1, "false", "false"),
+        (1, -1, 0, "true", "false"),
+        (3, 2, 1, "1*x0 + -2*x1 + 6", "false"),
+        (3, -2, 1, "-1*x0 + 2*x1 + 0", "false"),
+        (3, -6, 0, "-1*x0 + 2*x1 + -3", "1*x0 + -2*x1 + 3"),
+        (
+            4,
+            -3,
+            0,
+            "-1*x0*x1 + 1*x0 + -1*a0 + 0",
+            "1*x0*x1 + -1*x0 + 1*a0 + 0",
+        ),
+        (5, 1, 0, "1*x0 + 1", "1*x0 + 1"),
+        (6, 1, 0, "-1*x1 + -1", "1*x1 + 1"),
+        (
+            2,
+            -1,
+            6,
+            "-1*x0 + -170141183460469231731687303715884105728*x1 + -170141183460469231731687303715884105728",
+            "wide -170141183460469231731687303715884105728 true -1",
+        ),
+        (7, 3, 1, "1*x0*x0*x0 + 7*x1*a1 + 1", "false"),
+    ] {
+        for (kind, wanted) in [(Kind::AtMost, at_most), (Kind::Equal, equal)] {
+            let multiple = scale(alloc, &example(alloc, first)?, by)?;
+            let poly = add(alloc, &multiple, &example(alloc, second)?)?;
+            let made = normal_shown(alloc, normal(alloc, &Row { poly, kind }))?;
+            assert!(rt;
+                made.as_str() == wanted,
+                "{first} times {by} and {second}: {made}"
+            );
+        }
     }
     Ok(())
 }
