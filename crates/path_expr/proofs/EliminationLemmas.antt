@@ -1,11 +1,14 @@
 -- One place more is eliminated.
-use Rattle.std.proofs.Common.{◌≡◌, ℕ, zero, suc, ◌+◌, ◌-◌, ◌<◌, ◌≤◌, List, [], ◌++◌, refl, sym, ◌∙◌, ap, inl, inr, ◌⊎◌, arith, add-one, append_assoc}
+use Rattle.std.proofs.Common.{◌≡◌, ℕ, zero, suc, ◌+◌, ◌-◌, ◌<◌, ◌≤◌, List, [], ◌++◌, Option, refl, sym, ◌∙◌, ap, subst, inl, inr, ◌⊎◌, arith, add-one, append_assoc}
 use Rattle.std.proofs.lemmas.List.{append-nil}
 use Rattle.std.proofs.lemmas.Bool.{cases_lt}
 use Rattle.path_expr.specs.declared.link.Link.{Link}
-use Rattle.path_expr.specs.PathExpr.{PathExpr}
+use Rattle.path_expr.specs.PathExpr.{PathExpr, star_of}
+use Rattle.path_expr.specs.Algebra.{Keeps}
+use Rattle.path_expr.specs.Holds.{IsItemOrOne, node_at}
 use Rattle.path_expr.specs.Elimination.{eliminated, table_after}
 use Rattle.path_expr.specs.Operations.{place_operations, eliminations}
+use Rattle.path_expr.proofs.HoldLemmas.{IsItemOrOne-kept}
 use Rattle.path_expr.proofs.SweepLemmas.{eliminated-past}
 
 pub table_after-more : (nodes : ℕ) (links : List Link) (source count n : ℕ) → n ≡ nodes - suc count → (a b : ℕ) →
@@ -40,3 +43,21 @@ eliminations-rest nodes links source count (suc total) h = at (cases_lt total co
     at (inl lt) before = ([], append-nil (eliminations nodes links source count) ∙ ap (eliminations nodes links source) (let e : count ≡ suc total = omega arith in e))
     at (inr le) before = let r = before le in
         (r.0 ++ last, sym (append_assoc (eliminations nodes links source count) r.0 last) ∙ ap (λ x. x ++ last) r.1)
+
+-- the turns at the places that were eliminated, when one more is
+module _ {A T : Type 0} {fits : A → PathExpr → T → Type 0} {spans : A → T → ℕ → ℕ → Type 0} {ends : A → ℕ → ℕ → ℕ → Type 0} {faults : A → ℕ} {a b : A} where
+  pub turns-more : (nodes : ℕ) (links : List Link) (source count n : ℕ) (old new : ℕ → Option T) → (n + count) + 1 ≡ nodes → Keeps fits spans ends faults a b →
+      ((m : ℕ) → nodes ≤ m + count → m < nodes → IsItemOrOne fits spans a (star_of (table_after nodes links source count m m)) (old m) (node_at source m)) →
+      ((m : ℕ) → (m ≡ n → ⊥) → new m ≡ old m) →
+      IsItemOrOne fits spans b (star_of (table_after nodes links source count n n)) (new n) (node_at source n) → (m : ℕ) → nodes ≤ m + (count + 1) → m < nodes →
+      IsItemOrOne fits spans b (star_of (table_after nodes links source (count + 1) m m)) (new m) (node_at source m)
+  turns-more nodes links source count n old new is keeps before others turn m above below =
+      subst (λ p. IsItemOrOne fits spans b (star_of p) (new m) (node_at source m)) (table_after-kept nodes links source count m (omega arith)) (at (cases_lt n m))
+    where
+      path : PathExpr
+      path = star_of (table_after nodes links source count m m)
+
+      at : (n < m) ⊎ (m ≤ n) → IsItemOrOne fits spans b path (new m) (node_at source m)
+      at (inl after) = subst (λ o. IsItemOrOne fits spans b path o (node_at source m)) (sym (others m (omega arith)))
+          (IsItemOrOne-kept keeps path (old m) (node_at source m) (before m (omega arith) below))
+      at (inr upto) = subst (λ k. IsItemOrOne fits spans b (star_of (table_after nodes links source count k k)) (new k) (node_at source k)) (let same : n ≡ m = omega arith in same) turn

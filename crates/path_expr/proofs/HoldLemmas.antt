@@ -1,11 +1,15 @@
 -- What is known of items stays known, and what the operations make of them.
-use Rattle.std.proofs.Common.{◌≡◌, ℕ, true, cond, ◌&&◌, List, [], ◌∷◌, ◌++◌, length, Option, None, Some, refl, sym, ◌∙◌, ap, subst, inl, inr, ◌⊎◌}
+use Rattle.std.proofs.Common.{◌≡◌, ℕ, Bool, true, cond, ◌&&◌, List, [], ◌∷◌, ◌++◌, length, Option, None, Some, refl, sym, ◌∙◌, ap, subst, inl, inr, ◌⊎◌}
 use Rattle.std.specs.List.{slice_get}
 use Rattle.path_expr.specs.PathExpr.{PathExpr, Zero, One, Edge, Seq, Join, Star, seq_of, join_of, star_of}
 use Rattle.path_expr.specs.Operations.{is_item, seq_operation, join_operation, star_operation}
 use Rattle.path_expr.specs.Algebra.{Keeps}
 use Rattle.path_expr.specs.Holds.{IsItem, IsItemOrZero, IsItemOrOne, IsWay, AreWays, AreEdges, HoldsAll, node_at}
 use Rattle.path_expr.specs.declared.link.Link.{Link}
+use Rattle.std.specs.Prelude.{Result, Ok}
+use Rattle.path_expr.specs.Runs.{Makes}
+use Rattle.path_expr.specs.declared.cell.ReachError.{ReachError}
+use Rattle.path_expr.proofs.RunLemmas.{Runs-none, Runs-as, Makes-as}
 use Rattle.path_expr.proofs.TableLemmas.{slice_get-push}
 use Rattle.path_expr.specs.Table.{cell}
 use Rattle.path_expr.specs.declared.table.Table.{Table}
@@ -139,3 +143,34 @@ AreEdges-push {A} {T} {fits} {spans} {ends} {faults} {a} {b} {links} {items} n i
 pub AreEdges-kept : {A T : Type 0} {fits : A → PathExpr → T → Type 0} {spans : A → T → ℕ → ℕ → Type 0} {ends : A → ℕ → ℕ → ℕ → Type 0} {faults : A → ℕ} {a b : A}
     {links : List Link} {items : List T} → Keeps fits spans ends faults a b → AreEdges fits spans a links items → AreEdges fits spans b links items
 AreEdges-kept keeps h = record { at = λ k l x e f. IsItem-kept keeps (h.at k l x e f) }
+
+-- operations of which one operand is Zero or One
+module _ {A T F : Type 0} {fits : A → PathExpr → T → Type 0} {spans : A → T → ℕ → ℕ → Type 0} {ends : A → ℕ → ℕ → ℕ → Type 0}
+    {is_memory : F → Bool} {faults : A → ℕ} {made : A → List PathExpr → Type 0} {stopped : A → PathExpr → Type 0} where
+  pub Makes-One : {a b : A} {r : Result T (ReachError F)} {from to : ℕ} (p q : PathExpr) → q ≡ One → is_item p ≡ true →
+      Makes fits spans ends is_memory faults made stopped a b [] r (λ x. IsItem fits spans b p x from to) →
+      Makes fits spans ends is_memory faults made stopped a b (seq_operation p q) r (λ x. IsItem fits spans b (seq_of p q) x from to)
+  Makes-One {a} {b} {r} {from} {to} p q e shape m =
+      subst (λ s. Makes fits spans ends is_memory faults made stopped a b (seq_operation p s) r (λ x. IsItem fits spans b (seq_of p s) x from to)) (sym e)
+      (Makes-as (sym (seq_operation-One p))
+      (subst (λ s. Makes fits spans ends is_memory faults made stopped a b [] r (λ x. IsItem fits spans b s x from to)) (seq_of-One p shape) m))
+
+  pub Makes-Zero : {a : A} {from to : ℕ} (p q : PathExpr) (o : Option T) → q ≡ Zero → IsItemOrZero fits spans a p o from to →
+      Makes fits spans ends is_memory faults made stopped a a (join_operation p q) (Ok o) (λ x. IsItemOrZero fits spans a (join_of p q) x from to)
+  Makes-Zero {a} {from} {to} p q o e h = record {
+    run = Runs-as (sym (ap (join_operation p) e ∙ join_operation-Zero p)) (Runs-none a);
+    good = subst (λ x. IsItemOrZero fits spans a x o from to) (sym (ap (join_of p) e ∙ join_of-Zero p)) h;
+  }
+
+  pub Makes-some : {a b : A} {ops : List PathExpr} {p : PathExpr} {x : T} {from to : ℕ} →
+      Makes fits spans ends is_memory faults made stopped a b ops (Ok x) (λ i. IsItem fits spans b p i from to) →
+      Makes fits spans ends is_memory faults made stopped a b ops (Ok (Some x)) (λ o. IsItemOrZero fits spans b p o from to)
+  Makes-some m = record { run = m.run; good = m.good }
+
+  -- a way that is One adds no operation
+  pub Makes-through : {a b : A} {x : T} {from at to : ℕ} (w p q : PathExpr) → (w ≡ One) × (from ≡ at) →
+      Makes fits spans ends is_memory faults made stopped a b (seq_operation p q) (Ok x) (λ i. IsItem fits spans b (seq_of p q) i at to) →
+      Makes fits spans ends is_memory faults made stopped a b (seq_operation w p ++ seq_operation (seq_of w p) q) (Ok (Some x)) (λ o. IsItemOrZero fits spans b (seq_of (seq_of w p) q) o from to)
+  Makes-through {a} {b} {x} {from} {at} {to} w p q one m =
+      subst (λ v. Makes fits spans ends is_memory faults made stopped a b (seq_operation v p ++ seq_operation (seq_of v p) q) (Ok (Some x)) (λ o. IsItemOrZero fits spans b (seq_of (seq_of v p) q) o from to)) (sym one.0)
+      (record { run = m.run; good = subst (λ k. IsItem fits spans b (seq_of p q) x k to) (sym one.1) m.good })

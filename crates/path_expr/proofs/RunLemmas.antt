@@ -2,13 +2,13 @@
 use Rattle.std.proofs.Common.{◌≡◌, ℕ, ◌≤◌, Bool, List, [], ◌++◌, Option, None, Some, refl, sym, ◌∙◌, ap, subst, arith, append_assoc}
 use Rattle.std.proofs.lemmas.List.{append-nil}
 use Rattle.std.proofs.lemmas.Result.{err_from_is_err_and}
-use Rattle.std.specs.Prelude.{Result, Err}
+use Rattle.std.specs.Prelude.{Result, Ok, Err, IfOk}
 use Rattle.std.specs.Result.{IsErrAnd}
 use Rattle.path_expr.specs.declared.cell.ReachError.{ReachError}
 use Rattle.path_expr.specs.declared.cell.ReachError.TheVariants.{Algebra, Memory}
 use Rattle.path_expr.specs.PathExpr.{PathExpr}
 use Rattle.path_expr.specs.Algebra.{Keeps}
-use Rattle.path_expr.specs.Runs.{Refuses, Answers, HasCause, Runs, error_of}
+use Rattle.path_expr.specs.Runs.{Refuses, Answers, HasCause, Runs, Makes, error_of}
 
 module _ {A T F : Type 0} (fits : A → PathExpr → T → Type 0) (spans : A → T → ℕ → ℕ → Type 0) (ends : A → ℕ → ℕ → ℕ → Type 0)
     (is_memory : F → Bool) (faults : A → ℕ) (made : A → List PathExpr → Type 0) (stopped : A → PathExpr → Type 0) where
@@ -42,6 +42,10 @@ module _ {A T F : Type 0} (fits : A → PathExpr → T → Type 0) (spans : A �
     answered = subst (made c) (append_assoc done o1 h.front) h.answered;
     refused = h.refused;
   }
+
+-- an error is a good answer
+IfOk-err : {X F : Type 0} (P : X → Type 0) (r : Result X (ReachError F)) (e : ReachError F) → IsErrAnd r (λ y. y ≡ e) → IfOk r P
+IfOk-err P r e is = let p = err_from_is_err_and r is in subst (λ y. IfOk y P) (sym p.1) tt
 
 module _ {A T F : Type 0} {fits : A → PathExpr → T → Type 0} {spans : A → T → ℕ → ℕ → Type 0} {ends : A → ℕ → ℕ → ℕ → Type 0}
     {is_memory : F → Bool} {faults : A → ℕ} {made : A → List PathExpr → Type 0} {stopped : A → PathExpr → Type 0} where
@@ -105,3 +109,40 @@ module _ {A T F : Type 0} {fits : A → PathExpr → T → Type 0} {spans : A �
       Runs fits spans ends is_memory faults made stopped a b (o1 ++ o2) (error_of r)
   Runs-exit_memory {X} {a} {b} {o1} r o2 is h = let p = err_from_is_err_and r is in
       subst (λ y. Runs fits spans ends is_memory faults made stopped a b (o1 ++ o2) (error_of y)) (sym (p.1 ∙ ap Err p.2)) (Runs-memory o2 h)
+
+  -- an answer
+  pub Makes-ok : {X : Type 0} {P : X → Type 0} {a b : A} {ops : List PathExpr} (x : X) →
+      Runs fits spans ends is_memory faults made stopped a b ops None → P x → Makes fits spans ends is_memory faults made stopped a b ops (Ok x) P
+  Makes-ok x h p = record { run = h; good = p }
+
+  -- the same operations, otherwise written
+  pub Makes-as : {X : Type 0} {P : X → Type 0} {a b : A} {o1 o2 : List PathExpr} {r : Result X (ReachError F)} → o1 ≡ o2 →
+      Makes fits spans ends is_memory faults made stopped a b o1 r P → Makes fits spans ends is_memory faults made stopped a b o2 r P
+  Makes-as is h = record { run = Runs-as is h.run; good = h.good }
+
+  -- a call after an evaluation that went well
+  pub Makes-then : {X : Type 0} {P : X → Type 0} {a b c : A} {o1 o2 : List PathExpr} {r : Result X (ReachError F)} →
+      Runs fits spans ends is_memory faults made stopped a b o1 None → Makes fits spans ends is_memory faults made stopped b c o2 r P →
+      Makes fits spans ends is_memory faults made stopped a c (o1 ++ o2) r P
+  Makes-then h m = record { run = Runs-then h m.run; good = m.good }
+
+  -- the exit of a `?` after a part that failed
+  pub Makes-exit : {X : Type 0} {P : X → Type 0} {a b : A} {o1 : List PathExpr} {e : ReachError F} (r : Result X (ReachError F)) (o2 : List PathExpr) →
+      IsErrAnd r (λ y. y ≡ e) → Runs fits spans ends is_memory faults made stopped a b o1 (Some e) →
+      Makes fits spans ends is_memory faults made stopped a b (o1 ++ o2) r P
+  Makes-exit {X} {P} {a} {b} {o1} {e} r o2 is h = record { run = Runs-exit r o2 is h; good = IfOk-err P r e is }
+
+  -- the exit of a `?` where memory is wanting
+  pub Makes-exit_memory : {X : Type 0} {P : X → Type 0} {a b : A} {o1 : List PathExpr} (r : Result X (ReachError F)) (o2 : List PathExpr) →
+      IsErrAnd r (λ y. y ≡ Memory) → Runs fits spans ends is_memory faults made stopped a b o1 None →
+      Makes fits spans ends is_memory faults made stopped a b (o1 ++ o2) r P
+  Makes-exit_memory {X} {P} r o2 is h = record { run = Runs-exit_memory r o2 is h; good = IfOk-err P r Memory is }
+
+  -- what follows from a good answer
+  pub Makes-good : {X : Type 0} {P Q : X → Type 0} {a b : A} {ops : List PathExpr} {r : Result X (ReachError F)} →
+      Makes fits spans ends is_memory faults made stopped a b ops r P → ((x : X) → P x → Q x) → Makes fits spans ends is_memory faults made stopped a b ops r Q
+  Makes-good {X} {P} {Q} {a} {b} {ops} {r} m f = record { run = m.run; good = good r m.good }
+    where
+      good : (r : Result X (ReachError F)) → IfOk r P → IfOk r Q
+      good (Ok x) p = f x p
+      good (Err e) p = tt

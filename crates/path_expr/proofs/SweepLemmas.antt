@@ -1,16 +1,18 @@
 -- Tables in the midst of an elimination.
-use Rattle.std.proofs.Common.{◌≡◌, ℕ, zero, suc, ◌+◌, ◌<◌, ◌≤◌, Bool, true, false, cond, ◌&&◌, eqb, ltb, List, [], ◌++◌, Option, refl, sym, ◌∙◌, ap, subst, inl, inr, ◌⊎◌, arith, add-one, eqb-true, eq-eqb, append_assoc}
-use Rattle.std.proofs.lemmas.Bool.{cases_Bool, cases_order, cases_lt, lt-ltb, le-ltb, ltb-true, ne_eqb, cond-true, cond-false, and_parts, and_left}
+use Rattle.std.proofs.Common.{◌≡◌, ℕ, zero, suc, ◌+◌, ◌<◌, ◌≤◌, Bool, true, false, cond, ◌&&◌, eqb, ltb, List, [], ◌++◌, Option, None, refl, sym, ◌∙◌, ap, subst, inl, inr, ◌⊎◌, arith, add-one, eqb-true, eq-eqb, append_assoc}
+use Rattle.std.proofs.lemmas.Bool.{cases_Bool, cases_order, cases_eq, cases_lt, lt-ltb, le-ltb, ltb-true, ne_eqb, cond-true, cond-false, and_parts, and_left}
 use Rattle.std.proofs.lemmas.List.{append-nil}
 use Rattle.path_expr.specs.PathExpr.{PathExpr, Zero, seq_of, join_of, star_of}
 use Rattle.path_expr.specs.Operations.{star_operation, seq_operation, join_operation, below, cell_operations, row_operations, place_operations}
 use Rattle.path_expr.specs.Elimination.{eliminated}
 use Rattle.path_expr.specs.Elimination.{Table as Cells}
-use Rattle.path_expr.specs.Sweeps.{written, step_operations, swept, rows_swept}
+use Rattle.path_expr.specs.Sweeps.{written, row_written, rows_written, step_operations, swept, rows_swept}
+use Rattle.path_expr.specs.Runs.{Runs}
 use Rattle.path_expr.specs.Holds.{IsItemOrZero, HoldsAll, node_at}
 use Rattle.path_expr.specs.Table.{cell}
 use Rattle.path_expr.specs.declared.table.Table.{Table}
-use Rattle.path_expr.proofs.HoldLemmas.{join_of-Zero, seq_of-Zero, seq_operation-Zero, join_operation-Zero}
+use Rattle.path_expr.proofs.RunLemmas.{Runs-then, Runs-as}
+use Rattle.path_expr.proofs.HoldLemmas.{join_of-Zero, seq_of-Zero, seq_operation-Zero, join_operation-Zero, HoldsAll-none}
 
 module _ {A T : Type 0} {fits : A → PathExpr → T → Type 0} {spans : A → T → ℕ → ℕ → Type 0} where
   -- the same path expressions, otherwise written
@@ -66,7 +68,7 @@ step_operations-Zero f way n i j e = sym (
     ∙ (ap (join_operation (f i j)) (seq_of-Zero way) ∙ join_operation-Zero (f i j))))
 
 -- one column more
-sweep-cond : (P : ℕ → PathExpr) (x : PathExpr) (ai : Bool) (b j : ℕ) →
+pub sweep-cond : (P : ℕ → PathExpr) (x : PathExpr) (ai : Bool) (b j : ℕ) →
     cond (ai && eqb b j) (P j) (cond (ai && ltb b j) (P b) x) ≡ cond (ai && ltb b (j + 1)) (P b) x
 sweep-cond P x false b j = refl
 sweep-cond P x true b j = at (cases_order b j)
@@ -99,6 +101,42 @@ swept-more f way n i j ne a b =
     ap (λ x. cond (eqb a i && eqb b j) (join_of x (seq_of way (swept f way n i j n j))) (swept f way n i j a b)) (swept-here f way n i j)
     ∙ (ap (λ x. cond (eqb a i && eqb b j) (join_of (f i j) (seq_of way x)) (swept f way n i j a b)) (swept-other f way n i j n j ne)
     ∙ sweep-cond (λ k. join_of (f i k) (seq_of way (f n k))) (f a b) (eqb a i) b j)
+
+-- columns that are written as they were
+pub row_written-skip : (f : Cells) (i from j : ℕ) (row : ℕ → PathExpr) → from ≤ j → ((k : ℕ) → from ≤ k → k < j → row k ≡ f i k) → (a b : ℕ) →
+    row_written f i from row a b ≡ row_written f i j row a b
+row_written-skip f i from j row le same a b = at (cases_eq a i)
+  where
+    columns : (a ≡ i) → (b < from) ⊎ (from ≤ b) → (b < j) ⊎ (j ≤ b) → cond (ltb b from) (row b) (f a b) ≡ cond (ltb b j) (row b) (f a b)
+    columns e (inl x) y = cond-true (ltb b from) (row b) (f a b) (lt-ltb b from x) ∙ sym (cond-true (ltb b j) (row b) (f a b) (lt-ltb b j (omega arith)))
+    columns e (inr x) (inl y) = cond-false (ltb b from) (row b) (f a b) (le-ltb b from x)
+        ∙ (ap (λ k. f k b) e ∙ (sym (same b x y) ∙ sym (cond-true (ltb b j) (row b) (f a b) (lt-ltb b j y))))
+    columns e (inr x) (inr y) = cond-false (ltb b from) (row b) (f a b) (le-ltb b from x) ∙ sym (cond-false (ltb b j) (row b) (f a b) (le-ltb b j y))
+
+    at : (a ≡ i) ⊎ (a ≡ i → ⊥) → cond (eqb a i && ltb b from) (row b) (f a b) ≡ cond (eqb a i && ltb b j) (row b) (f a b)
+    at (inl e) = ap (λ x. cond (x && ltb b from) (row b) (f a b)) (eq-eqb a i e)
+        ∙ (columns e (cases_lt b from) (cases_lt b j) ∙ sym (ap (λ x. cond (x && ltb b j) (row b) (f a b)) (eq-eqb a i e)))
+    at (inr ne) = ap (λ x. cond (x && ltb b from) (row b) (f a b)) (ne_eqb a i ne) ∙ sym (ap (λ x. cond (x && ltb b j) (row b) (f a b)) (ne_eqb a i ne))
+
+-- rows that are written as they were
+pub rows_written-skip : (f : Cells) (from i : ℕ) (other : Cells) → from ≤ i → ((k b : ℕ) → from ≤ k → k < i → other k b ≡ f k b) → (a b : ℕ) →
+    rows_written f from other a b ≡ rows_written f i other a b
+rows_written-skip f from i other le same a b = at (cases_lt a from) (cases_lt a i)
+  where
+    at : (a < from) ⊎ (from ≤ a) → (a < i) ⊎ (i ≤ a) → cond (ltb a from) (other a b) (f a b) ≡ cond (ltb a i) (other a b) (f a b)
+    at (inl x) y = cond-true (ltb a from) (other a b) (f a b) (lt-ltb a from x) ∙ sym (cond-true (ltb a i) (other a b) (f a b) (lt-ltb a i (omega arith)))
+    at (inr x) (inl y) = cond-false (ltb a from) (other a b) (f a b) (le-ltb a from x)
+        ∙ (sym (same a b x y) ∙ sym (cond-true (ltb a i) (other a b) (f a b) (lt-ltb a i y)))
+    at (inr x) (inr y) = cond-false (ltb a from) (other a b) (f a b) (le-ltb a from x) ∙ sym (cond-false (ltb a i) (other a b) (f a b) (le-ltb a i y))
+
+-- places at which there is nothing to do
+pub below-skip : (ops : ℕ → List PathExpr) (from j : ℕ) → from ≤ j → ((k : ℕ) → from ≤ k → k < j → [] ≡ ops k) → below ops from ≡ below ops j
+below-skip ops from zero le none = ap (below ops) (let e : from ≡ 0 = omega arith in e)
+below-skip ops from (suc j) le none = at (cases_lt j from) (λ ge. below-skip ops from j ge (λ k x y. none k x (omega arith)))
+  where
+    at : (j < from) ⊎ (from ≤ j) → (from ≤ j → below ops from ≡ below ops j) → below ops from ≡ below ops j ++ ops j
+    at (inl lt) before = ap (below ops) (let e : from ≡ suc j = omega arith in e)
+    at (inr ge) before = before ge ∙ (sym (append-nil (below ops j)) ∙ ap (λ x. below ops j ++ x) (none j ge (omega arith)))
 
 pub step_operations-swept : (f : Cells) (way : PathExpr) (n i j : ℕ) → (n ≡ i → ⊥) → step_operations (swept f way n i j) way n i j ≡ step_operations f way n i j
 step_operations-swept f way n i j ne =
@@ -235,3 +273,70 @@ rows_swept-more f n i lt a b = at (cases_order a i)
 pub place_operations-is : (f : Cells) (n : ℕ) → star_operation (f n n) ++ below (row_operations f n) n ≡ place_operations f n
 unfolding place_operations
 place_operations-is f n = refl
+
+-- a row from which no path leads to the place is as it was
+eliminated-Zero : (f : Cells) (n i b : ℕ) → i < n → f i n ≡ Zero → eliminated n f i b ≡ f i b
+eliminated-Zero f n i b lt e = eliminated-row f n i b lt
+    ∙ (ap (λ x. cond (ltb b n) (join_of (f i b) (seq_of (seq_of x (star_of (f n n))) (f n b))) (f i b)) e
+    ∙ (ap (λ x. cond (ltb b n) x (f i b)) (join_of-Zero (f i b)) ∙ either (ltb b n)))
+  where
+    either : (t : Bool) → cond t (f i b) (f i b) ≡ f i b
+    either true = refl
+    either false = refl
+
+-- an elimination goes on at the next cell that holds something
+module _ {A T F : Type 0} {fits : A → PathExpr → T → Type 0} {spans : A → T → ℕ → ℕ → Type 0} {ends : A → ℕ → ℕ → ℕ → Type 0}
+    {is_memory : F → Bool} {faults : A → ℕ} {made : A → List PathExpr → Type 0} {stopped : A → PathExpr → Type 0} {source : ℕ} {a b : A} where
+  pub cells-at : {table : Table T} (f : Cells) (w : PathExpr) (n i from j : ℕ) → i < n → from ≤ j → ((k : ℕ) → from ≤ k → k < j → cell table n k ≡ None) →
+      Runs fits spans ends is_memory faults made stopped a b (below (step_operations f w n i) from) None × HoldsAll fits spans source b (swept f w n i from) table →
+      Runs fits spans ends is_memory faults made stopped a b (below (step_operations f w n i) j) None × HoldsAll fits spans source b (swept f w n i j) table
+  cells-at {table} f w n i from j lt le none so_far = (
+    Runs-as (below-skip (step_operations f w n i) from j le (λ k x y. step_operations-Zero f w n i k (zero_at k x y))) so_far.0,
+    HoldsAll-as (row_written-skip f i from j (λ k. join_of (f i k) (seq_of w (f n k))) le (λ k x y. step-Zero f w n i k (zero_at k x y))) so_far.1,
+  )
+    where
+      zero_at : (k : ℕ) → from ≤ k → k < j → f n k ≡ Zero
+      zero_at k x y = sym (swept-other f w n i from n k (omega arith)) ∙ HoldsAll-none so_far.1 n k (none k x y)
+
+  pub cells-more : {c : A} {new : Table T} (f : Cells) (w : PathExpr) (n i j : ℕ) → i < n →
+      Runs fits spans ends is_memory faults made stopped a b (below (step_operations f w n i) j) None →
+      Runs fits spans ends is_memory faults made stopped b c (step_operations (swept f w n i j) w n i j) None →
+      HoldsAll fits spans source c (written (swept f w n i j) i j (join_of (swept f w n i j i j) (seq_of w (swept f w n i j n j)))) new →
+      Runs fits spans ends is_memory faults made stopped a c (below (step_operations f w n i) (j + 1)) None × HoldsAll fits spans source c (swept f w n i (j + 1)) new
+  cells-more f w n i j lt run here h = (
+    Runs-as (below-more (step_operations f w n i) j) (Runs-then run (Runs-as (step_operations-swept f w n i j (omega arith)) here)),
+    HoldsAll-as (swept-more f w n i j (omega arith)) h,
+  )
+
+  pub rows-at : {table : Table T} (f : Cells) (n from i : ℕ) → from ≤ i → i ≤ n → ((k : ℕ) → from ≤ k → k < i → cell table k n ≡ None) →
+      Runs fits spans ends is_memory faults made stopped a b (star_operation (f n n) ++ below (row_operations f n) from) None × HoldsAll fits spans source b (rows_swept f n from) table →
+      Runs fits spans ends is_memory faults made stopped a b (star_operation (f n n) ++ below (row_operations f n) i) None × HoldsAll fits spans source b (rows_swept f n i) table
+  rows-at {table} f n from i le within none so_far = (
+    Runs-as (ap (λ x. star_operation (f n n) ++ x) (below-skip (row_operations f n) from i le (λ k x y. row_operations-Zero f n k (zero_at k x y)))) so_far.0,
+    HoldsAll-as (rows_written-skip f from i (eliminated n f) le (λ k c x y. eliminated-Zero f n k c (omega arith) (zero_at k x y))) so_far.1,
+  )
+    where
+      zero_at : (k : ℕ) → from ≤ k → k < i → f k n ≡ Zero
+      zero_at k x y = sym (rows_swept-later f n from k n x) ∙ HoldsAll-none so_far.1 k n (none k x y)
+
+  pub rows-more : {c : A} {new : Table T} (f : Cells) (n i : ℕ) → i < n →
+      Runs fits spans ends is_memory faults made stopped a b (star_operation (f n n) ++ below (row_operations f n) i) None →
+      Runs fits spans ends is_memory faults made stopped b c (row_operations (rows_swept f n i) n i) None →
+      HoldsAll fits spans source c (swept (rows_swept f n i) (seq_of (rows_swept f n i i n) (star_of (rows_swept f n i n n))) n i n) new →
+      Runs fits spans ends is_memory faults made stopped a c (star_operation (f n n) ++ below (row_operations f n) (i + 1)) None × HoldsAll fits spans source c (rows_swept f n (i + 1)) new
+  rows-more f n i lt run here h = (
+    Runs-as (append_assoc (star_operation (f n n)) (below (row_operations f n) i) (row_operations f n i) ∙ ap (λ x. star_operation (f n n) ++ x) (below-more (row_operations f n) i))
+        (Runs-then run (Runs-as (row_operations-rows f n i lt) here)),
+    HoldsAll-as (rows_swept-more f n i lt) h,
+  )
+
+-- what comes behind the operations of row i
+pub rows-rest : (f : Cells) (n i : ℕ) → i < n → (rest : List PathExpr) ×
+    (((star_operation (f n n) ++ below (row_operations f n) i) ++ row_operations f n i) ++ rest ≡ place_operations f n)
+rows-rest f n i lt = let r = below-rest (row_operations f n) i n lt in (
+  r.0,
+  append_assoc (star_operation (f n n) ++ below (row_operations f n) i) (row_operations f n i) r.0
+      ∙ (append_assoc (star_operation (f n n)) (below (row_operations f n) i) (row_operations f n i ++ r.0)
+      ∙ (ap (λ x. star_operation (f n n) ++ x) (sym (append_assoc (below (row_operations f n) i) (row_operations f n i) r.0) ∙ r.1)
+      ∙ place_operations-is f n)),
+)

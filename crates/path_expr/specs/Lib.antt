@@ -6,5 +6,6 @@ pub mod Path
 pub mod Operations
 pub mod Runs
 pub mod Table
+pub mod Numbers
 pub mod Holds
 pub mod Sweeps

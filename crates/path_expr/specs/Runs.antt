@@ -1,5 +1,5 @@
 -- What an evaluation, or a part of it, does to its algebra.
-use Rattle.std.specs.Prelude.{◌≡◌, ℕ, List, ◌∷◌, ◌++◌, Bool, false, Option, None, Some, Result, Ok, Err}
+use Rattle.std.specs.Prelude.{◌≡◌, ℕ, List, ◌∷◌, ◌++◌, Bool, false, Option, None, Some, Result, Ok, Err, IfOk}
 use Rattle.path_expr.specs.declared.cell.ReachError.{ReachError}
 use Rattle.path_expr.specs.declared.cell.ReachError.TheVariants.{Algebra, Memory}
 use Rattle.path_expr.specs.PathExpr.{PathExpr}
@@ -44,3 +44,10 @@ pub record Runs {A T F : Type 0} (fits : A → PathExpr → T → Type 0) (spans
   pub keeps : Keeps fits spans ends faults before now
   pub answers : (done : List PathExpr) → made before done → Answers is_memory made stopped now done operations error
   pub cause : HasCause is_memory faults before now error
+
+-- a call that is such an evaluation, and whose answer, where there is one, is good
+pub record Makes {A T F X : Type 0} (fits : A → PathExpr → T → Type 0) (spans : A → T → ℕ → ℕ → Type 0) (ends : A → ℕ → ℕ → ℕ → Type 0)
+    (is_memory : F → Bool) (faults : A → ℕ) (made : A → List PathExpr → Type 0) (stopped : A → PathExpr → Type 0)
+    (before now : A) (operations : List PathExpr) (result : Result X (ReachError F)) (IsGood : X → Type 0) : Type 0 where
+  pub run : Runs fits spans ends is_memory faults made stopped before now operations (error_of result)
+  pub good : IfOk result IsGood

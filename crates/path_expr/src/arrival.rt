@@ -2,14 +2,14 @@ ghost use Rattle.std.specs.Prelude.{◌≡◌, ◌≢◌, ◌<◌, ◌++◌, ℕ
 ghost use Rattle.path_expr.specs.PathExpr.{PathExpr, Zero, seq_of, join_of, star_of};
 ghost use Rattle.path_expr.specs.Elimination.{arrivals, way_at, ways};
 ghost use Rattle.path_expr.specs.Operations.{seq_operation, join_operation, arrival_operations, arrivals_operations, below, way_operations};
-ghost use Rattle.path_expr.specs.Runs.{Runs, error_of};
+ghost use Rattle.path_expr.specs.Runs.{Makes};
 ghost use Rattle.path_expr.specs.Holds.{IsItem, IsItemOrZero, IsItemOrOne, IsWay, AreWays, HoldsAll, node_at};
 ghost use Rattle.path_expr.specs.Table.{cell};
 
 use crate::algebra::Algebra;
 use crate::cell::{Cell, ReachError};
 use crate::elimination::turns;
-use crate::steps::{join_onto, seq, turned};
+use crate::steps::{join_both, seq, turned};
 use crate::table::Table;
 use std::alloc::Global;
 
@@ -22,13 +22,11 @@ fn through_path<A: Algebra>(
 ) -> Result<A::Item, ReachError<A::Fault>>
     requires { (w : PathExpr) × (p : PathExpr) × (q : PathExpr) × (from : ℕ) × (at : ℕ) × (to : ℕ) × IsItem A.fits A.spans algebra.old w path.now from at
         × IsItem A.fits A.spans algebra.old p step.now at to × IsItemOrOne A.fits A.spans algebra.old q turn.now to }
-    ensures run { (w p q : PathExpr) (from at to : ℕ) → IsItem A.fits A.spans algebra.old w path.now from at →
+    ensures made { (w p q : PathExpr) (from at to : ℕ) → IsItem A.fits A.spans algebra.old w path.now from at →
         IsItem A.fits A.spans algebra.old p step.now at to → IsItemOrOne A.fits A.spans algebra.old q turn.now to →
-        Runs A.fits A.spans A.ends A.is_memory A.faults A.made A.stopped algebra.old algebra.new
-        (seq_operation w p ++ seq_operation (seq_of w p) q) (error_of result) }
-    ensures item { (w p q : PathExpr) (from at to : ℕ) → IsItem A.fits A.spans algebra.old w path.now from at →
-        IsItem A.fits A.spans algebra.old p step.now at to → IsItemOrOne A.fits A.spans algebra.old q turn.now to →
-        IfOk result (λ item. IsItem A.fits A.spans algebra.new (seq_of (seq_of w p) q) item from to) }
+        Makes A.fits A.spans A.ends A.is_memory A.faults A.made A.stopped algebra.old algebra.new
+        (seq_operation w p ++ seq_operation (seq_of w p) q) result
+        (λ item. IsItem A.fits A.spans algebra.new (seq_of (seq_of w p) q) item from to) }
 {
     let up = seq(algebra, path, step)?;
     turned(algebra, &up, turn)
@@ -43,13 +41,11 @@ fn through<A: Algebra>(
 ) -> Result<Option<A::Item>, ReachError<A::Fault>>
     requires { (w : PathExpr) × (p : PathExpr) × (q : PathExpr) × (from : ℕ) × (at : ℕ) × (to : ℕ) × IsWay A.fits A.spans algebra.old w way.now from at
         × IsItem A.fits A.spans algebra.old p step.now at to × IsItemOrOne A.fits A.spans algebra.old q turn.now to }
-    ensures run { (w p q : PathExpr) (from at to : ℕ) → IsWay A.fits A.spans algebra.old w way.now from at →
+    ensures made { (w p q : PathExpr) (from at to : ℕ) → IsWay A.fits A.spans algebra.old w way.now from at →
         IsItem A.fits A.spans algebra.old p step.now at to → IsItemOrOne A.fits A.spans algebra.old q turn.now to →
-        Runs A.fits A.spans A.ends A.is_memory A.faults A.made A.stopped algebra.old algebra.new
-        (seq_operation w p ++ seq_operation (seq_of w p) q) (error_of result) }
-    ensures path { (w p q : PathExpr) (from at to : ℕ) → IsWay A.fits A.spans algebra.old w way.now from at →
-        IsItem A.fits A.spans algebra.old p step.now at to → IsItemOrOne A.fits A.spans algebra.old q turn.now to →
-        IfOk result (λ path. IsItemOrZero A.fits A.spans algebra.new (seq_of (seq_of w p) q) path from to) }
+        Makes A.fits A.spans A.ends A.is_memory A.faults A.made A.stopped algebra.old algebra.new
+        (seq_operation w p ++ seq_operation (seq_of w p) q) result
+        (λ path. IsItemOrZero A.fits A.spans algebra.new (seq_of (seq_of w p) q) path from to) }
 {
     match way {
         Cell::Zero => Ok(None),
@@ -78,28 +74,18 @@ fn arrive_by<A: Algebra>(
         × IsWay A.fits A.spans algebra.old w way.now (node_at source 0) (node_at source p)
         × IsItemOrOne A.fits A.spans algebra.old (star_of (f n n)) turn.now (node_at source n)
         × IsItemOrZero A.fits A.spans algebra.old b before (node_at source 0) (node_at source n) }
-    ensures run { (source : ℕ) (f : ℕ → ℕ → PathExpr) (w b : PathExpr) → HoldsAll A.fits A.spans source algebra.old f table.now →
+    ensures made { (source : ℕ) (f : ℕ → ℕ → PathExpr) (w b : PathExpr) → HoldsAll A.fits A.spans source algebra.old f table.now →
         IsWay A.fits A.spans algebra.old w way.now (node_at source 0) (node_at source p) →
         IsItemOrOne A.fits A.spans algebra.old (star_of (f n n)) turn.now (node_at source n) →
         IsItemOrZero A.fits A.spans algebra.old b before (node_at source 0) (node_at source n) →
-        Runs A.fits A.spans A.ends A.is_memory A.faults A.made A.stopped algebra.old algebra.new
-        (arrival_operations f n w p b) (error_of result) }
-    ensures path { (source : ℕ) (f : ℕ → ℕ → PathExpr) (w b : PathExpr) → HoldsAll A.fits A.spans source algebra.old f table.now →
-        IsWay A.fits A.spans algebra.old w way.now (node_at source 0) (node_at source p) →
-        IsItemOrOne A.fits A.spans algebra.old (star_of (f n n)) turn.now (node_at source n) →
-        IsItemOrZero A.fits A.spans algebra.old b before (node_at source 0) (node_at source n) →
-        IfOk result (λ path. IsItemOrZero A.fits A.spans algebra.new (join_of b (seq_of (seq_of w (f p n)) (star_of (f n n)))) path (node_at source 0) (node_at source n)) }
+        Makes A.fits A.spans A.ends A.is_memory A.faults A.made A.stopped algebra.old algebra.new (arrival_operations f n w p b) result
+        (λ path. IsItemOrZero A.fits A.spans algebra.new (join_of b (seq_of (seq_of w (f p n)) (star_of (f n n)))) path (node_at source 0) (node_at source n)) }
 {
     let Some(step) = table.get(p, n) else {
         return Ok(before);
     };
-    let Some(path) = through(algebra, way, step, turn)? else {
-        return Ok(before);
-    };
-    match join_onto(algebra, before, path) {
-        Ok(joined) => Ok(Some(joined)),
-        Err(error) => Err(error),
-    }
+    let path = through(algebra, way, step, turn)?;
+    join_both(algebra, before, path)
 }
 
 /// The paths to place n by the places below it.
@@ -114,19 +100,17 @@ fn arrive<A: Algebra>(
     requires holds { (source : ℕ) × (f : ℕ → ℕ → PathExpr) × HoldsAll A.fits A.spans source algebra.old f table.now
         × AreWays A.fits A.spans source algebra.old (way_at f) found.now
         × IsItemOrOne A.fits A.spans algebra.old (star_of (f n n)) turn.now (node_at source n) }
-    ensures run { (source : ℕ) (f : ℕ → ℕ → PathExpr) → HoldsAll A.fits A.spans source algebra.old f table.now →
+    ensures made { (source : ℕ) (f : ℕ → ℕ → PathExpr) → HoldsAll A.fits A.spans source algebra.old f table.now →
         AreWays A.fits A.spans source algebra.old (way_at f) found.now →
         IsItemOrOne A.fits A.spans algebra.old (star_of (f n n)) turn.now (node_at source n) →
-        Runs A.fits A.spans A.ends A.is_memory A.faults A.made A.stopped algebra.old algebra.new
-        (arrivals_operations f n (ways f n) 0 Zero) (error_of result) }
-    ensures path { (source : ℕ) (f : ℕ → ℕ → PathExpr) → HoldsAll A.fits A.spans source algebra.old f table.now →
-        AreWays A.fits A.spans source algebra.old (way_at f) found.now →
-        IsItemOrOne A.fits A.spans algebra.old (star_of (f n n)) turn.now (node_at source n) →
-        IfOk result (λ path. IsItemOrZero A.fits A.spans algebra.new (arrivals f n (ways f n) 0 Zero) path (node_at source 0) (node_at source n)) }
+        Makes A.fits A.spans A.ends A.is_memory A.faults A.made A.stopped algebra.old algebra.new (arrivals_operations f n (ways f n) 0 Zero) result
+        (λ path. IsItemOrZero A.fits A.spans algebra.new (arrivals f n (ways f n) 0 Zero) path (node_at source 0) (node_at source n)) }
 {
     let mut total = None;
-    for p in 0..n {
+    let mut from = 0;
+    while let Some(p) = table.next_into(n, from) {
         total = arrive_by(algebra, table, &found[p as usize], turn, total, p, n)?;
+        from = p + 1;
     }
     Ok(total)
 }
@@ -145,15 +129,11 @@ fn later_way<A: Algebra>(
         × AreWays A.fits A.spans source algebra.old (way_at f) found.now
         × IsItemOrOne A.fits A.spans algebra.old (star_of (f n n)) (cell stars.old n n) (node_at source n) }
     ensures others { (m : ℕ) → m ≢ n → cell stars.new m m ≡ cell stars.old m m }
-    ensures run { (source : ℕ) (f : ℕ → ℕ → PathExpr) → HoldsAll A.fits A.spans source algebra.old f table.now →
+    ensures made { (source : ℕ) (f : ℕ → ℕ → PathExpr) → HoldsAll A.fits A.spans source algebra.old f table.now →
         AreWays A.fits A.spans source algebra.old (way_at f) found.now →
         IsItemOrOne A.fits A.spans algebra.old (star_of (f n n)) (cell stars.old n n) (node_at source n) →
-        Runs A.fits A.spans A.ends A.is_memory A.faults A.made A.stopped algebra.old algebra.new
-        (arrivals_operations f n (ways f n) 0 Zero) (error_of result) }
-    ensures way { (source : ℕ) (f : ℕ → ℕ → PathExpr) → HoldsAll A.fits A.spans source algebra.old f table.now →
-        AreWays A.fits A.spans source algebra.old (way_at f) found.now →
-        IsItemOrOne A.fits A.spans algebra.old (star_of (f n n)) (cell stars.old n n) (node_at source n) →
-        IfOk result (λ way. IsWay A.fits A.spans algebra.new (arrivals f n (ways f n) 0 Zero) way (node_at source 0) (node_at source n)) }
+        Makes A.fits A.spans A.ends A.is_memory A.faults A.made A.stopped algebra.old algebra.new (arrivals_operations f n (ways f n) 0 Zero) result
+        (λ way. IsWay A.fits A.spans algebra.new (arrivals f n (ways f n) 0 Zero) way (node_at source 0) (node_at source n)) }
 {
     let turn = stars.take(n, n);
     match arrive(algebra, table, found, &turn, n) {
@@ -169,11 +149,9 @@ fn first_way<A: Algebra>(
     table: &Table<A::Item>,
 ) -> Result<Cell<A::Item>, ReachError<A::Fault>>
     requires { (source : ℕ) × (f : ℕ → ℕ → PathExpr) × HoldsAll A.fits A.spans source algebra.old f table.now }
-    ensures run { (source : ℕ) (f : ℕ → ℕ → PathExpr) → HoldsAll A.fits A.spans source algebra.old f table.now →
-        Runs A.fits A.spans A.ends A.is_memory A.faults A.made A.stopped algebra.old algebra.new
-        (way_operations f 0) (error_of result) }
-    ensures way { (source : ℕ) (f : ℕ → ℕ → PathExpr) → HoldsAll A.fits A.spans source algebra.old f table.now →
-        IfOk result (λ way. IsWay A.fits A.spans algebra.new (way_at f 0) way (node_at source 0) (node_at source 0)) }
+    ensures made { (source : ℕ) (f : ℕ → ℕ → PathExpr) → HoldsAll A.fits A.spans source algebra.old f table.now →
+        Makes A.fits A.spans A.ends A.is_memory A.faults A.made A.stopped algebra.old algebra.new (way_operations f 0) result
+        (λ way. IsWay A.fits A.spans algebra.new (way_at f 0) way (node_at source 0) (node_at source 0)) }
 {
     match turns(algebra, table, 0) {
         Ok(Some(turn)) => Ok(Cell::Item(turn)),
@@ -195,15 +173,11 @@ fn way<A: Algebra>(
         × AreWays A.fits A.spans source algebra.old (way_at f) found.now
         × (0 < n → IsItemOrOne A.fits A.spans algebra.old (star_of (f n n)) (cell stars.old n n) (node_at source n)) }
     ensures others { (m : ℕ) → m ≢ n → cell stars.new m m ≡ cell stars.old m m }
-    ensures run { (source : ℕ) (f : ℕ → ℕ → PathExpr) → HoldsAll A.fits A.spans source algebra.old f table.now →
+    ensures made { (source : ℕ) (f : ℕ → ℕ → PathExpr) → HoldsAll A.fits A.spans source algebra.old f table.now →
         AreWays A.fits A.spans source algebra.old (way_at f) found.now →
         (0 < n → IsItemOrOne A.fits A.spans algebra.old (star_of (f n n)) (cell stars.old n n) (node_at source n)) →
-        Runs A.fits A.spans A.ends A.is_memory A.faults A.made A.stopped algebra.old algebra.new
-        (way_operations f n) (error_of result) }
-    ensures way { (source : ℕ) (f : ℕ → ℕ → PathExpr) → HoldsAll A.fits A.spans source algebra.old f table.now →
-        AreWays A.fits A.spans source algebra.old (way_at f) found.now →
-        (0 < n → IsItemOrOne A.fits A.spans algebra.old (star_of (f n n)) (cell stars.old n n) (node_at source n)) →
-        IfOk result (λ way. IsWay A.fits A.spans algebra.new (way_at f n) way (node_at source 0) (node_at source n)) }
+        Makes A.fits A.spans A.ends A.is_memory A.faults A.made A.stopped algebra.old algebra.new (way_operations f n) result
+        (λ way. IsWay A.fits A.spans algebra.new (way_at f n) way (node_at source 0) (node_at source n)) }
 {
     if n == 0 {
         first_way(algebra, table)
@@ -223,13 +197,10 @@ pub(crate) fn find_ways<A: Algebra>(
     requires { (source : ℕ) × (f : ℕ → ℕ → PathExpr) × HoldsAll A.fits A.spans source algebra.old f table.now
         × ((m : ℕ) → 0 < m → m < nodes → IsItemOrOne A.fits A.spans algebra.old (star_of (f m m)) (cell stars.old m m) (node_at source m)) }
     ensures length { IfOk result (λ found. length found.items ≡ nodes) }
-    ensures run { (source : ℕ) (f : ℕ → ℕ → PathExpr) → HoldsAll A.fits A.spans source algebra.old f table.now →
+    ensures made { (source : ℕ) (f : ℕ → ℕ → PathExpr) → HoldsAll A.fits A.spans source algebra.old f table.now →
         ((m : ℕ) → 0 < m → m < nodes → IsItemOrOne A.fits A.spans algebra.old (star_of (f m m)) (cell stars.old m m) (node_at source m)) →
-        Runs A.fits A.spans A.ends A.is_memory A.faults A.made A.stopped algebra.old algebra.new
-        (below (way_operations f) nodes) (error_of result) }
-    ensures ways { (source : ℕ) (f : ℕ → ℕ → PathExpr) → HoldsAll A.fits A.spans source algebra.old f table.now →
-        ((m : ℕ) → 0 < m → m < nodes → IsItemOrOne A.fits A.spans algebra.old (star_of (f m m)) (cell stars.old m m) (node_at source m)) →
-        IfOk result (λ found. AreWays A.fits A.spans source algebra.new (way_at f) found.items) }
+        Makes A.fits A.spans A.ends A.is_memory A.faults A.made A.stopped algebra.old algebra.new (below (way_operations f) nodes) result
+        (λ found. AreWays A.fits A.spans source algebra.new (way_at f) found.items) }
 {
     let mut found = Vec::new(alloc);
     for n in 0..nodes {

@@ -4,9 +4,9 @@ ghost use Rattle.path_expr.specs.PathExpr.{PathExpr, seq_of, join_of, star_of};
 ghost use Rattle.path_expr.specs.Elimination.{eliminated, first_table, last_table};
 ghost use Rattle.path_expr.specs.Operations.{below, star_operation, row_operations, place_operations, eliminations};
 ghost use Rattle.path_expr.specs.Sweeps.{written, step_operations, swept};
-ghost use Rattle.path_expr.specs.Runs.{Runs, error_of};
+ghost use Rattle.path_expr.specs.Runs.{Runs, error_of, Makes};
 ghost use Rattle.path_expr.specs.Holds.{IsItem, IsItemOrOne, HoldsAll, node_at};
-ghost use Rattle.path_expr.specs.Table.{cell, row_count};
+ghost use Rattle.path_expr.specs.Table.{cell, place_count};
 
 use crate::algebra::Algebra;
 use crate::cell::ReachError;
@@ -22,17 +22,15 @@ fn eliminate_cell<A: Algebra>(
     i: u32,
     j: u32,
 ) -> Result<(), ReachError<A::Fault>>
-    requires row { i < row_count table.old }
+    requires from { i < place_count table.old }
+    requires to { j < place_count table.old }
     requires holds { (source : ℕ) × (f : ℕ → ℕ → PathExpr) × (w : PathExpr) × HoldsAll A.fits A.spans source algebra.old f table.old
         × IsItem A.fits A.spans algebra.old w way.now (node_at source i) (node_at source n) }
-    ensures rows { row_count table.new ≡ row_count table.old }
-    ensures run { (source : ℕ) (f : ℕ → ℕ → PathExpr) (w : PathExpr) → HoldsAll A.fits A.spans source algebra.old f table.old →
+    ensures places { place_count table.new ≡ place_count table.old }
+    ensures made { (source : ℕ) (f : ℕ → ℕ → PathExpr) (w : PathExpr) → HoldsAll A.fits A.spans source algebra.old f table.old →
         IsItem A.fits A.spans algebra.old w way.now (node_at source i) (node_at source n) →
-        Runs A.fits A.spans A.ends A.is_memory A.faults A.made A.stopped algebra.old algebra.new
-        (step_operations f w n i j) (error_of result) }
-    ensures holds { (source : ℕ) (f : ℕ → ℕ → PathExpr) (w : PathExpr) → HoldsAll A.fits A.spans source algebra.old f table.old →
-        IsItem A.fits A.spans algebra.old w way.now (node_at source i) (node_at source n) →
-        OnOk result (HoldsAll A.fits A.spans source algebra.new (written f i j (join_of (f i j) (seq_of w (f n j)))) table.new) }
+        Makes A.fits A.spans A.ends A.is_memory A.faults A.made A.stopped algebra.old algebra.new (step_operations f w n i j) result
+        (λ _. HoldsAll A.fits A.spans source algebra.new (written f i j (join_of (f i j) (seq_of w (f n j)))) table.new) }
 {
     let Some(out) = table.get(n, j) else {
         return Ok(());
@@ -52,21 +50,20 @@ fn eliminate_cells<A: Algebra>(
     n: u32,
     i: u32,
 ) -> Result<(), ReachError<A::Fault>>
-    requires row { i < row_count table.old }
+    requires within { n ≤ place_count table.old }
     requires above { i < n }
     requires holds { (source : ℕ) × (f : ℕ → ℕ → PathExpr) × (w : PathExpr) × HoldsAll A.fits A.spans source algebra.old f table.old
         × IsItem A.fits A.spans algebra.old w way.now (node_at source i) (node_at source n) }
-    ensures rows { row_count table.new ≡ row_count table.old }
-    ensures run { (source : ℕ) (f : ℕ → ℕ → PathExpr) (w : PathExpr) → HoldsAll A.fits A.spans source algebra.old f table.old →
+    ensures places { place_count table.new ≡ place_count table.old }
+    ensures made { (source : ℕ) (f : ℕ → ℕ → PathExpr) (w : PathExpr) → HoldsAll A.fits A.spans source algebra.old f table.old →
         IsItem A.fits A.spans algebra.old w way.now (node_at source i) (node_at source n) →
-        Runs A.fits A.spans A.ends A.is_memory A.faults A.made A.stopped algebra.old algebra.new
-        (below (step_operations f w n i) n) (error_of result) }
-    ensures holds { (source : ℕ) (f : ℕ → ℕ → PathExpr) (w : PathExpr) → HoldsAll A.fits A.spans source algebra.old f table.old →
-        IsItem A.fits A.spans algebra.old w way.now (node_at source i) (node_at source n) →
-        OnOk result (HoldsAll A.fits A.spans source algebra.new (swept f w n i n) table.new) }
+        Makes A.fits A.spans A.ends A.is_memory A.faults A.made A.stopped algebra.old algebra.new (below (step_operations f w n i) n) result
+        (λ _. HoldsAll A.fits A.spans source algebra.new (swept f w n i n) table.new) }
 {
-    for j in 0..n {
+    let mut from = 0;
+    while let Some(j) = table.next_out(n, from) {
         eliminate_cell(algebra, table, way, n, i, j)?;
+        from = j + 1;
     }
     Ok(())
 }
@@ -79,18 +76,15 @@ fn eliminate_row<A: Algebra>(
     n: u32,
     i: u32,
 ) -> Result<(), ReachError<A::Fault>>
-    requires row { i < row_count table.old }
+    requires within { n ≤ place_count table.old }
     requires above { i < n }
     requires holds { (source : ℕ) × (f : ℕ → ℕ → PathExpr) × HoldsAll A.fits A.spans source algebra.old f table.old
         × IsItemOrOne A.fits A.spans algebra.old (star_of (f n n)) turn.now (node_at source n) }
-    ensures rows { row_count table.new ≡ row_count table.old }
-    ensures run { (source : ℕ) (f : ℕ → ℕ → PathExpr) → HoldsAll A.fits A.spans source algebra.old f table.old →
+    ensures places { place_count table.new ≡ place_count table.old }
+    ensures made { (source : ℕ) (f : ℕ → ℕ → PathExpr) → HoldsAll A.fits A.spans source algebra.old f table.old →
         IsItemOrOne A.fits A.spans algebra.old (star_of (f n n)) turn.now (node_at source n) →
-        Runs A.fits A.spans A.ends A.is_memory A.faults A.made A.stopped algebra.old algebra.new
-        (row_operations f n i) (error_of result) }
-    ensures holds { (source : ℕ) (f : ℕ → ℕ → PathExpr) → HoldsAll A.fits A.spans source algebra.old f table.old →
-        IsItemOrOne A.fits A.spans algebra.old (star_of (f n n)) turn.now (node_at source n) →
-        OnOk result (HoldsAll A.fits A.spans source algebra.new (swept f (seq_of (f i n) (star_of (f n n))) n i n) table.new) }
+        Makes A.fits A.spans A.ends A.is_memory A.faults A.made A.stopped algebra.old algebra.new (row_operations f n i) result
+        (λ _. HoldsAll A.fits A.spans source algebra.new (swept f (seq_of (f i n) (star_of (f n n))) n i n) table.new) }
 {
     let Some(into) = table.get(i, n) else {
         return Ok(());
@@ -106,11 +100,9 @@ pub(crate) fn turns<A: Algebra>(
     n: u32,
 ) -> Result<Option<A::Item>, ReachError<A::Fault>>
     requires { (source : ℕ) × (f : ℕ → ℕ → PathExpr) × HoldsAll A.fits A.spans source algebra.old f table.now }
-    ensures run { (source : ℕ) (f : ℕ → ℕ → PathExpr) → HoldsAll A.fits A.spans source algebra.old f table.now →
-        Runs A.fits A.spans A.ends A.is_memory A.faults A.made A.stopped algebra.old algebra.new
-        (star_operation (f n n)) (error_of result) }
-    ensures turn { (source : ℕ) (f : ℕ → ℕ → PathExpr) → HoldsAll A.fits A.spans source algebra.old f table.now →
-        IfOk result (λ turn. IsItemOrOne A.fits A.spans algebra.new (star_of (f n n)) turn (node_at source n)) }
+    ensures made { (source : ℕ) (f : ℕ → ℕ → PathExpr) → HoldsAll A.fits A.spans source algebra.old f table.now →
+        Makes A.fits A.spans A.ends A.is_memory A.faults A.made A.stopped algebra.old algebra.new (star_operation (f n n)) result
+        (λ turn. IsItemOrOne A.fits A.spans algebra.new (star_of (f n n)) turn (node_at source n)) }
 {
     let Some(cell) = table.get(n, n) else {
         return Ok(None);
@@ -127,20 +119,19 @@ fn eliminate_place<A: Algebra>(
     table: &mut Table<A::Item>,
     n: u32,
 ) -> Result<Option<A::Item>, ReachError<A::Fault>>
-    requires within { n ≤ row_count table.old }
+    requires within { n ≤ place_count table.old }
     requires holds { (source : ℕ) × (f : ℕ → ℕ → PathExpr) × HoldsAll A.fits A.spans source algebra.old f table.old }
-    ensures rows { row_count table.new ≡ row_count table.old }
-    ensures run { (source : ℕ) (f : ℕ → ℕ → PathExpr) → HoldsAll A.fits A.spans source algebra.old f table.old →
-        Runs A.fits A.spans A.ends A.is_memory A.faults A.made A.stopped algebra.old algebra.new
-        (place_operations f n) (error_of result) }
-    ensures holds { (source : ℕ) (f : ℕ → ℕ → PathExpr) → HoldsAll A.fits A.spans source algebra.old f table.old →
-        OnOk result (HoldsAll A.fits A.spans source algebra.new (eliminated n f) table.new) }
-    ensures turn { (source : ℕ) (f : ℕ → ℕ → PathExpr) → HoldsAll A.fits A.spans source algebra.old f table.old →
-        IfOk result (λ turn. IsItemOrOne A.fits A.spans algebra.new (star_of (f n n)) turn (node_at source n)) }
+    ensures places { place_count table.new ≡ place_count table.old }
+    ensures made { (source : ℕ) (f : ℕ → ℕ → PathExpr) → HoldsAll A.fits A.spans source algebra.old f table.old →
+        Makes A.fits A.spans A.ends A.is_memory A.faults A.made A.stopped algebra.old algebra.new (place_operations f n) result
+        (λ turn. HoldsAll A.fits A.spans source algebra.new (eliminated n f) table.new
+        × IsItemOrOne A.fits A.spans algebra.new (star_of (f n n)) turn (node_at source n)) }
 {
     let turn = turns(algebra, table, n)?;
-    for i in 0..n {
+    let mut from = 0;
+    while let Some(i) = table.next_into(n, from) {
         eliminate_row(algebra, table, &turn, n, i)?;
+        from = i + 1;
     }
     Ok(turn)
 }
@@ -152,19 +143,16 @@ fn eliminate_next<A: Algebra>(
     stars: &mut Table<A::Item>,
     n: u32,
 ) -> Result<(), ReachError<A::Fault>>
-    requires within { n < row_count table.old }
-    requires room { n < row_count stars.old }
+    requires within { n < place_count table.old }
+    requires room { n < place_count stars.old }
     requires none { cell stars.old n n ≡ None }
     requires holds { (source : ℕ) × (f : ℕ → ℕ → PathExpr) × HoldsAll A.fits A.spans source algebra.old f table.old }
-    ensures rows { row_count table.new ≡ row_count table.old }
-    ensures star_rows { row_count stars.new ≡ row_count stars.old }
-    ensures run { (source : ℕ) (f : ℕ → ℕ → PathExpr) → HoldsAll A.fits A.spans source algebra.old f table.old →
-        Runs A.fits A.spans A.ends A.is_memory A.faults A.made A.stopped algebra.old algebra.new
-        (place_operations f n) (error_of result) }
-    ensures holds { (source : ℕ) (f : ℕ → ℕ → PathExpr) → HoldsAll A.fits A.spans source algebra.old f table.old →
-        OnOk result (HoldsAll A.fits A.spans source algebra.new (eliminated n f) table.new) }
-    ensures turn { (source : ℕ) (f : ℕ → ℕ → PathExpr) → HoldsAll A.fits A.spans source algebra.old f table.old →
-        OnOk result (IsItemOrOne A.fits A.spans algebra.new (star_of (f n n)) (cell stars.new n n) (node_at source n)) }
+    ensures places { place_count table.new ≡ place_count table.old }
+    ensures star_places { place_count stars.new ≡ place_count stars.old }
+    ensures made { (source : ℕ) (f : ℕ → ℕ → PathExpr) → HoldsAll A.fits A.spans source algebra.old f table.old →
+        Makes A.fits A.spans A.ends A.is_memory A.faults A.made A.stopped algebra.old algebra.new (place_operations f n) result
+        (λ _. HoldsAll A.fits A.spans source algebra.new (eliminated n f) table.new
+        × IsItemOrOne A.fits A.spans algebra.new (star_of (f n n)) (cell stars.new n n) (node_at source n)) }
     ensures others { OnOk result ((m : ℕ) → m ≢ n → cell stars.new m m ≡ cell stars.old m m) }
 {
     if let Some(turn) = eliminate_place(algebra, table, n)? {
@@ -181,18 +169,15 @@ pub(crate) fn eliminate_all<A: Algebra>(
     nodes: u32,
 ) -> Result<(), ReachError<A::Fault>>
     requires some { 0 < nodes }
-    requires rows { row_count table.old ≡ nodes }
-    requires room { row_count stars.old ≡ nodes }
+    requires places { place_count table.old ≡ nodes }
+    requires room { place_count stars.old ≡ nodes }
     requires none { (m : ℕ) → cell stars.old m m ≡ None }
     requires holds { (source : ℕ) × (links : List Link) × HoldsAll A.fits A.spans source algebra.old (first_table links source) table.old }
-    ensures run { (source : ℕ) (links : List Link) → HoldsAll A.fits A.spans source algebra.old (first_table links source) table.old →
-        Runs A.fits A.spans A.ends A.is_memory A.faults A.made A.stopped algebra.old algebra.new
-        (eliminations nodes links source (nodes - 1)) (error_of result) }
-    ensures holds { (source : ℕ) (links : List Link) → HoldsAll A.fits A.spans source algebra.old (first_table links source) table.old →
-        OnOk result (HoldsAll A.fits A.spans source algebra.new (last_table nodes links source) table.new) }
-    ensures turns { (source : ℕ) (links : List Link) → HoldsAll A.fits A.spans source algebra.old (first_table links source) table.old →
-        OnOk result ((m : ℕ) → 0 < m → m < nodes → IsItemOrOne A.fits A.spans algebra.new
-        (star_of (last_table nodes links source m m)) (cell stars.new m m) (node_at source m)) }
+    ensures made { (source : ℕ) (links : List Link) → HoldsAll A.fits A.spans source algebra.old (first_table links source) table.old →
+        Makes A.fits A.spans A.ends A.is_memory A.faults A.made A.stopped algebra.old algebra.new (eliminations nodes links source (nodes - 1)) result
+        (λ _. HoldsAll A.fits A.spans source algebra.new (last_table nodes links source) table.new
+        × ((m : ℕ) → 0 < m → m < nodes → IsItemOrOne A.fits A.spans algebra.new
+        (star_of (last_table nodes links source m m)) (cell stars.new m m) (node_at source m))) }
 {
     for count in 0..nodes - 1 {
         eliminate_next(algebra, table, stars, nodes - 1 - count)?;

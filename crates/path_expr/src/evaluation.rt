@@ -3,7 +3,7 @@ ghost use Rattle.path_expr.specs.declared.link.Link.{Link as SpecLink};
 ghost use Rattle.path_expr.specs.Elimination.{last_table, way_at, path_at};
 ghost use Rattle.path_expr.specs.Operations.{operations};
 ghost use Rattle.path_expr.specs.Walks.{IsGraph};
-ghost use Rattle.path_expr.specs.Runs.{Runs, error_of};
+ghost use Rattle.path_expr.specs.Runs.{Runs, error_of, Makes};
 ghost use Rattle.path_expr.specs.Holds.{AreWays, AreCells};
 
 use crate::algebra::Algebra;
@@ -28,9 +28,8 @@ fn evaluate<A: Algebra>(
     requires source { source < nodes }
     requires ends { (k : ℕ) (l : SpecLink) → slice_get links.now k ≡ Some l → A.ends algebra.old k l.from l.to }
     ensures length { IfOk result (λ found. length found.items ≡ nodes) }
-    ensures run { Runs A.fits A.spans A.ends A.is_memory A.faults A.made A.stopped algebra.old algebra.new
-        (operations nodes links.now source) (error_of result) }
-    ensures ways { IfOk result (λ found. AreWays A.fits A.spans source algebra.new (way_at (last_table nodes links.now source)) found.items) }
+    ensures made { Makes A.fits A.spans A.ends A.is_memory A.faults A.made A.stopped algebra.old algebra.new
+        (operations nodes links.now source) result (λ found. AreWays A.fits A.spans source algebra.new (way_at (last_table nodes links.now source)) found.items) }
 {
     let items = edges(alloc, algebra, links)?;
     let mut table = begin_table(alloc, algebra, items.as_slice(), links, source, nodes)?;

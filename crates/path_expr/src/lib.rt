@@ -10,8 +10,10 @@ mod elimination;
 mod evaluation;
 mod law;
 mod link;
+mod numbers;
 mod path;
 mod plain_paths;
+mod rows;
 mod steps;
 mod table;
 

@@ -1,7 +1,7 @@
-ghost use Rattle.std.specs.Prelude.{◌≡◌, ℕ, [], ◌∷◌, IfOk};
+ghost use Rattle.std.specs.Prelude.{◌≡◌, ℕ, [], ◌∷◌};
 ghost use Rattle.path_expr.specs.PathExpr.{PathExpr, Edge, seq_of, join_of, star_of};
 ghost use Rattle.path_expr.specs.Operations.{seq_operation, join_operation, star_operation};
-ghost use Rattle.path_expr.specs.Runs.{Runs, error_of};
+ghost use Rattle.path_expr.specs.Runs.{Makes};
 ghost use Rattle.path_expr.specs.Holds.{IsItem, IsItemOrZero, IsItemOrOne};
 
 use crate::algebra::Algebra;
@@ -13,10 +13,9 @@ pub(crate) fn edge<A: Algebra>(
     number: u32,
 ) -> Result<A::Item, ReachError<A::Fault>>
     requires { (from : ℕ) × (to : ℕ) × A.ends algebra.old number from to }
-    ensures run { Runs A.fits A.spans A.ends A.is_memory A.faults A.made A.stopped algebra.old algebra.new
-        (Edge number ∷ []) (error_of result) }
-    ensures item { (from to : ℕ) → A.ends algebra.old number from to →
-        IfOk result (λ item. IsItem A.fits A.spans algebra.new (Edge number) item from to) }
+    ensures made { (from to : ℕ) → A.ends algebra.old number from to →
+        Makes A.fits A.spans A.ends A.is_memory A.faults A.made A.stopped algebra.old algebra.new
+        (Edge number ∷ []) result (λ item. IsItem A.fits A.spans algebra.new (Edge number) item from to) }
 {
     match algebra.edge(number) {
         Ok(item) => Ok(item),
@@ -31,13 +30,10 @@ pub(crate) fn seq<A: Algebra>(
     second: &A::Item,
 ) -> Result<A::Item, ReachError<A::Fault>>
     requires { (from : ℕ) × (through : ℕ) × (to : ℕ) × A.spans algebra.old first.now from through × A.spans algebra.old second.now through to }
-    ensures run { (p q : PathExpr) (from through to : ℕ) → IsItem A.fits A.spans algebra.old p first.now from through →
+    ensures made { (p q : PathExpr) (from through to : ℕ) → IsItem A.fits A.spans algebra.old p first.now from through →
         IsItem A.fits A.spans algebra.old q second.now through to →
-        Runs A.fits A.spans A.ends A.is_memory A.faults A.made A.stopped algebra.old algebra.new
-        (seq_operation p q) (error_of result) }
-    ensures item { (p q : PathExpr) (from through to : ℕ) → IsItem A.fits A.spans algebra.old p first.now from through →
-        IsItem A.fits A.spans algebra.old q second.now through to →
-        IfOk result (λ item. IsItem A.fits A.spans algebra.new (seq_of p q) item from to) }
+        Makes A.fits A.spans A.ends A.is_memory A.faults A.made A.stopped algebra.old algebra.new
+        (seq_operation p q) result (λ item. IsItem A.fits A.spans algebra.new (seq_of p q) item from to) }
 {
     match algebra.seq(first, second) {
         Ok(item) => Ok(item),
@@ -51,11 +47,9 @@ pub(crate) fn star<A: Algebra>(
     turn: &A::Item,
 ) -> Result<A::Item, ReachError<A::Fault>>
     requires { (node : ℕ) × A.spans algebra.old turn.now node node }
-    ensures run { (p : PathExpr) (node : ℕ) → IsItem A.fits A.spans algebra.old p turn.now node node →
-        Runs A.fits A.spans A.ends A.is_memory A.faults A.made A.stopped algebra.old algebra.new
-        (star_operation p) (error_of result) }
-    ensures item { (p : PathExpr) (node : ℕ) → IsItem A.fits A.spans algebra.old p turn.now node node →
-        IfOk result (λ item. IsItem A.fits A.spans algebra.new (star_of p) item node node) }
+    ensures made { (p : PathExpr) (node : ℕ) → IsItem A.fits A.spans algebra.old p turn.now node node →
+        Makes A.fits A.spans A.ends A.is_memory A.faults A.made A.stopped algebra.old algebra.new
+        (star_operation p) result (λ item. IsItem A.fits A.spans algebra.new (star_of p) item node node) }
 {
     match algebra.star(turn) {
         Ok(item) => Ok(item),
@@ -68,10 +62,9 @@ pub(crate) fn copy<A: Algebra>(
     algebra: &mut A,
     item: &A::Item,
 ) -> Result<A::Item, ReachError<A::Fault>>
-    ensures run { Runs A.fits A.spans A.ends A.is_memory A.faults A.made A.stopped algebra.old algebra.new
-        [] (error_of result) }
-    ensures item { (p : PathExpr) (from to : ℕ) → IsItem A.fits A.spans algebra.old p item.now from to →
-        IfOk result (λ copy. IsItem A.fits A.spans algebra.new p copy from to) }
+    ensures made { (p : PathExpr) (from to : ℕ) → IsItem A.fits A.spans algebra.old p item.now from to →
+        Makes A.fits A.spans A.ends A.is_memory A.faults A.made A.stopped algebra.old algebra.new
+        [] result (λ copy. IsItem A.fits A.spans algebra.new p copy from to) }
 {
     match algebra.copy(item) {
         Ok(copy) => Ok(copy),
@@ -87,13 +80,10 @@ pub(crate) fn join_onto<A: Algebra>(
 ) -> Result<A::Item, ReachError<A::Fault>>
     requires { (p : PathExpr) × (q : PathExpr) × (from : ℕ) × (to : ℕ) × IsItemOrZero A.fits A.spans algebra.old p before from to
         × IsItem A.fits A.spans algebra.old q path from to }
-    ensures run { (p q : PathExpr) (from to : ℕ) → IsItemOrZero A.fits A.spans algebra.old p before from to →
+    ensures made { (p q : PathExpr) (from to : ℕ) → IsItemOrZero A.fits A.spans algebra.old p before from to →
         IsItem A.fits A.spans algebra.old q path from to →
-        Runs A.fits A.spans A.ends A.is_memory A.faults A.made A.stopped algebra.old algebra.new
-        (join_operation p q) (error_of result) }
-    ensures item { (p q : PathExpr) (from to : ℕ) → IsItemOrZero A.fits A.spans algebra.old p before from to →
-        IsItem A.fits A.spans algebra.old q path from to →
-        IfOk result (λ item. IsItem A.fits A.spans algebra.new (join_of p q) item from to) }
+        Makes A.fits A.spans A.ends A.is_memory A.faults A.made A.stopped algebra.old algebra.new
+        (join_operation p q) result (λ item. IsItem A.fits A.spans algebra.new (join_of p q) item from to) }
 {
     let Some(before) = before else {
         return Ok(path);
@@ -101,6 +91,28 @@ pub(crate) fn join_onto<A: Algebra>(
     match algebra.join(&before, &path) {
         Ok(item) => Ok(item),
         Err(fault) => Err(ReachError::Algebra(fault)),
+    }
+}
+
+/// Either of two paths, where each may be missing.
+pub(crate) fn join_both<A: Algebra>(
+    algebra: &mut A,
+    before: Option<A::Item>,
+    path: Option<A::Item>,
+) -> Result<Option<A::Item>, ReachError<A::Fault>>
+    requires { (p : PathExpr) × (q : PathExpr) × (from : ℕ) × (to : ℕ) × IsItemOrZero A.fits A.spans algebra.old p before from to
+        × IsItemOrZero A.fits A.spans algebra.old q path from to }
+    ensures made { (p q : PathExpr) (from to : ℕ) → IsItemOrZero A.fits A.spans algebra.old p before from to →
+        IsItemOrZero A.fits A.spans algebra.old q path from to →
+        Makes A.fits A.spans A.ends A.is_memory A.faults A.made A.stopped algebra.old algebra.new
+        (join_operation p q) result (λ joined. IsItemOrZero A.fits A.spans algebra.new (join_of p q) joined from to) }
+{
+    let Some(path) = path else {
+        return Ok(before);
+    };
+    match join_onto(algebra, before, path) {
+        Ok(joined) => Ok(Some(joined)),
+        Err(error) => Err(error),
     }
 }
 
@@ -112,13 +124,10 @@ pub(crate) fn turned<A: Algebra>(
 ) -> Result<A::Item, ReachError<A::Fault>>
     requires { (p : PathExpr) × (q : PathExpr) × (from : ℕ) × (to : ℕ) × IsItem A.fits A.spans algebra.old p path.now from to
         × IsItemOrOne A.fits A.spans algebra.old q turn.now to }
-    ensures run { (p q : PathExpr) (from to : ℕ) → IsItem A.fits A.spans algebra.old p path.now from to →
+    ensures made { (p q : PathExpr) (from to : ℕ) → IsItem A.fits A.spans algebra.old p path.now from to →
         IsItemOrOne A.fits A.spans algebra.old q turn.now to →
-        Runs A.fits A.spans A.ends A.is_memory A.faults A.made A.stopped algebra.old algebra.new
-        (seq_operation p q) (error_of result) }
-    ensures item { (p q : PathExpr) (from to : ℕ) → IsItem A.fits A.spans algebra.old p path.now from to →
-        IsItemOrOne A.fits A.spans algebra.old q turn.now to →
-        IfOk result (λ item. IsItem A.fits A.spans algebra.new (seq_of p q) item from to) }
+        Makes A.fits A.spans A.ends A.is_memory A.faults A.made A.stopped algebra.old algebra.new
+        (seq_operation p q) result (λ item. IsItem A.fits A.spans algebra.new (seq_of p q) item from to) }
 {
     match turn {
         Some(turn) => seq(algebra, path, turn),

@@ -1,5 +1,9 @@
+ghost use Rattle.std.specs.Prelude.{◌≡◌, ◌≤◌, false, IsSome, IsTrue, IfErr};
+ghost use Rattle.path_expr.specs.Algebra.{Rose};
+ghost use Rattle.path_expr.specs.Walks.{IsGraph};
+
 use super::{Algebra, Cell, Link, Path, PlainPaths, ReachError, paths_are_walks, reach};
-use std::alloc::Global;
+use std::alloc::{AllocError, Global};
 use std::test::Fail;
 
 // Each operation of the plain paths.
@@ -44,12 +48,37 @@ fn reaches_round_a_loop(rt: HostRuntime) -> Result<(), Fail> {
     Ok(())
 }
 
-// An algebra of expressions as texts, which refuses each call after so many.
+// An algebra of expressions as texts. It refuses each call after so many, and keeps what the first of these was to make.
 #[derive(Drop)]
 struct Texts {
     alloc: Global,
     left: u32,
+    refused: Option<String>,
     faults: u64,
+}
+
+impl Texts {
+    fn new(alloc: Global, left: u32) -> Texts {
+        Texts {
+            alloc,
+            left,
+            refused: None,
+            faults: 0,
+        }
+    }
+
+    fn answer(&mut self, text: String) -> Result<String, bool>
+        ensures refused { IfErr result (λ fault. (fault ≡ false) × IsSome self.new.refused × Rose self.old.faults self.new.faults) }
+        ensures later { self.old.faults ≤ self.new.faults }
+    {
+        if self.left == 0 {
+            self.refused = Some(text);
+            self.faults = self.faults.saturating_add(1);
+            return Err(false);
+        }
+        self.left -= 1;
+        Ok(text)
+    }
 }
 
 impl Algebra for Texts {
@@ -69,42 +98,26 @@ impl Algebra for Texts {
 
     ghost made = { λ _ _. Unit {0} };
 
-    ghost stopped = { λ _ _. Unit {0} };
+    ghost stopped = { λ texts _. IsSome texts.refused };
 
     fn edge(&mut self, number: u32) -> Result<String, bool> {
-        if self.left == 0 {
-            self.faults = self.faults.saturating_add(1);
-            return Err(false);
-        }
-        self.left -= 1;
-        format!(in self.alloc; "{number}").map_err(|_| true)
+        let text = format!(in self.alloc; "{number}").map_err(|_| true)?;
+        self.answer(text)
     }
 
     fn seq(&mut self, first: &String, second: &String) -> Result<String, bool> {
-        if self.left == 0 {
-            self.faults = self.faults.saturating_add(1);
-            return Err(false);
-        }
-        self.left -= 1;
-        format!(in self.alloc; "({first}{second})").map_err(|_| true)
+        let text = format!(in self.alloc; "({first}{second})").map_err(|_| true)?;
+        self.answer(text)
     }
 
     fn join(&mut self, left: &String, right: &String) -> Result<String, bool> {
-        if self.left == 0 {
-            self.faults = self.faults.saturating_add(1);
-            return Err(false);
-        }
-        self.left -= 1;
-        format!(in self.alloc; "({left}|{right})").map_err(|_| true)
+        let text = format!(in self.alloc; "({left}|{right})").map_err(|_| true)?;
+        self.answer(text)
     }
 
     fn star(&mut self, turn: &String) -> Result<String, bool> {
-        if self.left == 0 {
-            self.faults = self.faults.saturating_add(1);
-            return Err(false);
-        }
-        self.left -= 1;
-        format!(in self.alloc; "{turn}*").map_err(|_| true)
+        let text = format!(in self.alloc; "{turn}*").map_err(|_| true)?;
+        self.answer(text)
     }
 
     fn copy(&mut self, item: &String) -> Result<String, bool> {
@@ -112,35 +125,93 @@ impl Algebra for Texts {
     }
 }
 
-// Two branches that meet, with all calls that it takes, and with one too few.
+fn links(alloc: Global, ends: &[(u32, u32)]) -> Result<Vec<Link>, AllocError> {
+    let mut links = Vec::new(alloc);
+    for (from, to) in ends {
+        links.push(Link {
+            from: *from,
+            to: *to,
+        })?;
+    }
+    Ok(links)
+}
+
+fn is_graph(nodes: u32, links: &[Link]) -> bool
+    ensures { IsTrue result → IsGraph nodes links.now }
+{
+    links
+        .iter()
+        .all(|link| link.from < nodes && link.to < nodes)
+}
+
+// The texts of all nodes, each behind a space.
+fn texts_of(
+    texts: &mut Texts,
+    nodes: u32,
+    links: &[Link],
+    source: u32,
+) -> Result<String, ReachError<bool>> {
+    let mut all = String::new(texts.alloc);
+    if !is_graph(nodes, links) || source >= nodes || links.len() > 9 {
+        return Ok(all);
+    }
+    let alloc = texts.alloc;
+    let cells = reach(alloc, texts, nodes, links, source)?;
+    for cell in &cells {
+        all.push_str(" ")?;
+        all.push_str(match cell {
+            Cell::Zero => "0",
+            Cell::One => "1",
+            Cell::Item(text) => text.as_str(),
+        })?;
+    }
+    Ok(all)
+}
+
+// Two branches that meet, the one by either of two links; a loop in a loop; and node 2 as the source, with a node that
+// is never reached.
 #[test]
 fn reaches_in_texts(rt: HostRuntime) -> Result<(), Fail> {
     let alloc = rt.alloc();
-    let links = [
-        Link { from: 0, to: 1 },
-        Link { from: 0, to: 2 },
-        Link { from: 1, to: 3 },
-        Link { from: 2, to: 3 },
-    ];
-    let mut texts = Texts {
-        alloc,
-        left: 7,
-        faults: 0,
-    };
-    let cells = reach(alloc, &mut texts, 4, links.as_slice(), 0).map_err(|_| "refused")?;
-    assert_eq!(rt; cells.len(), 4);
-    let Cell::Item(text) = &cells[3] else {
-        return Err(Fail::from("no item"));
-    };
-    assert_eq!(rt; text.as_str(), "((02)|(13))");
-    assert_eq!(rt; (texts.left, texts.faults), (0, 0));
-    let mut fewer = Texts {
-        alloc,
-        left: 6,
-        faults: 0,
-    };
-    let refused = reach(alloc, &mut fewer, 4, links.as_slice(), 0);
-    assert!(rt; matches!(&refused, Err(ReachError::Algebra(false))));
-    assert_eq!(rt; fewer.faults, 1);
+    for (ends, source, wanted) in [
+        (
+            [(0, 1), (0, 2), (1, 3), (2, 3), (2, 3)],
+            0,
+            " 1 0 1 ((02)|(1(3|4)))",
+        ),
+        (
+            [(0, 1), (1, 2), (2, 1), (2, 3), (3, 0)],
+            0,
+            concat!(
+                " ((0(12)*)(1(34)))* ((((0(12)*)(1(34)))*0)(12)*)",
+                " (((((0(12)*)(1(34)))*0)(12)*)1) ((((((0(12)*)(1(34)))*0)(12)*)1)3)"
+            ),
+        ),
+        (
+            [(2, 0), (2, 0), (0, 1), (0, 0), (3, 3)],
+            2,
+            " ((0|1)3*) (((0|1)3*)2) 1 0",
+        ),
+    ] {
+        let mut texts = Texts::new(alloc, 100);
+        let graph = links(alloc, ends.as_slice())?;
+        let found = texts_of(&mut texts, 4, graph.as_slice(), source).map_err(|_| "refused")?;
+        assert_eq!(rt; found.as_str(), wanted);
+    }
+    Ok(())
+}
+
+// Where a call is refused, it is the first that was not answered, and no other comes after it.
+#[test]
+fn stops_at_a_refusal(rt: HostRuntime) -> Result<(), Fail> {
+    let alloc = rt.alloc();
+    let graph = links(alloc, &[(0, 1), (1, 2), (2, 1), (2, 3), (3, 0)])?;
+    for (calls, wanted) in [(2, "2"), (7, "(12)"), (8, "(12)*"), (9, "(0(12)*)")] {
+        let mut texts = Texts::new(alloc, calls);
+        let found = texts_of(&mut texts, 4, graph.as_slice(), 0);
+        assert!(rt; matches!(&found, Err(ReachError::Algebra(false))));
+        assert_eq!(rt; texts.refused.as_deref(), Some(wanted));
+        assert_eq!(rt; texts.faults, 1);
+    }
     Ok(())
 }

@@ -55,89 +55,124 @@ fn operators(rt: HostRuntime) -> Result<(), Fail> {
     Ok(())
 }
 
-#[test]
-fn stops(rt: HostRuntime) -> Result<(), Fail> {
-    let alloc = rt.alloc();
-    // `!` and `-`, and the least number negated
-    let e = unary(alloc, Sign::Not, unary(alloc, Sign::Minus, Core::Lit(0))?)?;
-    assert_eq!(rt; value(&e, &[]), Some(Ok(Some(1))));
-    let e = unary(alloc, Sign::Minus, Core::Lit(LEAST))?;
-    let wide = EvalWide {
-        left: 0,
-        right: LEAST,
-        op: Op::Sub,
-    };
-    assert_eq!(rt; value(&e, &[]), Some(Err(wide)));
-    // `0 && 1 / 0` and `1 || 1 / 0` stop early
-    for (op, left, wanted) in [(Op::And, 0, 0), (Op::Or, 1, 1)] {
-        let zero = binary(alloc, Op::Div, Core::Lit(1), Core::Lit(0))?;
-        let e = binary(alloc, op, Core::Lit(left), zero)?;
-        assert_eq!(rt; value(&e, &[]), Some(Ok(Some(wanted))));
+// An operand of a binary operator: a number, a division by zero, or the least number negated.
+#[derive(Clone, Copy)]
+enum Operand {
+    Number(i128),
+    OverZero,
+    MinusLeast,
+}
+
+fn operand_of(alloc: Global, operand: Operand) -> Result<Core, AllocError> {
+    match operand {
+        Operand::Number(number) => Ok(Core::Lit(number)),
+        Operand::OverZero => binary(alloc, Op::Div, Core::Lit(1), Core::Lit(0)),
+        Operand::MinusLeast => unary(alloc, Sign::Minus, Core::Lit(LEAST)),
     }
-    // a division by zero before a wide step, and after one
-    let zero = binary(alloc, Op::Div, Core::Lit(1), Core::Lit(0))?;
-    let e = binary(
-        alloc,
-        Op::Add,
-        zero,
-        unary(alloc, Sign::Minus, Core::Lit(LEAST))?,
-    )?;
-    assert_eq!(rt; value(&e, &[]), Some(Ok(None)));
-    let e = binary(
-        alloc,
-        Op::Div,
-        unary(alloc, Sign::Minus, Core::Lit(LEAST))?,
-        Core::Lit(0),
-    )?;
-    assert_eq!(rt; value(&e, &[]), Some(Err(wide)));
+}
+
+const WIDE: EvalWide = EvalWide {
+    left: 0,
+    right: LEAST,
+    op: Op::Sub,
+};
+
+#[test]
+fn signs(rt: HostRuntime) -> Result<(), Fail> {
+    let zero = unary(rt.alloc(), Sign::Minus, Core::Lit(0))?;
+    let e = unary(rt.alloc(), Sign::Not, zero)?;
+    assert_eq!(rt; value(&e, &[]), Some(Ok(Some(1))));
+    let e = operand_of(rt.alloc(), Operand::MinusLeast)?;
+    assert_eq!(rt; value(&e, &[]), Some(Err(WIDE)));
     Ok(())
 }
 
-// The procedure `main` with a column `x`: `do { assert(x < 3 || x / 2 != 1); if (x) break; } while (x);`
-fn small_program(alloc: Global, place_of_break: bool) -> Result<Program, AllocError> {
-    let less = binary(alloc, Op::Lt, Core::Col(0), Core::Lit(3))?;
-    let half = binary(alloc, Op::Div, Core::Col(0), Core::Lit(2))?;
-    let cond = binary(
-        alloc,
-        Op::Or,
-        less,
-        binary(alloc, Op::Ne, half, Core::Lit(1))?,
-    )?;
-    let yes = Items::from_vec(vec![in alloc; Stmt::Break]?);
-    let leave = Stmt::If {
-        cond: Core::Col(0),
-        yes,
-        no: Items::new(alloc),
-    };
-    let check = Stmt::Check { number: 1, cond };
-    let mut body = Items::new(alloc);
-    let mut pre = Items::new(alloc);
-    body.push(check)?;
-    if place_of_break {
-        body.push(leave)?;
-    } else {
-        pre.push(leave)?;
+// `0 && 1 / 0` and `1 || 1 / 0` stop early; a division by zero comes before a wide step, and after one.
+#[test]
+fn stops(rt: HostRuntime) -> Result<(), Fail> {
+    for (left, op, right, wanted) in [
+        (Operand::Number(0), Op::And, Operand::OverZero, Ok(Some(0))),
+        (Operand::Number(1), Op::Or, Operand::OverZero, Ok(Some(1))),
+        (Operand::OverZero, Op::Add, Operand::MinusLeast, Ok(None)),
+        (Operand::MinusLeast, Op::Div, Operand::Number(0), Err(WIDE)),
+    ] {
+        let left = operand_of(rt.alloc(), left)?;
+        let right = operand_of(rt.alloc(), right)?;
+        let e = binary(rt.alloc(), op, left, right)?;
+        assert_eq!(rt; value(&e, &[]), Some(wanted));
     }
-    let step = Items::new(alloc);
-    let repeat = Stmt::Loop {
+    Ok(())
+}
+
+// `x / 2 != 1`
+fn half_differs(alloc: Global) -> Result<Core, AllocError> {
+    let half = binary(alloc, Op::Div, Core::Col(0), Core::Lit(2))?;
+    binary(alloc, Op::Ne, half, Core::Lit(1))
+}
+
+// `x < 3 || x / 2 != 1`
+fn small_or_differs(alloc: Global) -> Result<Core, AllocError> {
+    let less = binary(alloc, Op::Lt, Core::Col(0), Core::Lit(3))?;
+    let differs = half_differs(alloc)?;
+    binary(alloc, Op::Or, less, differs)
+}
+
+fn one<T: Drop>(alloc: Global, item: T) -> Result<Items<T>, AllocError> {
+    let mut items = Items::new(alloc);
+    match items.push(item) {
+        Ok(()) => Ok(items),
+        Err(_) => Err(AllocError),
+    }
+}
+
+// `if (x) break;`
+fn leave(alloc: Global) -> Result<Stmt, AllocError> {
+    Ok(Stmt::If {
+        cond: Core::Col(0),
+        yes: one(alloc, Stmt::Break)?,
+        no: Items::new(alloc),
+    })
+}
+
+// `do { assert(x < 3 || x / 2 != 1); if (x) break; } while (x);`, whose `if` stands in its body or before its condition
+fn repeat(alloc: Global, in_body: bool) -> Result<Stmt, AllocError> {
+    let cond = small_or_differs(alloc)?;
+    let mut body = one(alloc, Stmt::Check { number: 1, cond })?;
+    let mut pre = Items::new(alloc);
+    let place = if in_body { &mut body } else { &mut pre };
+    place.push(leave(alloc)?)?;
+    Ok(Stmt::Loop {
         pre,
         cond: Core::Col(0),
         body,
-        step,
+        step: Items::new(alloc),
         first: true,
-    };
-    let main = Proc {
-        name: Name::new(Items::from_slice(alloc, b"main")?).ok_or(AllocError)?,
+    })
+}
+
+// The procedure `main` with a column and this statement.
+fn main_of(alloc: Global, stmt: Stmt) -> Result<Proc, AllocError> {
+    let body = one(alloc, stmt)?;
+    let columns = one(alloc, Column { name: None })?;
+    let name = name(alloc, b"main")?.ok_or(AllocError)?;
+    Ok(Proc {
+        name,
         returns: false,
         params: 0,
-        columns: Items::from_vec(vec![in alloc; Column { name: None }]?),
-        body: Items::from_vec(vec![in alloc; repeat]?),
-    };
+        columns,
+        body,
+    })
+}
+
+fn small_program(alloc: Global, in_body: bool) -> Result<Program, AllocError> {
+    let main = main_of(alloc, repeat(alloc, in_body)?)?;
+    let procs = one(alloc, main)?;
+    let checks = one(alloc, 20)?;
     Ok(Program {
         globals: Items::new(alloc),
-        procs: Items::from_vec(vec![in alloc; main]?),
+        procs,
         main: 0,
-        checks: Items::from_vec(vec![in alloc; 20]?),
+        checks,
     })
 }
 
@@ -145,14 +180,14 @@ fn small_program(alloc: Global, place_of_break: bool) -> Result<Program, AllocEr
 fn programs(rt: HostRuntime) -> Result<(), Fail> {
     let program = small_program(rt.alloc(), true)?;
     assert!(rt; program.is_well_formed());
-    assert!(rt; !small_program(rt.alloc(), false)?.is_well_formed());
     assert_eq!(rt; program.copy(rt.alloc())?, program);
-    // entry, exit, and of the loop its head, the check's end, three of the `if`, the break's, the tail and the end
-    let mut nodes = 0;
-    for proc in program.procs.iter() {
-        nodes = count_nodes(proc.body.as_slice());
-    }
-    assert_eq!(rt; nodes, 10);
+    Ok(())
+}
+
+// A `break` before the condition of its loop is no statement of a program.
+#[test]
+fn misplaced_break(rt: HostRuntime) -> Result<(), Fail> {
+    assert!(rt; !small_program(rt.alloc(), false)?.is_well_formed());
     Ok(())
 }
 
@@ -160,8 +195,7 @@ fn programs(rt: HostRuntime) -> Result<(), Fail> {
 fn counts(rt: HostRuntime) -> Result<(), Fail> {
     let alloc = rt.alloc();
     // x / 2 != 1 && x: twice four ways to differ, and x is true in two
-    let half = binary(alloc, Op::Div, Core::Col(0), Core::Lit(2))?;
-    let differs = binary(alloc, Op::Ne, half, Core::Lit(1))?;
+    let differs = half_differs(alloc)?;
     let e = binary(alloc, Op::And, differs, Core::Col(0))?;
     let cases = Cases {
         value: 16 + 12,
@@ -171,37 +205,62 @@ fn counts(rt: HostRuntime) -> Result<(), Fail> {
     assert_eq!(rt; count_cases(&e), cases);
     assert_eq!(rt; count_operators(&e), 3);
     assert!(rt; has_columns_below(&e, 1) && !has_columns_below(&e, 0));
-    assert_eq!(rt; joint_cases(&[e.copy(alloc)?, Core::Lit(1), e]), 257);
+    // entry, exit, and of the loop its head, the check's end, three of the `if`, the break's, the tail and the end
+    let body = one(alloc, repeat(alloc, true)?)?;
+    assert_eq!(rt; count_nodes(body.as_slice()), 10);
     Ok(())
 }
 
 #[test]
-fn names_and_trees(rt: HostRuntime) -> Result<(), Fail> {
-    let alloc = rt.alloc();
-    assert!(rt; name(alloc, b"a-b")?.is_none() && name(alloc, "é".as_bytes())?.is_none());
-    let main = name(alloc, b"_x9")?.ok_or(AllocError)?;
+fn counts_of_lists(rt: HostRuntime) -> Result<(), Fail> {
+    let differs = half_differs(rt.alloc())?;
+    let e = binary(rt.alloc(), Op::And, differs, Core::Col(0))?;
+    let copy = e.copy(rt.alloc())?;
+    assert_eq!(rt; joint_cases(&[copy, Core::Lit(1), e]), 257);
+    Ok(())
+}
+
+#[test]
+fn names(rt: HostRuntime) -> Result<(), Fail> {
+    assert!(rt; name(rt.alloc(), b"a-b")?.is_none());
+    assert!(rt; name(rt.alloc(), "é".as_bytes())?.is_none());
+    let main = name(rt.alloc(), b"_x9")?.ok_or(AllocError)?;
     assert_eq!(rt; main.as_slice(), b"_x9".as_slice());
-    let call = Expr::Call(
-        3,
-        main.clone()?,
-        Items::from_vec(vec![in alloc; Expr::Lit(6, 1)]?),
-    );
-    let minus = Expr::Unary(0, Sign::Minus, Boxed::new(alloc, call)?);
-    let lines = Items::from_vec(vec![in alloc;
+    Ok(())
+}
+
+// `-x9(1)`
+fn minus_call(alloc: Global, name: Name) -> Result<Expr, AllocError> {
+    let call = Expr::Call(3, name, one(alloc, Expr::Lit(6, 1))?);
+    Ok(Expr::Unary(0, Sign::Minus, Boxed::new(alloc, call)?))
+}
+
+// `{ return -x9(1); break; }`
+fn two_lines(alloc: Global, name: Name) -> Result<Items<Line>, AllocError> {
+    let value = minus_call(alloc, name)?;
+    let mut lines = one(
+        alloc,
         Line::Return {
             at: 9,
-            value: Some(minus)
+            value: Some(value),
         },
-        Line::Break(20),
-    ]?);
-    let params = Items::from_vec(vec![in alloc;
-        Param {
-            name: main.clone()?,
-            at: 4
-        },
-    ]?);
+    )?;
+    lines.push(Line::Break(20))?;
+    Ok(lines)
+}
+
+#[test]
+fn trees(rt: HostRuntime) -> Result<(), Fail> {
+    let alloc = rt.alloc();
+    let name = name(alloc, b"_x9")?.ok_or(AllocError)?;
+    let lines = two_lines(alloc, name.clone()?)?;
+    let param = Param {
+        name: name.clone()?,
+        at: 4,
+    };
+    let params = one(alloc, param)?;
     let body = Item::Body {
-        name: main,
+        name,
         at: 1,
         returns: true,
         params,
@@ -209,7 +268,7 @@ fn names_and_trees(rt: HostRuntime) -> Result<(), Fail> {
         end: 30,
     };
     let tree = Tree {
-        items: Items::from_vec(vec![in alloc; body]?),
+        items: one(alloc, body)?,
     };
     assert_eq!(rt; tree.copy(alloc)?, tree);
     Ok(())

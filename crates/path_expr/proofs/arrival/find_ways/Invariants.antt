@@ -11,11 +11,9 @@ abbrev pub invariant-loop-n : goal.invariant-loop-n
 invariant-loop-n g l = record {
   counted : length l.found.items ≡ l.n;
   stars : (m : ℕ) → l.n ≤ m → cell l.stars m m ≡ cell l.fn.stars m m;
-  run : (source : ℕ) (f : ℕ → ℕ → PathExpr) → HoldsAll g.A.Algebra.fits g.A.Algebra.spans source l.fn.algebra f l.table →
+  so_far : (source : ℕ) (f : ℕ → ℕ → PathExpr) → HoldsAll g.A.Algebra.fits g.A.Algebra.spans source l.fn.algebra f l.table →
       ((m : ℕ) → 0 < m → m < l.nodes → IsItemOrOne g.A.Algebra.fits g.A.Algebra.spans l.fn.algebra (star_of (f m m)) (cell l.fn.stars m m) (node_at source m)) →
       Runs g.A.Algebra.fits g.A.Algebra.spans g.A.Algebra.ends g.A.Algebra.is_memory g.A.Algebra.faults g.A.Algebra.made g.A.Algebra.stopped
-      l.fn.algebra l.algebra (below (way_operations f) l.n) None;
-  ways : (source : ℕ) (f : ℕ → ℕ → PathExpr) → HoldsAll g.A.Algebra.fits g.A.Algebra.spans source l.fn.algebra f l.table →
-      ((m : ℕ) → 0 < m → m < l.nodes → IsItemOrOne g.A.Algebra.fits g.A.Algebra.spans l.fn.algebra (star_of (f m m)) (cell l.fn.stars m m) (node_at source m)) →
-      AreWays g.A.Algebra.fits g.A.Algebra.spans source l.algebra (way_at f) l.found.items;
+      l.fn.algebra l.algebra (below (way_operations f) l.n) None
+      × AreWays g.A.Algebra.fits g.A.Algebra.spans source l.algebra (way_at f) l.found.items;
 }

@@ -1,11 +1,11 @@
-use Rattle.std.proofs.Common.{Some, length, refl}
-use Rattle.std.proofs.lemmas.Option.{slice_get_read}
-use Rattle.path_expr.proofs.TableLemmas.{row_cell-set}
+use Rattle.std.proofs.Common.{Some, refl, arith}
+use Rattle.path_expr.proofs.TableLemmas.{OnOk-map, cell-write_into, cell-write_out}
 use Rattle.path_expr.proofs.table.Table.put.Goals as goal
 
-pub returns-clause-others : goal.returns-clause-others
-returns-clause-others g c =
-    let rows = c.args.self.now.rows.items in
-    row_cell-set rows c.args.row c.args.column c.index_mut.result.now c.insert.new.self (Some c.args.item)
-    (slice_get_read rows (length rows) c.args.row c.index_mut.result.now refl c.requires c.index_mut.ensures.value)
-    c.requires c.in_ok-insert.ensures.updates
+pub returns-then-i-j-clause-others : goal.returns-then-i-j-clause-others
+returns-then-i-j-clause-others g c =
+    OnOk-map c.put.result (λ w. cell-write_into c.args.self.now (record { into = c.put.new.self; out = c.args.self.now.out }) c.args.i c.args.j (Some c.args.item) c.if-i-j.true refl w) c.put.ensures.others
+
+pub returns-else-i-j-clause-others : goal.returns-else-i-j-clause-others
+returns-else-i-j-clause-others g c =
+    OnOk-map c.put-else-i-j.result (λ w. cell-write_out c.args.self.now (record { into = c.args.self.now.into; out = c.put-else-i-j.new.self }) c.args.i c.args.j (Some c.args.item) (omega arith) refl w) c.put-else-i-j.ensures.others

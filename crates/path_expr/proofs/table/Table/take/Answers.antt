@@ -1,12 +1,17 @@
-use Rattle.std.proofs.Common.{None, length, refl, ◌<◌, arith}
-use Rattle.std.proofs.lemmas.Option.{slice_get_read}
-use Rattle.path_expr.proofs.TableLemmas.{row_cell-set}
+use Rattle.std.proofs.Common.{None, ◌∙◌, sym, refl, arith}
+use Rattle.path_expr.proofs.TableLemmas.{cell-into, cell-out, cell-write_into, cell-write_out}
 use Rattle.path_expr.proofs.table.Table.take.Goals as goal
 
-pub returns-clause-others : goal.returns-clause-others
-returns-clause-others g c =
-    let rows = c.args.self.now.rows.items in
-    let within : c.args.row < length rows = let h = c.in_ok-get_mut.ensures.variant.0 refl in omega (arith, h) in
-    row_cell-set rows c.args.row c.args.column c.in_ok-get_mut.field-0.now c.remove.new.self None
-    (slice_get_read rows (length rows) c.args.row c.in_ok-get_mut.field-0.now refl within c.in_ok-get_mut.ensures.value)
-    within c.remove.ensures.updates
+pub returns-then-i-j-clause-value : goal.returns-then-i-j-clause-value
+returns-then-i-j-clause-value g c = c.take.ensures.value ∙ sym (cell-into c.args.self.now c.args.i c.args.j c.if-i-j.true)
+
+pub returns-then-i-j-clause-others : goal.returns-then-i-j-clause-others
+returns-then-i-j-clause-others g c =
+    cell-write_into c.args.self.now (record { into = c.take.new.self; out = c.args.self.now.out }) c.args.i c.args.j None c.if-i-j.true refl c.take.ensures.others
+
+pub returns-else-i-j-clause-value : goal.returns-else-i-j-clause-value
+returns-else-i-j-clause-value g c = c.take-else-i-j.ensures.value ∙ sym (cell-out c.args.self.now c.args.i c.args.j (omega arith))
+
+pub returns-else-i-j-clause-others : goal.returns-else-i-j-clause-others
+returns-else-i-j-clause-others g c =
+    cell-write_out c.args.self.now (record { into = c.args.self.now.into; out = c.take-else-i-j.new.self }) c.args.i c.args.j None (omega arith) refl c.take-else-i-j.ensures.others
