@@ -12,25 +12,25 @@ use Rattle.execution.specs.Execution.{Runs}
 use Rattle.execution.specs.Laws.{ChangesBy, ChangesRun, RunsChange, code_length, is_simple, is_straight}
 
 -- a top frame after a change, and its state
-abbrev changed : Top → State → List Item → Top
+abbrev pub changed : Top → State → List Item → Top
 changed top state items = record {
   globals = take (length top.globals) state;
   frame = record top.frame { own = drop (length top.globals) state; items = items };
   below = top.below;
 }
 
-state_of-changed : (top : Top) (state : State) (items : List Item) → state_of (changed top state items) ≡ state
+pub state_of-changed : (top : Top) (state : State) (items : List Item) → state_of (changed top state items) ≡ state
 state_of-changed top state items = take-append-drop (length top.globals) state
 
 cut_at : Top → State → List Item → ℕ → Config
 cut_at top state items n = record { globals = take n state; frames = record top.frame { own = drop n state; items = items } ∷ top.below }
 
-with_state-changed : (top : Top) (state : State) (items : List Item) (after : State) (rest : List Item) → length top.globals ≤ length state
+pub with_state-changed : (top : Top) (state : State) (items : List Item) (after : State) (rest : List Item) → length top.globals ≤ length state
     → with_state (changed top state items) after rest ≡ with_state top after rest
 unfolding cut_at
 with_state-changed top state items after rest fits = ap (cut_at top after rest) (length-take-le (length top.globals) state fits)
 
-with_state-same : (top : Top) → with_state top (state_of top) top.frame.items ≡ config_of top
+pub with_state-same : (top : Top) → with_state top (state_of top) top.frame.items ≡ config_of top
 with_state-same top =
     let globals = take-append_seam top.globals top.frame.own in
     let own = drop-append_seam top.globals top.frame.own in
@@ -78,7 +78,7 @@ changes_run program top (Then statement code) rest after items (between, change,
     let count : suc (length later.0) ≡ code_length code + 1 = omega (arith, later.1) in
     (config_of next ∷ later.0, count, (step, subst (Runs program (config_of next) later.0) last later.2))
 
-simple_done : (program : Program) (top : Top) (statement : Statement) (rest : List Item) (next : Config)
+pub simple_done : (program : Program) (top : Top) (statement : Statement) (rest : List Item) (next : Config)
     → is_simple statement ≡ true → StepsBy program top (Do statement ∷ rest) next → DoesSimple statement top rest next
 simple_done program top (Set col value) rest next e step = step
 simple_done program top (Any col) rest next e step = step

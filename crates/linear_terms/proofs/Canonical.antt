@@ -1,6 +1,6 @@
 -- Terms in print order without zeros, and that the operations keep them so.
 use Rattle.std.proofs.Common.{◌≡◌, Bool, true, false, cond, ℤ, pos, List, [], ◌∷◌, ◌≢◌, Result, Ok, refl, sym, ap, subst, ◌∙◌}
-use Rattle.std.specs.List.{AllByRecursion}
+use Rattle.std.specs.List.{AllByRecursion, filter}
 use Rattle.std.specs.List.Sorted.{IsStrictlySortedBy}
 use Rattle.std.specs.Map.{keys_of}
 use Rattle.std.specs.Ordering.{int_eq, match_ordering, ordering_reverse}
@@ -122,6 +122,24 @@ IsCanonical-times_each by (t ∷ ts) made k e =
     (λ c f g. on_ok (times_each ts by) (λ more. Ok (kept t.0 c more)) made g
     (λ more h l. same_made IsCanonical (kept t.0 c more) made l
     (IsCanonical-kept t.0 c more (Before-times_each t.0 by ts more (first_before t ts k) h) (IsCanonical-times_each by ts more (IsCanonical-tail t ts k) h))))
+
+-- ---- some of the terms
+
+Before-filter : (test : List Col × ℤ → Bool) (m : List Col) (ts : Terms) → Before m ts → Before m (filter test ts)
+Before-filter test m [] b = tt
+Before-filter test m (t ∷ ts) b = go (test t) (Before-filter test m ts b.1)
+  where
+    go : (z : Bool) → Before m (filter test ts) → Before m (cond z (t ∷ filter test ts) (filter test ts))
+    go true rest = (b.0, rest)
+    go false rest = rest
+
+pub IsCanonical-filter : (test : List Col × ℤ → Bool) (ts : Terms) → IsCanonical ts → IsCanonical (filter test ts)
+IsCanonical-filter test [] k = k
+IsCanonical-filter test (t ∷ ts) k = go (test t) (IsCanonical-filter test ts (IsCanonical-tail t ts k))
+  where
+    go : (z : Bool) → IsCanonical (filter test ts) → IsCanonical (cond z (t ∷ filter test ts) (filter test ts))
+    go true rest = IsCanonical-cons t (filter test ts) (Before-filter test t.0 ts (first_before t ts k)) (first_some t ts k) rest
+    go false rest = rest
 
 -- for the code
 pub ruleset canonical = (IsCanonical-nil, IsCanonical-column, IsCanonical-put_all, IsCanonical-times_each)

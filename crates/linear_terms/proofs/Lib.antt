@@ -1,8 +1,10 @@
 pub mod Canonical
+pub mod Columns
 pub mod Equal
 pub mod Lookups
 pub mod Merge
 pub mod Normals
+pub mod Numbering
 pub mod Order
 pub mod Placed
 pub mod Steps

@@ -1,6 +1,7 @@
 pub use Rattle.items.specs.Gives
 pub use Rattle.whole_numbers.specs.Divisors
 pub use Rattle.whole_numbers.specs.Fits
+pub mod Auxiliaries
 pub mod Col
 pub mod Equality
 pub mod Lookup

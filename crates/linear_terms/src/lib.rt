@@ -3,6 +3,7 @@
 //! bits or passes degree 4.
 #![tactic(auto)]
 
+mod auxiliaries;
 mod col;
 mod error;
 mod mono;
@@ -17,6 +18,7 @@ mod sums;
 mod tests;
 mod total;
 
+pub use auxiliaries::{renumbered, subst_aux, without};
 pub use col::Col;
 pub use error::TermError;
 pub use mono::Mono;

@@ -1,9 +1,11 @@
-ghost use Rattle.std.specs.Prelude.{◌≡◌, ◌+◌, ◌-◌, ◌<◌, ◌≤◌, [], ◌∷◌, ◌++◌, length, take, drop, fold, All, ◌↔◌, IsTrue, Some, refl};
+ghost use Rattle.std.specs.Prelude.{◌≡◌, ◌+◌, ◌-◌, ◌<◌, ◌≤◌, [], ◌∷◌, ◌++◌, length, take, drop, fold, map, slice_index, All, ◌↔◌, IsTrue, Some, refl};
+ghost use Rattle.std.specs.List.{list_all};
 ghost use Rattle.std.specs.Option.{SomeIff};
 ghost use Rattle.std.specs.Ordering.{eq_by_cmp, is_lt};
 ghost use Rattle.linear_terms.specs.Col.{col_cmp};
 ghost use Rattle.std.specs.Cmp.{partial_order_from_agreeing_total, partial_equiv_from_equiv, eq_by_cmp_equiv};
 ghost use Rattle.linear_terms.specs.Mono.{mono_cmp, in_order, is_in_order, placed};
+ghost use Rattle.linear_terms.specs.Auxiliaries.{has_auxiliary, is_numbered, renumbered_column, KeepsOrder};
 ghost use Rattle.linear_terms.specs.Replacement.{IsBelow};
 ghost use Rattle.linear_terms.specs.MonoOrder.{mono_cmp_total};
 
@@ -80,6 +82,28 @@ impl Mono {
         self.columns().iter().all(|col| col.is_below(at, aux))
     }
 
+    /// The auxiliaries' numbers replaced by those at their places, which keep the columns in order.
+    pub(crate) fn renumbered(&self, numbers: &[u32]) -> Mono
+        requires numbered { IsTrue (list_all (is_numbered (length numbers.now)) self.now) }
+        requires order { KeepsOrder (slice_index numbers.now) (λ n. has_auxiliary n self.now) }
+        ensures { result ≡ map (renumbered_column (slice_index numbers.now)) self.now }
+    {
+        let columns = self.columns();
+        let mut cells = [Col::At(0); DEGREE];
+        renumber_each(&mut cells, columns, numbers);
+        Mono {
+            cells,
+            len: columns.len(),
+        }
+    }
+
+    /// Whether the auxiliary is one of the columns.
+    pub fn has_auxiliary(&self, aux: u32) -> bool
+        ensures { result ≡ has_auxiliary aux self.now }
+    {
+        self.columns().iter().any(|col| col.is_auxiliary(aux))
+    }
+
     /// The columns, in order.
     pub fn columns(&self) -> &[Col]
         ensures columns { result.now ≡ self.now }
@@ -88,6 +112,18 @@ impl Mono {
         ensures few { length result.now ≤ 4 }
     {
         &self.cells[..self.len]
+    }
+}
+
+/// Writes the renumbered columns into the first cells.
+fn renumber_each(cells: &mut [Col; DEGREE], columns: &[Col], numbers: &[u32])
+    requires few { length columns.now ≤ 4 }
+    requires numbered { IsTrue (list_all (is_numbered (length numbers.now)) columns.now) }
+    ensures written { take (length columns.now) cells.new ≡ map (renumbered_column (slice_index numbers.now)) columns.now }
+    ensures after { drop (length columns.now) cells.new ≡ drop (length columns.now) cells.old }
+{
+    for (i, col) in columns.iter().enumerate() {
+        cells[i] = col.renumbered(numbers);
     }
 }
 

@@ -1,8 +1,10 @@
-ghost use Rattle.std.specs.Prelude.{◌≡◌, ◌↔◌, IsTrue, Ok, All, slice_get};
+ghost use Rattle.std.specs.Prelude.{◌≡◌, ◌↔◌, [], ◌∷◌, IsTrue, Ok, All, slice_get};
 ghost use Rattle.std.specs.Cmp.{partial_equiv_from_equiv};
 ghost use Rattle.items.specs.Gives.{Gives};
+ghost use Rattle.std.specs.List.{list_any};
 ghost use Rattle.linear_terms.specs.TermError.{cause};
-ghost use Rattle.linear_terms.specs.Polynomial.{constant_of, column_of, coefficient_in};
+ghost use Rattle.linear_terms.specs.Auxiliaries.{has_auxiliary, occurs};
+ghost use Rattle.linear_terms.specs.Polynomial.{constant_of, column_of, coefficient_in, IsCanonical};
 ghost use Rattle.linear_terms.specs.Replacement.{IsBelow};
 ghost use Rattle.linear_terms.specs.Equality.{poly_eq, poly_eq_equiv};
 
@@ -62,6 +64,13 @@ impl Poly {
         0
     }
 
+    /// The coefficient of one column.
+    pub fn column_coefficient(&self, col: Col) -> i128
+        ensures { result ≡ coefficient_in self.now.terms (col ∷ []) }
+    {
+        self.coefficient(&Mono::of(col))
+    }
+
     /// The constant.
     pub fn rest(&self) -> i128
         ensures { result ≡ self.now.rest }
@@ -89,12 +98,33 @@ impl Poly {
         true
     }
 
+    /// The monomials with their coefficients, in print order.
+    pub fn terms(&self) -> &[(Mono, i128)]
+        ensures terms { result.now ≡ self.now.terms }
+        ensures canonical { IsCanonical result.now }
+    {
+        self.terms.as_slice()
+    }
+
+    /// Whether the auxiliary of that number occurs.
+    pub fn has_auxiliary(&self, aux: u32) -> bool
+        ensures { result ≡ occurs aux self.now }
+    {
+        any_has_auxiliary(self.terms.as_slice(), aux)
+    }
+
     /// The monomial at a place, from 0, in print order, with its coefficient.
     pub fn term(&self, at: usize) -> Option<(Mono, i128)>
         ensures { result ≡ slice_get self.now.terms at }
     {
         self.terms.as_slice().get(at).copied()
     }
+}
+
+fn any_has_auxiliary(terms: &[(Mono, i128)], aux: u32) -> bool
+    ensures { result ≡ list_any (λ t. has_auxiliary aux t.0) terms.now }
+{
+    terms.iter().any(|(mono, _)| mono.has_auxiliary(aux))
 }
 
 impl Clone for Poly {

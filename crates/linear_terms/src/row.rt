@@ -1,3 +1,5 @@
+ghost use Rattle.std.specs.Prelude.{◌≡◌, ◌↔◌, IsTrue};
+
 use crate::Poly;
 use items::Items;
 use std::alloc::AllocError;
@@ -9,18 +11,62 @@ pub enum Kind {
 }
 
 /// Says that the polynomial is at most zero, or is zero.
-#[derive(Clone, Debug, PartialEq, Eq, Drop)]
+#[derive(Debug, PartialEq, Eq, Drop)]
 pub struct Row {
     pub poly: Poly,
     pub kind: Kind,
 }
 
+impl Row {
+    /// Whether two rows are equal.
+    pub fn same(&self, other: &Row) -> bool
+        ensures { IsTrue result ↔ (self.now ≡ other.now) }
+    {
+        self == other
+    }
+}
+
+impl Clone for Row {
+    ghost is_clone = { λ a b. b ≡ a };
+
+    fn clone(&self) -> Result<Row, AllocError> {
+        let poly = self.poly.clone()?;
+        Ok(Row {
+            poly,
+            kind: self.kind,
+        })
+    }
+}
+
 /// Rows over columns of which `aux` are auxiliary, and a polynomial for each number afterwards.
-#[derive(Clone, Debug, PartialEq, Eq, Drop)]
+#[derive(Debug, PartialEq, Eq, Drop)]
 pub struct Case {
     pub aux: u32,
     pub rows: Items<Row>,
     pub post: Items<Poly>,
+}
+
+impl Case {
+    /// Whether two cases are equal.
+    pub fn same(&self, other: &Case) -> bool
+        ensures { IsTrue result ↔ (self.now ≡ other.now) }
+    {
+        self == other
+    }
+}
+
+impl Clone for Case {
+    ghost is_clone = { λ a b. b ≡ a };
+
+    fn clone(&self) -> Result<Case, AllocError> {
+        let rows = self.rows.clone()?;
+        let post = self.post.clone()?;
+        Ok(Case {
+            aux: self.aux,
+            rows,
+            post,
+        })
+    }
 }
 
 /// A row in normal form, or whether a row without columns holds.

@@ -1,4 +1,8 @@
-use crate::{Col, Kind, Mono, Normal, Poly, Row, TermError, add, mul, normal, scale, subst};
+use crate::{
+    Case, Col, Kind, Mono, Normal, Poly, Row, TermError, add, mul, normal, scale, subst, subst_aux,
+    without,
+};
+use items::Items;
 use std::alloc::{AllocError, Global};
 use std::fmt::Write;
 
@@ -387,5 +391,51 @@ fn parts_of_polynomials(rt: HostRuntime) -> Result<(), TermError> {
     assert!(rt; a.term(0) == Some((xy, 1)));
     assert!(rt; a.term(3).is_none());
     assert!(rt; a.clone()? == a);
+    Ok(())
+}
+
+#[test]
+fn one_auxiliary(rt: HostRuntime) -> Result<(), TermError> {
+    let alloc = rt.alloc();
+    let x = Col::At(0);
+    let y = Col::At(1);
+    let a = Col::Aux(1);
+    let poly = sum_of(alloc, &[(&[x, a], 2), (&[a], 1), (&[y], 3), (&[], 4)])?;
+    let by = sum_of(alloc, &[(&[x], 1), (&[], -1)])?;
+    assert!(rt; poly.has_auxiliary(1) && !poly.has_auxiliary(0));
+    assert_eq!(rt; (poly.column_coefficient(a), poly.terms().len()), (1, 3));
+    let made = shown(alloc, subst_aux(alloc, &poly, 1, &by))?;
+    assert_eq!(rt; made.as_str(), "2*x0*x0 + -1*x0 + 3*x1 + 3");
+    let made = shown(alloc, Ok(without(alloc, &poly, 1)?))?;
+    assert_eq!(rt; made.as_str(), "3*x1 + 4");
+    Ok(())
+}
+
+#[test]
+fn equal_rows_and_cases(rt: HostRuntime) -> Result<(), TermError> {
+    let alloc = rt.alloc();
+    let kind = Kind::AtMost;
+    let row = Row {
+        poly: example(alloc, 3)?,
+        kind,
+    };
+    let other = Row {
+        poly: example(alloc, 4)?,
+        kind,
+    };
+    assert!(rt; row.same(&row.clone()?) && !row.same(&other));
+    let mut rows = Items::new(alloc);
+    rows.push(row)?;
+    let case = Case {
+        aux: 1,
+        rows,
+        post: Items::new(alloc),
+    };
+    let empty = Case {
+        aux: 1,
+        rows: Items::new(alloc),
+        post: Items::new(alloc),
+    };
+    assert!(rt; case.same(&case.clone()?) && !case.same(&empty));
     Ok(())
 }

@@ -1,0 +1,19 @@
+pub mod Repeats
+pub mod Equations
+pub mod Loops
+pub mod FirstTokens
+pub mod Complete
+pub mod Found
+pub mod Sound
+pub mod Lines
+pub mod LineLoops
+pub mod TextLoops
+pub mod CompleteLines
+pub mod SoundLines
+pub mod FoundLines
+pub mod CompleteTexts
+pub mod SoundTexts
+pub mod Readings
+pub mod LastToken
+pub mod Lexed
+mod Examples

@@ -1,0 +1,59 @@
+use Rattle.std.proofs.Common.{map, sym, ◌∙◌, subst, arith}
+use Rattle.std.proofs.lemmas.Result.{err_from_is_err_and}
+use Rattle.std.proofs.lemmas.List.{length-map, map_push}
+use Rattle.items.specs.Gives.{FailsBy}
+use Rattle.syntax_tree.specs.SourceExpr.{source_expr_of}
+use Rattle.c_parser.specs.Descent.{joined, operand, rest_of, told}
+use Rattle.c_parser.proofs.Equations.{operand-none, operand-some, refused-exact}
+use Rattle.c_parser.proofs.Loops.{links-done, links-fails, links-more, arguments-done, arguments-fail, arguments-more}
+use Rattle.c_parser.proofs.expression.+expression.Goals as goal
+
+pub operand-returns-in-empty-clause-exact : goal.operand-returns-in-empty-clause-exact
+operand-returns-in-empty-clause-exact t c = operand-none _ c.args.rest.tokens.now _ c.in-empty.len_below
+
+pub operand-returns-in-len1-up-clause-exact : goal.operand-returns-in-len1-up-clause-exact
+operand-returns-in-len1-up-clause-exact t c =
+    rw (operand-some c.args.levels c.args.rest.tokens.now c.args.rest.operators c.token-item.result c.in-len1-up.len_at_least c.token-item.is, ← c.refused.ensures)
+    (c.begun.ensures.exact (rw c.refused.ensures (refused-exact _)))
+
+pub joined-returns-in_err-next-clause-exact : goal.joined-returns-in_err-next-clause-exact
+joined-returns-in_err-next-clause-exact t c =
+    let p = err_from_is_err_and c.from_residual-in_err-next.result c.from_residual-in_err-next.ensures.1 in
+    rw (p.1, p.2) (subst (FailsBy (told c.in_err-next.field-0.0)) c.links.invariant.stated
+    (links-fails _ _ _ (source_expr_of c.links.left, rest_of c.links.after.tokens.now c.links.after.operators) _ c.in-Some.op (sym c.op_at.ensures ∙ c.in-Some.is) c.in_err-next.ensures.exact))
+
+pub joined-links-preserved : goal.joined-links-preserved
+joined-links-preserved t c = record {
+  rank = c.links.invariant.rank;
+  stated =
+      sym (links-more _ _ _ (source_expr_of c.links.left, rest_of c.links.after.tokens.now c.links.after.operators) c.in-Some.op _ (sym c.op_at.ensures ∙ c.in-Some.is) c.in_ok-next.ensures.exact
+      (simp length-map (omega (arith, c.in_ok-next.ensures.shorter))))
+      ∙ c.links.invariant.stated;
+  shorter = omega (arith, c.in_ok-next.ensures.shorter);
+}
+
+pub joined-returns-clause-exact : goal.joined-returns-clause-exact
+joined-returns-clause-exact t c = sym c.links.invariant.stated ∙ links-done _ _ _ _ (sym c.op_at.ensures ∙ c.in_default.is)
+
+pub arguments-returns-in_err-arg-clause-exact : goal.arguments-returns-in_err-arg-clause-exact
+arguments-returns-in_err-arg-clause-exact t c =
+    let p = err_from_is_err_and c.from_residual-in_err-arg.result c.from_residual-in_err-arg.ensures.1 in
+    rw (p.1, p.2) (subst (FailsBy (told c.in_err-arg.field-0.0)) c.more.invariant.stated
+    (arguments-fail (joined (operand c.args.level) 6) (map source_expr_of c.more.args, rest_of c.more.after.tokens.now c.more.after.operators) _
+    (sym c.begins_with-in-more.ensures.exact ∙ c.more-test.true) (rw (← c.tail.ensures.exact) c.in_err-arg.ensures.exact)))
+
+pub arguments-more-preserved : goal.arguments-more-preserved
+arguments-more-preserved t c = record {
+  stated =
+      rw (c.in_ok-push-2.ensures.ok, map_push)
+      (sym (arguments-more (joined (operand c.args.level) 6) (map source_expr_of c.more.args, rest_of c.more.after.tokens.now c.more.after.operators) _
+      (sym c.begins_with-in-more.ensures.exact ∙ c.more-test.true) (rw (← c.tail.ensures.exact) c.in_ok-arg.ensures.exact)
+      (simp length-map (omega (arith, c.in_ok-arg.ensures.shorter, c.tail.ensures.within))))
+      ∙ c.more.invariant.stated);
+  shorter = omega (arith, c.in_ok-arg.ensures.shorter, c.tail.ensures.within);
+}
+
+pub arguments-returns-clause-exact : goal.arguments-returns-clause-exact
+arguments-returns-clause-exact t c =
+    sym c.more.invariant.stated
+    ∙ arguments-done (joined (operand c.args.level) 6) (map source_expr_of c.more.args, rest_of c.more.after.tokens.now c.more.after.operators) (sym c.begins_with-in-more.ensures.exact ∙ c.more-test.false)

@@ -1,0 +1,12 @@
+pub mod Spots
+pub mod Operators
+pub mod Expressions
+pub mod Lines
+pub mod Declarations
+pub mod SourceItem
+pub mod Reads
+pub mod Laws
+pub mod Repeat
+pub mod Descent
+pub mod Statements
+pub mod Texts

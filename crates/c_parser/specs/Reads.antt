@@ -1,0 +1,24 @@
+-- Which tree a list of tokens reads as (C11 6.9), and the limits that the parser keeps.
+use Rattle.std.specs.Prelude.{◌≡◌, ◌≤◌, ℕ, List, [], ◌∷◌, ◌++◌, IsTrue}
+use Rattle.c_lexer.specs.declared.token.Token.{Token}
+use Rattle.c_parser.specs.declared.limits.TheConstants.{MOST_LEVELS, MOST_OPERATORS}
+use Rattle.c_parser.specs.Declarations.{Declaration, text_spots, text_is_made, text_items, text_levels, text_operators}
+use Rattle.c_parser.specs.SourceItem.{SourceItem}
+use Rattle.c_parser.specs.Spots.{spots_of, end}
+
+-- these declarations, one behind the other, spell the tokens and stand for the tree
+pub record IsReading (tokens : List Token) (items : List SourceItem) (text : List Declaration) : Type 0 where
+  pub at : ℕ
+  pub spells : spots_of tokens ≡ text_spots text ++ end at ∷ []
+  pub made : IsTrue (text_is_made text)
+  pub stands_for : items ≡ text_items text
+
+abbrev pub Reads : List Token → List SourceItem → Type 0
+Reads tokens items = (text : List Declaration) × IsReading tokens items text
+
+pub record IsWithinLimits (text : List Declaration) : Type 0 where
+  pub shallow : text_levels text ≤ MOST_LEVELS
+  pub short : text_operators text ≤ MOST_OPERATORS
+
+abbrev pub ReadsWithinLimits : List Token → List SourceItem → Type 0
+ReadsWithinLimits tokens items = (text : List Declaration) × IsReading tokens items text × IsWithinLimits text

@@ -1,0 +1,17 @@
+-- A step that is taken as long as a test holds, and while what it works on gets smaller.
+use Rattle.std.specs.Prelude.{ℕ, zero, suc, nat_lt, Bool, Result, Ok, Err, if◌then◌else◌}
+use Rattle.items.specs.Gives.{◌>>=◌}
+use Rattle.c_parser.specs.declared.error.ParseError.{ParseError}
+use Rattle.c_parser.specs.declared.error.ParseError.TheVariants.{Syntax}
+
+abbrev pub go_on : {S : Type 0} → (S → ℕ) → ℕ → (S → Result S ParseError) → S → Result S ParseError
+go_on size bound again state = if nat_lt (size state) bound then again state else Err (Syntax 0)
+
+-- at most so many steps
+abbrev pub repeated : {S : Type 0} → (S → ℕ) → (S → Bool) → (S → Result S ParseError) → ℕ → S → Result S ParseError
+repeated size test step zero state = Err (Syntax 0)
+repeated size test step (suc times) state =
+    if test state then (step state >>= go_on size (size state) (repeated size test step times)) else Ok state
+
+unfoldable pub repeat : {S : Type 0} → (S → ℕ) → (S → Bool) → (S → Result S ParseError) → S → Result S ParseError
+repeat size test step state = repeated size test step (suc (size state)) state

@@ -1,0 +1,44 @@
+-- Tokens as the grammar sees them: what each is and where it stands.
+use Rattle.std.specs.Prelude.{ℕ, ℤ, Bool, true, false, not, ◌&&◌, List, [], ◌∷◌, map}
+use Rattle.c_lexer.specs.declared.keyword.Keyword.{Keyword}
+use Rattle.c_lexer.specs.declared.kind.Kind.{Kind}
+use Rattle.c_lexer.specs.declared.kind.Kind.TheVariants as kind
+use Rattle.c_lexer.specs.declared.mark.Mark.{Mark}
+use Rattle.c_lexer.specs.declared.token.Token.{Token}
+
+-- a token and its place; the grammar does not ask how long it is
+pub record Spot : Type 0 where
+  pub at : ℕ
+  pub kind : Kind
+
+abbrev pub spot_of : Token → Spot
+spot_of token = record { at = token.at; kind = token.kind }
+
+abbrev pub spots_of : List Token → List Spot
+spots_of tokens = map spot_of tokens
+
+abbrev pub mark : ℕ → Mark → Spot
+mark at m = record { at = at; kind = kind.Mark m }
+
+abbrev pub keyword : ℕ → Keyword → Spot
+keyword at k = record { at = at; kind = kind.Keyword k }
+
+abbrev pub word : ℕ → List ℕ → Spot
+word at name = record { at = at; kind = kind.Word name }
+
+abbrev pub number : ℕ → ℤ → Spot
+number at value = record { at = at; kind = kind.Number value }
+
+-- the end of the text
+abbrev pub end : ℕ → Spot
+end at = record { at = at; kind = kind.End }
+
+abbrev pub is_end : Kind → Bool
+is_end kind.End = true
+is_end _ = false
+
+-- the end of the text stands last, and nowhere else
+abbrev pub ends_once : List Spot → Bool
+ends_once [] = false
+ends_once (spot ∷ []) = is_end spot.kind
+ends_once (spot ∷ next ∷ rest) = not (is_end spot.kind) && ends_once (next ∷ rest)

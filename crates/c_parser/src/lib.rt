@@ -1,0 +1,24 @@
+//! From the tokens of a text to its tree, by the grammar of a part of C (C11 6.5 to 6.9). `specs` has the grammar:
+//! `Expressions`, `Lines` and `Declarations` say what is derived, `Reads` which tree tokens read as.
+#![tactic(auto)]
+
+mod ends;
+mod error;
+mod expression;
+mod item;
+mod laws;
+mod limits;
+mod line;
+mod parsing;
+mod rank;
+mod rest;
+mod simple;
+#[cfg(test)]
+mod tests;
+mod tokens;
+
+pub use ends::ends_once;
+pub use error::ParseError;
+pub use laws::{lexed_ends_once, reading_is_one};
+pub use limits::{MOST_LEVELS, MOST_OPERATORS};
+pub use parsing::parse;

@@ -1,0 +1,209 @@
+-- A case put in order has the columns that it had: what passes for each column of its rows and posts passes on.
+use Rattle.std.proofs.Common.{◌≡◌, ℕ, ◌+◌, ◌≤◌, Bool, true, false, cond, ℤ, pos, negsuc, fold, List, [], ◌∷◌, ◌++◌, Option, Some, None, Result, Ok, Err, refl, subst, arith}
+use Rattle.std.specs.Prelude.{IsTrue, not, ◌==◌, int_lt, int_div, unsigned_abs, count_by}
+use Rattle.std.specs.List.{list_all, list_any, find, filter}
+use Rattle.std.specs.Option.{option_map}
+use Rattle.std.specs.Ordering.{int_eq}
+use Rattle.items.specs.Gives.{◌>>=◌}
+use Rattle.items.proofs.Gives.{on_ok}
+use Rattle.whole_numbers.specs.Divisors.{divides, gcd_of_all}
+use Rattle.std.specs.Map.{values_of}
+use Rattle.linear_terms.specs.declared.col.Col.{Col}
+use Rattle.linear_terms.specs.declared.col.Col.TheVariants.{At, Aux}
+use Rattle.linear_terms.specs.declared.error.TermError.{TermError}
+use Rattle.linear_terms.specs.declared.row.Kind.{Kind}
+use Rattle.linear_terms.specs.declared.row.Kind.TheVariants.{AtMost, Equal}
+use Rattle.linear_terms.specs.declared.row.Row.{Row}
+use Rattle.linear_terms.specs.declared.row.Case.{Case}
+use Rattle.linear_terms.specs.declared.row.Normal.{Normal}
+use Rattle.linear_terms.specs.declared.row.Normal.TheVariants.{Constant, Kept}
+use Rattle.linear_terms.specs.Polynomial.{Terms, Polynomial, column_of, coefficient_in}
+use Rattle.linear_terms.specs.Operations.{multiple_of, substituted}
+use Rattle.linear_terms.specs.Auxiliaries.{has_auxiliary, occurs, without, put_for, is_numbered}
+use Rattle.linear_terms.specs.Row.{normal_form, divided, turned, starts_negative, reduced}
+use Rattle.linear_terms.proofs.Columns.{EachColumn, multiple_of-each}
+use Rattle.transition_formula.specs.Transition.{every_column, every_column_of}
+use Rattle.transition_formula.specs.Composition.{by, posts_by, rows_by}
+use Rattle.transition_formula.specs.Rows.{with_normal, normal_rows, stronger, alike, with_row, each_once, close, equation_of, with_met, met, can_agree, opposites_met, tidied}
+use Rattle.transition_formula.specs.Order.{solution, with_solution}
+use Rattle.transition_formula.specs.Rounds.{with_solved}
+use Rattle.transition_formula.proofs.Covered.{both, both_true, lost, Carries, substituted-carries, columns_from_test, test_from_columns, more_columns, rows_by-covered, posts_by-covered}
+use Rattle.transition_formula.proofs.Fitting.{below-true, true-below}
+
+abbrev done : {X : Type 0} → X → Result X TermError
+done x = Ok x
+
+-- ---- the normal form
+
+divided-each : (P : Col → Type 0) (d : ℕ) (ts : Terms) → EachColumn P ts → EachColumn P (divided d ts)
+divided-each P d [] h = tt
+divided-each P d (t ∷ ts) h = (h.0, divided-each P d ts h.1)
+
+turned-each : (P : Col → Type 0) (p q : Polynomial) → turned p ≡ Ok q → EachColumn P p.terms → EachColumn P q.terms
+turned-each P p q e h = go (starts_negative p.terms) e
+  where
+    go : (b : Bool) → cond b (multiple_of p (negsuc 0)) (Ok p) ≡ Ok q → EachColumn P q.terms
+    go true f = multiple_of-each P p (negsuc 0) q f h
+    go false f = let same : p ≡ q = cc in subst (λ r. EachColumn P r.terms) same h
+
+reduced-each : (P : Col → Type 0) (kind : Kind) (g : ℕ) (p : Polynomial) (r : Row) → reduced kind g p ≡ Ok (Kept r) → EachColumn P p.terms → EachColumn P r.poly.terms
+reduced-each P AtMost g p r e h = kept-each P AtMost (divided g p.terms) r e (divided-each P g p.terms h)
+  where
+    kept-each : (P : Col → Type 0) (kind : Kind) (ts : Terms) {rest : ℤ} (r : Row) → done (Kept record { poly = record { terms = ts; rest = rest }; kind = kind }) ≡ Ok (Kept r) → EachColumn P ts → EachColumn P r.poly.terms
+    kept-each P kind ts {rest} r e h = let same : record { poly = record { terms = ts; rest = rest }; kind = kind } ≡ r = cc in subst (λ (s : Row). EachColumn P s.poly.terms) same h
+reduced-each P Equal g p r e h = go (divides g (unsigned_abs p.rest)) e
+  where
+    quotient : Polynomial
+    quotient = record { terms = divided g p.terms; rest = int_div p.rest (pos g) }
+
+    go : (b : Bool) → cond b (turned quotient >>= λ q. Ok (Kept record { poly = q; kind = Equal })) (Ok (Constant false)) ≡ Ok (Kept r) → EachColumn P r.poly.terms
+    go true f =
+        on_ok (turned quotient) (λ q. Ok (Kept record { poly = q; kind = Equal })) (Kept r) f
+        (λ q k l. let same : record { poly = q; kind = Equal } ≡ r = cc in subst (λ (s : Row). EachColumn P s.poly.terms) same (turned-each P quotient q k (divided-each P g p.terms h)))
+    go false f = cc
+
+normal_form-each : (P : Col → Type 0) (ts : Terms) (rest : ℤ) (kind : Kind) (r : Row) → normal_form record { poly = record { terms = ts; rest = rest }; kind = kind } ≡ Ok (Kept r) → EachColumn P ts → EachColumn P r.poly.terms
+normal_form-each P [] rest kind r e h = cc
+normal_form-each P (t ∷ ts) rest kind r e h = reduced-each P kind (gcd_of_all (values_of (t ∷ ts))) record { terms = t ∷ ts; rest = rest } r e h
+
+module _ (test : Col → Bool) where
+  abbrev pub passes : Row → Bool
+  passes row = every_column test row.poly
+
+  normal_form-passes : (row r : Row) → normal_form row ≡ Ok (Kept r) → IsTrue (passes row) → IsTrue (passes r)
+  normal_form-passes row r e h =
+      test_from_columns test r.poly (normal_form-each (λ c. IsTrue (test c)) row.poly.terms row.poly.rest row.kind r e (columns_from_test test row.poly h))
+
+  normal_rows-pass : (rows made : List Row) → (normal_rows rows).rows ≡ Some made → IsTrue (list_all passes rows) → IsTrue (list_all passes made)
+  normal_rows-pass [] made e h = let same : [] ≡ made = cc in subst (λ l. IsTrue (list_all passes l)) same refl
+  normal_rows-pass (row ∷ rows) made e h =
+      let parts = both (passes row) (list_all passes rows) h in
+      go (normal_form row) refl e parts.0 (λ m f. normal_rows-pass rows m f parts.1)
+    where
+      kept : (r : Row) (o : Option (List Row)) → option_map (λ l. r ∷ l) o ≡ Some made → IsTrue (passes r) → ((m : List Row) → o ≡ Some m → IsTrue (list_all passes m)) → IsTrue (list_all passes made)
+      kept r None f k ih = cc
+      kept r (Some l) f k ih = let same : r ∷ l ≡ made = cc in subst (λ m. IsTrue (list_all passes m)) same (both_true (passes r) (list_all passes l) k (ih l refl))
+
+      go : (n : Result Normal TermError) → normal_form row ≡ n → (with_normal n (normal_rows rows)).rows ≡ Some made → IsTrue (passes row) → ((m : List Row) → (normal_rows rows).rows ≡ Some m → IsTrue (list_all passes m)) → IsTrue (list_all passes made)
+      go (Err x) n f k ih = ih made f
+      go (Ok (Constant true)) n f k ih = ih made f
+      go (Ok (Constant false)) n f k ih = cc
+      go (Ok (Kept r)) n f k ih = kept r (normal_rows rows).rows f (normal_form-passes row r n k) ih
+
+  -- ---- each once
+
+  with_row-passes : (rows : List Row) (s : Row) → IsTrue (list_all passes rows) → IsTrue (passes s) → IsTrue (list_all passes (with_row rows s))
+  with_row-passes [] s h k = both_true (passes s) true k refl
+  with_row-passes (r ∷ rows) s h k =
+      let parts = both (passes r) (list_all passes rows) h in
+      go (alike r s) parts.0 parts.1 (with_row-passes rows s parts.1 k)
+    where
+      strong : (b : Bool) → IsTrue (passes r) → IsTrue (passes (cond b s r))
+      strong true f = k
+      strong false f = f
+
+      go : (b : Bool) → IsTrue (passes r) → IsTrue (list_all passes rows) → IsTrue (list_all passes (with_row rows s)) → IsTrue (list_all passes (cond b (stronger r s ∷ rows) (r ∷ with_row rows s)))
+      go true f g later = both_true (passes (stronger r s)) (list_all passes rows) (strong (int_lt r.poly.rest s.poly.rest) f) g
+      go false f g later = both_true (passes r) (list_all passes (with_row rows s)) f later
+
+  fold-passes : (rows more : List Row) → IsTrue (list_all passes rows) → IsTrue (list_all passes more) → IsTrue (list_all passes (fold with_row rows more))
+  fold-passes rows [] h k = h
+  fold-passes rows (s ∷ more) h k = let parts = both (passes s) (list_all passes more) k in fold-passes (with_row rows s) more (with_row-passes rows s h parts.0) parts.1
+
+  -- ---- opposite rows
+
+  found-passes : (find_by : Row → Bool) (rows : List Row) (s : Row) → find find_by rows ≡ Some s → IsTrue (list_all passes rows) → IsTrue (passes s)
+  found-passes find_by [] s e h = cc
+  found-passes find_by (r ∷ rows) s e h =
+      let parts = both (passes r) (list_all passes rows) h in
+      go (find_by r) e parts.0 (λ f. found-passes find_by rows s f parts.1)
+    where
+      go : (b : Bool) → cond b (Some r) (find find_by rows) ≡ Some s → IsTrue (passes r) → (find find_by rows ≡ Some s → IsTrue (passes s)) → IsTrue (passes s)
+      go true f k ih = let same : r ≡ s = cc in subst (λ x. IsTrue (passes x)) same k
+      go false f k ih = ih f
+
+  met-passes : (before rows : List Row) → IsTrue (list_all passes rows) → IsTrue (list_all passes (met before rows))
+  met-passes before [] h = refl
+  met-passes before (r ∷ rows) h =
+      let parts = both (passes r) (list_all passes rows) h in
+      go (list_any (λ s. close s r) before) (find (close r) rows) (λ s f. found-passes (close r) rows s f parts.1) parts.0 (met-passes (before ++ r ∷ []) rows parts.1)
+    where
+      turned_to : (b : Bool) (s : Row) → IsTrue (passes r) → IsTrue (passes s) → IsTrue (every_column test (cond b s.poly r.poly))
+      turned_to true s f g = g
+      turned_to false s f g = f
+
+      go : (b : Bool) (o : Option Row) → ((s : Row) → o ≡ Some s → IsTrue (passes s)) → IsTrue (passes r) → IsTrue (list_all passes (met (before ++ r ∷ []) rows)) → IsTrue (list_all passes (with_met r b o (met (before ++ r ∷ []) rows)))
+      go true o found f later = later
+      go false None found f later = both_true (passes r) (list_all passes (met (before ++ r ∷ []) rows)) f later
+      go false (Some s) found f later = both_true (passes (equation_of r s)) (list_all passes (met (before ++ r ∷ []) rows)) (turned_to (starts_negative r.poly.terms) s f (found s refl)) later
+
+  pub tidied-passes : (rows made : List Row) → (tidied rows).rows ≡ Some made → IsTrue (list_all passes rows) → IsTrue (list_all passes made)
+  tidied-passes rows made e h = go (normal_rows rows).rows (λ l f. normal_rows-pass rows l f h) e
+    where
+      agreed : (b : Bool) (l : List Row) → cond b (Some (met [] l)) None ≡ Some made → IsTrue (list_all passes l) → IsTrue (list_all passes made)
+      agreed true l f k = let same : met [] l ≡ made = cc in subst (λ m. IsTrue (list_all passes m)) same (met-passes [] l k)
+      agreed false l f k = cc
+
+      go : (o : Option (List Row)) → ((l : List Row) → o ≡ Some l → IsTrue (list_all passes l)) → opposites_met (option_map each_once o) ≡ Some made → IsTrue (list_all passes made)
+      go None tells f = cc
+      go (Some l) tells f = agreed (can_agree (each_once l)) (each_once l) f (fold-passes [] l refl (tells l refl))
+
+  -- ---- a solution
+
+  without-each : (P : Col → Type 0) (n : ℕ) (ts : Terms) → EachColumn P ts → EachColumn P (filter (λ t. not (has_auxiliary n t.0)) ts)
+  without-each P n [] h = tt
+  without-each P n (t ∷ ts) h = go (not (has_auxiliary n t.0)) (without-each P n ts h.1)
+    where
+      go : (b : Bool) → EachColumn P (filter (λ t. not (has_auxiliary n t.0)) ts) → EachColumn P (cond b (t ∷ filter (λ t. not (has_auxiliary n t.0)) ts) (filter (λ t. not (has_auxiliary n t.0)) ts))
+      go true later = (h.0, later)
+      go false later = later
+
+  pub solution-passes : (p : Polynomial) (n : ℕ) (q : Polynomial) → solution p n ≡ Ok q → IsTrue (every_column test p) → IsTrue (every_column test q)
+  solution-passes p n q e h = test_from_columns test q (go (int_eq (coefficient_in p.terms (Aux n ∷ [])) (negsuc 0)) e)
+    where
+      rest : EachColumn (λ c. IsTrue (test c)) (without n p).terms
+      rest = without-each (λ c. IsTrue (test c)) n p.terms (columns_from_test test p h)
+
+      go : (b : Bool) → cond b (Ok (without n p)) (multiple_of (without n p) (negsuc 0)) ≡ Ok q → EachColumn (λ c. IsTrue (test c)) q.terms
+      go true f = let same : without n p ≡ q = cc in subst (λ r. EachColumn (λ c. IsTrue (test c)) r.terms) same rest
+      go false f = multiple_of-each (λ c. IsTrue (test c)) (without n p) (negsuc 0) q f rest
+
+  pub with_solution-carries : (n : ℕ) (by : Polynomial) (t : Col → Bool) → ((c : Col) → IsTrue (test c) → IsTrue (t c)) → IsTrue (every_column test by) → Carries (with_solution n by) test t
+  with_solution-carries n by t more h = record { to = λ p q e k. go (occurs n p) p q e k }
+    where
+      put : (b : Bool) (m : ℕ) → IsTrue (t (Aux m)) → IsTrue (every_column t (cond b by (column_of (Aux m))))
+      put true m k = more_columns test t more by h
+      put false m k = test_from_columns t (column_of (Aux m)) ((k, tt), tt)
+
+      covers : (c : Col) → IsTrue (test c) → IsTrue (every_column t (put_for n by c))
+      covers (At m) k = test_from_columns t (column_of (At m)) ((more (At m) k, tt), tt)
+      covers (Aux m) k = put (m == n) m (more (Aux m) k)
+
+      go : (b : Bool) (p q : Polynomial) → cond b (substituted (put_for n by) p) (Ok p) ≡ Ok q → IsTrue (every_column test p) → IsTrue (every_column t q)
+      go true p q f k = (substituted-carries (put_for n by) test t covers).to p q f k
+      go false p q f k = let same : p ≡ q = cc in subst (λ r. IsTrue (every_column t r)) same (more_columns test t more p k)
+
+-- ---- a round
+
+numbered-more : (end more : ℕ) → end ≤ more → (c : Col) → IsTrue (is_numbered end c) → IsTrue (is_numbered more c)
+numbered-more end more le (At n) h = h
+numbered-more end more le (Aux n) h = let lt = true-below n end h in below-true n more (omega arith)
+
+pub with_solved-numbered : (p : Polynomial) (n : ℕ) (case : Case) → IsTrue (every_column (is_numbered case.aux) p) → IsTrue (every_column_of (is_numbered case.aux) case)
+    → IsTrue (every_column_of (is_numbered (with_solved (solution p n) n case).aux) (with_solved (solution p n) n case))
+with_solved-numbered p n case h k = go (solution p n) refl
+  where
+    columns : IsTrue (list_all (λ row. every_column (is_numbered case.aux) row.poly) case.rows) × IsTrue (list_all (every_column (is_numbered case.aux)) case.post)
+    columns = both (list_all (λ row. every_column (is_numbered case.aux) row.poly) case.rows) (list_all (every_column (is_numbered case.aux)) case.post) k
+
+    put : (q : Polynomial) → IsTrue (every_column (is_numbered case.aux) q) → IsTrue (every_column_of (is_numbered (by (with_solution n q) case).aux) (by (with_solution n q) case))
+    put q f =
+        let end : ℕ = case.aux + count_by (lost (with_solution n q)) case.post in
+        let carries = with_solution-carries (is_numbered case.aux) n q (is_numbered end) (numbered-more case.aux end (omega arith)) f in
+        both_true (list_all (λ row. every_column (is_numbered end) row.poly) (rows_by (with_solution n q) case.rows)) (list_all (every_column (is_numbered end)) (posts_by (with_solution n q) case.aux case.post))
+        (rows_by-covered (with_solution n q) (is_numbered case.aux) (is_numbered end) carries case.rows columns.0)
+        (posts_by-covered (with_solution n q) (is_numbered case.aux) (is_numbered end) carries end (λ j lt. below-true j end lt) case.aux case.post (omega arith) columns.1)
+
+    go : (r : Result Polynomial TermError) → solution p n ≡ r → IsTrue (every_column_of (is_numbered (with_solved r n case).aux) (with_solved r n case))
+    go (Ok q) e = put q (solution-passes (is_numbered case.aux) p n q e h)
+    go (Err x) e = k

@@ -1,0 +1,14 @@
+pub mod Carried
+pub mod Covered
+pub mod Distinct
+pub mod Few
+pub mod Fitting
+pub mod Kept
+pub mod Loops
+pub mod Meanings
+pub mod Meeting
+pub mod Numbers
+pub mod Ranges
+pub mod Rounding
+pub mod Sequences
+pub mod Values

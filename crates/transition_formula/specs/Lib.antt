@@ -1,0 +1,9 @@
+pub use Rattle.items.specs.Gives
+pub mod Composition
+pub mod Loss
+pub mod Meaning
+pub mod Order
+pub mod Renumbering
+pub mod Rounds
+pub mod Rows
+pub mod Transition

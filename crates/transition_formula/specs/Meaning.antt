@@ -1,0 +1,32 @@
+-- What a formula says of two states.
+use Rattle.std.specs.Prelude.{◌≡◌, ◌⊎◌, ℕ, ℤ, pos, List, [], ◌∷◌, length, map, slice_get, unwrap_or}
+use Rattle.std.specs.List.{AllByRecursion}
+use Rattle.linear_terms.specs.declared.col.Col.TheVariants.{At, Aux}
+use Rattle.linear_terms.specs.declared.row.Case.{Case}
+use Rattle.linear_terms.specs.Row.{RowHolds}
+use Rattle.linear_terms.specs.Value.{Valuation, value_of}
+use Rattle.transition_formula.specs.Transition.{Transition}
+
+-- the numbers of a state for the entry columns, and others for the auxiliaries
+abbrev pub numbers : List ℤ → (ℕ → ℤ) → Valuation
+numbers before aux (At number) = unwrap_or (slice_get before number) (pos 0)
+numbers before aux (Aux number) = aux number
+
+-- each row is true, and the posts have the values `after`
+pub record HoldsAt (at : Valuation) (case : Case) (after : List ℤ) : Type 0 where
+  pub rows : AllByRecursion (RowHolds at) case.rows
+  pub posts : map (value_of at) case.post ≡ after
+
+-- some numbers for the auxiliaries make each row true and each post its number in `after`
+abbrev pub HoldsCase : Case → List ℤ → List ℤ → Type 0
+HoldsCase case before after = (aux : ℕ → ℤ) × HoldsAt (numbers before aux) case after
+
+-- one of the cases holds
+abbrev pub HoldsSome : List Case → List ℤ → List ℤ → Type 0
+HoldsSome [] before after = ⊥
+HoldsSome (case ∷ cases) before after = HoldsCase case before after ⊎ HoldsSome cases before after
+
+-- the formula holds of two states: the first has its entry columns, and one of its cases holds
+pub record Holds (f : Transition) (before after : List ℤ) : Type 0 where
+  pub enters : length before ≡ f.from
+  pub some : HoldsSome f.cases before after

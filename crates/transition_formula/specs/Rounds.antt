@@ -1,0 +1,73 @@
+-- A case put in order: rows are tidied and an equation is solved, again and again, until none can be.
+use Rattle.std.specs.Prelude.{ℕ, zero, suc, List, [], ◌++◌, length, slice_get, Option, None, Some, Result, Ok, Err}
+use Rattle.std.specs.List.{remove}
+use Rattle.linear_terms.specs.declared.error.TermError.{TermError}
+use Rattle.linear_terms.specs.declared.row.Row.{Row}
+use Rattle.linear_terms.specs.declared.row.Case.{Case}
+use Rattle.linear_terms.specs.Polynomial.{Polynomial}
+use Rattle.transition_formula.specs.declared.loss.Loss.{Loss}
+use Rattle.transition_formula.specs.declared.solving.Solved.{Solved}
+use Rattle.transition_formula.specs.declared.solving.Solved.TheVariants.{Kept, False}
+use Rattle.transition_formula.specs.Loss.{noted}
+use Rattle.transition_formula.specs.Composition.{by, lost_by}
+use Rattle.transition_formula.specs.Rows.{tidied}
+use Rattle.transition_formula.specs.Order.{first_equation, solution, with_solution}
+use Rattle.transition_formula.specs.Renumbering.{renumbered_case}
+
+-- the case that is left, or nothing where it holds of nothing; and the losses on the way
+pub record Ordered : Type 0 where
+  pub left : Option Case
+  pub losses : List Loss
+
+abbrev pub after_losses : List Loss → Ordered → Ordered
+after_losses losses rest = record { left = rest.left; losses = losses ++ rest.losses }
+
+abbrev pub with_rows : Case → List Row → Case
+with_rows case rows = record { aux = case.aux; rows = rows; post = case.post }
+
+-- nothing is left to solve
+abbrev pub finished : Case → Ordered
+finished case = record { left = Some (renumbered_case case); losses = [] }
+
+-- the equation is left out and its solution put in; an equation whose solution leaves 128 bits is lost
+abbrev pub with_solved : Result Polynomial TermError → ℕ → Case → Case
+with_solved (Ok p) n case = by (with_solution n p) case
+with_solved (Err e) n case = case
+
+abbrev pub lost_with_solved : Result Polynomial TermError → ℕ → Case → List Loss
+lost_with_solved (Ok p) n case = lost_by (with_solution n p) case
+lost_with_solved (Err e) n case = noted e
+
+-- the first equation that can be solved is solved, and another round follows
+abbrev pub solved_at : (Case → Ordered) → Case → ℕ → Option Row → Ordered
+solved_at next left n None = finished left
+solved_at next left n (Some row) =
+    after_losses (lost_with_solved (solution row.poly n) n left) (next (with_solved (solution row.poly n) n left))
+
+abbrev pub solved_first : (Case → Ordered) → Case → Option (ℕ × ℕ) → Ordered
+solved_first next case None = finished case
+solved_first next case (Some found) = solved_at next (with_rows case (remove case.rows found.0)) found.1 (slice_get case.rows found.0)
+
+abbrev pub round : (Case → Ordered) → Case → Option (List Row) → Ordered
+round next case None = record { left = None; losses = [] }
+round next case (Some rows) = solved_first next (with_rows case rows) (first_equation rows)
+
+-- Each round that is followed by another leaves out an equation. So as many rounds as there are rows are enough: after them no row
+-- is left.
+abbrev pub rounds : ℕ → Case → Ordered
+rounds zero case = finished case
+rounds (suc more) case = after_losses (tidied case.rows).losses (round (rounds more) case (tidied case.rows).rows)
+
+-- the case put in order
+abbrev pub in_order : Case → Ordered
+in_order case = rounds (length case.rows) case
+
+-- how the code answers it
+abbrev pub solved : Option Case → Solved
+solved None = False
+solved (Some case) = Kept case
+
+-- it holds of the case, if there is one
+abbrev pub Stays : (Case → Type 0) → Solved → Type 0
+Stays P False = Unit {0}
+Stays P (Kept case) = P case

@@ -1,0 +1,38 @@
+-- Formulas between the numbers of a state and those of a later one, as plain data.
+use Rattle.std.specs.Prelude.{ℕ, ◌+◌, ◌<◌, ◌^◌, List, All, Bool, ◌&&◌, ◌==◌, nat_lt, length, IsTrue}
+use Rattle.std.specs.List.{list_all}
+use Rattle.linear_terms.specs.declared.col.Col.{Col}
+use Rattle.linear_terms.specs.declared.col.Col.TheVariants.{At, Aux}
+use Rattle.linear_terms.specs.declared.row.Case.{Case}
+use Rattle.linear_terms.specs.Polynomial.{Polynomial}
+
+-- from so many columns to so many, by one case or another
+pub record Transition : Type 0 where
+  pub from : ℕ
+  pub to : ℕ
+  pub cases : List Case
+
+-- each column passes
+abbrev pub every_column : (Col → Bool) → Polynomial → Bool
+every_column test p = list_all (λ t. list_all test t.0) p.terms
+
+-- an entry column below `at`, or an auxiliary below `aux`
+abbrev pub is_below : ℕ → ℕ → Col → Bool
+is_below at aux (At number) = nat_lt number at
+is_below at aux (Aux number) = nat_lt number aux
+
+-- each column of the case passes
+abbrev pub every_column_of : (Col → Bool) → Case → Bool
+every_column_of test case = list_all (λ row. every_column test row.poly) case.rows && list_all (every_column test) case.post
+
+-- the case has a post for each of `to` columns, and no columns but its auxiliaries and `from` entry columns
+abbrev pub fits : ℕ → ℕ → Case → Bool
+fits from to case = length case.post == to && every_column_of (is_below from case.aux) case
+
+-- each case fits
+abbrev pub IsTransition : ℕ → ℕ → List Case → Type 0
+IsTransition from to cases = IsTrue (list_all (fits from to) cases)
+
+-- the auxiliaries of any case of the one, those of any case of the other and the other's columns are few enough to be numbered
+abbrev pub AreFew : Transition → Transition → Type 0
+AreFew a b = All (λ first. All (λ second. first.aux + second.aux + b.to < 2 ^ 32) b.cases) a.cases

@@ -1,0 +1,23 @@
+//! Formulas between the numbers of a state and those of a later one: sequence, choice, and a case put in
+//! order, each with what is left out where a step leaves 128 bits or passes degree 4.
+#![tactic(auto)]
+
+mod compose;
+mod equations;
+mod error;
+mod formula;
+mod loss;
+mod numbering;
+mod sequence;
+mod solution;
+mod solving;
+#[cfg(test)]
+mod tests;
+mod tidy;
+
+pub use compose::{identity, join};
+pub use error::FormulaError;
+pub use formula::Formula;
+pub use loss::Loss;
+pub use sequence::seq;
+pub use solving::{Solved, solve};

@@ -1,0 +1,34 @@
+ghost use Rattle.std.specs.Prelude.{◌≡◌, ◌++◌, Some, OnOk};
+ghost use Rattle.linear_terms.specs.TermError.{cause};
+ghost use Rattle.transition_formula.specs.Loss.{noted};
+
+use crate::FormulaError;
+use items::Items;
+use linear_terms::TermError;
+
+/// Something that was left out of a formula.
+#[derive(Clone, Copy, Debug, PartialEq, Eq)]
+pub enum Loss {
+    /// The product, where `times` holds, or else the sum of these two numbers is no number of 128 bits.
+    Wide {
+        left: i128,
+        right: i128,
+        times: bool,
+    },
+    /// A product of two monomials has more than four columns.
+    Degree,
+}
+
+/// Notes an error of an operation; want of memory is an error here too.
+pub(crate) fn note(error: TermError, losses: &mut Items<Loss>) -> Result<(), FormulaError>
+    ensures noted { OnOk result (losses.new ≡ losses.old ++ noted error) }
+    ensures told { OnOk result (cause error ≡ Some error) }
+{
+    let loss = match error {
+        TermError::Wide { left, right, times } => Loss::Wide { left, right, times },
+        TermError::Degree => Loss::Degree,
+        TermError::Memory => return Err(FormulaError::Memory),
+    };
+    losses.push(loss)?;
+    Ok(())
+}

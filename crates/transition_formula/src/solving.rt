@@ -1,0 +1,62 @@
+ghost use Rattle.std.specs.Prelude.{◌≡◌, ℕ, ◌+◌, ◌<◌, ◌^◌, ◌++◌, length, IfOk, OnOk, IsTrue};
+ghost use Rattle.std.specs.Option.{option_map};
+ghost use Rattle.linear_terms.specs.Auxiliaries.{is_numbered};
+ghost use Rattle.transition_formula.specs.Transition.{every_column_of, fits};
+ghost use Rattle.transition_formula.specs.Rows.{tidied};
+ghost use Rattle.transition_formula.specs.Rounds.{with_rows, in_order, solved, Stays};
+
+use crate::equations::first_equation;
+use crate::numbering::renumbered_case;
+use crate::solution::without_equation;
+use crate::tidy::tidy;
+use crate::{FormulaError, Loss};
+use items::Items;
+use linear_terms::Case;
+use std::alloc::Global;
+
+/// What is left of a case that is put in order.
+#[derive(Debug, PartialEq, Eq, Drop)]
+pub enum Solved {
+    Kept(Case),
+    /// No numbers make the rows true.
+    False,
+}
+
+/// Puts a case in order: its rows are tidied, and equations solved for auxiliaries, until no more can be.
+/// What is lost is left out and noted after what is there. After an error more may be noted.
+pub fn solve(alloc: Global, case: &Case, losses: &mut Items<Loss>) -> Result<Solved, FormulaError>
+    requires numbered { IsTrue (every_column_of (is_numbered case.now.aux) case.now) }
+    requires few { case.now.aux + length case.now.post < 2 ^ 32 }
+    ensures exact { IfOk result (λ made. made ≡ solved (in_order case.now).left) }
+    ensures noted { OnOk result (losses.new ≡ losses.old ++ (in_order case.now).losses) }
+    ensures fits { (from to : ℕ) → IsTrue (fits from to case.now) → IfOk result (Stays (λ c. IsTrue (fits from to c))) }
+{
+    let mut left = case.clone()?;
+    for _round in 0..case.rows.len() {
+        let Some(tidied) = tidied(alloc, left, losses)? else {
+            return Ok(Solved::False);
+        };
+        let Some((place, aux)) = first_equation(tidied.rows.as_slice()) else {
+            let made = renumbered_case(alloc, &tidied)?;
+            return Ok(Solved::Kept(made));
+        };
+        left = without_equation(alloc, tidied, place, aux, losses)?;
+    }
+    let made = renumbered_case(alloc, &left)?;
+    Ok(Solved::Kept(made))
+}
+
+/// The case with its rows tidied; none where they can't all be true.
+fn tidied(alloc: Global, case: Case, losses: &mut Items<Loss>) -> Result<Option<Case>, FormulaError>
+    ensures exact { IfOk result (λ made. made ≡ option_map (with_rows case) (tidied case.rows).rows) }
+    ensures noted { OnOk result (losses.new ≡ losses.old ++ (tidied case.rows).losses) }
+{
+    let Some(rows) = tidy(alloc, case.rows.as_slice(), losses)? else {
+        return Ok(None);
+    };
+    Ok(Some(Case {
+        aux: case.aux,
+        rows,
+        post: case.post,
+    }))
+}
