@@ -1,9 +1,16 @@
 -- What a run answers to its words and its input.
-use Rattle.std.specs.Prelude.{◌≢◌, ℕ, List, length, Option, None, Some, codes, nat_lt, if◌then◌else◌}
+use Rattle.std.specs.Prelude.{◌≡◌, ◌≢◌, ℕ, ◌<◌, ◌≤◌, ◌⊎◌, ◌==◌, List, length, Option, None, Some, codes, if◌then◌else◌}
+use Rattle.std.specs.List.{count_by}
+use Rattle.syntax_tree.specs.declared.program.Program.{Program}
 use Rattle.cra.specs.declared.reply.Reply.{Reply}
+use Rattle.cra.specs.declared.report.Report.{Report}
 use Rattle.cra.specs.declared.run.TheConstants.{TEXT_LIMIT}
 use Rattle.cra.specs.declared.words.Work.{Work}
 use Rattle.cra.specs.declared.words.Work.TheVariants.{Analyse}
+use Rattle.cra.specs.Accepted.{Accepts}
+use Rattle.cra.specs.Claims.{ClaimsAreMet}
+use Rattle.cra.specs.Stated.{IsReportOf}
+use Rattle.cra.specs.Text.{is_proved, text_of}
 use Rattle.cra.specs.Words.{work_of}
 
 -- a status that answers the words and the input, and tells no fault of the source, the sink or memory
@@ -20,14 +27,34 @@ too_long = record { status = 9; text = codes "input is too long\n" }
 abbrev pub not_yet : Reply
 not_yet = record { status = 3; text = codes "refused notyet\n" }
 
--- the answer to a text: no text is analysed so far
-abbrev pub reply_to_text : List ℕ → Reply
-reply_to_text input = if nat_lt TEXT_LIMIT (length input) then too_long else not_yet
+-- the text of a report; the status is 0 where every assertion is proved, else 1
+abbrev pub reply_of : Report → Reply
+reply_of report = record {
+  status = if count_by is_proved report.judged == length report.judged then 0 else 1;
+  text = text_of report;
+}
 
-abbrev pub reply_to_work : Option Work → List ℕ → Reply
-reply_to_work None input = wrong_words
-reply_to_work (Some Analyse) input = reply_to_text input
+-- The text is accepted, and its report is the stated one, whose claims are met.
+pub record IsAnalysed (text : List ℕ) (report : Report) : Type 0 where
+  pub program : Program
+  pub accepted : Accepts text program
+  pub stated : IsReportOf text program report
+  pub met : ClaimsAreMet program report
+
+-- a text that is accepted is answered with the text of its report, and every other text is refused
+abbrev pub IsReplyToShort : List ℕ → Reply → Type 0
+IsReplyToShort text reply =
+    ((report : Report) × IsAnalysed text report × (reply ≡ reply_of report))
+    ⊎ ((reply ≡ not_yet) × ((program : Program) → ¬ Accepts text program))
+
+abbrev pub IsReplyToText : List ℕ → Reply → Type 0
+IsReplyToText input reply =
+    ((TEXT_LIMIT < length input) × (reply ≡ too_long)) ⊎ ((length input ≤ TEXT_LIMIT) × IsReplyToShort input reply)
+
+abbrev pub IsReplyToWork : Option Work → List ℕ → Reply → Type 0
+IsReplyToWork None input reply = reply ≡ wrong_words
+IsReplyToWork (Some Analyse) input reply = IsReplyToText input reply
 
 -- words that ask for nothing are refused before anything is read
-abbrev pub reply_to : List (List ℕ) → List ℕ → Reply
-reply_to words input = reply_to_work (work_of words) input
+abbrev pub IsReply : List (List ℕ) → List ℕ → Reply → Type 0
+IsReply words input reply = IsReplyToWork (work_of words) input reply

@@ -8,12 +8,21 @@ use std::io::ErrorKind;
 use std::process::ExitCode;
 use std::{env, io};
 
+mod analysis;
+mod early;
+mod findings;
 mod input;
+mod known;
 mod output;
+mod reader;
 mod reply;
+mod report;
 mod run;
 #[cfg(test)]
 mod tests;
+mod text;
+mod text_reader;
+mod verdict;
 mod words;
 
 /// The words of the command line. Where the system gives words that are no text, there are none.

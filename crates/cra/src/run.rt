@@ -3,7 +3,8 @@ ghost use Rattle.std.specs.Io.KnownBytes.{append_known};
 ghost use Rattle.cra_io.specs.Faults.{Rose};
 ghost use Rattle.cra.specs.Input.{IsInput};
 ghost use Rattle.cra.specs.Output.{TookPart};
-ghost use Rattle.cra.specs.Replies.{IsAnswer, reply_to};
+ghost use Rattle.cra.specs.declared.reply.Reply.{Reply as Told};
+ghost use Rattle.cra.specs.Replies.{IsAnswer, IsReply};
 ghost use Rattle.cra.specs.Words.{work_of};
 
 use crate::input::{InputError, read_input};
@@ -30,7 +31,7 @@ pub const WANT_OF_MEMORY: u8 = 6;
 
 /// Reads what the words ask for, and makes the whole answer.
 fn compose<R: Source>(alloc: Global, words: &[String], source: &mut R) -> Result<Reply, InputError>
-    ensures answer { IfOk result (λ reply. (input : List ℕ) × IsInput TEXT_LIMIT (R.left source.old) input × (reply ≡ reply_to (map string_bytes words.now) input)) }
+    ensures answer { IfOk result (λ reply. (input : List ℕ) × IsInput TEXT_LIMIT (R.left source.old) input × IsReply (map string_bytes words.now) input reply) }
     ensures status { IfOk result (λ reply. IsAnswer reply.status) }
     ensures unread { work_of (map string_bytes words.now) ≡ None → source.new ≡ source.old }
     ensures failed { result ≡ Err InputError.Failed → Rose (R.faults source.old) (R.faults source.new) }
@@ -51,8 +52,8 @@ fn compose<R: Source>(alloc: Global, words: &[String], source: &mut R) -> Result
 pub fn run<R: Source, W: Sink>(alloc: Global, words: &[String], source: &mut R, sink: &mut W) -> u8
     // Every status but those of the source, the sink and memory is the answer to the words and to the input.
     ensures answered { result ≢ SOURCE_FAILED → result ≢ SINK_FAILED → result ≢ WANT_OF_MEMORY →
-        ((input : List ℕ) × IsInput TEXT_LIMIT (R.left source.old) input × (result ≡ (reply_to (map string_bytes words.now) input).status)
-        × (W.taken sink.new ≡ append_known (W.taken sink.old) (reply_to (map string_bytes words.now) input).text)) }
+        ((input : List ℕ) × (reply : Told) × IsInput TEXT_LIMIT (R.left source.old) input × IsReply (map string_bytes words.now) input reply
+        × (result ≡ reply.status) × (W.taken sink.new ≡ append_known (W.taken sink.old) reply.text)) }
     ensures unread { work_of (map string_bytes words.now) ≡ None → source.new ≡ source.old }
 
     // The source failed: exactly where its count of faults rose, and then nothing is written.
@@ -62,8 +63,8 @@ pub fn run<R: Source, W: Sink>(alloc: Global, words: &[String], source: &mut R, 
     // The sink failed: exactly where its count of faults rose, and then a part of the answer is written.
     ensures sink_failed { result ≡ SINK_FAILED → Rose (W.faults sink.old) (W.faults sink.new) }
     ensures sink_counted { result ≢ SINK_FAILED → W.faults sink.new ≡ W.faults sink.old }
-    ensures part { result ≡ SINK_FAILED → ((input : List ℕ) × IsInput TEXT_LIMIT (R.left source.old) input
-        × TookPart (W.taken sink.old) (W.taken sink.new) (reply_to (map string_bytes words.now) input).text) }
+    ensures part { result ≡ SINK_FAILED → ((input : List ℕ) × (reply : Told) × IsInput TEXT_LIMIT (R.left source.old) input × IsReply (map string_bytes words.now) input reply
+        × TookPart (W.taken sink.old) (W.taken sink.new) reply.text) }
 
     // Want of memory comes before anything is written.
     ensures memory_untouched { result ≡ WANT_OF_MEMORY → sink.new ≡ sink.old }

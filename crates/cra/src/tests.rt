@@ -9,6 +9,35 @@ const NOT_YET: &[u8] = b"refused notyet\n";
 
 const TOO_LONG: &[u8] = b"input is too long\n";
 
+const PROVED: &[u8] =
+    b"int main(void) {\n  int x = __VERIFIER_nondet_int();\n  int y = x + 2;\n  assert(x <= y - 1);\n}\n";
+
+const PROVED_REPORT: &[u8] =
+    b"procedure main\ncase 1\n  $ret = $1\nassertion 1 at 4:3 proved\ntotal 1 proved, 0 unproved\n";
+
+const UNPROVED: &[u8] =
+    b"int main(void) {\n  int a = __VERIFIER_nondet_int();\n  int b = __VERIFIER_nondet_int();\n  assert(a <= b);\n}\n";
+
+const UNPROVED_REPORT: &[u8] =
+    b"procedure main\ncase 1\n  $1 - $2 <= 0\n  $ret = $3\nassertion 1 at 4:3 unproved\n  -$1 + $2 + 1 <= 0\n  a = $1\n  b = $2\n  point $1 = 1, $2 = 0\ntotal 0 proved, 1 unproved\n";
+
+const FALSE: &[u8] = b"int main(void) {\n  int x = 1;\n  assert(x <= 0);\n}\n";
+
+const FALSE_REPORT: &[u8] =
+    b"procedure main\nnone\nassertion 1 at 3:3 unproved\n  x = 1\n  point none\ntotal 0 proved, 1 unproved\n";
+
+// Sums that go past 64 bits, and a variable that is used twice.
+const WIDE: &[u8] =
+    b"int main(void){int a=__VERIFIER_nondet_int();int b=a+a-3;int c=b-a+9223372036854775807;\nassert(c+2<=b-1+a);}";
+
+const WIDE_REPORT: &[u8] =
+    b"procedure main\ncase 1\n  -$1 + 4611686018427387905 <= 0\n  $ret = $2\nassertion 1 at 2:1 unproved\n  $1 - 4611686018427387904 <= 0\n  a = $1\n  b = 2*$1 - 3\n  c = $1 + 9223372036854775804\n  point $1 = 0\ntotal 0 proved, 1 unproved\n";
+
+const PLAIN: &[u8] = b"int main(void) { assert(0 <= 0); }";
+
+const PLAIN_REPORT: &[u8] =
+    b"procedure main\ncase 1\n  $ret = $1\nassertion 1 at 1:18 proved\ntotal 1 proved, 0 unproved\n";
+
 /// How a run went: its status, and what its sink took.
 #[derive(Drop)]
 struct Ended {
@@ -43,7 +72,7 @@ fn run_on(alloc: Global, words: &[&str], input: &[u8], outside: Outside) -> Resu
         most,
         [outside.failing_read].to_vec(alloc)?,
     );
-    let mut sink = MemorySink::new(alloc, 100, most, [outside.failing_write].to_vec(alloc)?)?;
+    let mut sink = MemorySink::new(alloc, 1000, most, [outside.failing_write].to_vec(alloc)?)?;
     let status = run(alloc, &given, &mut source, &mut sink);
     Ok(Ended {
         status,
@@ -52,35 +81,96 @@ fn run_on(alloc: Global, words: &[&str], input: &[u8], outside: Outside) -> Resu
 }
 
 #[test]
-fn answers(rt: HostRuntime) -> Result<(), Fail> {
-    let alloc = rt.alloc();
-    let full = vec![in alloc; b' '; TEXT_LIMIT]?;
-    let past = vec![in alloc; b' '; TEXT_LIMIT + 1]?;
-    let cases: [(&[&str], &[u8], u8, &[u8]); 9] = [
-        (&["cra", "analyse"], b"", 3, NOT_YET),
-        (&["cra", "analyse"], b"int main(void){}", 3, NOT_YET),
-        (&["cra", "analyse"], &full, 3, NOT_YET),
-        (&["cra", "analyse"], &past, 9, TOO_LONG),
-        (&[], b"", 2, USAGE),
-        (&["cra"], b"", 2, USAGE),
-        (&["cra", "analyze"], b"", 2, USAGE),
-        (&["cra", "analyse", "again"], b"", 2, USAGE),
-        (&["analyse", "cra"], b"", 2, USAGE),
+fn reports(rt: HostRuntime) -> Result<(), Fail> {
+    let cases = [
+        (PROVED, 0, PROVED_REPORT),
+        (UNPROVED, 1, UNPROVED_REPORT),
+        (FALSE, 1, FALSE_REPORT),
+        (WIDE, 1, WIDE_REPORT),
+        (PLAIN, 0, PLAIN_REPORT),
     ];
-    for (words, input, status, text) in cases {
-        let ended = run_on(alloc, words, input, GOOD)?;
+    for (input, status, text) in cases {
+        let ended = run_on(rt.alloc(), &["cra", "analyse"], input, GOOD)?;
         assert_eq!(rt; ended.status, status);
         assert_eq!(rt; ended.text.as_slice(), text);
     }
     Ok(())
 }
 
+// Texts just outside the form.
+#[test]
+fn refused_texts(rt: HostRuntime) -> Result<(), Fail> {
+    let inputs: [&[u8]; 24] = [
+        b"",
+        b"int main(void) {}",
+        b"int main() { assert(0 <= 0); }",
+        b"void main(void) { assert(0 <= 0); }",
+        b"int main(void) { assert(0 <= 0); } ;",
+        b"int main(void) { assert(0 <= 0); assert(0 <= 0); }",
+        b"int main(void) { assert(0 < 0); }",
+        b"int main(void) { assert(0 >= 0); }",
+        b"int main(void) { assert(0); }",
+        b"int main(void) { assert(0 <= -1); }",
+        b"int main(void) { assert(0 <= 2 * 3); }",
+        b"int main(void) { assert(0 <= (1)); }",
+        b"int main(void) { assert(0 <= 9223372036854775808); }",
+        b"int main(void) { assert(0 <= 1+1+1+1+1+1+1+1+1); }",
+        b"int main(void) { assert(0 <= 01); }",
+        b"int main(void) { assert(0 <= 1u); }",
+        b"int main(void) { int x; assert(0 <= 1); }",
+        b"int main(void) { int x = x; assert(0 <= 1); }",
+        b"int main(void) { int x = 1; int x = 2; assert(0 <= 1); }",
+        b"int main(void) { int exit = 1; assert(0 <= 1); }",
+        b"int main(void) { int while = 1; assert(0 <= 1); }",
+        b"int main(void) { assert(0\t<= 1); }",
+        b"int main(void) { /* so */ assert(0 <= 1); }",
+        b"int main(void) { int a=1;int b=1;int c=1;int d=1;int e=1;int f=1;int g=1;int h=1;int i=1; assert(0 <= 1); }",
+    ];
+    for input in inputs {
+        let ended = run_on(rt.alloc(), &["cra", "analyse"], input, GOOD)?;
+        assert_eq!(rt; ended.status, 3);
+        assert_eq!(rt; ended.text.as_slice(), NOT_YET);
+    }
+    Ok(())
+}
+
+#[test]
+fn other_words(rt: HostRuntime) -> Result<(), Fail> {
+    let all: [&[&str]; 5] = [
+        &[],
+        &["cra"],
+        &["cra", "analyze"],
+        &["cra", "analyse", "again"],
+        &["analyse", "cra"],
+    ];
+    for words in all {
+        let ended = run_on(rt.alloc(), words, PLAIN, GOOD)?;
+        assert_eq!(rt; ended.status, 2);
+        assert_eq!(rt; ended.text.as_slice(), USAGE);
+    }
+    Ok(())
+}
+
+#[test]
+fn lengths(rt: HostRuntime) -> Result<(), Fail> {
+    let alloc = rt.alloc();
+    let full = vec![in alloc; b'?'; TEXT_LIMIT]?;
+    let past = vec![in alloc; b'?'; TEXT_LIMIT + 1]?;
+    let ended = run_on(alloc, &["cra", "analyse"], &full, GOOD)?;
+    assert_eq!(rt; ended.status, 3);
+    assert_eq!(rt; ended.text.as_slice(), NOT_YET);
+    let ended = run_on(alloc, &["cra", "analyse"], &past, GOOD)?;
+    assert_eq!(rt; ended.status, 9);
+    assert_eq!(rt; ended.text.as_slice(), TOO_LONG);
+    Ok(())
+}
+
 #[test]
 fn pieces_of_one_byte(rt: HostRuntime) -> Result<(), Fail> {
     let outside = Outside { most: 1, ..GOOD };
-    let ended = run_on(rt.alloc(), &["cra", "analyse"], b"int main", outside)?;
-    assert_eq!(rt; ended.status, 3);
-    assert_eq!(rt; ended.text.as_slice(), NOT_YET);
+    let ended = run_on(rt.alloc(), &["cra", "analyse"], PLAIN, outside)?;
+    assert_eq!(rt; ended.status, 0);
+    assert_eq!(rt; ended.text.as_slice(), PLAIN_REPORT);
     Ok(())
 }
 
@@ -101,15 +191,15 @@ fn each_read_fails_in_turn(rt: HostRuntime) -> Result<(), Fail> {
 
 #[test]
 fn each_write_fails_in_turn(rt: HostRuntime) -> Result<(), Fail> {
-    for (taken, failing_write) in (0..15).zip(0u64..) {
+    for (taken, failing_write) in (0..FALSE_REPORT.len()).zip(0u64..) {
         let outside = Outside {
             failing_write,
             most: 1,
             ..GOOD
         };
-        let ended = run_on(rt.alloc(), &["cra", "analyse"], b"", outside)?;
+        let ended = run_on(rt.alloc(), &["cra", "analyse"], FALSE, outside)?;
         assert_eq!(rt; ended.status, 5, "write {failing_write}");
-        assert_eq!(rt; Some(ended.text.as_slice()), NOT_YET.get(..taken));
+        assert_eq!(rt; Some(ended.text.as_slice()), FALSE_REPORT.get(..taken));
     }
     Ok(())
 }

@@ -1,4 +1,4 @@
-use Rattle.std.proofs.Common.{arith, rules, ◌∙◌}
+use Rattle.std.proofs.Common.{rules, ◌∙◌}
 use Rattle.cra.proofs.Outputs.{taken_more}
 use Rattle.cra.proofs.output.write_all.Goals as goal
 

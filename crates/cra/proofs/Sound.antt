@@ -1,0 +1,256 @@
+-- What a body asserts at its end is so where it returns, and not where it fails.
+use Rattle.std.proofs.Common.{◌≡◌, ◌≢◌, Bool, true, false, cond, ℕ, zero, suc, ℤ, pos, ◌+ℤ◌, ◌≤ℤ◌, ◌+◌, ◌-◌, Option, None, Some, Ok, Err, List, [], ◌∷◌, ◌++◌, length, map, take, refl, sym, ap, subst, ◌∙◌, slice_get, arith}
+use Rattle.std.specs.Prelude.{◌&&◌, int_le}
+use Rattle.std.specs.List.{list_all}
+use Rattle.std.proofs.lemmas.Int.{ints}
+use Rattle.std.proofs.lemmas.List.{length-append}
+use Rattle.items.specs.Gives.{◌>>=◌}
+use Rattle.items.proofs.Gives.{on_ok}
+use Rattle.linear_terms.specs.declared.col.Col.TheVariants.{Aux}
+use Rattle.linear_terms.specs.Polynomial.{Polynomial, column_of, constant_of}
+use Rattle.linear_terms.specs.Operations.{sum_of_polys}
+use Rattle.linear_terms.specs.Value.{value_of}
+use Rattle.linear_terms.proofs.Columns.{EachColumn}
+use Rattle.linear_terms.proofs.Values.{sum_of_polys-value}
+use Rattle.syntax_tree.specs.declared.op.Op.TheVariants.{Add, Sub, Mul, Div, Rem, Lt, Le, Gt, Ge, Eq, Ne, And, Or}
+use Rattle.syntax_tree.specs.Code.{Statement, Set, Any, Call, Guard, Check, If, Loop, Break, Continue, Return}
+use Rattle.syntax_tree.specs.Term.{Term, Lit, Col as Column, Unary, Binary}
+use Rattle.syntax_tree.specs.Value as value
+use Rattle.syntax_tree.specs.Value.{State, truth_value}
+use Rattle.execution.specs.Laws.{is_simple}
+use Rattle.execution.specs.Step.{IsFalseIn, IsTrueIn}
+use Rattle.cra.specs.declared.early.Early.TheVariants.{NotYet}
+use Rattle.cra.specs.declared.known.Known.{Known}
+use Rattle.cra.specs.declared.known.Goal.{Goal}
+use Rattle.cra.specs.Analysis.{after_all, after_statement, asserted_by, at_most, compared, difference, goal_after, goal_of, is_next, nothing_known, poly_of}
+use Rattle.transition_formula.specs.Meaning.{HoldsCase, numbers}
+use Rattle.cra.proofs.Columns.{difference-each, poly_of-each, values-agree}
+use Rattle.cra.proofs.Standing.{Fits, IsAux, column-value, with-aux, with-aux-new, with-aux-old}
+use Rattle.cra.proofs.Values.{difference-value, operated, poly_of-value}
+
+-- ---- the parts of a body whose goal is known
+
+pub record Body (stmts : List Statement) (goal : Goal) : Type 0 where
+  pub before : List Statement
+  pub number : ℕ
+  pub left : Term
+  pub right : Term
+  pub whole : stmts ≡ before ++ Check number (Binary Le left right) ∷ []
+  pub known_is : after_all nothing_known before ≡ Ok goal.known
+  pub left_is : poly_of goal.known.columns left ≡ Ok goal.left
+  pub right_is : poly_of goal.known.columns right ≡ Ok goal.right
+
+take-last-at : {X : Type 0} (xs : List X) (n : ℕ) (x : X) → length xs ≡ n + 1 → slice_get xs n ≡ Some x → xs ≡ take n xs ++ x ∷ []
+take-last-at [] n x long e = absurd (omega (arith, long))
+take-last-at (y ∷ []) zero x long e = let same : y ≡ x = cc in ap (λ z. z ∷ []) same
+take-last-at (y ∷ []) (suc n) x long e = absurd (omega (arith, long))
+take-last-at (y ∷ z ∷ xs) zero x long e = absurd (omega (arith, long))
+take-last-at (y ∷ z ∷ xs) (suc n) x long e = ap (λ zs. y ∷ zs) (take-last-at (z ∷ xs) n x (omega (arith, long)) e)
+
+take-last : {X : Type 0} (xs : List X) (x : X) → slice_get xs (length xs - 1) ≡ Some x → xs ≡ take (length xs - 1) xs ++ x ∷ []
+take-last [] x e = cc
+take-last (y ∷ xs) x e = take-last-at (y ∷ xs) (length (y ∷ xs) - 1) x (omega arith) e
+
+compared-parts : (known : Known) (number : ℕ) (c : Term) (goal : Goal) (before : List Statement) (stmts : List Statement) → compared known c ≡ Ok goal
+    → stmts ≡ before ++ Check number c ∷ [] → after_all nothing_known before ≡ Ok known → Body stmts goal
+compared-parts known number (Lit n) goal before stmts e whole is = cc
+compared-parts known number (Column c) goal before stmts e whole is = cc
+compared-parts known number (Unary sign inner) goal before stmts e whole is = cc
+compared-parts known number (Binary Le l r) goal before stmts e whole is =
+    on_ok (poly_of known.columns l) (λ a. poly_of known.columns r >>= λ b. Ok record { known = known; left = a; right = b }) goal e (λ a f g.
+    on_ok (poly_of known.columns r) (λ b. Ok record { known = known; left = a; right = b }) goal g (λ b h k.
+    let same : record { known = known; left = a; right = b } ≡ goal = cc in
+    subst (λ d. Body stmts d) same record { before = before; number = number; left = l; right = r; whole = whole; known_is = is; left_is = f; right_is = h }))
+compared-parts known number (Binary Add l r) goal before stmts e whole is = cc
+compared-parts known number (Binary Sub l r) goal before stmts e whole is = cc
+compared-parts known number (Binary Mul l r) goal before stmts e whole is = cc
+compared-parts known number (Binary Div l r) goal before stmts e whole is = cc
+compared-parts known number (Binary Rem l r) goal before stmts e whole is = cc
+compared-parts known number (Binary Lt l r) goal before stmts e whole is = cc
+compared-parts known number (Binary Gt l r) goal before stmts e whole is = cc
+compared-parts known number (Binary Ge l r) goal before stmts e whole is = cc
+compared-parts known number (Binary Eq l r) goal before stmts e whole is = cc
+compared-parts known number (Binary Ne l r) goal before stmts e whole is = cc
+compared-parts known number (Binary And l r) goal before stmts e whole is = cc
+compared-parts known number (Binary Or l r) goal before stmts e whole is = cc
+
+asserted-parts : (known : Known) (s : Statement) (goal : Goal) (before : List Statement) (stmts : List Statement) → asserted_by known s ≡ Ok goal
+    → stmts ≡ before ++ s ∷ [] → after_all nothing_known before ≡ Ok known → Body stmts goal
+asserted-parts known (Check number c) goal before stmts e whole is = compared-parts known number c goal before stmts e whole is
+asserted-parts known (Set col value) goal before stmts e whole is = cc
+asserted-parts known (Any col) goal before stmts e whole is = cc
+asserted-parts known (Call proc args into) goal before stmts e whole is = cc
+asserted-parts known (Guard c) goal before stmts e whole is = cc
+asserted-parts known (If c on_true on_false) goal before stmts e whole is = cc
+asserted-parts known (Loop pre c body step first) goal before stmts e whole is = cc
+asserted-parts known Break goal before stmts e whole is = cc
+asserted-parts known Continue goal before stmts e whole is = cc
+asserted-parts known Return goal before stmts e whole is = cc
+
+pub body_of : (stmts : List Statement) (goal : Goal) → goal_of stmts ≡ Ok goal → Body stmts goal
+body_of stmts goal e = go (slice_get stmts (length stmts - 1)) refl e
+  where
+    before : List Statement
+    before = take (length stmts - 1) stmts
+
+    go : (last : Option Statement) → slice_get stmts (length stmts - 1) ≡ last → goal_after (after_all nothing_known before) last ≡ Ok goal → Body stmts goal
+    go None at f = cc
+    go (Some s) at f =
+        on_ok (after_all nothing_known before) (λ k. asserted_by k s) goal f (λ k came then. asserted-parts k s goal before stmts then (take-last stmts s at) came)
+
+-- ---- the statements before the assertion set columns
+
+abbrev pub is_setting : Statement → Bool
+is_setting (Set col value) = true
+is_setting (Any col) = true
+is_setting _ = false
+
+-- what a statement does of which it is known what follows
+pub record Sets (known : Known) (s : Statement) (next : Known) : Type 0 where
+  pub setting : is_setting s ≡ true
+  pub simple : is_simple s ≡ true
+  pub grows : length next.columns ≡ length known.columns + 1
+
+set-sets : (known : Known) (col : ℕ) (s : Statement) (p : Polynomial) (choices : ℕ) (next : Known) → is_setting s ≡ true → is_simple s ≡ true
+    → record { columns = known.columns ++ p ∷ []; choices = choices } ≡ next → Sets known s next
+set-sets known col s p choices next setting simple same = record {
+  setting = setting;
+  simple = simple;
+  grows = ap (λ k. length k.columns) (sym same) ∙ length-append known.columns (p ∷ []);
+}
+
+step-sets : (known : Known) (s : Statement) (next : Known) → after_statement known s ≡ Ok next → Sets known s next
+step-sets known (Set col value) next e = go (is_next known col) e
+  where
+    go : (b : Bool) → cond b (poly_of known.columns value >>= λ p. Ok record { columns = known.columns ++ p ∷ []; choices = known.choices }) (Err NotYet) ≡ Ok next → Sets known (Set col value) next
+    go true f =
+        on_ok (poly_of known.columns value) (λ p. Ok record { columns = known.columns ++ p ∷ []; choices = known.choices }) next f
+        (λ p came is. set-sets known col (Set col value) p known.choices next refl refl cc)
+    go false f = cc
+step-sets known (Any col) next e = go (is_next known col) e
+  where
+    go : (b : Bool) → cond b (Ok record { columns = known.columns ++ column_of (Aux known.choices) ∷ []; choices = known.choices + 1 }) (Err NotYet) ≡ Ok next → Sets known (Any col) next
+    go true f = set-sets known col (Any col) (column_of (Aux known.choices)) (known.choices + 1) next refl refl cc
+    go false f = cc
+step-sets known (Call proc args into) next e = cc
+step-sets known (Guard c) next e = cc
+step-sets known (Check number c) next e = cc
+step-sets known (If c on_true on_false) next e = cc
+step-sets known (Loop pre c body step first) next e = cc
+step-sets known Break next e = cc
+step-sets known Continue next e = cc
+step-sets known Return next e = cc
+
+pub and_true : (a b : Bool) → a ≡ true → b ≡ true → a && b ≡ true
+and_true true b e f = f
+and_true false b e f = absurd (cc e)
+
+pub record AllSet (known : Known) (stmts : List Statement) (last : Known) : Type 0 where
+  pub setting : list_all is_setting stmts ≡ true
+  pub simple : list_all is_simple stmts ≡ true
+  pub grows : length last.columns ≡ length known.columns + length stmts
+
+pub all-set : (stmts : List Statement) (known last : Known) → after_all known stmts ≡ Ok last → AllSet known stmts last
+all-set [] known last e = record { setting = refl; simple = refl; grows = let same : known ≡ last = cc in ap (λ k. length k.columns) (sym same) ∙ omega arith }
+all-set (s ∷ rest) known last e =
+    on_ok (after_statement known s) (λ next. after_all next rest) last e (λ next f g.
+    let step = step-sets known s next f in
+    let later = all-set rest next last g in
+    let one = step.grows in
+    let more = later.grows in
+    record {
+      setting = and_true (is_setting s) (list_all is_setting rest) step.setting later.setting;
+      simple = and_true (is_simple s) (list_all is_simple rest) step.simple later.simple;
+      grows = omega (arith, one, more);
+    })
+
+-- the assertion is the first statement that sets nothing
+pub first_other : (before done rest : List Statement) (x y : Statement) → list_all is_setting before ≡ true → is_setting y ≡ false
+    → before ++ x ∷ [] ≡ done ++ y ∷ rest → (done ≡ before) × (x ≡ y)
+first_other [] [] rest x y setting other e = let same : x ≡ y = cc in (refl, same)
+first_other [] (d ∷ []) rest x y setting other e = let none : [] ≡ y ∷ rest = cc in absurd (cc none)
+first_other [] (d ∷ c ∷ done) rest x y setting other e = let none : [] ≡ c ∷ (done ++ y ∷ rest) = cc in absurd (cc none)
+first_other (b ∷ before) [] rest x y setting other e =
+    let same : b ≡ y = cc in
+    let sets : is_setting b ≡ true = and_first (is_setting b) (list_all is_setting before) setting in
+    absurd (clash (is_setting y) (sym (ap is_setting same) ∙ sets) other)
+  where
+    and_first : (a b : Bool) → a && b ≡ true → a ≡ true
+    and_first true b e = refl
+    and_first false b e = absurd (cc e)
+
+    clash : (a : Bool) → a ≡ true → a ≡ false → ⊥
+    clash true e f = cc
+    clash false e f = cc
+first_other (b ∷ before) (d ∷ done) rest x y setting other e =
+    let same : b ≡ d = cc in
+    let tails : before ++ x ∷ [] ≡ done ++ y ∷ rest = cc in
+    let later = first_other before done rest x y (and_second (is_setting b) (list_all is_setting before) setting) other tails in
+    ((λ i. sym same i ∷ later.0 i), later.1)
+  where
+    and_second : (a b : Bool) → a && b ≡ true → b ≡ true
+    and_second true b e = e
+    and_second false b e = absurd (cc e)
+
+-- ---- where it is asserted
+
+le-true : (x y : ℤ) → int_le x y ≡ true → x ≤ℤ y
+le-true x y e = omega (arith, ints)
+
+le-false : (x y : ℤ) → int_le x y ≡ false → (y +ℤ pos 1) ≤ℤ x
+le-false x y e = omega (arith, ints)
+
+true-test : (b : Bool) (v : ℤ) → Some (truth_value b) ≡ Some v → v ≢ pos 0 → b ≡ true
+true-test true v e other = refl
+true-test false v e other = let same : pos 0 ≡ v = cc in absurd (other (sym same))
+
+false-test : (b : Bool) → Some (truth_value b) ≡ Some (pos 0) → b ≡ false
+false-test true e = let same : pos 1 ≡ pos 0 = cc in absurd (omega (arith, ints, same))
+false-test false e = refl
+
+-- the values of both sides where the assertion stands, and the columns of both
+pub record Sides (stmts : List Statement) (goal : Goal) (body : Body stmts goal) (state : State) (aux : ℕ → ℤ) : Type 0 where
+  pub compares : value.value_of (Binary Le body.left body.right) state
+      ≡ Some (truth_value (int_le (value_of (numbers [] aux) goal.left) (value_of (numbers [] aux) goal.right)))
+  pub left_each : EachColumn (IsAux goal.known.choices) goal.left.terms
+  pub right_each : EachColumn (IsAux goal.known.choices) goal.right.terms
+
+sides : (stmts : List Statement) (goal : Goal) (body : Body stmts goal) (state : State) (fits : Fits goal.known state) → Sides stmts goal body state fits.aux
+sides stmts goal body state fits =
+    let at = numbers [] fits.aux in
+    let columns = goal.known.columns in
+    record {
+      compares = operated Le body.left body.right state (value_of at goal.left) (value_of at goal.right)
+          (poly_of-value at columns state fits.agrees body.left goal.left body.left_is) (poly_of-value at columns state fits.agrees body.right goal.right body.right_is);
+      left_each = poly_of-each (IsAux goal.known.choices) columns fits.each body.left goal.left body.left_is;
+      right_each = poly_of-each (IsAux goal.known.choices) columns fits.each body.right goal.right body.right_is;
+    }
+
+pub holds : (stmts : List Statement) (goal : Goal) (body : Body stmts goal) (state : State) (p : Polynomial) → Fits goal.known state → difference goal.left goal.right ≡ Ok p
+    → IsTrueIn (Binary Le body.left body.right) state → (v : ℤ)
+    → HoldsCase (record { aux = goal.known.choices + 1; rows = at_most p ∷ []; post = column_of (Aux goal.known.choices) ∷ [] }) [] (v ∷ [])
+holds stmts goal body state p fits e (t, is, other) v =
+    let at = numbers [] fits.aux in
+    let n = goal.known.choices in
+    let both = sides stmts goal body state fits in
+    let test = true-test (int_le (value_of at goal.left) (value_of at goal.right)) t (sym both.compares ∙ is) other in
+    let below = le-true (value_of at goal.left) (value_of at goal.right) test in
+    let less = difference-value at goal.left goal.right p e in
+    let aux = with-aux fits.aux n v in
+    let same = values-agree (IsAux n) at (numbers [] aux) (with-aux-old fits.aux n v) p (difference-each (IsAux n) goal.left goal.right p e both.left_each both.right_each) in
+    let within : value_of (numbers [] aux) p ≤ℤ pos 0 = subst (λ z. z ≤ℤ pos 0) same (omega (arith, ints, below, less)) in
+    let given = sym (column-value (numbers [] aux) (Aux n)) ∙ with-aux-new fits.aux n v in
+    (aux, record { rows = (within, tt); posts = ap (λ z. z ∷ []) given })
+
+pub fails : (stmts : List Statement) (goal : Goal) (body : Body stmts goal) (state : State) (p q : Polynomial) → Fits goal.known state → difference goal.right goal.left ≡ Ok p
+    → sum_of_polys p (constant_of (pos 1)) ≡ Ok q → IsFalseIn (Binary Le body.left body.right) state
+    → (after : List ℤ) × HoldsCase (record { aux = goal.known.choices; rows = at_most q ∷ []; post = goal.known.columns }) [] after
+fails stmts goal body state p q fits e f is =
+    let at = numbers [] fits.aux in
+    let both = sides stmts goal body state fits in
+    let test = false-test (int_le (value_of at goal.left) (value_of at goal.right)) (sym both.compares ∙ is) in
+    let above = le-false (value_of at goal.left) (value_of at goal.right) test in
+    let less = difference-value at goal.right goal.left p e in
+    let more = sum_of_polys-value at p (constant_of (pos 1)) q f in
+    let within : value_of at q ≤ℤ pos 0 = omega (arith, ints, above, less, more) in
+    (map (value_of at) goal.known.columns, (fits.aux, record { rows = (within, tt); posts = refl }))

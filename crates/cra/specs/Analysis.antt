@@ -1,0 +1,120 @@
+-- The analysis of a straight-line program: what each column is, what is asserted, and what follows of it.
+use Rattle.std.specs.Prelude.{ℕ, pos, negsuc, ◌+◌, ◌-◌, Bool, true, false, ◌&&◌, ◌==◌, nat_lt, Option, None, Some, Result, Ok, Err, List, [], ◌∷◌, ◌++◌, length, take, if◌then◌else◌, slice_get}
+use Rattle.items.specs.Gives.{◌>>=◌, lifted}
+use Rattle.linear_terms.specs.declared.col.Col.TheVariants.{Aux}
+use Rattle.linear_terms.specs.declared.error.TermError.{TermError}
+use Rattle.linear_terms.specs.declared.error.TermError.TheVariants as fault
+use Rattle.linear_terms.specs.declared.row.Row.{Row}
+use Rattle.linear_terms.specs.declared.row.Kind.TheVariants.{AtMost}
+use Rattle.linear_terms.specs.declared.row.Case.{Case}
+use Rattle.linear_terms.specs.Polynomial.{Polynomial, constant_of, column_of}
+use Rattle.linear_terms.specs.Operations.{sum_of_polys, multiple_of}
+use Rattle.syntax_tree.specs.declared.op.Op.{Op}
+use Rattle.syntax_tree.specs.declared.op.Op.TheVariants.{Add, Sub, Le}
+use Rattle.syntax_tree.specs.Term.{Term, Lit, Col as Column, Unary, Binary}
+use Rattle.syntax_tree.specs.Code.{Statement, Set, Any, Check}
+use Rattle.cra.specs.declared.early.Early.{Early}
+use Rattle.cra.specs.declared.early.Early.TheVariants.{NotYet, Memory}
+use Rattle.cra.specs.declared.known.Known.{Known}
+use Rattle.cra.specs.declared.known.Goal.{Goal}
+
+-- what a fault of an operation on polynomials comes to
+abbrev pub early : TermError → Early
+early (fault.Wide left right times) = NotYet
+early fault.Degree = NotYet
+early fault.Memory = Memory
+
+-- what an error tells: want of memory tells nothing
+abbrev pub early_cause : Early → Option Early
+early_cause NotYet = Some NotYet
+early_cause Memory = None
+
+-- the first polynomial less the second
+abbrev pub difference : Polynomial → Polynomial → Result Polynomial TermError
+difference a b = multiple_of b (negsuc 0) >>= λ c. sum_of_polys a c
+
+abbrev pub found : Option Polynomial → Result Polynomial Early
+found None = Err NotYet
+found (Some p) = Ok p
+
+abbrev pub is_additive : Op → Bool
+is_additive Add = true
+is_additive Sub = true
+is_additive _ = false
+
+-- the sum, and for `-` the difference
+abbrev pub joined : Op → Polynomial → Polynomial → Result Polynomial TermError
+joined Add a b = sum_of_polys a b
+joined _ a b = difference a b
+
+-- the value of an expression of sums and differences, where the columns are these polynomials
+abbrev pub poly_of : List Polynomial → Term → Result Polynomial Early
+poly_of columns (Lit value) = Ok (constant_of value)
+poly_of columns (Column col) = found (slice_get columns col)
+poly_of columns (Unary sign inner) = Err NotYet
+poly_of columns (Binary op left right) =
+    if is_additive op
+    then (poly_of columns left >>= λ a. poly_of columns right >>= λ b. lifted early (joined op a b))
+    else Err NotYet
+
+-- the column is the next one, and there are few
+abbrev pub is_next : Known → ℕ → Bool
+is_next known col = col == length known.columns && nat_lt col 8
+
+-- a statement that sets the next column, or gives it a number that is not known: an auxiliary of its own
+abbrev pub after_statement : Known → Statement → Result Known Early
+after_statement known (Set col value) =
+    if is_next known col
+    then (poly_of known.columns value >>= λ p. Ok record { columns = known.columns ++ p ∷ []; choices = known.choices })
+    else Err NotYet
+after_statement known (Any col) =
+    if is_next known col
+    then Ok record { columns = known.columns ++ column_of (Aux known.choices) ∷ []; choices = known.choices + 1 }
+    else Err NotYet
+after_statement known _ = Err NotYet
+
+abbrev pub after_all : Known → List Statement → Result Known Early
+after_all known [] = Ok known
+after_all known (s ∷ rest) = after_statement known s >>= λ next. after_all next rest
+
+abbrev pub nothing_known : Known
+nothing_known = record { columns = []; choices = 0 }
+
+-- that one sum is at most another, where this is known
+abbrev pub compared : Known → Term → Result Goal Early
+compared known (Binary Le left right) =
+    poly_of known.columns left >>= λ a. poly_of known.columns right >>= λ b. Ok record { known = known; left = a; right = b }
+compared known _ = Err NotYet
+
+abbrev pub asserted_by : Known → Statement → Result Goal Early
+asserted_by known (Check number cond) = compared known cond
+asserted_by known _ = Err NotYet
+
+-- what a body asserts, of which the last statement is the assertion
+abbrev pub goal_after : Result Known Early → Option Statement → Result Goal Early
+goal_after known None = Err NotYet
+goal_after known (Some s) = known >>= λ k. asserted_by k s
+
+abbrev pub goal_of : List Statement → Result Goal Early
+goal_of body = goal_after (after_all nothing_known (take (length body - 1) body)) (slice_get body (length body - 1))
+
+-- ---- what follows
+
+-- `p <= 0`
+abbrev pub at_most : Polynomial → Row
+at_most p = record { poly = p; kind = AtMost }
+
+-- the case of one inequality, with auxiliaries and posts
+abbrev pub one_row : ℕ → Polynomial → List Polynomial → Case
+one_row aux p post = record { aux = aux; rows = at_most p ∷ []; post = post }
+
+-- The assertion holds: `left - right <= 0`. What `main` returns is any number, the last auxiliary.
+abbrev pub holding : Goal → Result Case Early
+holding goal =
+    lifted early (difference goal.left goal.right) >>= λ p. Ok (one_row (goal.known.choices + 1) p (column_of (Aux goal.known.choices) ∷ []))
+
+-- The assertion fails, `right - left + 1 <= 0` over whole numbers, with the columns as they are then.
+abbrev pub failing : Goal → Result Case Early
+failing goal =
+    lifted early (difference goal.right goal.left) >>= λ p. lifted early (sum_of_polys p (constant_of (pos 1))) >>= λ q.
+    Ok (one_row goal.known.choices q goal.known.columns)

@@ -1,0 +1,135 @@
+-- The report of a program, stated: its summary is the case in which the assertion holds, put in order, and its verdict is told by
+-- the case in which the assertion fails, put in order.
+use Rattle.std.specs.Prelude.{◌≡◌, ℕ, ℤ, pos, ◌<◌, ◌≤◌, ◌^◌, ◌+◌, ◌==◌, ◌*ℤ◌, ◌+ℤ◌, Bool, IsTrue, Option, None, Some, is_some, Ok, List, [], ◌∷◌, length, take, map, if◌then◌else◌}
+use Rattle.std.specs.List.{count_by}
+use Rattle.linear_terms.specs.declared.row.Row.{Row}
+use Rattle.linear_terms.specs.declared.row.Kind.TheVariants.{AtMost}
+use Rattle.linear_terms.specs.declared.row.Case.{Case}
+use Rattle.linear_terms.specs.Polynomial.{Terms}
+use Rattle.linear_terms.specs.Row.{IsWithin}
+use Rattle.syntax_tree.specs.declared.program.Column.{Column}
+use Rattle.syntax_tree.specs.declared.program.Proc.{Proc}
+use Rattle.syntax_tree.specs.declared.program.Program.{Program}
+use Rattle.syntax_tree.specs.Code.{statement_of}
+use Rattle.linear_terms.specs.Auxiliaries.{is_numbered}
+use Rattle.transition_formula.specs.Rounds.{in_order}
+use Rattle.transition_formula.specs.Transition.{every_column_of, fits}
+use Rattle.cra.specs.declared.known.Goal.{Goal}
+use Rattle.cra.specs.declared.report.Verdict.{Verdict}
+use Rattle.cra.specs.declared.report.Verdict.TheVariants.{Proved, Unproved}
+use Rattle.cra.specs.declared.report.ProcBlock.{ProcBlock}
+use Rattle.cra.specs.declared.report.Judged.{Judged}
+use Rattle.cra.specs.declared.report.Report.{Report}
+use Rattle.cra.specs.Analysis.{failing, goal_of, holding}
+
+-- ---- places: the line is one more than the newlines before, the column one more than the bytes since the last one
+
+abbrev pub is_newline : ℕ → Bool
+is_newline b = b == 10
+
+abbrev pub line_of : List ℕ → ℕ → ℕ
+line_of text at = count_by is_newline (take at text) + 1
+
+-- the column behind these bytes, where the first of them stands in a column
+abbrev pub column_behind : ℕ → List ℕ → ℕ
+column_behind column [] = column
+column_behind column (b ∷ bytes) = column_behind (if is_newline b then 1 else column + 1) bytes
+
+abbrev pub column_of : List ℕ → ℕ → ℕ
+column_of text at = column_behind 1 (take at text)
+
+-- ---- names
+
+-- a name, if there is one, before others
+abbrev pub named_onto : Option (List ℕ) → List (List ℕ) → List (List ℕ)
+named_onto None names = names
+named_onto (Some name) names = name ∷ names
+
+-- the names of the columns that have one
+abbrev pub named_columns : List Column → List (List ℕ)
+named_columns [] = []
+named_columns (c ∷ columns) = named_onto c.name (named_columns columns)
+
+-- the numbers of the columns that have a name, from a number on
+abbrev pub shown_from : ℕ → List Column → List ℕ
+shown_from number [] = []
+shown_from number (c ∷ columns) = if is_some c.name then number ∷ shown_from (number + 1) columns else shown_from (number + 1) columns
+
+-- ---- refuting points: monomials are unrelated unknowns
+
+abbrev pub terms_at : List ℤ → Terms → ℤ
+terms_at point [] = pos 0
+terms_at [] (t ∷ ts) = pos 0
+terms_at (z ∷ point) (t ∷ ts) = t.1 *ℤ z +ℤ terms_at point ts
+
+-- the rows, of which there is one at most, are true where their monomials have these numbers, in print order
+abbrev pub MakesTrue : List ℤ → List Row → Type 0
+MakesTrue point [] = point ≡ []
+MakesTrue point (row ∷ []) = (length point ≡ length row.poly.terms) × IsWithin row.kind (terms_at point row.poly.terms +ℤ row.poly.rest)
+MakesTrue point (row ∷ other ∷ rows) = ⊥
+
+abbrev pub Refutes : List ℤ → Case → Type 0
+Refutes point case = MakesTrue point case.rows
+
+-- no row, or one inequality with a column
+abbrev pub IsPlain : List Row → Type 0
+IsPlain [] = Unit {0}
+IsPlain (row ∷ []) = (row.kind ≡ AtMost) × (0 < length row.poly.terms)
+IsPlain (row ∷ other ∷ rows) = ⊥
+
+-- ---- the report
+
+abbrev pub cases_of : Option Case → List Case
+cases_of None = []
+cases_of (Some case) = case ∷ []
+
+abbrev pub block_of : Proc → Option Case → ProcBlock
+block_of main case = record { name = main.name; before = []; after = []; formula = record { from = 0; to = 1; cases = cases_of case } }
+
+-- An assertion is proved exactly where the case in which it fails is impossible. Else a point makes the rows of that case true.
+abbrev pub IsVerdict : Option Case → Verdict → Type 0
+IsVerdict None verdict = verdict ≡ Proved
+IsVerdict (Some case) verdict = (point : List ℤ) × (verdict ≡ Unproved case point) × Refutes point case
+
+abbrev pub judged_of : List ℕ → ℕ → Proc → Verdict → Judged
+judged_of text at main verdict = record {
+  at = at;
+  line = line_of text at;
+  column = column_of text at;
+  named = named_columns main.columns;
+  shown = shown_from 0 main.columns;
+  verdict = verdict;
+}
+
+-- both cases, where all is known of the body
+pub record Settles (goal : Goal) (holds fails : Case) : Type 0 where
+  pub holds_is : holding goal ≡ Ok holds
+  pub fails_is : failing goal ≡ Ok fails
+  pub holds_fits : IsTrue (fits 0 1 holds)
+  pub holds_numbered : IsTrue (every_column_of (is_numbered holds.aux) holds)
+  pub fails_numbered : IsTrue (every_column_of (is_numbered fails.aux) fails)
+  pub few : goal.known.choices ≤ 8
+  pub columns_few : length goal.known.columns ≤ 8
+  pub holds_few : holds.aux + length holds.post < 2 ^ 32
+  pub fails_few : fails.aux + length fails.post < 2 ^ 32
+  pub plain : (case : Case) → (in_order fails).left ≡ Some case → IsPlain case.rows
+
+-- the report of a procedure that asserts one thing, at a place
+pub record IsReportOn (text : List ℕ) (main : Proc) (place : ℕ) (report : Report) : Type 0 where
+  pub goal : Goal
+  pub goal_is : goal_of (map statement_of main.body) ≡ Ok goal
+  pub holds : Case
+  pub holds_is : holding goal ≡ Ok holds
+  pub fails : Case
+  pub fails_is : failing goal ≡ Ok fails
+  pub verdict : Verdict
+  pub verdict_is : IsVerdict (in_order fails).left verdict
+  pub report_is : report ≡ record { procs = block_of main (in_order holds).left ∷ []; judged = judged_of text place main verdict ∷ [] }
+
+-- the report of a program of one procedure
+pub record IsReportOf (text : List ℕ) (program : Program) (report : Report) : Type 0 where
+  pub main : Proc
+  pub procs : program.procs ≡ main ∷ []
+  pub place : ℕ
+  pub checks : program.checks ≡ place ∷ []
+  pub told : IsReportOn text main place report
