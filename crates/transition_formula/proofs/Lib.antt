@@ -7,8 +7,13 @@ pub mod Kept
 pub mod Loops
 pub mod Meanings
 pub mod Meeting
+pub mod NormalRows
 pub mod Numbers
+pub mod Ordering
 pub mod Ranges
+pub mod Renumbered
 pub mod Rounding
 pub mod Sequences
+pub mod Solutions
+pub mod Truths
 pub mod Values

@@ -107,7 +107,7 @@ module _ (from between to : ℕ) (first second : Case) (f : Fitting from between
 abbrev both_aux : ℕ → ℕ → (ℕ → ℤ) → (ℕ → ℤ) → List ℤ → ℕ → ℤ
 both_aux a b aux1 aux2 values n = cond (nat_lt n a) (aux1 n) (cond (nat_lt n (a + b)) (aux2 (n - a)) (get_or values (n - (a + b)) (pos 0)))
 
-not-below : (n a : ℕ) → a ≤ n → nat_lt n a ≡ false
+pub not-below : (n a : ℕ) → a ≤ n → nat_lt n a ≡ false
 not-below n a le = go (nat_lt n a) refl
   where
     go : (b : Bool) → nat_lt n a ≡ b → b ≡ false

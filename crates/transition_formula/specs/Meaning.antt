@@ -1,10 +1,13 @@
 -- What a formula says of two states.
-use Rattle.std.specs.Prelude.{◌≡◌, ◌⊎◌, ℕ, ℤ, pos, List, [], ◌∷◌, length, map, slice_get, unwrap_or}
+use Rattle.std.specs.Prelude.{◌≡◌, ◌⊎◌, ℕ, ℤ, pos, List, [], ◌∷◌, length, map, slice_get, unwrap_or, Option, None, Some, IfOk}
 use Rattle.std.specs.List.{AllByRecursion}
 use Rattle.linear_terms.specs.declared.col.Col.TheVariants.{At, Aux}
 use Rattle.linear_terms.specs.declared.row.Case.{Case}
-use Rattle.linear_terms.specs.Row.{RowHolds}
+use Rattle.linear_terms.specs.declared.row.Row.{Row}
+use Rattle.linear_terms.specs.Row.{RowHolds, normal_form, SaysAsMuch}
 use Rattle.linear_terms.specs.Value.{Valuation, value_of}
+use Rattle.transition_formula.specs.declared.solving.Solved.{Solved}
+use Rattle.transition_formula.specs.declared.solving.Solved.TheVariants.{Kept, False}
 use Rattle.transition_formula.specs.Transition.{Transition}
 
 -- the numbers of a state for the entry columns, and others for the auxiliaries
@@ -12,14 +15,37 @@ abbrev pub numbers : List ℤ → (ℕ → ℤ) → Valuation
 numbers before aux (At number) = unwrap_or (slice_get before number) (pos 0)
 numbers before aux (Aux number) = aux number
 
+-- each row is true
+abbrev pub AreTrue : Valuation → List Row → Type 0
+AreTrue at rows = AllByRecursion (RowHolds at) rows
+
+-- the normal form of the row, if it has one, is true where the row is and nowhere else
+abbrev pub KeepsTruth : Row → Type 0
+KeepsTruth row = IfOk (normal_form row) (λ form. (at : Valuation) → SaysAsMuch at row form)
+
+-- each row that is left is true; nothing is left of rows that can't all be true
+abbrev pub AreTrueLeft : Valuation → Option (List Row) → Type 0
+AreTrueLeft at None = ⊥
+AreTrueLeft at (Some rows) = AreTrue at rows
+
 -- each row is true, and the posts have the values `after`
 pub record HoldsAt (at : Valuation) (case : Case) (after : List ℤ) : Type 0 where
-  pub rows : AllByRecursion (RowHolds at) case.rows
+  pub rows : AreTrue at case.rows
   pub posts : map (value_of at) case.post ≡ after
 
 -- some numbers for the auxiliaries make each row true and each post its number in `after`
 abbrev pub HoldsCase : Case → List ℤ → List ℤ → Type 0
 HoldsCase case before after = (aux : ℕ → ℤ) × HoldsAt (numbers before aux) case after
+
+-- the same of a case that is left, if one is
+abbrev pub HoldsLeft : Option Case → List ℤ → List ℤ → Type 0
+HoldsLeft None before after = ⊥
+HoldsLeft (Some case) before after = HoldsCase case before after
+
+-- the same of what is left of a case that is put in order; `False` holds of nothing
+abbrev pub HoldsSolved : Solved → List ℤ → List ℤ → Type 0
+HoldsSolved False before after = ⊥
+HoldsSolved (Kept case) before after = HoldsCase case before after
 
 -- one of the cases holds
 abbrev pub HoldsSome : List Case → List ℤ → List ℤ → Type 0

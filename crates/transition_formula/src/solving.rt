@@ -1,6 +1,7 @@
-ghost use Rattle.std.specs.Prelude.{◌≡◌, ℕ, ◌+◌, ◌<◌, ◌^◌, ◌++◌, length, IfOk, OnOk, IsTrue};
+ghost use Rattle.std.specs.Prelude.{◌≡◌, ℕ, ℤ, List, ◌+◌, ◌<◌, ◌^◌, ◌++◌, length, IfOk, OnOk, IsTrue};
 ghost use Rattle.std.specs.Option.{option_map};
 ghost use Rattle.linear_terms.specs.Auxiliaries.{is_numbered};
+ghost use Rattle.transition_formula.specs.Meaning.{HoldsCase, HoldsLeft, HoldsSolved};
 ghost use Rattle.transition_formula.specs.Transition.{every_column_of, fits};
 ghost use Rattle.transition_formula.specs.Rows.{tidied};
 ghost use Rattle.transition_formula.specs.Rounds.{with_rows, in_order, solved, Stays};
@@ -23,12 +24,15 @@ pub enum Solved {
 }
 
 /// Puts a case in order: its rows are tidied, and equations solved for auxiliaries, until no more can be.
-/// What is lost is left out and noted after what is there. After an error more may be noted.
+/// What is lost is left out and noted after what is there. What comes of the case holds of at least what it
+/// held of, and of no more where nothing was lost. After an error more may be noted.
 pub fn solve(alloc: Global, case: &Case, losses: &mut Items<Loss>) -> Result<Solved, FormulaError>
     requires numbered { IsTrue (every_column_of (is_numbered case.now.aux) case.now) }
     requires few { case.now.aux + length case.now.post < 2 ^ 32 }
     ensures exact { IfOk result (λ made. made ≡ solved (in_order case.now).left) }
     ensures noted { OnOk result (losses.new ≡ losses.old ++ (in_order case.now).losses) }
+    ensures at_least { (before after : List ℤ) → IfOk result (λ made. HoldsCase case.now before after → HoldsSolved made before after) }
+    ensures at_most { (before after : List ℤ) → losses.new ≡ losses.old → IfOk result (λ made. HoldsSolved made before after → HoldsCase case.now before after) }
     ensures fits { (from to : ℕ) → IsTrue (fits from to case.now) → IfOk result (Stays (λ c. IsTrue (fits from to c))) }
 {
     let mut left = case.clone()?;
@@ -50,6 +54,8 @@ pub fn solve(alloc: Global, case: &Case, losses: &mut Items<Loss>) -> Result<Sol
 fn tidied(alloc: Global, case: Case, losses: &mut Items<Loss>) -> Result<Option<Case>, FormulaError>
     ensures exact { IfOk result (λ made. made ≡ option_map (with_rows case) (tidied case.rows).rows) }
     ensures noted { OnOk result (losses.new ≡ losses.old ++ (tidied case.rows).losses) }
+    ensures at_least { (before after : List ℤ) → IfOk result (λ made. HoldsCase case before after → HoldsLeft made before after) }
+    ensures at_most { (before after : List ℤ) → losses.new ≡ losses.old → IfOk result (λ made. HoldsLeft made before after → HoldsCase case before after) }
 {
     let Some(rows) = tidy(alloc, case.rows.as_slice(), losses)? else {
         return Ok(None);

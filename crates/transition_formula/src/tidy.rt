@@ -1,11 +1,13 @@
-ghost use Rattle.std.specs.Prelude.{◌≡◌, ◌≤◌, ◌++◌, ◌+ℤ◌, [], pos, neg_ℤ, int_lt, not, length, IfOk, OnOk, MatchOption};
+ghost use Rattle.std.specs.Prelude.{◌≡◌, ◌≤◌, ◌++◌, ◌+ℤ◌, [], pos, neg_ℤ, int_lt, not, length, Some, IfOk, OnOk, MatchOption};
 ghost use Rattle.std.specs.List.{list_any, find, prefix_len, cons_option};
-ghost use Rattle.std.specs.Option.{option_map};
 ghost use Rattle.std.specs.Ordering.{int_eq};
 ghost use Rattle.std.specs.Cmp.Lexicographic.{pointwise};
 ghost use Rattle.linear_terms.specs.Equality.{term_eq};
-ghost use Rattle.linear_terms.specs.Row.{starts_negative};
-ghost use Rattle.transition_formula.specs.Rows.{normal_rows, alike, with_row, each_once, is_at_most, negated, are_opposite, exclude, can_agree, close, equation_of, with_met, met, tidied};
+ghost use Rattle.linear_terms.specs.Row.{normal_form, starts_negative};
+ghost use Rattle.linear_terms.specs.Value.{Valuation};
+ghost use Rattle.transition_formula.specs.Loss.{answered, losses_of};
+ghost use Rattle.transition_formula.specs.Meaning.{AreTrue, AreTrueLeft, KeepsTruth};
+ghost use Rattle.transition_formula.specs.Rows.{normal_rows, alike, with_row, each_once, is_at_most, negated, are_opposite, exclude, can_agree, close, equation_of, with_met, met, opposites_met, tidied};
 
 use crate::loss::note;
 use crate::{FormulaError, Loss};
@@ -22,41 +24,80 @@ pub(crate) fn tidy(
 ) -> Result<Option<Items<Row>>, FormulaError>
     ensures exact { IfOk result (λ made. made ≡ (tidied rows.now).rows) }
     ensures noted { OnOk result (losses.new ≡ losses.old ++ (tidied rows.now).losses) }
+    ensures at_least { (at : Valuation) → IfOk result (λ made. AreTrue at rows.now → AreTrueLeft at made) }
+    ensures at_most { (at : Valuation) → losses.new ≡ losses.old → IfOk result (λ made. AreTrueLeft at made → AreTrue at rows.now) }
 {
-    let Some(rows) = distinct(alloc, rows, losses)? else {
+    let Some(rows) = normal_rows(alloc, rows, losses)? else {
         return Ok(None);
     };
-    if !can_agree(rows.as_slice()) {
-        return Ok(None);
-    }
-    let made = met(alloc, rows.as_slice())?;
-    Ok(Some(made))
+    once_and_met(alloc, rows)
 }
 
-/// Each row in normal form and once, without those that always hold; none where one never holds.
-fn distinct(
+/// Each row in normal form, without those that always hold; none where one never holds.
+fn normal_rows(
     alloc: Global,
     rows: &[Row],
     losses: &mut Items<Loss>,
 ) -> Result<Option<Items<Row>>, FormulaError>
-    ensures exact { IfOk result (λ made. made ≡ option_map each_once (normal_rows rows.now).rows) }
+    ensures exact { IfOk result (λ made. made ≡ (normal_rows rows.now).rows) }
     ensures noted { OnOk result (losses.new ≡ losses.old ++ (normal_rows rows.now).losses) }
+    ensures at_least { (at : Valuation) → IfOk result (λ made. AreTrue at rows.now → AreTrueLeft at made) }
+    ensures at_most { (at : Valuation) → losses.new ≡ losses.old → IfOk result (λ made. AreTrueLeft at made → AreTrue at rows.now) }
+{
+    let mut made = Items::new(alloc);
+    for row in rows {
+        match normal_row(alloc, row, losses)? {
+            None => {}
+            Some(Normal::Constant(holds)) => {
+                if !holds {
+                    return Ok(None);
+                }
+            }
+            Some(Normal::Kept(row)) => made.push(row)?,
+        }
+    }
+    Ok(Some(made))
+}
+
+/// A row in normal form, or none where that is lost, which is noted.
+fn normal_row(
+    alloc: Global,
+    row: &Row,
+    losses: &mut Items<Loss>,
+) -> Result<Option<Normal>, FormulaError>
+    ensures answer { IfOk result (λ made. made ≡ answered (normal_form row.now)) }
+    ensures noted { OnOk result (losses.new ≡ losses.old ++ losses_of (normal_form row.now)) }
+    ensures told { OnOk result (KeepsTruth row.now) }
+{
+    match normal(alloc, row) {
+        Ok(form) => Ok(Some(form)),
+        Err(error) => {
+            note(error, losses)?;
+            Ok(None)
+        }
+    }
+}
+
+/// Each row once, and opposite inequalities as equations; none where two rows exclude each other.
+fn once_and_met(alloc: Global, rows: Items<Row>) -> Result<Option<Items<Row>>, FormulaError>
+    ensures { IfOk result (λ made. made ≡ opposites_met (Some (each_once rows))) }
+{
+    let rows = each_once(alloc, rows)?;
+    if !can_agree(rows.as_slice()) {
+        return Ok(None);
+    }
+    Ok(Some(met(alloc, rows.as_slice())?))
+}
+
+/// Each row once, and of inequalities with the same terms the one with the greatest constant.
+fn each_once(alloc: Global, rows: Items<Row>) -> Result<Items<Row>, FormulaError>
+    ensures { IfOk result (λ made. made ≡ each_once rows) }
 {
     let mut made = Vec::new(alloc);
     for row in rows {
-        match normal(alloc, row) {
-            Ok(form) => match form {
-                Normal::Constant(holds) => {
-                    if !holds {
-                        return Ok(None);
-                    }
-                }
-                Normal::Kept(row) => put_row(&mut made, row)?,
-            },
-            Err(error) => note(error, losses)?,
-        }
+        put_row(&mut made, row)?;
     }
-    Ok(Some(Items::from_vec(made)))
+    Ok(Items::from_vec(made))
 }
 
 /// Puts a row behind the others, or in the place of one that it is alike and stronger than.

@@ -1,4 +1,4 @@
-use Rattle.std.proofs.Common.{◌≡◌, ℕ, zero, suc, ◌+◌, ◌-◌, ◌<◌, ◌≤◌, length, Option, Some, None, List, ◌++◌, sym, ap, subst, ◌∙◌, arith}
+use Rattle.std.proofs.Common.{◌≡◌, ℕ, zero, suc, ◌+◌, ◌-◌, ◌<◌, ◌≤◌, length, Option, Some, None, List, ◌++◌, ℤ, sym, ap, subst, ◌∙◌, arith}
 use Rattle.std.specs.Prelude.{slice_get}
 use Rattle.std.specs.List.{remove}
 use Rattle.std.specs.Option.{option_map}
@@ -6,11 +6,13 @@ use Rattle.linear_terms.specs.declared.row.Row.{Row}
 use Rattle.linear_terms.specs.declared.row.Case.{Case}
 use Rattle.transition_formula.specs.declared.loss.Loss.{Loss}
 use Rattle.transition_formula.specs.declared.solving.Solved.TheVariants.{Kept, False}
+use Rattle.transition_formula.specs.Meaning.{HoldsCase, HoldsLeft}
 use Rattle.transition_formula.specs.Renumbering.{renumbered_case}
 use Rattle.transition_formula.specs.Rows.{tidied}
 use Rattle.transition_formula.specs.Order.{first_equation, solution}
 use Rattle.transition_formula.specs.Rounds.{Ordered, rounds, after_losses, in_order, with_rows, with_solved, lost_with_solved}
 use Rattle.transition_formula.proofs.Kept.{kept-fits}
+use Rattle.transition_formula.proofs.Ordering.{Says, SaysLeft, says_itself, says_tidied, says_some, says_solved, says_renumbered}
 use Rattle.transition_formula.proofs.Rounding.{Leaves, Comes, IsTidied, AllNumbered, found_at, mapped_none, mapped_some, tidied-numbered, solved-numbered, first_equation-row, round_false, round_last, round_next, rounds_done}
 use Rattle.transition_formula.proofs.solving.solve.Goals as goal
 
@@ -20,6 +22,10 @@ stepped end at left whole start noted lt e = let step : end - at ≡ suc (end - 
 ended : (end at : ℕ) (left : Case) (whole : Ordered) (start noted : List Loss) → end ≤ at → Leaves noted (rounds (end - at) left) start whole → Leaves noted (rounds zero left) start whole
 ended end at left whole start noted le e = let none : end - at ≡ zero = omega arith in subst (λ k. Leaves noted (rounds k left) start whole) none e
 
+-- what the clauses of the rows tidied say
+of_tidied : (left : Case) (made : Option Case) (now next : List Loss) → ((before after : List ℤ) → HoldsCase left before after → HoldsLeft made before after) → ((before after : List ℤ) → next ≡ now → HoldsLeft made before after → HoldsCase left before after) → SaysLeft left made now next
+of_tidied left made now next least most = record { at_least = least; at_most = λ e before after h. most before after e h }
+
 pub loop-round-init : goal.loop-round-init
 loop-round-init c =
     let case = c.args.case.now in
@@ -28,6 +34,7 @@ loop-round-init c =
     record {
       same = λ i. after_losses c.args.losses.now (rounds (all i) (same i));
       numbered = subst AllNumbered (sym same) c.requires.numbered;
+      says = says_itself case c.in_ok-left.left c.args.losses.now same;
     }
 
 came_false : (end at : ℕ) (left : Case) (whole : Ordered) (start noted noted2 : List Loss) (o : Option Case) → at < end → Leaves noted (rounds (end - at) left) start whole → o ≡ None → o ≡ option_map (with_rows left) (tidied left.rows).rows → noted2 ≡ noted ++ (tidied left.rows).losses → Comes whole start False noted2
@@ -85,7 +92,14 @@ loop-round-preserved c =
     came_next (length c.args.case.now.rows) c.loop-round._round c.loop-round.left made c.in_ok-left-2.left place n row (in_order c.args.case.now) c.args.losses.now c.loop-round.losses c.tidied.new.losses c.without_equation.new.losses (omega arith) c.loop-round.invariant.same
     c.loop-round.invariant.numbered (mapped_some c.loop-round.left made (sym c.in-Some.is ∙ c.in_ok-tidied.ensures.exact)) c.in_ok-tidied.ensures.noted found there.1.1
     (c.in_ok-left-2.ensures.exact row (sym there.1.1)) (c.in_ok-left-2.ensures.noted row (sym there.1.1)) in
-    record { same = both.0; numbered = both.1 }
+    let is = mapped_some c.loop-round.left made (sym c.in-Some.is ∙ c.in_ok-tidied.ensures.exact) in
+    let says = says_some c.args.case.now c.loop-round.left c.args.losses.now c.loop-round.losses c.loop-round.invariant.says c.in_ok-tidied.field-0 made c.tidied.new.losses (tidied c.loop-round.left.rows).losses c.in_ok-tidied.ensures.noted c.in-Some.is (of_tidied c.loop-round.left c.in_ok-tidied.field-0 c.loop-round.losses c.tidied.new.losses c.in_ok-tidied.ensures.at_least c.in_ok-tidied.ensures.at_most) in
+    record {
+      same = both.0;
+      numbered = both.1;
+      says = says_solved c.args.case.now made c.args.losses.now c.tidied.new.losses says place n row c.in_ok-left-2.left c.without_equation.new.losses
+          (tidied-numbered c.loop-round.left made is c.loop-round.invariant.numbered) found there.1.1 (c.in_ok-left-2.ensures.exact row (sym there.1.1)) (c.in_ok-left-2.ensures.noted row (sym there.1.1));
+    }
 
 pub renumbered_case-requires-2 : goal.renumbered_case-requires-2
 renumbered_case-requires-2 c = c.loop-round.invariant.numbered
@@ -112,3 +126,31 @@ returns-clause-fits c from to h =
     kept-fits from to c.args.case.now (Kept c.in_ok-made-2.made) h
     (rounds_done c.loop-round.left (in_order c.args.case.now) c.args.losses.now c.loop-round.losses c.in_ok-made-2.made (ended (length c.args.case.now.rows) c.loop-round._round c.loop-round.left (in_order c.args.case.now) c.args.losses.now c.loop-round.losses (omega arith) c.loop-round.invariant.same)
     c.in_ok-made-2.ensures).is
+
+pub returns-in_default-clause-at_least : goal.returns-in_default-clause-at_least
+returns-in_default-clause-at_least c before after h =
+    subst (λ o. HoldsLeft o before after) c.in_default.is
+    ((says_tidied c.args.case.now c.loop-round.left c.args.losses.now c.loop-round.losses c.loop-round.invariant.says c.in_ok-tidied.field-0 c.tidied.new.losses (tidied c.loop-round.left.rows).losses c.in_ok-tidied.ensures.noted
+    (of_tidied c.loop-round.left c.in_ok-tidied.field-0 c.loop-round.losses c.tidied.new.losses c.in_ok-tidied.ensures.at_least c.in_ok-tidied.ensures.at_most)).at_least before after h)
+
+-- nothing is left to solve after the rows are tidied
+came_says : (whole left made final : Case) (start now next lost : List Loss) (o : Option Case) → Says whole left start now → next ≡ now ++ lost → o ≡ Some made → SaysLeft left o now next → AllNumbered made → final ≡ renumbered_case made → SaysLeft whole (Some final) start next
+came_says whole left made final start now next lost o says e is step all f = says_renumbered whole made start next (says_some whole left start now says o made next lost e is step) all final f
+
+pub returns-in_default-first_equation-clause-at_least : goal.returns-in_default-first_equation-clause-at_least
+returns-in_default-first_equation-clause-at_least c =
+    (came_says c.args.case.now c.loop-round.left c.in-Some.tidied c.in_ok-made.made c.args.losses.now c.loop-round.losses c.tidied.new.losses (tidied c.loop-round.left.rows).losses c.in_ok-tidied.field-0 c.loop-round.invariant.says c.in_ok-tidied.ensures.noted c.in-Some.is
+    (of_tidied c.loop-round.left c.in_ok-tidied.field-0 c.loop-round.losses c.tidied.new.losses c.in_ok-tidied.ensures.at_least c.in_ok-tidied.ensures.at_most)
+    (tidied-numbered c.loop-round.left c.in-Some.tidied (mapped_some c.loop-round.left c.in-Some.tidied (sym c.in-Some.is ∙ c.in_ok-tidied.ensures.exact)) c.loop-round.invariant.numbered) c.in_ok-made.ensures).at_least
+
+pub returns-in_default-first_equation-clause-at_most : goal.returns-in_default-first_equation-clause-at_most
+returns-in_default-first_equation-clause-at_most c before after none =
+    (came_says c.args.case.now c.loop-round.left c.in-Some.tidied c.in_ok-made.made c.args.losses.now c.loop-round.losses c.tidied.new.losses (tidied c.loop-round.left.rows).losses c.in_ok-tidied.field-0 c.loop-round.invariant.says c.in_ok-tidied.ensures.noted c.in-Some.is
+    (of_tidied c.loop-round.left c.in_ok-tidied.field-0 c.loop-round.losses c.tidied.new.losses c.in_ok-tidied.ensures.at_least c.in_ok-tidied.ensures.at_most)
+    (tidied-numbered c.loop-round.left c.in-Some.tidied (mapped_some c.loop-round.left c.in-Some.tidied (sym c.in-Some.is ∙ c.in_ok-tidied.ensures.exact)) c.loop-round.invariant.numbered) c.in_ok-made.ensures).at_most none before after
+
+pub returns-clause-at_least : goal.returns-clause-at_least
+returns-clause-at_least c = (says_renumbered c.args.case.now c.loop-round.left c.args.losses.now c.loop-round.losses c.loop-round.invariant.says c.loop-round.invariant.numbered c.in_ok-made-2.made c.in_ok-made-2.ensures).at_least
+
+pub returns-clause-at_most : goal.returns-clause-at_most
+returns-clause-at_most c before after none = (says_renumbered c.args.case.now c.loop-round.left c.args.losses.now c.loop-round.losses c.loop-round.invariant.says c.loop-round.invariant.numbered c.in_ok-made-2.made c.in_ok-made-2.ensures).at_most none before after
