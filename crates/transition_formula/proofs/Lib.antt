@@ -1,6 +1,6 @@
+pub mod AtPlaces
 pub mod Carried
 pub mod Covered
-pub mod Distinct
 pub mod Few
 pub mod Fitting
 pub mod Kept

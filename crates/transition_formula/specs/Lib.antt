@@ -3,6 +3,7 @@ pub mod Composition
 pub mod Loss
 pub mod Meaning
 pub mod Order
+pub mod Places
 pub mod Renumbering
 pub mod Rounds
 pub mod Rows

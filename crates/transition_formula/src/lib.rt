@@ -8,6 +8,7 @@ mod error;
 mod formula;
 mod loss;
 mod numbering;
+mod places;
 mod sequence;
 mod solution;
 mod solving;

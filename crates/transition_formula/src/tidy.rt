@@ -10,6 +10,7 @@ ghost use Rattle.transition_formula.specs.Meaning.{AreTrue, AreTrueLeft, KeepsTr
 ghost use Rattle.transition_formula.specs.Rows.{normal_rows, alike, with_row, each_once, is_at_most, negated, are_opposite, exclude, can_agree, close, equation_of, with_met, met, opposites_met, tidied};
 
 use crate::loss::note;
+use crate::places::each_once;
 use crate::{FormulaError, Loss};
 use items::Items;
 use linear_terms::{Kind, Mono, Normal, Row, normal};
@@ -87,60 +88,6 @@ fn once_and_met(alloc: Global, rows: Items<Row>) -> Result<Option<Items<Row>>, F
         return Ok(None);
     }
     Ok(Some(met(alloc, rows.as_slice())?))
-}
-
-/// Each row once, and of inequalities with the same terms the one with the greatest constant.
-fn each_once(alloc: Global, rows: Items<Row>) -> Result<Items<Row>, FormulaError>
-    ensures { IfOk result (λ made. made ≡ each_once rows) }
-{
-    let mut made = Vec::new(alloc);
-    for row in rows {
-        put_row(&mut made, row)?;
-    }
-    Ok(Items::from_vec(made))
-}
-
-/// Puts a row behind the others, or in the place of one that it is alike and stronger than.
-fn put_row(rows: &mut Vec<Row>, row: Row) -> Result<(), FormulaError>
-    ensures { OnOk result (rows.new.items ≡ with_row rows.old.items row) }
-{
-    let place = place_of_alike(rows.as_slice(), &row);
-    if place == rows.len() {
-        rows.push(row)?;
-    } else if is_weaker(&rows[place], &row) {
-        rows[place] = row;
-    }
-    Ok(())
-}
-
-/// The place of the first row that is alike, or the number of rows.
-fn place_of_alike(rows: &[Row], row: &Row) -> usize
-    ensures place { result ≡ prefix_len (λ r. not (alike r row.now)) rows.now }
-    ensures within { result ≤ length rows.now }
-{
-    rows.iter().take_while(|other| !alike(other, row)).count()
-}
-
-fn is_weaker(row: &Row, other: &Row) -> bool
-    ensures { result ≡ int_lt row.now.poly.rest other.now.poly.rest }
-{
-    row.poly.rest() < other.poly.rest()
-}
-
-/// Whether two rows are one but for the constant of an inequality.
-fn alike(row: &Row, other: &Row) -> bool
-    ensures { result ≡ alike row.now other.now }
-{
-    match row.kind {
-        Kind::AtMost => match other.kind {
-            Kind::AtMost => row.poly.terms() == other.poly.terms(),
-            Kind::Equal => false,
-        },
-        Kind::Equal => match other.kind {
-            Kind::AtMost => false,
-            Kind::Equal => row.poly == other.poly,
-        },
-    }
 }
 
 /// Whether no two rows exclude each other.

@@ -1,6 +1,0 @@
-use Rattle.std.proofs.Common.{◌≡◌}
-use Rattle.transition_formula.specs.Rows.{each_once}
-use Rattle.transition_formula.proofs.tidy.each_once.Given as goal
-
-abbrev pub invariant-loop-row : goal.invariant-loop-row
-invariant-loop-row l = l.made.items ≡ each_once l.yielded
