@@ -9,6 +9,7 @@ pub mod Meanings
 pub mod Meeting
 pub mod NormalRows
 pub mod Numbers
+pub mod Opposites
 pub mod Ordering
 pub mod Ranges
 pub mod Renumbered

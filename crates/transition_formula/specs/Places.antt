@@ -32,9 +32,14 @@ abbrev pub key_cmp : Key → Key → Ordering
 key_cmp k l = ordering_then (option_cmp int_cmp k.0 l.0) (slice_cmp term_cmp k.1 l.1)
 
 -- the place of the first that passes
-abbrev pub first_place : (Key → Bool) → List Key → Option ℕ
+abbrev pub first_place : {X : Type 0} → (X → Bool) → List X → Option ℕ
 first_place test [] = None
-first_place test (k ∷ keys) = if test k then Some 0 else option_map (λ n. n + 1) (first_place test keys)
+first_place test (x ∷ xs) = if test x then Some 0 else option_map (λ n. n + 1) (first_place test xs)
+
+-- no key stands twice
+abbrev pub EachApart : List Key → Type 0
+EachApart [] = Unit {0}
+EachApart (key ∷ keys) = (first_place (eq_by_cmp key_cmp key) keys ≡ None) × EachApart keys
 
 -- the map has for each key the place of the first row with it
 abbrev pub TellsPlaces : BTreeMap Key ℕ → List Row → Type 0

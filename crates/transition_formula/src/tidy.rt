@@ -1,5 +1,5 @@
-ghost use Rattle.std.specs.Prelude.{◌≡◌, ◌≤◌, ◌++◌, ◌+ℤ◌, [], pos, neg_ℤ, int_lt, not, length, Some, IfOk, OnOk, MatchOption};
-ghost use Rattle.std.specs.List.{list_any, find, prefix_len, cons_option};
+ghost use Rattle.std.specs.Prelude.{◌≡◌, ◌+◌, ◌++◌, ◌+ℤ◌, [], pos, neg_ℤ, int_lt, nat_lt, ◌&&◌, if◌then◌else◌, map, take, drop, None, Some, IfOk, OnOk};
+ghost use Rattle.std.specs.List.{list_any, find, cons_option};
 ghost use Rattle.std.specs.Ordering.{int_eq};
 ghost use Rattle.std.specs.Cmp.Lexicographic.{pointwise};
 ghost use Rattle.linear_terms.specs.Equality.{term_eq};
@@ -7,10 +7,11 @@ ghost use Rattle.linear_terms.specs.Row.{normal_form, starts_negative};
 ghost use Rattle.linear_terms.specs.Value.{Valuation};
 ghost use Rattle.transition_formula.specs.Loss.{answered, losses_of};
 ghost use Rattle.transition_formula.specs.Meaning.{AreTrue, AreTrueLeft, KeepsTruth};
-ghost use Rattle.transition_formula.specs.Rows.{normal_rows, alike, with_row, each_once, is_at_most, negated, are_opposite, exclude, can_agree, close, equation_of, with_met, met, opposites_met, tidied};
+ghost use Rattle.transition_formula.specs.Places.{key_of, EachApart, TellsPlaces};
+ghost use Rattle.transition_formula.specs.Rows.{normal_rows, each_once, is_at_most, negated, are_opposite, exclude, can_agree, close, equation_of, with_met, met, opposites_met, tidied};
 
 use crate::loss::note;
-use crate::places::each_once;
+use crate::places::{Places, each_once, opposite_place};
 use crate::{FormulaError, Loss};
 use items::Items;
 use linear_terms::{Kind, Mono, Normal, Row, normal};
@@ -83,31 +84,43 @@ fn normal_row(
 fn once_and_met(alloc: Global, rows: Items<Row>) -> Result<Option<Items<Row>>, FormulaError>
     ensures { IfOk result (λ made. made ≡ opposites_met (Some (each_once rows))) }
 {
-    let rows = each_once(alloc, rows)?;
-    if !can_agree(rows.as_slice()) {
+    let (rows, places) = each_once(alloc, rows)?;
+    if !can_agree(alloc, rows.as_slice(), &places)? {
         return Ok(None);
     }
-    Ok(Some(met(alloc, rows.as_slice())?))
+    Ok(Some(met(alloc, rows.as_slice(), &places)?))
 }
 
 /// Whether no two rows exclude each other.
-fn can_agree(rows: &[Row]) -> bool
-    ensures { result ≡ can_agree rows.now }
+fn can_agree(alloc: Global, rows: &[Row], places: &Places) -> Result<bool, FormulaError>
+    requires places { TellsPlaces places.now rows.now }
+    requires apart { EachApart (map key_of rows.now) }
+    ensures { IfOk result (λ agree. agree ≡ can_agree rows.now) }
 {
-    let mut rest = rows;
-    while let Some((row, later)) = rest.split_first() {
-        if excludes_any(row, later) {
-            return false;
+    for (place, row) in rows.iter().enumerate() {
+        if excludes_later(alloc, row, place, rows, places)? {
+            return Ok(false);
         }
-        rest = later;
     }
-    true
+    Ok(true)
 }
 
-fn excludes_any(row: &Row, others: &[Row]) -> bool
-    ensures { result ≡ list_any (exclude row.now) others.now }
+/// Whether a row excludes one that stands behind a place.
+fn excludes_later(
+    alloc: Global,
+    row: &Row,
+    place: usize,
+    rows: &[Row],
+    places: &Places,
+) -> Result<bool, FormulaError>
+    requires places { TellsPlaces places.now rows.now }
+    requires apart { EachApart (map key_of rows.now) }
+    ensures { IfOk result (λ found. found ≡ list_any (exclude row.now) (drop (place + 1) rows.now)) }
 {
-    others.iter().any(|other| exclude(row, other))
+    match opposite_place(alloc, row, rows, places)? {
+        Some(other) => Ok(place < other && exclude(row, &rows[other])),
+        None => Ok(false),
+    }
 }
 
 fn exclude(row: &Row, other: &Row) -> bool
@@ -123,7 +136,7 @@ fn close(row: &Row, other: &Row) -> bool
 }
 
 /// Whether two rows are inequalities with opposite terms.
-fn are_opposite(row: &Row, other: &Row) -> bool
+pub(crate) fn are_opposite(row: &Row, other: &Row) -> bool
     ensures { result ≡ are_opposite row.now other.now }
 {
     is_at_most(row.kind)
@@ -188,12 +201,14 @@ fn is_sum_zero(left: i128, right: i128) -> bool
 }
 
 /// The rows, with an equation in place of two that close each other.
-fn met(alloc: Global, rows: &[Row]) -> Result<Items<Row>, FormulaError>
+fn met(alloc: Global, rows: &[Row], places: &Places) -> Result<Items<Row>, FormulaError>
+    requires places { TellsPlaces places.now rows.now }
+    requires apart { EachApart (map key_of rows.now) }
     ensures { IfOk result (λ made. made ≡ met [] rows.now) }
 {
     let mut made = Items::new(alloc);
     for (place, row) in rows.iter().enumerate() {
-        let row = met_row(&rows[..place], row, &rows[place + 1..])?;
+        let row = met_row(alloc, row, place, rows, places)?;
         push_some(&mut made, row)?;
     }
     Ok(made)
@@ -208,34 +223,51 @@ pub(crate) fn push_some(rows: &mut Items<Row>, row: Option<Row>) -> Result<(), F
     Ok(())
 }
 
-/// What becomes of a row by those before it and after it.
-fn met_row(before: &[Row], row: &Row, later: &[Row]) -> Result<Option<Row>, FormulaError>
-    ensures { IfOk result (λ made. cons_option made [] ≡ with_met row.now (list_any (λ s. close s row.now) before.now) (find (close row.now) later.now) []) }
+/// What becomes of a row at a place by those before it and after it.
+fn met_row(
+    alloc: Global,
+    row: &Row,
+    place: usize,
+    rows: &[Row],
+    places: &Places,
+) -> Result<Option<Row>, FormulaError>
+    requires places { TellsPlaces places.now rows.now }
+    requires apart { EachApart (map key_of rows.now) }
+    ensures { IfOk result (λ made. cons_option made [] ≡ with_met row.now (list_any (λ s. close s row.now) (take place rows.now)) (find (close row.now) (drop (place + 1) rows.now)) []) }
 {
-    if is_closed_by_any(row, before) {
-        return Ok(None);
-    }
-    match first_closing(row, later) {
+    match opposite_place(alloc, row, rows, places)? {
+        Some(other) => met_with(row, place, &rows[other], other),
         None => Ok(Some(row.clone()?)),
-        Some(other) => Ok(Some(equation(row, other)?)),
     }
 }
 
-fn is_closed_by_any(row: &Row, others: &[Row]) -> bool
-    ensures { result ≡ list_any (λ s. close s row.now) others.now }
+/// What becomes of a row at a place by an opposite one at another.
+fn met_with(
+    row: &Row,
+    place: usize,
+    opposite: &Row,
+    other: usize,
+) -> Result<Option<Row>, FormulaError>
+    ensures { IfOk result (λ made. cons_option made [] ≡ with_met row.now (nat_lt other place && close opposite.now row.now) (if nat_lt place other && close row.now opposite.now then Some opposite.now else None) []) }
 {
-    others.iter().any(|other| close(other, row))
+    if other < place {
+        return met_before(row, opposite);
+    }
+    if place < other && close(row, opposite) {
+        return Ok(Some(equation(row, opposite)?));
+    }
+    Ok(Some(row.clone()?))
 }
 
-fn first_closing<'a>(row: &Row, others: &'a [Row]) -> Option<&'a Row>
-    ensures { MatchOption result (find (close row.now) others.now ≡ None) (λ other. find (close row.now) others.now ≡ Some other.now) }
+/// What becomes of a row by an opposite one that stands before it.
+fn met_before(row: &Row, opposite: &Row) -> Result<Option<Row>, FormulaError>
+    ensures { IfOk result (λ made. cons_option made [] ≡ with_met row.now (close opposite.now row.now) None []) }
 {
-    for other in others {
-        if close(row, other) {
-            return Some(other);
-        }
+    if close(opposite, row) {
+        Ok(None)
+    } else {
+        Ok(Some(row.clone()?))
     }
-    None
 }
 
 /// The equation that two rows make, in normal form.

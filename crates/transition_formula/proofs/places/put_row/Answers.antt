@@ -1,6 +1,4 @@
-use Rattle.std.proofs.Common.{◌≡◌, ℕ, ◌<◌, length, Option, Some, None, sym, ap, ◌∙◌, arith}
-use Rattle.std.specs.BTreeMap as tree
-use Rattle.transition_formula.specs.Places.{key_of, key_cmp}
+use Rattle.std.proofs.Common.{◌≡◌, length, sym, ◌∙◌, arith}
 use Rattle.transition_formula.proofs.AtPlaces.{row-new, row-at, told, replaced, replaced-tells, left_as_is, pushed-tells}
 use Rattle.transition_formula.proofs.places.put_row.Goals as goal
 
