@@ -397,6 +397,72 @@ fn opposite_inequalities(rt: HostRuntime) -> Result<(), FormulaError> {
 }
 
 #[test]
+fn opposite_numbers_at_the_ends(rt: HostRuntime) -> Result<(), FormulaError> {
+    let alloc = rt.alloc();
+    let made = in_order(
+        alloc,
+        0,
+        &[
+            (Kind::AtMost, &[(&[X], LOW), (&[Y], 1)]),
+            (Kind::AtMost, &[(&[X], 1), (&[Y], -1)]),
+            (Kind::AtMost, &[(&[X], -1), (&[Y], 1)]),
+        ],
+        &[],
+    )?;
+    assert_eq!(rt;
+        made.as_str(),
+        "0 | -170141183460469231731687303715884105728*x0 + 1*x1 + 0 <= 0 | 1*x0 + -1*x1 + 0 = 0"
+    );
+    let made = in_order(
+        alloc,
+        0,
+        &[
+            (Kind::AtMost, &[(&[X], 1), (&[], BIG)]),
+            (Kind::AtMost, &[(&[X], -1), (&[], BIG)]),
+        ],
+        &[],
+    )?;
+    assert_eq!(rt; made.as_str(), "false");
+    let made = in_order(
+        alloc,
+        0,
+        &[
+            (Kind::AtMost, &[(&[X], 1), (&[], LOW)]),
+            (Kind::AtMost, &[(&[X], -1), (&[], LOW)]),
+        ],
+        &[],
+    )?;
+    assert_eq!(rt;
+        made.as_str(),
+        "0 | 1*x0 + -170141183460469231731687303715884105728 <= 0 | -1*x0 + -170141183460469231731687303715884105728 <= 0"
+    );
+    Ok(())
+}
+
+#[test]
+fn a_greater_constant_meets_its_opposite(rt: HostRuntime) -> Result<(), FormulaError> {
+    let alloc = rt.alloc();
+    let made = in_order(
+        alloc,
+        0,
+        &[
+            (Kind::AtMost, &[(&[X], 1), (&[], 1)]),
+            (Kind::AtMost, &[(&[Y], 1)]),
+            (Kind::AtMost, &[(&[X], -1), (&[], -4)]),
+            (Kind::AtMost, &[(&[X], 1), (&[], 4)]),
+            (Kind::Equal, &[(&[X], 1), (&[Y], 1)]),
+            (Kind::AtMost, &[(&[Y], -1), (&[], -2)]),
+        ],
+        &[],
+    )?;
+    assert_eq!(rt;
+        made.as_str(),
+        "0 | 1*x0 + 4 = 0 | 1*x1 + 0 <= 0 | 1*x0 + 1*x1 + 0 = 0 | -1*x1 + -2 <= 0"
+    );
+    Ok(())
+}
+
+#[test]
 fn equations_are_solved(rt: HostRuntime) -> Result<(), FormulaError> {
     let alloc = rt.alloc();
     let made = in_order(
