@@ -430,3 +430,113 @@ fn refusals(rt: HostRuntime) -> Result<(), Fail> {
         ],
     )
 }
+
+#[test]
+fn refused_declarations(rt: HostRuntime) -> Result<(), Fail> {
+    check(
+        rt.alloc(),
+        &rt,
+        &[
+            (b"x;", "syntax 0"),
+            (b"int", "syntax 3"),
+            (b"int 1;", "syntax 4"),
+            (b"int x", "syntax 5"),
+            (b"int x=", "syntax 6"),
+            (b"int x=1+2;", "syntax 7"),
+            (b"int x=--1;", "syntax 6"),
+            (b"int x,;", "syntax 6"),
+            (b"int x=1,y=;", "syntax 10"),
+            (b"void f;", "syntax 6"),
+            (b"void f(", "syntax 7"),
+            (b"void f(int", "syntax 10"),
+            (b"void f(int x", "syntax 12"),
+            (b"void f(int x,", "syntax 13"),
+            (b"void f(int x,)", "syntax 13"),
+            (b"void f(){", "syntax 9"),
+            (b"void f()x", "syntax 8"),
+            (b"void f(){}}", "syntax 10"),
+        ],
+    )
+}
+
+#[test]
+fn refused_lines(rt: HostRuntime) -> Result<(), Fail> {
+    check(
+        rt.alloc(),
+        &rt,
+        &[
+            (b"void f(){if a)}", "syntax 12"),
+            (b"void f(){if(a}", "syntax 13"),
+            (b"void f(){if()x=1;}", "syntax 12"),
+            (b"void f(){while()x=1;}", "syntax 15"),
+            (b"void f(){do x=1;}", "syntax 16"),
+            (b"void f(){do x=1;while(a)}", "syntax 24"),
+            (b"void f(){for(x=1)}", "syntax 16"),
+            (b"void f(){for(;;)}", "syntax 16"),
+            (b"void f(){for(int;;);}", "syntax 16"),
+            (b"void f(){for(;;int x);}", "syntax 15"),
+            (b"void f(){break}", "syntax 14"),
+            (b"void f(){continue 1;}", "syntax 18"),
+            (b"void f(){return 1}", "syntax 17"),
+            (b"void f(){return int;}", "syntax 16"),
+            (b"void f(){if(a)int x;}", "syntax 14"),
+            (b"void f(){if(a);else}", "syntax 19"),
+            (b"void f(){x++ +1;}", "syntax 13"),
+            (b"void f(){++1;}", "syntax 11"),
+        ],
+    )
+}
+
+#[test]
+fn refused_expressions(rt: HostRuntime) -> Result<(), Fail> {
+    check(
+        rt.alloc(),
+        &rt,
+        &[
+            (b"void f(){x=;}", "syntax 11"),
+            (b"void f(){x=a+;}", "syntax 13"),
+            (b"void f(){x=*a;}", "syntax 11"),
+            (b"void f(){x=a b;}", "syntax 13"),
+            (b"void f(){x=(a;}", "syntax 13"),
+            (b"void f(){x=a);}", "syntax 12"),
+            (b"void f(){x=g(1,);}", "syntax 15"),
+            (b"void f(){x=g(1;}", "syntax 14"),
+            (b"void f(){x=g(int);}", "syntax 13"),
+            (b"void f(){x=y=1;}", "syntax 12"),
+            (b"void f(){x=a?b:c;}", "unsupported 12"),
+            (b"void f(){x=a&b;}", "unsupported 12"),
+            (b"void f(){x=a<<1;}", "unsupported 12"),
+            (b"void f(){x=&a;}", "unsupported 11"),
+            (b"void f(){x=a.b;}", "unsupported 12"),
+            (b"void f(){1=x;}", "syntax 9"),
+            (b"void f(){x==1;}", "syntax 10"),
+            (b"void f(){g(1)+2;}", "syntax 13"),
+        ],
+    )
+}
+
+#[test]
+fn short_texts(rt: HostRuntime) -> Result<(), Fail> {
+    check(
+        rt.alloc(),
+        &rt,
+        &[
+            (b"", ""),
+            (b"int x;", "global x@4 0;"),
+            (b"int f();", "proto f@4 true any;"),
+            (b"int f(void);", "proto f@4 true 0;"),
+            (b"void f(int,int);", "proto f@5 false 2;"),
+            (b"extern int f(int x);", "proto f@11 true 1;"),
+            (b"void f(){}", "body f@5 false { }@9"),
+            (b"int f(void){}", "body f@4 true { }@12"),
+            (b"int f(int x){}", "body f@4 true x@10 { }@13"),
+            (b"int x=-0;", "global x@4 0;"),
+            (b"void f(){g();}", "body f@5 false { g@9[ ]; }@13"),
+            (b"void f(){return;}", "body f@5 false { return@9; }@16"),
+            (
+                b"void f(){int x,y;}",
+                "body f@5 false { int x@13; int y@15; }@17",
+            ),
+        ],
+    )
+}
