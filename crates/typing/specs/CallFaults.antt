@@ -1,0 +1,136 @@
+-- The faults of expressions and calls, each with its place.
+use Rattle.std.specs.Prelude.{ℕ, ◌+◌, Bool, true, false, not, ◌&&◌, ◌||◌, ◌==◌, nat_lt, Option, None, Some, is_none, List, [], ◌∷◌, ◌++◌, map}
+use Rattle.syntax_tree.specs.declared.limits.TheConstants.{MOST_CASES, MOST_CHECKS}
+use Rattle.syntax_tree.specs.declared.op.Op.{Op}
+use Rattle.syntax_tree.specs.declared.op.Op.TheVariants.{And, Or}
+use Rattle.syntax_tree.specs.Cases.{cases_of, joint_cases}
+use Rattle.syntax_tree.specs.SourceExpr.{SourceExpr, Lit, Var, Call, Unary, Binary, SourceExprs, End, Then}
+use Rattle.syntax_tree.specs.Term.{term_of}
+use Rattle.typing.specs.declared.callee.Callee.{Callee}
+use Rattle.typing.specs.declared.callee.Callee.TheVariants as callee
+use Rattle.typing.specs.declared.env.Env.{Env}
+use Rattle.typing.specs.declared.error.Limited.TheVariants as limited
+use Rattle.typing.specs.declared.error.TypeError.{TypeError}
+use Rattle.typing.specs.declared.error.TypeError.TheVariants.{Unknown, Arity, VoidValue, CallPlace, Many}
+use Rattle.typing.specs.declared.meaning.Signature.{Signature}
+use Rattle.typing.specs.declared.special.Special.{Special}
+use Rattle.typing.specs.declared.special.Special.TheVariants.{Assert, Assume, Nondet, Error, Abort, Exit}
+use Rattle.typing.specs.Env.{taken}
+use Rattle.typing.specs.Scopes.{callee_of, variable_of}
+use Rattle.typing.specs.Specials.{arguments_of, has_value, is_main}
+use Rattle.typing.specs.Terms.{all_temporaries, count_of, place_of, temporaries, term_in, terms_in}
+
+-- a fault where a test holds
+abbrev pub when : Bool → TypeError → List TypeError
+when true fault = fault ∷ []
+when false fault = []
+
+-- a name that means no variable
+abbrev pub variable_faults : Env → ℕ → List ℕ → List TypeError
+variable_faults env at name = when (is_none (variable_of env.scopes name)) (Unknown at)
+
+-- the next column is one too many
+abbrev pub slot_faults : Env → ℕ → List TypeError
+slot_faults env at = when (env.next == env.full) (Many limited.Slots at)
+
+-- a call of a procedure: it isn't `main`, and has as many arguments as parameters (C11 6.5.2.2)
+abbrev pub may_call : Signature → List ℕ → ℕ → Bool
+may_call signature name count = not (is_main name) && signature.params == count
+
+-- A call with so many arguments, whose value is wanted, and which may stand in the right operand of `&&` or `||`.
+abbrev pub value_call_faults : Callee → Bool → ℕ → List ℕ → ℕ → List TypeError
+value_call_faults (callee.Special special) right at name count =
+    when (not (arguments_of special == count)) (Arity at) ++ when (not (has_value special)) (VoidValue at)
+value_call_faults (callee.Own signature) right at name count =
+    when (not (may_call signature name count)) (Arity at)
+    ++ when (not signature.returns) (VoidValue at)
+    ++ when right (CallPlace at)
+value_call_faults callee.Nobody right at name count = Unknown at ∷ []
+
+-- a call that is a statement by itself
+abbrev pub statement_call_faults : Callee → ℕ → List ℕ → ℕ → List TypeError
+statement_call_faults (callee.Special special) at name count = when (not (arguments_of special == count)) (Arity at)
+statement_call_faults (callee.Own signature) at name count = when (not (may_call signature name count)) (Arity at)
+statement_call_faults callee.Nobody at name count = Unknown at ∷ []
+
+-- arguments with too many cases together, told at the first of them
+abbrev pub joint_faults : Env → SourceExprs → List TypeError
+joint_faults env End = []
+joint_faults env (Then expr rest) =
+    when (nat_lt MOST_CASES (joint_cases (map term_of (terms_in env (Then expr rest))))) (Many limited.Cases (place_of expr))
+
+abbrev pub is_logical : Op → Bool
+is_logical And = true
+is_logical Or = true
+is_logical _ = false
+
+-- the faults of an expression, which may stand in the right operand of `&&` or `||`, and those of several
+abbrev mutual
+  pub expression_faults : Env → Bool → SourceExpr → List TypeError
+  expression_faults env right (Lit at value) = []
+  expression_faults env right (Var at name) = variable_faults env at name
+  expression_faults env right (Call at name args) =
+      value_call_faults (callee_of env.scopes name) right at name (count_of args)
+      ++ all_expression_faults env right args
+      ++ joint_faults env args
+      ++ slot_faults (taken (all_temporaries args) env) at
+  expression_faults env right (Unary at sign inner) = expression_faults env right inner
+  expression_faults env right (Binary at op left rest) =
+      expression_faults env right left ++ expression_faults (taken (temporaries left) env) (right || is_logical op) rest
+
+  pub all_expression_faults : Env → Bool → SourceExprs → List TypeError
+  all_expression_faults env right End = []
+  all_expression_faults env right (Then expr rest) =
+      expression_faults env right expr ++ all_expression_faults (taken (temporaries expr) env) right rest
+
+-- a value with too many cases
+abbrev pub value_faults : Env → SourceExpr → List TypeError
+value_faults env value =
+    when (nat_lt MOST_CASES (cases_of (term_of (term_in env value))).value) (Many limited.Cases (place_of value))
+
+-- a whole right side
+abbrev pub put_faults : Env → SourceExpr → List TypeError
+put_faults env (Call at name args) =
+    value_call_faults (callee_of env.scopes name) false at name (count_of args)
+    ++ all_expression_faults env false args
+    ++ joint_faults env args
+put_faults env value = expression_faults env false value ++ value_faults env value
+
+-- a condition with too many cases of its truth or of its falsity
+abbrev pub truth_faults : Env → SourceExpr → List TypeError
+truth_faults env cond =
+    when (nat_lt MOST_CASES (cases_of (term_of (term_in env cond))).truth
+    || nat_lt MOST_CASES (cases_of (term_of (term_in env cond))).falsity) (Many limited.Cases (place_of cond))
+
+abbrev pub condition_faults : Env → SourceExpr → List TypeError
+condition_faults env cond = expression_faults env false cond ++ truth_faults env cond
+
+abbrev pub first_truth_faults : Env → SourceExprs → List TypeError
+first_truth_faults env End = []
+first_truth_faults env (Then cond rest) = truth_faults env cond
+
+-- the next assertion is one too many
+abbrev pub number_faults : Env → ℕ → List TypeError
+number_faults env at = when (env.number == MOST_CHECKS) (Many limited.Assertions at)
+
+-- what a special call that is a statement by itself asks for beside its arguments. The status of an exit goes
+-- nowhere, so its cases are not counted.
+abbrev pub special_faults : Env → Special → ℕ → SourceExprs → List TypeError
+special_faults env Assert at args = number_faults env at ++ first_truth_faults env args
+special_faults env Assume at args = first_truth_faults env args
+special_faults env Nondet at args = []
+special_faults env Error at args = number_faults env at
+special_faults env Abort at args = []
+special_faults env Exit at args = []
+
+abbrev pub argument_faults : Env → Callee → ℕ → SourceExprs → List TypeError
+argument_faults env (callee.Special special) at args = special_faults env special at args
+argument_faults env (callee.Own signature) at args = joint_faults env args
+argument_faults env callee.Nobody at args = joint_faults env args
+
+abbrev pub act_faults : Env → SourceExpr → List TypeError
+act_faults env (Call at name args) =
+    statement_call_faults (callee_of env.scopes name) at name (count_of args)
+    ++ all_expression_faults env false args
+    ++ argument_faults env (callee_of env.scopes name) at args
+act_faults env other = expression_faults env false other

@@ -1,0 +1,17 @@
+-- A text has a program: it has no fault, and the program is the one that it stands for.
+use Rattle.std.specs.Prelude.{◌≡◌, ℕ, List, []}
+use Rattle.syntax_tree.specs.declared.program.Program.{Program}
+use Rattle.syntax_tree.specs.declared.tree.Item.{Item}
+use Rattle.typing.specs.Elaborated.{elaborated}
+use Rattle.typing.specs.Faults.{faults_of}
+
+pub record Elaborates (items : List Item) (length_of_text : ℕ) (program : Program) : Type 0 where
+  pub faultless : faults_of items length_of_text ≡ []
+  pub same : program ≡ elaborated items
+
+-- one program at most, and one exactly where there is no fault
+pub record ElaborationIsUnique : Type 0 where
+  pub one : (items : List Item) (length_of_text : ℕ) (program other : Program)
+      → Elaborates items length_of_text program → Elaborates items length_of_text other → program ≡ other
+  pub some : (items : List Item) (length_of_text : ℕ)
+      → faults_of items length_of_text ≡ [] → (program : Program) × Elaborates items length_of_text program

@@ -1,0 +1,35 @@
+-- What a line depends on (the fields of `Env`), and how it changes from line to line.
+use Rattle.std.specs.Prelude.{ℕ, ◌+◌, List, [], ◌∷◌}
+use Rattle.typing.specs.declared.env.Env.{Env}
+use Rattle.typing.specs.declared.env.Place.{Place}
+use Rattle.typing.specs.declared.env.Place.TheVariants.{Outside, InBody, InStep}
+use Rattle.typing.specs.declared.meaning.Meaning.TheVariants.{Variable}
+use Rattle.typing.specs.Scopes.{declared_in, outer_of}
+
+-- so many more columns are taken
+unfoldable pub taken : ℕ → Env → Env
+taken columns env = record env { next = env.next + columns }
+
+-- a variable is declared, and takes the next column
+unfoldable pub declared : List ℕ → Env → Env
+declared name env = record env { scopes = declared_in name (Variable env.next) env.scopes; next = env.next + 1 }
+
+-- so many more assertions stand above
+unfoldable pub numbered : ℕ → Env → Env
+numbered assertions env = record env { number = env.number + assertions }
+
+-- in a scope of its own, and behind it
+unfoldable pub opened : Env → Env
+opened env = record env { scopes = [] ∷ env.scopes }
+
+unfoldable pub closed : Env → Env
+closed env = record env { scopes = outer_of env.scopes }
+
+unfoldable pub placed : Place → Env → Env
+placed place env = record env { place = place }
+
+-- the place of a loop's body; inside a step nothing leaves, the loops there included
+abbrev pub body_place : Place → Place
+body_place Outside = InBody
+body_place InBody = InBody
+body_place InStep = InStep

@@ -1,0 +1,13 @@
+pub mod Specials
+pub mod Scopes
+pub mod Env
+pub mod Terms
+pub mod Calls
+pub mod Lines
+pub mod Texts
+pub mod Elaborated
+pub mod CallFaults
+pub mod LineFaults
+pub mod Faults
+pub mod Operators
+pub mod Elaborates

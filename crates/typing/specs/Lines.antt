@@ -1,0 +1,189 @@
+-- What a line becomes: what it leaves behind, its columns, its assertions and its statements. Parts come in the order
+-- of the text: a `for` is initialiser, condition, step and body, a `do` is body and condition. (No `do` has a step;
+-- the definitions put it last.)
+use Rattle.std.specs.Prelude.{ℕ, ◌+◌, Bool, true, false, Option, None, Some, List, [], ◌∷◌, ◌++◌, length, replicate}
+use Rattle.syntax_tree.specs.declared.program.Column.{Column}
+use Rattle.syntax_tree.specs.declared.stmt.Stmt.{Stmt}
+use Rattle.syntax_tree.specs.declared.stmt.Stmt.TheVariants as stmt
+use Rattle.syntax_tree.specs.SourceExpr.{SourceExpr}
+use Rattle.syntax_tree.specs.SourceLine.{SourceLine, Block, Local, Assign, Act, If, Loop, Break, Continue, Return, SourceLines, End, Then}
+use Rattle.typing.specs.declared.env.Env.{Env}
+use Rattle.typing.specs.declared.env.Place.{Place}
+use Rattle.typing.specs.declared.env.Place.TheVariants.{InStep}
+use Rattle.typing.specs.Calls.{act_checks, act_in, calls_in, put_in, put_temporaries}
+use Rattle.typing.specs.Env.{body_place, closed, declared, numbered, opened, placed, taken}
+use Rattle.typing.specs.Scopes.{column_of}
+use Rattle.typing.specs.Terms.{temporaries, term_in}
+
+-- ---- columns
+
+abbrev pub named : List ℕ → Column
+named name = record { name = Some name }
+
+abbrev pub nameless : ℕ → List Column
+nameless count = replicate count (record { name = None })
+
+abbrev pub value_columns : Option SourceExpr → List Column
+value_columns None = []
+value_columns (Some value) = nameless (put_temporaries value)
+
+-- the columns of a line, and of several, in their order
+abbrev mutual
+  pub columns_of : SourceLine → List Column
+  columns_of (Block lines) = all_columns_of lines
+  columns_of (Local name at init) = named name ∷ value_columns init
+  columns_of (Assign name at value) = nameless (put_temporaries value)
+  columns_of (Act call) = nameless (put_temporaries call)
+  columns_of (If cond on_true on_false) =
+      nameless (temporaries cond) ++ all_columns_of on_true ++ all_columns_of on_false
+  columns_of (Loop init cond step body false) =
+      all_columns_of init ++ nameless (temporaries cond) ++ all_columns_of step ++ all_columns_of body
+  columns_of (Loop init cond step body true) =
+      all_columns_of init ++ all_columns_of body ++ nameless (temporaries cond) ++ all_columns_of step
+  columns_of (Break at) = []
+  columns_of (Continue at) = []
+  columns_of (Return at value) = value_columns value
+
+  pub all_columns_of : SourceLines → List Column
+  all_columns_of End = []
+  all_columns_of (Then line rest) = columns_of line ++ all_columns_of rest
+
+-- ---- assertions
+
+-- the places of the assertions, in the order of the text
+abbrev mutual
+  pub checks_of : SourceLine → List ℕ
+  checks_of (Block lines) = all_checks_of lines
+  checks_of (Local name at init) = []
+  checks_of (Assign name at value) = []
+  checks_of (Act call) = act_checks call
+  checks_of (If cond on_true on_false) = all_checks_of on_true ++ all_checks_of on_false
+  checks_of (Loop init cond step body false) = all_checks_of init ++ all_checks_of step ++ all_checks_of body
+  checks_of (Loop init cond step body true) = all_checks_of init ++ all_checks_of body ++ all_checks_of step
+  checks_of (Break at) = []
+  checks_of (Continue at) = []
+  checks_of (Return at value) = []
+
+  pub all_checks_of : SourceLines → List ℕ
+  all_checks_of End = []
+  all_checks_of (Then line rest) = checks_of line ++ all_checks_of rest
+
+-- ---- what is left behind
+
+abbrev pub with_value : Option SourceExpr → Env → Env
+with_value None env = env
+with_value (Some value) env = taken (put_temporaries value) env
+
+-- in the body of a loop, which is a scope, and behind it
+abbrev pub in_body : Env → Env
+in_body env = opened (placed (body_place env.place) env)
+
+abbrev pub behind_body : Place → Env → Env
+behind_body place env = placed place (closed env)
+
+abbrev pub in_step : Env → Env
+in_step env = placed InStep env
+
+-- A line leaves the variables that it declares, the columns that it takes and the assertions that it has; a block, a
+-- branch and a body are scopes, and so is a loop with its initialiser (C11 6.8).
+abbrev mutual
+  pub after : Env → SourceLine → Env
+  after env (Block lines) = closed (after_all (opened env) lines)
+  after env (Local name at init) = with_value init (declared name env)
+  after env (Assign name at value) = taken (put_temporaries value) env
+  after env (Act call) = numbered (length (act_checks call)) (taken (put_temporaries call) env)
+  after env (If cond on_true on_false) =
+      closed (after_all (opened (closed (after_all (opened (taken (temporaries cond) env)) on_true))) on_false)
+  after env (Loop init cond step body false) =
+      closed (behind_body env.place (after_all (in_body (placed env.place
+      (after_all (in_step (taken (temporaries cond) (after_all (opened env) init))) step))) body))
+  after env (Loop init cond step body true) =
+      closed (placed env.place (after_all (in_step (taken (temporaries cond)
+      (behind_body env.place (after_all (in_body (after_all (opened env) init)) body)))) step))
+  after env (Break at) = env
+  after env (Continue at) = env
+  after env (Return at value) = with_value value env
+
+  pub after_all : Env → SourceLines → Env
+  after_all env End = env
+  after_all env (Then line rest) = after_all (after env line) rest
+
+-- ---- the parts of a line
+
+-- the second branch of an `if` stands behind the first
+abbrev pub in_branch : Env → SourceExpr → Env
+in_branch env cond = opened (taken (temporaries cond) env)
+
+abbrev pub in_second_branch : Env → SourceExpr → SourceLines → Env
+in_second_branch env cond on_true = opened (closed (after_all (in_branch env cond) on_true))
+
+-- the condition of a loop that tests first, its step and its body
+abbrev pub at_test : Env → SourceLines → Env
+at_test env init = after_all (opened env) init
+
+abbrev pub at_step : Env → SourceLines → SourceExpr → Env
+at_step env init cond = in_step (taken (temporaries cond) (at_test env init))
+
+abbrev pub at_body : Env → SourceLines → SourceExpr → SourceLines → Env
+at_body env init cond step = in_body (placed env.place (after_all (at_step env init cond) step))
+
+-- the body of a `do`, its condition and its step
+abbrev pub at_first_body : Env → SourceLines → Env
+at_first_body env init = in_body (after_all (opened env) init)
+
+abbrev pub at_last_test : Env → SourceLines → SourceLines → Env
+at_last_test env init body = behind_body env.place (after_all (at_first_body env init) body)
+
+abbrev pub at_last_step : Env → SourceLines → SourceLines → SourceExpr → Env
+at_last_step env init body cond = in_step (taken (temporaries cond) (at_last_test env init body))
+
+-- ---- statements
+
+abbrev pub value_put : Env → ℕ → Option SourceExpr → List Stmt
+value_put env col None = []
+value_put env col (Some value) = put_in env col value
+
+-- a local has any value until it is given one
+abbrev pub local_put : Env → ℕ → Option SourceExpr → List Stmt
+local_put env col None = stmt.Any col ∷ []
+local_put env col (Some value) = put_in env col value
+
+-- The statements of a line, and of several. The calls of a condition stand before its `If`; those of a loop's
+-- condition are made each time that it is tested.
+abbrev mutual
+  pub statements_of : Env → SourceLine → List Stmt
+  statements_of env (Block lines) = all_statements_of (opened env) lines
+  statements_of env (Local name at init) = local_put (declared name env) env.next init
+  statements_of env (Assign name at value) = put_in env (column_of env.scopes name) value
+  statements_of env (Act call) = act_in env call
+  statements_of env (If cond on_true on_false) =
+      calls_in env cond
+      ++ stmt.If (term_in env cond)
+      (all_statements_of (in_branch env cond) on_true)
+      (all_statements_of (in_second_branch env cond on_true) on_false)
+      ∷ []
+  statements_of env (Loop init cond step body false) =
+      all_statements_of (opened env) init
+      ++ stmt.Loop
+      (calls_in (at_test env init) cond)
+      (term_in (at_test env init) cond)
+      (all_statements_of (at_body env init cond step) body)
+      (all_statements_of (at_step env init cond) step)
+      false
+      ∷ []
+  statements_of env (Loop init cond step body true) =
+      all_statements_of (opened env) init
+      ++ stmt.Loop
+      (calls_in (at_last_test env init body) cond)
+      (term_in (at_last_test env init body) cond)
+      (all_statements_of (at_first_body env init) body)
+      (all_statements_of (at_last_step env init body cond) step)
+      true
+      ∷ []
+  statements_of env (Break at) = stmt.Break ∷ []
+  statements_of env (Continue at) = stmt.Continue ∷ []
+  statements_of env (Return at value) = value_put env env.ret value ++ stmt.Return ∷ []
+
+  pub all_statements_of : Env → SourceLines → List Stmt
+  all_statements_of env End = []
+  all_statements_of env (Then line rest) = statements_of env line ++ all_statements_of (after env line) rest

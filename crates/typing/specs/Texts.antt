@@ -1,0 +1,71 @@
+-- The scope of a text, and what each of its procedures begins with.
+use Rattle.std.specs.Prelude.{ℕ, ◌+◌, Bool, Option, Some, List, [], ◌∷◌, ◌++◌, length, map}
+use Rattle.syntax_tree.specs.declared.limits.TheConstants.{MOST_SLOTS}
+use Rattle.syntax_tree.specs.declared.line.Line.{Line}
+use Rattle.syntax_tree.specs.declared.program.Column.{Column}
+use Rattle.syntax_tree.specs.declared.tree.Item.{Item}
+use Rattle.syntax_tree.specs.declared.tree.Item.TheVariants.{Global, Proto, Body}
+use Rattle.syntax_tree.specs.declared.tree.Param.{Param}
+use Rattle.syntax_tree.specs.SourceLine.{source_lines_of}
+use Rattle.typing.specs.declared.env.Env.{Env}
+use Rattle.typing.specs.declared.env.Place.TheVariants.{Outside}
+use Rattle.typing.specs.declared.meaning.Meaning.{Meaning}
+use Rattle.typing.specs.declared.meaning.Meaning.TheVariants.{Variable, Procedure}
+use Rattle.typing.specs.Env.{declared}
+use Rattle.typing.specs.Lines.{all_columns_of, named}
+use Rattle.typing.specs.Scopes.{Entry, Scope}
+
+abbrev pub procedure : ℕ → Bool → List Param → Meaning
+procedure number returns params = Procedure (record { number = number; params = length params; returns = returns })
+
+-- The declarations of a text, behind so many globals and procedures. A prototype declares nothing.
+abbrev pub declarations : ℕ → ℕ → List Item → Scope
+declarations globals procs [] = []
+declarations globals procs (Global name at init ∷ rest) =
+    (name, Variable globals) ∷ declarations (globals + 1) procs rest
+declarations globals procs (Proto name at returns params ∷ rest) = declarations globals procs rest
+declarations globals procs (Body name at returns params lines end ∷ rest) =
+    (name, procedure procs returns params) ∷ declarations globals (procs + 1) rest
+
+-- the procedures alone
+abbrev pub bodies : ℕ → List Item → Scope
+bodies procs [] = []
+bodies procs (Global name at init ∷ rest) = bodies procs rest
+bodies procs (Proto name at returns params ∷ rest) = bodies procs rest
+bodies procs (Body name at returns params lines end ∷ rest) =
+    (name, procedure procs returns params) ∷ bodies (procs + 1) rest
+
+abbrev pub count_globals : List Item → ℕ
+count_globals [] = 0
+count_globals (Global name at init ∷ rest) = 1 + count_globals rest
+count_globals (Proto name at returns params ∷ rest) = count_globals rest
+count_globals (Body name at returns params lines end ∷ rest) = count_globals rest
+
+abbrev pub param_column : Param → Column
+param_column param = named param.name
+
+-- the columns of a procedure behind the globals: its parameters, then its locals and temporaries
+abbrev pub body_columns : List Param → List Line → List Column
+body_columns params lines = map param_column params ++ all_columns_of (source_lines_of lines)
+
+abbrev pub with_params : Env → List Param → Env
+with_params env [] = env
+with_params env (param ∷ rest) = with_params (declared param.name env) rest
+
+-- The beginning of a procedure with so many columns, in a text with this scope and so many globals, behind so many
+-- assertions. The returned value has the last column.
+unfoldable pub beginning : Scope → ℕ → ℕ → Bool → ℕ → Env
+beginning text globals number returns columns = record {
+  scopes = [] ∷ text ∷ [];
+  next = globals;
+  number = number;
+  place = Outside;
+  returns = returns;
+  ret = globals + columns;
+  full = globals + MOST_SLOTS;
+}
+
+-- the same with its parameters; they and its outermost block are one scope (C11 6.2.1)
+abbrev pub body_env : Scope → ℕ → ℕ → Bool → List Param → List Line → Env
+body_env text globals number returns params lines =
+    with_params (beginning text globals number returns (length (body_columns params lines))) params

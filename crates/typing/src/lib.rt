@@ -1,0 +1,15 @@
+//! From the tree of a text to its core program: what each name means, which columns a procedure has, and which
+//! statements its lines become. `specs` says it on the tree: `Elaborated` has the program, and `Faults` why a
+//! text has none.
+#![tactic(auto)]
+
+mod callee;
+mod env;
+mod error;
+mod laws;
+mod meaning;
+mod scopes;
+mod special;
+
+pub use error::{Limited, TypeError};
+pub use laws::elaborations_are_unique;
