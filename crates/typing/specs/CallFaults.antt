@@ -1,5 +1,6 @@
 -- The faults of expressions and calls, each with its place.
 use Rattle.std.specs.Prelude.{ℕ, ◌+◌, Bool, true, false, not, ◌&&◌, ◌||◌, ◌==◌, nat_lt, Option, None, Some, is_none, List, [], ◌∷◌, ◌++◌, map}
+use Rattle.syntax_tree.specs.declared.core_expr.Core.{Core}
 use Rattle.syntax_tree.specs.declared.limits.TheConstants.{MOST_CASES, MOST_CHECKS}
 use Rattle.syntax_tree.specs.declared.op.Op.{Op}
 use Rattle.syntax_tree.specs.declared.op.Op.TheVariants.{And, Or}
@@ -54,10 +55,13 @@ statement_call_faults (callee.Own signature) at name count = when (not (may_call
 statement_call_faults callee.Nobody at name count = Unknown at ∷ []
 
 -- arguments with too many cases together, told at the first of them
+abbrev pub many_together : List Core → SourceExprs → List TypeError
+many_together terms End = []
+many_together terms (Then expr rest) =
+    when (nat_lt MOST_CASES (joint_cases (map term_of terms))) (Many limited.Cases (place_of expr))
+
 abbrev pub joint_faults : Env → SourceExprs → List TypeError
-joint_faults env End = []
-joint_faults env (Then expr rest) =
-    when (nat_lt MOST_CASES (joint_cases (map term_of (terms_in env (Then expr rest))))) (Many limited.Cases (place_of expr))
+joint_faults env args = many_together (terms_in env args) args
 
 abbrev pub is_logical : Op → Bool
 is_logical And = true

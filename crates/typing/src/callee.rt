@@ -1,5 +1,9 @@
+ghost use Rattle.std.specs.Prelude.{◌≡◌};
+ghost use Rattle.typing.specs.CallFaults.{may_call};
+
 use crate::meaning::Signature;
-use crate::special::Special;
+use crate::special::{Special, is_main};
+use syntax_tree::Name;
 
 /// What the name of a call means.
 #[derive(Clone, Copy, Debug, PartialEq, Eq)]
@@ -7,4 +11,11 @@ pub(crate) enum Callee {
     Special(Special),
     Own(Signature),
     Nobody,
+}
+
+/// Whether a procedure may be called by this name with so many arguments.
+pub(crate) fn may_call(signature: Signature, name: &Name, count: usize) -> bool
+    ensures { result ≡ may_call signature name.now count }
+{
+    !is_main(name.as_slice()) && signature.params == count
 }

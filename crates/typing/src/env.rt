@@ -1,4 +1,16 @@
+#![tactic(auto, unfolding(crate::specs::Env::taken, crate::specs::Env::declared, crate::specs::Env::numbered, crate::specs::Env::opened, crate::specs::Env::closed, crate::specs::Env::placed, crate::specs::Scopes::variable_of, crate::specs::Scopes::callee_of))]
+ghost use Rattle.std.specs.Prelude.{◌≡◌, ◌+◌, IfOk, OnOk};
+ghost use Rattle.typing.specs.Env.{body_place, closed, declared, numbered, opened, placed, taken};
+ghost use Rattle.typing.specs.LineFaults.{may_leave};
+ghost use Rattle.typing.specs.Scopes.{callee_of, variable_of};
+
+use crate::callee::Callee;
+use crate::error::TypeError;
+use crate::meaning::Meaning;
 use crate::scopes::Scopes;
+use crate::special::special_of;
+use std::alloc::Global;
+use syntax_tree::Name;
 
 /// Where a line stands: in no loop, in the body of one, or in the step of one, which nothing leaves.
 #[derive(Clone, Copy, Debug, PartialEq, Eq)]
@@ -6,6 +18,28 @@ pub(crate) enum Place {
     Outside,
     InBody,
     InStep,
+}
+
+impl Place {
+    pub(crate) fn body(self) -> Place
+        ensures { result ≡ body_place self }
+    {
+        match self {
+            Place::Outside => Place::InBody,
+            Place::InBody => Place::InBody,
+            Place::InStep => Place::InStep,
+        }
+    }
+
+    pub(crate) fn may_leave(self) -> bool
+        ensures { result ≡ may_leave self }
+    {
+        match self {
+            Place::Outside => false,
+            Place::InBody => true,
+            Place::InStep => false,
+        }
+    }
 }
 
 /// What a line of a procedure depends on.
@@ -22,4 +56,84 @@ pub(crate) struct Env {
     pub(crate) ret: u32,
     // the column behind the last one that a procedure may have
     pub(crate) full: u32,
+}
+
+impl Env {
+    /// Takes the next column.
+    pub(crate) fn take(&mut self) -> Result<u32, TypeError>
+        ensures col { IfOk result (λ col. col ≡ self.old.next) }
+        ensures env { OnOk result (self.new ≡ taken 1 self.old) }
+    {
+        let col = self.next;
+        self.next = col.checked_add(1).ok_or(TypeError::Memory)?;
+        Ok(col)
+    }
+
+    /// Declares a variable, which takes the next column.
+    pub(crate) fn declare(&mut self, alloc: Global, name: &Name) -> Result<u32, TypeError>
+        ensures col { IfOk result (λ col. col ≡ self.old.next) }
+        ensures env { OnOk result (self.new ≡ declared name.now self.old) }
+    {
+        let col = self.next;
+        self.scopes
+            .declare(alloc, name.clone()?, Meaning::Variable(col))?;
+        self.next = col.checked_add(1).ok_or(TypeError::Memory)?;
+        Ok(col)
+    }
+
+    /// Takes the next number of an assertion.
+    pub(crate) fn number_next(&mut self) -> Result<u32, TypeError>
+        ensures number { IfOk result (λ number. number ≡ self.old.number + 1) }
+        ensures env { OnOk result (self.new ≡ numbered 1 self.old) }
+    {
+        let number = self.number.checked_add(1).ok_or(TypeError::Memory)?;
+        self.number = number;
+        Ok(number)
+    }
+
+    pub(crate) fn open(&mut self, alloc: Global) -> Result<(), TypeError>
+        ensures { OnOk result (self.new ≡ opened self.old) }
+    {
+        self.scopes.open(alloc)
+    }
+
+    pub(crate) fn close(&mut self)
+        ensures { self.new ≡ closed self.old }
+    {
+        self.scopes.close();
+    }
+
+    pub(crate) fn set_place(&mut self, place: Place)
+        ensures { self.new ≡ placed place self.old }
+    {
+        self.place = place;
+    }
+
+    /// The column of the variable that a name means.
+    pub(crate) fn variable_of(&self, name: &Name) -> Option<u32>
+        ensures { result ≡ variable_of self.now.scopes name.now }
+    {
+        if special_of(name.as_slice()).is_some() {
+            return None;
+        }
+        match self.scopes.meaning_of(name) {
+            Some(Meaning::Variable(col)) => Some(col),
+            Some(Meaning::Procedure(_)) => None,
+            None => None,
+        }
+    }
+
+    /// What the name of a call means.
+    pub(crate) fn callee_of(&self, name: &Name) -> Callee
+        ensures { result ≡ callee_of self.now.scopes name.now }
+    {
+        match special_of(name.as_slice()) {
+            Some(special) => Callee::Special(special),
+            None => match self.scopes.meaning_of(name) {
+                Some(Meaning::Procedure(signature)) => Callee::Own(signature),
+                Some(Meaning::Variable(_)) => Callee::Nobody,
+                None => Callee::Nobody,
+            },
+        }
+    }
 }

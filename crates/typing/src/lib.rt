@@ -4,9 +4,12 @@
 #![tactic(auto)]
 
 mod callee;
+mod elaborator;
 mod env;
 mod error;
+mod expression;
 mod laws;
+mod least;
 mod meaning;
 mod scopes;
 mod special;

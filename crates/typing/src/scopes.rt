@@ -1,5 +1,7 @@
-ghost use Rattle.std.specs.Prelude.{◌≡◌, [], ◌∷◌};
+ghost use Rattle.std.specs.Prelude.{◌≡◌, [], ◌∷◌, ◌++◌, OnOk, reverse};
+ghost use Rattle.typing.specs.Scopes.{declared_in, found, is_declared_here, meaning_of, outer_of};
 
+use crate::error::TypeError;
 use crate::meaning::Meaning;
 use items::Items;
 use std::alloc::Global;
@@ -14,8 +16,7 @@ pub(crate) struct Scopes {
 }
 
 impl Model for Scopes {
-    ghost use Rattle.std.specs.Prelude.{List, ℕ};
-    ghost use Rattle.std.specs.Prelude.{reverse};
+    ghost use Rattle.std.specs.Prelude.{List, ℕ, reverse};
     ghost use Rattle.typing.specs.declared.meaning.Meaning.{Meaning};
 
     ghost Value = { List (List (List ℕ × Meaning)) };
@@ -31,4 +32,77 @@ impl Scopes {
             stack: Items::new(alloc),
         }
     }
+
+    /// Opens a scope without declarations.
+    pub(crate) fn open(&mut self, alloc: Global) -> Result<(), TypeError>
+        ensures { OnOk result (self.new ≡ [] ∷ self.old) }
+    {
+        self.stack.push(Items::new(alloc))?;
+        Ok(())
+    }
+
+    /// Leaves the innermost scope.
+    pub(crate) fn close(&mut self)
+        ensures { self.new ≡ outer_of self.old }
+    {
+        let _ = self.stack.pop();
+    }
+
+    /// Declares a name in the innermost scope. Where it is declared there already, that declaration stays.
+    pub(crate) fn declare(
+        &mut self,
+        alloc: Global,
+        name: Name,
+        meaning: Meaning,
+    ) -> Result<(), TypeError>
+        ensures { OnOk result (self.new ≡ declared_in name meaning self.old) }
+    {
+        let mut scope = match self.stack.pop() {
+            Some(scope) => scope,
+            None => Items::new(alloc),
+        };
+        scope.push((name, meaning))?;
+        self.stack.push(scope)?;
+        Ok(())
+    }
+
+    /// What a name means.
+    pub(crate) fn meaning_of(&self, name: &Name) -> Option<Meaning>
+        ensures { result ≡ meaning_of self.now name.now }
+    {
+        meaning_within(self.stack.as_slice(), name)
+    }
+
+    /// Whether the innermost scope has a name.
+    pub(crate) fn is_declared_here(&self, name: &Name) -> bool
+        ensures { result ≡ is_declared_here self.now name.now }
+    {
+        match self.stack.as_slice().split_last() {
+            Some((scope, _)) => found(scope.as_slice(), name).is_some(),
+            None => false,
+        }
+    }
+}
+
+fn meaning_within(stack: &[Items<(Name, Meaning)>], name: &Name) -> Option<Meaning>
+    ensures { result ≡ meaning_of (reverse stack.now) name.now }
+{
+    match stack.split_last() {
+        Some((scope, outer)) => match found(scope.as_slice(), name) {
+            Some(meaning) => Some(meaning),
+            None => meaning_within(outer, name),
+        },
+        None => None,
+    }
+}
+
+fn found(scope: &[(Name, Meaning)], name: &Name) -> Option<Meaning>
+    ensures { result ≡ found scope.now name.now }
+{
+    for (declared, meaning) in scope {
+        if declared.as_slice() == name.as_slice() {
+            return Some(*meaning);
+        }
+    }
+    None
 }

@@ -1,0 +1,52 @@
+-- Laws of what a line depends on, and of the least fault.
+use Rattle.std.proofs.Common.{◌≡◌, ℕ, suc, ◌+◌, ◌<◌, ◌≤◌, Option, Some, List, [], ◌∷◌, ◌++◌, drop, get_or, length, refl, sym, ap, ◌∙◌, add-one, arith, append_assoc}
+use Rattle.std.proofs.Math.ListN.{drop_of_length-le}
+use Rattle.std.proofs.Math.Seq.{drop-cons}
+use Rattle.syntax_tree.specs.declared.expr.Expr.{Expr}
+use Rattle.syntax_tree.specs.SourceExpr.{source_exprs_of}
+use Rattle.typing.specs.declared.env.Env.{Env}
+use Rattle.typing.specs.declared.error.TypeError.{TypeError}
+use Rattle.typing.specs.Env.{taken}
+use Rattle.typing.specs.Faults.{least_of, lesser}
+use Rattle.typing.specs.Scopes.{Scope}
+use Rattle.typing.specs.Terms.{count_of}
+
+pub taken-taken : (a b : ℕ) (env : Env) → taken b (taken a env) ≡ taken (a + b) env
+unfolding taken
+taken-taken a b env = let same : (env.next + a) + b ≡ env.next + (a + b) = omega arith in ap (λ (n : ℕ). record env { next = n }) same
+
+pub taken-zero : (env : Env) → taken 0 env ≡ env
+unfolding taken
+taken-zero env = let same : env.next + 0 ≡ env.next = omega arith in ap (λ (n : ℕ). record env { next = n }) same
+
+pub taken-next : (n : ℕ) (env : Env) → (taken n env).next ≡ env.next + n
+unfolding taken
+taken-next n env = refl
+
+pub taken-number : (n : ℕ) (env : Env) → (taken n env).number ≡ env.number
+unfolding taken
+taken-number n env = refl
+
+pub taken-scopes : (n : ℕ) (env : Env) → (taken n env).scopes ≡ env.scopes
+unfolding taken
+taken-scopes n env = refl
+
+pub least_of-append : (least : Option TypeError) (faults more : List TypeError) → least_of least (faults ++ more) ≡ least_of (least_of least faults) more
+least_of-append least [] more = refl
+least_of-append least (fault ∷ rest) more = least_of-append (Some (lesser least fault)) rest more
+
+pub count_of-length : (exprs : List Expr) → count_of (source_exprs_of exprs) ≡ length exprs
+count_of-length [] = refl
+count_of-length (e ∷ rest) = let more : count_of (source_exprs_of rest) ≡ length rest = count_of-length rest in omega (arith, more)
+
+pub appended : {A : Type 0} (a b c : List A) → a ++ (b ++ c) ≡ (a ++ b) ++ c
+appended a b c = sym (append_assoc a b c)
+
+-- the next item of a list comes from what is left
+pub next_left : {A : Type 0} (xs : List A) (i : ℕ) (x : A) → x ≡ get_or xs i x → i < length xs → drop i xs ≡ x ∷ drop (i + 1) xs
+next_left xs i x p h = rw add-one (drop-cons xs i x h ∙ sym (ap (λ y. y ∷ drop (suc i) xs) p))
+
+pub none_left : {A : Type 0} (xs : List A) (i : ℕ) → length xs ≤ i → drop i xs ≡ []
+none_left xs i h = drop_of_length-le xs h
+
+pub ruleset steps = (appended, taken-taken, taken-zero, taken-next, taken-number, taken-scopes, least_of-append, count_of-length)
