@@ -1,14 +1,20 @@
 -- Laws of what a line depends on, and of the least fault.
-use Rattle.std.proofs.Common.{◌≡◌, ℕ, suc, ◌+◌, ◌<◌, ◌≤◌, Option, Some, List, [], ◌∷◌, ◌++◌, drop, get_or, length, refl, sym, ap, ◌∙◌, add-one, arith, append_assoc}
+use Rattle.std.proofs.Common.{◌≡◌, ℕ, suc, ◌+◌, ◌<◌, ◌≤◌, Bool, Option, None, Some, List, [], ◌∷◌, ◌++◌, drop, get_or, length, refl, sym, ap, ◌∙◌, add-one, arith, append_assoc}
 use Rattle.std.proofs.Math.ListN.{drop_of_length-le}
 use Rattle.std.proofs.Math.Seq.{drop-cons}
 use Rattle.syntax_tree.specs.declared.expr.Expr.{Expr}
 use Rattle.syntax_tree.specs.SourceExpr.{source_exprs_of}
 use Rattle.typing.specs.declared.env.Env.{Env}
+use Rattle.typing.specs.declared.meaning.Meaning.{Meaning}
+use Rattle.typing.specs.declared.meaning.Meaning.TheVariants.{Variable, Procedure}
+use Rattle.typing.specs.declared.special.Special.{Special}
+use Rattle.typing.specs.declared.env.Place.{Place}
 use Rattle.typing.specs.declared.error.TypeError.{TypeError}
-use Rattle.typing.specs.Env.{taken}
+use Rattle.typing.specs.Env.{numbered, placed, taken}
 use Rattle.typing.specs.Faults.{least_of, lesser}
-use Rattle.typing.specs.Scopes.{Scope}
+use Rattle.typing.specs.Calls.{callee_asserts, if_assertion}
+use Rattle.typing.specs.Scopes.{Scope, callee_of, if_procedure, if_special, meaning_of}
+use Rattle.typing.specs.Specials.{special_of}
 use Rattle.typing.specs.Terms.{count_of}
 
 pub taken-taken : (a b : ℕ) (env : Env) → taken b (taken a env) ≡ taken (a + b) env
@@ -31,6 +37,14 @@ pub taken-scopes : (n : ℕ) (env : Env) → (taken n env).scopes ≡ env.scopes
 unfolding taken
 taken-scopes n env = refl
 
+pub numbered-zero : (env : Env) → numbered 0 env ≡ env
+unfolding numbered
+numbered-zero env = let same : env.number + 0 ≡ env.number = omega arith in ap (λ (n : ℕ). record env { number = n }) same
+
+pub placed-place : (place : Place) (env : Env) → (placed place env).place ≡ place
+unfolding placed
+placed-place place env = refl
+
 pub least_of-append : (least : Option TypeError) (faults more : List TypeError) → least_of least (faults ++ more) ≡ least_of (least_of least faults) more
 least_of-append least [] more = refl
 least_of-append least (fault ∷ rest) more = least_of-append (Some (lesser least fault)) rest more
@@ -49,4 +63,15 @@ next_left xs i x p h = rw add-one (drop-cons xs i x h ∙ sym (ap (λ y. y ∷ d
 pub none_left : {A : Type 0} (xs : List A) (i : ℕ) → length xs ≤ i → drop i xs ≡ []
 none_left xs i h = drop_of_length-le xs h
 
-pub ruleset steps = (appended, taken-taken, taken-zero, taken-next, taken-number, taken-scopes, least_of-append, count_of-length)
+asserts : (special : Option Special) (meaning : Option Meaning) → callee_asserts (if_special special (if_procedure meaning)) ≡ if_assertion special
+asserts (Some special) meaning = refl
+asserts None (Some (Procedure signature)) = refl
+asserts None (Some (Variable col)) = refl
+asserts None None = refl
+
+-- whether a call is an assertion is told by its name alone
+pub callee_asserts-special : (scopes : List Scope) (name : List ℕ) → callee_asserts (callee_of scopes name) ≡ if_assertion (special_of name)
+unfolding callee_of
+callee_asserts-special scopes name = asserts (special_of name) (meaning_of scopes name)
+
+pub ruleset steps = (appended, taken-taken, taken-zero, taken-next, taken-number, taken-scopes, numbered-zero, placed-place, least_of-append, count_of-length, callee_asserts-special)

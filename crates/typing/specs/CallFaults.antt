@@ -6,7 +6,7 @@ use Rattle.syntax_tree.specs.declared.op.Op.{Op}
 use Rattle.syntax_tree.specs.declared.op.Op.TheVariants.{And, Or}
 use Rattle.syntax_tree.specs.Cases.{cases_of, joint_cases}
 use Rattle.syntax_tree.specs.SourceExpr.{SourceExpr, Lit, Var, Call, Unary, Binary, SourceExprs, End, Then}
-use Rattle.syntax_tree.specs.Term.{term_of}
+use Rattle.syntax_tree.specs.Term.{Term, term_of}
 use Rattle.typing.specs.declared.callee.Callee.{Callee}
 use Rattle.typing.specs.declared.callee.Callee.TheVariants as callee
 use Rattle.typing.specs.declared.env.Env.{Env}
@@ -16,6 +16,7 @@ use Rattle.typing.specs.declared.error.TypeError.TheVariants.{Unknown, Arity, Vo
 use Rattle.typing.specs.declared.meaning.Signature.{Signature}
 use Rattle.typing.specs.declared.special.Special.{Special}
 use Rattle.typing.specs.declared.special.Special.TheVariants.{Assert, Assume, Nondet, Error, Abort, Exit}
+use Rattle.typing.specs.Calls.{condition_of}
 use Rattle.typing.specs.Env.{taken}
 use Rattle.typing.specs.Scopes.{callee_of, variable_of}
 use Rattle.typing.specs.Specials.{arguments_of, has_value, is_main}
@@ -101,40 +102,43 @@ put_faults env (Call at name args) =
 put_faults env value = expression_faults env false value ++ value_faults env value
 
 -- a condition with too many cases of its truth or of its falsity
+abbrev pub has_many_ways : Term → Bool
+has_many_ways cond = nat_lt MOST_CASES (cases_of cond).truth || nat_lt MOST_CASES (cases_of cond).falsity
+
 abbrev pub truth_faults : Env → SourceExpr → List TypeError
-truth_faults env cond =
-    when (nat_lt MOST_CASES (cases_of (term_of (term_in env cond))).truth
-    || nat_lt MOST_CASES (cases_of (term_of (term_in env cond))).falsity) (Many limited.Cases (place_of cond))
+truth_faults env cond = when (has_many_ways (term_of (term_in env cond))) (Many limited.Cases (place_of cond))
 
 abbrev pub condition_faults : Env → SourceExpr → List TypeError
 condition_faults env cond = expression_faults env false cond ++ truth_faults env cond
 
-abbrev pub first_truth_faults : Env → SourceExprs → List TypeError
-first_truth_faults env End = []
-first_truth_faults env (Then cond rest) = truth_faults env cond
+-- the same of the condition of an assertion or assumption, its first argument
+abbrev pub first_truth_faults : List Core → SourceExprs → List TypeError
+first_truth_faults terms End = []
+first_truth_faults terms (Then cond rest) =
+    when (has_many_ways (term_of (condition_of terms))) (Many limited.Cases (place_of cond))
 
--- the next assertion is one too many
-abbrev pub number_faults : Env → ℕ → List TypeError
-number_faults env at = when (env.number == MOST_CHECKS) (Many limited.Assertions at)
+-- behind so many assertions the next one is one too many
+abbrev pub number_faults : ℕ → ℕ → List TypeError
+number_faults number at = when (number == MOST_CHECKS) (Many limited.Assertions at)
 
--- what a special call that is a statement by itself asks for beside its arguments. The status of an exit goes
+-- What a special call that is a statement by itself asks for beside its arguments. The status of an exit goes
 -- nowhere, so its cases are not counted.
-abbrev pub special_faults : Env → Special → ℕ → SourceExprs → List TypeError
-special_faults env Assert at args = number_faults env at ++ first_truth_faults env args
-special_faults env Assume at args = first_truth_faults env args
-special_faults env Nondet at args = []
-special_faults env Error at args = number_faults env at
-special_faults env Abort at args = []
-special_faults env Exit at args = []
+abbrev pub special_faults : ℕ → List Core → Special → ℕ → SourceExprs → List TypeError
+special_faults number terms Assert at args = number_faults number at ++ first_truth_faults terms args
+special_faults number terms Assume at args = first_truth_faults terms args
+special_faults number terms Nondet at args = []
+special_faults number terms Error at args = number_faults number at
+special_faults number terms Abort at args = []
+special_faults number terms Exit at args = []
 
-abbrev pub argument_faults : Env → Callee → ℕ → SourceExprs → List TypeError
-argument_faults env (callee.Special special) at args = special_faults env special at args
-argument_faults env (callee.Own signature) at args = joint_faults env args
-argument_faults env callee.Nobody at args = joint_faults env args
+abbrev pub argument_faults : ℕ → List Core → Callee → ℕ → SourceExprs → List TypeError
+argument_faults number terms (callee.Special special) at args = special_faults number terms special at args
+argument_faults number terms (callee.Own signature) at args = many_together terms args
+argument_faults number terms callee.Nobody at args = many_together terms args
 
 abbrev pub act_faults : Env → SourceExpr → List TypeError
 act_faults env (Call at name args) =
     statement_call_faults (callee_of env.scopes name) at name (count_of args)
     ++ all_expression_faults env false args
-    ++ argument_faults env (callee_of env.scopes name) at args
+    ++ argument_faults env.number (terms_in env args) (callee_of env.scopes name) at args
 act_faults env other = expression_faults env false other

@@ -75,6 +75,11 @@ abbrev pub if_assertion : Option Special → Bool
 if_assertion (Some special) = is_assertion special
 if_assertion None = false
 
+abbrev pub callee_asserts : Callee → Bool
+callee_asserts (callee.Special special) = is_assertion special
+callee_asserts (callee.Own signature) = false
+callee_asserts callee.Nobody = false
+
 -- the places of the assertions in it: one or none
 abbrev pub listed_if : Bool → ℕ → List ℕ
 listed_if true at = at ∷ []

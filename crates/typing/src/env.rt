@@ -1,4 +1,5 @@
 #![tactic(auto, unfolding(crate::specs::Env::taken, crate::specs::Env::declared, crate::specs::Env::numbered, crate::specs::Env::opened, crate::specs::Env::closed, crate::specs::Env::placed, crate::specs::Scopes::variable_of, crate::specs::Scopes::callee_of))]
+
 ghost use Rattle.std.specs.Prelude.{◌≡◌, ◌+◌, IfOk, OnOk};
 ghost use Rattle.typing.specs.Env.{body_place, closed, declared, numbered, opened, placed, taken};
 ghost use Rattle.typing.specs.LineFaults.{may_leave};

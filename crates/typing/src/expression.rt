@@ -1,4 +1,5 @@
 #![tactic(auto, using(syntax_tree::proofs::SourceExprs::source_exprs, crate::proofs::Steps::steps))]
+
 ghost use Rattle.std.specs.Prelude.{◌≡◌, ◌+◌, [], ◌∷◌, ◌++◌, IfOk, OnOk, length, map};
 ghost use Rattle.syntax_tree.specs.SourceExpr.{source_expr_of, source_exprs_of};
 ghost use Rattle.typing.specs.CallFaults.{all_expression_faults, expression_faults, is_logical, joint_faults, many_together, slot_faults, value_call_faults, variable_faults};
@@ -57,8 +58,8 @@ pub(crate) fn call_made(callee: Callee, args: Items<Core>, col: u32) -> Stmt
     }
 }
 
-// Arguments may have too many cases together, which is told at the first of them.
-fn note_joint(least: &mut Option<TypeError>, args: &[Expr], terms: &[Core])
+/// Arguments may have too many cases together, which is told at the first of them.
+pub(crate) fn note_joint(least: &mut Option<TypeError>, args: &[Expr], terms: &[Core])
     ensures { least.new ≡ least_of least.old (many_together terms.now (source_exprs_of args.now)) }
 {
     match args {
@@ -79,22 +80,12 @@ impl Elaborator {
         ensures least { self.new.least ≡ least_of self.old.least (variable_faults self.old.env at name.now) }
     {
         let variable = self.env.variable_of(name);
-        note_if(
-            &mut self.least,
-            variable.is_none(),
-            TypeError::Unknown(at),
-        );
+        note_if(&mut self.least, variable.is_none(), TypeError::Unknown(at));
         variable.unwrap_or(0)
     }
 
     /// What the name of a call means whose value is wanted.
-    pub(crate) fn value_callee(
-        &mut self,
-        at: u32,
-        name: &Name,
-        count: usize,
-        right: bool,
-    ) -> Callee
+    pub(crate) fn value_callee(&mut self, at: u32, name: &Name, count: usize, right: bool) -> Callee
         ensures callee { result ≡ callee_of self.old.env.scopes name.now }
         ensures env { self.new.env ≡ self.old.env }
         ensures least { self.new.least ≡ least_of self.old.least (value_call_faults (callee_of self.old.env.scopes name.now) right at name.now count) }
@@ -104,12 +95,20 @@ impl Elaborator {
             Callee::Special(special) => {
                 let wrong = special.arguments() != count;
                 note_if(&mut self.least, wrong, TypeError::Arity(at));
-                note_if(&mut self.least, !special.has_value(), TypeError::VoidValue(at));
+                note_if(
+                    &mut self.least,
+                    !special.has_value(),
+                    TypeError::VoidValue(at),
+                );
             }
             Callee::Own(signature) => {
                 let wrong = !may_call(signature, name, count);
                 note_if(&mut self.least, wrong, TypeError::Arity(at));
-                note_if(&mut self.least, !signature.returns, TypeError::VoidValue(at));
+                note_if(
+                    &mut self.least,
+                    !signature.returns,
+                    TypeError::VoidValue(at),
+                );
                 note_if(&mut self.least, right, TypeError::CallPlace(at));
             }
             Callee::Nobody => note_if(&mut self.least, true, TypeError::Unknown(at)),

@@ -3,6 +3,7 @@
 //! text has none.
 #![tactic(auto)]
 
+mod act;
 mod callee;
 mod elaborator;
 mod env;
@@ -11,6 +12,7 @@ mod expression;
 mod laws;
 mod least;
 mod meaning;
+mod put;
 mod scopes;
 mod special;
 
