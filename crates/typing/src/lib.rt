@@ -11,6 +11,7 @@ mod error;
 mod expression;
 mod laws;
 mod least;
+mod line;
 mod meaning;
 mod put;
 mod scopes;
