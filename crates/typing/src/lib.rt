@@ -5,6 +5,8 @@
 
 mod act;
 mod callee;
+mod checks;
+mod columns;
 mod elaborator;
 mod env;
 mod error;
