@@ -35,11 +35,22 @@ bodies procs (Proto name at returns params ∷ rest) = bodies procs rest
 bodies procs (Body name at returns params lines end ∷ rest) =
     (name, procedure procs returns params) ∷ bodies (procs + 1) rest
 
+-- the innermost of some scopes
+abbrev pub top : List Scope → Scope
+top [] = []
+top (scope ∷ outer) = scope
+
 abbrev pub count_globals : List Item → ℕ
 count_globals [] = 0
 count_globals (Global name at init ∷ rest) = 1 + count_globals rest
 count_globals (Proto name at returns params ∷ rest) = count_globals rest
 count_globals (Body name at returns params lines end ∷ rest) = count_globals rest
+
+abbrev pub count_bodies : List Item → ℕ
+count_bodies [] = 0
+count_bodies (Global name at init ∷ rest) = count_bodies rest
+count_bodies (Proto name at returns params ∷ rest) = count_bodies rest
+count_bodies (Body name at returns params lines end ∷ rest) = 1 + count_bodies rest
 
 abbrev pub param_column : Param → Column
 param_column param = named param.name

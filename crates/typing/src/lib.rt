@@ -7,6 +7,7 @@ mod act;
 mod callee;
 mod checks;
 mod columns;
+mod declarations;
 mod elaborator;
 mod env;
 mod error;
