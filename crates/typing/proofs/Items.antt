@@ -1,15 +1,14 @@
 -- Laws of what is read of the items of a text one after another.
-use Rattle.std.proofs.Common.{◌≡◌, ℕ, ◌+◌, Bool, Option, None, Some, List, [], ◌∷◌, ◌++◌, length, refl, sym, ap, ◌∙◌, add-zero, append_assoc, arith}
+use Rattle.std.proofs.Common.{◌≡◌, ℕ, ◌+◌, Bool, Option, None, Some, List, [], ◌∷◌, ◌++◌, length, refl, sym, ap, ◌∙◌, subst, add-zero, append_assoc, length-append, arith}
 use Rattle.std.proofs.lemmas.List.{append-nil}
+use Rattle.syntax_tree.specs.declared.program.Proc.{Proc}
 use Rattle.syntax_tree.specs.declared.tree.Item.{Item}
 use Rattle.syntax_tree.specs.declared.tree.Item.TheVariants.{Global, Proto, Body}
-use Rattle.syntax_tree.specs.SourceLine.{source_lines_of}
 use Rattle.typing.specs.declared.error.TypeError.{TypeError}
 use Rattle.typing.specs.declared.meaning.Meaning.{Meaning}
 use Rattle.typing.specs.Elaborated.{checks_in, procs_of}
 use Rattle.typing.specs.Faults.{declaration_faults, least_of, procs_faults}
-use Rattle.typing.specs.Lines.{all_checks_of}
-use Rattle.typing.specs.Scopes.{Scope, or_outer, found, meaning_of}
+use Rattle.typing.specs.Scopes.{Scope, or_outer}
 use Rattle.typing.specs.Texts.{bodies, count_bodies, count_globals, declarations}
 use Rattle.typing.proofs.Steps.{appended, least_of-append}
 
@@ -56,5 +55,22 @@ pub checks_in-next : (item : Item) (rest : List Item) → checks_in (item ∷ re
 checks_in-next (Global name at init) rest = refl
 checks_in-next (Proto name at returns params) rest = refl
 checks_in-next (Body name at returns params lines end) rest = simp append-nil
+
+-- one more item, where the scope of the text is known by an equation
+pub procs_of-step : (before all : List Proc) (text same : Scope) (g : ℕ) (above now : List ℕ) (item : Item) (rest : List Item)
+    → text ≡ same → now ≡ above ++ checks_in (item ∷ [])
+    → before ++ procs_of same g (length above) (item ∷ rest) ≡ all
+    → (before ++ procs_of text g (length above) (item ∷ [])) ++ procs_of same g (length now) rest ≡ all
+procs_of-step before all text same g above now item rest e counted h =
+    subst (λ (t : Scope). (before ++ procs_of t g (length above) (item ∷ [])) ++ procs_of same g (length now) rest ≡ all) (sym e)
+    (rw (counted, length-append, append_assoc, ← procs_of-next) h)
+
+pub procs_faults-step : (before all : Option TypeError) (text same : Scope) (g : ℕ) (above now : List ℕ) (item : Item) (rest : List Item)
+    → text ≡ same → now ≡ above ++ checks_in (item ∷ [])
+    → least_of before (procs_faults same g (length above) (item ∷ rest)) ≡ all
+    → least_of (least_of before (procs_faults text g (length above) (item ∷ []))) (procs_faults same g (length now) rest) ≡ all
+procs_faults-step before all text same g above now item rest e counted h =
+    subst (λ (t : Scope). least_of (least_of before (procs_faults t g (length above) (item ∷ []))) (procs_faults same g (length now) rest) ≡ all) (sym e)
+    (rw (counted, length-append, ← least_of-append, ← procs_faults-next) h)
 
 pub ruleset items = (or_outer-none, appended, append-nil, least_of-append)

@@ -1,5 +1,5 @@
 -- The faults of expressions and calls, each with its place.
-use Rattle.std.specs.Prelude.{ℕ, ◌+◌, Bool, true, false, not, ◌&&◌, ◌||◌, ◌==◌, nat_lt, Option, None, Some, is_none, List, [], ◌∷◌, ◌++◌, map}
+use Rattle.std.specs.Prelude.{ℕ, Bool, true, false, not, ◌&&◌, ◌||◌, ◌==◌, nat_lt, is_none, List, [], ◌∷◌, ◌++◌, map}
 use Rattle.syntax_tree.specs.declared.core_expr.Core.{Core}
 use Rattle.syntax_tree.specs.declared.limits.TheConstants.{MOST_CASES, MOST_CHECKS}
 use Rattle.syntax_tree.specs.declared.op.Op.{Op}

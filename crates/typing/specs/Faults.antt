@@ -16,7 +16,6 @@ use Rattle.typing.specs.declared.error.TypeError.{TypeError}
 use Rattle.typing.specs.declared.error.TypeError.TheVariants.{Unknown, Twice, Arity, VoidValue, CallPlace, Many, NoMain, Memory}
 use Rattle.typing.specs.declared.meaning.Meaning.{Meaning}
 use Rattle.typing.specs.declared.meaning.Meaning.TheVariants.{Variable, Procedure}
-use Rattle.typing.specs.declared.meaning.Signature.{Signature}
 use Rattle.typing.specs.CallFaults.{when}
 use Rattle.typing.specs.Elaborated.{elaborated, main_from}
 use Rattle.typing.specs.Env.{declared}

@@ -1,5 +1,5 @@
 -- The faults of lines.
-use Rattle.std.specs.Prelude.{ℕ, Bool, true, false, not, ◌||◌, Option, None, Some, List, [], ◌∷◌, ◌++◌}
+use Rattle.std.specs.Prelude.{ℕ, Bool, true, false, not, ◌||◌, Option, None, Some, List, [], ◌++◌}
 use Rattle.syntax_tree.specs.SourceExpr.{SourceExpr}
 use Rattle.syntax_tree.specs.SourceLine.{SourceLine, Block, Local, Assign, Act, If, Loop, Break, Continue, Return, SourceLines, End, Then}
 use Rattle.typing.specs.declared.env.Env.{Env}

@@ -1,7 +1,7 @@
 -- What a line becomes: what it leaves behind, its columns, its assertions and its statements. Parts come in the order
 -- of the text: a `for` is initialiser, condition, step and body, a `do` is body and condition. (No `do` has a step;
 -- the definitions put it last.)
-use Rattle.std.specs.Prelude.{ℕ, ◌+◌, Bool, true, false, Option, None, Some, List, [], ◌∷◌, ◌++◌, length, replicate}
+use Rattle.std.specs.Prelude.{ℕ, true, false, Option, None, Some, List, [], ◌∷◌, ◌++◌, length, replicate}
 use Rattle.syntax_tree.specs.declared.program.Column.{Column}
 use Rattle.syntax_tree.specs.declared.stmt.Stmt.{Stmt}
 use Rattle.syntax_tree.specs.declared.stmt.Stmt.TheVariants as stmt

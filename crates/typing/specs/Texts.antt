@@ -1,5 +1,5 @@
 -- The scope of a text, and what each of its procedures begins with.
-use Rattle.std.specs.Prelude.{ℕ, ◌+◌, Bool, Option, Some, List, [], ◌∷◌, ◌++◌, length, map}
+use Rattle.std.specs.Prelude.{ℕ, ◌+◌, Bool, List, [], ◌∷◌, ◌++◌, length, map}
 use Rattle.syntax_tree.specs.declared.limits.TheConstants.{MOST_SLOTS}
 use Rattle.syntax_tree.specs.declared.line.Line.{Line}
 use Rattle.syntax_tree.specs.declared.program.Column.{Column}
@@ -13,7 +13,7 @@ use Rattle.typing.specs.declared.meaning.Meaning.{Meaning}
 use Rattle.typing.specs.declared.meaning.Meaning.TheVariants.{Variable, Procedure}
 use Rattle.typing.specs.Env.{declared}
 use Rattle.typing.specs.Lines.{all_columns_of, named}
-use Rattle.typing.specs.Scopes.{Entry, Scope}
+use Rattle.typing.specs.Scopes.{Scope}
 
 abbrev pub procedure : ℕ → Bool → List Param → Meaning
 procedure number returns params = Procedure (record { number = number; params = length params; returns = returns })

@@ -19,6 +19,7 @@ use crate::least::note_if;
 use crate::put::has_many_ways;
 use crate::special::Special;
 use items::Items;
+use std::alloc::AllocError;
 use syntax_tree::{Core, Expr, MOST_CHECKS, Name, Stmt};
 
 /// The condition of an assertion or assumption: its first argument.
@@ -47,7 +48,7 @@ fn note_condition(least: &mut Option<TypeError>, args: &[Expr], cond: &Core)
 
 impl Elaborator {
     /// A call that is a statement by itself.
-    pub(crate) fn act(&mut self, e: &Expr, out: &mut Items<Stmt>) -> Result<(), TypeError>
+    pub(crate) fn act(&mut self, e: &Expr, out: &mut Items<Stmt>) -> Result<(), AllocError>
         ensures statements { OnOk result (out.new ≡ out.old ++ act_in self.old.env (source_expr_of e.now)) }
         ensures env { OnOk result (self.new.env ≡ numbered (length (act_checks (source_expr_of e.now))) (taken (put_temporaries (source_expr_of e.now)) self.old.env)) }
         ensures least { OnOk result (self.new.least ≡ least_of self.old.least (act_faults self.old.env (source_expr_of e.now))) }
@@ -88,7 +89,7 @@ impl Elaborator {
         name: &Name,
         args: &[Expr],
         out: &mut Items<Stmt>,
-    ) -> Result<(), TypeError>
+    ) -> Result<(), AllocError>
         ensures statements { OnOk result (out.new ≡ out.old ++ (all_calls_in self.old.env (source_exprs_of args.now) ++ statement_made (self.old.env.number + 1) (callee_of self.old.env.scopes name.now) (terms_in self.old.env (source_exprs_of args.now)))) }
         ensures env { OnOk result (self.new.env ≡ numbered (length (listed_if (if_assertion (special_of name.now)) at)) (taken (all_temporaries (source_exprs_of args.now)) self.old.env)) }
         ensures least { OnOk result (self.new.least ≡ least_of self.old.least (statement_call_faults (callee_of self.old.env.scopes name.now) at name.now (length args.now) ++ all_expression_faults self.old.env false (source_exprs_of args.now) ++ argument_faults self.old.env.number (terms_in self.old.env (source_exprs_of args.now)) (callee_of self.old.env.scopes name.now) at (source_exprs_of args.now))) }
@@ -106,7 +107,7 @@ impl Elaborator {
         args: &[Expr],
         terms: Items<Core>,
         out: &mut Items<Stmt>,
-    ) -> Result<(), TypeError>
+    ) -> Result<(), AllocError>
         ensures statements { OnOk result (out.new ≡ out.old ++ statement_made (self.old.env.number + 1) callee terms) }
         ensures env { OnOk result (self.new.env ≡ numbered (length (listed_if (callee_asserts callee) at)) self.old.env) }
         ensures least { OnOk result (self.new.least ≡ least_of self.old.least (argument_faults self.old.env.number terms callee at (source_exprs_of args.now))) }
@@ -141,7 +142,7 @@ impl Elaborator {
         args: &[Expr],
         terms: Items<Core>,
         out: &mut Items<Stmt>,
-    ) -> Result<(), TypeError>
+    ) -> Result<(), AllocError>
         ensures statements { OnOk result (out.new ≡ out.old ++ special_made (self.old.env.number + 1) special terms) }
         ensures env { OnOk result (self.new.env ≡ numbered (length (listed_if (is_assertion special) at)) self.old.env) }
         ensures least { OnOk result (self.new.least ≡ least_of self.old.least (special_faults self.old.env.number terms special at (source_exprs_of args.now))) }
@@ -170,7 +171,7 @@ impl Elaborator {
     }
 
     // The next assertion may be one too many.
-    fn assertion(&mut self, at: u32) -> Result<u32, TypeError>
+    fn assertion(&mut self, at: u32) -> Result<u32, AllocError>
         ensures number { IfOk result (λ number. number ≡ self.old.env.number + 1) }
         ensures env { OnOk result (self.new.env ≡ numbered 1 self.old.env) }
         ensures least { OnOk result (self.new.least ≡ least_of self.old.least (number_faults self.old.env.number at)) }
@@ -185,7 +186,7 @@ impl Elaborator {
     }
 
     // No grammar has another expression than a call here.
-    fn calls_alone(&mut self, e: &Expr, out: &mut Items<Stmt>) -> Result<(), TypeError>
+    fn calls_alone(&mut self, e: &Expr, out: &mut Items<Stmt>) -> Result<(), AllocError>
         ensures statements { OnOk result (out.new ≡ out.old ++ calls_in self.old.env (source_expr_of e.now)) }
         ensures env { OnOk result (self.new.env ≡ numbered 0 (taken (temporaries (source_expr_of e.now)) self.old.env)) }
         ensures least { OnOk result (self.new.least ≡ least_of self.old.least (expression_faults self.old.env false (source_expr_of e.now))) }

@@ -7,14 +7,14 @@ ghost use Rattle.typing.specs.Calls.{act_checks, if_assertion, listed_if};
 ghost use Rattle.typing.specs.Lines.{all_checks_of, checks_of};
 ghost use Rattle.typing.specs.Specials.{special_of};
 
-use crate::error::TypeError;
 use crate::special::special_of;
 use items::Items;
+use std::alloc::AllocError;
 use syntax_tree::{Expr, Line};
 
 /// Adds the places of the assertions of lines.
 #[cycle(checks)]
-pub(crate) fn all_checks(lines: &[Line], checks: &mut Items<u32>) -> Result<(), TypeError>
+pub(crate) fn all_checks(lines: &[Line], checks: &mut Items<u32>) -> Result<(), AllocError>
     ensures { OnOk result (checks.new ≡ checks.old ++ all_checks_of (source_lines_of lines.now)) }
 {
     for line in lines {
@@ -24,7 +24,7 @@ pub(crate) fn all_checks(lines: &[Line], checks: &mut Items<u32>) -> Result<(), 
 }
 
 #[cycle(checks)]
-fn line_checks(line: &Line, checks: &mut Items<u32>) -> Result<(), TypeError>
+fn line_checks(line: &Line, checks: &mut Items<u32>) -> Result<(), AllocError>
     ensures { OnOk result (checks.new ≡ checks.old ++ checks_of (source_line_of line.now)) }
 {
     match line {
@@ -58,7 +58,7 @@ fn line_checks(line: &Line, checks: &mut Items<u32>) -> Result<(), TypeError>
     }
 }
 
-fn act_checks(call: &Expr, checks: &mut Items<u32>) -> Result<(), TypeError>
+fn act_checks(call: &Expr, checks: &mut Items<u32>) -> Result<(), AllocError>
     ensures { OnOk result (checks.new ≡ checks.old ++ act_checks (source_expr_of call.now)) }
 {
     match call {

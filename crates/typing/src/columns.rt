@@ -9,9 +9,8 @@ ghost use Rattle.typing.specs.Lines.{all_columns_of, columns_of, named, nameless
 ghost use Rattle.typing.specs.Terms.{all_temporaries, temporaries};
 ghost use Rattle.typing.specs.Texts.{body_columns, param_column};
 
-use crate::error::TypeError;
 use items::Items;
-use std::alloc::Global;
+use std::alloc::{AllocError, Global};
 use syntax_tree::{Column, Expr, Line, Name, Param};
 
 /// The columns of a procedure behind the globals: its parameters, then its locals and temporaries.
@@ -19,7 +18,7 @@ pub(crate) fn body_columns(
     alloc: Global,
     params: &[Param],
     lines: &[Line],
-) -> Result<Items<Column>, TypeError>
+) -> Result<Items<Column>, AllocError>
     ensures { IfOk result (λ columns. columns ≡ body_columns params.now lines.now) }
 {
     let mut columns = Items::new(alloc);
@@ -30,7 +29,7 @@ pub(crate) fn body_columns(
     Ok(columns)
 }
 
-fn push_name(name: &Name, columns: &mut Items<Column>) -> Result<(), TypeError>
+fn push_name(name: &Name, columns: &mut Items<Column>) -> Result<(), AllocError>
     ensures { OnOk result (columns.new ≡ columns.old ++ named name.now ∷ []) }
 {
     let name = Some(name.clone()?);
@@ -40,7 +39,7 @@ fn push_name(name: &Name, columns: &mut Items<Column>) -> Result<(), TypeError>
 
 // A call in an expression takes a column without a name.
 #[cycle(temporaries)]
-fn temporaries(e: &Expr, columns: &mut Items<Column>) -> Result<(), TypeError>
+fn temporaries(e: &Expr, columns: &mut Items<Column>) -> Result<(), AllocError>
     ensures { OnOk result (columns.new ≡ columns.old ++ nameless (temporaries (source_expr_of e.now))) }
 {
     match e {
@@ -60,7 +59,7 @@ fn temporaries(e: &Expr, columns: &mut Items<Column>) -> Result<(), TypeError>
 }
 
 #[cycle(temporaries)]
-fn all_temporaries(exprs: &[Expr], columns: &mut Items<Column>) -> Result<(), TypeError>
+fn all_temporaries(exprs: &[Expr], columns: &mut Items<Column>) -> Result<(), AllocError>
     ensures { OnOk result (columns.new ≡ columns.old ++ nameless (all_temporaries (source_exprs_of exprs.now))) }
 {
     for e in exprs {
@@ -70,7 +69,7 @@ fn all_temporaries(exprs: &[Expr], columns: &mut Items<Column>) -> Result<(), Ty
 }
 
 // A call that is a whole right side, or a statement, takes none itself.
-fn put_temporaries(e: &Expr, columns: &mut Items<Column>) -> Result<(), TypeError>
+fn put_temporaries(e: &Expr, columns: &mut Items<Column>) -> Result<(), AllocError>
     ensures { OnOk result (columns.new ≡ columns.old ++ nameless (put_temporaries (source_expr_of e.now))) }
 {
     match e {
@@ -82,7 +81,7 @@ fn put_temporaries(e: &Expr, columns: &mut Items<Column>) -> Result<(), TypeErro
     }
 }
 
-fn value_columns(value: &Option<Expr>, columns: &mut Items<Column>) -> Result<(), TypeError>
+fn value_columns(value: &Option<Expr>, columns: &mut Items<Column>) -> Result<(), AllocError>
     ensures { OnOk result (columns.new ≡ columns.old ++ value_columns (option_map source_expr_of value.now)) }
 {
     match value {
@@ -92,7 +91,7 @@ fn value_columns(value: &Option<Expr>, columns: &mut Items<Column>) -> Result<()
 }
 
 #[cycle(columns)]
-fn all_columns(lines: &[Line], columns: &mut Items<Column>) -> Result<(), TypeError>
+fn all_columns(lines: &[Line], columns: &mut Items<Column>) -> Result<(), AllocError>
     ensures { OnOk result (columns.new ≡ columns.old ++ all_columns_of (source_lines_of lines.now)) }
 {
     for line in lines {
@@ -102,7 +101,7 @@ fn all_columns(lines: &[Line], columns: &mut Items<Column>) -> Result<(), TypeEr
 }
 
 #[cycle(columns)]
-fn line_columns(line: &Line, columns: &mut Items<Column>) -> Result<(), TypeError>
+fn line_columns(line: &Line, columns: &mut Items<Column>) -> Result<(), AllocError>
     ensures { OnOk result (columns.new ≡ columns.old ++ columns_of (source_line_of line.now)) }
 {
     match line {

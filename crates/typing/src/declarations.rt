@@ -11,7 +11,7 @@ use crate::least::note_if;
 use crate::meaning::{Meaning, Signature};
 use crate::scopes::Scopes;
 use crate::special::{is_main, special_of};
-use std::alloc::Global;
+use std::alloc::{AllocError, Global};
 use syntax_tree::{Item, MOST_GLOBALS, MOST_PARAMETERS, MOST_PROCEDURES, Name, Param};
 
 /// The declarations of a text on their way.
@@ -29,7 +29,7 @@ pub(crate) struct Declarations {
 
 impl Declarations {
     /// All declarations of a text.
-    pub(crate) fn read(alloc: Global, items: &[Item]) -> Result<Declarations, TypeError>
+    pub(crate) fn read(alloc: Global, items: &[Item]) -> Result<Declarations, AllocError>
         ensures scopes { IfOk result (λ made. made.scopes ≡ declarations 0 0 items.now ∷ []) }
         ensures bodies { IfOk result (λ made. made.bodies ≡ bodies 0 items.now ∷ []) }
         ensures globals { IfOk result (λ made. made.globals ≡ count_globals items.now) }
@@ -42,7 +42,7 @@ impl Declarations {
         Ok(made)
     }
 
-    fn empty(alloc: Global) -> Result<Declarations, TypeError>
+    fn empty(alloc: Global) -> Result<Declarations, AllocError>
         ensures scopes { IfOk result (λ made. made.scopes ≡ [] ∷ []) }
         ensures bodies { IfOk result (λ made. made.bodies ≡ [] ∷ []) }
         ensures globals { IfOk result (λ made. made.globals ≡ 0) }
@@ -63,7 +63,7 @@ impl Declarations {
         })
     }
 
-    fn item(&mut self, item: &Item) -> Result<(), TypeError>
+    fn item(&mut self, item: &Item) -> Result<(), AllocError>
         requires one { self.old.scopes ≡ top self.old.scopes ∷ [] }
         requires one_of_bodies { self.old.bodies ≡ top self.old.bodies ∷ [] }
         ensures scopes { OnOk result (self.new.scopes ≡ (top self.old.scopes ++ declarations self.old.globals self.old.procs (item.now ∷ [])) ∷ []) }
@@ -85,7 +85,7 @@ impl Declarations {
         }
     }
 
-    fn global(&mut self, name: &Name, at: u32) -> Result<(), TypeError>
+    fn global(&mut self, name: &Name, at: u32) -> Result<(), AllocError>
         requires { self.old.scopes ≡ top self.old.scopes ∷ [] }
         ensures scopes { OnOk result (self.new.scopes ≡ (top self.old.scopes ++ (name.now, Meaning.Variable self.old.globals) ∷ []) ∷ []) }
         ensures bodies { OnOk result (self.new.bodies ≡ self.old.bodies) }
@@ -102,7 +102,7 @@ impl Declarations {
         );
         let meaning = Meaning::Variable(self.globals);
         self.scopes.declare(self.alloc, name.clone()?, meaning)?;
-        self.globals = self.globals.checked_add(1).ok_or(TypeError::Memory)?;
+        self.globals = self.globals.checked_add(1).ok_or(AllocError)?;
         Ok(())
     }
 
@@ -112,7 +112,7 @@ impl Declarations {
         at: u32,
         returns: bool,
         params: &[Param],
-    ) -> Result<(), TypeError>
+    ) -> Result<(), AllocError>
         requires one { self.old.scopes ≡ top self.old.scopes ∷ [] }
         requires one_of_bodies { self.old.bodies ≡ top self.old.bodies ∷ [] }
         ensures scopes { OnOk result (self.new.scopes ≡ (top self.old.scopes ++ (name.now, procedure self.old.procs returns params.now) ∷ []) ∷ []) }
@@ -138,7 +138,7 @@ impl Declarations {
         });
         self.scopes.declare(self.alloc, name.clone()?, meaning)?;
         self.bodies.declare(self.alloc, name.clone()?, meaning)?;
-        self.procs = self.procs.checked_add(1).ok_or(TypeError::Memory)?;
+        self.procs = self.procs.checked_add(1).ok_or(AllocError)?;
         Ok(())
     }
 

@@ -6,11 +6,10 @@ ghost use Rattle.typing.specs.LineFaults.{may_leave};
 ghost use Rattle.typing.specs.Scopes.{callee_of, variable_of};
 
 use crate::callee::Callee;
-use crate::error::TypeError;
 use crate::meaning::Meaning;
 use crate::scopes::Scopes;
 use crate::special::special_of;
-use std::alloc::Global;
+use std::alloc::{AllocError, Global};
 use syntax_tree::Name;
 
 /// Where a line stands: in no loop, in the body of one, or in the step of one, which nothing leaves.
@@ -61,38 +60,38 @@ pub(crate) struct Env {
 
 impl Env {
     /// Takes the next column.
-    pub(crate) fn take(&mut self) -> Result<u32, TypeError>
+    pub(crate) fn take(&mut self) -> Result<u32, AllocError>
         ensures col { IfOk result (λ col. col ≡ self.old.next) }
         ensures env { OnOk result (self.new ≡ taken 1 self.old) }
     {
         let col = self.next;
-        self.next = col.checked_add(1).ok_or(TypeError::Memory)?;
+        self.next = col.checked_add(1).ok_or(AllocError)?;
         Ok(col)
     }
 
     /// Declares a variable, which takes the next column.
-    pub(crate) fn declare(&mut self, alloc: Global, name: &Name) -> Result<u32, TypeError>
+    pub(crate) fn declare(&mut self, alloc: Global, name: &Name) -> Result<u32, AllocError>
         ensures col { IfOk result (λ col. col ≡ self.old.next) }
         ensures env { OnOk result (self.new ≡ declared name.now self.old) }
     {
         let col = self.next;
         self.scopes
             .declare(alloc, name.clone()?, Meaning::Variable(col))?;
-        self.next = col.checked_add(1).ok_or(TypeError::Memory)?;
+        self.next = col.checked_add(1).ok_or(AllocError)?;
         Ok(col)
     }
 
     /// Takes the next number of an assertion.
-    pub(crate) fn number_next(&mut self) -> Result<u32, TypeError>
+    pub(crate) fn number_next(&mut self) -> Result<u32, AllocError>
         ensures number { IfOk result (λ number. number ≡ self.old.number + 1) }
         ensures env { OnOk result (self.new ≡ numbered 1 self.old) }
     {
-        let number = self.number.checked_add(1).ok_or(TypeError::Memory)?;
+        let number = self.number.checked_add(1).ok_or(AllocError)?;
         self.number = number;
         Ok(number)
     }
 
-    pub(crate) fn open(&mut self, alloc: Global) -> Result<(), TypeError>
+    pub(crate) fn open(&mut self, alloc: Global) -> Result<(), AllocError>
         ensures { OnOk result (self.new ≡ opened self.old) }
     {
         self.scopes.open(alloc)

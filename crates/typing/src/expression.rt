@@ -14,6 +14,7 @@ use crate::elaborator::Elaborator;
 use crate::error::{Limited, TypeError};
 use crate::least::note_if;
 use items::{Boxed, Items};
+use std::alloc::AllocError;
 use syntax_tree::{Core, Expr, MOST_CASES, Name, Op, Stmt, joint_cases};
 
 /// The place of an expression.
@@ -117,7 +118,7 @@ impl Elaborator {
     }
 
     /// A new temporary, which may be one too many.
-    fn temporary(&mut self, at: u32) -> Result<u32, TypeError>
+    fn temporary(&mut self, at: u32) -> Result<u32, AllocError>
         ensures col { IfOk result (λ col. col ≡ self.old.env.next) }
         ensures env { OnOk result (self.new.env ≡ taken 1 self.old.env) }
         ensures least { OnOk result (self.new.least ≡ least_of self.old.least (slot_faults self.old.env at)) }
@@ -139,7 +140,7 @@ impl Elaborator {
         e: &Expr,
         right: bool,
         out: &mut Items<Stmt>,
-    ) -> Result<Core, TypeError>
+    ) -> Result<Core, AllocError>
         ensures term { IfOk result (λ term. term ≡ term_in self.old.env (source_expr_of e.now)) }
         ensures calls { OnOk result (out.new ≡ out.old ++ calls_in self.old.env (source_expr_of e.now)) }
         ensures env { OnOk result (self.new.env ≡ taken (temporaries (source_expr_of e.now)) self.old.env) }
@@ -178,7 +179,7 @@ impl Elaborator {
         args: &[Expr],
         right: bool,
         out: &mut Items<Stmt>,
-    ) -> Result<Items<Core>, TypeError>
+    ) -> Result<Items<Core>, AllocError>
         ensures terms { IfOk result (λ terms. terms ≡ terms_in self.old.env (source_exprs_of args.now)) }
         ensures calls { OnOk result (out.new ≡ out.old ++ all_calls_in self.old.env (source_exprs_of args.now)) }
         ensures env { OnOk result (self.new.env ≡ taken (all_temporaries (source_exprs_of args.now)) self.old.env) }
@@ -196,7 +197,7 @@ impl Elaborator {
         args: &[Expr],
         right: bool,
         out: &mut Items<Stmt>,
-    ) -> Result<Items<Core>, TypeError>
+    ) -> Result<Items<Core>, AllocError>
         ensures terms { IfOk result (λ terms. terms ≡ terms_in self.old.env (source_exprs_of args.now)) }
         ensures calls { OnOk result (out.new ≡ out.old ++ all_calls_in self.old.env (source_exprs_of args.now)) }
         ensures env { OnOk result (self.new.env ≡ taken (all_temporaries (source_exprs_of args.now)) self.old.env) }

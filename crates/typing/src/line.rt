@@ -19,6 +19,7 @@ use crate::error::{Limited, TypeError};
 use crate::least::note_if;
 use crate::special::special_of;
 use items::Items;
+use std::alloc::AllocError;
 use syntax_tree::{Core, Expr, Line, Name, Stmt};
 
 fn loop_made(
@@ -42,7 +43,7 @@ fn loop_made(
 impl Elaborator {
     /// The statements of lines in their order.
     #[cycle(line)]
-    pub(crate) fn lines(&mut self, lines: &[Line], out: &mut Items<Stmt>) -> Result<(), TypeError>
+    pub(crate) fn lines(&mut self, lines: &[Line], out: &mut Items<Stmt>) -> Result<(), AllocError>
         ensures statements { OnOk result (out.new ≡ out.old ++ all_statements_of self.old.env (source_lines_of lines.now)) }
         ensures env { OnOk result (self.new.env ≡ after_all self.old.env (source_lines_of lines.now)) }
         ensures least { OnOk result (self.new.least ≡ least_of self.old.least (all_faults_in self.old.env (source_lines_of lines.now))) }
@@ -54,7 +55,7 @@ impl Elaborator {
     }
 
     #[cycle(line)]
-    fn line(&mut self, line: &Line, out: &mut Items<Stmt>) -> Result<(), TypeError>
+    fn line(&mut self, line: &Line, out: &mut Items<Stmt>) -> Result<(), AllocError>
         ensures statements { OnOk result (out.new ≡ out.old ++ statements_of self.old.env (source_line_of line.now)) }
         ensures env { OnOk result (self.new.env ≡ after self.old.env (source_line_of line.now)) }
         ensures least { OnOk result (self.new.least ≡ least_of self.old.least (faults_in self.old.env (source_line_of line.now))) }
@@ -99,7 +100,7 @@ impl Elaborator {
     }
 
     #[cycle(line)]
-    fn block(&mut self, lines: &[Line], out: &mut Items<Stmt>) -> Result<(), TypeError>
+    fn block(&mut self, lines: &[Line], out: &mut Items<Stmt>) -> Result<(), AllocError>
         ensures statements { OnOk result (out.new ≡ out.old ++ all_statements_of (opened self.old.env) (source_lines_of lines.now)) }
         ensures env { OnOk result (self.new.env ≡ closed (after_all (opened self.old.env) (source_lines_of lines.now))) }
         ensures least { OnOk result (self.new.least ≡ least_of self.old.least (all_faults_in (opened self.old.env) (source_lines_of lines.now))) }
@@ -112,7 +113,7 @@ impl Elaborator {
 
     /// The statements of lines in a scope of their own.
     #[cycle(line)]
-    fn scoped(&mut self, lines: &[Line]) -> Result<Items<Stmt>, TypeError>
+    fn scoped(&mut self, lines: &[Line]) -> Result<Items<Stmt>, AllocError>
         ensures statements { IfOk result (λ made. made ≡ all_statements_of (opened self.old.env) (source_lines_of lines.now)) }
         ensures env { OnOk result (self.new.env ≡ closed (after_all (opened self.old.env) (source_lines_of lines.now))) }
         ensures least { OnOk result (self.new.least ≡ least_of self.old.least (all_faults_in (opened self.old.env) (source_lines_of lines.now))) }
@@ -126,7 +127,7 @@ impl Elaborator {
 
     // The statements of a loop's body, behind which a place is taken again.
     #[cycle(line)]
-    fn body(&mut self, lines: &[Line], behind: Place) -> Result<Items<Stmt>, TypeError>
+    fn body(&mut self, lines: &[Line], behind: Place) -> Result<Items<Stmt>, AllocError>
         ensures statements { IfOk result (λ made. made ≡ all_statements_of (in_body self.old.env) (source_lines_of lines.now)) }
         ensures env { OnOk result (self.new.env ≡ behind_body behind (after_all (in_body self.old.env) (source_lines_of lines.now))) }
         ensures least { OnOk result (self.new.least ≡ least_of self.old.least (all_faults_in (in_body self.old.env) (source_lines_of lines.now))) }
@@ -140,7 +141,7 @@ impl Elaborator {
 
     // The statements of a loop's step, behind which a place is taken again.
     #[cycle(line)]
-    fn step(&mut self, lines: &[Line], behind: Place) -> Result<Items<Stmt>, TypeError>
+    fn step(&mut self, lines: &[Line], behind: Place) -> Result<Items<Stmt>, AllocError>
         ensures statements { IfOk result (λ made. made ≡ all_statements_of (in_step self.old.env) (source_lines_of lines.now)) }
         ensures env { OnOk result (self.new.env ≡ placed behind (after_all (in_step self.old.env) (source_lines_of lines.now))) }
         ensures least { OnOk result (self.new.least ≡ least_of self.old.least (all_faults_in (in_step self.old.env) (source_lines_of lines.now))) }
@@ -154,7 +155,7 @@ impl Elaborator {
 
     // A loop with its initialiser is a scope.
     #[cycle(line)]
-    fn begin_loop(&mut self, init: &[Line], out: &mut Items<Stmt>) -> Result<(), TypeError>
+    fn begin_loop(&mut self, init: &[Line], out: &mut Items<Stmt>) -> Result<(), AllocError>
         ensures statements { OnOk result (out.new ≡ out.old ++ all_statements_of (opened self.old.env) (source_lines_of init.now)) }
         ensures env { OnOk result (self.new.env ≡ after_all (opened self.old.env) (source_lines_of init.now)) }
         ensures least { OnOk result (self.new.least ≡ least_of self.old.least (all_faults_in (opened self.old.env) (source_lines_of init.now))) }
@@ -163,7 +164,7 @@ impl Elaborator {
         self.lines(init, out)
     }
 
-    fn end_loop(&mut self, made: Stmt, out: &mut Items<Stmt>) -> Result<(), TypeError>
+    fn end_loop(&mut self, made: Stmt, out: &mut Items<Stmt>) -> Result<(), AllocError>
         ensures statements { OnOk result (out.new ≡ out.old ++ made ∷ []) }
         ensures env { self.new.env ≡ closed self.old.env }
         ensures least { self.new.least ≡ self.old.least }
@@ -174,7 +175,7 @@ impl Elaborator {
     }
 
     // The condition of a loop, and the statements of its calls.
-    fn test(&mut self, cond: &Expr) -> Result<(Items<Stmt>, Core), TypeError>
+    fn test(&mut self, cond: &Expr) -> Result<(Items<Stmt>, Core), AllocError>
         ensures calls { IfOk result (λ test. test.0 ≡ calls_in self.old.env (source_expr_of cond.now)) }
         ensures term { IfOk result (λ test. test.1 ≡ term_in self.old.env (source_expr_of cond.now)) }
         ensures env { OnOk result (self.new.env ≡ taken (temporaries (source_expr_of cond.now)) self.old.env) }
@@ -191,7 +192,7 @@ impl Elaborator {
         at: u32,
         value: &Expr,
         out: &mut Items<Stmt>,
-    ) -> Result<(), TypeError>
+    ) -> Result<(), AllocError>
         ensures statements { OnOk result (out.new ≡ out.old ++ put_in self.old.env (column_of self.old.env.scopes name.now) (source_expr_of value.now)) }
         ensures env { OnOk result (self.new.env ≡ taken (put_temporaries (source_expr_of value.now)) self.old.env) }
         ensures least { OnOk result (self.new.least ≡ least_of self.old.least (variable_faults self.old.env at name.now ++ put_faults self.old.env (source_expr_of value.now))) }
@@ -206,7 +207,7 @@ impl Elaborator {
         at: u32,
         init: &Option<Expr>,
         out: &mut Items<Stmt>,
-    ) -> Result<(), TypeError>
+    ) -> Result<(), AllocError>
         ensures statements { OnOk result (out.new ≡ out.old ++ local_put (declared name.now self.old.env) self.old.env.next (option_map source_expr_of init.now)) }
         ensures env { OnOk result (self.new.env ≡ with_value (option_map source_expr_of init.now) (declared name.now self.old.env)) }
         ensures least { OnOk result (self.new.least ≡ least_of self.old.least (declare_faults self.old.env at name.now ++ init_faults (declared name.now self.old.env) (option_map source_expr_of init.now))) }
@@ -222,7 +223,7 @@ impl Elaborator {
     }
 
     /// Declares a parameter or local, which may be declared already or be one too many.
-    pub(crate) fn declare(&mut self, at: u32, name: &Name) -> Result<u32, TypeError>
+    pub(crate) fn declare(&mut self, at: u32, name: &Name) -> Result<u32, AllocError>
         ensures col { IfOk result (λ col. col ≡ self.old.env.next) }
         ensures env { OnOk result (self.new.env ≡ declared name.now self.old.env) }
         ensures least { OnOk result (self.new.least ≡ least_of self.old.least (declare_faults self.old.env at name.now)) }
@@ -240,7 +241,7 @@ impl Elaborator {
     }
 
     // `break` and `continue`
-    fn leave(&mut self, at: u32, made: Stmt, out: &mut Items<Stmt>) -> Result<(), TypeError>
+    fn leave(&mut self, at: u32, made: Stmt, out: &mut Items<Stmt>) -> Result<(), AllocError>
         ensures statements { OnOk result (out.new ≡ out.old ++ made ∷ []) }
         ensures env { self.new.env ≡ self.old.env }
         ensures least { self.new.least ≡ least_of self.old.least (leave_faults self.old.env at) }
@@ -256,7 +257,7 @@ impl Elaborator {
         at: u32,
         value: &Option<Expr>,
         out: &mut Items<Stmt>,
-    ) -> Result<(), TypeError>
+    ) -> Result<(), AllocError>
         ensures statements { OnOk result (out.new ≡ out.old ++ (value_put self.old.env self.old.env.ret (option_map source_expr_of value.now) ++ Stmt.Return ∷ [])) }
         ensures env { OnOk result (self.new.env ≡ with_value (option_map source_expr_of value.now) self.old.env) }
         ensures least { OnOk result (self.new.least ≡ least_of self.old.least (return_faults self.old.env at (option_map source_expr_of value.now))) }

@@ -15,11 +15,17 @@ use crate::error::{Limited, TypeError};
 use crate::expression::{call_made, place_of};
 use crate::least::note_if;
 use items::Items;
+use std::alloc::AllocError;
 use syntax_tree::{Core, Expr, MOST_CASES, Name, Stmt, count_cases};
 
 impl Elaborator {
     /// Puts the value of a whole right side into a column.
-    pub(crate) fn put(&mut self, col: u32, e: &Expr, out: &mut Items<Stmt>) -> Result<(), TypeError>
+    pub(crate) fn put(
+        &mut self,
+        col: u32,
+        e: &Expr,
+        out: &mut Items<Stmt>,
+    ) -> Result<(), AllocError>
         ensures statements { OnOk result (out.new ≡ out.old ++ put_in self.old.env col (source_expr_of e.now)) }
         ensures env { OnOk result (self.new.env ≡ taken (put_temporaries (source_expr_of e.now)) self.old.env) }
         ensures least { OnOk result (self.new.least ≡ least_of self.old.least (put_faults self.old.env (source_expr_of e.now))) }
@@ -41,7 +47,7 @@ impl Elaborator {
         name: &Name,
         args: &[Expr],
         out: &mut Items<Stmt>,
-    ) -> Result<(), TypeError>
+    ) -> Result<(), AllocError>
         ensures statements { OnOk result (out.new ≡ out.old ++ (all_calls_in self.old.env (source_exprs_of args.now) ++ call_made (callee_of self.old.env.scopes name.now) (terms_in self.old.env (source_exprs_of args.now)) col ∷ [])) }
         ensures env { OnOk result (self.new.env ≡ taken (all_temporaries (source_exprs_of args.now)) self.old.env) }
         ensures least { OnOk result (self.new.least ≡ least_of self.old.least (value_call_faults (callee_of self.old.env.scopes name.now) false at name.now (length args.now) ++ all_expression_faults self.old.env false (source_exprs_of args.now) ++ joint_faults self.old.env (source_exprs_of args.now))) }
@@ -52,7 +58,7 @@ impl Elaborator {
         Ok(())
     }
 
-    fn set(&mut self, col: u32, e: &Expr, out: &mut Items<Stmt>) -> Result<(), TypeError>
+    fn set(&mut self, col: u32, e: &Expr, out: &mut Items<Stmt>) -> Result<(), AllocError>
         ensures statements { OnOk result (out.new ≡ out.old ++ (calls_in self.old.env (source_expr_of e.now) ++ Stmt.Set col (term_in self.old.env (source_expr_of e.now)) ∷ [])) }
         ensures env { OnOk result (self.new.env ≡ taken (temporaries (source_expr_of e.now)) self.old.env) }
         ensures least { OnOk result (self.new.least ≡ least_of self.old.least (expression_faults self.old.env false (source_expr_of e.now) ++ value_faults self.old.env (source_expr_of e.now))) }
@@ -66,7 +72,7 @@ impl Elaborator {
     }
 
     /// A condition, whose truth or falsity may have too many cases.
-    pub(crate) fn condition(&mut self, e: &Expr, out: &mut Items<Stmt>) -> Result<Core, TypeError>
+    pub(crate) fn condition(&mut self, e: &Expr, out: &mut Items<Stmt>) -> Result<Core, AllocError>
         ensures term { IfOk result (λ term. term ≡ term_in self.old.env (source_expr_of e.now)) }
         ensures calls { OnOk result (out.new ≡ out.old ++ calls_in self.old.env (source_expr_of e.now)) }
         ensures env { OnOk result (self.new.env ≡ taken (temporaries (source_expr_of e.now)) self.old.env) }

@@ -1,10 +1,9 @@
 ghost use Rattle.std.specs.Prelude.{◌≡◌, [], ◌∷◌, ◌++◌, OnOk, reverse};
 ghost use Rattle.typing.specs.Scopes.{declared_in, found, is_declared_here, meaning_of, outer_of};
 
-use crate::error::TypeError;
 use crate::meaning::Meaning;
 use items::Items;
-use std::alloc::Global;
+use std::alloc::{AllocError, Global};
 use std::marker::Model;
 use syntax_tree::Name;
 
@@ -34,7 +33,7 @@ impl Scopes {
     }
 
     /// Opens a scope without declarations.
-    pub(crate) fn open(&mut self, alloc: Global) -> Result<(), TypeError>
+    pub(crate) fn open(&mut self, alloc: Global) -> Result<(), AllocError>
         ensures { OnOk result (self.new ≡ [] ∷ self.old) }
     {
         self.stack.push(Items::new(alloc))?;
@@ -54,7 +53,7 @@ impl Scopes {
         alloc: Global,
         name: Name,
         meaning: Meaning,
-    ) -> Result<(), TypeError>
+    ) -> Result<(), AllocError>
         ensures { OnOk result (self.new ≡ declared_in name meaning self.old) }
     {
         let mut scope = match self.stack.pop() {

@@ -1,5 +1,4 @@
-use Rattle.std.proofs.Common.{◌≡◌, List, ◌∷◌, ◌++◌, ap, subst, sym, ◌∙◌, append_assoc, drop}
-use Rattle.std.proofs.Math.Seq.{drop-length}
+use Rattle.std.proofs.Common.{◌≡◌, List, ◌++◌, subst, sym, ◌∙◌, append_assoc}
 use Rattle.syntax_tree.specs.declared.expr.Expr.{Expr}
 use Rattle.syntax_tree.specs.SourceExpr.{source_exprs_of}
 use Rattle.typing.specs.CallFaults.{all_expression_faults}

@@ -1,0 +1,107 @@
+#![tactic(auto, using(crate::proofs::Items::items), unfolding(crate::specs::Faults::elaboration_of))]
+
+ghost use Rattle.std.specs.Prelude.{◌≡◌, ◌+◌, [], ◌∷◌, ◌++◌, IfOk, IsTrue, OnOk, None};
+ghost use Rattle.items.specs.Gives.{Gives};
+ghost use Rattle.typing.specs.Elaborated.{globals_of, main_from};
+ghost use Rattle.typing.specs.Faults.{cause, elaboration_of};
+ghost use Rattle.typing.specs.Operators.{items_have_few};
+
+use crate::declarations::{Declarations, note_prototypes};
+use crate::elaborator::Elaborator;
+use crate::env::{Env, Place};
+use crate::error::TypeError;
+use crate::least::note_if;
+use crate::scopes::Scopes;
+use crate::special::is_main;
+use items::Items;
+use std::alloc::{AllocError, Global};
+use syntax_tree::{GlobalVar, Item, Program, Tree};
+
+/// The core program of the tree of a text with `length` bytes.
+///
+/// Of all causes of refusal the one with the least place is told, and of several at one place the first in the order of
+/// `TypeError`; where there is none, the tree has a program. It takes time linear in the tree but for the look-up of names.
+pub fn elaborate(alloc: Global, tree: &Tree, length: u32) -> Result<Program, TypeError>
+    // Each expression has at most 200,000 operators, those of its arguments among them.
+    requires { IsTrue (items_have_few tree.now.items) }
+    ensures exact { Gives cause (λ p. p) result (elaboration_of tree.now.items length) }
+{
+    let items = tree.items.as_slice();
+    let mut text = Declarations::read(alloc, items)?;
+    note_prototypes(&mut text.least, &text.bodies, items);
+    let globals = text.globals;
+    let mut elaborator = Elaborator {
+        alloc,
+        env: outside(text.scopes),
+        least: text.least,
+    };
+    let mut checks = Items::new(alloc);
+    let procs = elaborator.procedures(globals, items, &mut checks)?;
+    let main = main_of(items)?;
+    let mut least = elaborator.least;
+    note_if(&mut least, main.is_none(), TypeError::NoMain(length));
+    match least {
+        Some(fault) => Err(fault),
+        None => Ok(Program {
+            globals: globals_of(alloc, items)?,
+            procs,
+            main: main.unwrap_or(0),
+            checks,
+        }),
+    }
+}
+
+// What stands around all procedures.
+fn outside(scopes: Scopes) -> Env
+    ensures { result.scopes ≡ scopes }
+{
+    Env {
+        scopes,
+        next: 0,
+        number: 0,
+        place: Place::Outside,
+        returns: false,
+        ret: 0,
+        full: 0,
+    }
+}
+
+fn globals_of(alloc: Global, items: &[Item]) -> Result<Items<GlobalVar>, AllocError>
+    ensures { IfOk result (λ globals. globals ≡ globals_of items.now) }
+{
+    let mut globals = Items::new(alloc);
+    for item in items {
+        push_global(&mut globals, item)?;
+    }
+    Ok(globals)
+}
+
+fn push_global(globals: &mut Items<GlobalVar>, item: &Item) -> Result<(), AllocError>
+    ensures { OnOk result (globals.new ≡ globals.old ++ globals_of (item.now ∷ [])) }
+{
+    match item {
+        Item::Global { name, init, .. } => {
+            let name = name.clone()?;
+            globals.push(GlobalVar { name, init: *init })?;
+            Ok(())
+        }
+        Item::Proto { .. } => Ok(()),
+        Item::Body { .. } => Ok(()),
+    }
+}
+
+// The number of the first procedure `main`.
+fn main_of(items: &[Item]) -> Result<Option<u32>, AllocError>
+    ensures { IfOk result (λ main. main ≡ main_from 0 items.now) }
+{
+    let mut procs = 0u32;
+    for item in items {
+        if let Item::Body { name, .. } = item {
+            if is_main(name.as_slice()) {
+                return Ok(Some(procs));
+            }
+            procs = procs.checked_add(1).ok_or(AllocError)?;
+        }
+    }
+    Ok(None)
+}

@@ -1,0 +1,154 @@
+#![tactic(auto, using(crate::proofs::Items::items, crate::proofs::Outer::outer), unfolding(crate::specs::Texts::beginning))]
+
+ghost use Rattle.std.specs.Prelude.{◌≡◌, ◌+◌, [], ◌∷◌, ◌++◌, IfOk, OnOk, length};
+ghost use Rattle.syntax_tree.specs.SourceLine.{source_lines_of};
+ghost use Rattle.typing.specs.Elaborated.{checks_in, proc_of, procs_of};
+ghost use Rattle.typing.specs.Faults.{body_faults, least_of, params_faults, procs_faults};
+ghost use Rattle.typing.specs.Texts.{beginning, top, with_params};
+
+use crate::checks::all_checks;
+use crate::columns::body_columns;
+use crate::elaborator::Elaborator;
+use crate::env::Place;
+use crate::error::{Limited, TypeError};
+use crate::least::note_if;
+use items::Items;
+use std::alloc::AllocError;
+use syntax_tree::{Item, Line, MOST_NODES, MOST_SLOTS, Name, Param, Proc, count_nodes};
+
+/// The number, where it has 32 bits.
+pub(crate) fn small(number: usize) -> Result<u32, AllocError>
+    ensures { IfOk result (λ small. small ≡ number) }
+{
+    if number <= u32::MAX as usize {
+        Ok(number as u32)
+    } else {
+        Err(AllocError)
+    }
+}
+
+impl Elaborator {
+    /// The procedures of a text with so many globals; the places of its assertions are added.
+    pub(crate) fn procedures(
+        &mut self,
+        globals: u32,
+        items: &[Item],
+        checks: &mut Items<u32>,
+    ) -> Result<Items<Proc>, AllocError>
+        requires { self.old.env.scopes ≡ top self.old.env.scopes ∷ [] }
+        ensures procs { IfOk result (λ procs. procs ≡ procs_of (top self.old.env.scopes) globals (length checks.old) items.now) }
+        ensures checks { OnOk result (checks.new ≡ checks.old ++ checks_in items.now) }
+        ensures least { OnOk result (self.new.least ≡ least_of self.old.least (procs_faults (top self.old.env.scopes) globals (length checks.old) items.now)) }
+    {
+        let mut procs = Items::new(self.alloc);
+        for item in items {
+            self.item(globals, item, checks, &mut procs)?;
+        }
+        Ok(procs)
+    }
+
+    fn item(
+        &mut self,
+        globals: u32,
+        item: &Item,
+        checks: &mut Items<u32>,
+        procs: &mut Items<Proc>,
+    ) -> Result<(), AllocError>
+        requires { self.old.env.scopes ≡ top self.old.env.scopes ∷ [] }
+        ensures scopes { OnOk result (self.new.env.scopes ≡ self.old.env.scopes) }
+        ensures procs { OnOk result (procs.new ≡ procs.old ++ procs_of (top self.old.env.scopes) globals (length checks.old) (item.now ∷ [])) }
+        ensures checks { OnOk result (checks.new ≡ checks.old ++ checks_in (item.now ∷ [])) }
+        ensures least { OnOk result (self.new.least ≡ least_of self.old.least (procs_faults (top self.old.env.scopes) globals (length checks.old) (item.now ∷ []))) }
+    {
+        match item {
+            Item::Global { .. } => Ok(()),
+            Item::Proto { .. } => Ok(()),
+            Item::Body {
+                name,
+                returns,
+                params,
+                lines,
+                end,
+                ..
+            } => {
+                let number = small(checks.len())?;
+                let made = self.procedure(
+                    globals,
+                    number,
+                    name,
+                    *returns,
+                    params.as_slice(),
+                    lines.as_slice(),
+                    *end,
+                )?;
+                procs.push(made)?;
+                all_checks(lines.as_slice(), checks)
+            }
+        }
+    }
+
+    fn procedure(
+        &mut self,
+        globals: u32,
+        number: u32,
+        name: &Name,
+        returns: bool,
+        params: &[Param],
+        lines: &[Line],
+        end: u32,
+    ) -> Result<Proc, AllocError>
+        requires { self.old.env.scopes ≡ top self.old.env.scopes ∷ [] }
+        ensures scopes { OnOk result (self.new.env.scopes ≡ self.old.env.scopes) }
+        ensures proc { IfOk result (λ made. made ≡ proc_of (top self.old.env.scopes) globals number name.now returns params.now lines.now) }
+        ensures least { OnOk result (self.new.least ≡ least_of self.old.least (body_faults (top self.old.env.scopes) globals number returns params.now lines.now end)) }
+    {
+        let columns = body_columns(self.alloc, params, lines)?;
+        self.begin(globals, number, returns, columns.len())?;
+        self.params(params)?;
+        let mut body = Items::new(self.alloc);
+        self.lines(lines, &mut body)?;
+        let many = count_nodes(body.as_slice()) > MOST_NODES;
+        note_if(&mut self.least, many, TypeError::Many(Limited::Nodes, end));
+        self.env.close();
+        Ok(Proc {
+            name: name.clone()?,
+            returns,
+            params: small(params.len())?,
+            columns,
+            body,
+        })
+    }
+
+    // What a procedure with so many columns begins with.
+    fn begin(
+        &mut self,
+        globals: u32,
+        number: u32,
+        returns: bool,
+        columns: usize,
+    ) -> Result<(), AllocError>
+        requires { self.old.env.scopes ≡ top self.old.env.scopes ∷ [] }
+        ensures env { OnOk result (self.new.env ≡ beginning (top self.old.env.scopes) globals number returns columns) }
+        ensures least { OnOk result (self.new.least ≡ self.old.least) }
+    {
+        self.env.scopes.open(self.alloc)?;
+        self.env.next = globals;
+        self.env.number = number;
+        self.env.place = Place::Outside;
+        self.env.returns = returns;
+        let columns = small(columns)?;
+        self.env.ret = globals.checked_add(columns).ok_or(AllocError)?;
+        self.env.full = globals.checked_add(MOST_SLOTS as u32).ok_or(AllocError)?;
+        Ok(())
+    }
+
+    fn params(&mut self, params: &[Param]) -> Result<(), AllocError>
+        ensures env { OnOk result (self.new.env ≡ with_params self.old.env params.now) }
+        ensures least { OnOk result (self.new.least ≡ least_of self.old.least (params_faults self.old.env params.now)) }
+    {
+        for param in params {
+            let _ = self.declare(param.at, &param.name)?;
+        }
+        Ok(())
+    }
+}
