@@ -1,10 +1,9 @@
 #![tactic(auto, using(crate::proofs::Items::items), unfolding(crate::specs::Faults::elaboration_of))]
 
-ghost use Rattle.std.specs.Prelude.{◌≡◌, ◌+◌, [], ◌∷◌, ◌++◌, IfOk, IsTrue, OnOk, None};
+ghost use Rattle.std.specs.Prelude.{◌≡◌, ◌+◌, [], ◌∷◌, ◌++◌, IfOk, OnOk, None};
 ghost use Rattle.items.specs.Gives.{Gives};
 ghost use Rattle.typing.specs.Elaborated.{globals_of, main_from};
 ghost use Rattle.typing.specs.Faults.{cause, elaboration_of};
-ghost use Rattle.typing.specs.Operators.{items_have_few};
 
 use crate::declarations::{Declarations, note_prototypes};
 use crate::elaborator::Elaborator;
@@ -22,8 +21,6 @@ use syntax_tree::{GlobalVar, Item, Program, Tree};
 /// Of all causes of refusal the one with the least place is told, and of several at one place the first in the order of
 /// `TypeError`; where there is none, the tree has a program. It takes time linear in the tree but for the look-up of names.
 pub fn elaborate(alloc: Global, tree: &Tree, length: u32) -> Result<Program, TypeError>
-    // Each expression has at most 200,000 operators, those of its arguments among them.
-    requires { IsTrue (items_have_few tree.now.items) }
     ensures exact { Gives cause (λ p. p) result (elaboration_of tree.now.items length) }
 {
     let items = tree.items.as_slice();

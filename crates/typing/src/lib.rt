@@ -17,10 +17,14 @@ mod laws;
 mod least;
 mod line;
 mod meaning;
+#[cfg(test)]
+mod parts;
 mod procedure;
 mod put;
 mod scopes;
 mod special;
+#[cfg(test)]
+mod tests;
 
 pub use elaboration::elaborate;
 pub use error::{Limited, TypeError};
