@@ -21,6 +21,7 @@ mod meaning;
 mod parts;
 mod procedure;
 mod put;
+mod scope;
 mod scopes;
 mod special;
 #[cfg(test)]

@@ -1,7 +1,8 @@
 ghost use Rattle.std.specs.Prelude.{◌≡◌, [], ◌∷◌, ◌++◌, OnOk, reverse};
-ghost use Rattle.typing.specs.Scopes.{declared_in, found, is_declared_here, meaning_of, outer_of};
+ghost use Rattle.typing.specs.Scopes.{declared_in, is_declared_here, meaning_of, outer_of};
 
 use crate::meaning::Meaning;
+use crate::scope::Scope;
 use items::Items;
 use std::alloc::{AllocError, Global};
 use std::marker::Model;
@@ -11,7 +12,7 @@ use syntax_tree::Name;
 #[derive(Debug, Drop)]
 pub(crate) struct Scopes {
     // the outermost first
-    stack: Items<Items<(Name, Meaning)>>,
+    stack: Items<Scope>,
 }
 
 impl Model for Scopes {
@@ -36,7 +37,7 @@ impl Scopes {
     pub(crate) fn open(&mut self, alloc: Global) -> Result<(), AllocError>
         ensures { OnOk result (self.new ≡ [] ∷ self.old) }
     {
-        self.stack.push(Items::new(alloc))?;
+        self.stack.push(Scope::new(alloc))?;
         Ok(())
     }
 
@@ -56,11 +57,11 @@ impl Scopes {
     ) -> Result<(), AllocError>
         ensures { OnOk result (self.new ≡ declared_in name meaning self.old) }
     {
-        let mut scope = match self.stack.pop() {
+        let scope = match self.stack.pop() {
             Some(scope) => scope,
-            None => Items::new(alloc),
+            None => Scope::new(alloc),
         };
-        scope.push((name, meaning))?;
+        let scope = scope.with(name, meaning)?;
         self.stack.push(scope)?;
         Ok(())
     }
@@ -77,31 +78,20 @@ impl Scopes {
         ensures { result ≡ is_declared_here self.now name.now }
     {
         match self.stack.as_slice().split_last() {
-            Some((scope, _)) => found(scope.as_slice(), name).is_some(),
+            Some((scope, _)) => scope.found(name).is_some(),
             None => false,
         }
     }
 }
 
-fn meaning_within(stack: &[Items<(Name, Meaning)>], name: &Name) -> Option<Meaning>
+fn meaning_within(stack: &[Scope], name: &Name) -> Option<Meaning>
     ensures { result ≡ meaning_of (reverse stack.now) name.now }
 {
     match stack.split_last() {
-        Some((scope, outer)) => match found(scope.as_slice(), name) {
+        Some((scope, outer)) => match scope.found(name) {
             Some(meaning) => Some(meaning),
             None => meaning_within(outer, name),
         },
         None => None,
     }
-}
-
-fn found(scope: &[(Name, Meaning)], name: &Name) -> Option<Meaning>
-    ensures { result ≡ found scope.now name.now }
-{
-    for (declared, meaning) in scope {
-        if declared.as_slice() == name.as_slice() {
-            return Some(*meaning);
-        }
-    }
-    None
 }
