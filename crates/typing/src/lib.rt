@@ -29,4 +29,4 @@ mod tests;
 
 pub use elaboration::elaborate;
 pub use error::{Limited, TypeError};
-pub use laws::elaborations_are_unique;
+pub use laws::{elaborations_are_answered, elaborations_are_unique};

@@ -1,5 +1,5 @@
 //! Programs and refusals of texts, as another implementation tells them, with the parts of each text's tree.
-use crate::elaborations_are_unique;
+use crate::{elaborations_are_answered, elaborations_are_unique};
 use crate::parts::told;
 use std::alloc::Global;
 use std::fmt::Write;
@@ -19,6 +19,7 @@ fn check(alloc: Global, rt: &impl Abort, cases: &[(&str, &str, &str)]) -> Result
 #[test]
 fn law(_rt: HostRuntime) {
     elaborations_are_unique();
+    elaborations_are_answered();
 }
 
 /// What is told of a `main` with so many assertions, all at one place.
