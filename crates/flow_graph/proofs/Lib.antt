@@ -1,0 +1,11 @@
+pub mod Each
+pub mod Moves
+pub mod Frames
+pub mod Does
+pub mod Fates
+pub mod Places
+pub mod Explained
+pub mod Live
+pub mod Activations
+pub mod Walking
+pub mod Theorems

@@ -1,0 +1,4 @@
+pub mod FlowGraph
+pub mod Plain
+pub mod Walks
+pub mod Laws

@@ -1,0 +1,16 @@
+//! The flow graph of a procedure: nodes and edges, each of which does one simple thing or one call. The walks
+//! of the graph are exactly what one activation of the procedure can do; the laws are the contracts of functions
+//! that do nothing.
+#![tactic(auto)]
+
+mod error;
+mod graph;
+mod laws;
+mod making;
+//#[cfg(test)]
+//mod tests;
+
+pub use error::GraphError;
+pub use graph::{Act, CheckNode, Edge, Graph};
+pub use laws::{calls_are_walks, checks_are_walks, returns_are_walks};
+//pub use making::graph;
