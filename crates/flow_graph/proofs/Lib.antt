@@ -9,3 +9,4 @@ pub mod Live
 pub mod Activations
 pub mod Walking
 pub mod Theorems
+pub mod Statements

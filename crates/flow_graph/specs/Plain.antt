@@ -2,11 +2,11 @@
 use Rattle.std.specs.Prelude.{map}
 use Rattle.syntax_tree.specs.Term.{term_of}
 use Rattle.syntax_tree.specs.Code.{Statement, Set, Any, Call, Guard}
-use Rattle.flow_graph.specs.declared.graph.Act.{Act}
-use Rattle.flow_graph.specs.declared.graph.Act.TheVariants as act
-use Rattle.flow_graph.specs.declared.graph.Edge.{Edge}
-use Rattle.flow_graph.specs.declared.graph.CheckNode.{CheckNode}
-use Rattle.flow_graph.specs.declared.graph.Graph.{Graph}
+use Rattle.flow_graph.specs.declared.parts.Act.{Act}
+use Rattle.flow_graph.specs.declared.parts.Act.TheVariants as act
+use Rattle.flow_graph.specs.declared.parts.Edge.{Edge}
+use Rattle.flow_graph.specs.declared.parts.CheckNode.{CheckNode}
+use Rattle.flow_graph.specs.declared.parts.Graph.{Graph}
 use Rattle.flow_graph.specs.FlowGraph.{Arc, CheckPlace, FlowGraph}
 
 abbrev pub statement_of_act : Act → Statement

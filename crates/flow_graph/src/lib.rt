@@ -4,13 +4,13 @@
 #![tactic(auto)]
 
 mod error;
-mod graph;
 mod laws;
 mod making;
+mod parts;
 //#[cfg(test)]
 //mod tests;
 
 pub use error::GraphError;
-pub use graph::{Act, CheckNode, Edge, Graph};
+pub use parts::{Act, CheckNode, Edge, Graph};
 pub use laws::{calls_are_walks, checks_are_walks, returns_are_walks};
-//pub use making::graph;
+pub use making::graph;
