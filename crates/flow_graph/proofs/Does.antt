@@ -96,12 +96,12 @@ module _ (program : Program) (w : ℕ) where
   enters : (proc : ℕ) (into : Option ℕ) (below : List Frame) (items : List Item) (state : State) (call : Calling) → w ≤ length state
       → IsCalling program items state call
       → Steps program (here w proc into below state items)
-          (here w call.proc call.awaits (frame_with w proc into state call.rest ∷ below) (entry_of w call state) (pending (code_of call.callee.body) []))
+      (here w call.proc call.awaits (frame_with w proc into state call.rest ∷ below) (entry_of w call state) (pending (code_of call.callee.body) []))
   enters proc into below items state call fits is =
       let caller = frame_with w proc into state call.rest in
       let body = pending (code_of call.callee.body) [] in
       let does : DoesCall program call.proc call.args call.awaits (top_at w proc into below state (Do (Call call.proc call.args call.awaits) ∷ call.rest)) call.rest
-          (here w call.proc call.awaits (caller ∷ below) (entry_of w call state) body) = record {
+      (here w call.proc call.awaits (caller ∷ below) (entry_of w call state) body) = record {
         values = call.values;
         are = subst (λ s. values_of call.args s ≡ Some call.values) (sym (take-append-drop w state)) is.values_are;
         frame = record { proc = call.proc; own = call.values ++ call.others; items = body; into = call.awaits };
@@ -131,7 +131,10 @@ module _ (program : Program) (w : ℕ) where
       let done = here w call.proc call.awaits (caller ∷ below) end [] in
       let back : Steps program done (here w proc into below after call.rest) =
       sym (resumed_here program w proc into below call.awaits (value_in w end) (take w end) state call.rest (length-take-le w end ended)) in
-      let tail : Runs program done (here w proc into below after call.rest ∷ onward.0) (here w proc into below final last) = (back, onward.1) in
-      (called ∷ (in_callee.0 ++ here w proc into below after call.rest ∷ onward.0),
-        (enters proc into below items state call fits is,
-          runs_join program called done (here w proc into below final last) in_callee.0 (here w proc into below after call.rest ∷ onward.0) in_callee.1 tail))
+      let tail : Runs program done (here w proc into below after call.rest ∷ onward.0) (here w proc into below final last) = (back, onward.1) in (
+        called ∷ (in_callee.0 ++ here w proc into below after call.rest ∷ onward.0),
+        (
+          enters proc into below items state call fits is,
+          runs_join program called done (here w proc into below final last) in_callee.0 (here w proc into below after call.rest ∷ onward.0) in_callee.1 tail,
+        ),
+      )

@@ -70,10 +70,11 @@ module _ (P : Holds) where
         (arc c (c + 1) (Guard cond) ∷ code_arcs t (c + 1) on_true ++ arc c (end_true + 1) (unless cond) ∷ code_arcs t (end_true + 1) on_false)
         (arc end_true (end_false + 1) skip ∷ arc end_false (end_false + 1) skip ∷ [])
         (each_both (Explained P) (arc c (c + 1) (Guard cond) ∷ code_arcs t (c + 1) on_true) (arc c (end_true + 1) (unless cond) ∷ code_arcs t (end_true + 1) on_false)
-          (first_move c (c + 1) _ _ (pending on_true rest) at (start P (c + 1) on_true rest placed.0) refl, code_explained t (c + 1) on_true rest means placed.0)
-          (second_move c (end_true + 1) _ _ (pending on_false rest) at (start P (end_true + 1) on_false rest placed.1) refl, code_explained t (end_true + 1) on_false rest means placed.1))
-        (no_move end_true (end_false + 1) rest (finish P (c + 1) on_true rest placed.0) last,
-          (no_move end_false (end_false + 1) rest (finish P (end_true + 1) on_false rest placed.1) last, tt))
+        (first_move c (c + 1) _ _ (pending on_true rest) at (start P (c + 1) on_true rest placed.0) refl, code_explained t (c + 1) on_true rest means placed.0)
+        (second_move c (end_true + 1) _ _ (pending on_false rest) at (start P (end_true + 1) on_false rest placed.1) refl, code_explained t (end_true + 1) on_false rest means placed.1)) (
+          no_move end_true (end_false + 1) rest (finish P (c + 1) on_true rest placed.0) last,
+          (no_move end_false (end_false + 1) rest (finish P (end_true + 1) on_false rest placed.1) last, tt),
+        )
     statement_explained t c (Loop pre cond body step false) rest means at placed end =
         let loop = parts pre cond body step false in
         let test : ℕ = c + 1 + code_nodes pre in
@@ -86,19 +87,22 @@ module _ (P : Holds) where
         let turn = start P (end_body + 1) step (Head loop ∷ rest) placed.2 in
         each_both (Explained P)
         (arc c (c + 1) skip ∷ code_arcs t (c + 1) pre ++ arc test (test + 1) (Guard cond) ∷ code_arcs inner (test + 1) body
-          ++ arc end_body (end_body + 1) skip ∷ code_arcs t (end_body + 1) step)
+        ++ arc end_body (end_body + 1) skip ∷ code_arcs t (end_body + 1) step)
         (arc end_step (c + 1) skip ∷ arc test (end_step + 1) (unless cond) ∷ [])
         (each_both (Explained P)
-          (arc c (c + 1) skip ∷ code_arcs t (c + 1) pre ++ arc test (test + 1) (Guard cond) ∷ code_arcs inner (test + 1) body)
-          (arc end_body (end_body + 1) skip ∷ code_arcs t (end_body + 1) step)
-          (each_both (Explained P) (arc c (c + 1) skip ∷ code_arcs t (c + 1) pre) (arc test (test + 1) (Guard cond) ∷ code_arcs inner (test + 1) body)
-            (first_move c (c + 1) _ _ (pending pre (Test loop ∷ rest)) at head refl, code_explained t (c + 1) pre (Test loop ∷ rest) means placed.0)
-            (first_move test (test + 1) _ (Test loop ∷ rest) (pending body (Tail loop ∷ rest)) tested (start P (test + 1) body (Tail loop ∷ rest) placed.1) refl,
-              code_explained inner (test + 1) body (Tail loop ∷ rest) (last, turn, means.2) placed.1))
-          (first_move end_body (end_body + 1) _ (Tail loop ∷ rest) (pending step (Head loop ∷ rest)) (finish P (test + 1) body (Tail loop ∷ rest) placed.1) turn refl,
-            code_explained t (end_body + 1) step (Head loop ∷ rest) means placed.2))
-        (first_move end_step (c + 1) _ (Head loop ∷ rest) (pending pre (Test loop ∷ rest)) (finish P (end_body + 1) step (Head loop ∷ rest) placed.2) head refl,
-          (second_move test (end_step + 1) _ (Test loop ∷ rest) rest tested last refl, tt))
+        (arc c (c + 1) skip ∷ code_arcs t (c + 1) pre ++ arc test (test + 1) (Guard cond) ∷ code_arcs inner (test + 1) body)
+        (arc end_body (end_body + 1) skip ∷ code_arcs t (end_body + 1) step)
+        (each_both (Explained P) (arc c (c + 1) skip ∷ code_arcs t (c + 1) pre) (arc test (test + 1) (Guard cond) ∷ code_arcs inner (test + 1) body)
+        (first_move c (c + 1) _ _ (pending pre (Test loop ∷ rest)) at head refl, code_explained t (c + 1) pre (Test loop ∷ rest) means placed.0) (
+          first_move test (test + 1) _ (Test loop ∷ rest) (pending body (Tail loop ∷ rest)) tested (start P (test + 1) body (Tail loop ∷ rest) placed.1) refl,
+          code_explained inner (test + 1) body (Tail loop ∷ rest) (last, turn, means.2) placed.1,
+        )) (
+          first_move end_body (end_body + 1) _ (Tail loop ∷ rest) (pending step (Head loop ∷ rest)) (finish P (test + 1) body (Tail loop ∷ rest) placed.1) turn refl,
+          code_explained t (end_body + 1) step (Head loop ∷ rest) means placed.2,
+        )) (
+          first_move end_step (c + 1) _ (Head loop ∷ rest) (pending pre (Test loop ∷ rest)) (finish P (end_body + 1) step (Head loop ∷ rest) placed.2) head refl,
+          (second_move test (end_step + 1) _ (Test loop ∷ rest) rest tested last refl, tt),
+        )
     statement_explained t c (Loop pre cond body step true) rest means at placed end =
         let loop = parts pre cond body step true in
         let end_body : ℕ = c + 1 + code_nodes body in
@@ -112,11 +116,13 @@ module _ (P : Holds) where
         (arc c (c + 1) skip ∷ code_arcs inner (c + 1) body ++ arc end_body (end_body + 1) skip ∷ code_arcs t (end_body + 1) pre)
         (arc test (c + 1) (Guard cond) ∷ arc test (test + 1) (unless cond) ∷ [])
         (each_both (Explained P) (arc c (c + 1) skip ∷ code_arcs inner (c + 1) body) (arc end_body (end_body + 1) skip ∷ code_arcs t (end_body + 1) pre)
-          (first_move c (c + 1) _ _ (pending body (Tail loop ∷ rest)) at head refl, code_explained inner (c + 1) body (Tail loop ∷ rest) (last, turn, means.2) placed.0)
-          (first_move end_body (end_body + 1) _ (Tail loop ∷ rest) (pending pre (Test loop ∷ rest)) (finish P (c + 1) body (Tail loop ∷ rest) placed.0) turn refl,
-            code_explained t (end_body + 1) pre (Test loop ∷ rest) means placed.1))
-        (first_move test (c + 1) _ (Test loop ∷ rest) (pending body (Tail loop ∷ rest)) tested head refl,
-          (second_move test (test + 1) _ (Test loop ∷ rest) rest tested last refl, tt))
+        (first_move c (c + 1) _ _ (pending body (Tail loop ∷ rest)) at head refl, code_explained inner (c + 1) body (Tail loop ∷ rest) (last, turn, means.2) placed.0) (
+          first_move end_body (end_body + 1) _ (Tail loop ∷ rest) (pending pre (Test loop ∷ rest)) (finish P (c + 1) body (Tail loop ∷ rest) placed.0) turn refl,
+          code_explained t (end_body + 1) pre (Test loop ∷ rest) means placed.1,
+        )) (
+          first_move test (c + 1) _ (Test loop ∷ rest) (pending body (Tail loop ∷ rest)) tested head refl,
+          (second_move test (test + 1) _ (Test loop ∷ rest) rest tested last refl, tt),
+        )
     statement_explained t c Break rest means at placed end = (first_move c t.break_to _ _ _ at means.0 refl, tt)
     statement_explained t c Continue rest means at placed end = (first_move c t.continue_to _ _ _ at means.1 refl, tt)
     statement_explained t c Return rest means at placed end = (first_move c t.exit _ _ _ at means.2 refl, tt)
@@ -141,7 +147,7 @@ module _ (P : Holds) where
         let body_at : ℕ = c + 1 + code_nodes pre + 1 in
         each_both (Checked P) (code_checks_at (c + 1) pre ++ code_checks_at body_at body) (code_checks_at (body_at + code_nodes body + 1) step)
         (each_both (Checked P) (code_checks_at (c + 1) pre) (code_checks_at body_at body)
-          (code_checked (c + 1) pre _ placed.0) (code_checked body_at body _ placed.1))
+        (code_checked (c + 1) pre _ placed.0) (code_checked body_at body _ placed.1))
         (code_checked (body_at + code_nodes body + 1) step _ placed.2)
     statement_checked c (Loop pre cond body step true) rest at placed =
         each_both (Checked P) (code_checks_at (c + 1) body) (code_checks_at (c + 1 + code_nodes body + 1) pre)

@@ -84,7 +84,7 @@ module _ (program : Program) (w : ℕ) where
       ∙ resumed_here program w proc into below call.awaits (value_in w end) (take w end) state call.rest (length-take-le w end ends) in
       after_call proc into below state items n last call shape end is does
       (fates proc into below after call.rest leaves.steps last (exit_fits program w call state end ends) leaves.fewer
-        (subst (λ c. Runs program c leaves.steps last) back leaves.runs))
+      (subst (λ c. Runs program c leaves.steps last) back leaves.runs))
 
   by_call : (n : ℕ) → Fates n → (proc : ℕ) (into : Option ℕ) (below : List Frame) (state : State) (items : List Item) (next : Config) (steps : List Config) (last : Config)
       (callee : ℕ) (args : List Term) (awaits : Option ℕ) (rest : List Item) → w ≤ length state → length steps ≤ n
@@ -109,7 +109,7 @@ module _ (program : Program) (w : ℕ) where
       ∙ sym (here_of w callee awaits (frame ∷ below) (take w state) (does.values ++ entered.others) body (length-take-le w state fits)) in
       of_call n fates proc into below state items last call fits is
       (fates callee awaits (frame ∷ below) (entry_of w call state) body steps last (entry_fits program w call state fits) fewer
-        (subst (λ c. Runs program c steps last) there runs))
+      (subst (λ c. Runs program c steps last) there runs))
 
   by_end : (n proc : ℕ) (into : Option ℕ) (below : List Frame) (state : State) (items : List Item) (next : Config) (steps : List Config) (last : Config)
       → w ≤ length state → length steps ≤ n → items ≡ [] → Resumes (top_at w proc into below state items) below next

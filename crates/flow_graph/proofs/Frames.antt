@@ -51,9 +51,11 @@ module _ (program : Program) (w proc : ℕ) (into : Option ℕ) (below : List Fr
   simple_out : (statement : Statement) (state : State) (items rest : List Item) (next : Config) → w ≤ length state
       → DoesSimple statement (top_at w proc into below state items) rest next
       → (after : State) × Changes statement state after × (next ≡ here w proc into below after rest)
-  simple_out statement state items rest next fits does =
-      (does.after, subst (λ s. Changes statement s does.after) (take-append-drop w state) does.changes,
-        does.next_is ∙ after_here w proc into below state items does.after rest fits)
+  simple_out statement state items rest next fits does = (
+    does.after,
+    subst (λ s. Changes statement s does.after) (take-append-drop w state) does.changes,
+    does.next_is ∙ after_here w proc into below state items does.after rest fits,
+  )
 
   chosen_out : (cond : Term) (state : State) (items on_true on_false : List Item) (next : Config)
       → Chooses cond (top_at w proc into below state items) on_true on_false next
@@ -127,7 +129,7 @@ module _ (program : Program) (w proc : ℕ) (into : Option ℕ) (below : List Fr
   -- a caller goes on with the globals that its callee left, and the value in its column
   pub resumed_here : (awaits : Option ℕ) (value : ℤ) (left state : State) (rest : List Item) → length left ≡ w
       → resumed awaits value (record { globals = left; frame = frame_with w proc into state rest; below = below })
-          ≡ here w proc into below (received awaits value (left ++ drop w state)) rest
+      ≡ here w proc into below (received awaits value (left ++ drop w state)) rest
   resumed_here None value left state rest e = sym (here_of w proc into below left (drop w state) rest e)
   resumed_here (Some col) value left state rest e =
       let after = slice_set (left ++ drop w state) col value in

@@ -99,10 +99,13 @@ module _ (P : Holds) (arcs : List Arc) (checks : List CheckPlace) (exit : ℕ) w
         let twos = each_right (Has arcs) one two both in
         let threes = each_right (Has arcs) (one ++ two) three ways in
         let one_stops = each_left (Has checks) (code_checks_at (c + 1) on_true) (code_checks_at (end_true + 1) on_false) stops in
-        let two_stops = each_right (Has checks) (code_checks_at (c + 1) on_true) (code_checks_at (end_true + 1) on_false) stops in
-        (at_once c _ ((c + 1, ones.0, start P (c + 1) on_true rest placed.0), ((end_true + 1, twos.0, start P (end_true + 1) on_false rest placed.1), tt)) tt,
-          (code_lives t (c + 1) on_true rest means placed.0 ones.1 one_stops (hop end_true (end_false + 1) rest threes.0 last),
-            code_lives t (end_true + 1) on_false rest means placed.1 twos.1 two_stops (hop end_false (end_false + 1) rest threes.1.0 last)))
+        let two_stops = each_right (Has checks) (code_checks_at (c + 1) on_true) (code_checks_at (end_true + 1) on_false) stops in (
+          at_once c _ ((c + 1, ones.0, start P (c + 1) on_true rest placed.0), ((end_true + 1, twos.0, start P (end_true + 1) on_false rest placed.1), tt)) tt,
+          (
+            code_lives t (c + 1) on_true rest means placed.0 ones.1 one_stops (hop end_true (end_false + 1) rest threes.0 last),
+            code_lives t (end_true + 1) on_false rest means placed.1 twos.1 two_stops (hop end_false (end_false + 1) rest threes.1.0 last),
+          ),
+        )
     statement_lives t c (Loop pre cond body step false) rest means placed end ways stops live =
         let loop = parts pre cond body step false in
         let test : ℕ = c + 1 + code_nodes pre in
@@ -125,14 +128,17 @@ module _ (P : Holds) (arcs : List Arc) (checks : List CheckPlace) (exit : ℕ) w
         let pre_at = code_checks_at (c + 1) pre in
         let body_at = code_checks_at (test + 1) body in
         let step_at = code_checks_at (end_body + 1) step in
-        let both_stops = each_left (Has checks) (pre_at ++ body_at) step_at stops in
-        (at_once c _ ((c + 1, ones.0, head), tt) tt,
-          (code_lives t (c + 1) pre (Test loop ∷ rest) means placed.0 ones.1 (each_left (Has checks) pre_at body_at both_stops)
-            (at_once test (Test loop ∷ rest) ((test + 1, twos.0, start P (test + 1) body (Tail loop ∷ rest) placed.1), ((end_step + 1, fours.1.0, last), tt)) tt),
+        let both_stops = each_left (Has checks) (pre_at ++ body_at) step_at stops in (
+          at_once c _ ((c + 1, ones.0, head), tt) tt,
+          (
+            code_lives t (c + 1) pre (Test loop ∷ rest) means placed.0 ones.1 (each_left (Has checks) pre_at body_at both_stops)
+                (at_once test (Test loop ∷ rest) ((test + 1, twos.0, start P (test + 1) body (Tail loop ∷ rest) placed.1), ((end_step + 1, fours.1.0, last), tt)) tt),
             code_lives inner (test + 1) body (Tail loop ∷ rest) (last, turn, means.2) placed.1 twos.1 (each_right (Has checks) pre_at body_at both_stops)
-            (at_once end_body (Tail loop ∷ rest) ((end_body + 1, threes.0, turn), tt) tt),
+                (at_once end_body (Tail loop ∷ rest) ((end_body + 1, threes.0, turn), tt) tt),
             code_lives t (end_body + 1) step (Head loop ∷ rest) means placed.2 threes.1 (each_right (Has checks) (pre_at ++ body_at) step_at stops)
-            (at_once end_step (Head loop ∷ rest) ((c + 1, fours.0, head), tt) tt)))
+                (at_once end_step (Head loop ∷ rest) ((c + 1, fours.0, head), tt) tt),
+          ),
+        )
     statement_lives t c (Loop pre cond body step true) rest means placed end ways stops live =
         let loop = parts pre cond body step true in
         let end_body : ℕ = c + 1 + code_nodes body in
@@ -149,12 +155,15 @@ module _ (P : Holds) (arcs : List Arc) (checks : List CheckPlace) (exit : ℕ) w
         let twos = each_right (Has arcs) one two both in
         let threes = each_right (Has arcs) (one ++ two) three ways in
         let body_at = code_checks_at (c + 1) body in
-        let pre_at = code_checks_at (end_body + 1) pre in
-        (at_once c _ ((c + 1, ones.0, head), tt) tt,
-          (code_lives inner (c + 1) body (Tail loop ∷ rest) (last, turn, means.2) placed.0 ones.1 (each_left (Has checks) body_at pre_at stops)
-            (at_once end_body (Tail loop ∷ rest) ((end_body + 1, twos.0, turn), tt) tt),
+        let pre_at = code_checks_at (end_body + 1) pre in (
+          at_once c _ ((c + 1, ones.0, head), tt) tt,
+          (
+            code_lives inner (c + 1) body (Tail loop ∷ rest) (last, turn, means.2) placed.0 ones.1 (each_left (Has checks) body_at pre_at stops)
+                (at_once end_body (Tail loop ∷ rest) ((end_body + 1, twos.0, turn), tt) tt),
             code_lives t (end_body + 1) pre (Test loop ∷ rest) means placed.1 twos.1 (each_right (Has checks) body_at pre_at stops)
-            (at_once test (Test loop ∷ rest) ((c + 1, threes.0, head), ((test + 1, threes.1.0, last), tt)) tt)))
+                (at_once test (Test loop ∷ rest) ((c + 1, threes.0, head), ((test + 1, threes.1.0, last), tt)) tt),
+          ),
+        )
     statement_lives t c Break rest means placed end ways stops live = (at_once c _ ((t.break_to, ways.0, means.0), tt) tt, tt)
     statement_lives t c Continue rest means placed end ways stops live = (at_once c _ ((t.continue_to, ways.0, means.1), tt) tt, tt)
     statement_lives t c Return rest means placed end ways stops live = (at_once c _ ((t.exit, ways.0, means.2), tt) tt, tt)

@@ -67,7 +67,7 @@ abbrev mutual
   items_in (Loop pre cond body step false) rest after =
       items_at pre (Test (parts pre cond body step false) ∷ rest)
       (items_at body (Tail (parts pre cond body step false) ∷ rest)
-        (items_at step (Head (parts pre cond body step false) ∷ rest) after))
+      (items_at step (Head (parts pre cond body step false) ∷ rest) after))
   items_in (Loop pre cond body step true) rest after =
       items_at body (Tail (parts pre cond body step true) ∷ rest)
       (items_at pre (Test (parts pre cond body step true) ∷ rest) after)

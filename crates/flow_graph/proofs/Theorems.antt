@@ -129,10 +129,12 @@ module _ (program : Program) (proc : ℕ) (globals args : State) where
   done_by items final stands =
       let acts = active program proc globals args stands.first stands.steps stands.now stands.frame stands.begins stands.runs in
       let whole : acts.final ≡ final =
-      sym (take-append-drop (width_in program) acts.final) ∙ (λ i. acts.now_is i ++ acts.own_is i) ∙ stands.state_is in
-      (acts.entry, acts.shape,
+      sym (take-append-drop (width_in program) acts.final) ∙ (λ i. acts.now_is i ++ acts.own_is i) ∙ stands.state_is in (
+        acts.entry,
+        acts.shape,
         subst (λ s. Does program (width_in program) acts.shape (first_items acts.entry) (first_state acts.entry) items s) whole
-        (subst (λ l. Does program (width_in program) acts.shape (first_items acts.entry) (first_state acts.entry) l acts.final) stands.items_are acts.does))
+            (subst (λ l. Does program (width_in program) acts.shape (first_items acts.entry) (first_state acts.entry) l acts.final) stands.items_are acts.does),
+      )
 
   stands_by : (entry : Entry program proc globals args) (shape : Shape) (items : List Item) (final : State)
       → Does program (width_in program) shape (first_items entry) (first_state entry) items final → Stands program proc globals args items final
@@ -234,9 +236,14 @@ module _ (program : Program) (proc : ℕ) (globals args : State) where
       let here = arrived done.0 done.1 (Do (Check number cond) ∷ rest) final done.2 in
       let there = lived (Do (Check number cond) ∷ rest) final here (first_do (Check number cond) rest here.left here.near) in
       let marked = there.live.marked in
-      let at : CheckPlace = record { node = there.live.at; number = number; cond = cond } in
-      (at, marked.0, subst (λ l. slice_get l marked.0 ≡ Some at) (found_checks there.entry.callee there.entry.is) marked.1, refl, refl,
-        walks_to_lived (Do (Check number cond) ∷ rest) final there)
+      let at : CheckPlace = record { node = there.live.at; number = number; cond = cond } in (
+        at,
+        marked.0,
+        subst (λ l. slice_get l marked.0 ≡ Some at) (found_checks there.entry.callee there.entry.is) marked.1,
+        refl,
+        refl,
+        walks_to_lived (Do (Check number cond) ∷ rest) final there,
+      )
 
   pub walk_checks : (number : ℕ) (cond : Term) (final : State) → CheckWalks number cond final → (rest : List Item) × Stands program proc globals args (Do (Check number cond) ∷ rest) final
   unfolding CheckWalks
@@ -247,9 +254,11 @@ module _ (program : Program) (proc : ℕ) (globals args : State) where
       let there = subst (λ l. slice_get l k ≡ Some at) (sym (found_checks entry.callee entry.is)) is in
       let checked = each_get (Checked (At body)) (flow_of body).checks k at (body_checked body) there in
       let does = came_to at.node final walks (Do (Check at.number at.cond) ∷ checked.0) checked.1 in
-      let stands = stands_by entry does.0 (Do (Check at.number at.cond) ∷ checked.0) final does.1 in
-      (checked.0, subst (λ n. Stands program proc globals args (Do (Check n cond) ∷ checked.0) final) number_is
-        (subst (λ e. Stands program proc globals args (Do (Check at.number e) ∷ checked.0) final) cond_is stands))
+      let stands = stands_by entry does.0 (Do (Check at.number at.cond) ∷ checked.0) final does.1 in (
+        checked.0,
+        subst (λ n. Stands program proc globals args (Do (Check n cond) ∷ checked.0) final) number_is
+            (subst (λ e. Stands program proc globals args (Do (Check at.number e) ∷ checked.0) final) cond_is stands),
+      )
 
   -- ---- calls
 
@@ -267,9 +276,13 @@ module _ (program : Program) (proc : ℕ) (globals args : State) where
       let here = arrived done.0 done.1 items final done.2 in
       let there = lived items final here (first_do (Call callee values into) rest here.left here.near) in
       let leads = there.live.leads.0 in
-      let way : Arc = record { from = there.live.at; to = leads.0; act = Call callee values into } in
-      (way, leads.1.0, subst (λ l. slice_get l leads.1.0 ≡ Some way) (found_arcs there.entry.callee there.entry.is) leads.1.1, refl,
-        walks_to_lived items final there)
+      let way : Arc = record { from = there.live.at; to = leads.0; act = Call callee values into } in (
+        way,
+        leads.1.0,
+        subst (λ l. slice_get l leads.1.0 ≡ Some way) (found_arcs there.entry.callee there.entry.is) leads.1.1,
+        refl,
+        walks_to_lived items final there,
+      )
 
   pub walk_calls : (callee : ℕ) (values : List Term) (into : Option ℕ) (final : State)
       → CallWalks callee values into final → (rest : List Item) × Stands program proc globals args (Do (Call callee values into) ∷ rest) final

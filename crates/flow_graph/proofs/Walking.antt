@@ -80,17 +80,19 @@ module _ (program : Program) where
   moved (Do (Call proc args into) ∷ rest) = (call_moved proc args into rest, tt)
   moved (Do (Guard cond) ∷ rest) = ((λ before after changes. one_step _ before rest after (changes, refl)), tt)
   moved (Do (Check number cond) ∷ rest) = ((λ before after changes. one_step _ before rest after (changes, refl)), tt)
-  moved (Do (If cond on_true on_false) ∷ rest) =
-      ((λ before after passes. one_step (Do (If cond on_true on_false) ∷ rest) before (pending on_true rest) after (inl (passes.0, (refl, passes.1)))),
-        ((λ before after passes. one_step (Do (If cond on_true on_false) ∷ rest) before (pending on_false rest) after (inr (passes_false cond before passes.0, (refl, passes.1)))), tt))
+  moved (Do (If cond on_true on_false) ∷ rest) = (
+    (λ before after passes. one_step (Do (If cond on_true on_false) ∷ rest) before (pending on_true rest) after (inl (passes.0, (refl, passes.1)))),
+    ((λ before after passes. one_step (Do (If cond on_true on_false) ∷ rest) before (pending on_false rest) after (inr (passes_false cond before passes.0, (refl, passes.1)))), tt),
+  )
   moved (Do (Loop pre cond body step first) ∷ rest) = (loop_moved pre cond body step first rest, tt)
   moved (Do Break ∷ rest) = ((λ before after passes. one_step (Do Break ∷ rest) before (after_loop rest) after (refl, passes.1)), tt)
   moved (Do Continue ∷ rest) = (continue_moved rest, tt)
   moved (Do Return ∷ rest) = ((λ before after passes. one_step (Do Return ∷ rest) before [] after (refl, passes.1)), tt)
   moved (Head loop ∷ rest) = ((λ before after passes. one_step (Head loop ∷ rest) before (at_head loop rest) after (refl, passes.1)), tt)
-  moved (Test loop ∷ rest) =
-      ((λ before after passes. one_step (Test loop ∷ rest) before (pending loop.body (Tail loop ∷ rest)) after (inl (passes.0, (refl, passes.1)))),
-        ((λ before after passes. one_step (Test loop ∷ rest) before rest after (inr (passes_false loop.cond before passes.0, (refl, passes.1)))), tt))
+  moved (Test loop ∷ rest) = (
+    (λ before after passes. one_step (Test loop ∷ rest) before (pending loop.body (Tail loop ∷ rest)) after (inl (passes.0, (refl, passes.1)))),
+    ((λ before after passes. one_step (Test loop ∷ rest) before rest after (inr (passes_false loop.cond before passes.0, (refl, passes.1)))), tt),
+  )
   moved (Tail loop ∷ rest) = ((λ before after passes. one_step (Tail loop ∷ rest) before (at_tail loop rest) after (refl, passes.1)), tt)
 
   by_edge : (items : List Item) (act : Statement) (to : List Item) (before after : State) → Taken items act to → Relates act before after → DoesTo items before to after

@@ -7,10 +7,10 @@ mod error;
 mod laws;
 mod making;
 mod parts;
-//#[cfg(test)]
-//mod tests;
+#[cfg(test)]
+mod tests;
 
 pub use error::GraphError;
-pub use parts::{Act, CheckNode, Edge, Graph};
 pub use laws::{calls_are_walks, checks_are_walks, returns_are_walks};
 pub use making::graph;
+pub use parts::{Act, CheckNode, Edge, Graph};

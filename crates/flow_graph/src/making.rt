@@ -193,8 +193,8 @@ impl Made {
             number,
             cond: held,
         })?;
-        let act = guard(self.alloc, cond)?;
-        self.onward(at, act)
+        let passes = guard(self.alloc, cond)?;
+        self.onward(at, passes)
     }
 
     #[cycle(making)]
