@@ -10,3 +10,9 @@ pub mod Activations
 pub mod Walking
 pub mod Theorems
 pub mod Statements
+pub mod Marks
+pub mod Members
+pub mod Reaching
+pub mod Sieves
+pub mod Ordering
+pub mod Tables

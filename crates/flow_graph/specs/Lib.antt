@@ -2,3 +2,5 @@ pub mod FlowGraph
 pub mod Plain
 pub mod Walks
 pub mod Laws
+pub mod Groups
+pub mod Reach

@@ -4,6 +4,7 @@
 #![tactic(auto)]
 
 mod error;
+mod grouping;
 mod laws;
 mod making;
 mod parts;
@@ -11,6 +12,7 @@ mod parts;
 mod tests;
 
 pub use error::GraphError;
+pub use grouping::{Group, groups};
 pub use laws::{calls_are_walks, checks_are_walks, returns_are_walks};
 pub use making::graph;
 pub use parts::{Act, CheckNode, Edge, Graph};
