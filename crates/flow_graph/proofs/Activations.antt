@@ -1,5 +1,5 @@
 -- An execution that begins in a procedure and comes to one frame, and what the activation does.
-use Rattle.std.proofs.Common.{◌≡◌, ◌≤◌, ◌<◌, ℕ, ℤ, pos, suc, ◌+◌, ◌-◌, Option, Some, None, List, [], ◌∷◌, ◌++◌, refl, sym, ap, subst, ◌∙◌, arith, length, take, drop, length-append}
+use Rattle.std.proofs.Common.{◌≡◌, ◌≤◌, ◌<◌, ℕ, ℤ, pos, ◌+◌, ◌-◌, Some, None, List, [], ◌∷◌, ◌++◌, refl, sym, ap, subst, ◌∙◌, arith, length, take, drop, length-append}
 use Rattle.std.specs.Prelude.{slice_get, slice_index_or}
 use Rattle.std.proofs.lemmas.List.{take-append-drop, length-take-le, length-drop, get_or-append-add}
 use Rattle.syntax_tree.specs.declared.program.Proc.{Proc}
@@ -12,7 +12,7 @@ use Rattle.execution.specs.Execution.{Begins, Returns, Runs}
 use Rattle.flow_graph.specs.Laws.{last_of}
 use Rattle.flow_graph.proofs.Moves.{plain_length}
 use Rattle.flow_graph.proofs.Frames.{here, here_of, received_length}
-use Rattle.flow_graph.proofs.Does.{Does, Onward, Shape, Still, Through, does_run, entry_fits, entry_of, exit_state, value_in}
+use Rattle.flow_graph.proofs.Does.{Does, Onward, Shape, Still, Through, does_run, entry_fits, exit_state, value_in}
 use Rattle.flow_graph.proofs.Fates.{alone}
 
 abbrev pub width_in : Program → ℕ

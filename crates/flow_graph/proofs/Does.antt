@@ -1,6 +1,6 @@
 -- What an activation does, with each call as one step: a tree, whose executions on the machine stand at any place of
 -- a stack.
-use Rattle.std.proofs.Common.{◌≡◌, ◌≤◌, ℕ, ℤ, suc, ◌+◌, Option, Some, None, List, [], ◌∷◌, ◌++◌, refl, sym, ap, subst, ◌∙◌, arith, length, take, drop, length-append}
+use Rattle.std.proofs.Common.{◌≡◌, ◌≤◌, ℕ, ℤ, ◌+◌, Option, Some, None, List, [], ◌∷◌, ◌++◌, refl, sym, subst, arith, length, take, drop, length-append}
 use Rattle.std.specs.Prelude.{slice_get}
 use Rattle.std.proofs.lemmas.List.{take-append-drop, length-take-le}
 use Rattle.syntax_tree.specs.declared.program.Proc.{Proc}
@@ -9,7 +9,7 @@ use Rattle.syntax_tree.specs.Term.{Term}
 use Rattle.syntax_tree.specs.Code.{Call, code_of}
 use Rattle.syntax_tree.specs.Value.{State}
 use Rattle.execution.specs.Machine.{Item, Do, Frame, Config, pending, returned}
-use Rattle.execution.specs.Step.{DoesCall, IsEntered, Steps, values_of, resumed}
+use Rattle.execution.specs.Step.{DoesCall, Steps, values_of}
 use Rattle.execution.specs.Execution.{Runs}
 use Rattle.execution.proofs.Joining.{runs_join}
 use Rattle.flow_graph.specs.Walks.{received}

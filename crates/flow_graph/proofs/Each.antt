@@ -1,5 +1,5 @@
 -- What holds of each element of a list, by recursion.
-use Rattle.std.proofs.Common.{◌≡◌, ℕ, zero, suc, ◌+◌, List, [], ◌∷◌, ◌++◌, Option, Some, refl, sym, ap, subst, ◌∙◌, arith}
+use Rattle.std.proofs.Common.{◌≡◌, ℕ, zero, suc, ◌+◌, List, [], ◌∷◌, ◌++◌, Some, refl, subst, arith}
 use Rattle.std.specs.Prelude.{slice_get}
 
 abbrev pub Each : {X : Type 0} → (X → Type 0) → List X → Type 0

@@ -1,14 +1,13 @@
 -- Each edge of a graph leads from the items at its beginning as a step of them does.
-use Rattle.std.proofs.Common.{◌≡◌, ℕ, suc, ◌+◌, Bool, true, false, Option, Some, List, [], ◌∷◌, ◌++◌, ◌⊎◌, inl, inr, refl, sym, ap, subst, ◌∙◌, arith}
+use Rattle.std.proofs.Common.{◌≡◌, ℕ, ◌+◌, true, false, Some, List, [], ◌∷◌, ◌++◌, ◌⊎◌, inl, inr, refl, subst, arith}
 use Rattle.std.specs.Prelude.{slice_get}
-use Rattle.syntax_tree.specs.Term.{Term}
 use Rattle.syntax_tree.specs.Code.{Statement, Set, Any, Call, Guard, Check, If, Loop, Break, Continue, Return, Code, End, Then}
 use Rattle.syntax_tree.specs.Nodes.{code_nodes, statement_nodes}
 use Rattle.execution.specs.Machine.{Item, Do, Head, Test, Tail, after_loop, pending, to_tail}
 use Rattle.flow_graph.specs.declared.making.Targets.{Targets}
 use Rattle.flow_graph.specs.FlowGraph.{Arc, CheckPlace, arc, checks_at, code_arcs, code_checks_at, exit_of, flow_of, inside, outermost, skip, statement_arcs, unless}
 use Rattle.flow_graph.proofs.Each.{Each, Has, each_both}
-use Rattle.flow_graph.proofs.Moves.{Move, move, moves_of, next_turn}
+use Rattle.flow_graph.proofs.Moves.{move, moves_of, next_turn}
 use Rattle.flow_graph.proofs.Places.{At, Holds, Placed, PlacedIn, body_placed, finish, parts, start}
 
 -- what is left where `break`, `continue` and `return` lead

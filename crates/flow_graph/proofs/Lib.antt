@@ -9,6 +9,7 @@ pub mod Live
 pub mod Activations
 pub mod Walking
 pub mod Theorems
+pub mod Within
 pub mod Statements
 pub mod Marks
 pub mod Members

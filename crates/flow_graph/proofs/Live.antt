@@ -1,7 +1,6 @@
 -- Each step of the items at a node has its edge there, or behind edges that do nothing.
-use Rattle.std.proofs.Common.{◌≡◌, ℕ, ℤ, suc, ◌+◌, Bool, true, false, Option, Some, List, [], ◌∷◌, ◌++◌, ◌⊎◌, inl, inr, refl, sym, ap, subst, ◌∙◌, arith}
+use Rattle.std.proofs.Common.{◌≡◌, ℕ, ◌+◌, true, false, Some, List, [], ◌∷◌, ◌++◌, refl, subst, arith}
 use Rattle.std.specs.Prelude.{slice_get}
-use Rattle.syntax_tree.specs.Term.{Term}
 use Rattle.syntax_tree.specs.Code.{Statement, Set, Any, Call, Guard, Check, If, Loop, Break, Continue, Return, Code, End, Then}
 use Rattle.syntax_tree.specs.Nodes.{code_nodes, statement_nodes}
 use Rattle.syntax_tree.specs.Value.{State}
@@ -10,8 +9,8 @@ use Rattle.flow_graph.specs.declared.making.Targets.{Targets}
 use Rattle.flow_graph.specs.FlowGraph.{Arc, CheckPlace, arc, checks_at, code_arcs, code_checks_at, exit_of, flow_of, inside, outermost, skip, statement_arcs, unless}
 use Rattle.flow_graph.specs.Walks.{Calls, Stride, Walks}
 use Rattle.flow_graph.proofs.Each.{Each, Has, each_has, each_left, each_right}
-use Rattle.flow_graph.proofs.Moves.{Move, move, moves_of, skip_passes}
-use Rattle.flow_graph.proofs.Places.{At, Holds, Placed, PlacedIn, body_each, body_placed, finish, parts, start}
+use Rattle.flow_graph.proofs.Moves.{Move, moves_of, skip_passes}
+use Rattle.flow_graph.proofs.Places.{At, Holds, Placed, PlacedIn, body_each, body_placed, parts, start}
 use Rattle.flow_graph.proofs.Explained.{Means, body_means, means_pending}
 
 -- edges that do nothing lead from one node to another

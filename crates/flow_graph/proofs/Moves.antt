@@ -1,17 +1,16 @@
 -- What a frame's items lead to, one machine step at a time and one edge at a time.
-use Rattle.std.proofs.Common.{◌≡◌, ℕ, ℤ, pos, Bool, true, false, Option, Some, None, List, [], ◌∷◌, ◌++◌, ◌⊎◌, inl, inr, ⊎_elim, refl, sym, ap, subst, ◌∙◌, arith, length}
-use Rattle.std.specs.Prelude.{◌≢◌, if◌then◌else◌, not, slice_get, slice_set}
+use Rattle.std.proofs.Common.{◌≡◌, ℕ, ℤ, pos, Bool, true, false, Option, Some, None, List, [], ◌∷◌, ◌⊎◌, inl, inr, ⊎_elim, refl, sym, ap, subst, ◌∙◌, length}
+use Rattle.std.specs.Prelude.{◌≢◌, if◌then◌else◌, not, slice_get}
 use Rattle.std.specs.Ordering.{int_eq}
 use Rattle.std.proofs.lemmas.Bool.Decides.{Decides-int_eq}
 use Rattle.std.proofs.lemmas.List.{length-set}
 use Rattle.syntax_tree.specs.declared.op.Sign.TheVariants.{Not}
 use Rattle.syntax_tree.specs.Term.{Term, Lit, Unary}
-use Rattle.syntax_tree.specs.Code.{Statement, Set, Any, Call, Guard, Check, If, Loop, Break, Continue, Return, Code, End, Then}
-use Rattle.syntax_tree.specs.Value.{State, value_of, signed, with_number, truth_value, is_true}
+use Rattle.syntax_tree.specs.Code.{Statement, Set, Any, Call, Guard, Check, If, Loop, Break, Continue, Return, Code}
+use Rattle.syntax_tree.specs.Value.{State, value_of, signed, with_number, truth_value}
 use Rattle.execution.specs.Machine.{Item, Do, Head, Test, Tail, LoopParts, after_loop, pending, to_tail}
 use Rattle.execution.specs.Step.{Changes, IsFalseIn, IsTrueIn, at_begin, at_head, at_tail}
 use Rattle.flow_graph.specs.FlowGraph.{skip, unless}
-use Rattle.flow_graph.proofs.Each.{Each, Has}
 
 abbrev pub Goes : List Item → State → List Item → State → Type 0
 Goes to before items after = (items ≡ to) × (after ≡ before)

@@ -1,15 +1,15 @@
 -- The groups that a table gives are those of the program, in order.
-use Rattle.std.proofs.Common.{◌≡◌, ◌≤◌, ◌<◌, ℕ, zero, suc, ◌+◌, Bool, true, false, Option, Some, None, List, [], ◌∷◌, ◌++◌, ◌⊎◌, inl, inr, ⊎_elim, length, refl, sym, ap, subst, ◌∙◌, arith, append_assoc}
-use Rattle.std.specs.Prelude.{◌==◌, ◌↔◌, ◌&&◌, ◌||◌, IfOk, IsTrue, Result, Ok, Err, not}
-use Rattle.std.specs.List.{Contains, filter, find, list_all}
+use Rattle.std.proofs.Common.{◌≡◌, ◌≤◌, ◌<◌, ℕ, zero, suc, Bool, true, false, Option, Some, None, List, [], ◌∷◌, ◌++◌, ◌⊎◌, inl, inr, ⊎_elim, length, refl, sym, ap, subst, ◌∙◌, arith, append_assoc}
+use Rattle.std.specs.Prelude.{◌==◌, ◌&&◌, ◌||◌, IfOk, Result, Ok, Err, not}
+use Rattle.std.specs.List.{Contains, filter, find}
 use Rattle.std.proofs.lemmas.Bool.Decides.{Decides-eqb}
 use Rattle.syntax_tree.specs.declared.program.Program.{Program}
 use Rattle.flow_graph.specs.declared.grouping.Group.{Group}
-use Rattle.flow_graph.specs.Groups.{AreGroups, AreGroupsAfter, CallsOver, InOneGroup, IsAscending, IsNext, IsReady, Reaches}
+use Rattle.flow_graph.specs.Groups.{AreGroups, AreGroupsAfter, CallsOver, InOneGroup, IsNext, IsReady, Reaches}
 use Rattle.flow_graph.specs.Reach.{IsReach, bit_at, group_at, is_ready, next_groups, numbers_from, one_group, without}
 use Rattle.flow_graph.proofs.Members.{In, contains_of, in_either, in_left, in_of, in_right}
 use Rattle.flow_graph.proofs.Reaching.{reaches_join, target_within}
-use Rattle.flow_graph.proofs.Sieves.{Rising, all_of, ascending_of, differ, filter_in, filter_less, filter_only, filter_rising, find_none, find_some, numbers_in, numbers_length, numbers_only, numbers_rising, of_all, true_or_false}
+use Rattle.flow_graph.proofs.Sieves.{Rising, all_of, ascending_of, differ, filter_in, filter_less, filter_only, filter_rising, find_none, find_some, numbers_in, numbers_only, numbers_rising, of_all, true_or_false}
 
 -- ---- tests of bits
 

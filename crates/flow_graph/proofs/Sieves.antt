@@ -1,7 +1,7 @@
 -- Lists that are filtered and searched.
-use Rattle.std.proofs.Common.{◌≡◌, ◌≤◌, ◌<◌, ℕ, zero, suc, ◌+◌, Bool, true, false, Option, Some, None, List, [], ◌∷◌, ◌++◌, ◌⊎◌, inl, inr, ⊎_elim, length, refl, sym, ap, subst, ◌∙◌, arith}
+use Rattle.std.proofs.Common.{◌≡◌, ◌≤◌, ◌<◌, ℕ, zero, suc, ◌+◌, Bool, true, false, Some, None, List, [], ◌∷◌, ◌⊎◌, inl, inr, ⊎_elim, length, refl, sym, ap, ◌∙◌, arith}
 use Rattle.std.specs.Prelude.{◌&&◌, cond}
-use Rattle.std.specs.List.{Contains, filter, find, list_all}
+use Rattle.std.specs.List.{filter, find, list_all}
 use Rattle.flow_graph.specs.Groups.{IsAscending}
 use Rattle.flow_graph.specs.Reach.{numbers_from}
 use Rattle.flow_graph.proofs.Members.{In, in_of}

@@ -1,25 +1,25 @@
 -- The laws of `specs/Laws`.
-use Rattle.std.proofs.Common.{◌≡◌, ◌≤◌, ◌<◌, ℕ, ℤ, suc, ◌+◌, Option, Some, None, List, [], ◌∷◌, ◌++◌, ◌⊎◌, inl, inr, refl, sym, ap, subst, ◌∙◌, arith, length, take, drop}
+use Rattle.std.proofs.Common.{◌≡◌, ◌<◌, ℕ, ℤ, Option, Some, None, List, [], ◌∷◌, ◌++◌, inl, inr, refl, sym, ap, subst, ◌∙◌, arith, length, take, drop}
 use Rattle.std.specs.Prelude.{◌-◌, pos, slice_get, slice_index_or}
-use Rattle.std.proofs.lemmas.List.{take-append-drop, length-take-le}
+use Rattle.std.proofs.lemmas.List.{take-append-drop}
 use Rattle.syntax_tree.specs.declared.program.Proc.{Proc}
 use Rattle.syntax_tree.specs.declared.program.Program.{Program}
 use Rattle.syntax_tree.specs.Term.{Term}
-use Rattle.syntax_tree.specs.Code.{Statement, Set, Any, Call, Guard, Check, If, Loop, Break, Continue, Return, Code, code_of}
+use Rattle.syntax_tree.specs.Code.{Statement, Set, Any, Call, Guard, Check, If, Loop, Break, Continue, Return, code_of}
 use Rattle.syntax_tree.specs.Value.{State}
-use Rattle.execution.specs.Machine.{Item, Do, Head, Test, Tail, Frame, Config, pending}
+use Rattle.execution.specs.Machine.{Item, Do, Head, Test, Tail}
 use Rattle.execution.specs.Execution.{Returns}
 use Rattle.flow_graph.specs.FlowGraph.{Arc, CheckPlace, body_of, exit_of, flow_of, graph_of}
-use Rattle.flow_graph.specs.Walks.{Stands, Stride, Walks, WalksTo}
+use Rattle.flow_graph.specs.Walks.{Stands, Stride, WalksTo}
 use Rattle.flow_graph.specs.Laws.{CallsAreWalks, ChecksAreWalks, ReturnsAreWalks, last_of}
-use Rattle.flow_graph.proofs.Each.{Each, Has, each_get}
-use Rattle.flow_graph.proofs.Moves.{Move, Near, Silent, move, moves_of}
+use Rattle.flow_graph.proofs.Each.{Each, each_get}
+use Rattle.flow_graph.proofs.Moves.{Move, Near, move, moves_of}
 use Rattle.flow_graph.proofs.Does.{Does, Shape, value_in}
 use Rattle.flow_graph.proofs.Places.{At, at_one, body_placed, start}
 use Rattle.flow_graph.proofs.Explained.{Checked, Explained, Taken, body_checked, body_explained}
-use Rattle.flow_graph.proofs.Live.{LivesIn, Skips, body_lives, skips_walk}
-use Rattle.flow_graph.proofs.Activations.{Active, Entry, active, does_length, does_returns, entry_wide, executed, first_items, first_state, last_value, width_in}
-use Rattle.flow_graph.proofs.Walking.{DoesTo, Walk, WalksNear, does_walk, walk_does, walk_join}
+use Rattle.flow_graph.proofs.Live.{LivesIn, body_lives, skips_walk}
+use Rattle.flow_graph.proofs.Activations.{Entry, active, does_length, does_returns, entry_wide, executed, first_items, first_state, last_value, width_in}
+use Rattle.flow_graph.proofs.Walking.{DoesTo, Walk, does_walk, walk_does, walk_join}
 
 -- an edge that is a call begins where the call is the first item
 abbrev CallFirst : List Item → Move → Type 0

@@ -1,6 +1,6 @@
 -- What an activation does is a walk, and the other way.
-use Rattle.std.proofs.Common.{◌≡◌, ◌≤◌, ◌<◌, ℕ, ℤ, pos, suc, ◌+◌, ◌-◌, Bool, true, false, Option, Some, None, List, [], ◌∷◌, ◌++◌, ◌⊎◌, inl, inr, ⊎_elim, refl, sym, ap, subst, ◌∙◌, arith, length, take, drop}
-use Rattle.std.specs.Prelude.{slice_get, slice_index_or}
+use Rattle.std.proofs.Common.{◌≡◌, ◌≤◌, ℕ, pos, ◌-◌, Bool, true, false, Option, List, [], ◌∷◌, ◌++◌, inl, inr, refl, sym, ap, subst, ◌∙◌, arith, length, take, drop}
+use Rattle.std.specs.Prelude.{slice_index_or}
 use Rattle.std.proofs.lemmas.List.{length-take-le}
 use Rattle.syntax_tree.specs.declared.program.Program.{Program}
 use Rattle.syntax_tree.specs.Term.{Term}
@@ -9,15 +9,15 @@ use Rattle.syntax_tree.specs.Value.{State}
 use Rattle.execution.specs.Machine.{Item, Do, Head, Test, Tail, LoopParts, after_loop, pending, to_tail}
 use Rattle.execution.specs.Step.{Changes, at_head, at_tail}
 use Rattle.execution.specs.Execution.{Returns}
-use Rattle.flow_graph.specs.FlowGraph.{Arc, arc, exit_of, flow_of, skip, unless}
-use Rattle.flow_graph.specs.Walks.{CallRelates, Calls, EdgeRelates, Stride, Walks, received}
+use Rattle.flow_graph.specs.FlowGraph.{arc, flow_of, skip}
+use Rattle.flow_graph.specs.Walks.{CallRelates, EdgeRelates, Stride, Walks, received}
 use Rattle.flow_graph.proofs.Each.{Each, Has, each_get}
 use Rattle.flow_graph.proofs.Moves.{Move, Near, Plain, Silent, begun, edged, move, moves_of, next_turn, passes_false, plain_length, silent_step}
 use Rattle.flow_graph.proofs.Does.{Calling, Does, IsCalling, Onward, Shape, Still, Through, does_fits, does_join, entry_fits, entry_of, exit_fits, exit_state, value_in}
 use Rattle.flow_graph.proofs.Places.{At, at_one}
 use Rattle.flow_graph.proofs.Explained.{Explained, Taken, body_explained}
-use Rattle.flow_graph.proofs.Live.{LivesIn, Skips, body_lives, skips_walk}
-use Rattle.flow_graph.proofs.Activations.{Active, Entry, active, does_returns, first_items, first_state, width_in}
+use Rattle.flow_graph.proofs.Live.{Skips, body_lives, skips_walk}
+use Rattle.flow_graph.proofs.Activations.{Entry, active, does_returns, first_items, first_state, width_in}
 
 module _ (program : Program) where
   abbrev pub DoesTo : List Item → State → List Item → State → Type 0

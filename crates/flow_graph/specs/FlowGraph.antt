@@ -1,7 +1,7 @@
 -- The flow graph of a procedure (Allen 1970) as plain data. Nodes are numbers. A list of statements that begins at
 -- node `c` makes the nodes from `c + 1` on, in order, and ends at the last of them; so the number of each node
 -- is found by counting, also that of a node which comes later.
-use Rattle.std.specs.Prelude.{ℕ, pos, ◌+◌, ◌-◌, Bool, true, false, List, [], ◌∷◌, ◌++◌, Option, None, Some, slice_get}
+use Rattle.std.specs.Prelude.{ℕ, pos, ◌+◌, true, false, List, [], ◌∷◌, ◌++◌, Option, None, Some, slice_get}
 use Rattle.syntax_tree.specs.declared.op.Sign.TheVariants.{Not}
 use Rattle.syntax_tree.specs.declared.program.Proc.{Proc}
 use Rattle.syntax_tree.specs.declared.program.Program.{Program}

@@ -1,9 +1,8 @@
 -- The groups of a program: the strong components of its calls (Tarjan 1972), callees first.
-use Rattle.std.specs.Prelude.{◌≡◌, ◌≤◌, ◌<◌, ◌↔◌, ◌⊎◌, ℕ, ◌+◌, Bool, IsTrue, Option, None, Some, List, [], ◌∷◌, ◌++◌, length, slice_get, slice_index_or}
+use Rattle.std.specs.Prelude.{◌≡◌, ◌<◌, ◌↔◌, ◌⊎◌, ℕ, IsTrue, List, [], ◌∷◌, ◌++◌, length, slice_get}
 use Rattle.std.specs.List.{Contains}
-use Rattle.syntax_tree.specs.declared.program.Proc.{Proc}
 use Rattle.syntax_tree.specs.declared.program.Program.{Program}
-use Rattle.syntax_tree.specs.Code.{Statement, Set, Any, Call, Guard, Check, If, Loop, Break, Continue, Return, Code, End, Then, code_of}
+use Rattle.syntax_tree.specs.Code.{Statement, Call, If, Loop, Code, End, Then}
 use Rattle.flow_graph.specs.declared.grouping.Group.{Group}
 use Rattle.flow_graph.specs.FlowGraph.{body_of}
 

@@ -1,5 +1,5 @@
 //! Walks once over the statements of a procedure, and puts their edges and assertions behind those that stand.
-ghost use Rattle.std.specs.Prelude.{◌≡◌, ◌≤◌, ◌<◌, ◌+◌, ◌∷◌, [], ◌++◌, IfOk, OnOk, true, false, map, slice_get, length};
+ghost use Rattle.std.specs.Prelude.{◌≡◌, ◌≤◌, ◌<◌, ◌+◌, ◌∷◌, [], ◌++◌, All, IfOk, OnOk, true, false, map, slice_get, length};
 ghost use Rattle.syntax_tree.specs.Code.{code_of, statement_of};
 ghost use Rattle.syntax_tree.specs.Nodes.{code_nodes, graph_nodes, statement_nodes};
 ghost use Rattle.syntax_tree.specs.Term.{term_of};
@@ -287,8 +287,19 @@ impl Made {
     }
 }
 
-/// The flow graph of the procedure at this place of a program.
+/// The flow graph of the procedure at this place of a program. Its edges lead between its nodes, and its
+/// assertions stand at them.
 pub fn graph(alloc: Global, program: &Program, proc: u32) -> Result<Graph, GraphError>
+    requires fit { IsWellFormed program.now }
+    requires there { proc < length program.now.procs }
+    ensures exact { IfOk result (λ g. plain g ≡ graph_of program.now proc) }
+    ensures edges { IfOk result (λ g. All (λ edge. (edge.from < g.nodes) × (edge.to < g.nodes)) g.edges) }
+    ensures checks { IfOk result (λ g. All (λ check. check.node < g.nodes) g.checks) }
+{
+    whole(alloc, program, proc)
+}
+
+fn whole(alloc: Global, program: &Program, proc: u32) -> Result<Graph, GraphError>
     requires fit { IsWellFormed program.now }
     requires there { proc < length program.now.procs }
     ensures { IfOk result (λ g. plain g ≡ graph_of program.now proc) }

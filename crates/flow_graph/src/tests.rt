@@ -1,6 +1,8 @@
 //! The graphs of twelve programs, whose edges and assertions are those of a model in another language. In each
-//! the condition is the column `x`, and an assignment sets `x` to 5.
-use super::{Act, Graph, GraphError, calls_are_walks, checks_are_walks, graph, returns_are_walks};
+//! the condition is the column `x`, and an assignment sets `x` to 5. The groups of programs that only call.
+use super::{
+    Act, Graph, GraphError, calls_are_walks, checks_are_walks, graph, groups, returns_are_walks,
+};
 use items::Items;
 use std::alloc::{AllocError, Global};
 use std::test::Fail;
@@ -393,5 +395,81 @@ fn asserts_in_a_do(rt: HostRuntime) -> Result<(), Fail> {
             assert_eq!(rt; (edge.from, edge.to), (8, 9));
         }
     }
+    Ok(())
+}
+
+// A program without globals, whose procedures make these calls and do nothing else.
+fn calling(alloc: Global, count: u32, calls: &[(u32, u32)]) -> Result<Program, AllocError> {
+    let mut procs = Items::new(alloc);
+    for from in 0..count {
+        let mut body = Items::new(alloc);
+        for (caller, callee) in calls {
+            if *caller == from {
+                body.push(Stmt::Call {
+                    proc: *callee,
+                    args: Items::new(alloc),
+                    into: None,
+                })?;
+            }
+        }
+        procs.push(Proc {
+            name: Name::new(Items::from_slice(alloc, b"f")?).ok_or(AllocError)?,
+            returns: false,
+            params: 0,
+            columns: Items::new(alloc),
+            body,
+        })?;
+    }
+    Ok(Program {
+        globals: Items::new(alloc),
+        procs,
+        main: 0,
+        checks: Items::new(alloc),
+    })
+}
+
+// The procedures of each group, and behind them 100, or 101 where it is recursive.
+fn grouped(alloc: Global, count: u32, calls: &[(u32, u32)]) -> Result<Vec<u32>, GraphError> {
+    let program = calling(alloc, count, calls)?;
+    let mut flat = Vec::new(alloc);
+    for group in groups(alloc, &program)?.as_slice() {
+        for proc in group.procs.as_slice() {
+            flat.push(*proc)?;
+        }
+        flat.push(if group.recursive { 101 } else { 100 })?;
+    }
+    Ok(flat)
+}
+
+#[test]
+fn callees_come_first(rt: HostRuntime) -> Result<(), Fail> {
+    let alloc = rt.alloc();
+    let chain = [(0, 1), (1, 2)];
+    assert!(rt;
+        grouped(alloc, 3, chain.as_slice())?.as_slice() == [2, 100, 1, 100, 0, 100].as_slice()
+    );
+    let itself = [(0, 0)];
+    assert!(rt; grouped(alloc, 1, itself.as_slice())?.as_slice() == [0, 101].as_slice());
+    Ok(())
+}
+
+#[test]
+fn the_first_that_is_ready_comes(rt: HostRuntime) -> Result<(), Fail> {
+    let alloc = rt.alloc();
+    let calls = [(0, 3), (1, 2)];
+    let wanted = [2, 100, 1, 100, 3, 100, 0, 100, 4, 100];
+    assert!(rt; grouped(alloc, 5, calls.as_slice())?.as_slice() == wanted.as_slice());
+    Ok(())
+}
+
+#[test]
+fn loops_of_calls_are_groups(rt: HostRuntime) -> Result<(), Fail> {
+    let alloc = rt.alloc();
+    let calls = [(0, 2), (2, 0), (1, 3), (3, 1), (2, 3)];
+    let wanted = [1, 3, 101, 0, 2, 101];
+    assert!(rt; grouped(alloc, 4, calls.as_slice())?.as_slice() == wanted.as_slice());
+    let calls = [(0, 1), (1, 2), (2, 1), (3, 4), (4, 4), (0, 3)];
+    let wanted = [1, 2, 101, 4, 101, 3, 100, 0, 100, 5, 100];
+    assert!(rt; grouped(alloc, 6, calls.as_slice())?.as_slice() == wanted.as_slice());
     Ok(())
 }

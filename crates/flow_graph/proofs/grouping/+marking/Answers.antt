@@ -1,4 +1,4 @@
-use Rattle.std.proofs.Common.{◌≡◌, ◌+◌, ◌∙◌, ap, drop, sym}
+use Rattle.std.proofs.Common.{◌+◌, ◌∙◌, ap, drop, sym}
 use Rattle.syntax_tree.specs.Code.{code_of, statement_of}
 use Rattle.flow_graph.specs.Groups.{called, called_in}
 use Rattle.flow_graph.specs.Reach.{marked}

@@ -1,6 +1,6 @@
 use Rattle.std.proofs.Common.{◌≡◌, ◌∙◌, ap, length, subst, sym}
 use Rattle.flow_graph.specs.Groups.{AreGroups}
-use Rattle.flow_graph.specs.Reach.{IsReach, next_groups, numbers_from}
+use Rattle.flow_graph.specs.Reach.{IsReach, numbers_from}
 use Rattle.flow_graph.proofs.Ordering.{groups_are, if_ok}
 use Rattle.flow_graph.proofs.grouping.groups.Goals as goal
 

@@ -1,6 +1,4 @@
 use Rattle.std.proofs.Common.{◌≡◌, drop}
-use Rattle.std.specs.Prelude.{not, ◌||◌}
-use Rattle.std.specs.List.{list_all}
 use Rattle.flow_graph.specs.Reach.{is_ready}
 use Rattle.flow_graph.proofs.grouping.is_ready.Given as goal
 

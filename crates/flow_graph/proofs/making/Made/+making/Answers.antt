@@ -1,6 +1,5 @@
-use Rattle.std.proofs.Common.{◌≡◌, ℕ, ◌+◌, drop, ap, arith}
-use Rattle.syntax_tree.specs.Code.{code_of, statement_of}
-use Rattle.syntax_tree.specs.Nodes.{code_nodes, statement_nodes}
+use Rattle.std.proofs.Common.{ap, arith}
+use Rattle.syntax_tree.specs.Nodes.{code_nodes}
 use Rattle.flow_graph.proofs.Statements.{code_of-drop}
 use Rattle.flow_graph.proofs.making.Made.+making.Goals as goal
 
