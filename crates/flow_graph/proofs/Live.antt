@@ -7,7 +7,7 @@ use Rattle.syntax_tree.specs.Value.{State}
 use Rattle.execution.specs.Machine.{Item, Do, Head, Test, Tail, pending}
 use Rattle.flow_graph.specs.declared.making.Targets.{Targets}
 use Rattle.flow_graph.specs.FlowGraph.{Arc, CheckPlace, arc, checks_at, code_arcs, code_checks_at, exit_of, flow_of, inside, outermost, skip, statement_arcs, unless}
-use Rattle.flow_graph.specs.Walks.{Calls, Stride, Walks}
+use Rattle.flow_graph.specs.Walks.{CallMeaning, Stride, Walks}
 use Rattle.flow_graph.proofs.Each.{Each, Has, each_has, each_left, each_right}
 use Rattle.flow_graph.proofs.Moves.{Move, moves_of, skip_passes}
 use Rattle.flow_graph.proofs.Places.{At, Holds, Placed, PlacedIn, body_each, body_placed, parts, start}
@@ -18,7 +18,7 @@ abbrev pub Skips : List Arc → ℕ → List ℕ → ℕ → Type 0
 Skips arcs node [] last = node ≡ last
 Skips arcs node (k ∷ path) last = (next : ℕ) × (slice_get arcs k ≡ Some (arc node next skip)) × Skips arcs next path last
 
-pub skips_walk : (calls : Calls) (globals : ℕ) (arcs : List Arc) (node : ℕ) (path : List ℕ) (last : ℕ) (state : State) → Skips arcs node path last
+pub skips_walk : (calls : CallMeaning) (globals : ℕ) (arcs : List Arc) (node : ℕ) (path : List ℕ) (last : ℕ) (state : State) → Skips arcs node path last
     → (strides : List Stride) × Walks calls globals arcs node state strides last state
 skips_walk calls globals arcs node [] last state there = ([], (there, refl))
 skips_walk calls globals arcs node (k ∷ path) last state (next, is, later) =

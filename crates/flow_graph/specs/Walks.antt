@@ -11,9 +11,9 @@ use Rattle.execution.specs.Step.{Changes, values_of}
 use Rattle.execution.specs.Execution.{Begins, Returns, Runs}
 use Rattle.flow_graph.specs.FlowGraph.{Arc, graph_of}
 
--- which calls are there: a procedure, called with globals and arguments, returns with globals and a value
-abbrev pub Calls : Type 1
-Calls = ℕ → State → State → State → ℤ → Type 0
+-- what calls mean: a procedure, called with globals and arguments, returns with globals and a value
+abbrev pub CallMeaning : Type 1
+CallMeaning = ℕ → State → State → State → ℤ → Type 0
 
 -- the returned value goes into the column that awaits it
 abbrev pub received : Option ℕ → ℤ → State → State
@@ -22,7 +22,7 @@ received (Some col) value state = slice_set state col value
 
 -- A call takes the globals and the values of its arguments, and leaves the columns past the globals but for the one
 -- that awaits its value.
-pub record CallRelates (calls : Calls) (globals : ℕ) (proc : ℕ) (args : List Term) (into : Option ℕ) (before after : State) : Type 0 where
+pub record CallRelates (calls : CallMeaning) (globals : ℕ) (proc : ℕ) (args : List Term) (into : Option ℕ) (before after : State) : Type 0 where
   pub values : List ℤ
   pub are : values_of args before ≡ Some values
   pub left : State
@@ -32,7 +32,7 @@ pub record CallRelates (calls : Calls) (globals : ℕ) (proc : ℕ) (args : List
 
 -- The relation of an edge, by what it does, where so many columns are globals: a call relates as those that are there
 -- say, every other statement as it changes a state.
-abbrev pub EdgeRelates : Calls → ℕ → Statement → State → State → Type 0
+abbrev pub EdgeRelates : CallMeaning → ℕ → Statement → State → State → Type 0
 EdgeRelates calls globals (Call proc args into) before after = CallRelates calls globals proc args into before after
 EdgeRelates calls globals statement before after = Changes statement before after
 
@@ -42,7 +42,7 @@ pub record Stride : Type 0 where
   pub state : State
 
 -- A walk along edges leads from a node in a state to a node in a state.
-abbrev pub Walks : Calls → ℕ → List Arc → ℕ → State → List Stride → ℕ → State → Type 0
+abbrev pub Walks : CallMeaning → ℕ → List Arc → ℕ → State → List Stride → ℕ → State → Type 0
 Walks calls globals arcs node state [] last final = (node ≡ last) × (state ≡ final)
 Walks calls globals arcs node state (stride ∷ path) last final =
     (way : Arc) × (slice_get arcs stride.edge ≡ Some way) × (way.from ≡ node)
