@@ -1,6 +1,6 @@
 //! Programs and refusals of texts, as another implementation tells them, with the parts of each text's tree.
-use crate::{elaborations_are_answered, elaborations_are_unique};
 use crate::parts::told;
+use crate::{elaborations_are_answered, elaborations_are_unique};
 use std::alloc::Global;
 use std::fmt::Write;
 use std::process::Abort;

@@ -1,4 +1,4 @@
-use Rattle.std.proofs.Common.{◌≡◌, List, ap, ◌∙◌}
+use Rattle.std.proofs.Common.{ap, ◌∙◌}
 use Rattle.typing.specs.Scopes.{Scope, found}
 use Rattle.typing.proofs.Lookups.{lookup-found}
 use Rattle.typing.proofs.scope.Scope.found.Goals as goal
