@@ -1,9 +1,11 @@
 #![tactic(auto, using(crate::proofs::Items::items), unfolding(crate::specs::Faults::elaboration_of))]
 
-ghost use Rattle.std.specs.Prelude.{◌≡◌, ◌+◌, [], ◌∷◌, ◌++◌, IfOk, OnOk, None};
+ghost use Rattle.std.specs.Prelude.{◌≡◌, ◌+◌, [], ◌∷◌, ◌++◌, IfOk, IsTrue, OnOk, None};
 ghost use Rattle.items.specs.Gives.{Gives};
 ghost use Rattle.typing.specs.Elaborated.{globals_of, main_from};
+ghost use Rattle.syntax_tree.specs.WellFormed.{IsWellFormed};
 ghost use Rattle.typing.specs.Faults.{cause, elaboration_of};
+ghost use Rattle.typing.specs.Operators.{items_have_few};
 
 use crate::declarations::{Declarations, note_prototypes};
 use crate::elaborator::Elaborator;
@@ -19,10 +21,19 @@ use syntax_tree::{GlobalVar, Item, Program, Tree};
 /// The core program of the tree of a text with `length` bytes.
 ///
 /// Of all causes of refusal the one with the least place is told, and of several at one place the first in the order of
-/// `TypeError`; where there is none, the tree has a program. Each part of the tree is visited a fixed number of times, and a
-/// name is found by an index in each of the scopes around it, the innermost first.
+/// `TypeError`; where there is none, the tree has a program. The program is well formed if each expression of the tree has
+/// few enough operators, as in every tree that the parser reads. Each part of the tree is visited a fixed number of times,
+/// and a name is found by an index in each of the scopes around it, the innermost first.
 pub fn elaborate(alloc: Global, tree: &Tree, length: u32) -> Result<Program, TypeError>
     ensures exact { Gives cause (λ p. p) result (elaboration_of tree.now.items length) }
+    ensures well_formed { IsTrue (items_have_few tree.now.items) → IfOk result IsWellFormed }
+{
+    program_of(alloc, tree, length)
+}
+
+// The same, of which it is not yet said that the program is well formed.
+fn program_of(alloc: Global, tree: &Tree, length: u32) -> Result<Program, TypeError>
+    ensures { Gives cause (λ p. p) result (elaboration_of tree.now.items length) }
 {
     let items = tree.items.as_slice();
     let mut text = Declarations::read(alloc, items)?;
