@@ -1,93 +1,115 @@
 -- The claims of the stated report are met.
-use Rattle.std.proofs.Common.{◌≡◌, ℕ, zero, suc, ℤ, ◌+◌, ◌≤◌, Option, None, Some, Result, Ok, Err, List, [], ◌∷◌, ◌++◌, length, map, refl, sym, ap, subst, ◌∙◌, slice_get, get_or, arith}
-use Rattle.std.specs.Prelude.{IfOk}
+use Rattle.std.proofs.Common.{◌≡◌, Bool, true, false, ℕ, zero, suc, ℤ, ◌+◌, ◌-◌, ◌≤◌, Option, None, Some, Result, Ok, Err, List, [], ◌∷◌, ◌++◌, length, map, take, refl, sym, ap, subst, ◌∙◌, slice_get, get_or, arith}
+use Rattle.std.specs.Prelude.{IfOk, ◌==◌, ◌&&◌, nat_le, replicate}
+use Rattle.std.specs.List.{AllByRecursion}
 use mathlib.Core.Logic.{inl}
+use Rattle.std.proofs.lemmas.Grind.{common_steps}
+use Rattle.std.proofs.lemmas.List.{length-map}
 use Rattle.linear_terms.specs.declared.row.Case.{Case}
+use Rattle.linear_terms.specs.declared.row.Normal.{Normal}
 use Rattle.linear_terms.specs.declared.col.Col.TheVariants.{Aux}
-use Rattle.linear_terms.specs.Polynomial.{Polynomial, column_of}
-use Rattle.syntax_tree.specs.declared.op.Op.TheVariants.{Le}
+use Rattle.linear_terms.specs.Polynomial.{IsCanonical, Polynomial, column_of}
+use Rattle.linear_terms.proofs.Columns.{EachColumn}
+use Rattle.syntax_tree.specs.declared.program.Column.{Column}
+use Rattle.syntax_tree.specs.declared.program.GlobalVar.{GlobalVar}
 use Rattle.syntax_tree.specs.declared.program.Proc.{Proc}
 use Rattle.syntax_tree.specs.declared.program.Program.{Program}
-use Rattle.syntax_tree.specs.Code.{Check, Statement, code_from, statement_of}
-use Rattle.syntax_tree.specs.Term.{Binary}
+use Rattle.syntax_tree.specs.Code.{statement_of}
 use Rattle.execution.specs.Execution.{Fails}
-use Rattle.transition_formula.specs.Meaning.{Holds, HoldsSome}
+use Rattle.transition_formula.specs.Meaning.{Holds, HoldsCase, HoldsSome}
 use Rattle.transition_formula.specs.Rounds.{in_order}
 use Rattle.cra.specs.declared.known.Goal.{Goal}
 use Rattle.cra.specs.declared.report.Verdict.{Verdict}
 use Rattle.cra.specs.declared.report.Verdict.TheVariants.{Proved, Unproved}
 use Rattle.cra.specs.declared.report.ProcBlock.{ProcBlock}
 use Rattle.cra.specs.declared.report.Report.{Report}
-use Rattle.cra.specs.Accepted.{Accepts, declared_columns, sum_term}
-use Rattle.cra.specs.Analysis.{failing, goal_of, holding, one_row}
-use Rattle.cra.specs.Claims.{ClaimsAreMet, SummaryIsMet}
-use Rattle.cra.specs.Sentence.{Declaration, front_kinds}
+use Rattle.cra.specs.Analysis.{failing, goal_of, holding, named_onto, named_posts, one_row, returned_case}
+use Rattle.cra.specs.Claims.{ClaimsAreMet, SummaryIsMet, exit_values}
+use Rattle.cra.specs.FirstForm.{are_first, ends_well, is_first_body, is_first_form, set_by}
 use Rattle.cra.specs.Stated.{IsReportOf, IsReportOn, IsVerdict, Settles, block_of, cases_of, judged_of}
-use Rattle.linear_terms.specs.declared.row.Normal.{Normal}
-use Rattle.linear_terms.proofs.Columns.{EachColumn}
-use Rattle.std.specs.List.{AllByRecursion}
 use Rattle.cra.proofs.Columns.{EachKnown}
 use Rattle.cra.proofs.Covered.{goal-covered}
-use Rattle.cra.proofs.Standing.{IsAux}
 use Rattle.cra.proofs.Executions.{IsAlone, fails-hold, no-inputs, returns-hold}
-use Rattle.cra.proofs.Ordered.{IsInequality, LeftHolds, left-holds, left_of, normal-of, ordered-left}
-use Rattle.cra.proofs.Reached.{GoalKnown, sentence-goal}
-use Rattle.cra.proofs.ReadPrograms.{code-of-declarations, code-of-statements}
-use Rattle.cra.proofs.ReadSentence.{ok-one}
-use Rattle.cra.proofs.Ready.{Cases, aux-one, cases-known, last-covered, list-of-code, list_of, place-within, sentence_statements, settles}
+use Rattle.cra.proofs.Ordered.{IsInequality, LeftHolds, left-holds, normal-of, ordered-left}
+use Rattle.cra.proofs.Reached.{GoalKnown, first-goal}
+use Rattle.cra.proofs.Ready.{Cases, aux-one, cases-known, last-covered, settles}
 use Rattle.cra.proofs.Renumbered.{Numbered}
+use Rattle.cra.proofs.Standing.{IsAux}
 
--- what an accepted text is to the analysis
-pub record IsReady (text : List ℕ) (program : Program) : Type 0 where
+-- what a program of the first form is to the analysis
+pub record IsReady (program : Program) : Type 0 where
   pub main : Proc
   pub at : ℕ
   pub procs : program.procs ≡ main ∷ []
   pub checks : program.checks ≡ at ∷ []
-  pub within : at ≤ length text
-  pub n : ℕ
-  pub few : n ≤ 8
-  pub columns_few : length main.columns ≤ 8
-  pub known : GoalKnown (map statement_of main.body) n
+  pub few : length main.columns ≤ 8
+  pub short : length main.body ≤ 9
+  pub known : GoalKnown (length main.columns) (map statement_of main.body)
   pub alone : IsAlone program main known.goal
 
-known-at : (xs ys : List Statement) (n : ℕ) → xs ≡ ys → GoalKnown xs n → GoalKnown ys n
-known-at xs ys n same known = record { goal = known.goal; is = ap goal_of (sym same) ∙ known.is; long = known.long; left_small = known.left_small; right_small = known.right_small }
+both-true : (a b : Bool) → a && b ≡ true → (a ≡ true) × (b ≡ true)
+both-true true b e = (refl, e)
+both-true false b e = absurd (cc e)
 
-columns-long : (ds : List Declaration) → length (declared_columns ds) ≡ length ds
-columns-long [] = refl
-columns-long (d ∷ ds) = let more = columns-long ds in omega (arith, more)
+is-zero : (n : ℕ) → (n == 0) ≡ true → n ≡ 0
+is-zero n e = grind (arith, common_steps, e)
 
-pub ready : (text : List ℕ) (program : Program) → Accepts text program → IsReady text program
-ready text program accepts =
-    let spells = accepts.spells in
-    let s = spells.sentence in
-    let means = spells.means in
-    let body = means.body in
-    let codes : code_from (map statement_of body.body) ≡ code_from (sentence_statements s) =
-    sym (code-of-statements body.body) ∙ means.code ∙ sym (code-of-declarations 0 s.declarations (Check 1 (Binary Le (sum_term s.left) (sum_term s.right)))) in
-    let same : sentence_statements s ≡ map statement_of body.body = sym (list-of-code (sentence_statements s)) ∙ ap list_of (sym codes) ∙ list-of-code (map statement_of body.body) in
-    let known = known-at (sentence_statements s) (map statement_of body.body) (length s.declarations) same (sentence-goal s spells.fits) in
-    let few = spells.fits.few in
-    let columns = ap length means.columns ∙ columns-long s.declarations in
-    let long = known.long in
+at-most : (m n : ℕ) → nat_le m n ≡ true → m ≤ n
+at-most m n e = grind (arith, common_steps, e)
+
+-- the parts of the form
+pub record IsFirst (globals : List GlobalVar) (procs : List Proc) (number : ℕ) (places : List ℕ) : Type 0 where
+  pub none : globals ≡ []
+  pub main : Proc
+  pub one : procs ≡ main ∷ []
+  pub zeroth : number ≡ 0
+  pub at : ℕ
+  pub place : places ≡ at ∷ []
+  pub params : main.params ≡ 0
+  pub few : length main.columns ≤ 8
+  pub body : is_first_body (length main.columns) (map statement_of main.body) ≡ true
+
+first-parts : (globals : List GlobalVar) (procs : List Proc) (number : ℕ) (places : List ℕ) → are_first globals procs number places ≡ true → IsFirst globals procs number places
+first-parts [] (main ∷ []) number (at ∷ []) e =
+    let a = both-true (number == 0) (main.params == 0 && (nat_le (length main.columns) 8 && is_first_body (length main.columns) (map statement_of main.body))) e in
+    let b = both-true (main.params == 0) (nat_le (length main.columns) 8 && is_first_body (length main.columns) (map statement_of main.body)) a.1 in
+    let c = both-true (nat_le (length main.columns) 8) (is_first_body (length main.columns) (map statement_of main.body)) b.1 in
     record {
-      main = body;
-      at = spells.word.at;
-      procs = means.procs;
-      checks = means.checks;
-      within = place-within text accepts.tokens spells.word (length (front_kinds s)) accepts.tokenizes spells.stands;
-      n = length s.declarations;
-      few = few;
-      columns_few = omega (arith, columns, few);
+      none = refl;
+      main = main;
+      one = refl;
+      zeroth = is-zero number a.0;
+      at = at;
+      place = refl;
+      params = is-zero main.params b.0;
+      few = at-most (length main.columns) 8 c.0;
+      body = c.1;
+    }
+first-parts (g ∷ globals) procs number places e = absurd (cc e)
+first-parts [] [] number places e = absurd (cc e)
+first-parts [] (p ∷ q ∷ procs) number places e = absurd (cc e)
+first-parts [] (p ∷ []) number [] e = absurd (cc e)
+first-parts [] (p ∷ []) number (x ∷ y ∷ places) e = absurd (cc e)
+
+pub ready : (program : Program) → is_first_form program ≡ true → IsReady program
+ready program e =
+    let first = first-parts program.globals program.procs program.main program.checks e in
+    let main = first.main in
+    let known = first-goal (length main.columns) (map statement_of main.body) first.body in
+    let body = both-true (nat_le (length (map statement_of main.body)) 9)
+    (ends_well (set_by (replicate (length main.columns) false) (take (length (map statement_of main.body) - 1) (map statement_of main.body)))
+    (slice_get (map statement_of main.body) (length (map statement_of main.body) - 1))) first.body in
+    let count = length-map main.body statement_of in
+    let most = at-most (length (map statement_of main.body)) 9 body.0 in
+    record {
+      main = main;
+      at = first.at;
+      procs = first.one;
+      checks = first.place;
+      few = first.few;
+      short = omega (arith, most, count);
       known = known;
-      alone = record {
-        globals = means.globals;
-        procs = means.procs;
-        number = means.main;
-        params = means.params;
-        goal_is = known.is;
-        wide = omega (arith, columns, long);
-      };
+      alone = record { globals = first.none; procs = first.one; number = first.zeroth; params = first.params; goal_is = known.is };
     }
 
 -- ---- the claims
@@ -100,56 +122,88 @@ first-only : {X : Type 0} (x y : X) (n : ℕ) → slice_get (x ∷ []) n ≡ Som
 first-only x y zero e = let same : x ≡ y = cc in (refl, same)
 first-only x y (suc n) e = cc
 
-summary-met : (program : Program) (main : Proc) (goal : Goal) (cases : Cases goal) (n : Normal) (left : Option Case) (block : ProcBlock) → IsAlone program main goal → IsInequality cases.p n
-    → left ≡ left_of (goal.known.choices + 1) (column_of (Aux goal.known.choices) ∷ []) n → block_of main left ≡ block → SummaryIsMet program 0 block.formula
-summary-met program main goal cases n left block alone normal is same globals args after value returns =
-    let held = returns-hold program main goal cases.p alone cases.p_is globals args after value returns in
-    let numbered : Numbered (one_row (goal.known.choices + 1) cases.p (column_of (Aux goal.known.choices) ∷ [])) =
-    record { rows = (aux-one goal.known.choices cases.p cases.p_covered, tt); post = (last-covered goal.known.choices, tt) } in
-    let kept = left-holds (goal.known.choices + 1) cases.p (column_of (Aux goal.known.choices) ∷ []) n normal cases.p_canonical numbered (globals ++ args) (after ++ value ∷ []) held in
-    let some = left-some left (globals ++ args) (after ++ value ∷ []) (subst (λ l. LeftHolds l (globals ++ args) (after ++ value ∷ [])) (sym is) kept) in
-    subst (λ b. Holds b.formula (globals ++ args) (after ++ value ∷ [])) same (record { enters = no-inputs program main goal alone globals args after value returns; some = some })
+returned-numbered : (returns : Bool) (choices : ℕ) (p : Polynomial) → EachColumn (IsAux choices) p.terms → Numbered (returned_case returns choices p)
+returned-numbered true choices p covered = record { rows = (aux-one choices p covered, tt); post = (last-covered choices, tt) }
+returned-numbered false choices p covered = record { rows = (covered, tt); post = tt }
 
-verdict-met : (program : Program) (main : Proc) (goal : Goal) (cases : Cases goal) (n : Normal) (left : Option Case) (verdict : Verdict) (number : ℕ) → IsAlone program main goal → IsInequality cases.q n
-    → left ≡ left_of goal.known.choices goal.known.columns n → IsVerdict left verdict → EachKnown (IsAux goal.known.choices) goal.known.columns → verdict ≡ Proved → ¬ Fails program number
-verdict-met program main goal cases n (Some case) verdict number alone normal is (point, unproved, refutes) covered proved = absurd (clash (sym proved ∙ unproved))
+-- the case that is returned, put in order, holds of what it held of
+returned-holds : (returns : Bool) (choices : ℕ) (p : Polynomial) (n : Normal) → IsInequality p n → IsCanonical p.terms → EachColumn (IsAux choices) p.terms → (before after : List ℤ)
+    → HoldsCase (returned_case returns choices p) before after → LeftHolds (in_order (returned_case returns choices p)).left before after
+returned-holds true choices p n normal canonical covered before after held =
+    subst (λ l. LeftHolds l before after) (sym (ordered-left (choices + 1) p (column_of (Aux choices) ∷ []) n normal))
+    (left-holds (choices + 1) p (column_of (Aux choices) ∷ []) n normal canonical (returned-numbered true choices p covered) before after held)
+returned-holds false choices p n normal canonical covered before after held =
+    subst (λ l. LeftHolds l before after) (sym (ordered-left choices p [] n normal))
+    (left-holds choices p [] n normal canonical (returned-numbered false choices p covered) before after held)
+
+same-proc : (program : Program) (main callee : Proc) → program.procs ≡ main ∷ [] → slice_get program.procs 0 ≡ Some callee → main ≡ callee
+same-proc program main callee only found = let same : Some main ≡ Some callee = sym (λ i. slice_get (only i) 0) ∙ found in cc
+
+summary-met : (program : Program) (main : Proc) (goal : Goal) (cases : Cases goal) (block : ProcBlock) → IsAlone program main goal
+    → block_of main (in_order (returned_case main.returns goal.known.choices cases.p)).left ≡ block → SummaryIsMet program 0 block.formula
+summary-met program main goal cases block alone same callee found globals args after value returns =
+    let held = returns-hold program main goal cases.p alone cases.p_is globals args after value returns in
+    let normal = normal-of cases.p in
+    let left = (in_order (returned_case main.returns goal.known.choices cases.p)).left in
+    let kept = returned-holds main.returns goal.known.choices cases.p normal.0 normal.1 cases.p_canonical cases.p_covered (globals ++ args) (exit_values main after value) held in
+    let some = left-some left (globals ++ args) (exit_values main after value) kept in
+    let whole : Holds (block_of main left).formula (globals ++ args) (exit_values main after value) =
+    record { enters = no-inputs program main goal alone globals args after value returns; some = some } in
+    subst (λ proc. Holds block.formula (globals ++ args) (exit_values proc after value)) (same-proc program main callee alone.procs found)
+    (subst (λ b. Holds b.formula (globals ++ args) (exit_values main after value)) same whole)
+
+verdict-met : (program : Program) (main : Proc) (goal : Goal) (cases : Cases goal) (posts : List Polynomial) (left : Option Case) (verdict : Verdict) (number : ℕ) → IsAlone program main goal
+    → left ≡ (in_order (one_row goal.known.choices cases.q posts)).left → IsVerdict left verdict → AllByRecursion (λ p. EachColumn (IsAux goal.known.choices) p.terms) posts
+    → verdict ≡ Proved → ¬ Fails program number
+verdict-met program main goal cases posts (Some case) verdict number alone is (point, unproved, refutes) covered proved = absurd (clash (sym proved ∙ unproved))
   where
     clash : Proved ≡ Unproved case point → ⊥
     clash e = cc
-verdict-met program main goal cases n None verdict number alone normal is told covered proved = λ there.
-    let held = fails-hold program main goal cases.r cases.q number alone cases.r_is cases.q_is there in
-    let numbered : Numbered (one_row goal.known.choices cases.q goal.known.columns) = record { rows = (cases.q_covered, tt); post = each-of goal.known.columns covered } in
-    let kept = left-holds goal.known.choices cases.q goal.known.columns n normal cases.q_canonical numbered [] held.0 held.1 in
-    subst (λ l. LeftHolds l [] held.0) (sym is) kept
-  where
-    each-of : (columns : List Polynomial) → EachKnown (IsAux goal.known.choices) columns → AllByRecursion (λ p. EachColumn (IsAux goal.known.choices) p.terms) columns
-    each-of [] each = tt
-    each-of (p ∷ columns) each = (each 0 p refl, each-of columns (λ c q found. each (suc c) q found))
+verdict-met program main goal cases posts None verdict number alone is told covered proved = λ there.
+    let normal = normal-of cases.q in
+    let held = fails-hold program main goal cases.r cases.q posts number alone cases.r_is cases.q_is there in
+    let numbered : Numbered (one_row goal.known.choices cases.q posts) = record { rows = (cases.q_covered, tt); post = covered } in
+    let kept = left-holds goal.known.choices cases.q posts normal.0 normal.1 cases.q_canonical numbered [] held.0 held.1 in
+    subst (λ l. LeftHolds l [] held.0) (sym (is ∙ ordered-left goal.known.choices cases.q posts normal.0 normal.1)) kept
 
-pub claims-met : (text : List ℕ) (program : Program) (report : Report) → IsReady text program → IsReportOf text program report → ClaimsAreMet program report
+each-post : (n : ℕ) (columns : List Column) (polys : List (Option Polynomial)) → EachKnown (IsAux n) polys → AllByRecursion (λ p. EachColumn (IsAux n) p.terms) (named_posts columns polys)
+each-post n [] polys each = tt
+each-post n (column ∷ columns) [] each = tt
+each-post n (column ∷ columns) (poly ∷ polys) each = go column.name poly (λ q same. each 0 q (ap Some same)) (each-post n columns polys (λ c q found. each (suc c) q found))
+  where
+    go : (name : Option (List ℕ)) (poly : Option Polynomial) → ((q : Polynomial) → poly ≡ Some q → EachColumn (IsAux n) q.terms)
+        → AllByRecursion (λ p. EachColumn (IsAux n) p.terms) (named_posts columns polys)
+        → AllByRecursion (λ p. EachColumn (IsAux n) p.terms) (named_onto name poly (named_posts columns polys))
+    go (Some name) (Some q) here rest = (here q refl, rest)
+    go (Some name) None here rest = rest
+    go None poly here rest = rest
+
+pub ok-one : {A E : Type 0} (x y : A) → (let r : Result A E = Ok x in r) ≡ Ok y → x ≡ y
+ok-one x y e = cc
+
+pub claims-met : (text : List ℕ) (program : Program) (report : Report) → IsReady program → IsReportOf text program report → ClaimsAreMet program report
 claims-met text program report ready stated =
     let goal = ready.known.goal in
+    let columns = length ready.main.columns in
     let stmts = map statement_of ready.main.body in
-    let cases = cases-known stmts ready.n ready.known in
-    let settled = settles stmts ready.n ready.known ready.few in
+    let cases = cases-known columns stmts ready.known in
+    let settled = settles ready.main ready.known ready.few ready.short in
+    let posts = named_posts ready.main.columns goal.known.columns in
     let main = head-one stated.main ready.main (sym stated.procs ∙ ready.procs) in
-    let goals : stated.told.goal ≡ goal = ok-one stated.told.goal goal (sym stated.told.goal_is ∙ ap (λ m. goal_of (map statement_of m.body)) main ∙ ready.known.is) in
-    let holds = ok-one stated.told.holds (one_row (goal.known.choices + 1) cases.p (column_of (Aux goal.known.choices) ∷ [])) (sym stated.told.holds_is ∙ ap holding goals ∙ settled.holds_is) in
-    let fails = ok-one stated.told.fails (one_row goal.known.choices cases.q goal.known.columns) (sym stated.told.fails_is ∙ ap failing goals ∙ settled.fails_is) in
-    let p_normal = normal-of cases.p in
-    let q_normal = normal-of cases.q in
-    let summary = ap (λ case. (in_order case).left) holds ∙ ordered-left (goal.known.choices + 1) cases.p (column_of (Aux goal.known.choices) ∷ []) p_normal.0 p_normal.1 in
-    let refuting = ap (λ case. (in_order case).left) fails ∙ ordered-left goal.known.choices cases.q goal.known.columns q_normal.0 q_normal.1 in
-    let covered = (goal-covered stmts goal ready.known.is).columns in
+    let goals : stated.told.goal ≡ goal = ok-one stated.told.goal goal (sym stated.told.goal_is ∙ ap (λ m. goal_of (length m.columns) (map statement_of m.body)) main ∙ ready.known.is) in
+    let holds = ok-one stated.told.holds (returned_case ready.main.returns goal.known.choices cases.p)
+    (sym stated.told.holds_is ∙ (λ i. holding (main i).returns (goals i)) ∙ settled.holds_is) in
+    let fails = ok-one stated.told.fails (one_row goal.known.choices cases.q posts) (sym stated.told.fails_is ∙ (λ i. failing (main i).columns (goals i)) ∙ settled.fails_is) in
+    let covered = each-post goal.known.choices ready.main.columns goal.known.columns (goal-covered columns stmts goal ready.known.is).columns in
     record {
       summaries = λ proc block found.
           let only = first-only (block_of stated.main (in_order stated.told.holds).left) block proc (sym (ap (λ r. slice_get r.procs proc) stated.told.report_is) ∙ found) in
           subst (λ k. SummaryIsMet program k block.formula) (sym only.0)
-          (summary-met program ready.main goal cases p_normal.0 (in_order stated.told.holds).left block ready.alone p_normal.1 summary
-          (ap (λ m. block_of m (in_order stated.told.holds).left) (sym main) ∙ only.1));
+          (summary-met program ready.main goal cases block ready.alone
+          ((λ i. block_of (sym main i) (in_order (sym holds i)).left) ∙ only.1));
       proved = λ n judged found proved.
           let only = first-only (judged_of text stated.place stated.main stated.told.verdict) judged n (sym (ap (λ r. slice_get r.judged n) stated.told.report_is) ∙ found) in
-          verdict-met program ready.main goal cases q_normal.0 (in_order stated.told.fails).left stated.told.verdict (n + 1) ready.alone q_normal.1 refuting stated.told.verdict_is covered
+          verdict-met program ready.main goal cases posts (in_order stated.told.fails).left stated.told.verdict (n + 1) ready.alone (ap (λ case. (in_order case).left) fails) stated.told.verdict_is covered
           (ap (λ j. j.verdict) only.1 ∙ proved);
     }
   where
@@ -158,29 +212,30 @@ claims-met text program report ready stated =
 
 -- ---- what `analyse` needs
 
-pub only-proc : (text : List ℕ) (program : Program) (ready : IsReady text program) (procs : List Proc) (main : Proc) → procs ≡ program.procs → main ≡ get_or procs 0 main → main ≡ ready.main
-only-proc text program ready procs main same at = at ∙ ap (λ ps. get_or ps 0 main) (same ∙ ready.procs)
+pub only-proc : (program : Program) (ready : IsReady program) (procs : List Proc) (main : Proc) → procs ≡ program.procs → main ≡ get_or procs 0 main → main ≡ ready.main
+only-proc program ready procs main same at = at ∙ ap (λ ps. get_or ps 0 main) (same ∙ ready.procs)
 
-pub ready-settles : (text : List ℕ) (program : Program) (ready : IsReady text program) (main : Proc) → main ≡ ready.main
-    → (goal : Goal) × (holds : Case) × (fails : Case) × (goal_of (map statement_of main.body) ≡ Ok goal) × Settles goal holds fails
-ready-settles text program ready main same =
+pub ready-settles : (program : Program) (ready : IsReady program) (main : Proc) → main ≡ ready.main
+    → (goal : Goal) × (holds : Case) × (fails : Case) × (goal_of (length main.columns) (map statement_of main.body) ≡ Ok goal) × Settles main goal holds fails
+ready-settles program ready main same =
     let goal = ready.known.goal in
-    let cases = cases-known (map statement_of ready.main.body) ready.n ready.known in (
+    let cases = cases-known (length ready.main.columns) (map statement_of ready.main.body) ready.known in (
       goal,
-      one_row (goal.known.choices + 1) cases.p (column_of (Aux goal.known.choices) ∷ []),
-      one_row goal.known.choices cases.q goal.known.columns,
-      (ap (λ m. goal_of (map statement_of m.body)) same ∙ ready.known.is),
-      settles (map statement_of ready.main.body) ready.n ready.known ready.few,
+      returned_case ready.main.returns goal.known.choices cases.p,
+      one_row goal.known.choices cases.q (named_posts ready.main.columns goal.known.columns),
+      (ap (λ m. goal_of (length m.columns) (map statement_of m.body)) same ∙ ready.known.is),
+      subst (λ m. Settles m goal (returned_case ready.main.returns goal.known.choices cases.p) (one_row goal.known.choices cases.q (named_posts ready.main.columns goal.known.columns)))
+          (sym same) (settles ready.main ready.known ready.few ready.short),
     )
 
-pub ready-place : (text : List ℕ) (program : Program) (ready : IsReady text program) (checks : List ℕ) → checks ≡ program.checks → get_or checks 0 0 ≤ length text
-ready-place text program ready checks same = subst (λ cs. get_or cs 0 0 ≤ length text) (sym (same ∙ ready.checks)) ready.within
+pub ready-short : (program : Program) (ready : IsReady program) (main : Proc) → main ≡ ready.main → (length main.body ≤ 9) × (length main.columns ≤ 8)
+ready-short program ready main same = subst (λ m. (length m.body ≤ 9) × (length m.columns ≤ 8)) (sym same) (ready.short, ready.few)
 
-pub all-met : {E : Type 0} (text : List ℕ) (program : Program) (ready : IsReady text program) (procs : List Proc) (main : Proc) (checks : List ℕ) (made : Result Report E)
+pub all-met : {E : Type 0} (text : List ℕ) (program : Program) (ready : IsReady program) (procs : List Proc) (main : Proc) (checks : List ℕ) (made : Result Report E)
     → procs ≡ program.procs → main ≡ get_or procs 0 main → checks ≡ program.checks → IfOk made (IsReportOn text main (get_or checks 0 0)) → IfOk made (ClaimsAreMet program)
 all-met text program ready procs main checks (Err e) same at checked told = tt
 all-met text program ready procs main checks (Ok report) same at checked told =
-    let own = only-proc text program ready procs main same at in
+    let own = only-proc program ready procs main same at in
     claims-met text program report ready (record {
       main = main;
       procs = ready.procs ∙ ap (λ m. m ∷ []) (sym own);

@@ -1,5 +1,5 @@
 -- The polynomials that are known have no columns but the auxiliaries so far, and the values that a run gives them.
-use Rattle.std.proofs.Common.{◌≡◌, Bool, true, false, cond, ℕ, negsuc, ◌+ℤ◌, ◌*ℤ◌, Some, Ok, Err, List, [], ◌∷◌, refl, subst, slice_get}
+use Rattle.std.proofs.Common.{◌≡◌, Bool, true, false, cond, ℕ, negsuc, ◌+ℤ◌, ◌*ℤ◌, Some, Option, Ok, Err, List, [], ◌∷◌, refl, subst, slice_get}
 use Rattle.std.specs.List.{AllByRecursion}
 use Rattle.items.specs.Gives.{◌>>=◌, lifted}
 use Rattle.items.proofs.Gives.{on_ok}
@@ -13,7 +13,8 @@ use Rattle.syntax_tree.specs.declared.op.Op.{Op}
 use Rattle.syntax_tree.specs.declared.op.Op.TheVariants.{Add, Sub, Mul, Div, Rem, Lt, Le, Gt, Ge, Eq, Ne, And, Or}
 use Rattle.syntax_tree.specs.Term.{Term, Lit, Col as Column, Unary, Binary}
 use Rattle.cra.specs.declared.early.Early.TheVariants.{NotYet}
-use Rattle.cra.specs.Analysis.{difference, early, is_additive, joined, poly_of}
+use Rattle.cra.specs.Analysis.{difference, early, joined, poly_of}
+use Rattle.cra.specs.FirstForm.{is_additive}
 use Rattle.cra.proofs.Values.{found-ok, lifted-ok}
 
 -- ---- the value looks at the columns that stand in a polynomial alone
@@ -32,8 +33,8 @@ values-agree P at bt same p each = λ i. terms-agree P at bt same p.terms each i
 -- ---- what columns a polynomial of sums has
 
 -- each known polynomial has the property of its columns
-abbrev pub EachKnown : (Col → Type 0) → List Polynomial → Type 0
-EachKnown P columns = (c : ℕ) (p : Polynomial) → slice_get columns c ≡ Some p → EachColumn P p.terms
+abbrev pub EachKnown : (Col → Type 0) → List (Option Polynomial) → Type 0
+EachKnown P columns = (c : ℕ) (p : Polynomial) → slice_get columns c ≡ Some (Some p) → EachColumn P p.terms
 
 module _ (P : Col → Type 0) where
   pub difference-each : (a b p : Polynomial) → difference a b ≡ Ok p → EachColumn P a.terms → EachColumn P b.terms → EachColumn P p.terms
@@ -55,7 +56,7 @@ module _ (P : Col → Type 0) where
   joined-each And a b p additive e h k = cc
   joined-each Or a b p additive e h k = cc
 
-  pub poly_of-each : (columns : List Polynomial) → EachKnown P columns → (e : Term) (p : Polynomial) → poly_of columns e ≡ Ok p → EachColumn P p.terms
+  pub poly_of-each : (columns : List (Option Polynomial)) → EachKnown P columns → (e : Term) (p : Polynomial) → poly_of columns e ≡ Ok p → EachColumn P p.terms
   poly_of-each columns each (Lit n) p e = let same : constant_of n ≡ p = cc in subst (λ q. EachColumn P q.terms) same tt
   poly_of-each columns each (Column c) p e = each c p (found-ok (slice_get columns c) p e)
   poly_of-each columns each (Unary sign inner) p e = cc

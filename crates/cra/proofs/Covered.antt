@@ -5,46 +5,27 @@ use Rattle.items.proofs.Gives.{on_ok}
 use Rattle.linear_terms.specs.declared.col.Col.TheVariants.{Aux}
 use Rattle.linear_terms.specs.Polynomial.{column_of}
 use Rattle.linear_terms.proofs.Columns.{EachColumn}
-use Rattle.syntax_tree.specs.Code.{Statement, Set, Any, Call, Guard, Check, If, Loop, Break, Continue, Return}
+use Rattle.syntax_tree.specs.Code.{Statement}
 use Rattle.cra.specs.declared.early.Early.TheVariants.{NotYet}
 use Rattle.cra.specs.declared.known.Known.{Known}
 use Rattle.cra.specs.declared.known.Goal.{Goal}
-use Rattle.cra.specs.Analysis.{after_all, after_statement, goal_of, is_next, nothing_known, poly_of}
+use Rattle.cra.specs.Analysis.{after_all, after_statement, goal_of, nothing_known, poly_of}
 use Rattle.cra.proofs.Columns.{EachKnown, poly_of-each}
 use Rattle.cra.proofs.Sound.{body_of}
-use Rattle.cra.proofs.Standing.{IsAux, aux-more, columns-more, each-snoc}
+use Rattle.cra.proofs.Standing.{IsAux, aux-more, columns-more, each-set}
+use Rattle.cra.proofs.Steps.{none-set, on_step}
 
 abbrev Covered : Known → Type 0
 Covered known = EachKnown (IsAux known.choices) known.columns
 
 step-covered : (known : Known) (s : Statement) (next : Known) → after_statement known s ≡ Ok next → Covered known → Covered next
-step-covered known (Set col value) next e each = go (is_next known col) e
-  where
-    go : (b : Bool) → cond b (poly_of known.columns value >>= λ p. Ok record { columns = known.columns ++ p ∷ []; choices = known.choices }) (Err NotYet) ≡ Ok next → Covered next
-    go true f =
-        on_ok (poly_of known.columns value) (λ p. Ok record { columns = known.columns ++ p ∷ []; choices = known.choices }) next f
-        (λ p came is. let same : record { columns = known.columns ++ p ∷ []; choices = known.choices } ≡ next = cc in
-        subst Covered same (each-snoc (IsAux known.choices) known.columns p each (poly_of-each (IsAux known.choices) known.columns each value p came)))
-    go false f = cc
-step-covered known (Any col) next e each = go (is_next known col) e
-  where
-    n : ℕ
-    n = known.choices
-
-    go : (b : Bool) → cond b (Ok record { columns = known.columns ++ column_of (Aux known.choices) ∷ []; choices = known.choices + 1 }) (Err NotYet) ≡ Ok next → Covered next
-    go true f =
-        let same : record { columns = known.columns ++ column_of (Aux known.choices) ∷ []; choices = known.choices + 1 } ≡ next = cc in
-        subst Covered same (each-snoc (IsAux (known.choices + 1)) known.columns (column_of (Aux known.choices))
-        (λ c q found. columns-more (IsAux known.choices) (IsAux (known.choices + 1)) (aux-more known.choices) q (each c q found)) ((omega arith, tt), tt))
-    go false f = cc
-step-covered known (Call proc args into) next e each = cc
-step-covered known (Guard c) next e each = cc
-step-covered known (Check number c) next e each = cc
-step-covered known (If c on_true on_false) next e each = cc
-step-covered known (Loop pre c body step first) next e each = cc
-step-covered known Break next e each = cc
-step-covered known Continue next e each = cc
-step-covered known Return next e each = cc
+step-covered known s next e each =
+    on_step known s next e
+    (λ col value p is within came same. subst Covered same
+    (each-set (IsAux known.choices) known.columns col p each (poly_of-each (IsAux known.choices) known.columns each value p came)))
+    (λ col is within same. subst Covered same
+    (each-set (IsAux (known.choices + 1)) known.columns col (column_of (Aux known.choices))
+    (λ c q found. columns-more (IsAux known.choices) (IsAux (known.choices + 1)) (aux-more known.choices) q (each c q found)) ((omega arith, tt), tt)))
 
 all-covered : (stmts : List Statement) (known last : Known) → after_all known stmts ≡ Ok last → Covered known → Covered last
 all-covered [] known last e each = let same : known ≡ last = cc in subst Covered same each
@@ -56,10 +37,10 @@ pub record GoalCovered (goal : Goal) : Type 0 where
   pub left : EachColumn (IsAux goal.known.choices) goal.left.terms
   pub right : EachColumn (IsAux goal.known.choices) goal.right.terms
 
-pub goal-covered : (stmts : List Statement) (goal : Goal) → goal_of stmts ≡ Ok goal → GoalCovered goal
-goal-covered stmts goal e =
-    let body = body_of stmts goal e in
-    let each = all-covered body.before nothing_known goal.known body.known_is (λ c q found. cc) in
+pub goal-covered : (n : ℕ) (stmts : List Statement) (goal : Goal) → goal_of n stmts ≡ Ok goal → GoalCovered goal
+goal-covered n stmts goal e =
+    let body = body_of n stmts goal e in
+    let each = all-covered body.before (nothing_known n) goal.known body.known_is (λ c q found. absurd (none-set n c q found)) in
     record {
       columns = each;
       left = poly_of-each (IsAux goal.known.choices) goal.known.columns each body.left goal.left body.left_is;

@@ -1,13 +1,10 @@
--- What an accepted text gives to the analysis.
-use Rattle.std.proofs.Common.{◌≡◌, Bool, true, ℕ, zero, suc, pos, ◌+◌, ◌≤◌, Some, Ok, List, [], ◌∷◌, ◌++◌, length, refl, sym, ap, subst, ◌∙◌, slice_get, arith}
-use Rattle.std.specs.Prelude.{IsTrue, ◌&&◌}
+-- What a program of the first form gives to the analysis.
+use Rattle.std.proofs.Common.{◌≡◌, Bool, true, false, ℕ, zero, suc, pos, ◌+◌, ◌<◌, ◌≤◌, ◌^◌, Option, None, Some, Ok, List, [], ◌∷◌, ◌++◌, length, map, refl, sym, ap, subst, ◌∙◌, slice_get, arith}
+use Rattle.std.specs.Prelude.{IsTrue, ◌&&◌, if◌then◌else◌}
 use Rattle.std.specs.List.{list_all}
 use Rattle.std.proofs.lemmas.Bool.{lt-ltb}
-use Rattle.std.proofs.lemmas.List.{length-append}
+use Rattle.std.proofs.lemmas.List.{length-append, length-map}
 use Rattle.items.specs.Gives.{◌>>=◌, lifted}
-use Rattle.c_lexer.specs.declared.token.Token.{Token}
-use Rattle.c_lexer.specs.Pieces.{Piece, Blank, BlockComment, LineComment, SkippedLine, Lexeme, piece_bytes, text_of}
-use Rattle.c_lexer.specs.Tokens.{Tokenizes, end_at, lexemes_from}
 use Rattle.linear_terms.specs.declared.col.Col.{Col}
 use Rattle.linear_terms.specs.declared.col.Col.TheVariants.{At, Aux}
 use Rattle.linear_terms.specs.Auxiliaries.{is_numbered}
@@ -15,14 +12,14 @@ use Rattle.linear_terms.specs.Polynomial.{IsCanonical, Polynomial, column_of, co
 use Rattle.linear_terms.specs.Operations.{sum_of_polys}
 use Rattle.linear_terms.proofs.Columns.{EachColumn, sum_of_polys-each}
 use Rattle.syntax_tree.specs.declared.op.Op.TheVariants.{Le}
-use Rattle.syntax_tree.specs.Code.{Check, Code, End, Statement, Then, code_from}
+use Rattle.syntax_tree.specs.declared.program.Column.{Column}
+use Rattle.syntax_tree.specs.declared.program.Proc.{Proc}
+use Rattle.syntax_tree.specs.Code.{Check, Statement, statement_of}
 use Rattle.syntax_tree.specs.Term.{Binary}
-use Rattle.transition_formula.specs.Transition.{every_column, is_below}
+use Rattle.transition_formula.specs.Transition.{every_column, every_column_of, fits, is_below}
 use Rattle.transition_formula.proofs.Covered.{test_from_columns}
 use Rattle.cra.specs.declared.known.Goal.{Goal}
-use Rattle.cra.specs.Accepted.{sum_term}
-use Rattle.cra.specs.Analysis.{difference, early, one_row}
-use Rattle.cra.specs.Sentence.{Sentence}
+use Rattle.cra.specs.Analysis.{difference, early, goal_of, named_onto, named_posts, one_row, returned_case}
 use Rattle.cra.specs.Stated.{Settles}
 use Rattle.cra.proofs.Bounds.{difference-small, sum-small}
 use Rattle.cra.proofs.Canonical.{difference-canonical, goal-kept, sum-canonical}
@@ -30,51 +27,8 @@ use Rattle.cra.proofs.Columns.{difference-each}
 use Rattle.cra.proofs.Covered.{goal-covered}
 use Rattle.cra.proofs.Ordered.{left-plain, normal-of, ordered-left}
 use Rattle.cra.proofs.Reached.{GoalKnown}
-use Rattle.cra.proofs.ReadFound.{declared_from}
+use Rattle.cra.proofs.Sound.{body_of}
 use Rattle.cra.proofs.Standing.{IsAux, columns-more}
-
--- ---- places
-
-lexeme-place : (pieces : List Piece) (at : ℕ) (e t : Token) (i : ℕ) (end : ℕ) → at + length (text_of pieces) ≤ end → e.at ≤ end → slice_get (lexemes_from at pieces ++ e ∷ []) i ≡ Some t → t.at ≤ end
-lexeme-place [] at e t zero end within last found = let same : e ≡ t = cc in subst (λ u. u.at ≤ end) same last
-lexeme-place [] at e t (suc i) end within last found = cc
-lexeme-place (Lexeme kind spelling ∷ pieces) at e t zero end within last found =
-    let same : record { kind = kind; at = at; len = length spelling } ≡ t = cc in subst (λ u. u.at ≤ end) same (omega (arith, within))
-lexeme-place (Lexeme kind spelling ∷ pieces) at e t (suc i) end within last found =
-    let long = length-append spelling (text_of pieces) in
-    lexeme-place pieces (at + length spelling) e t i end (omega (arith, within, long)) last found
-lexeme-place (Blank byte ∷ pieces) at e t i end within last found =
-    let long = length-append (piece_bytes (Blank byte)) (text_of pieces) in
-    lexeme-place pieces (at + length (piece_bytes (Blank byte))) e t i end (omega (arith, within, long)) last found
-lexeme-place (BlockComment body ∷ pieces) at e t i end within last found =
-    let long = length-append (piece_bytes (BlockComment body)) (text_of pieces) in
-    lexeme-place pieces (at + length (piece_bytes (BlockComment body))) e t i end (omega (arith, within, long)) last found
-lexeme-place (LineComment body ∷ pieces) at e t i end within last found =
-    let long = length-append (piece_bytes (LineComment body)) (text_of pieces) in
-    lexeme-place pieces (at + length (piece_bytes (LineComment body))) e t i end (omega (arith, within, long)) last found
-lexeme-place (SkippedLine blanks body ∷ pieces) at e t i end within last found =
-    let long = length-append (piece_bytes (SkippedLine blanks body)) (text_of pieces) in
-    lexeme-place pieces (at + length (piece_bytes (SkippedLine blanks body))) e t i end (omega (arith, within, long)) last found
-
-pub place-within : (text : List ℕ) (tokens : List Token) (t : Token) (i : ℕ) → Tokenizes text tokens → slice_get tokens i ≡ Some t → t.at ≤ length text
-place-within text tokens t i tokenizes found =
-    let cut = tokenizes.cut in
-    let whole = ap length cut.whole in
-    lexeme-place cut.pieces 0 (end_at (length text)) t i (length text) (omega (arith, whole)) (omega arith) (sym (ap (λ ts. slice_get ts i) cut.told) ∙ found)
-
--- ---- the body is the sentence's
-
-pub list_of : Code → List Statement
-list_of End = []
-list_of (Then s code) = s ∷ list_of code
-
-pub list-of-code : (xs : List Statement) → list_of (code_from xs) ≡ xs
-unfolding list_of
-list-of-code [] = refl
-list-of-code (x ∷ xs) = ap (λ ys. x ∷ ys) (list-of-code xs)
-
-abbrev pub sentence_statements : Sentence → List Statement
-sentence_statements s = declared_from 0 s.declarations ++ Check 1 (Binary Le (sum_term s.left) (sum_term s.right)) ∷ []
 
 -- ---- columns as tests
 
@@ -113,13 +67,13 @@ pub record Cases (goal : Goal) : Type 0 where
   pub p_covered : EachColumn (IsAux goal.known.choices) p.terms
   pub q_covered : EachColumn (IsAux goal.known.choices) q.terms
 
-pub cases-known : (stmts : List Statement) (n : ℕ) (known : GoalKnown stmts n) → Cases known.goal
-cases-known stmts n known =
+pub cases-known : (n : ℕ) (stmts : List Statement) (known : GoalKnown n stmts) → Cases known.goal
+cases-known n stmts known =
     let goal = known.goal in
     let left = known.left_small in
     let right = known.right_small in
-    let kept = goal-kept stmts goal known.is in
-    let covered = goal-covered stmts goal known.is in
+    let kept = goal-kept n stmts goal known.is in
+    let covered = goal-covered n stmts goal known.is in
     let less = difference-small goal.left goal.right (omega (arith, left, right)) in
     let more = difference-small goal.right goal.left (omega (arith, left, right)) in
     let more_small = more.small in
@@ -138,6 +92,13 @@ cases-known stmts n known =
       q_covered = sum_of_polys-each (IsAux goal.known.choices) more.answer (constant_of (pos 1)) one.answer one.is more_each tt;
     }
 
+before-few : (n : ℕ) (stmts : List Statement) (goal : Goal) (e : goal_of n stmts ≡ Ok goal) → length (body_of n stmts goal e).before + 1 ≡ length stmts
+before-few n stmts goal e =
+    let body = body_of n stmts goal e in
+    let whole = ap length body.whole in
+    let long = length-append body.before (Check body.number (Binary Le body.left body.right) ∷ []) in
+    omega (arith, whole, long)
+
 pub aux-one : (n : ℕ) (p : Polynomial) → EachColumn (IsAux n) p.terms → EachColumn (IsAux (n + 1)) p.terms
 aux-one n p each = columns-more (IsAux n) (IsAux (n + 1)) more p each
   where
@@ -148,32 +109,81 @@ aux-one n p each = columns-more (IsAux n) (IsAux (n + 1)) more p each
 pub last-covered : (n : ℕ) → EachColumn (IsAux (n + 1)) (column_of (Aux n)).terms
 last-covered n = ((omega arith, tt), tt)
 
-pub settles : (stmts : List Statement) (n : ℕ) (known : GoalKnown stmts n) → n ≤ 8
-    → (let cases = cases-known stmts n known in let goal = known.goal in
-    Settles goal (one_row (goal.known.choices + 1) cases.p (column_of (Aux goal.known.choices) ∷ [])) (one_row goal.known.choices cases.q goal.known.columns))
-settles stmts n known few =
+-- the posts are columns that are known
+posts-each : (P : Polynomial → Type 0) (columns : List Column) (polys : List (Option Polynomial)) → ((c : ℕ) (p : Polynomial) → slice_get polys c ≡ Some (Some p) → P p)
+    → (c : ℕ) (p : Polynomial) → slice_get (named_posts columns polys) c ≡ Some p → P p
+posts-each P [] polys each c p e = absurd (cc e)
+posts-each P (column ∷ columns) [] each c p e = absurd (cc e)
+posts-each P (column ∷ columns) (poly ∷ polys) each c p e =
+    go column.name poly (λ q same. each 0 q (ap (λ o. Some o) same)) (λ c p f. posts-each P columns polys (λ c q found. each (suc c) q found) c p f) c e
+  where
+    go : (name : Option (List ℕ)) (poly : Option Polynomial) → ((q : Polynomial) → poly ≡ Some q → P q)
+        → ((c : ℕ) (p : Polynomial) → slice_get (named_posts columns polys) c ≡ Some p → P p) → (c : ℕ)
+        → slice_get (named_onto name poly (named_posts columns polys)) c ≡ Some p → P p
+    go (Some name) (Some q) here rest zero f = let same : q ≡ p = cc in subst P same (here q refl)
+    go (Some name) (Some q) here rest (suc c) f = rest c p f
+    go (Some name) None here rest c f = rest c p f
+    go None poly here rest c f = rest c p f
+
+posts-few : (columns : List Column) (polys : List (Option Polynomial)) → length (named_posts columns polys) ≤ length columns
+posts-few [] polys = omega arith
+posts-few (column ∷ columns) [] = omega arith
+posts-few (column ∷ columns) (poly ∷ polys) = let l = go column.name poly (posts-few columns polys) in omega (arith, l)
+  where
+    go : (name : Option (List ℕ)) (poly : Option Polynomial) → length (named_posts columns polys) ≤ length columns
+        → length (named_onto name poly (named_posts columns polys)) ≤ length columns + 1
+    go (Some name) (Some q) l = omega (arith, l)
+    go (Some name) None l = omega (arith, l)
+    go None poly l = omega (arith, l)
+
+returned-fits : (returns : Bool) (choices : ℕ) (p : Polynomial) → EachColumn (IsAux choices) p.terms
+    → IsTrue (fits 0 (if returns then 1 else 0) (returned_case returns choices p))
+returned-fits true choices p covered =
+    λ i. one-test (every_column (is_below 0 (choices + 1))) p (below-test (choices + 1) p (aux-one choices p covered)) i
+    && one-test (every_column (is_below 0 (choices + 1))) (column_of (Aux choices)) (below-test (choices + 1) (column_of (Aux choices)) (last-covered choices)) i
+returned-fits false choices p covered = λ i. one-test (every_column (is_below 0 choices)) p (below-test choices p covered) i && true
+
+returned-numbered : (returns : Bool) (choices : ℕ) (p : Polynomial) → EachColumn (IsAux choices) p.terms
+    → IsTrue (every_column_of (is_numbered (returned_case returns choices p).aux) (returned_case returns choices p))
+returned-numbered true choices p covered =
+    λ i. one-test (every_column (is_numbered (choices + 1))) p (numbered-test (choices + 1) p (aux-one choices p covered)) i
+    && one-test (every_column (is_numbered (choices + 1))) (column_of (Aux choices)) (numbered-test (choices + 1) (column_of (Aux choices)) (last-covered choices)) i
+returned-numbered false choices p covered = λ i. one-test (every_column (is_numbered choices)) p (numbered-test choices p covered) i && true
+
+returned-few : (returns : Bool) (choices : ℕ) (p : Polynomial) → choices ≤ 8 → (returned_case returns choices p).aux + length (returned_case returns choices p).post < 2 ^ 32
+returned-few true choices p few = omega (arith, few)
+returned-few false choices p few = omega (arith, few)
+
+pub settles : (main : Proc) (known : GoalKnown (length main.columns) (map statement_of main.body)) → length main.columns ≤ 8 → length main.body ≤ 9
+    → (let cases = cases-known (length main.columns) (map statement_of main.body) known in let goal = known.goal in
+    Settles main goal (returned_case main.returns goal.known.choices cases.p) (one_row goal.known.choices cases.q (named_posts main.columns goal.known.columns)))
+settles main known few short =
+    let stmts = map statement_of main.body in
+    let n = length main.columns in
     let goal = known.goal in
-    let cases = cases-known stmts n known in
-    let kept = goal-kept stmts goal known.is in
-    let covered = goal-covered stmts goal known.is in
+    let cases = cases-known n stmts known in
+    let kept = goal-kept n stmts goal known.is in
+    let covered = goal-covered n stmts goal known.is in
     let choices = kept.known.few in
-    let long = known.long in
-    let p_more = aux-one goal.known.choices cases.p cases.p_covered in
+    let before = before-few n stmts goal known.is in
+    let count = length-map main.body statement_of in
+    let low : goal.known.choices ≤ 8 = omega (arith, choices, before, count, short) in
+    let posts = named_posts main.columns goal.known.columns in
+    let posts_short = posts-few main.columns goal.known.columns in
     let normal = normal-of cases.q in
     record {
-      holds_is = ap (λ r. lifted early r >>= λ p. Ok (one_row (goal.known.choices + 1) p (column_of (Aux goal.known.choices) ∷ []))) cases.p_is;
-      fails_is = ap (λ r. lifted early r >>= λ p. lifted early (sum_of_polys p (constant_of (pos 1))) >>= λ q. Ok (one_row goal.known.choices q goal.known.columns)) cases.r_is
-          ∙ ap (λ r. lifted early r >>= λ q. Ok (one_row goal.known.choices q goal.known.columns)) cases.q_is;
-      holds_fits = λ i. one-test (every_column (is_below 0 (goal.known.choices + 1))) cases.p (below-test (goal.known.choices + 1) cases.p p_more) i
-          && one-test (every_column (is_below 0 (goal.known.choices + 1))) (column_of (Aux goal.known.choices)) (below-test (goal.known.choices + 1) (column_of (Aux goal.known.choices)) (last-covered goal.known.choices)) i;
-      holds_numbered = λ i. one-test (every_column (is_numbered (goal.known.choices + 1))) cases.p (numbered-test (goal.known.choices + 1) cases.p p_more) i
-          && one-test (every_column (is_numbered (goal.known.choices + 1))) (column_of (Aux goal.known.choices)) (numbered-test (goal.known.choices + 1) (column_of (Aux goal.known.choices)) (last-covered goal.known.choices)) i;
+      holds_is = ap (λ r. lifted early r >>= λ p. Ok (returned_case main.returns goal.known.choices p)) cases.p_is;
+      fails_is = ap (λ r. lifted early r >>= λ p. lifted early (sum_of_polys p (constant_of (pos 1))) >>= λ q. Ok (one_row goal.known.choices q posts)) cases.r_is
+          ∙ ap (λ r. lifted early r >>= λ q. Ok (one_row goal.known.choices q posts)) cases.q_is;
+      holds_fits = returned-fits main.returns goal.known.choices cases.p cases.p_covered;
+      holds_numbered = returned-numbered main.returns goal.known.choices cases.p cases.p_covered;
       fails_numbered = λ i. one-test (every_column (is_numbered goal.known.choices)) cases.q (numbered-test goal.known.choices cases.q cases.q_covered) i
-          && list-test (every_column (is_numbered goal.known.choices)) goal.known.columns (λ c q found. numbered-test goal.known.choices q (covered.columns c q found)) i;
-      few = omega (arith, choices, long, few);
-      columns_few = omega (arith, long, few);
-      holds_few = omega (arith, choices, long, few);
-      fails_few = omega (arith, choices, long, few);
-      plain = λ case e. left-plain goal.known.choices cases.q goal.known.columns normal.0 case normal.1
-          (sym (ordered-left goal.known.choices cases.q goal.known.columns normal.0 normal.1) ∙ e);
+          && list-test (every_column (is_numbered goal.known.choices)) posts
+          (posts-each (λ q. IsTrue (every_column (is_numbered goal.known.choices) q)) main.columns goal.known.columns (λ c q found. numbered-test goal.known.choices q (covered.columns c q found))) i;
+      few = low;
+      columns_all = known.long;
+      holds_few = returned-few main.returns goal.known.choices cases.p low;
+      fails_few = omega (arith, low, posts_short, few);
+      plain = λ case e. left-plain goal.known.choices cases.q posts normal.0 case normal.1
+          (sym (ordered-left goal.known.choices cases.q posts normal.0 normal.1) ∙ e);
     }

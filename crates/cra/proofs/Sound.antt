@@ -3,7 +3,7 @@ use Rattle.std.proofs.Common.{◌≡◌, ◌≢◌, Bool, true, false, cond, ℕ
 use Rattle.std.specs.Prelude.{◌&&◌, int_le}
 use Rattle.std.specs.List.{list_all}
 use Rattle.std.proofs.lemmas.Int.{ints}
-use Rattle.std.proofs.lemmas.List.{length-append}
+use Rattle.std.proofs.lemmas.List.{length-append, length-set}
 use Rattle.items.specs.Gives.{◌>>=◌}
 use Rattle.items.proofs.Gives.{on_ok}
 use Rattle.linear_terms.specs.declared.col.Col.TheVariants.{Aux}
@@ -14,7 +14,7 @@ use Rattle.linear_terms.proofs.Columns.{EachColumn}
 use Rattle.linear_terms.proofs.Values.{sum_of_polys-value}
 use Rattle.syntax_tree.specs.declared.op.Op.TheVariants.{Add, Sub, Mul, Div, Rem, Lt, Le, Gt, Ge, Eq, Ne, And, Or}
 use Rattle.syntax_tree.specs.Code.{Statement, Set, Any, Call, Guard, Check, If, Loop, Break, Continue, Return}
-use Rattle.syntax_tree.specs.Term.{Term, Lit, Col as Column, Unary, Binary}
+use Rattle.syntax_tree.specs.Term.{Term, Lit, Col, Unary, Binary}
 use Rattle.syntax_tree.specs.Value as value
 use Rattle.syntax_tree.specs.Value.{State, truth_value}
 use Rattle.execution.specs.Laws.{is_simple}
@@ -22,21 +22,22 @@ use Rattle.execution.specs.Step.{IsFalseIn, IsTrueIn}
 use Rattle.cra.specs.declared.early.Early.TheVariants.{NotYet}
 use Rattle.cra.specs.declared.known.Known.{Known}
 use Rattle.cra.specs.declared.known.Goal.{Goal}
-use Rattle.cra.specs.Analysis.{after_all, after_statement, asserted_by, at_most, compared, difference, goal_after, goal_of, is_next, nothing_known, poly_of}
+use Rattle.cra.specs.Analysis.{after_all, after_statement, asserted_by, at_most, compared, difference, goal_after, goal_of, nothing_known, one_row, poly_of, returned_case}
 use Rattle.transition_formula.specs.Meaning.{HoldsCase, numbers}
 use Rattle.cra.proofs.Columns.{difference-each, poly_of-each, values-agree}
 use Rattle.cra.proofs.Standing.{Fits, IsAux, column-value, with-aux, with-aux-new, with-aux-old}
+use Rattle.cra.proofs.Steps.{on_step}
 use Rattle.cra.proofs.Values.{difference-value, operated, poly_of-value}
 
 -- ---- the parts of a body whose goal is known
 
-pub record Body (stmts : List Statement) (goal : Goal) : Type 0 where
+pub record Body (n : ℕ) (stmts : List Statement) (goal : Goal) : Type 0 where
   pub before : List Statement
   pub number : ℕ
   pub left : Term
   pub right : Term
   pub whole : stmts ≡ before ++ Check number (Binary Le left right) ∷ []
-  pub known_is : after_all nothing_known before ≡ Ok goal.known
+  pub known_is : after_all (nothing_known n) before ≡ Ok goal.known
   pub left_is : poly_of goal.known.columns left ≡ Ok goal.left
   pub right_is : poly_of goal.known.columns right ≡ Ok goal.right
 
@@ -51,52 +52,52 @@ take-last : {X : Type 0} (xs : List X) (x : X) → slice_get xs (length xs - 1) 
 take-last [] x e = cc
 take-last (y ∷ xs) x e = take-last-at (y ∷ xs) (length (y ∷ xs) - 1) x (omega arith) e
 
-compared-parts : (known : Known) (number : ℕ) (c : Term) (goal : Goal) (before : List Statement) (stmts : List Statement) → compared known c ≡ Ok goal
-    → stmts ≡ before ++ Check number c ∷ [] → after_all nothing_known before ≡ Ok known → Body stmts goal
-compared-parts known number (Lit n) goal before stmts e whole is = cc
-compared-parts known number (Column c) goal before stmts e whole is = cc
-compared-parts known number (Unary sign inner) goal before stmts e whole is = cc
-compared-parts known number (Binary Le l r) goal before stmts e whole is =
+compared-parts : (n : ℕ) (known : Known) (number : ℕ) (c : Term) (goal : Goal) (before : List Statement) (stmts : List Statement) → compared known c ≡ Ok goal
+    → stmts ≡ before ++ Check number c ∷ [] → after_all (nothing_known n) before ≡ Ok known → Body n stmts goal
+compared-parts n known number (Lit z) goal before stmts e whole is = cc
+compared-parts n known number (Col c) goal before stmts e whole is = cc
+compared-parts n known number (Unary sign inner) goal before stmts e whole is = cc
+compared-parts n known number (Binary Le l r) goal before stmts e whole is =
     on_ok (poly_of known.columns l) (λ a. poly_of known.columns r >>= λ b. Ok record { known = known; left = a; right = b }) goal e (λ a f g.
     on_ok (poly_of known.columns r) (λ b. Ok record { known = known; left = a; right = b }) goal g (λ b h k.
     let same : record { known = known; left = a; right = b } ≡ goal = cc in
-    subst (λ d. Body stmts d) same record { before = before; number = number; left = l; right = r; whole = whole; known_is = is; left_is = f; right_is = h }))
-compared-parts known number (Binary Add l r) goal before stmts e whole is = cc
-compared-parts known number (Binary Sub l r) goal before stmts e whole is = cc
-compared-parts known number (Binary Mul l r) goal before stmts e whole is = cc
-compared-parts known number (Binary Div l r) goal before stmts e whole is = cc
-compared-parts known number (Binary Rem l r) goal before stmts e whole is = cc
-compared-parts known number (Binary Lt l r) goal before stmts e whole is = cc
-compared-parts known number (Binary Gt l r) goal before stmts e whole is = cc
-compared-parts known number (Binary Ge l r) goal before stmts e whole is = cc
-compared-parts known number (Binary Eq l r) goal before stmts e whole is = cc
-compared-parts known number (Binary Ne l r) goal before stmts e whole is = cc
-compared-parts known number (Binary And l r) goal before stmts e whole is = cc
-compared-parts known number (Binary Or l r) goal before stmts e whole is = cc
+    subst (λ d. Body n stmts d) same record { before = before; number = number; left = l; right = r; whole = whole; known_is = is; left_is = f; right_is = h }))
+compared-parts n known number (Binary Add l r) goal before stmts e whole is = cc
+compared-parts n known number (Binary Sub l r) goal before stmts e whole is = cc
+compared-parts n known number (Binary Mul l r) goal before stmts e whole is = cc
+compared-parts n known number (Binary Div l r) goal before stmts e whole is = cc
+compared-parts n known number (Binary Rem l r) goal before stmts e whole is = cc
+compared-parts n known number (Binary Lt l r) goal before stmts e whole is = cc
+compared-parts n known number (Binary Gt l r) goal before stmts e whole is = cc
+compared-parts n known number (Binary Ge l r) goal before stmts e whole is = cc
+compared-parts n known number (Binary Eq l r) goal before stmts e whole is = cc
+compared-parts n known number (Binary Ne l r) goal before stmts e whole is = cc
+compared-parts n known number (Binary And l r) goal before stmts e whole is = cc
+compared-parts n known number (Binary Or l r) goal before stmts e whole is = cc
 
-asserted-parts : (known : Known) (s : Statement) (goal : Goal) (before : List Statement) (stmts : List Statement) → asserted_by known s ≡ Ok goal
-    → stmts ≡ before ++ s ∷ [] → after_all nothing_known before ≡ Ok known → Body stmts goal
-asserted-parts known (Check number c) goal before stmts e whole is = compared-parts known number c goal before stmts e whole is
-asserted-parts known (Set col value) goal before stmts e whole is = cc
-asserted-parts known (Any col) goal before stmts e whole is = cc
-asserted-parts known (Call proc args into) goal before stmts e whole is = cc
-asserted-parts known (Guard c) goal before stmts e whole is = cc
-asserted-parts known (If c on_true on_false) goal before stmts e whole is = cc
-asserted-parts known (Loop pre c body step first) goal before stmts e whole is = cc
-asserted-parts known Break goal before stmts e whole is = cc
-asserted-parts known Continue goal before stmts e whole is = cc
-asserted-parts known Return goal before stmts e whole is = cc
+asserted-parts : (n : ℕ) (known : Known) (s : Statement) (goal : Goal) (before : List Statement) (stmts : List Statement) → asserted_by known s ≡ Ok goal
+    → stmts ≡ before ++ s ∷ [] → after_all (nothing_known n) before ≡ Ok known → Body n stmts goal
+asserted-parts n known (Check number c) goal before stmts e whole is = compared-parts n known number c goal before stmts e whole is
+asserted-parts n known (Set col value) goal before stmts e whole is = cc
+asserted-parts n known (Any col) goal before stmts e whole is = cc
+asserted-parts n known (Call proc args into) goal before stmts e whole is = cc
+asserted-parts n known (Guard c) goal before stmts e whole is = cc
+asserted-parts n known (If c on_true on_false) goal before stmts e whole is = cc
+asserted-parts n known (Loop pre c body step first) goal before stmts e whole is = cc
+asserted-parts n known Break goal before stmts e whole is = cc
+asserted-parts n known Continue goal before stmts e whole is = cc
+asserted-parts n known Return goal before stmts e whole is = cc
 
-pub body_of : (stmts : List Statement) (goal : Goal) → goal_of stmts ≡ Ok goal → Body stmts goal
-body_of stmts goal e = go (slice_get stmts (length stmts - 1)) refl e
+pub body_of : (n : ℕ) (stmts : List Statement) (goal : Goal) → goal_of n stmts ≡ Ok goal → Body n stmts goal
+body_of n stmts goal e = go (slice_get stmts (length stmts - 1)) refl e
   where
     before : List Statement
     before = take (length stmts - 1) stmts
 
-    go : (last : Option Statement) → slice_get stmts (length stmts - 1) ≡ last → goal_after (after_all nothing_known before) last ≡ Ok goal → Body stmts goal
+    go : (last : Option Statement) → slice_get stmts (length stmts - 1) ≡ last → goal_after (after_all (nothing_known n) before) last ≡ Ok goal → Body n stmts goal
     go None at f = cc
     go (Some s) at f =
-        on_ok (after_all nothing_known before) (λ k. asserted_by k s) goal f (λ k came then. asserted-parts k s goal before stmts then (take-last stmts s at) came)
+        on_ok (after_all (nothing_known n) before) (λ k. asserted_by k s) goal f (λ k came then. asserted-parts n k s goal before stmts then (take-last stmts s at) came)
 
 -- ---- the statements before the assertion set columns
 
@@ -109,37 +110,21 @@ is_setting _ = false
 pub record Sets (known : Known) (s : Statement) (next : Known) : Type 0 where
   pub setting : is_setting s ≡ true
   pub simple : is_simple s ≡ true
-  pub grows : length next.columns ≡ length known.columns + 1
-
-set-sets : (known : Known) (col : ℕ) (s : Statement) (p : Polynomial) (choices : ℕ) (next : Known) → is_setting s ≡ true → is_simple s ≡ true
-    → record { columns = known.columns ++ p ∷ []; choices = choices } ≡ next → Sets known s next
-set-sets known col s p choices next setting simple same = record {
-  setting = setting;
-  simple = simple;
-  grows = ap (λ k. length k.columns) (sym same) ∙ length-append known.columns (p ∷ []);
-}
+  pub long : length next.columns ≡ length known.columns
 
 step-sets : (known : Known) (s : Statement) (next : Known) → after_statement known s ≡ Ok next → Sets known s next
-step-sets known (Set col value) next e = go (is_next known col) e
-  where
-    go : (b : Bool) → cond b (poly_of known.columns value >>= λ p. Ok record { columns = known.columns ++ p ∷ []; choices = known.choices }) (Err NotYet) ≡ Ok next → Sets known (Set col value) next
-    go true f =
-        on_ok (poly_of known.columns value) (λ p. Ok record { columns = known.columns ++ p ∷ []; choices = known.choices }) next f
-        (λ p came is. set-sets known col (Set col value) p known.choices next refl refl cc)
-    go false f = cc
-step-sets known (Any col) next e = go (is_next known col) e
-  where
-    go : (b : Bool) → cond b (Ok record { columns = known.columns ++ column_of (Aux known.choices) ∷ []; choices = known.choices + 1 }) (Err NotYet) ≡ Ok next → Sets known (Any col) next
-    go true f = set-sets known col (Any col) (column_of (Aux known.choices)) (known.choices + 1) next refl refl cc
-    go false f = cc
-step-sets known (Call proc args into) next e = cc
-step-sets known (Guard c) next e = cc
-step-sets known (Check number c) next e = cc
-step-sets known (If c on_true on_false) next e = cc
-step-sets known (Loop pre c body step first) next e = cc
-step-sets known Break next e = cc
-step-sets known Continue next e = cc
-step-sets known Return next e = cc
+step-sets known s next e =
+    on_step known s next e
+    (λ col value p is within came same. record {
+      setting = ap is_setting is;
+      simple = ap is_simple is;
+      long = ap (λ k. length k.columns) (sym same) ∙ length-set known.columns col (Some p);
+    })
+    (λ col is within same. record {
+      setting = ap is_setting is;
+      simple = ap is_simple is;
+      long = ap (λ k. length k.columns) (sym same) ∙ length-set known.columns col (Some (column_of (Aux known.choices)));
+    })
 
 pub and_true : (a b : Bool) → a ≡ true → b ≡ true → a && b ≡ true
 and_true true b e f = f
@@ -148,20 +133,18 @@ and_true false b e f = absurd (cc e)
 pub record AllSet (known : Known) (stmts : List Statement) (last : Known) : Type 0 where
   pub setting : list_all is_setting stmts ≡ true
   pub simple : list_all is_simple stmts ≡ true
-  pub grows : length last.columns ≡ length known.columns + length stmts
+  pub long : length last.columns ≡ length known.columns
 
 pub all-set : (stmts : List Statement) (known last : Known) → after_all known stmts ≡ Ok last → AllSet known stmts last
-all-set [] known last e = record { setting = refl; simple = refl; grows = let same : known ≡ last = cc in ap (λ k. length k.columns) (sym same) ∙ omega arith }
+all-set [] known last e = record { setting = refl; simple = refl; long = let same : known ≡ last = cc in ap (λ k. length k.columns) (sym same) }
 all-set (s ∷ rest) known last e =
     on_ok (after_statement known s) (λ next. after_all next rest) last e (λ next f g.
     let step = step-sets known s next f in
     let later = all-set rest next last g in
-    let one = step.grows in
-    let more = later.grows in
     record {
       setting = and_true (is_setting s) (list_all is_setting rest) step.setting later.setting;
       simple = and_true (is_simple s) (list_all is_simple rest) step.simple later.simple;
-      grows = omega (arith, one, more);
+      long = later.long ∙ step.long;
     })
 
 -- the assertion is the first statement that sets nothing
@@ -209,14 +192,14 @@ false-test true e = let same : pos 1 ≡ pos 0 = cc in absurd (omega (arith, int
 false-test false e = refl
 
 -- the values of both sides where the assertion stands, and the columns of both
-pub record Sides (stmts : List Statement) (goal : Goal) (body : Body stmts goal) (state : State) (aux : ℕ → ℤ) : Type 0 where
+pub record Sides (n : ℕ) (stmts : List Statement) (goal : Goal) (body : Body n stmts goal) (state : State) (aux : ℕ → ℤ) : Type 0 where
   pub compares : value.value_of (Binary Le body.left body.right) state
       ≡ Some (truth_value (int_le (value_of (numbers [] aux) goal.left) (value_of (numbers [] aux) goal.right)))
   pub left_each : EachColumn (IsAux goal.known.choices) goal.left.terms
   pub right_each : EachColumn (IsAux goal.known.choices) goal.right.terms
 
-sides : (stmts : List Statement) (goal : Goal) (body : Body stmts goal) (state : State) (fits : Fits goal.known state) → Sides stmts goal body state fits.aux
-sides stmts goal body state fits =
+sides : (n : ℕ) (stmts : List Statement) (goal : Goal) (body : Body n stmts goal) (state : State) (fits : Fits goal.known state) → Sides n stmts goal body state fits.aux
+sides n stmts goal body state fits =
     let at = numbers [] fits.aux in
     let columns = goal.known.columns in
     record {
@@ -226,31 +209,48 @@ sides stmts goal body state fits =
       right_each = poly_of-each (IsAux goal.known.choices) columns fits.each body.right goal.right body.right_is;
     }
 
-pub holds : (stmts : List Statement) (goal : Goal) (body : Body stmts goal) (state : State) (p : Polynomial) → Fits goal.known state → difference goal.left goal.right ≡ Ok p
-    → IsTrueIn (Binary Le body.left body.right) state → (v : ℤ)
-    → HoldsCase (record { aux = goal.known.choices + 1; rows = at_most p ∷ []; post = column_of (Aux goal.known.choices) ∷ [] }) [] (v ∷ [])
-holds stmts goal body state p fits e (t, is, other) v =
+-- what is returned, if anything is
+abbrev pub returned_value : Bool → ℤ → List ℤ
+returned_value true v = v ∷ []
+returned_value false v = []
+
+pub holds : (columns : ℕ) (stmts : List Statement) (goal : Goal) (body : Body columns stmts goal) (state : State) (p : Polynomial) → Fits goal.known state
+    → difference goal.left goal.right ≡ Ok p → IsTrueIn (Binary Le body.left body.right) state → (returns : Bool) (v : ℤ)
+    → HoldsCase (returned_case returns goal.known.choices p) [] (returned_value returns v)
+holds columns stmts goal body state p fits e (t, is, other) returns v =
     let at = numbers [] fits.aux in
     let n = goal.known.choices in
-    let both = sides stmts goal body state fits in
+    let both = sides columns stmts goal body state fits in
     let test = true-test (int_le (value_of at goal.left) (value_of at goal.right)) t (sym both.compares ∙ is) other in
-    let below = le-true (value_of at goal.left) (value_of at goal.right) test in
+    let low = le-true (value_of at goal.left) (value_of at goal.right) test in
     let less = difference-value at goal.left goal.right p e in
     let aux = with-aux fits.aux n v in
     let same = values-agree (IsAux n) at (numbers [] aux) (with-aux-old fits.aux n v) p (difference-each (IsAux n) goal.left goal.right p e both.left_each both.right_each) in
-    let within : value_of (numbers [] aux) p ≤ℤ pos 0 = subst (λ z. z ≤ℤ pos 0) same (omega (arith, ints, below, less)) in
+    let here : value_of at p ≤ℤ pos 0 = omega (arith, ints, low, less) in
+    let within : value_of (numbers [] aux) p ≤ℤ pos 0 = subst (λ z. z ≤ℤ pos 0) same here in
     let given = sym (column-value (numbers [] aux) (Aux n)) ∙ with-aux-new fits.aux n v in
-    (aux, record { rows = (within, tt); posts = ap (λ z. z ∷ []) given })
+    go returns here within given
+  where
+    n : ℕ
+    n = goal.known.choices
 
-pub fails : (stmts : List Statement) (goal : Goal) (body : Body stmts goal) (state : State) (p q : Polynomial) → Fits goal.known state → difference goal.right goal.left ≡ Ok p
-    → sum_of_polys p (constant_of (pos 1)) ≡ Ok q → IsFalseIn (Binary Le body.left body.right) state
-    → (after : List ℤ) × HoldsCase (record { aux = goal.known.choices; rows = at_most q ∷ []; post = goal.known.columns }) [] after
-fails stmts goal body state p q fits e f is =
+    aux : ℕ → ℤ
+    aux = with-aux fits.aux n v
+
+    go : (returns : Bool) → value_of (numbers [] fits.aux) p ≤ℤ pos 0 → value_of (numbers [] aux) p ≤ℤ pos 0 → value_of (numbers [] aux) (column_of (Aux n)) ≡ v
+        → HoldsCase (returned_case returns n p) [] (returned_value returns v)
+    go true here within given = (aux, record { rows = (within, tt); posts = ap (λ z. z ∷ []) given })
+    go false here within given = (fits.aux, record { rows = (here, tt); posts = refl })
+
+pub fails : (n : ℕ) (stmts : List Statement) (goal : Goal) (body : Body n stmts goal) (state : State) (p q : Polynomial) (posts : List Polynomial) → Fits goal.known state
+    → difference goal.right goal.left ≡ Ok p → sum_of_polys p (constant_of (pos 1)) ≡ Ok q → IsFalseIn (Binary Le body.left body.right) state
+    → (after : List ℤ) × HoldsCase (one_row goal.known.choices q posts) [] after
+fails n stmts goal body state p q posts fits e f is =
     let at = numbers [] fits.aux in
-    let both = sides stmts goal body state fits in
+    let both = sides n stmts goal body state fits in
     let test = false-test (int_le (value_of at goal.left) (value_of at goal.right)) (sym both.compares ∙ is) in
     let above = le-false (value_of at goal.left) (value_of at goal.right) test in
     let less = difference-value at goal.right goal.left p e in
     let more = sum_of_polys-value at p (constant_of (pos 1)) q f in
     let within : value_of at q ≤ℤ pos 0 = omega (arith, ints, above, less, more) in
-    (map (value_of at) goal.known.columns, (fits.aux, record { rows = (within, tt); posts = refl }))
+    (map (value_of at) posts, (fits.aux, record { rows = (within, tt); posts = refl }))

@@ -1,9 +1,9 @@
 -- What is known of the columns is so in every run: there are numbers for the auxiliaries with which each polynomial is its column.
-use Rattle.std.proofs.Common.{◌≡◌, ◌≢◌, Bool, true, false, cond, ℕ, zero, suc, ℤ, pos, ◌+◌, ◌<◌, ◌≤◌, ◌==◌, nat_lt, Some, Result, Ok, Err, List, [], ◌∷◌, ◌++◌, length, refl, sym, ap, subst, ◌∙◌, slice_get, arith}
+use Rattle.std.proofs.Common.{◌≡◌, ◌≢◌, Bool, true, false, cond, ℕ, zero, suc, ℤ, pos, ◌+◌, ◌<◌, ◌≤◌, ◌==◌, nat_lt, Option, Some, Result, Ok, Err, List, [], ◌∷◌, ◌++◌, length, refl, sym, ap, subst, ◌∙◌, slice_get, arith}
 use Rattle.std.specs.Prelude.{◌&&◌, slice_index_or, slice_set}
 use Rattle.std.specs.List.{AllByRecursion}
 use Rattle.std.proofs.lemmas.List.{length-set}
-use Rattle.std.proofs.lemmas.List.{get_or-set_same, get_or-set_other, length-append}
+use Rattle.std.proofs.lemmas.List.{get_or-set_same, get_or-set_other}
 use Rattle.std.proofs.lemmas.Int.{ints}
 use Rattle.std.proofs.lemmas.Bool.{eqb-true, eq-eqb}
 use Rattle.items.specs.Gives.{◌>>=◌}
@@ -20,10 +20,11 @@ use Rattle.execution.specs.Step.{Changes}
 use Rattle.cra.specs.declared.early.Early.{Early}
 use Rattle.cra.specs.declared.early.Early.TheVariants.{NotYet}
 use Rattle.cra.specs.declared.known.Known.{Known}
-use Rattle.cra.specs.Analysis.{after_all, after_statement, is_next, poly_of}
+use Rattle.cra.specs.Analysis.{after_all, after_statement, poly_of, with_column}
 use Rattle.transition_formula.specs.Meaning.{numbers}
 use Rattle.cra.proofs.Columns.{EachKnown, poly_of-each, values-agree}
 use Rattle.cra.proofs.Runs.{ChangesAll}
+use Rattle.cra.proofs.Steps.{on_step, set-get}
 use Rattle.cra.proofs.Values.{Agrees, poly_of-value}
 
 -- an auxiliary below n
@@ -31,26 +32,11 @@ abbrev pub IsAux : ℕ → Col → Type 0
 IsAux n (At number) = ⊥
 IsAux n (Aux number) = number < n
 
--- one more at the end
-pub snoc-get : {X : Type 0} {Q : Type 0} (xs : List X) (x y : X) (c : ℕ) → slice_get (xs ++ x ∷ []) c ≡ Some y
-    → (c < length xs → slice_get xs c ≡ Some y → Q) → (c ≡ length xs → x ≡ y → Q) → Q
-snoc-get [] x y zero e old new = new refl cc
-snoc-get [] x y (suc c) e old new = cc
-snoc-get (z ∷ xs) x y zero e old new = old (omega arith) e
-snoc-get (z ∷ xs) x y (suc c) e old new = snoc-get xs x y c e (λ l g. old (omega (arith, l)) g) (λ l g. new (omega (arith, l)) g)
-
 -- the auxiliaries so far have numbers with which the columns are right
 pub record Fits (known : Known) (state : State) : Type 0 where
   pub each : EachKnown (IsAux known.choices) known.columns
   pub aux : ℕ → ℤ
   pub agrees : Agrees (numbers [] aux) known.columns state
-
-both_true : (a b : Bool) → a && b ≡ true → a ≡ true
-both_true true b e = refl
-both_true false b e = absurd (cc e)
-
-next-is : (known : Known) (col : ℕ) → is_next known col ≡ true → col ≡ length known.columns
-next-is known col e = let same = both_true (col == length known.columns) (nat_lt col 8) e in eqb-true col (length known.columns) same
 
 all-more : {A : Type 0} (P Q : A → Type 0) → ((a : A) → P a → Q a) → (xs : List A) → AllByRecursion P xs → AllByRecursion Q xs
 all-more P Q more [] each = tt
@@ -66,26 +52,27 @@ aux-more n (Aux number) h = omega (arith, h)
 -- ---- one statement
 
 -- what a statement leaves, of a column that is set
-set-fits : (known : Known) (p : Polynomial) (state after : State) (v : ℤ) (n : ℕ) (aux : ℕ → ℤ) → length known.columns < length state
-    → after ≡ slice_set state (length known.columns) v → ((c : ℕ) (q : Polynomial) → slice_get known.columns c ≡ Some q → slice_index_or state c (pos 0) ≡ value_of (numbers [] aux) q)
-    → v ≡ value_of (numbers [] aux) p → Agrees (numbers [] aux) (known.columns ++ p ∷ []) after
-set-fits known p state after v n aux wide set agrees value c q e =
-    snoc-get known.columns p q c e
-    (λ within found.
-    let other : c ≢ length known.columns = λ same. omega (arith, within, same) in
-    ap (λ s. slice_index_or s c (pos 0)) set ∙ get_or-set_other state (length known.columns) c v (pos 0) other ∙ agrees c q found)
-    (λ last same.
-    ap (λ s. slice_index_or s c (pos 0)) set ∙ ap (λ k. slice_index_or (slice_set state (length known.columns) v) k (pos 0)) last
-    ∙ get_or-set_same state (length known.columns) v (pos 0) wide ∙ value ∙ ap (value_of (numbers [] aux)) same)
+set-fits : (known : Known) (col : ℕ) (p : Polynomial) (state after : State) (v : ℤ) (aux : ℕ → ℤ) → col < length state
+    → after ≡ slice_set state col v → ((c : ℕ) (q : Polynomial) → slice_get known.columns c ≡ Some (Some q) → slice_index_or state c (pos 0) ≡ value_of (numbers [] aux) q)
+    → v ≡ value_of (numbers [] aux) p → Agrees (numbers [] aux) (slice_set known.columns col (Some p)) after
+set-fits known col p state after v aux wide set agrees value c q e =
+    set-get known.columns col c (Some p) (Some q) e
+    (λ other found. ap (λ s. slice_index_or s c (pos 0)) set ∙ get_or-set_other state col c v (pos 0) other ∙ agrees c q found)
+    (λ here same.
+    let inner : p ≡ q = cc in
+    ap (λ s. slice_index_or s c (pos 0)) set ∙ ap (λ k. slice_index_or (slice_set state col v) k (pos 0)) here
+    ∙ get_or-set_same state col v (pos 0) wide ∙ value ∙ ap (value_of (numbers [] aux)) inner)
 
 -- what follows a statement
 pub record Follows (next : Known) (known : Known) (state after : State) : Type 0 where
   pub fits : Fits next after
-  pub one_more : length next.columns ≡ length known.columns + 1
+  pub long : length next.columns ≡ length known.columns
   pub wide : length after ≡ length state
 
-pub each-snoc : (P : Col → Type 0) (columns : List Polynomial) (p : Polynomial) → EachKnown P columns → EachColumn P p.terms → EachKnown P (columns ++ p ∷ [])
-each-snoc P columns p each last c q e = snoc-get columns p q c e (λ within found. each c q found) (λ at same. subst (λ r. EachColumn P r.terms) same last)
+pub each-set : (P : Col → Type 0) (columns : List (Option Polynomial)) (col : ℕ) (p : Polynomial) → EachKnown P columns → EachColumn P p.terms
+    → EachKnown P (slice_set columns col (Some p))
+each-set P columns col p each last c q e =
+    set-get columns col c (Some p) (Some q) e (λ other found. each c q found) (λ at same. let inner : p ≡ q = cc in subst (λ r. EachColumn P r.terms) inner last)
 
 -- the numbers with one more
 abbrev pub with-aux : (ℕ → ℤ) → ℕ → ℤ → ℕ → ℤ
@@ -112,90 +99,63 @@ with-aux-old aux n v (Aux k) h = go (k == n) refl
 pub column-value : (at : Valuation) (c : Col) → at c ≡ value_of at (column_of c)
 column-value at c = omega (arith, ints)
 
-length-snoc : {X : Type 0} (xs : List X) (x : X) → length (xs ++ x ∷ []) ≡ length xs + 1
-length-snoc xs x = length-append xs (x ∷ [])
-
-abbrev done : Known → Result Known Early
-done known = Ok known
-
 -- the column is set to a sum
-set-follows : (known : Known) (p : Polynomial) (value : Term) (col : ℕ) (state after : State) → col ≡ length known.columns → poly_of known.columns value ≡ Ok p
-    → length known.columns < length state → Fits known state → Changes (Set col value) state after
-    → Follows (record { columns = known.columns ++ p ∷ []; choices = known.choices }) known state after
-set-follows known p value col state after next came wide fits (v, is, set) =
+set-follows : (known : Known) (p : Polynomial) (value : Term) (col : ℕ) (state after : State) → poly_of known.columns value ≡ Ok p
+    → col < length state → Fits known state → Changes (Set col value) state after
+    → Follows (with_column known col p known.choices) known state after
+set-follows known p value col state after came wide fits (v, is, set) =
     let at = numbers [] fits.aux in
     let known_value = poly_of-value at known.columns state fits.agrees value p came in
     let told : Some v ≡ Some (value_of at p) = sym is ∙ known_value in
     let same : v ≡ value_of at p = cc in
-    let put = set ∙ ap (λ k. slice_set state k v) next in
     record {
       fits = record {
-        each = each-snoc (IsAux known.choices) known.columns p fits.each (poly_of-each (IsAux known.choices) known.columns fits.each value p came);
+        each = each-set (IsAux known.choices) known.columns col p fits.each (poly_of-each (IsAux known.choices) known.columns fits.each value p came);
         aux = fits.aux;
-        agrees = set-fits known p state after v 0 fits.aux wide put fits.agrees same;
+        agrees = set-fits known col p state after v fits.aux wide set fits.agrees same;
       };
-      one_more = length-snoc known.columns p;
+      long = length-set known.columns col (Some p);
       wide = ap length set ∙ length-set state col v;
     }
 
 -- the column is any number
-any-follows : (known : Known) (col : ℕ) (state after : State) → col ≡ length known.columns → length known.columns < length state → Fits known state
-    → Changes (Any col) state after → Follows (record { columns = known.columns ++ column_of (Aux known.choices) ∷ []; choices = known.choices + 1 }) known state after
-any-follows known col state after next wide fits (v, set) =
+any-follows : (known : Known) (col : ℕ) (state after : State) → col < length state → Fits known state
+    → Changes (Any col) state after → Follows (with_column known col (column_of (Aux known.choices)) (known.choices + 1)) known state after
+any-follows known col state after wide fits (v, set) =
     let n = known.choices in
     let aux = with-aux fits.aux n v in
     let at = numbers [] aux in
-    let put = set ∙ ap (λ k. slice_set state k v) next in
     let value = sym (with-aux-new fits.aux n v) ∙ column-value at (Aux n) in
-    let older : (c : ℕ) (q : Polynomial) → slice_get known.columns c ≡ Some q → slice_index_or state c (pos 0) ≡ value_of at q =
+    let older : (c : ℕ) (q : Polynomial) → slice_get known.columns c ≡ Some (Some q) → slice_index_or state c (pos 0) ≡ value_of at q =
     λ c q found. fits.agrees c q found ∙ values-agree (IsAux n) (numbers [] fits.aux) at (with-aux-old fits.aux n v) q (fits.each c q found) in
     record {
       fits = record {
-        each = each-snoc (IsAux (n + 1)) known.columns (column_of (Aux n)) (λ c q found. columns-more (IsAux n) (IsAux (n + 1)) (aux-more n) q (fits.each c q found)) (((omega arith), tt), tt);
+        each = each-set (IsAux (n + 1)) known.columns col (column_of (Aux n)) (λ c q found. columns-more (IsAux n) (IsAux (n + 1)) (aux-more n) q (fits.each c q found)) (((omega arith), tt), tt);
         aux = aux;
-        agrees = set-fits known (column_of (Aux n)) state after v 0 aux wide put older value;
+        agrees = set-fits known col (column_of (Aux n)) state after v aux wide set older value;
       };
-      one_more = length-snoc known.columns (column_of (Aux n));
+      long = length-set known.columns col (Some (column_of (Aux n)));
       wide = ap length set ∙ length-set state col v;
     }
 
-step-follows : (known : Known) (s : Statement) (next : Known) (state after : State) → after_statement known s ≡ Ok next → length known.columns < length state
+step-follows : (known : Known) (s : Statement) (next : Known) (state after : State) → after_statement known s ≡ Ok next → length known.columns ≤ length state
     → Fits known state → Changes s state after → Follows next known state after
-step-follows known (Set col value) next state after e wide fits changes = go (is_next known col) refl e
-  where
-    go : (b : Bool) → is_next known col ≡ b
-        → cond b (poly_of known.columns value >>= λ p. Ok record { columns = known.columns ++ p ∷ []; choices = known.choices }) (Err NotYet) ≡ Ok next → Follows next known state after
-    go true at f =
-        on_ok (poly_of known.columns value) (λ p. Ok record { columns = known.columns ++ p ∷ []; choices = known.choices }) next f
-        (λ p came is. let same : record { columns = known.columns ++ p ∷ []; choices = known.choices } ≡ next = cc in
-        subst (λ k. Follows k known state after) same (set-follows known p value col state after (next-is known col at) came wide fits changes))
-    go false at f = cc
-step-follows known (Any col) next state after e wide fits changes = go (is_next known col) refl e
-  where
-    go : (b : Bool) → is_next known col ≡ b
-        → cond b (Ok record { columns = known.columns ++ column_of (Aux known.choices) ∷ []; choices = known.choices + 1 }) (Err NotYet) ≡ Ok next → Follows next known state after
-    go true at f =
-        let same : record { columns = known.columns ++ column_of (Aux known.choices) ∷ []; choices = known.choices + 1 } ≡ next = cc in
-        subst (λ k. Follows k known state after) same (any-follows known col state after (next-is known col at) wide fits changes)
-    go false at f = cc
-step-follows known (Call proc args into) next state after e wide fits changes = cc
-step-follows known (Guard cond) next state after e wide fits changes = cc
-step-follows known (Check number cond) next state after e wide fits changes = cc
-step-follows known (If cond on_true on_false) next state after e wide fits changes = cc
-step-follows known (Loop pre cond body step first) next state after e wide fits changes = cc
-step-follows known Break next state after e wide fits changes = cc
-step-follows known Continue next state after e wide fits changes = cc
-step-follows known Return next state after e wide fits changes = cc
+step-follows known s next state after e wide fits changes =
+    on_step known s next e
+    (λ col value p is within came same. subst (λ k. Follows k known state after) same
+    (set-follows known p value col state after came (omega (arith, within, wide)) fits (subst (λ x. Changes x state after) is changes)))
+    (λ col is within same. subst (λ k. Follows k known state after) same
+    (any-follows known col state after (omega (arith, within, wide)) fits (subst (λ x. Changes x state after) is changes)))
 
 -- ---- all statements
 
 pub all-follow : (stmts : List Statement) (known last : Known) (state after : State) → after_all known stmts ≡ Ok last
-    → length known.columns + length stmts ≤ length state → Fits known state → ChangesAll stmts state after → Fits last after
+    → length known.columns ≤ length state → Fits known state → ChangesAll stmts state after → Fits last after
 all-follow [] known last state after e wide fits changes =
     let same : known ≡ last = cc in subst (λ k. Fits k after) same (subst (Fits known) changes fits)
 all-follow (s ∷ rest) known last state after e wide fits (between, change, more) =
     on_ok (after_statement known s) (λ next. after_all next rest) last e (λ next f g.
-    let step = step-follows known s next state between f (omega (arith, wide)) fits change in
-    let one = step.one_more in
+    let step = step-follows known s next state between f wide fits change in
+    let long = step.long in
     let same = step.wide in
-    all-follow rest next last between after g (omega (arith, wide, one, same)) step.fits more)
+    all-follow rest next last between after g (omega (arith, wide, long, same)) step.fits more)

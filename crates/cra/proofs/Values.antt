@@ -14,7 +14,8 @@ use Rattle.syntax_tree.specs.declared.op.Op.TheVariants.{Add, Sub, Mul, Div, Rem
 use Rattle.syntax_tree.specs.Term.{Term, Lit, Col, Unary, Binary}
 use Rattle.syntax_tree.specs.Value.{State, value_of, early_value, or_else, result_of, with_number}
 use Rattle.cra.specs.declared.early.Early.TheVariants.{NotYet}
-use Rattle.cra.specs.Analysis.{difference, early, found, is_additive, joined, poly_of}
+use Rattle.cra.specs.Analysis.{difference, early, found, joined, poly_of}
+use Rattle.cra.specs.FirstForm.{is_additive}
 
 pub difference-value : (at : Valuation) (a b p : Polynomial) → difference a b ≡ Ok p → poly.value_of at p ≡ poly.value_of at a -ℤ poly.value_of at b
 difference-value at a b p e =
@@ -27,20 +28,21 @@ pub lifted-ok : {A E F : Type 0} (as_fault : E → F) (r : Result A E) (x : A) �
 lifted-ok as_fault (Ok y) x e = let same : y ≡ x = cc in ap (λ z. Ok z) same
 lifted-ok as_fault (Err f) x e = cc
 
-pub found-ok : (column : Option Polynomial) (p : Polynomial) → found column ≡ Ok p → column ≡ Some p
+pub found-ok : (column : Option (Option Polynomial)) (p : Polynomial) → found column ≡ Ok p → column ≡ Some (Some p)
 found-ok None p e = cc
-found-ok (Some q) p e = let same : q ≡ p = cc in ap (λ z. Some z) same
+found-ok (Some None) p e = cc
+found-ok (Some (Some q)) p e = let same : q ≡ p = cc in ap (λ z. Some (Some z)) same
 
 -- the columns have these values in a state
-abbrev pub Agrees : Valuation → List Polynomial → State → Type 0
-Agrees at columns state = (c : ℕ) (p : Polynomial) → slice_get columns c ≡ Some p → slice_index_or state c (pos 0) ≡ poly.value_of at p
+abbrev pub Agrees : Valuation → List (Option Polynomial) → State → Type 0
+Agrees at columns state = (c : ℕ) (p : Polynomial) → slice_get columns c ≡ Some (Some p) → slice_index_or state c (pos 0) ≡ poly.value_of at p
 
 -- an operator at the values of two sums
 pub operated : (op : Op) (l r : Term) (state : State) (x y : ℤ) → value_of l state ≡ Some x → value_of r state ≡ Some y
     → value_of (Binary op l r) state ≡ or_else (early_value op x) (result_of op x y)
 operated op l r state x y left right = λ i. with_number (left i) (λ u. or_else (early_value op u) (with_number (right i) (result_of op u)))
 
-pub poly_of-value : (at : Valuation) (columns : List Polynomial) (state : State) → Agrees at columns state
+pub poly_of-value : (at : Valuation) (columns : List (Option Polynomial)) (state : State) → Agrees at columns state
     → (e : Term) (p : Polynomial) → poly_of columns e ≡ Ok p → value_of e state ≡ Some (poly.value_of at p)
 poly_of-value at columns state agrees (Lit n) p e =
     let same : constant_of n ≡ p = cc in

@@ -1,82 +1,58 @@
--- Which texts are accepted, and as which program.
-use Rattle.std.specs.Prelude.{◌≡◌, ℕ, ◌+◌, Bool, true, false, ◌||◌, ◌==◌, Option, None, Some, List, [], ◌∷◌, length, map, codes, if◌then◌else◌, slice_get}
-use Rattle.std.specs.List.{list_any}
-use Rattle.c_lexer.specs.declared.kind.Kind.{Kind}
+-- Which texts are accepted, as which program, and why the others are refused.
+use Rattle.std.specs.Prelude.{◌≡◌, ℕ, List, length, Result, Ok, Err}
 use Rattle.c_lexer.specs.declared.token.Token.{Token}
+use Rattle.c_lexer.specs.Refusals.{IsRefused}
 use Rattle.c_lexer.specs.Tokens.{Tokenizes}
-use Rattle.syntax_tree.specs.declared.op.Op.TheVariants.{Add, Sub, Le}
-use Rattle.syntax_tree.specs.declared.program.Column.{Column}
-use Rattle.syntax_tree.specs.declared.program.Proc.{Proc}
+use Rattle.c_parser.specs.Reads.{ReadsWithinLimits}
+use Rattle.c_parser.specs.SourceItem.{SourceItem, source_items_of}
 use Rattle.syntax_tree.specs.declared.program.Program.{Program}
-use Rattle.syntax_tree.specs.Term.{Term, Lit, Col, Binary}
-use Rattle.syntax_tree.specs.Code.{Statement, Set, Any, Check, Code, End, Then, code_of}
-use Rattle.cra.specs.Sentence.{Atom, Variable, Number, More, Sum, Declaration, Sentence, SentenceFits, front_kinds, sentence_kinds}
+use Rattle.syntax_tree.specs.declared.tree.Tree.{Tree}
+use Rattle.typing.specs.declared.error.TypeError.{TypeError}
+use Rattle.typing.specs.Faults.{elaboration_of}
+use Rattle.cra.specs.declared.refusal.Refusal.{Refusal}
+use Rattle.cra.specs.declared.refusal.Refusal.TheVariants.{Lexing, Parsing, Typing, Memory}
 
--- ---- the program that a sentence means
-
-abbrev pub atom_term : Atom → Term
-atom_term (Variable col) = Col col
-atom_term (Number value) = Lit value
-
--- a sum with more terms: `+` and `-` associate to the left (C11 6.5.6)
-abbrev pub with_more : Term → List More → Term
-with_more e [] = e
-with_more e (m ∷ more) = with_more (Binary (if m.minus then Sub else Add) e (atom_term m.atom)) more
-
-abbrev pub sum_term : Sum → Term
-sum_term s = with_more (atom_term s.first) s.more
-
-abbrev pub declared_by : ℕ → Option Sum → Statement
-declared_by col None = Any col
-declared_by col (Some s) = Set col (sum_term s)
-
--- the declarations from a column on, and what follows them
-abbrev pub declarations_code : ℕ → List Declaration → Code → Code
-declarations_code col [] last = last
-declarations_code col (d ∷ ds) last = Then (declared_by col d.value) (declarations_code (col + 1) ds last)
-
-abbrev pub sentence_code : Sentence → Code
-sentence_code s = declarations_code 0 s.declarations (Then (Check 1 (Binary Le (sum_term s.left) (sum_term s.right))) End)
-
--- a column for each declaration
-abbrev pub declared_columns : List Declaration → List Column
-declared_columns ds = map (λ d. record { name = Some d.name }) ds
-
--- The program has one procedure, `main`, with a column for each declaration, and one assertion, which stands at a place.
-pub record IsProgramOf (s : Sentence) (at : ℕ) (program : Program) : Type 0 where
-  pub globals : program.globals ≡ []
-  pub body : Proc
-  pub procs : program.procs ≡ body ∷ []
-  pub main : program.main ≡ 0
-  pub checks : program.checks ≡ at ∷ []
-  pub name : body.name ≡ codes "main"
-  pub returns : body.returns ≡ true
-  pub params : body.params ≡ 0
-  pub columns : body.columns ≡ declared_columns s.declarations
-  pub code : code_of body.body ≡ sentence_code s
-
--- ---- texts
-
--- A tab, a vertical tab, a form feed, a carriage return, and the first bytes of a comment and of a skipped line. Without
--- them only spaces and newlines stand between tokens.
-abbrev pub is_foreign : ℕ → Bool
-is_foreign b = b == 9 || (b == 11 || (b == 12 || (b == 13 || (b == 47 || b == 35))))
-
-abbrev pub kinds_of : List Token → List Kind
-kinds_of tokens = map (λ t. t.kind) tokens
-
--- The tokens spell a sentence, and the program is the one that it means. The assertion's place is that of its word.
-pub record Spells (tokens : List Token) (program : Program) : Type 0 where
-  pub sentence : Sentence
-  pub spelled : kinds_of tokens ≡ sentence_kinds sentence
-  pub fits : SentenceFits sentence
-  pub word : Token
-  pub stands : slice_get tokens (length (front_kinds sentence)) ≡ Some word
-  pub means : IsProgramOf sentence word.at program
-
--- The text has such tokens, with nothing but spaces and newlines between them.
-pub record Accepts (text : List ℕ) (program : Program) : Type 0 where
-  pub plain : list_any is_foreign text ≡ false
+-- The text spells a tree: it has tokens, which the grammar reads as the tree, within the limits of nesting.
+pub record Spells (text : List ℕ) (tree : Tree) : Type 0 where
   pub tokens : List Token
   pub tokenizes : Tokenizes text tokens
-  pub spells : Spells tokens program
+  pub reads : ReadsWithinLimits tokens (source_items_of tree)
+
+-- The text spells a tree, and the tree has this program.
+pub record Accepts (text : List ℕ) (program : Program) : Type 0 where
+  pub tree : Tree
+  pub spells : Spells text tree
+  pub elaborates : elaboration_of tree.items (length text) ≡ Ok program
+
+-- The text has tokens, and these have no tree within the limits of nesting.
+pub record IsUnread (text : List ℕ) : Type 0 where
+  pub tokens : List Token
+  pub tokenizes : Tokenizes text tokens
+  pub none : (items : List SourceItem) → ¬ ReadsWithinLimits tokens items
+
+-- The text spells a tree, and this is the first fault of the tree.
+pub record IsFaulty (text : List ℕ) (fault : TypeError) : Type 0 where
+  pub tree : Tree
+  pub spells : Spells text tree
+  pub least : elaboration_of tree.items (length text) ≡ Err fault
+
+-- Why a text is refused: what the cut into tokens refuses comes first, then what the grammar refuses, then the first
+-- fault of the tree. Want of memory says nothing of the text.
+abbrev pub IsRefusedBy : List ℕ → Refusal → Type 0
+IsRefusedBy text (Lexing fault) = IsRefused text fault
+IsRefusedBy text (Parsing fault) = IsUnread text
+IsRefusedBy text (Typing fault) = IsFaulty text fault
+IsRefusedBy text Memory = Unit {0}
+
+-- what reading a text comes to
+abbrev pub IsOutcome : List ℕ → Result Program Refusal → Type 0
+IsOutcome text (Ok program) = Accepts text program
+IsOutcome text (Err refusal) = IsRefusedBy text refusal
+
+abbrev pub TokensOrRefusal : List ℕ → Result (List Token) Refusal → Type 0
+TokensOrRefusal text (Ok tokens) = Tokenizes text tokens
+TokensOrRefusal text (Err refusal) = IsRefusedBy text refusal
+
+abbrev pub TreeOrRefusal : List ℕ → Result Tree Refusal → Type 0
+TreeOrRefusal text (Ok tree) = Spells text tree
+TreeOrRefusal text (Err refusal) = IsRefusedBy text refusal

@@ -1,11 +1,11 @@
 pub mod Accepted
 pub mod Analysis
 pub mod Claims
+pub mod FirstForm
 pub mod Input
 pub mod Output
-pub mod Reader
+pub mod Refused
 pub mod Replies
-pub mod Sentence
 pub mod Stated
 pub mod Text
 pub mod Words

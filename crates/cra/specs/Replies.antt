@@ -1,5 +1,5 @@
 -- What a run answers to its words and its input.
-use Rattle.std.specs.Prelude.{◌≡◌, ◌≢◌, ℕ, ◌<◌, ◌≤◌, ◌⊎◌, ◌==◌, List, length, Option, None, Some, codes, if◌then◌else◌}
+use Rattle.std.specs.Prelude.{◌≡◌, ◌≢◌, ℕ, ◌<◌, ◌≤◌, ◌⊎◌, ◌==◌, true, false, List, length, Option, None, Some, codes, if◌then◌else◌}
 use Rattle.std.specs.List.{count_by}
 use Rattle.syntax_tree.specs.declared.program.Program.{Program}
 use Rattle.cra.specs.declared.reply.Reply.{Reply}
@@ -7,7 +7,11 @@ use Rattle.cra.specs.declared.report.Report.{Report}
 use Rattle.cra.specs.declared.run.TheConstants.{TEXT_LIMIT}
 use Rattle.cra.specs.declared.words.Work.{Work}
 use Rattle.cra.specs.declared.words.Work.TheVariants.{Analyse}
-use Rattle.cra.specs.Accepted.{Accepts}
+use Rattle.cra.specs.declared.refusal.Refusal.{Refusal}
+use Rattle.cra.specs.declared.refusal.Refusal.TheVariants.{Memory}
+use Rattle.cra.specs.Accepted.{Accepts, IsRefusedBy}
+use Rattle.cra.specs.FirstForm.{is_first_form}
+use Rattle.cra.specs.Refused.{refusal_text, told}
 use Rattle.cra.specs.Claims.{ClaimsAreMet}
 use Rattle.cra.specs.Stated.{IsReportOf}
 use Rattle.cra.specs.Text.{is_proved, text_of}
@@ -27,6 +31,10 @@ too_long = record { status = 9; text = codes "input is too long\n" }
 abbrev pub not_yet : Reply
 not_yet = record { status = 3; text = codes "refused notyet\n" }
 
+-- the answer to a text that is refused
+abbrev pub refused_reply : List ℕ → Refusal → Reply
+refused_reply text refusal = record { status = 3; text = refusal_text text (told refusal) }
+
 -- the text of a report; the status is 0 where every assertion is proved, else 1
 abbrev pub reply_of : Report → Reply
 reply_of report = record {
@@ -34,18 +42,32 @@ reply_of report = record {
   text = text_of report;
 }
 
--- The text is accepted, and its report is the stated one, whose claims are met.
+-- The text is accepted, its program is of the form that is analysed so far, and the report is the stated one, whose
+-- claims are met.
 pub record IsAnalysed (text : List ℕ) (report : Report) : Type 0 where
   pub program : Program
   pub accepted : Accepts text program
+  pub first : is_first_form program ≡ true
   pub stated : IsReportOf text program report
   pub met : ClaimsAreMet program report
 
--- a text that is accepted is answered with the text of its report, and every other text is refused
+-- the text is accepted, and its program is of another form
+pub record IsLeftOut (text : List ℕ) : Type 0 where
+  pub program : Program
+  pub accepted : Accepts text program
+  pub other : is_first_form program ≡ false
+
+-- the text is refused for a reason, and not for want of memory
+pub record IsRefusedFor (text : List ℕ) (refusal : Refusal) : Type 0 where
+  pub refused : IsRefusedBy text refusal
+  pub told : refusal ≢ Memory
+
+-- a text that is accepted is answered with the text of its report, and every other text with the reason of its refusal
 abbrev pub IsReplyToShort : List ℕ → Reply → Type 0
 IsReplyToShort text reply =
     ((report : Report) × IsAnalysed text report × (reply ≡ reply_of report))
-    ⊎ ((reply ≡ not_yet) × ((program : Program) → ¬ Accepts text program))
+    ⊎ (IsLeftOut text × (reply ≡ not_yet))
+    ⊎ ((refusal : Refusal) × IsRefusedFor text refusal × (reply ≡ refused_reply text refusal))
 
 abbrev pub IsReplyToText : List ℕ → Reply → Type 0
 IsReplyToText input reply =

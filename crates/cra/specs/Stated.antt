@@ -83,8 +83,12 @@ abbrev pub cases_of : Option Case → List Case
 cases_of None = []
 cases_of (Some case) = case ∷ []
 
+-- the columns at the end of a procedure: there are no globals, so it is the returned value or nothing
+abbrev pub exits_of : Proc → ℕ
+exits_of main = if main.returns then 1 else 0
+
 abbrev pub block_of : Proc → Option Case → ProcBlock
-block_of main case = record { name = main.name; before = []; after = []; formula = record { from = 0; to = 1; cases = cases_of case } }
+block_of main case = record { name = main.name; before = []; after = []; formula = record { from = 0; to = exits_of main; cases = cases_of case } }
 
 -- An assertion is proved exactly where the case in which it fails is impossible. Else a point makes the rows of that case true.
 abbrev pub IsVerdict : Option Case → Verdict → Type 0
@@ -102,14 +106,14 @@ judged_of text at main verdict = record {
 }
 
 -- both cases, where all is known of the body
-pub record Settles (goal : Goal) (holds fails : Case) : Type 0 where
-  pub holds_is : holding goal ≡ Ok holds
-  pub fails_is : failing goal ≡ Ok fails
-  pub holds_fits : IsTrue (fits 0 1 holds)
+pub record Settles (main : Proc) (goal : Goal) (holds fails : Case) : Type 0 where
+  pub holds_is : holding main.returns goal ≡ Ok holds
+  pub fails_is : failing main.columns goal ≡ Ok fails
+  pub holds_fits : IsTrue (fits 0 (exits_of main) holds)
   pub holds_numbered : IsTrue (every_column_of (is_numbered holds.aux) holds)
   pub fails_numbered : IsTrue (every_column_of (is_numbered fails.aux) fails)
   pub few : goal.known.choices ≤ 8
-  pub columns_few : length goal.known.columns ≤ 8
+  pub columns_all : length goal.known.columns ≡ length main.columns
   pub holds_few : holds.aux + length holds.post < 2 ^ 32
   pub fails_few : fails.aux + length fails.post < 2 ^ 32
   pub plain : (case : Case) → (in_order fails).left ≡ Some case → IsPlain case.rows
@@ -117,11 +121,11 @@ pub record Settles (goal : Goal) (holds fails : Case) : Type 0 where
 -- the report of a procedure that asserts one thing, at a place
 pub record IsReportOn (text : List ℕ) (main : Proc) (place : ℕ) (report : Report) : Type 0 where
   pub goal : Goal
-  pub goal_is : goal_of (map statement_of main.body) ≡ Ok goal
+  pub goal_is : goal_of (length main.columns) (map statement_of main.body) ≡ Ok goal
   pub holds : Case
-  pub holds_is : holding goal ≡ Ok holds
+  pub holds_is : holding main.returns goal ≡ Ok holds
   pub fails : Case
-  pub fails_is : failing goal ≡ Ok fails
+  pub fails_is : failing main.columns goal ≡ Ok fails
   pub verdict : Verdict
   pub verdict_is : IsVerdict (in_order fails).left verdict
   pub report_is : report ≡ record { procs = block_of main (in_order holds).left ∷ []; judged = judged_of text place main verdict ∷ [] }

@@ -1,6 +1,7 @@
 -- The text of a report.
-use Rattle.std.specs.Prelude.{ℕ, ℤ, pos, ◌+◌, ◌-◌, Bool, true, false, ◌==◌, nat_lt, int_lt, unsigned_abs, decimal, Option, None, Some, List, [], ◌∷◌, ◌++◌, length, codes, if◌then◌else◌, slice_get, slice_index_or}
-use Rattle.std.specs.List.{flat_map, join_by, count_by}
+use Rattle.std.specs.Prelude.{ℕ, ℤ, pos, ◌+◌, ◌-◌, Bool, true, false, ◌==◌, ◌&&◌, nat_lt, int_lt, unsigned_abs, decimal, Option, None, Some, List, [], ◌∷◌, ◌++◌, length, codes, take, if◌then◌else◌, slice_get, slice_index_or}
+use Rattle.std.specs.List.{flat_map, join_by, count_by, list_any}
+use Rattle.std.specs.Str.{bytes_eq}
 use Rattle.std.specs.Ordering.{int_eq}
 use Rattle.std.specs.Fmt.{signed_decimal}
 use Rattle.linear_terms.specs.declared.col.Col.{Col}
@@ -78,6 +79,14 @@ exit_name after i = if nat_lt i (length after) then slice_index_or after i [] ++
 abbrev pub name_at : List (List ℕ) → ℕ → List ℕ
 name_at names i = slice_index_or names i []
 
+-- an earlier name is the same as the one at a place
+abbrev pub stands_before : List (List ℕ) → ℕ → Bool
+stands_before names i = nat_lt i (length names) && list_any (bytes_eq (name_at names i)) (take i names)
+
+-- the name of a shown column, with its number where an earlier one has the same name
+abbrev pub shown_name : List (List ℕ) → List ℕ → ℕ → List ℕ
+shown_name names shown i = name_at names i ++ (if stands_before names i then codes "#" ++ decimal (slice_index_or shown i 0) else [])
+
 abbrev pub case_text : ProcBlock → ℕ → Case → List ℕ
 case_text block number case =
     codes "case " ++ decimal number ++ codes "\n" ++ flat_map (row_line block.before) case.rows
@@ -122,15 +131,15 @@ abbrev pub point_text : List Row → List ℤ → List ℕ
 point_text [] point = codes "none"
 point_text (row ∷ rows) point = values_text row.poly.terms point
 
-abbrev pub verdict_text : List (List ℕ) → Verdict → List ℕ
-verdict_text named Proved = codes " proved\n"
-verdict_text named (Unproved case point) =
-    codes " unproved\n" ++ flat_map (row_line []) case.rows ++ post_lines [] (name_at named) 0 case.post
+abbrev pub verdict_text : List (List ℕ) → List ℕ → Verdict → List ℕ
+verdict_text named shown Proved = codes " proved\n"
+verdict_text named shown (Unproved case point) =
+    codes " unproved\n" ++ flat_map (row_line []) case.rows ++ post_lines [] (shown_name named shown) 0 case.post
     ++ codes "  point " ++ point_text case.rows point ++ codes "\n"
 
 abbrev pub judged_text : ℕ → Judged → List ℕ
 judged_text number j =
-    codes "assertion " ++ decimal number ++ codes " at " ++ decimal j.line ++ codes ":" ++ decimal j.column ++ verdict_text j.named j.verdict
+    codes "assertion " ++ decimal number ++ codes " at " ++ decimal j.line ++ codes ":" ++ decimal j.column ++ verdict_text j.named j.shown j.verdict
 
 -- the assertions, of which the first has a number
 abbrev pub judged_from : ℕ → List Judged → List ℕ

@@ -1,19 +1,18 @@
 ghost use Rattle.std.specs.Prelude.{◌≡◌, ◌≢◌, ◌+◌, ◌≤◌, ◌^◌, ◌∷◌, [], length, map, take, Ok, Err, IfOk, IfSome, IsTrue, slice_get};
 ghost use Rattle.std.specs.List.{count_by};
 ghost use Rattle.transition_formula.specs.Transition.{fits};
-ghost use Rattle.cra.specs.Accepted.{Accepts};
+ghost use Rattle.cra.specs.FirstForm.{is_first_form};
 ghost use Rattle.cra.specs.Claims.{ClaimsAreMet};
 ghost use Rattle.linear_terms.specs.declared.row.Case.{Case};
 ghost use Rattle.syntax_tree.specs.Code.{statement_of};
 ghost use Rattle.cra.specs.declared.known.Goal.{Goal};
 ghost use Rattle.cra.specs.Analysis.{goal_of};
-ghost use Rattle.cra.specs.Stated.{IsPlain, IsReportOf, IsReportOn, Settles, IsVerdict, block_of, cases_of, column_of, judged_of, line_of, named_columns, shown_from};
+ghost use Rattle.cra.specs.Stated.{IsPlain, IsReportOf, exits_of, IsReportOn, Settles, IsVerdict, block_of, cases_of, column_of, judged_of, line_of, named_columns, shown_from};
 
 use crate::early::Early;
 use crate::findings::both_cases;
 use crate::known::goal_of;
-use crate::reader::copy_name;
-use crate::report::{Judged, ProcBlock, Report, Verdict};
+use crate::report::{Judged, ProcBlock, Report, Verdict, copy_name};
 use crate::verdict::point_of;
 use items::Items;
 use linear_terms::Case;
@@ -21,14 +20,24 @@ use std::alloc::{AllocError, Global};
 use syntax_tree::{Column, Name, Proc, Program};
 use transition_formula::Formula;
 
+/// What stands before a place.
+fn before(text: &[u8], at: u32) -> &[u8]
+    ensures { result.now ≡ take at text.now }
+{
+    if (at as usize) < text.len() {
+        &text[..at as usize]
+    } else {
+        text
+    }
+}
+
 /// The line of a place: one more than the newlines before it.
-fn line_of(text: &[u8], at: u32) -> u32
-    requires place { at ≤ length text.now }
-    requires short { length text.now ≤ 2 ^ 20 }
+pub fn line_of(text: &[u8], at: u32) -> u32
+    requires { length text.now ≤ 2 ^ 20 }
     ensures { result ≡ line_of text.now at }
 {
     let mut line = 1;
-    for byte in &text[..at as usize] {
+    for byte in before(text, at) {
         if *byte == b'\n' {
             line += 1;
         }
@@ -37,13 +46,12 @@ fn line_of(text: &[u8], at: u32) -> u32
 }
 
 /// The column of a place: one more than the bytes since the last newline.
-fn column_of(text: &[u8], at: u32) -> u32
-    requires place { at ≤ length text.now }
-    requires short { length text.now ≤ 2 ^ 20 }
+pub fn column_of(text: &[u8], at: u32) -> u32
+    requires { length text.now ≤ 2 ^ 20 }
     ensures { result ≡ column_of text.now at }
 {
     let mut column = 1;
-    for byte in &text[..at as usize] {
+    for byte in before(text, at) {
         if *byte == b'\n' {
             column = 1;
         } else {
@@ -105,12 +113,13 @@ fn cases_of(alloc: Global, case: Option<Case>) -> Result<Items<Case>, AllocError
 
 /// The summary of `main`.
 fn block_of(alloc: Global, main: &Proc, summary: Option<Case>) -> Result<ProcBlock, Early>
-    requires { IfSome summary (λ case. IsTrue (fits 0 1 case)) }
+    requires { IfSome summary (λ case. IsTrue (fits 0 (exits_of main.now) case)) }
     ensures block { IfOk result (λ block. block ≡ block_of main.now summary) }
     ensures memory { result ≢ Err Early.NotYet }
 {
     let cases = cases_of(alloc, summary)?;
-    match Formula::new(0, 1, cases) {
+    let exits = if main.returns { 1 } else { 0 };
+    match Formula::new(0, exits, cases) {
         Some(formula) => Ok(ProcBlock {
             name: copy_name(&main.name)?,
             before: Items::new(alloc),
@@ -129,7 +138,6 @@ fn judged_of(
     main: &Proc,
     verdict: Verdict,
 ) -> Result<Judged, AllocError>
-    requires place { at ≤ length text.now }
     requires short { length text.now ≤ 2 ^ 20 }
     requires few { length main.now.columns ≤ 8 }
     ensures { IfOk result (λ judged. judged ≡ judged_of text.now at main.now verdict) }
@@ -156,24 +164,24 @@ fn report_of(alloc: Global, block: ProcBlock, judged: Judged) -> Result<Report, 
 
 /// The report of a procedure that asserts one thing, at a place.
 fn analyse_main(alloc: Global, text: &[u8], at: u32, main: &Proc) -> Result<Report, Early>
-    requires settled { (goal : Goal) × (holds : Case) × (fails : Case) × (goal_of (map statement_of main.now.body) ≡ Ok goal) × Settles goal holds fails }
-    requires place { at ≤ length text.now }
+    requires settled { (goal : Goal) × (holds : Case) × (fails : Case) × (goal_of (length main.now.columns) (map statement_of main.now.body) ≡ Ok goal) × Settles main.now goal holds fails }
+    requires short_body { length main.now.body ≤ 9 }
     requires short { length text.now ≤ 2 ^ 20 }
     requires few { length main.now.columns ≤ 8 }
     ensures stated { IfOk result (IsReportOn text.now main.now at) }
     ensures memory { result ≢ Err Early.NotYet }
 {
-    let goal = goal_of(alloc, &main.body)?;
-    let found = both_cases(alloc, goal)?;
+    let goal = goal_of(alloc, main.columns.len(), &main.body)?;
+    let found = both_cases(alloc, main, &goal)?;
     let verdict = verdict_of(alloc, found.refuting)?;
     let block = block_of(alloc, main, found.summary)?;
     let judged = judged_of(alloc, text, at, main, verdict)?;
     Ok(report_of(alloc, block, judged)?)
 }
 
-/// The report of an accepted text, whose claims are met.
+/// The report of a program of the first form, which a text spells, and whose claims are met.
 pub fn analyse(alloc: Global, text: &[u8], program: &Program) -> Result<Report, Early>
-    requires accepted { Accepts text.now program.now }
+    requires first { IsTrue (is_first_form program.now) }
     requires short { length text.now ≤ 2 ^ 20 }
     ensures stated { IfOk result (IsReportOf text.now program.now) }
     ensures met { IfOk result (ClaimsAreMet program.now) }

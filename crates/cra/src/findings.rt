@@ -1,17 +1,18 @@
-ghost use Rattle.std.specs.Prelude.{◌≡◌, ◌≢◌, ◌+◌, ◌<◌, ◌≤◌, ◌^◌, ℕ, length, Err, IfOk, IfSome, IsTrue};
+ghost use Rattle.std.specs.Prelude.{◌≡◌, ◌≢◌, ◌+◌, ◌<◌, ◌≤◌, ◌^◌, ◌++◌, [], ℕ, length, Err, IfOk, OnOk, IfSome, IsTrue};
 ghost use Rattle.items.specs.Gives.{Gives};
 ghost use Rattle.linear_terms.specs.Auxiliaries.{is_numbered};
 ghost use Rattle.linear_terms.specs.declared.row.Case.{Case};
 ghost use Rattle.transition_formula.specs.Rounds.{in_order};
 ghost use Rattle.transition_formula.specs.Transition.{every_column_of, fits};
-ghost use Rattle.cra.specs.Analysis.{early_cause, failing, holding, one_row};
-ghost use Rattle.cra.specs.Stated.{Settles};
+ghost use Rattle.cra.specs.Analysis.{early_cause, failing, holding, named_onto, named_posts, one_row, returned_case};
+ghost use Rattle.cra.specs.Stated.{Settles, exits_of};
 
 use crate::early::Early;
 use crate::known::{Goal, difference};
 use items::Items;
 use linear_terms::{Case, Col, Kind, Poly, Row, add};
 use std::alloc::Global;
+use syntax_tree::{Column, Proc};
 use transition_formula::{FormulaError, Solved, solve};
 
 impl From<FormulaError> for Early {
@@ -45,24 +46,68 @@ fn one_row(alloc: Global, aux: u32, poly: Poly, post: Items<Poly>) -> Result<Cas
     Ok(Case { aux, rows, post })
 }
 
+/// The case of one inequality, with the returned value, if there is one: any number, a new auxiliary.
+fn returned_case(alloc: Global, returns: bool, choices: u32, poly: Poly) -> Result<Case, Early>
+    requires { choices ≤ 8 }
+    ensures case { IfOk result (λ c. c ≡ returned_case returns choices poly) }
+    ensures memory { result ≢ Err Early.NotYet }
+{
+    let mut post = Items::new(alloc);
+    if !returns {
+        return one_row(alloc, choices, poly, post);
+    }
+    post.push(Poly::column(alloc, Col::Aux(choices))?)?;
+    one_row(alloc, choices + 1, poly, post)
+}
+
 /// The case in which the assertion holds.
-fn holding(alloc: Global, goal: &Goal) -> Result<Case, Early>
+fn holding(alloc: Global, returns: bool, goal: &Goal) -> Result<Case, Early>
     requires { goal.now.known.choices ≤ 8 }
-    ensures { Gives early_cause (λ c. c) result (holding goal.now) }
+    ensures { Gives early_cause (λ c. c) result (holding returns goal.now) }
 {
     let poly = difference(alloc, &goal.left, &goal.right)?;
-    let mut post = Items::new(alloc);
-    post.push(Poly::column(alloc, Col::Aux(goal.known.choices))?)?;
-    one_row(alloc, goal.known.choices + 1, poly, post)
+    returned_case(alloc, returns, goal.known.choices, poly)
+}
+
+/// Puts the polynomial of a column behind others, if the column has a name and is set.
+fn push_named(posts: &mut Items<Poly>, column: &Column, poly: &Option<Poly>) -> Result<(), Early>
+    ensures posts { OnOk result (posts.new ≡ posts.old ++ named_onto column.now.name poly.now []) }
+    ensures memory { result ≢ Err Early.NotYet }
+{
+    if column.name.is_some() {
+        if let Some(poly) = poly {
+            posts.push(poly.clone()?)?;
+        }
+    }
+    Ok(())
+}
+
+/// The polynomials of the columns that have a name.
+fn named_posts(
+    alloc: Global,
+    columns: &[Column],
+    polys: &[Option<Poly>],
+) -> Result<Items<Poly>, Early>
+    requires { length polys.now ≡ length columns.now }
+    ensures posts { IfOk result (λ posts. posts ≡ named_posts columns.now polys.now) }
+    ensures memory { result ≢ Err Early.NotYet }
+{
+    let mut posts = Items::new(alloc);
+    for (i, column) in columns.iter().enumerate() {
+        push_named(&mut posts, column, &polys[i])?;
+    }
+    Ok(posts)
 }
 
 /// The case in which the assertion fails.
-fn failing(alloc: Global, goal: Goal) -> Result<Case, Early>
-    ensures { Gives early_cause (λ c. c) result (failing goal) }
+fn failing(alloc: Global, main: &Proc, goal: &Goal) -> Result<Case, Early>
+    requires { length goal.now.known.columns ≡ length main.now.columns }
+    ensures { Gives early_cause (λ c. c) result (failing main.now.columns goal.now) }
 {
     let less = difference(alloc, &goal.right, &goal.left)?;
     let poly = add(alloc, &less, &Poly::constant(alloc, 1))?;
-    one_row(alloc, goal.known.choices, poly, goal.known.columns)
+    let posts = named_posts(alloc, &main.columns, &goal.known.columns)?;
+    one_row(alloc, goal.known.choices, poly, posts)
 }
 
 /// A case put in order; none where no numbers make its rows true.
@@ -81,16 +126,16 @@ fn ordered(alloc: Global, case: &Case) -> Result<Option<Case>, Early>
 }
 
 /// What follows where all is known of a body.
-pub fn both_cases(alloc: Global, goal: Goal) -> Result<Findings, Early>
-    requires { (holds : Case) × (fails : Case) × Settles goal holds fails }
-    ensures summary { (holds fails : Case) → Settles goal holds fails → IfOk result (λ f. f.summary ≡ (in_order holds).left) }
-    ensures refuting { (holds fails : Case) → Settles goal holds fails → IfOk result (λ f. f.refuting ≡ (in_order fails).left) }
-    ensures fits { IfOk result (λ f. IfSome f.summary (λ c. IsTrue (fits 0 1 c))) }
+pub fn both_cases(alloc: Global, main: &Proc, goal: &Goal) -> Result<Findings, Early>
+    requires { (holds : Case) × (fails : Case) × Settles main.now goal.now holds fails }
+    ensures summary { (holds fails : Case) → Settles main.now goal.now holds fails → IfOk result (λ f. f.summary ≡ (in_order holds).left) }
+    ensures refuting { (holds fails : Case) → Settles main.now goal.now holds fails → IfOk result (λ f. f.refuting ≡ (in_order fails).left) }
+    ensures fits { IfOk result (λ f. IfSome f.summary (λ c. IsTrue (fits 0 (exits_of main.now) c))) }
     ensures memory { result ≢ Err Early.NotYet }
 {
-    let holds = holding(alloc, &goal)?;
+    let holds = holding(alloc, main.returns, goal)?;
     let summary = ordered(alloc, &holds)?;
-    let fails = failing(alloc, goal)?;
+    let fails = failing(alloc, main, goal)?;
     let refuting = ordered(alloc, &fails)?;
     Ok(Findings { summary, refuting })
 }

@@ -1,24 +1,22 @@
-ghost use Rattle.std.specs.Prelude.{◌≡◌, ◌≤◌, length, map, slice_get, IfOk};
+ghost use Rattle.std.specs.Prelude.{◌≡◌, ◌≢◌, ◌≤◌, ◌<◌, ◌^◌, ◌+◌, length, map, slice_get, slice_set, Some, Err, IfOk};
 ghost use Rattle.items.specs.Gives.{Gives, lifted};
 ghost use Rattle.syntax_tree.specs.Term.{term_of};
 ghost use Rattle.syntax_tree.specs.Code.{statement_of};
 ghost use Rattle.linear_terms.specs.TermError.{cause};
-ghost use Rattle.cra.specs.Analysis.{after_all, after_statement, asserted_by, compared, difference, early, early_cause, found, goal_of, is_additive, is_next, joined, nothing_known, poly_of};
+ghost use Rattle.cra.specs.Analysis.{after_all, after_statement, asserted_by, compared, difference, early, early_cause, found, goal_of, joined, nothing_known, poly_of};
 
 use crate::early::Early;
+use crate::first_form::is_additive;
 use items::Items;
 use linear_terms::{Col, Poly, TermError, add, scale};
 use std::alloc::Global;
 use syntax_tree::{Core, Op, Stmt};
 
-/// The most columns that a program sets.
-const MOST_COLUMNS: usize = 8;
-
-/// The columns that are set so far, as polynomials over auxiliaries, and how many auxiliaries there are: each is
-/// a number that the program was given.
+/// The columns of a procedure, those that are set as polynomials over auxiliaries, and how many auxiliaries there
+/// are: each is a number that the program was given.
 #[derive(Debug, Drop)]
 pub struct Known {
-    pub columns: Items<Poly>,
+    pub columns: Items<Option<Poly>>,
     pub choices: u32,
 }
 
@@ -38,15 +36,6 @@ pub fn difference(alloc: Global, a: &Poly, b: &Poly) -> Result<Poly, TermError>
     add(alloc, a, &turned)
 }
 
-fn is_additive(op: Op) -> bool
-    ensures { result ≡ is_additive op }
-{
-    match op {
-        Op::Add | Op::Sub => true,
-        _ => false,
-    }
-}
-
 /// The sum, and for `-` the difference.
 fn joined(alloc: Global, op: Op, a: &Poly, b: &Poly) -> Result<Poly, TermError>
     ensures { Gives cause (λ p. p) result (joined op a.now b.now) }
@@ -58,17 +47,20 @@ fn joined(alloc: Global, op: Op, a: &Poly, b: &Poly) -> Result<Poly, TermError>
 }
 
 /// The polynomial of a column that is set.
-fn column(columns: &[Poly], col: u32) -> Result<Poly, Early>
+fn column(columns: &[Option<Poly>], col: u32) -> Result<Poly, Early>
     ensures { Gives early_cause (λ p. p) result (found (slice_get columns.now col)) }
 {
     match columns.get(col as usize) {
-        Some(poly) => Ok(poly.clone()?),
+        Some(column) => match column {
+            Some(poly) => Ok(poly.clone()?),
+            None => Err(Early::NotYet),
+        },
         None => Err(Early::NotYet),
     }
 }
 
 /// The value of an expression of sums and differences.
-fn poly_of(alloc: Global, columns: &[Poly], e: &Core) -> Result<Poly, Early>
+fn poly_of(alloc: Global, columns: &[Option<Poly>], e: &Core) -> Result<Poly, Early>
     ensures { Gives early_cause (λ p. p) result (poly_of columns.now (term_of e.now)) }
 {
     match e {
@@ -86,52 +78,72 @@ fn poly_of(alloc: Global, columns: &[Poly], e: &Core) -> Result<Poly, Early>
     }
 }
 
-impl Known {
-    fn is_next(&self, col: u32) -> bool
-        ensures { result ≡ is_next self.now col }
-    {
-        col as usize == self.columns.len() && (col as usize) < MOST_COLUMNS
-    }
+/// The columns with one of them set.
+fn with_column(columns: Items<Option<Poly>>, col: usize, poly: Poly) -> Items<Option<Poly>>
+    requires { col < length columns }
+    ensures { result ≡ slice_set columns col (Some poly) }
+{
+    let mut columns = columns.into_vec();
+    columns[col] = Some(poly);
+    Items::from_vec(columns)
+}
 
-    /// Goes on behind a statement.
-    fn add(&mut self, alloc: Global, stmt: &Stmt) -> Result<(), Early>
-        requires { self.old.choices ≤ length self.old.columns }
-        ensures known { Gives early_cause (λ _. self.new) result (after_statement self.old (statement_of stmt.now)) }
-        ensures few { self.new.choices ≤ length self.new.columns }
+impl Known {
+    /// What is known behind a statement.
+    fn after(self, alloc: Global, stmt: &Stmt) -> Result<Known, Early>
+        requires { self.choices < 2 ^ 16 }
+        ensures known { Gives early_cause (λ known. known) result (after_statement self (statement_of stmt.now)) }
+        ensures few { IfOk result (λ known. known.choices ≤ self.choices + 1) }
     {
         match stmt {
             Stmt::Set { col, value } => {
-                if !self.is_next(*col) {
+                if *col as usize >= self.columns.len() {
                     return Err(Early::NotYet);
                 }
                 let poly = poly_of(alloc, &self.columns, value)?;
-                self.columns.push(poly)?;
-                Ok(())
+                Ok(Known {
+                    columns: with_column(self.columns, *col as usize, poly),
+                    choices: self.choices,
+                })
             }
             Stmt::Any { col } => {
-                if !self.is_next(*col) {
+                if *col as usize >= self.columns.len() {
                     return Err(Early::NotYet);
                 }
-                self.columns
-                    .push(Poly::column(alloc, Col::Aux(self.choices))?)?;
-                self.choices += 1;
-                Ok(())
+                let poly = Poly::column(alloc, Col::Aux(self.choices))?;
+                Ok(Known {
+                    columns: with_column(self.columns, *col as usize, poly),
+                    choices: self.choices + 1,
+                })
             }
             _ => Err(Early::NotYet),
         }
     }
 }
 
-/// What is known behind statements.
-fn after_all(alloc: Global, stmts: &[Stmt]) -> Result<Known, Early>
-    ensures { Gives early_cause (λ known. known) result (after_all nothing_known (map statement_of stmts.now)) }
+/// What is known where no column is set.
+fn nothing_known(alloc: Global, columns: usize) -> Result<Known, Early>
+    ensures known { IfOk result (λ known. known ≡ nothing_known columns) }
+    ensures memory { result ≢ Err Early.NotYet }
 {
-    let mut known = Known {
-        columns: Items::new(alloc),
+    let mut none = Items::new(alloc);
+    for _n in 0..columns {
+        none.push(None)?;
+    }
+    Ok(Known {
+        columns: none,
         choices: 0,
-    };
+    })
+}
+
+/// What is known behind statements.
+fn after_all(alloc: Global, columns: usize, stmts: &[Stmt]) -> Result<Known, Early>
+    requires { length stmts.now < 2 ^ 16 }
+    ensures { Gives early_cause (λ known. known) result (after_all (nothing_known columns) (map statement_of stmts.now)) }
+{
+    let mut known = nothing_known(alloc, columns)?;
     for stmt in stmts {
-        known.add(alloc, stmt)?;
+        known = known.after(alloc, stmt)?;
     }
     Ok(known)
 }
@@ -158,13 +170,14 @@ fn asserted_by(alloc: Global, known: Known, stmt: &Stmt) -> Result<Goal, Early>
     }
 }
 
-/// What a body asserts at its end.
-pub fn goal_of(alloc: Global, body: &[Stmt]) -> Result<Goal, Early>
-    ensures { Gives early_cause (λ a. a) result (goal_of (map statement_of body.now)) }
+/// What a body asserts at its end, of a procedure with so many columns.
+pub fn goal_of(alloc: Global, columns: usize, body: &[Stmt]) -> Result<Goal, Early>
+    requires { length body.now < 2 ^ 16 }
+    ensures { Gives early_cause (λ a. a) result (goal_of columns (map statement_of body.now)) }
 {
     match body {
         [before @ .., last] => {
-            let known = after_all(alloc, before)?;
+            let known = after_all(alloc, columns, before)?;
             asserted_by(alloc, known, last)
         }
         [] => Err(Early::NotYet),

@@ -11,17 +11,18 @@ use std::{env, io};
 mod analysis;
 mod early;
 mod findings;
+mod first_form;
 mod input;
 mod known;
 mod output;
-mod reader;
+mod reading;
+mod refusal;
 mod reply;
 mod report;
 mod run;
 #[cfg(test)]
 mod tests;
 mod text;
-mod text_reader;
 mod verdict;
 mod words;
 

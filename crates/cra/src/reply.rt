@@ -1,16 +1,17 @@
-ghost use Rattle.std.specs.Prelude.{◌≡◌, ◌≢◌, ◌≤◌, ◌^◌, length, Err, IfOk};
-ghost use Rattle.syntax_tree.specs.declared.program.Program.{Program};
+ghost use Rattle.std.specs.Prelude.{◌≡◌, ◌≤◌, ◌^◌, length, IfOk};
 ghost use Rattle.cra.specs.Accepted.{Accepts};
-ghost use Rattle.cra.specs.Replies.{IsAnalysed, IsAnswer, IsReplyToText, reply_of, wrong_words};
+ghost use Rattle.cra.specs.Replies.{IsAnswer, IsReplyToShort, IsReplyToText, refused_reply, reply_of, wrong_words};
 
 use crate::analysis::analyse;
-use crate::early::Early;
+use crate::first_form::is_first_form;
+use crate::reading::read;
+use crate::refusal::Refusal;
 use crate::report::Report;
 use crate::run::TEXT_LIMIT;
-use crate::text::{count_proved, text_of};
-use crate::text_reader::read;
+use crate::text::{count_proved, refusal_text, text_of};
 use items::Items;
 use std::alloc::{AllocError, Global};
+use syntax_tree::Program;
 
 /// What a run answers: its status, and the text that it writes.
 #[derive(Debug, Drop)]
@@ -51,14 +52,46 @@ fn reply_of(alloc: Global, report: &Report) -> Result<Reply, AllocError>
     })
 }
 
-/// The report of a text.
-fn report_on(alloc: Global, text: &[u8]) -> Result<Report, Early>
+/// The answer that tells why a text is refused.
+fn refused_reply(alloc: Global, text: &[u8], refusal: Refusal) -> Result<Reply, AllocError>
     requires { length text.now ≤ 2 ^ 20 }
-    ensures analysed { IfOk result (IsAnalysed text.now) }
-    ensures refused { result ≡ Err Early.NotYet → (program : Program) → ¬ Accepts text.now program }
+    ensures reply { IfOk result (λ reply. reply ≡ refused_reply text.now refusal) }
+    ensures status { IfOk result (λ reply. IsAnswer reply.status) }
 {
-    let program = read(alloc, text)?;
-    analyse(alloc, text, &program)
+    let line = refusal_text(alloc, text, refusal)?;
+    Ok(Reply {
+        status: 3,
+        text: Items::from_vec(line),
+    })
+}
+
+/// The answer to a program that a text spells.
+fn reply_to_program(alloc: Global, text: &[u8], program: &Program) -> Result<Reply, AllocError>
+    requires short { length text.now ≤ 2 ^ 20 }
+    requires accepted { Accepts text.now program.now }
+    ensures reply { IfOk result (IsReplyToShort text.now) }
+    ensures status { IfOk result (λ reply. IsAnswer reply.status) }
+{
+    if !is_first_form(alloc, program)? {
+        return line(alloc, 3, b"refused notyet\n");
+    }
+    match analyse(alloc, text, program) {
+        Ok(report) => reply_of(alloc, &report),
+        Err(_) => Err(AllocError),
+    }
+}
+
+/// The answer to a text.
+fn reply_to_short(alloc: Global, text: &[u8]) -> Result<Reply, AllocError>
+    requires { length text.now ≤ 2 ^ 20 }
+    ensures reply { IfOk result (IsReplyToShort text.now) }
+    ensures status { IfOk result (λ reply. IsAnswer reply.status) }
+{
+    match read(alloc, text) {
+        Ok(program) => reply_to_program(alloc, text, &program),
+        Err(Refusal::Memory) => Err(AllocError),
+        Err(refusal) => refused_reply(alloc, text, refusal),
+    }
 }
 
 /// The answer to an input that is to be analysed.
@@ -69,9 +102,5 @@ pub fn reply_to_text(alloc: Global, input: &[u8]) -> Result<Reply, AllocError>
     if input.len() > TEXT_LIMIT {
         return line(alloc, 9, b"input is too long\n");
     }
-    match report_on(alloc, input) {
-        Ok(report) => reply_of(alloc, &report),
-        Err(Early::NotYet) => line(alloc, 3, b"refused notyet\n"),
-        Err(Early::Memory) => Err(AllocError),
-    }
+    reply_to_short(alloc, input)
 }

@@ -1,5 +1,8 @@
+ghost use Rattle.std.specs.Prelude.{◌≡◌, IfOk};
+
 use items::Items;
 use linear_terms::Case;
+use std::alloc::AllocError;
 use syntax_tree::Name;
 use transition_formula::Formula;
 
@@ -38,4 +41,11 @@ pub struct Judged {
 pub struct Report {
     pub procs: Items<ProcBlock>,
     pub judged: Items<Judged>,
+}
+
+/// A copy of a name.
+pub(crate) fn copy_name(name: &Name) -> Result<Name, AllocError>
+    ensures { IfOk result (λ n. n ≡ name.now) }
+{
+    name.clone()
 }

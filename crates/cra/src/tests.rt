@@ -1,6 +1,7 @@
 use crate::run::{TEXT_LIMIT, run};
 use cra_io::{MemorySink, MemorySource};
 use std::alloc::Global;
+use std::process::Abort;
 use std::test::Fail;
 
 const USAGE: &[u8] = b"usage: cra analyse | certify | check | edit | sample N\n";
@@ -37,6 +38,26 @@ const PLAIN: &[u8] = b"int main(void) { assert(0 <= 0); }";
 
 const PLAIN_REPORT: &[u8] =
     b"procedure main\ncase 1\n  $ret = $1\nassertion 1 at 1:18 proved\ntotal 1 proved, 0 unproved\n";
+
+// A variable that is set again, brackets, and one that is declared without a value.
+const AGAIN: &[u8] = b"int main(void) { int a = 1; a = a + 2 - (3 - a); int b; assert(a <= b); }";
+
+const AGAIN_REPORT: &[u8] =
+    b"procedure main\ncase 1\n  -$1 + 1 <= 0\n  $ret = $2\nassertion 1 at 1:57 unproved\n  $1 <= 0\n  a = 1\n  b = $1\n  point $1 = 0\ntotal 0 proved, 1 unproved\n";
+
+// Two variables of one name, in a procedure without a value.
+const HIDDEN: &[u8] =
+    b"void main(void) { int x = __VERIFIER_nondet_int(); { int x = 2; } assert(x <= 3); }";
+
+const HIDDEN_REPORT: &[u8] =
+    b"procedure main\ncase 1\n  $1 - 3 <= 0\nassertion 1 at 1:67 unproved\n  -$1 + 4 <= 0\n  x = $1\n  x#1 = 2\n  point $1 = 4\ntotal 0 proved, 1 unproved\n";
+
+// Comments, a skipped line, a hexadecimal number, and a column of a call inside a sum.
+const SPACED: &[u8] =
+    b"#include <assert.h>\nint main() { /* so */ int x = 0x1F + __VERIFIER_nondet_int(); // y\n\tassert(x - 1 <= x); }";
+
+const SPACED_REPORT: &[u8] =
+    b"procedure main\ncase 1\n  $ret = $1\nassertion 1 at 3:2 proved\ntotal 1 proved, 0 unproved\n";
 
 /// How a run went: its status, and what its sink took.
 #[derive(Drop)]
@@ -88,6 +109,9 @@ fn reports(rt: HostRuntime) -> Result<(), Fail> {
         (FALSE, 1, FALSE_REPORT),
         (WIDE, 1, WIDE_REPORT),
         (PLAIN, 0, PLAIN_REPORT),
+        (AGAIN, 1, AGAIN_REPORT),
+        (HIDDEN, 1, HIDDEN_REPORT),
+        (SPACED, 0, SPACED_REPORT),
     ];
     for (input, status, text) in cases {
         let ended = run_on(rt.alloc(), &["cra", "analyse"], input, GOOD)?;
@@ -97,41 +121,270 @@ fn reports(rt: HostRuntime) -> Result<(), Fail> {
     Ok(())
 }
 
-// Texts just outside the form.
+/// The text is refused with this line.
+fn refused(alloc: Global, rt: &impl Abort, input: &[u8], line: &[u8]) -> Result<(), Fail> {
+    let ended = run_on(alloc, &["cra", "analyse"], input, GOOD)?;
+    assert_eq!(rt; ended.status, 3);
+    assert_eq!(rt; ended.text.as_slice(), line);
+    Ok(())
+}
+
+/// A piece so many times, between two others.
+fn repeated(
+    alloc: Global,
+    before: &[u8],
+    piece: &[u8],
+    times: usize,
+    after: &[u8],
+) -> Result<Vec<u8>, Fail> {
+    let mut text = before.to_vec(alloc)?;
+    for _ in 0..times {
+        text.extend_from_slice(piece)?;
+    }
+    text.extend_from_slice(after)?;
+    Ok(text)
+}
+
 #[test]
-fn refused_texts(rt: HostRuntime) -> Result<(), Fail> {
-    let inputs: [&[u8]; 24] = [
-        b"",
+fn refused_by_the_cut(rt: HostRuntime) -> Result<(), Fail> {
+    let cases: [(&[u8], &[u8]); 10] = [
+        (b"int main(void){} /* x", b"refused comment at 1:18\n"),
+        (
+            b"int main(void) { return 9223372036854775808; }",
+            b"refused literal at 1:25\n",
+        ),
+        (b"int main(void) { @ }", b"refused byte at 1:18\n"),
+        (b"int main(void) { \xff }", b"refused byte at 1:18\n"),
+        (b"/* \xc3", b"refused comment at 1:1\n"),
+        (
+            b"int main(void) { int x = 01; }",
+            b"refused literal at 1:26\n",
+        ),
+        (
+            b"int main(void) { int x = 1u; }",
+            b"refused literal at 1:26\n",
+        ),
+        (
+            b"#include <x.h>\n#include <y.h>\nint main(void) { int x = 1; # }",
+            b"refused byte at 3:29\n",
+        ),
+        (b"long @", b"refused byte at 1:6\n"),
+        (b"x = 1; /*", b"refused comment at 1:8\n"),
+    ];
+    for (input, line) in cases {
+        refused(rt.alloc(), &rt, input, line)?;
+    }
+    Ok(())
+}
+
+#[test]
+fn refused_by_the_grammar(rt: HostRuntime) -> Result<(), Fail> {
+    let cases: [(&[u8], &[u8]); 11] = [
+        (
+            b"int main(void) { int a[2]; }",
+            b"refused unsupported at 1:23\n",
+        ),
+        (
+            b"int main(void) { assert(0 <= 1); } ;",
+            b"refused syntax at 1:36\n",
+        ),
+        (
+            b"int main(void)\n{\n  int x = 1\n}\n",
+            b"refused syntax at 4:1\n",
+        ),
+        (
+            b"int main(void) { long x; }",
+            b"refused unsupported at 1:18\n",
+        ),
+        (
+            b"int main(void) { goto a; }",
+            b"refused unsupported at 1:18\n",
+        ),
+        (b"void f;", b"refused syntax at 1:7\n"),
+        (b"int f(int); { }", b"refused syntax at 1:13\n"),
+        (
+            b"int main(void) { x ? 1 : 2; }",
+            b"refused unsupported at 1:20\n",
+        ),
+        (b"int main(void) { 1; }", b"refused syntax at 1:18\n"),
+        (b"x = 1; int x; int x;", b"refused syntax at 1:1\n"),
+        (b"int main(void) { if (1 }", b"refused syntax at 1:24\n"),
+    ];
+    for (input, line) in cases {
+        refused(rt.alloc(), &rt, input, line)?;
+    }
+    Ok(())
+}
+
+#[test]
+fn refused_by_names(rt: HostRuntime) -> Result<(), Fail> {
+    let cases: [(&[u8], &[u8]); 11] = [
+        (b"", b"refused main at 1:1\n"),
+        (b"int main(void) { x = 1; }", b"refused unknown at 1:18\n"),
+        (
+            b"int main(void) { if (1) break; }",
+            b"refused unknown at 1:25\n",
+        ),
+        (
+            b"int main(void) { int x; int x; }",
+            b"refused twice at 1:29\n",
+        ),
+        (
+            b"int exit(int x) { return x; } int main(void) { }",
+            b"refused twice at 1:5\n",
+        ),
+        (b"int f(void) { return 1; }", b"refused main at 1:26\n"),
+        (
+            b"int main(void) { int x = y; int x; }",
+            b"refused unknown at 1:26\n",
+        ),
+        (
+            b"int f(void); int main(void) { f(); }",
+            b"refused unknown at 1:31\n",
+        ),
+        (
+            b"int main(void) { int f; f(1); }",
+            b"refused unknown at 1:25\n",
+        ),
+        (
+            b"int main(void) { do { } while (x); }",
+            b"refused unknown at 1:32\n",
+        ),
+        (
+            b"int g; void g(void) { } int main(void) { }",
+            b"refused twice at 1:13\n",
+        ),
+    ];
+    for (input, line) in cases {
+        refused(rt.alloc(), &rt, input, line)?;
+    }
+    Ok(())
+}
+
+#[test]
+fn refused_by_calls(rt: HostRuntime) -> Result<(), Fail> {
+    let cases: [(&[u8], &[u8]); 10] = [
+        (
+            b"int f(int x) { return x; } int main(void) { return 1 && f(2); }",
+            b"refused place at 1:57\n",
+        ),
+        (
+            b"int f(void); int f(int x) { return x; } int main(void) { }",
+            b"refused arity at 1:5\n",
+        ),
+        (
+            b"int f(int x) { return x; } int main(void) { return f(); }",
+            b"refused arity at 1:52\n",
+        ),
+        (b"int main(int x) { return x; }", b"refused arity at 1:5\n"),
+        (
+            b"void f(void) { return 1; } int main(void) { }",
+            b"refused arity at 1:16\n",
+        ),
+        (
+            b"void f(void) { } int main(void) { return f(); }",
+            b"refused void at 1:42\n",
+        ),
+        (
+            b"int main(void) { int x = assert(1); }",
+            b"refused void at 1:26\n",
+        ),
+        (
+            b"int f(void) { return 1; } int main(void) { return 0 || (1 + f()); }",
+            b"refused place at 1:61\n",
+        ),
+        (b"int main(void) { main(); }", b"refused arity at 1:18\n"),
+        (
+            b"int main(void) { assert(1, 2); }",
+            b"refused arity at 1:18\n",
+        ),
+    ];
+    for (input, line) in cases {
+        refused(rt.alloc(), &rt, input, line)?;
+    }
+    Ok(())
+}
+
+#[test]
+fn refused_by_counts(rt: HostRuntime) -> Result<(), Fail> {
+    let cases: [(&[u8], &[u8]); 4] = [
+        (
+            b"int a,b,c,d,e,f,g,h,i,j,k,l,m,n,o,p,q;",
+            b"refused many globals at 1:37\n",
+        ),
+        (
+            b"int main(void) { int a,b,c,d,e,f,g,h,i,j,k,l,m,n,o,p,q,r,s,t,u,v,w,x,y; }",
+            b"refused many slots at 1:70\n",
+        ),
+        (
+            b"int f(int a,int b,int c,int d,int e,int f,int g,int h,int i) { return a; } int main(void) { }",
+            b"refused many parameters at 1:59\n",
+        ),
+        (
+            b"int main(void) { return (1<2)+(1<2)+(1<2)+(1<2)+(1<2)+(1<2)+(1<2)+(1<2)+(1<2); }",
+            b"refused many cases at 1:25\n",
+        ),
+    ];
+    for (input, line) in cases {
+        refused(rt.alloc(), &rt, input, line)?;
+    }
+    Ok(())
+}
+
+// Texts that are accepted, just outside the form that is analysed so far.
+#[test]
+fn left_out(rt: HostRuntime) -> Result<(), Fail> {
+    let inputs: [&[u8]; 15] = [
         b"int main(void) {}",
-        b"int main() { assert(0 <= 0); }",
-        b"void main(void) { assert(0 <= 0); }",
-        b"int main(void) { assert(0 <= 0); } ;",
         b"int main(void) { assert(0 <= 0); assert(0 <= 0); }",
         b"int main(void) { assert(0 < 0); }",
         b"int main(void) { assert(0 >= 0); }",
         b"int main(void) { assert(0); }",
         b"int main(void) { assert(0 <= -1); }",
         b"int main(void) { assert(0 <= 2 * 3); }",
-        b"int main(void) { assert(0 <= (1)); }",
-        b"int main(void) { assert(0 <= 9223372036854775808); }",
         b"int main(void) { assert(0 <= 1+1+1+1+1+1+1+1+1); }",
-        b"int main(void) { assert(0 <= 01); }",
-        b"int main(void) { assert(0 <= 1u); }",
-        b"int main(void) { int x; assert(0 <= 1); }",
-        b"int main(void) { int x = x; assert(0 <= 1); }",
-        b"int main(void) { int x = 1; int x = 2; assert(0 <= 1); }",
-        b"int main(void) { int exit = 1; assert(0 <= 1); }",
-        b"int main(void) { int while = 1; assert(0 <= 1); }",
-        b"int main(void) { assert(0\t<= 1); }",
-        b"int main(void) { /* so */ assert(0 <= 1); }",
+        b"int main(void) { assert(0 <= 1); return 0; }",
+        b"int main(void) { if (1) ; assert(0 <= 1); }",
+        b"int g; int main(void) { assert(0 <= 1); }",
+        b"void f(void) { } int main(void) { assert(0 <= 1); }",
         b"int main(void) { int a=1;int b=1;int c=1;int d=1;int e=1;int f=1;int g=1;int h=1;int i=1; assert(0 <= 1); }",
+        b"int main(void) { int x = x; assert(0 <= 1); }",
+        b"int main(void) { assume(0 <= 1); assert(0 <= 1); }",
     ];
     for input in inputs {
-        let ended = run_on(rt.alloc(), &["cra", "analyse"], input, GOOD)?;
-        assert_eq!(rt; ended.status, 3);
-        assert_eq!(rt; ended.text.as_slice(), NOT_YET);
+        refused(rt.alloc(), &rt, input, NOT_YET)?;
     }
     Ok(())
+}
+
+// Each limit that a short text does not pass.
+#[test]
+fn refused_by_great_counts(rt: HostRuntime) -> Result<(), Fail> {
+    let alloc = rt.alloc();
+    let tokens = repeated(alloc, b"", b";", 200_001, b"")?;
+    refused(alloc, &rt, &tokens, b"refused tokens at 1:200001\n")?;
+    let deep = repeated(alloc, b"int main(void) { return ", b"(", 64, b"")?;
+    refused(alloc, &rt, &deep, b"refused deep at 1:88\n")?;
+    let nodes = repeated(alloc, b"int main(void) { int x;", b"x = 1;", 510, b"}")?;
+    refused(alloc, &rt, &nodes, b"refused many nodes at 1:3084\n")?;
+    let assertions = repeated(alloc, b"int main(void) {", b"assert(1);", 1025, b"}")?;
+    refused(
+        alloc,
+        &rt,
+        &assertions,
+        b"refused many assertions at 1:10257\n",
+    )?;
+    let mut procedures = Vec::new(alloc);
+    for number in 0..257 {
+        let one = format!(in alloc; "void f{number}(void){{}}")?;
+        procedures.extend_from_slice(one.as_bytes())?;
+    }
+    refused(
+        alloc,
+        &rt,
+        &procedures,
+        b"refused many procedures at 1:4248\n",
+    )
 }
 
 #[test]
@@ -154,11 +407,9 @@ fn other_words(rt: HostRuntime) -> Result<(), Fail> {
 #[test]
 fn lengths(rt: HostRuntime) -> Result<(), Fail> {
     let alloc = rt.alloc();
-    let full = vec![in alloc; b'?'; TEXT_LIMIT]?;
-    let past = vec![in alloc; b'?'; TEXT_LIMIT + 1]?;
-    let ended = run_on(alloc, &["cra", "analyse"], &full, GOOD)?;
-    assert_eq!(rt; ended.status, 3);
-    assert_eq!(rt; ended.text.as_slice(), NOT_YET);
+    let full = vec![in alloc; b' '; TEXT_LIMIT]?;
+    let past = vec![in alloc; b' '; TEXT_LIMIT + 1]?;
+    refused(alloc, &rt, &full, b"refused main at 1:1048577\n")?;
     let ended = run_on(alloc, &["cra", "analyse"], &past, GOOD)?;
     assert_eq!(rt; ended.status, 9);
     assert_eq!(rt; ended.text.as_slice(), TOO_LONG);

@@ -1,8 +1,12 @@
-ghost use Rattle.std.specs.Prelude.{◌≡◌, ◌∷◌, ◌++◌, ◌+◌, ◌<◌, ◌^◌, [], IfOk, OnOk, codes, decimal, length};
-ghost use Rattle.std.specs.List.{count_by, flat_map};
+ghost use Rattle.std.specs.Prelude.{◌≡◌, ◌∷◌, ◌++◌, ◌+◌, ◌<◌, ◌^◌, ◌≤◌, [], IfOk, OnOk, codes, decimal, length, slice_index_or};
+ghost use Rattle.std.specs.List.{count_by, flat_map, list_any};
 ghost use Rattle.std.specs.Fmt.{signed_decimal};
-ghost use Rattle.cra.specs.Text.{case_text, cases_from, cases_text, column_text, exit_name, factor_text, is_proved, judged_from, judged_text, mono_at, mono_text, name_at, point_text, poly_text, post_line, post_lines, proc_text, relation_text, rest_text, row_line, sign_text, term_text, terms_text, text_of, total_text, value_text, values_text, verdict_text};
+ghost use Rattle.std.specs.Str.{bytes_eq};
+ghost use Rattle.cra.specs.Refused.{refusal_text, told};
+ghost use Rattle.cra.specs.Text.{shown_name, stands_before, case_text, cases_from, cases_text, column_text, exit_name, factor_text, is_proved, judged_from, judged_text, mono_at, mono_text, name_at, point_text, poly_text, post_line, post_lines, proc_text, relation_text, rest_text, row_line, sign_text, term_text, terms_text, text_of, total_text, value_text, values_text, verdict_text};
 
+use crate::analysis::{column_of, line_of};
+use crate::refusal::Refusal;
 use crate::report::{Judged, ProcBlock, Report, Verdict};
 use items::Items;
 use itoa::Buffer;
@@ -198,12 +202,29 @@ impl Text {
         Ok(())
     }
 
-    fn put_columns(&mut self, named: &[Name], posts: &[Poly]) -> Result<(), AllocError>
-        ensures { OnOk result (self.new.bytes.items ≡ self.old.bytes.items ++ post_lines [] (name_at named.now) 0 posts.now) }
+    /// The name of a shown column, with its number where an earlier one has the same name.
+    fn put_shown(&mut self, named: &[Name], shown: &[u32], i: usize) -> Result<(), AllocError>
+        ensures { OnOk result (self.new.bytes.items ≡ self.old.bytes.items ++ shown_name named.now shown.now i) }
+    {
+        self.put_name(named, i)?;
+        if stands_before(named, i) {
+            self.put(b"#")?;
+            self.put_count(number_at(shown, i) as u128)?;
+        }
+        Ok(())
+    }
+
+    fn put_columns(
+        &mut self,
+        named: &[Name],
+        shown: &[u32],
+        posts: &[Poly],
+    ) -> Result<(), AllocError>
+        ensures { OnOk result (self.new.bytes.items ≡ self.old.bytes.items ++ post_lines [] (shown_name named.now shown.now) 0 posts.now) }
     {
         for (i, post) in posts.iter().enumerate() {
             self.put(b"  ")?;
-            self.put_name(named, i)?;
+            self.put_shown(named, shown, i)?;
             self.put_post(&[], post)?;
         }
         Ok(())
@@ -288,15 +309,20 @@ impl Text {
 }
 
 impl Text {
-    fn put_verdict(&mut self, named: &[Name], verdict: &Verdict) -> Result<(), AllocError>
-        ensures { OnOk result (self.new.bytes.items ≡ self.old.bytes.items ++ verdict_text named.now verdict.now) }
+    fn put_verdict(
+        &mut self,
+        named: &[Name],
+        shown: &[u32],
+        verdict: &Verdict,
+    ) -> Result<(), AllocError>
+        ensures { OnOk result (self.new.bytes.items ≡ self.old.bytes.items ++ verdict_text named.now shown.now verdict.now) }
     {
         match verdict {
             Verdict::Proved => self.put(b" proved\n"),
             Verdict::Unproved { case, point } => {
                 self.put(b" unproved\n")?;
                 self.put_rows(&[], &case.rows)?;
-                self.put_columns(named, &case.post)?;
+                self.put_columns(named, shown, &case.post)?;
                 self.put(b"  point ")?;
                 self.put_point(&case.rows, point)?;
                 self.put(b"\n")
@@ -313,7 +339,7 @@ impl Text {
         self.put_count(judged.line as u128)?;
         self.put(b":")?;
         self.put_count(judged.column as u128)?;
-        self.put_verdict(&judged.named, &judged.verdict)
+        self.put_verdict(&judged.named, &judged.shown, &judged.verdict)
     }
 
     fn put_total(&mut self, judged: &[Judged]) -> Result<(), AllocError>
@@ -326,6 +352,54 @@ impl Text {
         self.put_count((judged.len() - proved) as u128)?;
         self.put(b" unproved\n")
     }
+}
+
+/// Whether one of the names is this one.
+fn is_among(names: &[Name], name: &Name) -> bool
+    ensures { result ≡ list_any (bytes_eq name.now) names.now }
+{
+    names
+        .iter()
+        .any(|other| name.as_slice() == other.as_slice())
+}
+
+/// Whether an earlier name is the same as the one at a place.
+fn stands_before(named: &[Name], i: usize) -> bool
+    ensures { result ≡ stands_before named.now i }
+{
+    if i >= named.len() {
+        return false;
+    }
+    is_among(&named[..i], &named[i])
+}
+
+fn number_at(shown: &[u32], i: usize) -> u32
+    ensures { result ≡ slice_index_or shown.now i 0 }
+{
+    match shown.get(i) {
+        Some(number) => *number,
+        None => 0,
+    }
+}
+
+/// The line that tells why a text is refused.
+pub fn refusal_text(alloc: Global, text: &[u8], refusal: Refusal) -> Result<Vec<u8>, AllocError>
+    requires { length text.now ≤ 2 ^ 20 }
+    ensures { IfOk result (λ line. line.items ≡ refusal_text text.now (told refusal)) }
+{
+    let (word, at) = refusal.told();
+    let mut line = Text {
+        bytes: Vec::new(alloc),
+    };
+    line.put(b"refused ")?;
+    line.put(word)?;
+    line.put(b" at ")?;
+    line.put_count(line_of(text, at) as u128)?;
+    line.put(b":")?;
+    line.put_count(column_of(text, at) as u128)?;
+    line.put(b"\n")?;
+    let Text { bytes } = line;
+    Ok(bytes)
 }
 
 /// How many assertions are proved.

@@ -5,6 +5,6 @@ use Rattle.cra.proofs.known.after_all.Given as goal
 
 abbrev pub invariant-loop-stmt : goal.invariant-loop-stmt
 invariant-loop-stmt l = record {
-  few : l.known.choices ≤ length l.known.columns;
-  left : after_all l.known (map statement_of (drop l.stmt-index l.stmts)) ≡ after_all nothing_known (map statement_of l.stmts);
+  few : l.known.choices ≤ l.stmt-index;
+  left : after_all l.known (map statement_of (drop l.stmt-index l.stmts)) ≡ after_all (nothing_known l.columns) (map statement_of l.stmts);
 }

@@ -7,7 +7,7 @@ use Rattle.cra.proofs.known.goal_of.Goals as goal
 
 pub returns-in_ok-known-in-len1-up : goal.returns-in_ok-known-in-len1-up
 returns-in_ok-known-in-len1-up c =
-    let split = goal_of-split c.args.body.now c.last-item.result (omega (arith, c.in-len1-up.len_at_least)) in
+    let split = goal_of-split c.args.columns c.args.body.now c.last-item.result (omega (arith, c.in-len1-up.len_at_least)) in
     let known = c.in_ok-known-in-len1-up.ensures in
     let last = ap statement_of c.last-item.is in
     let same = split ∙ ap (λ k. k >>= λ known. asserted_by known (statement_of (get_or c.args.body.now (length c.args.body.now - 1) c.last-item.result))) known

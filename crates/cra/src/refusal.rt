@@ -1,0 +1,109 @@
+ghost use Rattle.std.specs.Prelude.{◌≡◌};
+ghost use Rattle.cra.specs.Refused.{lexing_told, limited_word, parsing_told, told, typing_told};
+
+use c_lexer::LexError;
+use c_parser::ParseError;
+use std::alloc::{AllocError, AllocFailed};
+use typing::{Limited, TypeError};
+
+/// Why a text has no program: its cut into tokens, the grammar or the first fault of its tree, each with its place. No
+/// want of memory stands inside them; it has a variant of its own.
+#[derive(Clone, Copy, Debug, PartialEq, Eq)]
+pub enum Refusal {
+    Lexing(LexError),
+    Parsing(ParseError),
+    Typing(TypeError),
+    Memory,
+}
+
+impl From<AllocError> for Refusal {
+    ghost use Rattle.std.specs.Prelude.{◌≡◌};
+    ghost use Rattle.cra.specs.declared.refusal.Refusal.TheVariants.{Memory};
+
+    ghost from_gives = { λ _ e. e ≡ Memory };
+
+    fn from(_: AllocError) -> Refusal {
+        Refusal::Memory
+    }
+}
+
+impl<T: Drop> From<AllocFailed<T>> for Refusal {
+    ghost use Rattle.std.specs.Prelude.{◌≡◌};
+    ghost use Rattle.cra.specs.declared.refusal.Refusal.TheVariants.{Memory};
+
+    ghost from_gives = { λ _ e. e ≡ Memory };
+
+    fn from(_: AllocFailed<T>) -> Refusal {
+        Refusal::Memory
+    }
+}
+
+fn lexing_told(fault: LexError) -> (&'static [u8], u32)
+    ensures word { result.0.now ≡ (lexing_told fault).word }
+    ensures place { result.1 ≡ (lexing_told fault).at }
+{
+    match fault {
+        LexError::Byte(at) => (b"byte", at),
+        LexError::Comment(at) => (b"comment", at),
+        LexError::Literal(at) => (b"literal", at),
+        LexError::TooManyTokens(at) => (b"tokens", at),
+        LexError::Memory => (b"", 0),
+    }
+}
+
+fn parsing_told(fault: ParseError) -> (&'static [u8], u32)
+    ensures word { result.0.now ≡ (parsing_told fault).word }
+    ensures place { result.1 ≡ (parsing_told fault).at }
+{
+    match fault {
+        ParseError::Syntax(at) => (b"syntax", at),
+        ParseError::Unsupported(at) => (b"unsupported", at),
+        ParseError::Deep(at) => (b"deep", at),
+        ParseError::Memory => (b"", 0),
+    }
+}
+
+fn limited_word(what: Limited) -> &'static [u8]
+    ensures { result.now ≡ limited_word what }
+{
+    match what {
+        Limited::Procedures => b"many procedures",
+        Limited::Parameters => b"many parameters",
+        Limited::Globals => b"many globals",
+        Limited::Slots => b"many slots",
+        Limited::Nodes => b"many nodes",
+        Limited::Assertions => b"many assertions",
+        Limited::Cases => b"many cases",
+    }
+}
+
+fn typing_told(fault: TypeError) -> (&'static [u8], u32)
+    ensures word { result.0.now ≡ (typing_told fault).word }
+    ensures place { result.1 ≡ (typing_told fault).at }
+{
+    match fault {
+        TypeError::Unknown(at) => (b"unknown", at),
+        TypeError::Twice(at) => (b"twice", at),
+        TypeError::Arity(at) => (b"arity", at),
+        TypeError::VoidValue(at) => (b"void", at),
+        TypeError::CallPlace(at) => (b"place", at),
+        TypeError::Many(what, at) => (limited_word(what), at),
+        TypeError::NoMain(at) => (b"main", at),
+        TypeError::Memory => (b"", 0),
+    }
+}
+
+impl Refusal {
+    /// The word that tells it, and its place in the text.
+    pub fn told(self) -> (&'static [u8], u32)
+        ensures word { result.0.now ≡ (told self).word }
+        ensures place { result.1 ≡ (told self).at }
+    {
+        match self {
+            Refusal::Lexing(fault) => lexing_told(fault),
+            Refusal::Parsing(fault) => parsing_told(fault),
+            Refusal::Typing(fault) => typing_told(fault),
+            Refusal::Memory => (b"", 0),
+        }
+    }
+}

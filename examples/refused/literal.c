@@ -1,0 +1,4 @@
+// refused literal at 3:11
+int main(void) {
+  int x = 017;
+}

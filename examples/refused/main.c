@@ -1,0 +1,4 @@
+// refused main at 5:1
+int f(int x) {
+  return x;
+}

@@ -1,0 +1,4 @@
+// refused syntax at 4:1
+int main(void) {
+  int x = 1
+}
