@@ -1,5 +1,5 @@
 -- The polynomials that are known have no zero coefficient and stand in print order.
-use Rattle.std.proofs.Common.{◌≡◌, Bool, true, false, cond, ℕ, negsuc, ◌+◌, ◌≤◌, Some, Option, Ok, Err, List, [], ◌∷◌, ◌++◌, length, refl, subst, slice_get, arith}
+use Rattle.std.proofs.Common.{◌≡◌, Bool, true, false, cond, ℕ, negsuc, ◌+◌, ◌≤◌, Some, Option, Ok, Err, List, [], ◌∷◌, length, refl, subst, slice_get, arith}
 use Rattle.std.specs.Prelude.{slice_set}
 use Rattle.items.specs.Gives.{◌>>=◌, lifted}
 use Rattle.items.proofs.Gives.{on_ok}
@@ -10,7 +10,7 @@ use Rattle.linear_terms.specs.Operations.{multiple_of, put_all, sum_of_polys}
 use Rattle.linear_terms.proofs.Canonical.{IsCanonical-column, IsCanonical-nil, IsCanonical-put_all}
 use Rattle.syntax_tree.specs.declared.op.Op.{Op}
 use Rattle.syntax_tree.specs.declared.op.Op.TheVariants.{Add, Sub, Mul, Div, Rem, Lt, Le, Gt, Ge, Eq, Ne, And, Or}
-use Rattle.syntax_tree.specs.Code.{Statement, Set, Any, Call, Guard, Check, If, Loop, Break, Continue, Return}
+use Rattle.syntax_tree.specs.Code.{Statement}
 use Rattle.syntax_tree.specs.Term.{Term, Lit, Col as Column, Unary, Binary}
 use Rattle.cra.specs.declared.early.Early.TheVariants.{NotYet}
 use Rattle.cra.specs.declared.known.Known.{Known}

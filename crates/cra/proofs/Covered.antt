@@ -1,15 +1,13 @@
 -- Everything that is known of a body is said in the auxiliaries that it has.
-use Rattle.std.proofs.Common.{◌≡◌, Bool, true, false, cond, ℕ, ◌+◌, Ok, Err, List, [], ◌∷◌, ◌++◌, subst, arith}
-use Rattle.items.specs.Gives.{◌>>=◌}
+use Rattle.std.proofs.Common.{◌≡◌, ℕ, ◌+◌, Ok, List, [], ◌∷◌, subst, arith}
 use Rattle.items.proofs.Gives.{on_ok}
 use Rattle.linear_terms.specs.declared.col.Col.TheVariants.{Aux}
 use Rattle.linear_terms.specs.Polynomial.{column_of}
 use Rattle.linear_terms.proofs.Columns.{EachColumn}
 use Rattle.syntax_tree.specs.Code.{Statement}
-use Rattle.cra.specs.declared.early.Early.TheVariants.{NotYet}
 use Rattle.cra.specs.declared.known.Known.{Known}
 use Rattle.cra.specs.declared.known.Goal.{Goal}
-use Rattle.cra.specs.Analysis.{after_all, after_statement, goal_of, nothing_known, poly_of}
+use Rattle.cra.specs.Analysis.{after_all, after_statement, goal_of, nothing_known}
 use Rattle.cra.proofs.Columns.{EachKnown, poly_of-each}
 use Rattle.cra.proofs.Sound.{body_of}
 use Rattle.cra.proofs.Standing.{IsAux, aux-more, columns-more, each-set}

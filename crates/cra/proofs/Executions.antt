@@ -1,10 +1,9 @@
 -- Executions of a program that is one straight `main`: what is asserted holds where it returns, and fails where it fails.
-use Rattle.std.proofs.Common.{◌≡◌, Bool, true, false, None, ℕ, ℤ, pos, ◌+◌, ◌<◌, ◌≤◌, Some, Ok, List, [], ◌∷◌, ◌++◌, length, map, take, refl, sym, ap, subst, ◌∙◌, slice_get, arith}
+use Rattle.std.proofs.Common.{◌≡◌, Bool, true, false, None, ℕ, ℤ, pos, ◌≤◌, Some, Ok, List, [], ◌∷◌, ◌++◌, length, map, take, refl, sym, ap, subst, ◌∙◌, slice_get, arith}
 use Rattle.std.specs.List.{list_all}
 use Rattle.std.proofs.lemmas.List.{length-append, length-replicate}
-use Rattle.linear_terms.specs.Polynomial.{Polynomial, constant_of, column_of}
+use Rattle.linear_terms.specs.Polynomial.{Polynomial, constant_of}
 use Rattle.linear_terms.specs.Operations.{sum_of_polys}
-use Rattle.linear_terms.specs.declared.col.Col.TheVariants.{Aux}
 use Rattle.syntax_tree.specs.declared.program.Proc.{Proc}
 use Rattle.syntax_tree.specs.declared.program.Program.{Program}
 use Rattle.syntax_tree.specs.Code.{Statement, Check, code_of, statement_of}
@@ -17,7 +16,7 @@ use Rattle.execution.specs.Execution.{Begins, Fails, Returns, Runs, initial_glob
 use Rattle.execution.specs.Laws.{is_simple, top_items, top_own}
 use Rattle.execution.proofs.Straight.{state_of-changed}
 use Rattle.cra.specs.declared.known.Goal.{Goal}
-use Rattle.cra.specs.Analysis.{at_most, difference, goal_of, nothing_known, one_row, returned_case}
+use Rattle.cra.specs.Analysis.{difference, goal_of, nothing_known, one_row, returned_case}
 use Rattle.cra.specs.Claims.{exit_values, if_returned}
 use Rattle.transition_formula.specs.Meaning.{HoldsCase}
 use Rattle.cra.proofs.Runs.{ChangesAll, SoFar, both_true, pending-code_of, straight_runs}

@@ -19,3 +19,5 @@ pub mod Ordered
 pub mod Canonical
 pub mod Ready
 pub mod ClaimsMet
+pub mod SameTrees
+pub mod Complete

@@ -1,11 +1,11 @@
 -- What every program of the first form asserts is known, and no step to it leaves 128 bits.
-use Rattle.std.proofs.Common.{◌≡◌, ◌≢◌, Bool, true, false, cond, ℕ, zero, suc, ℤ, pos, negsuc, ◌+◌, ◌-◌, ◌*◌, ◌^◌, ◌<◌, ◌≤◌, Option, None, Some, Ok, Err, List, [], ◌∷◌, ◌++◌, length, take, refl, sym, ap, subst, ◌∙◌, slice_get, get_or, arith}
+use Rattle.std.proofs.Common.{◌≡◌, Bool, true, false, cond, ℕ, zero, suc, ℤ, ◌+◌, ◌-◌, ◌*◌, ◌^◌, ◌<◌, ◌≤◌, Option, None, Some, Ok, Err, List, [], ◌∷◌, length, take, refl, sym, ap, subst, ◌∙◌, slice_get, arith}
 use Rattle.std.specs.Prelude.{◌&&◌, nat_le, nat_lt, replicate, slice_index_or, slice_set, unsigned_abs}
 use Rattle.std.specs.List.{list_all}
 use Rattle.std.proofs.lemmas.Bool.{cases_eq, lt-ltb}
 use mathlib.Core.Logic.{inl, inr}
 use Rattle.std.proofs.lemmas.Grind.{common_steps}
-use Rattle.std.proofs.lemmas.List.{get_or-set_other, length-append, length-set, length-replicate}
+use Rattle.std.proofs.lemmas.List.{get_or-set_other, length-set, length-replicate}
 use Rattle.items.specs.Gives.{◌>>=◌, lifted}
 use Rattle.linear_terms.specs.declared.col.Col.TheVariants.{Aux}
 use Rattle.linear_terms.specs.Polynomial.{Polynomial, constant_of, column_of}
@@ -17,7 +17,7 @@ use Rattle.syntax_tree.specs.Term.{Term, Lit, Col, Unary, Binary}
 use Rattle.cra.specs.declared.early.Early.TheVariants.{NotYet}
 use Rattle.cra.specs.declared.known.Known.{Known}
 use Rattle.cra.specs.declared.known.Goal.{Goal}
-use Rattle.cra.specs.Analysis.{after_all, after_statement, asserted_by, compared, difference, early, found, goal_after, goal_of, joined, nothing_known, poly_of, with_column}
+use Rattle.cra.specs.Analysis.{after_all, after_statement, asserted_by, compared, difference, early, found, goal_after, goal_of, nothing_known, poly_of, with_column}
 use Rattle.cra.specs.FirstForm.{and_then, asserts, compares, ends_well, is_additive, is_first_body, is_short, is_short_sum, is_sum, leaves, set_behind, set_by}
 use Rattle.cra.proofs.Bounds.{difference-small, size, sum-small}
 use Rattle.cra.proofs.Sound.{all-set}

@@ -10,8 +10,8 @@ use Rattle.c_parser.specs.declared.error.ParseError.TheVariants as parsing
 use Rattle.c_parser.specs.Reads.{ReadsWithinLimits}
 use Rattle.c_parser.specs.SourceItem.{SourceItem}
 use Rattle.cra.specs.declared.refusal.Refusal.{Refusal}
-use Rattle.cra.specs.declared.refusal.Refusal.TheVariants.{Lexing, Parsing, Typing, Memory}
-use Rattle.cra.specs.Accepted.{IsRefusedBy, IsUnread}
+use Rattle.cra.specs.declared.refusal.Refusal.TheVariants.{Lexing, Parsing, Memory}
+use Rattle.cra.specs.Accepted.{IsRefusedBy}
 
 pub cut-refused : (text : List ℕ) (fault : LexError) (told : Refusal) → (fault ≡ lexing.Memory → told ≡ Memory) → (fault ≢ lexing.Memory → told ≡ Lexing fault)
     → (fault ≢ lexing.Memory → IsRefused text fault) → IsRefusedBy text told

@@ -1,9 +1,9 @@
 -- What a body asserts at its end is so where it returns, and not where it fails.
-use Rattle.std.proofs.Common.{◌≡◌, ◌≢◌, Bool, true, false, cond, ℕ, zero, suc, ℤ, pos, ◌+ℤ◌, ◌≤ℤ◌, ◌+◌, ◌-◌, Option, None, Some, Ok, Err, List, [], ◌∷◌, ◌++◌, length, map, take, refl, sym, ap, subst, ◌∙◌, slice_get, arith}
+use Rattle.std.proofs.Common.{◌≡◌, ◌≢◌, Bool, true, false, ℕ, zero, suc, ℤ, pos, ◌+ℤ◌, ◌≤ℤ◌, ◌+◌, ◌-◌, Option, None, Some, Ok, List, [], ◌∷◌, ◌++◌, length, map, take, refl, sym, ap, subst, ◌∙◌, slice_get, arith}
 use Rattle.std.specs.Prelude.{◌&&◌, int_le}
 use Rattle.std.specs.List.{list_all}
 use Rattle.std.proofs.lemmas.Int.{ints}
-use Rattle.std.proofs.lemmas.List.{length-append, length-set}
+use Rattle.std.proofs.lemmas.List.{length-set}
 use Rattle.items.specs.Gives.{◌>>=◌}
 use Rattle.items.proofs.Gives.{on_ok}
 use Rattle.linear_terms.specs.declared.col.Col.TheVariants.{Aux}
@@ -19,10 +19,9 @@ use Rattle.syntax_tree.specs.Value as value
 use Rattle.syntax_tree.specs.Value.{State, truth_value}
 use Rattle.execution.specs.Laws.{is_simple}
 use Rattle.execution.specs.Step.{IsFalseIn, IsTrueIn}
-use Rattle.cra.specs.declared.early.Early.TheVariants.{NotYet}
 use Rattle.cra.specs.declared.known.Known.{Known}
 use Rattle.cra.specs.declared.known.Goal.{Goal}
-use Rattle.cra.specs.Analysis.{after_all, after_statement, asserted_by, at_most, compared, difference, goal_after, goal_of, nothing_known, one_row, poly_of, returned_case}
+use Rattle.cra.specs.Analysis.{after_all, after_statement, asserted_by, compared, difference, goal_after, goal_of, nothing_known, one_row, poly_of, returned_case}
 use Rattle.transition_formula.specs.Meaning.{HoldsCase, numbers}
 use Rattle.cra.proofs.Columns.{difference-each, poly_of-each, values-agree}
 use Rattle.cra.proofs.Standing.{Fits, IsAux, column-value, with-aux, with-aux-new, with-aux-old}

@@ -1,5 +1,5 @@
 -- The analysis of a program of the first form: what each column is, what is asserted, and what follows of it.
-use Rattle.std.specs.Prelude.{ℕ, pos, negsuc, ◌+◌, ◌-◌, Bool, true, false, ◌&&◌, ◌==◌, nat_lt, Option, None, Some, Result, Ok, Err, List, [], ◌∷◌, ◌++◌, length, take, replicate, if◌then◌else◌, slice_get, slice_set}
+use Rattle.std.specs.Prelude.{ℕ, pos, negsuc, ◌+◌, ◌-◌, Bool, true, false, nat_lt, Option, None, Some, Result, Ok, Err, List, [], ◌∷◌, length, take, replicate, if◌then◌else◌, slice_get, slice_set}
 use Rattle.items.specs.Gives.{◌>>=◌, lifted}
 use Rattle.linear_terms.specs.declared.col.Col.TheVariants.{Aux}
 use Rattle.linear_terms.specs.declared.error.TermError.{TermError}
@@ -10,7 +10,7 @@ use Rattle.linear_terms.specs.declared.row.Case.{Case}
 use Rattle.linear_terms.specs.Polynomial.{Polynomial, constant_of, column_of}
 use Rattle.linear_terms.specs.Operations.{sum_of_polys, multiple_of}
 use Rattle.syntax_tree.specs.declared.op.Op.{Op}
-use Rattle.syntax_tree.specs.declared.op.Op.TheVariants.{Add, Sub, Le}
+use Rattle.syntax_tree.specs.declared.op.Op.TheVariants.{Add, Le}
 use Rattle.syntax_tree.specs.declared.program.Column.{Column}
 use Rattle.syntax_tree.specs.Term.{Term, Lit, Col, Unary, Binary}
 use Rattle.syntax_tree.specs.Code.{Statement, Set, Any, Check}

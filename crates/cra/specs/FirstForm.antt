@@ -1,6 +1,6 @@
 -- The programs that are analysed so far: one procedure without parameters and no globals, whose statements set
 -- columns to sums, and which asserts at its end that one sum is at most another.
-use Rattle.std.specs.Prelude.{ℕ, ℤ, pos, ◌+◌, ◌-◌, ◌^◌, ◌==◌, ◌&&◌, nat_le, nat_lt, unsigned_abs, Bool, true, false, Option, None, Some, List, [], ◌∷◌, length, take, map, replicate, slice_get, slice_index_or, slice_set, if◌then◌else◌}
+use Rattle.std.specs.Prelude.{ℕ, ℤ, ◌+◌, ◌-◌, ◌^◌, ◌==◌, ◌&&◌, nat_le, nat_lt, unsigned_abs, Bool, true, false, Option, None, Some, List, [], ◌∷◌, length, take, map, replicate, slice_get, slice_index_or, slice_set, if◌then◌else◌}
 use Rattle.std.specs.List.{list_all}
 use Rattle.syntax_tree.specs.declared.op.Op.{Op}
 use Rattle.syntax_tree.specs.declared.op.Op.TheVariants.{Add, Sub, Le}

@@ -80,3 +80,14 @@ IsReplyToWork (Some Analyse) input reply = IsReplyToText input reply
 -- words that ask for nothing are refused before anything is read
 abbrev pub IsReply : List (List ℕ) → List ℕ → Reply → Type 0
 IsReply words input reply = IsReplyToWork (work_of words) input reply
+
+-- The words ask for the analysis of all that the source has: a text within the limit that is accepted, and whose program
+-- is of the form that is analysed so far.
+pub record IsToAnalyse (words : List (List ℕ)) (left : Option (List ℕ)) : Type 0 where
+  pub asked : work_of words ≡ Some Analyse
+  pub input : List ℕ
+  pub whole : left ≡ Some input
+  pub short : length input ≤ TEXT_LIMIT
+  pub program : Program
+  pub accepted : Accepts input program
+  pub first : is_first_form program ≡ true

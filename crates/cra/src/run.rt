@@ -1,10 +1,10 @@
-ghost use Rattle.std.specs.Prelude.{◌≡◌, ◌≢◌, ◌<◌, List, ℕ, None, Err, IfOk, map, string_bytes};
+ghost use Rattle.std.specs.Prelude.{◌≡◌, ◌≢◌, ◌<◌, ◌⊎◌, List, ℕ, None, Err, IfOk, map, string_bytes};
 ghost use Rattle.std.specs.Io.KnownBytes.{append_known};
 ghost use Rattle.cra_io.specs.Faults.{Rose};
 ghost use Rattle.cra.specs.Input.{IsInput};
 ghost use Rattle.cra.specs.Output.{TookPart};
 ghost use Rattle.cra.specs.declared.reply.Reply.{Reply as Told};
-ghost use Rattle.cra.specs.Replies.{IsAnswer, IsReply};
+ghost use Rattle.cra.specs.Replies.{IsAnswer, IsReply, IsToAnalyse};
 ghost use Rattle.cra.specs.Words.{work_of};
 
 use crate::input::{InputError, read_input};
@@ -55,6 +55,10 @@ pub fn run<R: Source, W: Sink>(alloc: Global, words: &[String], source: &mut R, 
         ((input : List ℕ) × (reply : Told) × IsInput TEXT_LIMIT (R.left source.old) input × IsReply (map string_bytes words.now) input reply
         × (result ≡ reply.status) × (W.taken sink.new ≡ append_known (W.taken sink.old) reply.text)) }
     ensures unread { work_of (map string_bytes words.now) ≡ None → source.new ≡ source.old }
+
+    // A text of the form that is analysed has its report, where memory is not wanting and no count of faults rose.
+    ensures complete { IsToAnalyse (map string_bytes words.now) (R.left source.old) → ¬ Rose (R.faults source.old) (R.faults source.new)
+        → ¬ Rose (W.faults sink.old) (W.faults sink.new) → (result ≡ 0) ⊎ (result ≡ 1) ⊎ (result ≡ WANT_OF_MEMORY) }
 
     // The source failed: exactly where its count of faults rose, and then nothing is written.
     ensures source_failed { result ≡ SOURCE_FAILED → Rose (R.faults source.old) (R.faults source.new) × (sink.new ≡ sink.old) }

@@ -1,4 +1,4 @@
-use Rattle.std.proofs.Common.{◌≡◌, length, map, drop}
+use Rattle.std.proofs.Common.{◌≡◌, map, drop}
 use Rattle.syntax_tree.specs.Code.{statement_of}
 use Rattle.cra.specs.FirstForm.{set_by}
 use Rattle.cra.proofs.first_form.set_all.Given as goal

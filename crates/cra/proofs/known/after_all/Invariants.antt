@@ -1,4 +1,4 @@
-use Rattle.std.proofs.Common.{◌≡◌, ◌≤◌, length, map, drop}
+use Rattle.std.proofs.Common.{◌≡◌, ◌≤◌, map, drop}
 use Rattle.syntax_tree.specs.Code.{statement_of}
 use Rattle.cra.specs.Analysis.{after_all, nothing_known}
 use Rattle.cra.proofs.known.after_all.Given as goal
