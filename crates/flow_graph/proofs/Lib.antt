@@ -17,3 +17,16 @@ pub mod Reaching
 pub mod Sieves
 pub mod Ordering
 pub mod Tables
+pub mod Chains
+pub mod SearchMarks
+pub mod Entering
+pub mod Joins
+pub mod Joining
+pub mod Leaving
+pub mod Visiting
+pub mod Searching
+pub mod Turning
+pub mod Settling
+pub mod Orders
+pub mod Filling
+pub mod Planned

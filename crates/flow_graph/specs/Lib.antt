@@ -4,3 +4,8 @@ pub mod Walks
 pub mod Laws
 pub mod Groups
 pub mod Reach
+pub mod Reaching
+pub mod Search
+pub mod Components
+pub mod Turns
+pub mod Plans

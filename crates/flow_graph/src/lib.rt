@@ -3,13 +3,16 @@
 //! that do nothing.
 #![tactic(auto)]
 
+mod components;
 mod error;
 mod grouping;
 mod laws;
 mod making;
 mod parts;
+mod planning;
 #[cfg(test)]
 mod tests;
+mod turns;
 
 pub use error::GraphError;
 pub use grouping::{Group, groups};
