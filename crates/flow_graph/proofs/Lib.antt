@@ -11,11 +11,9 @@ pub mod Walking
 pub mod Theorems
 pub mod Within
 pub mod Statements
-pub mod Marks
 pub mod Members
 pub mod Reaching
 pub mod Sieves
-pub mod Ordering
 pub mod Tables
 pub mod Chains
 pub mod SearchMarks

@@ -17,7 +17,7 @@ use Rattle.flow_graph.specs.Search.{AreNumbers}
 use Rattle.flow_graph.specs.Components.{AreComponents, group_at}
 use Rattle.flow_graph.specs.Plans.{AreBelow, AreFilled, call_lists, called_below, lists_of}
 use Rattle.flow_graph.specs.Turns.{IsPlan, Going, at_first, zeros, flag, group}
-use Rattle.flow_graph.specs.Reach.{no_bits, numbers_from}
+use Rattle.flow_graph.specs.Numbers.{no_bits, numbers_from}
 use Rattle.flow_graph.proofs.Chains.{reaches_call, reaches_then}
 use Rattle.flow_graph.proofs.Members.{contains_of, in_of}
 use Rattle.flow_graph.proofs.Sieves.{differ, filter_in, filter_only, numbers_in, numbers_only}

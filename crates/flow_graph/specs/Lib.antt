@@ -3,7 +3,7 @@ pub mod Plain
 pub mod Walks
 pub mod Laws
 pub mod Groups
-pub mod Reach
+pub mod Numbers
 pub mod Reaching
 pub mod Search
 pub mod Components

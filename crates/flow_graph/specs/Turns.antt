@@ -6,7 +6,7 @@ use Rattle.flow_graph.specs.declared.turns.Plan.{Plan}
 use Rattle.flow_graph.specs.declared.turns.Order.{Order}
 use Rattle.flow_graph.specs.Components.{group_at}
 use Rattle.flow_graph.specs.Plans.{empty_rows}
-use Rattle.flow_graph.specs.Reach.{no_bits}
+use Rattle.flow_graph.specs.Numbers.{no_bits}
 use Rattle.flow_graph.specs.Groups.{Calls, InOneGroup, IsAscending}
 
 abbrev pub group : Plan → ℕ → ℕ

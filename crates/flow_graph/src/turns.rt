@@ -3,7 +3,7 @@ ghost use Rattle.std.specs.Prelude.{◌≡◌, ◌<◌, ◌++◌, [], ◌∷◌,
 ghost use Rattle.flow_graph.specs.Components.{group_at};
 ghost use Rattle.flow_graph.specs.Turns.{ArePast, AreWithin, Going, IsBlocked, NoneCame, Settled, first_of, flag, is_past, leads_back, members_of, row_of, stage_of, at_first, zeros};
 ghost use Rattle.flow_graph.specs.Plans.{empty_rows};
-ghost use Rattle.flow_graph.specs.Reach.{no_bits, numbers_from};
+ghost use Rattle.flow_graph.specs.Numbers.{no_bits, numbers_from};
 ghost use Rattle.flow_graph.specs.Groups.{AreGroups};
 
 use crate::error::GraphError;

@@ -1,5 +1,5 @@
 use Rattle.std.proofs.Common.{◌≡◌}
-use Rattle.flow_graph.specs.Reach.{no_bits}
+use Rattle.flow_graph.specs.Numbers.{no_bits}
 use Rattle.flow_graph.proofs.turns.no_bits.Given as goal
 
 abbrev pub invariant-loop-place : goal.invariant-loop-place

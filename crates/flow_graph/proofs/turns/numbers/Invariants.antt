@@ -1,5 +1,5 @@
 use Rattle.std.proofs.Common.{◌≡◌}
-use Rattle.flow_graph.specs.Reach.{numbers_from}
+use Rattle.flow_graph.specs.Numbers.{numbers_from}
 use Rattle.flow_graph.proofs.turns.numbers.Given as goal
 
 abbrev pub invariant-loop-number : goal.invariant-loop-number
