@@ -25,6 +25,8 @@ mod scope;
 mod scopes;
 mod special;
 #[cfg(test)]
+mod tables;
+#[cfg(test)]
 mod tests;
 
 pub use elaboration::elaborate;
