@@ -14,6 +14,8 @@ mod rank;
 mod rest;
 mod simple;
 #[cfg(test)]
+mod tables;
+#[cfg(test)]
 mod tests;
 mod tokens;
 

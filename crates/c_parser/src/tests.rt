@@ -1,4 +1,4 @@
-use crate::{ParseError, ends_once, parse};
+use crate::{ParseError, ends_once, parse, tables};
 use c_lexer::{Token, lex};
 use items::Items;
 use std::alloc::Global;
@@ -219,11 +219,16 @@ fn told(alloc: Global, text: &[u8]) -> Result<String, Fail> {
     Ok(out)
 }
 
-/// Whether each text is told as it should be.
-fn check(alloc: Global, rt: &impl Abort, cases: &[(&[u8], &str)]) -> Result<(), Fail> {
-    for (text, expected) in cases {
-        let told = told(alloc, text)?;
-        assert_eq!(rt; told.trim_start(), *expected);
+/// Whether each text of a table is told as it should be, and the table has so many.
+fn check(alloc: Global, rt: &impl Abort, table: &str, count: usize) -> Result<(), Fail> {
+    let lines = table.lines().collect::<Vec<&str>>(alloc)?;
+    assert_eq!(rt; lines.len(), 2 * count);
+    for row in lines.chunks(2) {
+        let [text, expected] = row else {
+            return Err("no row".into());
+        };
+        let told = told(alloc, text.as_bytes())?;
+        assert_eq!(rt; told.trim_start(), *expected, "{text}");
     }
     Ok(())
 }
@@ -264,279 +269,56 @@ fn limits(rt: HostRuntime) -> Result<(), Fail> {
 
 #[test]
 fn binary_operators(rt: HostRuntime) -> Result<(), Fail> {
-    check(
-        rt.alloc(),
-        &rt,
-        &[
-            (
-                b"void f(){x=a||b&&c==d<e+f*g;}",
-                "body f@5 false { x@9 = (||@11 a@11 (&&@14 b@14 (==@17 c@17 (<@20 d@20 (+@22 e@22 (*@24 f@24 g@26)))))); }@28",
-            ),
-            (
-                b"void f(){x=a*b+c<d==e&&f||g;}",
-                "body f@5 false { x@9 = (||@11 (&&@11 (==@11 (<@11 (+@11 (*@11 a@11 b@13) c@15) d@17) e@20) f@23) g@26); }@28",
-            ),
-            (
-                b"void f(){x=a-b-c;}",
-                "body f@5 false { x@9 = (-@11 (-@11 a@11 b@13) c@15); }@17",
-            ),
-            (
-                b"void f(){x=a/b%c*d;}",
-                "body f@5 false { x@9 = (*@11 (%@11 (/@11 a@11 b@13) c@15) d@17); }@19",
-            ),
-            (
-                b"void f(){x=a<b>=c!=d;}",
-                "body f@5 false { x@9 = (!=@11 (>=@11 (<@11 a@11 b@13) c@16) d@19); }@21",
-            ),
-        ],
-    )
+    check(rt.alloc(), &rt, tables::BINARY_OPERATORS, 5)
 }
 
 #[test]
 fn operands(rt: HostRuntime) -> Result<(), Fail> {
-    check(
-        rt.alloc(),
-        &rt,
-        &[
-            (
-                b"void f(){x=-!+a-(b);}",
-                "body f@5 false { x@9 = (-@11 (-@11 (!@12 (+@13 a@14))) b@17); }@20",
-            ),
-            (
-                b"void f(){x=((a+b))*(c);}",
-                "body f@5 false { x@9 = (*@11 (+@11 a@13 b@15) c@20); }@23",
-            ),
-            (b"void f(){x=(-a)(b);}", "syntax 15"),
-            (
-                b"void f(){x=f(g(),(1),y(2,3))+(4)-5;}",
-                "body f@5 false { x@9 = (-@11 (+@11 f@11[ g@13[ ] 1@18 y@21[ 2@23 3@25 ] ] 4@30) 5@33); }@35",
-            ),
-        ],
-    )
+    check(rt.alloc(), &rt, tables::OPERANDS, 4)
 }
 
 #[test]
 fn assignments(rt: HostRuntime) -> Result<(), Fail> {
-    check(
-        rt.alloc(),
-        &rt,
-        &[
-            (
-                b"void f(){x+=a-b;y-=1;z*=2;u/=3;v%=4;}",
-                "body f@5 false { x@9 = (+@9 x@9 (-@12 a@12 b@14)); y@16 = (-@16 y@16 1@19); z@21 = (*@21 z@21 2@24); u@26 = (/@26 u@26 3@29); v@31 = (%@31 v@31 4@34); }@36",
-            ),
-            (
-                b"void f(){x++;++y;z--;--u;g(1);}",
-                "body f@5 false { x@9 = (+@9 x@9 1@9); y@15 = (+@15 y@15 1@15); z@17 = (-@17 z@17 1@17); u@23 = (-@23 u@23 1@23); g@25[ 1@27 ]; }@30",
-            ),
-            (
-                b"void f(){;{;}{{x=1;}}}",
-                "body f@5 false { { } { { x@15 = 1@17; } } }@21",
-            ),
-        ],
-    )
+    check(rt.alloc(), &rt, tables::ASSIGNMENTS, 3)
 }
 
 #[test]
 fn declarations(rt: HostRuntime) -> Result<(), Fail> {
-    check(
-        rt.alloc(),
-        &rt,
-        &[
-            (
-                b"int a,b=1,c=-2,d=0x10;",
-                "global a@4 0; global b@6 1; global c@10 -2; global d@15 16;",
-            ),
-            (
-                b"int f();extern void g(void);int h(int,int x);",
-                "proto f@4 true any; proto g@20 false 0; proto h@32 true 2;",
-            ),
-            (
-                b"int f(int x,int y){}void g(void){int a,b=1+2,c;}",
-                "body f@4 true x@10 y@16 { }@19 body g@25 false { int a@37; int b@39 (+@41 1@41 2@43); int c@45; }@47",
-            ),
-        ],
-    )
+    check(rt.alloc(), &rt, tables::DECLARATIONS, 3)
 }
 
 #[test]
 fn branches(rt: HostRuntime) -> Result<(), Fail> {
-    check(
-        rt.alloc(),
-        &rt,
-        &[
-            (
-                b"void f(){if(a)if(b)x=1;else x=2;}",
-                "body f@5 false { if a@12 { if b@17 { x@19 = 1@21; } { x@28 = 2@30; } } { } }@32",
-            ),
-            (
-                b"void f(){if(a){if(b)x=1;}else;}",
-                "body f@5 false { if a@12 { { if b@18 { x@20 = 1@22; } { } } } { } }@30",
-            ),
-            (
-                b"void f(){if(a)while(b)if(c)x=1;else;else y=2;}",
-                "body f@5 false { if a@12 { loop { } b@20 { } { if c@25 { x@27 = 1@29; } { } } } { y@41 = 2@43; } }@45",
-            ),
-        ],
-    )
+    check(rt.alloc(), &rt, tables::BRANCHES, 3)
 }
 
 #[test]
 fn loops(rt: HostRuntime) -> Result<(), Fail> {
-    check(
-        rt.alloc(),
-        &rt,
-        &[
-            (
-                b"void f(){while(a)x=1;do x=1;while(b);}",
-                "body f@5 false { loop { } a@15 { } { x@17 = 1@19; } do { } b@34 { } { x@24 = 1@26; } }@37",
-            ),
-            (
-                b"void f(){for(;;)break;for(x=0;x<1;x++)continue;}",
-                "body f@5 false { loop { } 1@14 { } { break@16; } loop { x@26 = 0@28; } (<@30 x@30 1@32) { x@34 = (+@34 x@34 1@34); } { continue@38; } }@47",
-            ),
-            (
-                b"void f(){for(int i=0,j;i;--j){return;}return i+1;}",
-                "body f@5 false { loop { int i@17 0@19; int j@21; } i@23 { j@27 = (-@27 j@27 1@27); } { { return@30; } } return@38 (+@45 i@45 1@47); }@49",
-            ),
-        ],
-    )
+    check(rt.alloc(), &rt, tables::LOOPS, 3)
 }
 
 #[test]
 fn refusals(rt: HostRuntime) -> Result<(), Fail> {
-    check(
-        rt.alloc(),
-        &rt,
-        &[
-            (b"void f(){x=a[1];}", "unsupported 12"),
-            (b"void f(){x=1}", "syntax 12"),
-            (b"int f", "syntax 5"),
-            (b"void x;", "syntax 6"),
-            (b"extern int x;", "syntax 12"),
-            (b"int f(int){}", "syntax 10"),
-            (b"extern int f(){}", "syntax 14"),
-            (b"void f(){x=(1;}", "syntax 13"),
-            (b"void f(){else;}", "syntax 9"),
-            (b"float x;", "unsupported 0"),
-            (b"void f(){f;}", "syntax 10"),
-            (b"void f(){int;}", "syntax 12"),
-            (b"void f(){do;}", "syntax 12"),
-            (b"void f(){for(;;x=1;);}", "syntax 18"),
-            (b"int x=-y;", "syntax 7"),
-            (b"void f(){x=1 2;}", "syntax 13"),
-            (b"int f(void,int);", "syntax 10"),
-            (b"void f(){x+1;}", "syntax 10"),
-        ],
-    )
+    check(rt.alloc(), &rt, tables::REFUSALS, 18)
 }
 
 #[test]
 fn refused_declarations(rt: HostRuntime) -> Result<(), Fail> {
-    check(
-        rt.alloc(),
-        &rt,
-        &[
-            (b"x;", "syntax 0"),
-            (b"int", "syntax 3"),
-            (b"int 1;", "syntax 4"),
-            (b"int x", "syntax 5"),
-            (b"int x=", "syntax 6"),
-            (b"int x=1+2;", "syntax 7"),
-            (b"int x=--1;", "syntax 6"),
-            (b"int x,;", "syntax 6"),
-            (b"int x=1,y=;", "syntax 10"),
-            (b"void f;", "syntax 6"),
-            (b"void f(", "syntax 7"),
-            (b"void f(int", "syntax 10"),
-            (b"void f(int x", "syntax 12"),
-            (b"void f(int x,", "syntax 13"),
-            (b"void f(int x,)", "syntax 13"),
-            (b"void f(){", "syntax 9"),
-            (b"void f()x", "syntax 8"),
-            (b"void f(){}}", "syntax 10"),
-        ],
-    )
+    check(rt.alloc(), &rt, tables::REFUSED_DECLARATIONS, 18)
 }
 
 #[test]
 fn refused_lines(rt: HostRuntime) -> Result<(), Fail> {
-    check(
-        rt.alloc(),
-        &rt,
-        &[
-            (b"void f(){if a)}", "syntax 12"),
-            (b"void f(){if(a}", "syntax 13"),
-            (b"void f(){if()x=1;}", "syntax 12"),
-            (b"void f(){while()x=1;}", "syntax 15"),
-            (b"void f(){do x=1;}", "syntax 16"),
-            (b"void f(){do x=1;while(a)}", "syntax 24"),
-            (b"void f(){for(x=1)}", "syntax 16"),
-            (b"void f(){for(;;)}", "syntax 16"),
-            (b"void f(){for(int;;);}", "syntax 16"),
-            (b"void f(){for(;;int x);}", "syntax 15"),
-            (b"void f(){break}", "syntax 14"),
-            (b"void f(){continue 1;}", "syntax 18"),
-            (b"void f(){return 1}", "syntax 17"),
-            (b"void f(){return int;}", "syntax 16"),
-            (b"void f(){if(a)int x;}", "syntax 14"),
-            (b"void f(){if(a);else}", "syntax 19"),
-            (b"void f(){x++ +1;}", "syntax 13"),
-            (b"void f(){++1;}", "syntax 11"),
-        ],
-    )
+    check(rt.alloc(), &rt, tables::REFUSED_LINES, 18)
 }
 
 #[test]
 fn refused_expressions(rt: HostRuntime) -> Result<(), Fail> {
-    check(
-        rt.alloc(),
-        &rt,
-        &[
-            (b"void f(){x=;}", "syntax 11"),
-            (b"void f(){x=a+;}", "syntax 13"),
-            (b"void f(){x=*a;}", "syntax 11"),
-            (b"void f(){x=a b;}", "syntax 13"),
-            (b"void f(){x=(a;}", "syntax 13"),
-            (b"void f(){x=a);}", "syntax 12"),
-            (b"void f(){x=g(1,);}", "syntax 15"),
-            (b"void f(){x=g(1;}", "syntax 14"),
-            (b"void f(){x=g(int);}", "syntax 13"),
-            (b"void f(){x=y=1;}", "syntax 12"),
-            (b"void f(){x=a?b:c;}", "unsupported 12"),
-            (b"void f(){x=a&b;}", "unsupported 12"),
-            (b"void f(){x=a<<1;}", "unsupported 12"),
-            (b"void f(){x=&a;}", "unsupported 11"),
-            (b"void f(){x=a.b;}", "unsupported 12"),
-            (b"void f(){1=x;}", "syntax 9"),
-            (b"void f(){x==1;}", "syntax 10"),
-            (b"void f(){g(1)+2;}", "syntax 13"),
-        ],
-    )
+    check(rt.alloc(), &rt, tables::REFUSED_EXPRESSIONS, 18)
 }
 
 #[test]
 fn short_texts(rt: HostRuntime) -> Result<(), Fail> {
-    check(
-        rt.alloc(),
-        &rt,
-        &[
-            (b"", ""),
-            (b"int x;", "global x@4 0;"),
-            (b"int f();", "proto f@4 true any;"),
-            (b"int f(void);", "proto f@4 true 0;"),
-            (b"void f(int,int);", "proto f@5 false 2;"),
-            (b"extern int f(int x);", "proto f@11 true 1;"),
-            (b"void f(){}", "body f@5 false { }@9"),
-            (b"int f(void){}", "body f@4 true { }@12"),
-            (b"int f(int x){}", "body f@4 true x@10 { }@13"),
-            (b"int x=-0;", "global x@4 0;"),
-            (b"void f(){g();}", "body f@5 false { g@9[ ]; }@13"),
-            (b"void f(){return;}", "body f@5 false { return@9; }@16"),
-            (
-                b"void f(){int x,y;}",
-                "body f@5 false { int x@13; int y@15; }@17",
-            ),
-        ],
-    )
+    assert!(rt; told(rt.alloc(), b"")?.is_empty());
+    check(rt.alloc(), &rt, tables::SHORT_TEXTS, 12)
 }

@@ -21,6 +21,8 @@ mod reply;
 mod report;
 mod run;
 #[cfg(test)]
+mod tables;
+#[cfg(test)]
 mod tests;
 mod text;
 mod verdict;

@@ -1,12 +1,11 @@
 use crate::run::{TEXT_LIMIT, run};
+use crate::tables;
 use cra_io::{MemorySink, MemorySource};
 use std::alloc::Global;
 use std::process::Abort;
 use std::test::Fail;
 
 const USAGE: &[u8] = b"usage: cra analyse | certify | check | edit | sample N\n";
-
-const NOT_YET: &[u8] = b"refused notyet\n";
 
 const TOO_LONG: &[u8] = b"input is too long\n";
 
@@ -145,216 +144,51 @@ fn repeated(
     Ok(text)
 }
 
-#[test]
-fn refused_by_the_cut(rt: HostRuntime) -> Result<(), Fail> {
-    let cases: [(&[u8], &[u8]); 10] = [
-        (b"int main(void){} /* x", b"refused comment at 1:18\n"),
-        (
-            b"int main(void) { return 9223372036854775808; }",
-            b"refused literal at 1:25\n",
-        ),
-        (b"int main(void) { @ }", b"refused byte at 1:18\n"),
-        (b"int main(void) { \xff }", b"refused byte at 1:18\n"),
-        (b"/* \xc3", b"refused comment at 1:1\n"),
-        (
-            b"int main(void) { int x = 01; }",
-            b"refused literal at 1:26\n",
-        ),
-        (
-            b"int main(void) { int x = 1u; }",
-            b"refused literal at 1:26\n",
-        ),
-        (
-            b"#include <x.h>\n#include <y.h>\nint main(void) { int x = 1; # }",
-            b"refused byte at 3:29\n",
-        ),
-        (b"long @", b"refused byte at 1:6\n"),
-        (b"x = 1; /*", b"refused comment at 1:8\n"),
-    ];
-    for (input, line) in cases {
-        refused(rt.alloc(), &rt, input, line)?;
+/// Whether each text of a table is refused with the line that stands before it.
+fn check(alloc: Global, rt: &impl Abort, table: &str) -> Result<(), Fail> {
+    for row in table.lines() {
+        let (line, text) = row.split_once(": ").ok_or("no row")?;
+        let line = format!(in alloc; "{line}\n")?;
+        refused(alloc, rt, text.as_bytes(), line.as_bytes())?;
     }
     Ok(())
+}
+
+#[test]
+fn refused_by_the_cut(rt: HostRuntime) -> Result<(), Fail> {
+    let alloc = rt.alloc();
+    check(alloc, &rt, tables::REFUSED_BY_THE_CUT)?;
+    refused(
+        alloc,
+        &rt,
+        b"int main(void) { \xff }",
+        b"refused byte at 1:18\n",
+    )?;
+    refused(alloc, &rt, b"/* \xc3", b"refused comment at 1:1\n")?;
+    let third_line = b"#include <x.h>\n#include <y.h>\nint main(void) { int x = 1; # }";
+    refused(alloc, &rt, third_line, b"refused byte at 3:29\n")
 }
 
 #[test]
 fn refused_by_the_grammar(rt: HostRuntime) -> Result<(), Fail> {
-    let cases: [(&[u8], &[u8]); 11] = [
-        (
-            b"int main(void) { int a[2]; }",
-            b"refused unsupported at 1:23\n",
-        ),
-        (
-            b"int main(void) { assert(0 <= 1); } ;",
-            b"refused syntax at 1:36\n",
-        ),
-        (
-            b"int main(void)\n{\n  int x = 1\n}\n",
-            b"refused syntax at 4:1\n",
-        ),
-        (
-            b"int main(void) { long x; }",
-            b"refused unsupported at 1:18\n",
-        ),
-        (
-            b"int main(void) { goto a; }",
-            b"refused unsupported at 1:18\n",
-        ),
-        (b"void f;", b"refused syntax at 1:7\n"),
-        (b"int f(int); { }", b"refused syntax at 1:13\n"),
-        (
-            b"int main(void) { x ? 1 : 2; }",
-            b"refused unsupported at 1:20\n",
-        ),
-        (b"int main(void) { 1; }", b"refused syntax at 1:18\n"),
-        (b"x = 1; int x; int x;", b"refused syntax at 1:1\n"),
-        (b"int main(void) { if (1 }", b"refused syntax at 1:24\n"),
-    ];
-    for (input, line) in cases {
-        refused(rt.alloc(), &rt, input, line)?;
-    }
-    Ok(())
+    let alloc = rt.alloc();
+    check(alloc, &rt, tables::REFUSED_BY_THE_GRAMMAR)?;
+    let fourth_line = b"int main(void)\n{\n  int x = 1\n}\n";
+    refused(alloc, &rt, fourth_line, b"refused syntax at 4:1\n")
 }
 
 #[test]
-fn refused_by_names(rt: HostRuntime) -> Result<(), Fail> {
-    let cases: [(&[u8], &[u8]); 11] = [
-        (b"", b"refused main at 1:1\n"),
-        (b"int main(void) { x = 1; }", b"refused unknown at 1:18\n"),
-        (
-            b"int main(void) { if (1) break; }",
-            b"refused unknown at 1:25\n",
-        ),
-        (
-            b"int main(void) { int x; int x; }",
-            b"refused twice at 1:29\n",
-        ),
-        (
-            b"int exit(int x) { return x; } int main(void) { }",
-            b"refused twice at 1:5\n",
-        ),
-        (b"int f(void) { return 1; }", b"refused main at 1:26\n"),
-        (
-            b"int main(void) { int x = y; int x; }",
-            b"refused unknown at 1:26\n",
-        ),
-        (
-            b"int f(void); int main(void) { f(); }",
-            b"refused unknown at 1:31\n",
-        ),
-        (
-            b"int main(void) { int f; f(1); }",
-            b"refused unknown at 1:25\n",
-        ),
-        (
-            b"int main(void) { do { } while (x); }",
-            b"refused unknown at 1:32\n",
-        ),
-        (
-            b"int g; void g(void) { } int main(void) { }",
-            b"refused twice at 1:13\n",
-        ),
-    ];
-    for (input, line) in cases {
-        refused(rt.alloc(), &rt, input, line)?;
-    }
-    Ok(())
+fn refused_by_elaboration(rt: HostRuntime) -> Result<(), Fail> {
+    let alloc = rt.alloc();
+    refused(alloc, &rt, b"", b"refused main at 1:1\n")?;
+    check(alloc, &rt, tables::REFUSED_BY_NAMES)?;
+    check(alloc, &rt, tables::REFUSED_BY_CALLS)?;
+    check(alloc, &rt, tables::REFUSED_BY_COUNTS)
 }
 
-#[test]
-fn refused_by_calls(rt: HostRuntime) -> Result<(), Fail> {
-    let cases: [(&[u8], &[u8]); 10] = [
-        (
-            b"int f(int x) { return x; } int main(void) { return 1 && f(2); }",
-            b"refused place at 1:57\n",
-        ),
-        (
-            b"int f(void); int f(int x) { return x; } int main(void) { }",
-            b"refused arity at 1:5\n",
-        ),
-        (
-            b"int f(int x) { return x; } int main(void) { return f(); }",
-            b"refused arity at 1:52\n",
-        ),
-        (b"int main(int x) { return x; }", b"refused arity at 1:5\n"),
-        (
-            b"void f(void) { return 1; } int main(void) { }",
-            b"refused arity at 1:16\n",
-        ),
-        (
-            b"void f(void) { } int main(void) { return f(); }",
-            b"refused void at 1:42\n",
-        ),
-        (
-            b"int main(void) { int x = assert(1); }",
-            b"refused void at 1:26\n",
-        ),
-        (
-            b"int f(void) { return 1; } int main(void) { return 0 || (1 + f()); }",
-            b"refused place at 1:61\n",
-        ),
-        (b"int main(void) { main(); }", b"refused arity at 1:18\n"),
-        (
-            b"int main(void) { assert(1, 2); }",
-            b"refused arity at 1:18\n",
-        ),
-    ];
-    for (input, line) in cases {
-        refused(rt.alloc(), &rt, input, line)?;
-    }
-    Ok(())
-}
-
-#[test]
-fn refused_by_counts(rt: HostRuntime) -> Result<(), Fail> {
-    let cases: [(&[u8], &[u8]); 4] = [
-        (
-            b"int a,b,c,d,e,f,g,h,i,j,k,l,m,n,o,p,q;",
-            b"refused many globals at 1:37\n",
-        ),
-        (
-            b"int main(void) { int a,b,c,d,e,f,g,h,i,j,k,l,m,n,o,p,q,r,s,t,u,v,w,x,y; }",
-            b"refused many slots at 1:70\n",
-        ),
-        (
-            b"int f(int a,int b,int c,int d,int e,int f,int g,int h,int i) { return a; } int main(void) { }",
-            b"refused many parameters at 1:59\n",
-        ),
-        (
-            b"int main(void) { return (1<2)+(1<2)+(1<2)+(1<2)+(1<2)+(1<2)+(1<2)+(1<2)+(1<2); }",
-            b"refused many cases at 1:25\n",
-        ),
-    ];
-    for (input, line) in cases {
-        refused(rt.alloc(), &rt, input, line)?;
-    }
-    Ok(())
-}
-
-// Texts that are accepted, just outside the form that is analysed so far.
 #[test]
 fn left_out(rt: HostRuntime) -> Result<(), Fail> {
-    let inputs: [&[u8]; 15] = [
-        b"int main(void) {}",
-        b"int main(void) { assert(0 <= 0); assert(0 <= 0); }",
-        b"int main(void) { assert(0 < 0); }",
-        b"int main(void) { assert(0 >= 0); }",
-        b"int main(void) { assert(0); }",
-        b"int main(void) { assert(0 <= -1); }",
-        b"int main(void) { assert(0 <= 2 * 3); }",
-        b"int main(void) { assert(0 <= 1+1+1+1+1+1+1+1+1); }",
-        b"int main(void) { assert(0 <= 1); return 0; }",
-        b"int main(void) { if (1) ; assert(0 <= 1); }",
-        b"int g; int main(void) { assert(0 <= 1); }",
-        b"void f(void) { } int main(void) { assert(0 <= 1); }",
-        b"int main(void) { int a=1;int b=1;int c=1;int d=1;int e=1;int f=1;int g=1;int h=1;int i=1; assert(0 <= 1); }",
-        b"int main(void) { int x = x; assert(0 <= 1); }",
-        b"int main(void) { assume(0 <= 1); assert(0 <= 1); }",
-    ];
-    for input in inputs {
-        refused(rt.alloc(), &rt, input, NOT_YET)?;
-    }
-    Ok(())
+    check(rt.alloc(), &rt, tables::LEFT_OUT)
 }
 
 // Each limit that a short text does not pass.

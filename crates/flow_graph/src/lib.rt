@@ -11,6 +11,8 @@ mod making;
 mod parts;
 mod planning;
 #[cfg(test)]
+mod tables;
+#[cfg(test)]
 mod tests;
 mod turns;
 

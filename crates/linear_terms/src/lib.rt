@@ -15,6 +15,8 @@ mod scaling;
 mod substitute;
 mod sums;
 #[cfg(test)]
+mod tables;
+#[cfg(test)]
 mod tests;
 mod total;
 

@@ -13,6 +13,8 @@ mod sequence;
 mod solution;
 mod solving;
 #[cfg(test)]
+mod tables;
+#[cfg(test)]
 mod tests;
 mod tidy;
 

@@ -3,76 +3,82 @@ ghost use Rattle.std.specs.List.{list_all};
 ghost use Rattle.linear_terms.specs.Auxiliaries.{is_numbered};
 ghost use Rattle.transition_formula.specs.Transition.{every_column};
 
-use crate::{Formula, FormulaError, Loss, Solved, identity, join, seq, solve};
+use crate::tables::{
+    A_CASE_DROPPED_LATE, A_GREATER_CONSTANT_MEETS_ITS_OPPOSITE, AN_AUXILIARY_IN_A_PRODUCT_STAYS,
+    AUXILIARIES_ARE_RENUMBERED, EQUAL_ROWS_STAND_ONCE, EQUATIONS_ARE_SOLVED, LOSSES_OF_DEGREE,
+    LOSSES_OF_WIDTH, OPPOSITE_INEQUALITIES, OPPOSITE_NUMBERS_AT_THE_ENDS, ROWS_IN_NORMAL_FORM,
+    SEQUENCES,
+};
+use crate::{Formula, Loss, Solved, identity, join, seq, solve};
 use items::Items;
-use linear_terms::{Case, Col, Kind, Mono, Poly, Row, TermError, add, mul, scale};
+use linear_terms::{Case, Col, Kind, Mono, Poly, Row, add, mul};
 use std::alloc::Global;
 use std::fmt::Write;
+use std::process::Abort;
+use std::test::Fail;
 
-const BIG: i128 = i128::MAX;
-
-const LOW: i128 = i128::MIN;
-
-const X: Col = Col::At(0);
-
-const Y: Col = Col::At(1);
-
-const A: Col = Col::Aux(0);
-
-const B: Col = Col::Aux(1);
-
-const C: Col = Col::Aux(2);
-
-const D: Col = Col::Aux(3);
-
-type Terms<'a> = &'a [(&'a [Col], i128)];
-
-fn poly(alloc: Global, terms: Terms) -> Result<Poly, FormulaError> {
-    match sum_of(alloc, terms) {
-        Ok(poly) => Ok(poly),
-        Err(_) => Err(FormulaError::Memory),
+/// The column or number that a factor is.
+fn factor(alloc: Global, text: &str) -> Result<Poly, Fail> {
+    if let Some(number) = text.strip_prefix('x') {
+        return Ok(Poly::column(alloc, Col::At(number.parse::<u32>()?))?);
     }
+    if let Some(number) = text.strip_prefix('a') {
+        return Ok(Poly::column(alloc, Col::Aux(number.parse::<u32>()?))?);
+    }
+    Ok(Poly::constant(alloc, text.parse::<i128>()?))
 }
 
-fn sum_of(alloc: Global, terms: Terms) -> Result<Poly, TermError> {
+/// The polynomial that is written as `write_poly` writes it.
+fn poly(alloc: Global, text: &str) -> Result<Poly, Fail> {
     let mut made = Poly::constant(alloc, 0);
-    for (columns, number) in terms {
-        made = add(alloc, &made, &product_of(alloc, columns, *number)?)?;
+    for term in text.split('+') {
+        let mut product = Poly::constant(alloc, 1);
+        for part in term.trim().split('*') {
+            product = mul(alloc, &product, &factor(alloc, part)?)?;
+        }
+        made = add(alloc, &made, &product)?;
     }
     Ok(made)
 }
 
-fn product_of(alloc: Global, columns: &[Col], number: i128) -> Result<Poly, TermError> {
-    let mut made = Poly::constant(alloc, 1);
-    for col in columns {
-        made = mul(alloc, &made, &Poly::column(alloc, *col)?)?;
-    }
-    scale(alloc, &made, number)
+fn row(alloc: Global, text: &str) -> Result<Row, Fail> {
+    let (left, kind) = match text.trim().strip_suffix("<= 0") {
+        Some(left) => (left, Kind::AtMost),
+        None => (
+            text.trim().strip_suffix("= 0").ok_or("no row")?,
+            Kind::Equal,
+        ),
+    };
+    let poly = poly(alloc, left)?;
+    Ok(Row { poly, kind })
 }
 
-fn case_of(
-    alloc: Global,
-    aux: u32,
-    rows: &[(Kind, Terms)],
-    posts: &[Terms],
-) -> Result<Case, FormulaError> {
-    let mut all = Items::new(alloc);
-    for (kind, terms) in rows {
-        let poly = poly(alloc, terms)?;
-        all.push(Row { poly, kind: *kind })?;
+/// The case that is written as `write_case` writes it.
+fn case(alloc: Global, text: &str) -> Result<Case, Fail> {
+    let mut parts = text.split(';');
+    let mut head = parts.next().ok_or("no case")?.split('|');
+    let aux = head.next().ok_or("no number")?.trim().parse::<u32>()?;
+    let mut rows = Items::new(alloc);
+    for part in head {
+        rows.push(row(alloc, part)?)?;
     }
     let mut post = Items::new(alloc);
-    for terms in posts {
-        post.push(poly(alloc, terms)?)?;
+    for part in parts {
+        post.push(poly(alloc, part)?)?;
     }
-    Ok(Case {
-        aux,
-        rows: all,
-        post,
-    })
+    Ok(Case { aux, rows, post })
 }
 
-fn write_poly(text: &mut String, poly: &Poly) -> Result<(), FormulaError> {
+/// The formula between so many columns whose cases stand between slashes.
+fn formula(alloc: Global, from: u32, to: u32, text: &str) -> Result<Formula, Fail> {
+    let mut cases = Items::new(alloc);
+    for part in text.split('/') {
+        cases.push(case(alloc, part)?)?;
+    }
+    Ok(Formula::new(from, to, cases).ok_or("no formula")?)
+}
+
+fn write_poly(text: &mut String, poly: &Poly) -> Result<(), Fail> {
     for (mono, number) in poly.terms() {
         write!(text, "{number}")?;
         for col in mono.columns() {
@@ -88,7 +94,7 @@ fn write_poly(text: &mut String, poly: &Poly) -> Result<(), FormulaError> {
     Ok(())
 }
 
-fn write_case(text: &mut String, case: &Case) -> Result<(), FormulaError> {
+fn write_case(text: &mut String, case: &Case) -> Result<(), Fail> {
     write!(text, "{}", case.aux)?;
     for row in case.rows.as_slice() {
         write!(text, " | ")?;
@@ -105,7 +111,7 @@ fn write_case(text: &mut String, case: &Case) -> Result<(), FormulaError> {
     Ok(())
 }
 
-fn write_losses(text: &mut String, losses: &[Loss]) -> Result<(), FormulaError> {
+fn write_losses(text: &mut String, losses: &[Loss]) -> Result<(), Fail> {
     for loss in losses {
         match loss {
             Loss::Wide { left, right, times } => {
@@ -154,13 +160,8 @@ fn posts_are_numbered(posts: &[Poly], aux: u32) -> bool
 }
 
 /// The case put in order, as text.
-fn in_order(
-    alloc: Global,
-    aux: u32,
-    rows: &[(Kind, Terms)],
-    posts: &[Terms],
-) -> Result<String, FormulaError> {
-    let case = case_of(alloc, aux, rows, posts)?;
+fn in_order(alloc: Global, text: &str) -> Result<String, Fail> {
+    let case = case(alloc, text)?;
     let mut text = String::new(alloc);
     if case.aux < 1000
         && case.post.len() < 1000
@@ -177,29 +178,25 @@ fn in_order(
     Ok(text)
 }
 
-/// A formula of one case.
-fn one(
-    alloc: Global,
-    from: u32,
-    to: u32,
-    aux: u32,
-    rows: &[(Kind, Terms)],
-    posts: &[Terms],
-) -> Result<Formula, FormulaError> {
-    let mut cases = Items::new(alloc);
-    cases.push(case_of(alloc, aux, rows, posts)?)?;
-    match Formula::new(from, to, cases) {
-        Some(made) => Ok(made),
-        None => Err(FormulaError::Memory),
+/// Whether each case of a table, put in order, is what stands behind the colon.
+fn check_order(alloc: Global, rt: &impl Abort, table: &str) -> Result<(), Fail> {
+    for line in table.lines() {
+        let fields = line.split(':').collect::<Vec<&str>>(alloc)?;
+        let [given, wanted] = fields.as_slice() else {
+            return Err("no row".into());
+        };
+        let made = in_order(alloc, given)?;
+        assert_eq!(rt; made.as_str(), wanted.trim(), "{line}");
     }
+    Ok(())
 }
 
 /// The choice of two formulas.
-fn either(alloc: Global, a: &Formula, b: &Formula) -> Result<Formula, FormulaError> {
+fn either(alloc: Global, a: &Formula, b: &Formula) -> Result<Formula, Fail> {
     if a.from() == b.from() && a.to() == b.to() {
-        join(alloc, a, b)
+        Ok(join(alloc, a, b)?)
     } else {
-        Err(FormulaError::Memory)
+        Err("other ends".into())
     }
 }
 
@@ -222,7 +219,7 @@ fn are_few(first: &[Case], second: &[Case], to: u32) -> bool
     have_few(second)
 }
 
-fn write_formula(text: &mut String, formula: &Formula) -> Result<(), FormulaError> {
+fn write_formula(text: &mut String, formula: &Formula) -> Result<(), Fail> {
     let mut mark = "";
     for case in formula.cases() {
         write!(text, "{mark}")?;
@@ -233,7 +230,7 @@ fn write_formula(text: &mut String, formula: &Formula) -> Result<(), FormulaErro
 }
 
 /// One formula and then another, as text.
-fn in_sequence(alloc: Global, first: &Formula, second: &Formula) -> Result<String, FormulaError> {
+fn in_sequence(alloc: Global, first: &Formula, second: &Formula) -> Result<String, Fail> {
     let mut text = String::new(alloc);
     if first.to() == second.from() && are_few(first.cases(), second.cases(), second.to()) {
         let mut losses = Items::new(alloc);
@@ -245,13 +242,13 @@ fn in_sequence(alloc: Global, first: &Formula, second: &Formula) -> Result<Strin
 }
 
 #[test]
-fn identity_and_choice(rt: HostRuntime) -> Result<(), FormulaError> {
+fn identity_and_choice(rt: HostRuntime) -> Result<(), Fail> {
     let alloc = rt.alloc();
-    let mut text = String::new(alloc);
     let same = identity(alloc, 2)?;
+    let mut text = String::new(alloc);
     write_formula(&mut text, &same)?;
     assert_eq!(rt; text.as_str(), "0 ; 1*x0 + 0 ; 1*x1 + 0");
-    let other = one(alloc, 2, 2, 1, &[], &[&[(&[X], 2)], &[(&[A], 1)]])?;
+    let other = formula(alloc, 2, 2, "1 ; 2*x0 ; a0")?;
     let mut text = String::new(alloc);
     write_formula(&mut text, &either(alloc, &same, &other)?)?;
     assert_eq!(rt;
@@ -262,522 +259,77 @@ fn identity_and_choice(rt: HostRuntime) -> Result<(), FormulaError> {
 }
 
 #[test]
-fn rows_in_normal_form(rt: HostRuntime) -> Result<(), FormulaError> {
-    let alloc = rt.alloc();
-    let made = in_order(
-        alloc,
-        0,
-        &[
-            (Kind::AtMost, &[(&[X], 2), (&[], 3)]),
-            (Kind::AtMost, &[(&[], -1)]),
-            (Kind::Equal, &[(&[X], -4), (&[Y], 6), (&[], 8)]),
-        ],
-        &[&[(&[X], 1)]],
-    )?;
-    assert_eq!(rt;
-        made.as_str(),
-        "0 | 1*x0 + 2 <= 0 | 2*x0 + -3*x1 + -4 = 0 ; 1*x0 + 0"
-    );
-    let made = in_order(
-        alloc,
-        0,
-        &[(Kind::Equal, &[(&[X], 2), (&[], 1)])],
-        &[&[(&[X], 1)]],
-    )?;
-    assert_eq!(rt; made.as_str(), "false");
-    let made = in_order(
-        alloc,
-        0,
-        &[(Kind::AtMost, &[(&[], 1)]), (Kind::AtMost, &[(&[X], 1)])],
-        &[&[(&[X], 1)]],
-    )?;
-    assert_eq!(rt; made.as_str(), "false");
-    let made = in_order(alloc, 0, &[(Kind::Equal, &[])], &[&[(&[Y], 1)]])?;
-    assert_eq!(rt; made.as_str(), "0 ; 1*x1 + 0");
-    Ok(())
+fn rows_in_normal_form(rt: HostRuntime) -> Result<(), Fail> {
+    check_order(rt.alloc(), &rt, ROWS_IN_NORMAL_FORM)
 }
 
 #[test]
-fn equal_rows_stand_once(rt: HostRuntime) -> Result<(), FormulaError> {
-    let alloc = rt.alloc();
-    let made = in_order(
-        alloc,
-        0,
-        &[
-            (Kind::AtMost, &[(&[X], 1), (&[], 1)]),
-            (Kind::AtMost, &[(&[Y], 1)]),
-            (Kind::AtMost, &[(&[X], 1), (&[], 5)]),
-            (Kind::AtMost, &[(&[X], 1), (&[], 3)]),
-        ],
-        &[],
-    )?;
-    assert_eq!(rt; made.as_str(), "0 | 1*x0 + 5 <= 0 | 1*x1 + 0 <= 0");
-    let made = in_order(
-        alloc,
-        0,
-        &[
-            (Kind::Equal, &[(&[X], 1), (&[Y], -1)]),
-            (Kind::Equal, &[(&[X], -1), (&[Y], 1)]),
-            (Kind::AtMost, &[(&[X], 1), (&[Y], -1)]),
-        ],
-        &[&[(&[X], 1)]],
-    )?;
-    assert_eq!(rt;
-        made.as_str(),
-        "0 | 1*x0 + -1*x1 + 0 = 0 | 1*x0 + -1*x1 + 0 <= 0 ; 1*x0 + 0"
-    );
-    let made = in_order(
-        alloc,
-        0,
-        &[
-            (Kind::Equal, &[(&[X], 1)]),
-            (Kind::Equal, &[(&[X], 1), (&[], 2)]),
-        ],
-        &[],
-    )?;
-    assert_eq!(rt; made.as_str(), "0 | 1*x0 + 0 = 0 | 1*x0 + 2 = 0");
-    Ok(())
+fn equal_rows_stand_once(rt: HostRuntime) -> Result<(), Fail> {
+    check_order(rt.alloc(), &rt, EQUAL_ROWS_STAND_ONCE)
 }
 
 #[test]
-fn opposite_inequalities(rt: HostRuntime) -> Result<(), FormulaError> {
-    let alloc = rt.alloc();
-    let made = in_order(
-        alloc,
-        0,
-        &[
-            (Kind::AtMost, &[(&[X], 1), (&[], -3)]),
-            (Kind::AtMost, &[(&[Y], 1)]),
-            (Kind::AtMost, &[(&[X], -1), (&[], 3)]),
-        ],
-        &[],
-    )?;
-    assert_eq!(rt; made.as_str(), "0 | 1*x0 + -3 = 0 | 1*x1 + 0 <= 0");
-    let made = in_order(
-        alloc,
-        0,
-        &[
-            (Kind::AtMost, &[(&[X], 1), (&[], 1)]),
-            (Kind::AtMost, &[(&[X], -1)]),
-        ],
-        &[&[(&[X], 1)]],
-    )?;
-    assert_eq!(rt; made.as_str(), "false");
-    let made = in_order(
-        alloc,
-        0,
-        &[
-            (Kind::AtMost, &[(&[X], -1), (&[Y], 2), (&[], -2)]),
-            (Kind::AtMost, &[(&[X], 1), (&[Y], -2), (&[], 2)]),
-        ],
-        &[],
-    )?;
-    assert_eq!(rt; made.as_str(), "0 | 1*x0 + -2*x1 + 2 = 0");
-    let made = in_order(
-        alloc,
-        0,
-        &[
-            (Kind::AtMost, &[(&[X], 1), (&[], -3)]),
-            (Kind::AtMost, &[(&[X], -1), (&[], 2)]),
-        ],
-        &[],
-    )?;
-    assert_eq!(rt; made.as_str(), "0 | 1*x0 + -3 <= 0 | -1*x0 + 2 <= 0");
-    let made = in_order(
-        alloc,
-        0,
-        &[
-            (Kind::AtMost, &[(&[X], 2), (&[], -1)]),
-            (Kind::AtMost, &[(&[X], -2), (&[], 1)]),
-        ],
-        &[&[(&[X], 1)]],
-    )?;
-    assert_eq!(rt; made.as_str(), "false");
-    Ok(())
+fn opposite_inequalities(rt: HostRuntime) -> Result<(), Fail> {
+    check_order(rt.alloc(), &rt, OPPOSITE_INEQUALITIES)
 }
 
 #[test]
-fn opposite_numbers_at_the_ends(rt: HostRuntime) -> Result<(), FormulaError> {
-    let alloc = rt.alloc();
-    let made = in_order(
-        alloc,
-        0,
-        &[
-            (Kind::AtMost, &[(&[X], LOW), (&[Y], 1)]),
-            (Kind::AtMost, &[(&[X], 1), (&[Y], -1)]),
-            (Kind::AtMost, &[(&[X], -1), (&[Y], 1)]),
-        ],
-        &[],
-    )?;
-    assert_eq!(rt;
-        made.as_str(),
-        "0 | -170141183460469231731687303715884105728*x0 + 1*x1 + 0 <= 0 | 1*x0 + -1*x1 + 0 = 0"
-    );
-    let made = in_order(
-        alloc,
-        0,
-        &[
-            (Kind::AtMost, &[(&[X], 1), (&[], BIG)]),
-            (Kind::AtMost, &[(&[X], -1), (&[], BIG)]),
-        ],
-        &[],
-    )?;
-    assert_eq!(rt; made.as_str(), "false");
-    let made = in_order(
-        alloc,
-        0,
-        &[
-            (Kind::AtMost, &[(&[X], 1), (&[], LOW)]),
-            (Kind::AtMost, &[(&[X], -1), (&[], LOW)]),
-        ],
-        &[],
-    )?;
-    assert_eq!(rt;
-        made.as_str(),
-        "0 | 1*x0 + -170141183460469231731687303715884105728 <= 0 | -1*x0 + -170141183460469231731687303715884105728 <= 0"
-    );
-    Ok(())
+fn opposite_numbers_at_the_ends(rt: HostRuntime) -> Result<(), Fail> {
+    check_order(rt.alloc(), &rt, OPPOSITE_NUMBERS_AT_THE_ENDS)
 }
 
 #[test]
-fn a_greater_constant_meets_its_opposite(rt: HostRuntime) -> Result<(), FormulaError> {
-    let alloc = rt.alloc();
-    let made = in_order(
-        alloc,
-        0,
-        &[
-            (Kind::AtMost, &[(&[X], 1), (&[], 1)]),
-            (Kind::AtMost, &[(&[Y], 1)]),
-            (Kind::AtMost, &[(&[X], -1), (&[], -4)]),
-            (Kind::AtMost, &[(&[X], 1), (&[], 4)]),
-            (Kind::Equal, &[(&[X], 1), (&[Y], 1)]),
-            (Kind::AtMost, &[(&[Y], -1), (&[], -2)]),
-        ],
-        &[],
-    )?;
-    assert_eq!(rt;
-        made.as_str(),
-        "0 | 1*x0 + 4 = 0 | 1*x1 + 0 <= 0 | 1*x0 + 1*x1 + 0 = 0 | -1*x1 + -2 <= 0"
-    );
-    Ok(())
+fn a_greater_constant_meets_its_opposite(rt: HostRuntime) -> Result<(), Fail> {
+    check_order(rt.alloc(), &rt, A_GREATER_CONSTANT_MEETS_ITS_OPPOSITE)
 }
 
 #[test]
-fn equations_are_solved(rt: HostRuntime) -> Result<(), FormulaError> {
-    let alloc = rt.alloc();
-    let made = in_order(
-        alloc,
-        2,
-        &[
-            (Kind::Equal, &[(&[X], -1), (&[A], 1), (&[], -1)]),
-            (Kind::AtMost, &[(&[A], 1), (&[B], 1)]),
-        ],
-        &[&[(&[A], 1)], &[(&[B], 2)]],
-    )?;
-    assert_eq!(rt;
-        made.as_str(),
-        "1 | 1*x0 + 1*a0 + 1 <= 0 ; 1*x0 + 1 ; 2*a0 + 0"
-    );
-    let made = in_order(
-        alloc,
-        3,
-        &[
-            (Kind::Equal, &[(&[A], 2), (&[B], -1)]),
-            (Kind::Equal, &[(&[X], 1), (&[B], 1), (&[C], 1)]),
-        ],
-        &[&[(&[A], 1)], &[(&[C], 1)]],
-    )?;
-    assert_eq!(rt; made.as_str(), "1 ; 1*a0 + 0 ; -1*x0 + -2*a0 + 0");
-    let made = in_order(
-        alloc,
-        2,
-        &[(Kind::Equal, &[(&[A], 1), (&[B], 1)])],
-        &[&[(&[A], 1)], &[(&[B], 1)]],
-    )?;
-    assert_eq!(rt; made.as_str(), "1 ; -1*a0 + 0 ; 1*a0 + 0");
-    let made = in_order(
-        alloc,
-        1,
-        &[
-            (Kind::Equal, &[(&[X], 1), (&[A], -1)]),
-            (Kind::Equal, &[(&[Y], -1), (&[A], 1)]),
-        ],
-        &[&[(&[A], 1)]],
-    )?;
-    assert_eq!(rt; made.as_str(), "0 | 1*x0 + -1*x1 + 0 = 0 ; 1*x0 + 0");
-    Ok(())
+fn equations_are_solved(rt: HostRuntime) -> Result<(), Fail> {
+    check_order(rt.alloc(), &rt, EQUATIONS_ARE_SOLVED)
 }
 
 #[test]
-fn an_auxiliary_in_a_product_stays(rt: HostRuntime) -> Result<(), FormulaError> {
-    let alloc = rt.alloc();
-    let made = in_order(
-        alloc,
-        2,
-        &[(Kind::Equal, &[(&[A, B], 1), (&[X], 1), (&[A], 1)])],
-        &[&[(&[A], 1)], &[(&[B], 1)]],
-    )?;
-    assert_eq!(rt;
-        made.as_str(),
-        "2 | 1*a0*a1 + 1*x0 + 1*a0 + 0 = 0 ; 1*a0 + 0 ; 1*a1 + 0"
-    );
-    let made = in_order(
-        alloc,
-        2,
-        &[
-            (Kind::Equal, &[(&[A, A], 1), (&[B], 1)]),
-            (Kind::AtMost, &[(&[X], -1), (&[B], 1)]),
-        ],
-        &[&[(&[B], 1)]],
-    )?;
-    assert_eq!(rt;
-        made.as_str(),
-        "1 | -1*a0*a0 + -1*x0 + 0 <= 0 ; -1*a0*a0 + 0"
-    );
-    let made = in_order(
-        alloc,
-        1,
-        &[(Kind::Equal, &[(&[X], -1), (&[A], 2)])],
-        &[&[(&[A], 1)]],
-    )?;
-    assert_eq!(rt; made.as_str(), "1 | 1*x0 + -2*a0 + 0 = 0 ; 1*a0 + 0");
-    Ok(())
+fn an_auxiliary_in_a_product_stays(rt: HostRuntime) -> Result<(), Fail> {
+    check_order(rt.alloc(), &rt, AN_AUXILIARY_IN_A_PRODUCT_STAYS)
 }
 
 #[test]
-fn losses_of_width(rt: HostRuntime) -> Result<(), FormulaError> {
-    let alloc = rt.alloc();
-    let made = in_order(
-        alloc,
-        1,
-        &[
-            (Kind::Equal, &[(&[X], -BIG), (&[A], 1)]),
-            (Kind::AtMost, &[(&[Y], 1), (&[A], 2)]),
-        ],
-        &[&[(&[A], 1)], &[(&[A], 2)], &[(&[A], 3)]],
-    )?;
-    assert_eq!(rt;
-        made.as_str(),
-        "2 ; 170141183460469231731687303715884105727*x0 + 0 ; 1*a0 + 0 ; 1*a1 + 0 ! 170141183460469231731687303715884105727 * 2 ! 170141183460469231731687303715884105727 * 2 ! 170141183460469231731687303715884105727 * 3"
-    );
-    let made = in_order(
-        alloc,
-        1,
-        &[(Kind::Equal, &[(&[X], -1), (&[A], 1), (&[], LOW)])],
-        &[&[(&[A], 1)]],
-    )?;
-    assert_eq!(rt;
-        made.as_str(),
-        "1 ; 1*a0 + 0 ! -170141183460469231731687303715884105728 * -1"
-    );
-    let made = in_order(
-        alloc,
-        0,
-        &[(Kind::Equal, &[(&[X], -1), (&[Y], LOW)])],
-        &[&[(&[X], 1)]],
-    )?;
-    assert_eq!(rt;
-        made.as_str(),
-        "0 ; 1*x0 + 0 ! -170141183460469231731687303715884105728 * -1"
-    );
-    Ok(())
+fn losses_of_width(rt: HostRuntime) -> Result<(), Fail> {
+    check_order(rt.alloc(), &rt, LOSSES_OF_WIDTH)
 }
 
 #[test]
-fn losses_of_degree(rt: HostRuntime) -> Result<(), FormulaError> {
-    let alloc = rt.alloc();
-    let made = in_order(
-        alloc,
-        1,
-        &[
-            (Kind::Equal, &[(&[X, X, X], -1), (&[A], 1)]),
-            (Kind::AtMost, &[(&[A, A], 1)]),
-        ],
-        &[&[(&[Y, A], 1)], &[(&[Y, Y, A], 1)]],
-    )?;
-    assert_eq!(rt;
-        made.as_str(),
-        "1 ; 1*x0*x0*x0*x1 + 0 ; 1*a0 + 0 ! degree ! degree"
-    );
-    let made = in_order(
-        alloc,
-        1,
-        &[
-            (Kind::Equal, &[(&[X, X, X], -1), (&[A], 1)]),
-            (Kind::AtMost, &[(&[A, A], 1)]),
-            (Kind::AtMost, &[(&[], 1)]),
-        ],
-        &[&[(&[A], 1)]],
-    )?;
-    assert_eq!(rt; made.as_str(), "false");
-    Ok(())
+fn losses_of_degree(rt: HostRuntime) -> Result<(), Fail> {
+    check_order(rt.alloc(), &rt, LOSSES_OF_DEGREE)
 }
 
 #[test]
-fn auxiliaries_are_renumbered(rt: HostRuntime) -> Result<(), FormulaError> {
-    let alloc = rt.alloc();
-    let made = in_order(
-        alloc,
-        4,
-        &[(Kind::AtMost, &[(&[B], -1), (&[D], 1)])],
-        &[&[(&[D], 1)]],
-    )?;
-    assert_eq!(rt; made.as_str(), "2 | -1*a0 + 1*a1 + 0 <= 0 ; 1*a1 + 0");
-    let made = in_order(alloc, 3, &[], &[&[(&[B, C], 2), (&[C], 1)]])?;
-    assert_eq!(rt; made.as_str(), "2 ; 2*a0*a1 + 1*a1 + 0");
-    let made = in_order(alloc, 2, &[], &[&[(&[X], 1)]])?;
-    assert_eq!(rt; made.as_str(), "0 ; 1*x0 + 0");
-    Ok(())
+fn auxiliaries_are_renumbered(rt: HostRuntime) -> Result<(), Fail> {
+    check_order(rt.alloc(), &rt, AUXILIARIES_ARE_RENUMBERED)
 }
 
 #[test]
-fn a_case_dropped_late(rt: HostRuntime) -> Result<(), FormulaError> {
-    let alloc = rt.alloc();
-    let made = in_order(
-        alloc,
-        1,
-        &[
-            (Kind::Equal, &[(&[X], -1), (&[A], 1)]),
-            (Kind::AtMost, &[(&[A], 1)]),
-            (Kind::AtMost, &[(&[X], -1), (&[], 1)]),
-        ],
-        &[&[(&[X], 1)]],
-    )?;
-    assert_eq!(rt; made.as_str(), "false");
-    let made = in_order(
-        alloc,
-        1,
-        &[
-            (Kind::Equal, &[(&[X], -2), (&[A], 1)]),
-            (Kind::Equal, &[(&[A], 1), (&[], -3)]),
-        ],
-        &[&[(&[X], 1)]],
-    )?;
-    assert_eq!(rt; made.as_str(), "false");
-    let made = in_order(
-        alloc,
-        2,
-        &[
-            (Kind::Equal, &[(&[X], -BIG), (&[A], 1)]),
-            (Kind::AtMost, &[(&[A], 2)]),
-            (Kind::Equal, &[(&[Y], -2), (&[B], 1)]),
-            (Kind::Equal, &[(&[B], 1), (&[], -3)]),
-        ],
-        &[&[(&[X], 1)]],
-    )?;
-    assert_eq!(rt; made.as_str(), "false");
-    Ok(())
+fn a_case_dropped_late(rt: HostRuntime) -> Result<(), Fail> {
+    check_order(rt.alloc(), &rt, A_CASE_DROPPED_LATE)
 }
 
 #[test]
-fn sequence_of_two_cases(rt: HostRuntime) -> Result<(), FormulaError> {
+fn sequences(rt: HostRuntime) -> Result<(), Fail> {
     let alloc = rt.alloc();
-    let first = one(
-        alloc,
-        1,
-        2,
-        1,
-        &[(Kind::AtMost, &[(&[X], -1), (&[A], 1)])],
-        &[&[(&[X], 1), (&[], 1)], &[(&[A], 2)]],
-    )?;
-    let second = one(
-        alloc,
-        2,
-        1,
-        1,
-        &[(Kind::Equal, &[(&[Y], -3), (&[A], 1)])],
-        &[&[(&[X], 1), (&[A], 1)]],
-    )?;
-    let made = in_sequence(alloc, &first, &second)?;
-    assert_eq!(rt;
-        made.as_str(),
-        "2 | -1*x0 + 1*a0 + 0 <= 0 | -6*a0 + 1*a1 + 0 = 0 ; 1*x0 + 1*a1 + 1"
-    );
-    Ok(())
-}
-
-fn below_or_above(alloc: Global) -> Result<Formula, FormulaError> {
-    let first = one(
-        alloc,
-        1,
-        1,
-        0,
-        &[(Kind::AtMost, &[(&[X], 1)])],
-        &[&[(&[X], 1), (&[], -1)]],
-    )?;
-    let other = one(
-        alloc,
-        1,
-        1,
-        0,
-        &[(Kind::AtMost, &[(&[X], -1), (&[], 1)])],
-        &[&[(&[X], -1)]],
-    )?;
-    either(alloc, &first, &other)
-}
-
-fn zero_or_any(alloc: Global) -> Result<Formula, FormulaError> {
-    let first = one(
-        alloc,
-        1,
-        1,
-        0,
-        &[(Kind::AtMost, &[(&[X], 2), (&[], 1)])],
-        &[&[(&[X], 1)]],
-    )?;
-    let other = one(alloc, 1, 1, 1, &[], &[&[(&[A], 1)]])?;
-    either(alloc, &first, &other)
-}
-
-#[test]
-fn sequence_of_choices(rt: HostRuntime) -> Result<(), FormulaError> {
-    let alloc = rt.alloc();
-    let first = below_or_above(alloc)?;
-    let second = zero_or_any(alloc)?;
-    let made = in_sequence(alloc, &first, &second)?;
-    assert_eq!(rt;
-        made.as_str(),
-        "0 | 1*x0 + 0 <= 0 | 2*x0 + -1 <= 0 ; 1*x0 + -1 / 1 | 1*x0 + 0 <= 0 ; 1*a0 + 0 / 0 | -1*x0 + 1 <= 0 | -2*x0 + 1 <= 0 ; -1*x0 + 0 / 1 | -1*x0 + 1 <= 0 ; 1*a0 + 0"
-    );
-    Ok(())
-}
-
-#[test]
-fn sequence_that_loses_width(rt: HostRuntime) -> Result<(), FormulaError> {
-    let alloc = rt.alloc();
-    let first = one(alloc, 1, 1, 1, &[], &[&[(&[X], BIG)]])?;
-    let second = one(
-        alloc,
-        1,
-        3,
-        1,
-        &[
-            (Kind::AtMost, &[(&[X], 2), (&[A], 1)]),
-            (Kind::AtMost, &[(&[X], 1)]),
-        ],
-        &[&[(&[X], 2)], &[(&[A], 1)], &[(&[X], 2), (&[], 1)]],
-    )?;
-    let made = in_sequence(alloc, &first, &second)?;
-    assert_eq!(rt;
-        made.as_str(),
-        "4 | 170141183460469231731687303715884105727*x0 + 0 <= 0 ; 1*a2 + 0 ; 1*a1 + 0 ; 1*a3 + 0 ! 170141183460469231731687303715884105727 * 2 ! 170141183460469231731687303715884105727 * 2 ! 170141183460469231731687303715884105727 * 2"
-    );
-    Ok(())
-}
-
-#[test]
-fn sequence_that_loses_degree(rt: HostRuntime) -> Result<(), FormulaError> {
-    let alloc = rt.alloc();
-    let first = one(alloc, 1, 1, 0, &[], &[&[(&[X, X, X], 1)]])?;
-    let second = one(
-        alloc,
-        1,
-        1,
-        0,
-        &[(Kind::Equal, &[(&[X, X], 1)])],
-        &[&[(&[X, X], 1)]],
-    )?;
-    let made = in_sequence(alloc, &first, &second)?;
-    assert_eq!(rt; made.as_str(), "1 ; 1*a0 + 0 ! degree ! degree");
+    for line in SEQUENCES.lines() {
+        let fields = line.split(':').collect::<Vec<&str>>(alloc)?;
+        let [ends, first, second, wanted] = fields.as_slice() else {
+            return Err("no row".into());
+        };
+        let ends = ends.trim().split(' ').collect::<Vec<&str>>(alloc)?;
+        let [from, middle, to] = ends.as_slice() else {
+            return Err("no ends".into());
+        };
+        let middle = middle.parse::<u32>()?;
+        let first = formula(alloc, from.parse::<u32>()?, middle, first)?;
+        let second = formula(alloc, middle, to.parse::<u32>()?, second)?;
+        let made = in_sequence(alloc, &first, &second)?;
+        assert_eq!(rt; made.as_str(), wanted.trim(), "{line}");
+    }
     Ok(())
 }

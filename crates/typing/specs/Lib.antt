@@ -1,5 +1,6 @@
 pub mod Specials
 pub mod Scopes
+pub mod InForce
 pub mod Env
 pub mod Terms
 pub mod Calls

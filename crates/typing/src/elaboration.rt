@@ -23,7 +23,7 @@ use syntax_tree::{GlobalVar, Item, Program, Tree};
 /// Of all causes of refusal the one with the least place is told, and of several at one place the first in the order of
 /// `TypeError`; where there is none, the tree has a program. The program is well formed if each expression of the tree has
 /// few enough operators, as in every tree that the parser reads. Each part of the tree is visited a fixed number of times,
-/// and a name is found by an index in each of the scopes around it, the innermost first.
+/// and a name is found by one look into a map of the declarations in force.
 pub fn elaborate(alloc: Global, tree: &Tree, length: u32) -> Result<Program, TypeError>
     ensures exact { Gives cause (λ p. p) result (elaboration_of tree.now.items length) }
     ensures well_formed { IsTrue (items_have_few tree.now.items) → IfOk result IsWellFormed }

@@ -21,7 +21,6 @@ mod meaning;
 mod parts;
 mod procedure;
 mod put;
-mod scope;
 mod scopes;
 mod special;
 #[cfg(test)]

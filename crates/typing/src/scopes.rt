@@ -1,27 +1,116 @@
-ghost use Rattle.std.specs.Prelude.{◌≡◌, [], ◌∷◌, ◌++◌, OnOk, reverse};
-ghost use Rattle.typing.specs.Scopes.{declared_in, is_declared_here, meaning_of, outer_of};
+ghost use Rattle.std.specs.Prelude.{◌≡◌, ℕ, None, if◌then◌else◌, List, [], ◌∷◌, map, length, IfOk, OnOk};
+ghost use Rattle.std.specs.Map.{lookup};
+ghost use Rattle.std.specs.Str.{bytes_eq};
+ghost use Rattle.typing.specs.InForce.{after_declaration, entry_of, held_by, in_force, is_at, IsInForce, IsInnermost, Restores, shown};
+ghost use Rattle.typing.specs.Scopes.{declared_in, is_declared_here, meaning_of, outer_of, Scope};
 
 use crate::meaning::Meaning;
-use crate::scope::Scope;
+use indexmap::IndexMap;
 use items::Items;
 use std::alloc::{AllocError, Global};
 use std::marker::Model;
+use std::mem::replace;
 use syntax_tree::Name;
 
-/// Scopes within scopes, with the declarations of each.
+/// The declaration that is in force for a name: how many scopes stand around its own, and what the name means.
+#[derive(Clone, Copy, Debug, PartialEq, Eq)]
+pub(crate) struct Held {
+    depth: usize,
+    meaning: Meaning,
+}
+
+/// A declaration, and the one that was in force before it.
+#[derive(Debug, Drop)]
+pub(crate) struct Declaration {
+    name: Name,
+    meaning: Meaning,
+    hidden: Option<Held>,
+}
+
+/// For each name the declaration in force.
+type Index = IndexMap<Name, Option<Held>>;
+
+/// Scopes within scopes, with the declarations of each. A name is found by one look into a map, whatever the number
+/// of scopes; a scope that ends puts back what its declarations hid.
 #[derive(Debug, Drop)]
 pub(crate) struct Scopes {
     // the outermost first
-    stack: Items<Scope>,
+    stack: Items<Items<Declaration>>,
+    index: Index,
 }
 
 impl Model for Scopes {
-    ghost use Rattle.std.specs.Prelude.{List, ℕ, reverse};
+    ghost use Rattle.std.specs.Prelude.{List, ℕ};
     ghost use Rattle.typing.specs.declared.meaning.Meaning.{Meaning};
+    ghost use Rattle.typing.specs.InForce.{shown, IsInForce, RestoresAll};
 
     ghost Value = { List (List (List ℕ × Meaning)) };
 
-    ghost view = { λ a. reverse a.stack };
+    ghost view = { λ a. shown a.stack };
+
+    ghost invariant = { λ a. IsInForce a.index.entries (shown a.stack) × RestoresAll a.stack };
+}
+
+/// The declaration in force for a name.
+fn look_up(index: &Index, name: &Name) -> Option<Held>
+    ensures { result ≡ held_by index.now.entries name.now }
+{
+    match index.get(name) {
+        Some(held) => *held,
+        None => None,
+    }
+}
+
+/// Whether the declaration in force stands in a scope with so many around it.
+fn is_at(held: Option<Held>, depth: usize) -> bool
+    ensures { result ≡ is_at held depth }
+{
+    match held {
+        Some(held) => held.depth == depth,
+        None => false,
+    }
+}
+
+/// Puts a declaration in force, unless its scope has declared the name already.
+fn declare_in(
+    index: &mut Index,
+    name: &Name,
+    held: Held,
+    hidden: Option<Held>,
+) -> Result<(), AllocError>
+    ensures { OnOk result ((other : List ℕ) → held_by index.new.entries other ≡ after_declaration name.now held hidden (held_by index.old.entries other) other) }
+{
+    if !is_at(hidden, held.depth) {
+        index.insert(name.clone()?, Some(held))?;
+    }
+    Ok(())
+}
+
+/// Takes the innermost scope, or an empty one where there is none.
+fn take_innermost(alloc: Global, stack: &mut Items<Items<Declaration>>) -> Items<Declaration>
+    ensures { IsInnermost stack.old stack.new result }
+{
+    match stack.pop() {
+        Some(scope) => scope,
+        None => Items::new(alloc),
+    }
+}
+
+/// Puts back what a declaration hid. This takes no memory, since the name has a place in the map.
+fn put_back(declaration: Declaration, index: &mut Index)
+    ensures { (lookup (bytes_eq declaration.name) index.old.entries ≡ None → ⊥) → (other : List ℕ) →
+        held_by index.new.entries other ≡ (if bytes_eq declaration.name other then declaration.hidden else held_by index.old.entries other) }
+{
+    let _ = index.insert(declaration.name, declaration.hidden);
+}
+
+/// Puts back what the declarations of a scope hid.
+fn restore(mut scope: Items<Declaration>, index: &mut Index)
+    ensures { (outer : List Scope) → Restores scope outer → IsInForce index.old.entries (map entry_of scope ∷ outer) → IsInForce index.new.entries outer }
+{
+    while let Some(declaration) = scope.pop() {
+        put_back(declaration, index);
+    }
 }
 
 impl Scopes {
@@ -30,6 +119,7 @@ impl Scopes {
     {
         Scopes {
             stack: Items::new(alloc),
+            index: IndexMap::new(alloc),
         }
     }
 
@@ -37,7 +127,7 @@ impl Scopes {
     pub(crate) fn open(&mut self, alloc: Global) -> Result<(), AllocError>
         ensures { OnOk result (self.new ≡ [] ∷ self.old) }
     {
-        self.stack.push(Scope::new(alloc))?;
+        self.stack.push(Items::new(alloc))?;
         Ok(())
     }
 
@@ -45,10 +135,13 @@ impl Scopes {
     pub(crate) fn close(&mut self)
         ensures { self.new ≡ outer_of self.old }
     {
-        let _ = self.stack.pop();
+        if let Some(scope) = self.stack.pop() {
+            restore(scope, &mut self.index);
+        }
     }
 
-    /// Declares a name in the innermost scope. Where it is declared there already, that declaration stays.
+    /// Declares a name in the innermost scope. Where it is declared there already, that declaration stays. After an
+    /// error no scope is left.
     pub(crate) fn declare(
         &mut self,
         alloc: Global,
@@ -57,41 +150,62 @@ impl Scopes {
     ) -> Result<(), AllocError>
         ensures { OnOk result (self.new ≡ declared_in name meaning self.old) }
     {
-        let scope = match self.stack.pop() {
-            Some(scope) => scope,
-            None => Scope::new(alloc),
-        };
-        let scope = scope.with(name, meaning)?;
-        self.stack.push(scope)?;
+        let scopes = replace(self, Scopes::new(alloc));
+        *self = scopes.with(alloc, name, meaning)?;
         Ok(())
+    }
+
+    fn with(self, alloc: Global, name: Name, meaning: Meaning) -> Result<Scopes, AllocError>
+        ensures { IfOk result (λ scopes. scopes ≡ declared_in name meaning self) }
+    {
+        let Scopes {
+            mut stack,
+            mut index,
+        } = self;
+        let mut scope = take_innermost(alloc, &mut stack);
+        let depth = stack.len();
+        let hidden = look_up(&index, &name);
+        declare_in(&mut index, &name, Held { depth, meaning }, hidden)?;
+        scope.push(Declaration {
+            name,
+            meaning,
+            hidden,
+        })?;
+        stack.push(scope)?;
+        Ok(Scopes { stack, index })
+    }
+
+    /// The declaration in force for a name.
+    fn in_force(&self, name: &Name) -> Option<Held>
+        ensures { result ≡ in_force self.now name.now }
+    {
+        look_up(&self.index, name)
     }
 
     /// What a name means.
     pub(crate) fn meaning_of(&self, name: &Name) -> Option<Meaning>
         ensures { result ≡ meaning_of self.now name.now }
     {
-        meaning_within(self.stack.as_slice(), name)
+        match self.in_force(name) {
+            Some(held) => Some(held.meaning),
+            None => None,
+        }
+    }
+
+    /// How many scopes there are.
+    fn depth(&self) -> usize
+        ensures { result ≡ length self.now }
+    {
+        self.stack.len()
     }
 
     /// Whether the innermost scope has a name.
     pub(crate) fn is_declared_here(&self, name: &Name) -> bool
         ensures { result ≡ is_declared_here self.now name.now }
     {
-        match self.stack.as_slice().split_last() {
-            Some((scope, _)) => scope.found(name).is_some(),
+        match self.depth().checked_sub(1) {
+            Some(depth) => is_at(self.in_force(name), depth),
             None => false,
         }
-    }
-}
-
-fn meaning_within(stack: &[Scope], name: &Name) -> Option<Meaning>
-    ensures { result ≡ meaning_of (reverse stack.now) name.now }
-{
-    match stack.split_last() {
-        Some((scope, outer)) => match scope.found(name) {
-            Some(meaning) => Some(meaning),
-            None => meaning_within(outer, name),
-        },
-        None => None,
     }
 }

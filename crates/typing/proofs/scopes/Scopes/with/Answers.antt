@@ -1,0 +1,20 @@
+use Rattle.std.proofs.Common.{◌≡◌, ℕ, List, [], ◌∷◌, ◌++◌, subst, sym, ap, ◌∙◌}
+use Rattle.typing.specs.declared.scopes.Declaration.{Declaration}
+use Rattle.typing.specs.InForce.{after_declaration, held_by, IsInForce, RestoresAll, shown}
+use Rattle.typing.proofs.InForce.{declared-again, opened}
+use Rattle.typing.proofs.scopes.Scopes.with.Goals as goal
+
+pub invariant_of-result : goal.invariant_of-result
+invariant_of-result c =
+    let old = c.self.inside.index.entries in
+    let rest = c.take_innermost-scope.new.stack in
+    let scope = c.take_innermost-scope.result in
+    let known = opened old c.self.inside.stack rest scope c.take_innermost-scope.ensures c.self.invariant.0 c.self.invariant.1 in
+    let made = declared-again old c.declare_in.new.index.entries rest scope c.args.name c.args.meaning c.look_up-hidden.result known
+    c.look_up-hidden.ensures
+    (λ other. c.in_ok-declare_in.ensures other
+    ∙ ap (λ (depth : ℕ). after_declaration c.args.name record { depth = depth; meaning = c.args.meaning } c.look_up-hidden.result (held_by old other) other)
+    c.len-depth.ensures) in
+    subst (λ (stack : List (List Declaration)). IsInForce c.declare_in.new.index.entries (shown stack) × RestoresAll stack)
+    (sym (c.in_ok-push-2.ensures.ok ∙ ap (λ (one : List Declaration). rest ++ one ∷ []) c.in_ok-push.ensures.ok))
+    made
