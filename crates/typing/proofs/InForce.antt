@@ -1,5 +1,5 @@
 -- What is in force for a name, when a scope opens, declares and ends.
-use Rattle.std.proofs.Common.{◌≡◌, ◌⊎◌, inl, inr, ℕ, ◌+◌, ◌<◌, ◌==◌, Bool, true, false, not, Option, None, Some, is_some, unwrap_or, List, [], ◌∷◌, ◌++◌, map, reverse, length, slice_get, drop, refl, sym, ap, subst, ◌∙◌, if◌then◌else◌, arith}
+use Rattle.std.proofs.Common.{◌≡◌, inl, inr, ℕ, ◌+◌, ◌<◌, ◌==◌, Bool, true, false, Option, None, Some, is_some, unwrap_or, List, [], ◌∷◌, ◌++◌, map, reverse, length, slice_get, drop, refl, sym, ap, subst, ◌∙◌, if◌then◌else◌, arith}
 use Rattle.std.proofs.lemmas.List.{append_assoc, length-map, length-reverse, map-append, reverse-append}
 use Rattle.std.specs.Option.{option_map}
 use Rattle.std.specs.Str.{bytes_eq}
@@ -10,7 +10,7 @@ use Rattle.typing.specs.declared.scopes.Held.{Held}
 use Rattle.typing.specs.declared.scopes.Declaration.{Declaration}
 use Rattle.typing.specs.Scopes.{Scope, found, is_declared_here, meaning_of, or_outer}
 use Rattle.typing.specs.InForce.{after_declaration, AllAfter, entry_of, flat, held_by, in_force, is_at, IsInForce, IsInnermost, or_held, Restores, RestoresAll, shown}
-use Rattle.typing.proofs.Lookups.{bytes_eq-sym, found-append}
+use Rattle.typing.proofs.Lookups.{found-append}
 
 -- ---- lists whose elements have to do with those before them
 

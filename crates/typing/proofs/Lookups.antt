@@ -1,10 +1,9 @@
 -- A scope and the first declarations of its names find the same.
-use Rattle.std.proofs.Common.{◌≡◌, ℕ, Bool, true, false, Option, None, Some, List, [], ◌∷◌, ◌++◌, refl, sym, ap, ◌∙◌}
+use Rattle.std.proofs.Common.{◌≡◌, ℕ, Bool, true, false, Some, List, [], ◌∷◌, ◌++◌, refl, sym, ap, ◌∙◌}
 use Rattle.std.specs.Prelude.{if◌then◌else◌}
 use Rattle.std.specs.Str.{bytes_eq}
 use Rattle.std.specs.Map.{lookup}
 use Rattle.std.proofs.lemmas.Slice.Eq.{bytes_eq-Decides}
-use Rattle.typing.specs.declared.meaning.Meaning.{Meaning}
 use Rattle.typing.specs.Scopes.{Scope, found, or_outer}
 
 pub found-append : (scope more : Scope) (name : List ℕ) → found (scope ++ more) name ≡ or_outer (found scope name) (found more name)

@@ -2,10 +2,11 @@
 
 ghost use Rattle.std.specs.Prelude.{◌≡◌, ◌+◌, [], ◌∷◌, ◌++◌, IfOk, IsTrue, OnOk, None};
 ghost use Rattle.items.specs.Gives.{Gives};
-ghost use Rattle.typing.specs.Elaborated.{globals_of, main_from};
+ghost use Rattle.typing.specs.Elaborated.{checks_in, globals_of, main_from, procs_of};
 ghost use Rattle.syntax_tree.specs.WellFormed.{IsWellFormed};
-ghost use Rattle.typing.specs.Faults.{cause, elaboration_of};
+ghost use Rattle.typing.specs.Faults.{cause, elaboration_of, least_of, declaration_faults, procs_faults, prototype_faults};
 ghost use Rattle.typing.specs.Operators.{items_have_few};
+ghost use Rattle.typing.specs.Texts.{bodies, count_globals, declarations, top};
 
 use crate::declarations::{Declarations, note_prototypes};
 use crate::elaborator::Elaborator;
@@ -16,7 +17,7 @@ use crate::scopes::Scopes;
 use crate::special::is_main;
 use items::Items;
 use std::alloc::{AllocError, Global};
-use syntax_tree::{GlobalVar, Item, Program, Tree};
+use syntax_tree::{GlobalVar, Item, Proc, Program, Tree};
 
 /// The core program of the tree of a text with `length` bytes.
 ///
@@ -36,18 +37,12 @@ fn program_of(alloc: Global, tree: &Tree, length: u32) -> Result<Program, TypeEr
     ensures { Gives cause (λ p. p) result (elaboration_of tree.now.items length) }
 {
     let items = tree.items.as_slice();
-    let mut text = Declarations::read(alloc, items)?;
-    note_prototypes(&mut text.least, &text.bodies, items);
-    let globals = text.globals;
-    let mut elaborator = Elaborator {
-        alloc,
-        env: outside(text.scopes),
-        least: text.least,
-    };
-    let mut checks = Items::new(alloc);
-    let procs = elaborator.procedures(globals, items, &mut checks)?;
+    let Procedures {
+        procs,
+        checks,
+        mut least,
+    } = procedures_of(alloc, items)?;
     let main = main_of(items)?;
-    let mut least = elaborator.least;
     note_if(&mut least, main.is_none(), TypeError::NoMain(length));
     match least {
         Some(fault) => Err(fault),
@@ -58,6 +53,52 @@ fn program_of(alloc: Global, tree: &Tree, length: u32) -> Result<Program, TypeEr
             checks,
         }),
     }
+}
+
+// The procedures of a text, the places of its assertions, and the least fault.
+struct Procedures {
+    procs: Items<Proc>,
+    checks: Items<u32>,
+    least: Option<TypeError>,
+}
+
+// What comes of all items, but for `main`.
+fn procedures_of(alloc: Global, items: &[Item]) -> Result<Procedures, AllocError>
+    ensures procs { IfOk result (λ made. made.procs ≡ procs_of (declarations 0 0 items.now) (count_globals items.now) 0 items.now) }
+    ensures checks { IfOk result (λ made. made.checks ≡ checks_in items.now) }
+    ensures least { IfOk result (λ made. made.least ≡ least_of None (declaration_faults [] 0 0 items.now
+        ++ prototype_faults (bodies 0 items.now) items.now
+        ++ procs_faults (declarations 0 0 items.now) (count_globals items.now) 0 items.now)) }
+{
+    let text = Declarations::read(alloc, items)?;
+    let globals = text.globals;
+    let mut elaborator = elaborator_of(text, items);
+    let mut checks = Items::new(alloc);
+    let procs = elaborator.procedures(globals, items, &mut checks)?;
+    let least = elaborator.least;
+    Ok(Procedures {
+        procs,
+        checks,
+        least,
+    })
+}
+
+// What elaborates the procedures of a text whose names are declared, behind the faults of its prototypes.
+fn elaborator_of(text: Declarations, items: &[Item]) -> Elaborator
+    requires { text.bodies ≡ top text.bodies ∷ [] }
+    ensures scopes { result.env.scopes ≡ text.scopes }
+    ensures least { result.least ≡ least_of text.least (prototype_faults (top text.bodies) items.now) }
+{
+    let Declarations {
+        alloc,
+        scopes,
+        bodies,
+        mut least,
+        ..
+    } = text;
+    note_prototypes(&mut least, &bodies, items);
+    let env = outside(scopes);
+    Elaborator { alloc, env, least }
 }
 
 // What stands around all procedures.

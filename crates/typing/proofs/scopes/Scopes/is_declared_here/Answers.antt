@@ -1,4 +1,4 @@
-use Rattle.std.proofs.Common.{◌≡◌, ◌+◌, length, ap, sym, ◌∙◌, arith}
+use Rattle.std.proofs.Common.{◌≡◌, ◌+◌, length, ap, ◌∙◌, arith}
 use Rattle.typing.specs.InForce.{is_at}
 use Rattle.typing.proofs.InForce.{here-at}
 use Rattle.typing.proofs.scopes.Scopes.is_declared_here.Goals as goal

@@ -1,4 +1,4 @@
-use Rattle.std.proofs.Common.{◌≡◌, List, [], ◌∷◌, ◌++◌, subst, sym, ap, ◌∙◌}
+use Rattle.std.proofs.Common.{List, [], ◌∷◌, ◌++◌, subst, sym, ap, ◌∙◌}
 use Rattle.typing.specs.declared.scopes.Declaration.{Declaration}
 use Rattle.typing.specs.InForce.{IsInForce, RestoresAll, shown}
 use Rattle.typing.proofs.InForce.{opened-again}

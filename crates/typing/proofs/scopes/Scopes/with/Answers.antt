@@ -1,4 +1,4 @@
-use Rattle.std.proofs.Common.{◌≡◌, ℕ, List, [], ◌∷◌, ◌++◌, subst, sym, ap, ◌∙◌}
+use Rattle.std.proofs.Common.{ℕ, List, [], ◌∷◌, ◌++◌, subst, sym, ap, ◌∙◌}
 use Rattle.typing.specs.declared.scopes.Declaration.{Declaration}
 use Rattle.typing.specs.InForce.{after_declaration, held_by, IsInForce, RestoresAll, shown}
 use Rattle.typing.proofs.InForce.{declared-again, opened}
