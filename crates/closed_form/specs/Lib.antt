@@ -1,0 +1,2 @@
+pub mod ClosedRow
+pub mod Differences

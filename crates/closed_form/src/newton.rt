@@ -1,0 +1,84 @@
+ghost use Rattle.std.specs.Prelude.{◌≡◌, ◌↔◌, ◌*ℤ◌, ℕ, ℤ, pos, Ok, IfOk};
+ghost use Rattle.items.specs.Gives.{Gives};
+ghost use Rattle.linear_terms.specs.TermError.{cause};
+ghost use Rattle.linear_terms.specs.Row.{RowHolds};
+ghost use Rattle.linear_terms.specs.Value.{Valuation, value_of};
+ghost use Rattle.closed_form.specs.ClosedRow.{◌⊠◌, ◌⊟◌, number, closed_row};
+ghost use Rattle.closed_form.specs.Differences.{six_forward_sums};
+
+use linear_terms::{Col, Kind, Poly, Row, TermError, add, mul, scale};
+use std::alloc::Global;
+
+/// The row `6*after - 6*before - 6k*d1 - 3k(k-1)*d2 - k(k-1)(k-2)*d3 = 0`.
+pub fn row(
+    alloc: Global,
+    after: &Poly,
+    before: &Poly,
+    d1: &Poly,
+    d2: &Poly,
+    d3: &Poly,
+    k: Col,
+) -> Result<Row, TermError>
+    ensures exact { Gives cause (λ r. r) result (closed_row after.now before.now d1.now d2.now d3.now k) }
+{
+    let k = Poly::column(alloc, k)?;
+    let change = change(alloc, after, before)?;
+    let linear = minus(alloc, &change, &first_term(alloc, &k, d1)?)?;
+    let quadratic = minus(alloc, &linear, &second_term(alloc, &k, d2)?)?;
+    let poly = minus(alloc, &quadratic, &third_term(alloc, &k, d3)?)?;
+    Ok(Row {
+        poly,
+        kind: Kind::Equal,
+    })
+}
+
+/// `6*after - 6*before`
+fn change(alloc: Global, after: &Poly, before: &Poly) -> Result<Poly, TermError>
+    ensures { Gives cause (λ p. p) result (number 6 ⊠ Ok after.now ⊟ number 6 ⊠ Ok before.now) }
+{
+    let six = Poly::constant(alloc, 6);
+    let left = mul(alloc, &six, after)?;
+    let right = mul(alloc, &six, before)?;
+    minus(alloc, &left, &right)
+}
+
+/// `6k*d1`
+fn first_term(alloc: Global, k: &Poly, d1: &Poly) -> Result<Poly, TermError>
+    ensures { Gives cause (λ p. p) result (number 6 ⊠ Ok k.now ⊠ Ok d1.now) }
+{
+    let factor = mul(alloc, &Poly::constant(alloc, 6), k)?;
+    mul(alloc, &factor, d1)
+}
+
+/// `3k(k-1)*d2`
+fn second_term(alloc: Global, k: &Poly, d2: &Poly) -> Result<Poly, TermError>
+    ensures { Gives cause (λ p. p) result (number 3 ⊠ Ok k.now ⊠ (Ok k.now ⊟ number 1) ⊠ Ok d2.now) }
+{
+    let thrice = mul(alloc, &Poly::constant(alloc, 3), k)?;
+    let factor = mul(alloc, &thrice, &less(alloc, k, 1)?)?;
+    mul(alloc, &factor, d2)
+}
+
+/// `k(k-1)(k-2)*d3`
+fn third_term(alloc: Global, k: &Poly, d3: &Poly) -> Result<Poly, TermError>
+    ensures { Gives cause (λ p. p) result (Ok k.now ⊠ (Ok k.now ⊟ number 1) ⊠ (Ok k.now ⊟ number 2) ⊠ Ok d3.now) }
+{
+    let pair = mul(alloc, k, &less(alloc, k, 1)?)?;
+    let factor = mul(alloc, &pair, &less(alloc, k, 2)?)?;
+    mul(alloc, &factor, d3)
+}
+
+/// `k - 1`, or `k - 2`.
+fn less(alloc: Global, k: &Poly, by: u8) -> Result<Poly, TermError>
+    ensures { Gives cause (λ p. p) result (Ok k.now ⊟ number by) }
+{
+    minus(alloc, k, &Poly::constant(alloc, i128::from(by)))
+}
+
+/// What is subtracted is multiplied by -1 and then added.
+fn minus(alloc: Global, a: &Poly, b: &Poly) -> Result<Poly, TermError>
+    ensures { Gives cause (λ p. p) result (Ok a.now ⊟ Ok b.now) }
+{
+    let turned = scale(alloc, b, -1)?;
+    add(alloc, a, &turned)
+}
