@@ -64,3 +64,51 @@ sums-are n u d grows zero within = omega (arith, ints, zero-*ℤ d)
 sums-are n u d grows (suc i) within =
     grown n (λ j. d) u i grows within ∙ ap (λ x. x +ℤ d) (sums-are n u d grows i (omega arith))
     ∙ sym (ap (λ k. sums (u 0) d k) (pos-suc i) ∙ sums-next (u 0) d (pos i))
+
+two_sums-are : (n : ℕ) (u growth : Sequence) (d : ℤ) → GrowsBy n growth u → GrowsBy n (λ i. d) growth →
+    (i : ℕ) → i ≤ n → pos 2 *ℤ u i ≡ two_sums (u 0) (growth 0) d (pos i)
+two_sums-are n u growth d grows growth_grows zero within = at_zero (u 0) (growth 0) d
+  where
+    at_zero : (b x y : ℤ) → pos 2 *ℤ b ≡ two_sums b x y (pos 0)
+    at_zero b x y = omega (arith, ints, zero-*ℤ x, zero-*ℤ y)
+two_sums-are n u growth d grows growth_grows (suc i) within =
+    next (u (suc i)) (u i) (growth i) (grown n growth u i grows within)
+    ∙ joined (u i) _ (growth i) _ (two_sums-are n u growth d grows growth_grows i (omega arith)) (sums-are n growth d growth_grows i (omega arith))
+    ∙ sym (ap (λ k. two_sums (u 0) (growth 0) d k) (pos-suc i) ∙ two_sums-next (u 0) (growth 0) d (pos i))
+  where
+    next : (x y z : ℤ) → x ≡ y +ℤ z → pos 2 *ℤ x ≡ pos 2 *ℤ y +ℤ pos 2 *ℤ z
+    next x y z e = omega (arith, ints)
+
+    joined : (a b c e : ℤ) → pos 2 *ℤ a ≡ b → c ≡ e → pos 2 *ℤ a +ℤ pos 2 *ℤ c ≡ b +ℤ pos 2 *ℤ e
+    joined a b c e p q = cc
+
+six_forward_sums-are : (run : Run) → IsRun run → (i : ℕ) → i ≤ run.steps → pos 6 *ℤ run.numbers i ≡ six_forward_sums (run.numbers 0) (run.first 0) (run.second 0) run.third (pos i)
+six_forward_sums-are run is_run zero within = at_zero (run.numbers 0) (run.first 0) (run.second 0) run.third
+  where
+    at_zero : (b x y z : ℤ) → pos 6 *ℤ b ≡ six_forward_sums b x y z (pos 0)
+    at_zero b x y z = omega (arith, ints, zero-*ℤ x, zero-*ℤ y, zero-*ℤ z)
+six_forward_sums-are run is_run (suc i) within =
+    next (run.numbers (suc i)) (run.numbers i) (run.first i) (grown run.steps run.first run.numbers i is_run.numbers_grow within)
+    ∙ joined (run.numbers i) _ (run.first i) _ (six_forward_sums-are run is_run i (omega arith)) (two_sums-are run.steps run.first run.second run.third is_run.first_grow is_run.second_grow i (omega arith))
+    ∙ sym (ap (λ k. six_forward_sums (run.numbers 0) (run.first 0) (run.second 0) run.third k) (pos-suc i) ∙ six_forward_sums-next (run.numbers 0) (run.first 0) (run.second 0) run.third (pos i))
+  where
+    next : (x y z : ℤ) → x ≡ y +ℤ z → pos 6 *ℤ x ≡ pos 6 *ℤ y +ℤ pos 3 *ℤ (pos 2 *ℤ z)
+    next x y z e = omega (arith, ints)
+
+    joined : (a b c e : ℤ) → pos 6 *ℤ a ≡ b → pos 2 *ℤ c ≡ e → pos 6 *ℤ a +ℤ pos 3 *ℤ (pos 2 *ℤ c) ≡ b +ℤ pos 3 *ℤ e
+    joined a b c e p q = cc
+
+-- ---- whole sequences
+
+pub run-holds : (run : Run) → IsRun run → pos 6 *ℤ run.numbers run.steps ≡ six_forward_sums (run.numbers 0) (run.first 0) (run.second 0) run.third (pos run.steps)
+run-holds run is_run = six_forward_sums-are run is_run run.steps (omega arith)
+
+pub IsRun-run_of : (u : Sequence) (n : ℕ) → IsConstant (third_difference u) → IsRun (run_of u n)
+IsRun-run_of u n constant = record {
+  numbers_grow = λ i below. refl;
+  first_grow = λ i below. refl;
+  second_grow = λ i below. constant i;
+}
+
+pub forward_difference_formula : ForwardDifferenceFormula
+forward_difference_formula u constant n = run-holds (run_of u n) (IsRun-run_of u n constant)

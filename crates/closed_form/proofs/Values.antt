@@ -1,5 +1,5 @@
 -- What the closed row says under numbers for its columns.
-use Rattle.std.proofs.Common.{◌≡◌, ℕ, Ok, refl, sym, ap, ◌∙◌, arith, ℤ, pos, negsuc, ◌+ℤ◌, ◌-ℤ◌, ◌*ℤ◌}
+use Rattle.std.proofs.Common.{◌≡◌, ℕ, Ok, sym, ap, subst, ◌∙◌, arith, ℤ, pos, negsuc, ◌+ℤ◌, ◌-ℤ◌, ◌*ℤ◌}
 use Rattle.std.specs.Prelude.{◌↔◌}
 use Rattle.std.proofs.lemmas.Int.{ints}
 use Rattle.items.specs.Gives.{◌>>=◌}
@@ -13,7 +13,8 @@ use Rattle.linear_terms.specs.Row.{RowHolds}
 use Rattle.linear_terms.specs.Value.{Valuation, value_of}
 use Rattle.linear_terms.proofs.Values.{sum_of_polys-value, multiple_of-value, product_of_polys-value}
 use Rattle.closed_form.specs.ClosedRow.{Made, ◌⊠◌, ◌⊟◌, number, closed_poly, closed_row}
-use Rattle.closed_form.specs.Differences.{six_forward_sums}
+use Rattle.closed_form.specs.Differences.{six_forward_sums, Run, IsRun, ReadsAs}
+use Rattle.closed_form.proofs.Formula.{run-holds}
 
 -- ---- expressions
 
@@ -39,19 +40,19 @@ IsWorth-column at k = record { as_made = λ q e. let same : column_of k ≡ q = 
 IsWorth-product : (at : Valuation) (a b : Made) (x y : ℤ) → IsWorth at a x → IsWorth at b y → IsWorth at (a ⊠ b) (x *ℤ y)
 IsWorth-product at a b x y of_a of_b = record {
   as_made = λ r e.
-    on_ok a (λ p. b >>= λ q. product_of_polys p q) r e (λ p f g.
-    on_ok b (λ q. product_of_polys p q) r g (λ q h l.
-    product_of_polys-value at p q r l ∙ ap (λ v. v *ℤ value_of at q) (of_a.as_made p f) ∙ ap (λ v. x *ℤ v) (of_b.as_made q h)))
+      on_ok a (λ p. b >>= λ q. product_of_polys p q) r e (λ p f g.
+      on_ok b (λ q. product_of_polys p q) r g (λ q h l.
+      product_of_polys-value at p q r l ∙ ap (λ v. v *ℤ value_of at q) (of_a.as_made p f) ∙ ap (λ v. x *ℤ v) (of_b.as_made q h)));
 }
 
 IsWorth-difference : (at : Valuation) (a b : Made) (x y : ℤ) → IsWorth at a x → IsWorth at b y → IsWorth at (a ⊟ b) (x -ℤ y)
 IsWorth-difference at a b x y of_a of_b = record {
   as_made = λ r e.
-    on_ok a (λ p. b >>= λ q. multiple_of q (negsuc 0) >>= λ turned. sum_of_polys p turned) r e (λ p f g.
-    on_ok b (λ q. multiple_of q (negsuc 0) >>= λ turned. sum_of_polys p turned) r g (λ q h l.
-    on_ok (multiple_of q (negsuc 0)) (λ turned. sum_of_polys p turned) r l (λ t m n.
-    sum_of_polys-value at p t r n
-    ∙ taken_away (value_of at p) (value_of at q) (value_of at t) (of_a.as_made p f) (of_b.as_made q h) (multiple_of-value at q (negsuc 0) t m))))
+      on_ok a (λ p. b >>= λ q. multiple_of q (negsuc 0) >>= λ turned. sum_of_polys p turned) r e (λ p f g.
+      on_ok b (λ q. multiple_of q (negsuc 0) >>= λ turned. sum_of_polys p turned) r g (λ q h l.
+      on_ok (multiple_of q (negsuc 0)) (λ turned. sum_of_polys p turned) r l (λ t m n.
+      sum_of_polys-value at p t r n
+      ∙ taken_away (value_of at p) (value_of at q) (value_of at t) (of_a.as_made p f) (of_b.as_made q h) (multiple_of-value at q (negsuc 0) t m))));
 }
   where
     taken_away : (u v w : ℤ) → u ≡ x → v ≡ y → w ≡ v *ℤ negsuc 0 → u +ℤ w ≡ x -ℤ y
@@ -88,3 +89,29 @@ closed_poly-value at after before d1 d2 d3 k =
 
     third : IsWorth at (Ok (column_of k) ⊠ (Ok (column_of k) ⊟ number 1) ⊠ (Ok (column_of k) ⊟ number 2) ⊠ Ok d3) (at k *ℤ (at k -ℤ pos 1) *ℤ (at k -ℤ pos 2) *ℤ value_of at d3)
     third = times (times (times the_count (less 1)) (less 2)) (IsWorth-Ok at d3)
+
+pub closed_row-value : (at : Valuation) (after before d1 d2 d3 : Polynomial) (k : Col) (r : Row) → closed_row after before d1 d2 d3 k ≡ Ok r →
+    RowHolds at r ↔ (pos 6 *ℤ value_of at after ≡ six_forward_sums (value_of at before) (value_of at d1) (value_of at d2) (value_of at d3) (at k))
+closed_row-value at after before d1 d2 d3 k r e =
+    on_ok made (λ p. Ok record { poly = p; kind = Equal }) r e
+    (λ p f g. let same : record { poly = p; kind = Equal } ≡ r = cc in
+    subst (λ (row : Row). RowHolds at row ↔ (pos 6 *ℤ value_of at after ≡ six_forward_sums (value_of at before) (value_of at d1) (value_of at d2) (value_of at d3) (at k))) same
+    (moved (value_of at p) (pos 6 *ℤ value_of at after) (pos 6 *ℤ value_of at before)
+    (pos 6 *ℤ at k *ℤ value_of at d1)
+    (pos 3 *ℤ at k *ℤ (at k -ℤ pos 1) *ℤ value_of at d2)
+    (at k *ℤ (at k -ℤ pos 1) *ℤ (at k -ℤ pos 2) *ℤ value_of at d3)
+    ((closed_poly-value at after before d1 d2 d3 k).as_made p f)))
+  where
+    made : Made
+    made = closed_poly (Ok after) (Ok before) (Ok d1) (Ok d2) (Ok d3) (Ok (column_of k))
+
+    moved : (v a b x y z : ℤ) → v ≡ a -ℤ b -ℤ x -ℤ y -ℤ z → (v ≡ pos 0) ↔ (a ≡ b +ℤ x +ℤ y +ℤ z)
+    moved v a b x y z e = (λ zero_there. omega (arith, ints), λ equal. omega (arith, ints))
+
+-- ---- runs
+
+pub closed_row-run : (at : Valuation) (run : Run) (after before d1 d2 d3 : Polynomial) (k : Col) (r : Row) → closed_row after before d1 d2 d3 k ≡ Ok r →
+    IsRun run → ReadsAs at run after before d1 d2 d3 k → RowHolds at r
+closed_row-run at run after before d1 d2 d3 k r e is_run reads =
+    (closed_row-value at after before d1 d2 d3 k r e).1
+    (rw (reads.number_after, reads.number_before, reads.first_before, reads.second_before, reads.third_before, reads.steps_made) (run-holds run is_run))

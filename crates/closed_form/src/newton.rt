@@ -4,7 +4,7 @@ ghost use Rattle.linear_terms.specs.TermError.{cause};
 ghost use Rattle.linear_terms.specs.Row.{RowHolds};
 ghost use Rattle.linear_terms.specs.Value.{Valuation, value_of};
 ghost use Rattle.closed_form.specs.ClosedRow.{◌⊠◌, ◌⊟◌, number, closed_row};
-ghost use Rattle.closed_form.specs.Differences.{six_forward_sums};
+ghost use Rattle.closed_form.specs.Differences.{six_forward_sums, Sequence, IsConstant, third_difference, Run, IsRun, run_of, ReadsAs};
 
 use linear_terms::{Col, Kind, Poly, Row, TermError, add, mul, scale};
 use std::alloc::Global;
@@ -20,6 +20,12 @@ pub fn row(
     k: Col,
 ) -> Result<Row, TermError>
     ensures exact { Gives cause (λ r. r) result (closed_row after.now before.now d1.now d2.now d3.now k) }
+    ensures value { (at : Valuation) → IfOk result (λ r. RowHolds at r ↔
+        (pos 6 *ℤ value_of at after.now ≡ six_forward_sums (value_of at before.now) (value_of at d1.now) (value_of at d2.now) (value_of at d3.now) (at k))) }
+    ensures holds { (at : Valuation) (u : Sequence) (n : ℕ) → IsConstant (third_difference u) →
+        ReadsAs at (run_of u n) after.now before.now d1.now d2.now d3.now k → IfOk result (λ r. RowHolds at r) }
+    ensures holds_on_runs { (at : Valuation) (run : Run) → IsRun run →
+        ReadsAs at run after.now before.now d1.now d2.now d3.now k → IfOk result (λ r. RowHolds at r) }
 {
     let k = Poly::column(alloc, k)?;
     let change = change(alloc, after, before)?;
