@@ -13,7 +13,7 @@ use Rattle.linear_terms.specs.Row.{RowHolds}
 use Rattle.linear_terms.specs.Value.{Valuation, value_of}
 use Rattle.linear_terms.proofs.Values.{sum_of_polys-value, multiple_of-value, product_of_polys-value}
 use Rattle.closed_form.specs.ClosedRow.{Made, ◌⊠◌, ◌⊟◌, number, closed_poly, closed_row}
-use Rattle.closed_form.specs.Differences.{six_forward_sums, Run, IsRun, ReadsAs}
+use Rattle.closed_form.specs.Differences.{IsForwardSum, Run, IsRun, ReadsAs}
 use Rattle.closed_form.proofs.Formula.{run-holds}
 
 -- ---- expressions
@@ -26,33 +26,42 @@ IsWorth-Ok : (at : Valuation) (p : Polynomial) → IsWorth at (Ok p) (value_of a
 IsWorth-Ok at p = record { as_made = λ q e. let same : p ≡ q = cc in ap (value_of at) (sym same) }
 
 IsWorth-number : (at : Valuation) (n : ℕ) → IsWorth at (number n) (pos n)
-IsWorth-number at n = record { as_made = λ q e. let same : constant_of (pos n) ≡ q = cc in ap (value_of at) (sym same) ∙ alone (pos n) }
+IsWorth-number at n = record {
+  as_made = λ q e. let same : constant_of (pos n) ≡ q = cc in ap (value_of at) (sym same) ∙ alone (pos n);
+}
   where
     alone : (x : ℤ) → pos 0 +ℤ x ≡ x
     alone x = omega (arith, ints)
 
 IsWorth-column : (at : Valuation) (k : Col) → IsWorth at (Ok (column_of k)) (at k)
-IsWorth-column at k = record { as_made = λ q e. let same : column_of k ≡ q = cc in ap (value_of at) (sym same) ∙ alone (at k) }
+IsWorth-column at k = record {
+  as_made = λ q e. let same : column_of k ≡ q = cc in ap (value_of at) (sym same) ∙ alone (at k);
+}
   where
     alone : (x : ℤ) → pos 1 *ℤ (x *ℤ pos 1) +ℤ pos 0 +ℤ pos 0 ≡ x
     alone x = omega (arith, ints)
 
-IsWorth-product : (at : Valuation) (a b : Made) (x y : ℤ) → IsWorth at a x → IsWorth at b y → IsWorth at (a ⊠ b) (x *ℤ y)
+IsWorth-product : (at : Valuation) (a b : Made) (x y : ℤ) →
+    IsWorth at a x → IsWorth at b y → IsWorth at (a ⊠ b) (x *ℤ y)
 IsWorth-product at a b x y of_a of_b = record {
   as_made = λ r e.
       on_ok a (λ p. b >>= λ q. product_of_polys p q) r e (λ p f g.
       on_ok b (λ q. product_of_polys p q) r g (λ q h l.
-      product_of_polys-value at p q r l ∙ ap (λ v. v *ℤ value_of at q) (of_a.as_made p f) ∙ ap (λ v. x *ℤ v) (of_b.as_made q h)));
+      product_of_polys-value at p q r l
+      ∙ ap (λ v. v *ℤ value_of at q) (of_a.as_made p f)
+      ∙ ap (λ v. x *ℤ v) (of_b.as_made q h)));
 }
 
-IsWorth-difference : (at : Valuation) (a b : Made) (x y : ℤ) → IsWorth at a x → IsWorth at b y → IsWorth at (a ⊟ b) (x -ℤ y)
+IsWorth-difference : (at : Valuation) (a b : Made) (x y : ℤ) →
+    IsWorth at a x → IsWorth at b y → IsWorth at (a ⊟ b) (x -ℤ y)
 IsWorth-difference at a b x y of_a of_b = record {
   as_made = λ r e.
       on_ok a (λ p. b >>= λ q. multiple_of q (negsuc 0) >>= λ turned. sum_of_polys p turned) r e (λ p f g.
       on_ok b (λ q. multiple_of q (negsuc 0) >>= λ turned. sum_of_polys p turned) r g (λ q h l.
       on_ok (multiple_of q (negsuc 0)) (λ turned. sum_of_polys p turned) r l (λ t m n.
       sum_of_polys-value at p t r n
-      ∙ taken_away (value_of at p) (value_of at q) (value_of at t) (of_a.as_made p f) (of_b.as_made q h) (multiple_of-value at q (negsuc 0) t m))));
+      ∙ taken_away (value_of at p) (value_of at q) (value_of at t)
+      (of_a.as_made p f) (of_b.as_made q h) (multiple_of-value at q (negsuc 0) t m))));
 }
   where
     taken_away : (u v w : ℤ) → u ≡ x → v ≡ y → w ≡ v *ℤ negsuc 0 → u +ℤ w ≡ x -ℤ y
@@ -60,9 +69,16 @@ IsWorth-difference at a b x y of_a of_b = record {
 
 -- ---- the row
 
-closed_poly-value : (at : Valuation) (after before d1 d2 d3 : Polynomial) (k : Col) → IsWorth at (closed_poly (Ok after) (Ok before) (Ok d1) (Ok d2) (Ok d3) (Ok (column_of k)))
+-- the formula of the values
+abbrev FormulaHolds : Valuation → (after before d1 d2 d3 : Polynomial) → Col → Type 0
+FormulaHolds at after before d1 d2 d3 k =
+    IsForwardSum (value_of at after) (value_of at before) (value_of at d1) (value_of at d2) (value_of at d3) (at k)
+
+closed_poly-value : (at : Valuation) (after before d1 d2 d3 : Polynomial) (k : Col) →
+    IsWorth at (closed_poly (Ok after) (Ok before) (Ok d1) (Ok d2) (Ok d3) (Ok (column_of k)))
     (pos 6 *ℤ value_of at after -ℤ pos 6 *ℤ value_of at before -ℤ pos 6 *ℤ at k *ℤ value_of at d1
-    -ℤ pos 3 *ℤ at k *ℤ (at k -ℤ pos 1) *ℤ value_of at d2 -ℤ at k *ℤ (at k -ℤ pos 1) *ℤ (at k -ℤ pos 2) *ℤ value_of at d3)
+    -ℤ pos 3 *ℤ at k *ℤ (at k -ℤ pos 1) *ℤ value_of at d2
+    -ℤ at k *ℤ (at k -ℤ pos 1) *ℤ (at k -ℤ pos 2) *ℤ value_of at d3)
 closed_poly-value at after before d1 d2 d3 k =
     minus (minus (minus (minus (six_times after) (six_times before)) first) second) third
   where
@@ -72,30 +88,35 @@ closed_poly-value at after before d1 d2 d3 k =
     minus : {a b : Made} {x y : ℤ} → IsWorth at a x → IsWorth at b y → IsWorth at (a ⊟ b) (x -ℤ y)
     minus {a = a} {b = b} {x = x} {y = y} of_a of_b = IsWorth-difference at a b x y of_a of_b
 
-    the_count : IsWorth at (Ok (column_of k)) (at k)
+    the_column : Made
+    the_column = Ok (column_of k)
+
+    the_count : IsWorth at the_column (at k)
     the_count = IsWorth-column at k
 
     six_times : (p : Polynomial) → IsWorth at (number 6 ⊠ Ok p) (pos 6 *ℤ value_of at p)
     six_times p = times (IsWorth-number at 6) (IsWorth-Ok at p)
 
-    less : (n : ℕ) → IsWorth at (Ok (column_of k) ⊟ number n) (at k -ℤ pos n)
+    less : (n : ℕ) → IsWorth at (the_column ⊟ number n) (at k -ℤ pos n)
     less n = minus the_count (IsWorth-number at n)
 
-    first : IsWorth at (number 6 ⊠ Ok (column_of k) ⊠ Ok d1) (pos 6 *ℤ at k *ℤ value_of at d1)
+    first : IsWorth at (number 6 ⊠ the_column ⊠ Ok d1) (pos 6 *ℤ at k *ℤ value_of at d1)
     first = times (times (IsWorth-number at 6) the_count) (IsWorth-Ok at d1)
 
-    second : IsWorth at (number 3 ⊠ Ok (column_of k) ⊠ (Ok (column_of k) ⊟ number 1) ⊠ Ok d2) (pos 3 *ℤ at k *ℤ (at k -ℤ pos 1) *ℤ value_of at d2)
+    second : IsWorth at (number 3 ⊠ the_column ⊠ (the_column ⊟ number 1) ⊠ Ok d2)
+        (pos 3 *ℤ at k *ℤ (at k -ℤ pos 1) *ℤ value_of at d2)
     second = times (times (times (IsWorth-number at 3) the_count) (less 1)) (IsWorth-Ok at d2)
 
-    third : IsWorth at (Ok (column_of k) ⊠ (Ok (column_of k) ⊟ number 1) ⊠ (Ok (column_of k) ⊟ number 2) ⊠ Ok d3) (at k *ℤ (at k -ℤ pos 1) *ℤ (at k -ℤ pos 2) *ℤ value_of at d3)
+    third : IsWorth at (the_column ⊠ (the_column ⊟ number 1) ⊠ (the_column ⊟ number 2) ⊠ Ok d3)
+        (at k *ℤ (at k -ℤ pos 1) *ℤ (at k -ℤ pos 2) *ℤ value_of at d3)
     third = times (times (times the_count (less 1)) (less 2)) (IsWorth-Ok at d3)
 
-pub closed_row-value : (at : Valuation) (after before d1 d2 d3 : Polynomial) (k : Col) (r : Row) → closed_row after before d1 d2 d3 k ≡ Ok r →
-    RowHolds at r ↔ (pos 6 *ℤ value_of at after ≡ six_forward_sums (value_of at before) (value_of at d1) (value_of at d2) (value_of at d3) (at k))
+pub closed_row-value : (at : Valuation) (after before d1 d2 d3 : Polynomial) (k : Col) (r : Row) →
+    closed_row after before d1 d2 d3 k ≡ Ok r → RowHolds at r ↔ FormulaHolds at after before d1 d2 d3 k
 closed_row-value at after before d1 d2 d3 k r e =
     on_ok made (λ p. Ok record { poly = p; kind = Equal }) r e
     (λ p f g. let same : record { poly = p; kind = Equal } ≡ r = cc in
-    subst (λ (row : Row). RowHolds at row ↔ (pos 6 *ℤ value_of at after ≡ six_forward_sums (value_of at before) (value_of at d1) (value_of at d2) (value_of at d3) (at k))) same
+    subst (λ (row : Row). RowHolds at row ↔ FormulaHolds at after before d1 d2 d3 k) same
     (moved (value_of at p) (pos 6 *ℤ value_of at after) (pos 6 *ℤ value_of at before)
     (pos 6 *ℤ at k *ℤ value_of at d1)
     (pos 3 *ℤ at k *ℤ (at k -ℤ pos 1) *ℤ value_of at d2)
@@ -110,8 +131,15 @@ closed_row-value at after before d1 d2 d3 k r e =
 
 -- ---- runs
 
-pub closed_row-run : (at : Valuation) (run : Run) (after before d1 d2 d3 : Polynomial) (k : Col) (r : Row) → closed_row after before d1 d2 d3 k ≡ Ok r →
-    IsRun run → ReadsAs at run after before d1 d2 d3 k → RowHolds at r
+pub closed_row-run : (at : Valuation) (run : Run) (after before d1 d2 d3 : Polynomial) (k : Col) (r : Row) →
+    closed_row after before d1 d2 d3 k ≡ Ok r → IsRun run → ReadsAs at run after before d1 d2 d3 k → RowHolds at r
 closed_row-run at run after before d1 d2 d3 k r e is_run reads =
     (closed_row-value at after before d1 d2 d3 k r e).1
-    (rw (reads.number_after, reads.number_before, reads.first_before, reads.second_before, reads.third_before, reads.steps_made) (run-holds run is_run))
+    (rw (
+      reads.number_after,
+      reads.number_before,
+      reads.first_before,
+      reads.second_before,
+      reads.third_before,
+      reads.steps_made,
+    ) (run-holds run is_run))

@@ -34,7 +34,8 @@ closed_poly after before d1 d2 d3 k =
     ⊟ number 3 ⊠ k ⊠ (k ⊟ number 1) ⊠ d2
     ⊟ k ⊠ (k ⊟ number 1) ⊠ (k ⊟ number 2) ⊠ d3
 
--- this is zero
-abbrev pub closed_row : Polynomial → Polynomial → Polynomial → Polynomial → Polynomial → Col → Result Row TermError
+-- that it is zero
+abbrev pub closed_row : (after before d1 d2 d3 : Polynomial) → Col → Result Row TermError
 closed_row after before d1 d2 d3 k =
-    closed_poly (Ok after) (Ok before) (Ok d1) (Ok d2) (Ok d3) (Ok (column_of k)) >>= λ p. Ok record { poly = p; kind = Equal }
+    closed_poly (Ok after) (Ok before) (Ok d1) (Ok d2) (Ok d3) (Ok (column_of k))
+    >>= λ p. Ok record { poly = p; kind = Equal }

@@ -9,30 +9,30 @@ use Rattle.linear_terms.specs.Value.{Valuation, value_of}
 abbrev pub Sequence : Type 0
 Sequence = ℕ → ℤ
 
--- by how much the sequence grows at each step
+-- by how much a sequence grows at each step
 abbrev pub difference : Sequence → Sequence
 difference u n = u (n + 1) -ℤ u n
-
-abbrev pub IsConstant : Sequence → Type 0
-IsConstant u = (n : ℕ) → u n ≡ u 0
-
--- six times the sum `before + k d1 + k(k-1)/2 d2 + k(k-1)(k-2)/6 d3`, so that nothing is divided
-abbrev pub six_forward_sums : ℤ → ℤ → ℤ → ℤ → ℤ → ℤ
-six_forward_sums before d1 d2 d3 k =
-    pos 6 *ℤ before +ℤ pos 6 *ℤ k *ℤ d1 +ℤ pos 3 *ℤ k *ℤ (k -ℤ pos 1) *ℤ d2 +ℤ k *ℤ (k -ℤ pos 1) *ℤ (k -ℤ pos 2) *ℤ d3
 
 -- the differences of the differences of the differences
 abbrev pub third_difference : Sequence → Sequence
 third_difference u = difference (difference (difference u))
 
--- Newton's formula: from its number and its differences at 0 comes what a sequence is at n, where the third difference
--- is constant.
+abbrev pub IsConstant : Sequence → Type 0
+IsConstant u = (n : ℕ) → u n ≡ u 0
+
+-- after = before + k d1 + k (k - 1) / 2 d2 + k (k - 1) (k - 2) / 6 d3, six times over so that nothing is divided
+abbrev pub IsForwardSum : ℤ → ℤ → ℤ → ℤ → ℤ → ℤ → Type 0
+IsForwardSum after before d1 d2 d3 k =
+    pos 6 *ℤ after
+    ≡ pos 6 *ℤ before +ℤ pos 6 *ℤ k *ℤ d1 +ℤ pos 3 *ℤ k *ℤ (k -ℤ pos 1) *ℤ d2 +ℤ k *ℤ (k -ℤ pos 1) *ℤ (k -ℤ pos 2) *ℤ d3
+
+-- Newton's formula: where the third difference is constant, the number and the differences at 0 give the number at n.
 abbrev pub ForwardDifferenceFormula : Type 0
 ForwardDifferenceFormula =
     (u : Sequence) → IsConstant (third_difference u) → (n : ℕ) →
-    pos 6 *ℤ u n ≡ six_forward_sums (u 0) (difference u 0) (difference (difference u) 0) (third_difference u 0) (pos n)
+    IsForwardSum (u n) (u 0) (difference u 0) (difference (difference u) 0) (third_difference u 0) (pos n)
 
--- ---- runs: what is known of a sequence is known of its first steps alone
+-- ---- runs: a sequence of which the first steps alone are known
 
 -- a number of steps, the numbers of a sequence, and what their first, second and third differences should be
 pub record Run : Type 0 where
@@ -46,7 +46,7 @@ pub record Run : Type 0 where
 abbrev pub GrowsBy : ℕ → Sequence → Sequence → Type 0
 GrowsBy n growth u = (i : ℕ) → i < n → difference u i ≡ growth i
 
--- the differences are as they should be in each step
+-- the differences are in each step what they should be
 pub record IsRun (run : Run) : Type 0 where
   pub numbers_grow : GrowsBy run.steps run.first run.numbers
   pub first_grow : GrowsBy run.steps run.second run.first
@@ -54,11 +54,16 @@ pub record IsRun (run : Run) : Type 0 where
 
 -- the first n steps of a sequence whose third difference is constant
 abbrev pub run_of : Sequence → ℕ → Run
-run_of u n =
-    record { steps = n; numbers = u; first = difference u; second = difference (difference u); third = third_difference u 0 }
+run_of u n = record {
+  steps = n;
+  numbers = u;
+  first = difference u;
+  second = difference (difference u);
+  third = third_difference u 0;
+}
 
--- The polynomials are the numbers of the run after its last step and at its start, and its differences at the start; the
--- column is the number of steps.
+-- The polynomials are the run's number after its last step, and its number and its differences at the start. The column
+-- is its number of steps.
 pub record ReadsAs (at : Valuation) (run : Run) (after before d1 d2 d3 : Polynomial) (k : Col) : Type 0 where
   pub number_after : value_of at after ≡ run.numbers run.steps
   pub number_before : value_of at before ≡ run.numbers 0

@@ -1,15 +1,19 @@
-ghost use Rattle.std.specs.Prelude.{◌≡◌, ◌↔◌, ◌*ℤ◌, ℕ, ℤ, pos, Ok, IfOk};
+ghost use Rattle.std.specs.Prelude.{◌↔◌, ℕ, Ok, IfOk};
 ghost use Rattle.items.specs.Gives.{Gives};
 ghost use Rattle.linear_terms.specs.TermError.{cause};
 ghost use Rattle.linear_terms.specs.Row.{RowHolds};
 ghost use Rattle.linear_terms.specs.Value.{Valuation, value_of};
 ghost use Rattle.closed_form.specs.ClosedRow.{◌⊠◌, ◌⊟◌, number, closed_row};
-ghost use Rattle.closed_form.specs.Differences.{six_forward_sums, Sequence, IsConstant, third_difference, Run, IsRun, run_of, ReadsAs};
+ghost use Rattle.closed_form.specs.Differences.{IsForwardSum, Sequence, third_difference, IsConstant, Run, IsRun, run_of, ReadsAs};
 
 use linear_terms::{Col, Kind, Poly, Row, TermError, add, mul, scale};
 use std::alloc::Global;
 
-/// The row `6*after - 6*before - 6k*d1 - 3k(k-1)*d2 - k(k-1)(k-2)*d3 = 0`.
+/// The row `6*after - 6*before - 6k*d1 - 3k(k-1)*d2 - k(k-1)(k-2)*d3 = 0`, or the first step of making it that leaves
+/// 128 bits or passes degree 4: products bind closer than differences, and both are made from the left.
+///
+/// Where `before`, `d1`, `d2` and `d3` are a sequence's number and its differences at the start, the third of them
+/// constant, and `after` is its number after `k` steps, the row holds. Source: Newton's forward difference formula.
 pub fn row(
     alloc: Global,
     after: &Poly,
@@ -21,11 +25,12 @@ pub fn row(
 ) -> Result<Row, TermError>
     ensures exact { Gives cause (λ r. r) result (closed_row after.now before.now d1.now d2.now d3.now k) }
     ensures value { (at : Valuation) → IfOk result (λ r. RowHolds at r ↔
-        (pos 6 *ℤ value_of at after.now ≡ six_forward_sums (value_of at before.now) (value_of at d1.now) (value_of at d2.now) (value_of at d3.now) (at k))) }
+        IsForwardSum (value_of at after.now) (value_of at before.now)
+        (value_of at d1.now) (value_of at d2.now) (value_of at d3.now) (at k)) }
     ensures holds { (at : Valuation) (u : Sequence) (n : ℕ) → IsConstant (third_difference u) →
-        ReadsAs at (run_of u n) after.now before.now d1.now d2.now d3.now k → IfOk result (λ r. RowHolds at r) }
+        ReadsAs at (run_of u n) after.now before.now d1.now d2.now d3.now k → IfOk result (RowHolds at) }
     ensures holds_on_runs { (at : Valuation) (run : Run) → IsRun run →
-        ReadsAs at run after.now before.now d1.now d2.now d3.now k → IfOk result (λ r. RowHolds at r) }
+        ReadsAs at run after.now before.now d1.now d2.now d3.now k → IfOk result (RowHolds at) }
 {
     let k = Poly::column(alloc, k)?;
     let change = change(alloc, after, before)?;

@@ -1,4 +1,4 @@
-use Rattle.std.proofs.Common.{◌≡◌, ℕ, Ok, rules}
+use Rattle.std.proofs.Common.{◌≡◌, Ok, rules}
 use Rattle.linear_terms.specs.declared.row.Kind.TheVariants.{Equal}
 use Rattle.linear_terms.specs.declared.row.Row.{Row}
 use Rattle.closed_form.specs.ClosedRow.{closed_row}
