@@ -3,7 +3,7 @@ ghost use Rattle.items.specs.Gives.{Gives};
 ghost use Rattle.linear_terms.specs.TermError.{cause};
 ghost use Rattle.linear_terms.specs.Row.{RowHolds};
 ghost use Rattle.linear_terms.specs.Value.{Valuation, value_of};
-ghost use Rattle.closed_form.specs.ClosedRow.{◌⊠◌, ◌⊟◌, number, closed_row};
+ghost use Rattle.closed_form.specs.ClosedRow.{◌⊠◌, ◌⊟◌, number, closed_poly, closed_row};
 ghost use Rattle.closed_form.specs.Differences.{IsForwardSum, Sequence, third_difference, IsConstant, Run, IsRun, run_of, ReadsAs};
 
 use linear_terms::{Col, Kind, Poly, Row, TermError, add, mul, scale};
@@ -33,14 +33,30 @@ pub fn row(
         ReadsAs at run after.now before.now d1.now d2.now d3.now k → IfOk result (RowHolds at) }
 {
     let k = Poly::column(alloc, k)?;
-    let change = change(alloc, after, before)?;
-    let linear = minus(alloc, &change, &first_term(alloc, &k, d1)?)?;
-    let quadratic = minus(alloc, &linear, &second_term(alloc, &k, d2)?)?;
-    let poly = minus(alloc, &quadratic, &third_term(alloc, &k, d3)?)?;
+    let poly = closed_poly(alloc, after, before, d1, d2, d3, &k)?;
     Ok(Row {
         poly,
         kind: Kind::Equal,
     })
+}
+
+/// `6*after - 6*before - 6k*d1 - 3k(k-1)*d2 - k(k-1)(k-2)*d3`
+fn closed_poly(
+    alloc: Global,
+    after: &Poly,
+    before: &Poly,
+    d1: &Poly,
+    d2: &Poly,
+    d3: &Poly,
+    k: &Poly,
+) -> Result<Poly, TermError>
+    ensures { Gives cause (λ p. p) result
+        (closed_poly (Ok after.now) (Ok before.now) (Ok d1.now) (Ok d2.now) (Ok d3.now) (Ok k.now)) }
+{
+    let change = change(alloc, after, before)?;
+    let linear = minus(alloc, &change, &first_term(alloc, k, d1)?)?;
+    let quadratic = minus(alloc, &linear, &second_term(alloc, k, d2)?)?;
+    minus(alloc, &quadratic, &third_term(alloc, k, d3)?)
 }
 
 /// `6*after - 6*before`
