@@ -1,0 +1,14 @@
+pub use Rattle.items.specs.Gives
+pub use Rattle.whole_numbers.specs.Divisors
+pub use Rattle.whole_numbers.specs.Fits
+pub use Rattle.linear_terms.specs.Mono
+pub use Rattle.linear_terms.specs.Polynomial
+pub use Rattle.linear_terms.specs.Row
+pub use Rattle.linear_terms.specs.Value
+pub mod Columns
+pub mod Multiples
+pub mod Parts
+pub mod Points
+pub mod Ratios
+pub mod Tested
+pub mod Walk

@@ -1,0 +1,64 @@
+ghost use Rattle.std.specs.Prelude.{◌≡◌};
+
+use crate::Ratio;
+use items::Items;
+use std::alloc::AllocError;
+
+/// Multipliers for the rows of a case, whose sum is `scale` times the objective less `sum`.
+#[derive(Debug, PartialEq, Eq, Drop)]
+pub struct Cert {
+    pub scale: i128,
+    pub sum: i128,
+    pub by: Items<i128>,
+}
+
+/// Why a question has no other answer.
+#[derive(Clone, Copy, Debug, PartialEq, Eq)]
+pub enum Limit {
+    /// The product, where `times` holds, or else the sum of these two numbers is no number of 128 bits.
+    Wide {
+        left: i128,
+        right: i128,
+        times: bool,
+    },
+    /// The search has no further step.
+    Pivots,
+}
+
+/// An answer, with what shows that it is true. Points and rays have one number for each column of their case,
+/// in print order.
+#[derive(Debug, PartialEq, Eq, Drop)]
+pub enum Answer {
+    /// No point makes the rows true: one multiplier for each row.
+    Yes(Items<i128>),
+    /// This point makes the rows true.
+    No(Items<Ratio>),
+    /// The greatest whole number that is not above the supremum: a certificate for each case, and a point of
+    /// the case at that place, which reaches it.
+    Bound {
+        at: i128,
+        certs: Items<Cert>,
+        case: u32,
+        point: Items<Ratio>,
+    },
+    /// There is no supremum: a point of a case, and a ray along which the objective grows.
+    Unbounded {
+        case: u32,
+        point: Items<Ratio>,
+        ray: Items<Ratio>,
+    },
+    Limit(Limit),
+}
+
+impl Clone for Cert {
+    ghost is_clone = { λ a b. b ≡ a };
+
+    fn clone(&self) -> Result<Cert, AllocError> {
+        let by = self.by.clone()?;
+        Ok(Cert {
+            scale: self.scale,
+            sum: self.sum,
+            by,
+        })
+    }
+}

@@ -1,0 +1,13 @@
+//! Questions about rational points, answers with certificates, and the test of an answer. The test is small
+//! and takes no memory: multipliers by Farkas, points and rays. A test that is passed means that the answer
+//! is true.
+#![tactic(auto)]
+
+mod answer;
+mod columns;
+mod ratio;
+mod question;
+
+pub use answer::{Answer, Cert, Limit};
+pub use question::{Goal, Question};
+pub use ratio::Ratio;

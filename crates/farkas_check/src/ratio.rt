@@ -1,0 +1,141 @@
+ghost use Rattle.std.specs.Prelude.{◌≡◌, ◌<ℤ◌, pos, int_div, IsTrue, IfOk};
+ghost use Rattle.whole_numbers.specs.Fits.{product_of};
+ghost use Rattle.std.specs.Option.{SomeIff};
+ghost use Rattle.std.specs.Cmp.{partial_equiv_from_equiv};
+ghost use Rattle.farkas_check.specs.Ratios.{whole, lowest_terms, is_lowest, ratio_product, ratio_sum, common_multiple, is_at_least, ratio_eq, ratio_eq_equiv};
+
+use std::marker::Model;
+use whole_numbers::{Wide, gcd, product, quotient, sum};
+
+/// A ratio of whole numbers in lowest terms, with a positive denominator.
+#[derive(Clone, Copy, Debug)]
+pub struct Ratio {
+    num: i128,
+    den: i128,
+}
+
+impl Model for Ratio {
+    ghost use Rattle.farkas_check.specs.Ratios.{Fraction, IsLowest};
+
+    ghost Value = { Fraction };
+
+    ghost view = { λ r. record { num = r.num; den = r.den } };
+
+    ghost invariant = { λ r. IsLowest (record { num = r.num; den = r.den }) };
+
+    ghost inverse = { λ r. record { num = r.num; den = r.den } };
+}
+
+impl Ratio {
+    /// A numerator over a denominator; none where the denominator is not positive or the two have a common
+    /// divisor other than 1.
+    pub fn new(num: i128, den: i128) -> Option<Ratio>
+        ensures { SomeIff result (IsTrue (is_lowest num den)) (record { num = num; den = den }) }
+    {
+        if 0 < den && gcd(num.unsigned_abs(), den.unsigned_abs()) == 1 {
+            Some(Ratio { num, den })
+        } else {
+            None
+        }
+    }
+
+    /// A whole number.
+    #[tactic(auto, using(crate::proofs::Lowest::lowest))]
+    pub fn whole(number: i128) -> Ratio
+        ensures { result ≡ whole number }
+    {
+        Ratio {
+            num: number,
+            den: 1,
+        }
+    }
+
+    /// The numerator.
+    pub fn num(&self) -> i128
+        ensures { result ≡ self.now.num }
+    {
+        self.num
+    }
+
+    /// The denominator, which is positive.
+    pub fn den(&self) -> i128
+        ensures den { result ≡ self.now.den }
+        ensures positive { pos 0 <ℤ result }
+    {
+        self.den
+    }
+
+    /// A numerator over a positive denominator, brought to lowest terms.
+    #[tactic(auto, using(crate::proofs::Lowest::lowest))]
+    fn lowest(num: i128, den: i128) -> Ratio
+        requires { pos 0 <ℤ den }
+        ensures { result ≡ lowest_terms num den }
+    {
+        let divisor = gcd(num.unsigned_abs(), den.unsigned_abs());
+        Ratio {
+            num: quotient(num, divisor),
+            den: quotient(den, divisor),
+        }
+    }
+
+    /// The numerator over another denominator, a multiple of this one.
+    fn over(&self, den: i128) -> Result<i128, Wide>
+        ensures { result ≡ product_of self.now.num (int_div den self.now.den) }
+    {
+        product(self.num, den / self.den)
+    }
+
+    /// The product, or the first step that leaves 128 bits.
+    pub(crate) fn times(&self, by: &Ratio) -> Result<Ratio, Wide>
+        ensures { result ≡ ratio_product self.now by.now }
+    {
+        let num = product(self.num, by.num)?;
+        let den = product(self.den, by.den)?;
+        Ok(Ratio::lowest(num, den))
+    }
+
+    /// The sum, or the first step that leaves 128 bits.
+    pub(crate) fn plus(&self, other: &Ratio) -> Result<Ratio, Wide>
+        ensures { result ≡ ratio_sum self.now other.now }
+    {
+        let den = common_multiple(self.den, other.den)?;
+        let left = self.over(den)?;
+        let right = other.over(den)?;
+        let num = sum(left, right)?;
+        Ok(Ratio::lowest(num, den))
+    }
+
+    /// Whether this is at least a whole number, or the product that leaves 128 bits.
+    pub(crate) fn is_at_least(&self, number: i128) -> Result<bool, Wide>
+        ensures { result ≡ is_at_least self.now number }
+    {
+        let bound = product(number, self.den)?;
+        Ok(bound <= self.num)
+    }
+}
+
+/// The least common multiple of two positive numbers, or the product that leaves 128 bits.
+#[tactic(auto, using(crate::proofs::Lowest::lowest))]
+fn common_multiple(left: i128, right: i128) -> Result<i128, Wide>
+    requires left { pos 0 <ℤ left }
+    requires right { pos 0 <ℤ right }
+    ensures multiple { result ≡ common_multiple left right }
+    ensures positive { IfOk result (λ multiple. pos 0 <ℤ multiple) }
+{
+    let divisor = gcd(left.unsigned_abs(), right.unsigned_abs());
+    product(quotient(left, divisor), right)
+}
+
+impl PartialEq for Ratio {
+    ghost eq = { ratio_eq };
+
+    ghost laws = { partial_equiv_from_equiv ratio_eq_equiv };
+
+    fn eq(&self, other: &Self) -> bool {
+        self.num == other.num && self.den == other.den
+    }
+}
+
+impl Eq for Ratio {
+    ghost laws = { ratio_eq_equiv };
+}
