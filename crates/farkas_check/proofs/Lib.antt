@@ -1,2 +1,4 @@
+mod Lookups
 mod Lowest
+mod Sums
 mod Walks

@@ -10,5 +10,6 @@ pub mod Multiples
 pub mod Parts
 pub mod Points
 pub mod Ratios
+pub mod Steps
 pub mod Tested
 pub mod Walk

@@ -5,9 +5,13 @@
 
 mod answer;
 mod columns;
-mod ratio;
+mod multiples;
+mod passing;
+mod points;
 mod question;
+mod ratio;
 
 pub use answer::{Answer, Cert, Limit};
+pub use passing::{test, test_width};
 pub use question::{Goal, Question};
 pub use ratio::Ratio;
