@@ -1,4 +1,9 @@
+mod Bounds
+mod Farkas
 mod Lookups
 mod Lowest
+mod PointValues
+mod Spreads
 mod Sums
+mod Tight
 mod Walks

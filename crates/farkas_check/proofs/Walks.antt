@@ -19,7 +19,7 @@ use Rattle.farkas_check.specs.Walk.{is_after, columns_after, lesser, least_after
 
 -- ---- the order
 
-reversed : (m n : List Col) (o : Ordering) → mono_cmp m n ≡ o → mono_cmp n m ≡ ordering_reverse o
+pub reversed : (m n : List Col) (o : Ordering) → mono_cmp m n ≡ o → mono_cmp n m ≡ ordering_reverse o
 reversed m n o e = mono_cmp_total.antisymm n m ∙ ap ordering_reverse e
 
 -- a monomial that stands before each of the others

@@ -6,6 +6,8 @@ pub use Rattle.linear_terms.specs.Polynomial
 pub use Rattle.linear_terms.specs.Row
 pub use Rattle.linear_terms.specs.Value
 pub mod Columns
+pub mod Kept
+pub mod Meaning
 pub mod Multiples
 pub mod Parts
 pub mod Points

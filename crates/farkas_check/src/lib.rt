@@ -5,6 +5,7 @@
 
 mod answer;
 mod columns;
+mod kept;
 mod multiples;
 mod passing;
 mod points;

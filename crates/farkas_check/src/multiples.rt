@@ -80,11 +80,7 @@ fn with_product(total: &i128, number: &i128, by: &i128) -> Result<i128, Wide>
 
 /// Whether the sum is 0 at each column; every sum is made.
 #[tactic(auto, using(crate::proofs::Walks::walk))]
-pub(crate) fn sums_cancel(
-    rows: &[Row],
-    terms: &[(Mono, i128)],
-    by: &[i128],
-) -> Result<bool, Wide>
+pub(crate) fn sums_cancel(rows: &[Row], terms: &[(Mono, i128)], by: &[i128]) -> Result<bool, Wide>
     requires { length by.now ≡ length rows.now }
     ensures { result ≡ sums_cancel true (sums_at rows.now by.now (columns rows.now terms.now)) }
 {
@@ -100,12 +96,7 @@ pub(crate) fn sums_cancel(
 
 /// Whether the sum is, at each column, the multiple of the coefficient there. The sum is made first.
 #[tactic(auto, using(crate::proofs::Walks::walk))]
-fn are_scaled(
-    rows: &[Row],
-    terms: &[(Mono, i128)],
-    by: &[i128],
-    scale: &i128,
-) -> Result<bool, Wide>
+fn are_scaled(rows: &[Row], terms: &[(Mono, i128)], by: &[i128], scale: &i128) -> Result<bool, Wide>
     requires { length by.now ≡ length rows.now }
     ensures { result ≡ are_scaled true rows.now terms.now by.now scale.now (columns rows.now terms.now) }
 {

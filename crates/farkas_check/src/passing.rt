@@ -1,7 +1,9 @@
 ghost use Rattle.std.specs.Prelude.{◌≡◌, ◌↔◌, Ok, true, length, IsTrue};
+ghost use Rattle.farkas_check.specs.Meaning.{IsLimit, IsTight, IsTrueAnswer};
 ghost use Rattle.farkas_check.specs.Tested.{tested_yes, tested_no, tested_below, tested_cert, tested_certs, tested_point, tested_reached, tested_ray, tested_bound, tested_unbounded, is_limit, tested, width_of, Passes};
 
 use crate::columns::has_length;
+use crate::kept::{see_answer, see_question};
 use crate::multiples::{are_multipliers, constant_sum, has_sum, sums_cancel};
 use crate::points::{meets, meets_slopes, ratio_value, slope_at};
 use crate::{Answer, Cert, Goal, Limit, Question, Ratio};
@@ -11,7 +13,11 @@ use whole_numbers::{Wide, product, sum};
 /// Whether an answer passes the test of its question, with no sum or product of it past 128 bits.
 pub fn test(question: &Question, answer: &Answer) -> bool
     ensures exact { IsTrue result ↔ Passes question.now answer.now }
+    ensures sound { IsTrue result → IsTrueAnswer question.now answer.now }
+    ensures tight { IsTrue result → ¬ IsLimit answer.now → IsTight question.now answer.now }
 {
+    see_question(question);
+    see_answer(answer);
     match run(question, answer) {
         Ok(passes) => passes,
         Err(_wide) => false,
@@ -192,12 +198,7 @@ fn run_reached(at: &i128, goal: &Goal, point: &[Ratio]) -> Result<bool, Wide>
     value.is_at_least(*at)
 }
 
-fn run_unbounded(
-    goals: &[Goal],
-    case: u32,
-    point: &[Ratio],
-    ray: &[Ratio],
-) -> Result<bool, Wide>
+fn run_unbounded(goals: &[Goal], case: u32, point: &[Ratio], ray: &[Ratio]) -> Result<bool, Wide>
     ensures { result ≡ tested_unbounded goals.now case point.now ray.now }
 {
     match goals.get(case as usize) {

@@ -85,7 +85,11 @@ pub(crate) fn meets(rows: &[Row], terms: &[(Mono, i128)], point: &[Ratio]) -> Re
 }
 
 /// Whether each row without its constant is true on a ray.
-pub(crate) fn meets_slopes(rows: &[Row], terms: &[(Mono, i128)], ray: &[Ratio]) -> Result<bool, Wide>
+pub(crate) fn meets_slopes(
+    rows: &[Row],
+    terms: &[(Mono, i128)],
+    ray: &[Ratio],
+) -> Result<bool, Wide>
     ensures { result ≡ meets (slope_at (ratio_at (columns rows.now terms.now) ray.now)) rows.now }
 {
     for row in rows {
