@@ -12,6 +12,7 @@ pub mod Multiples
 pub mod Parts
 pub mod Points
 pub mod Ratios
+pub mod Refusals
 pub mod Steps
 pub mod Tested
 pub mod Walk

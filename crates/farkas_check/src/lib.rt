@@ -7,12 +7,16 @@ mod answer;
 mod columns;
 mod kept;
 mod multiples;
+mod oracle;
 mod passing;
 mod points;
 mod question;
 mod ratio;
+#[cfg(test)]
+mod tests;
 
 pub use answer::{Answer, Cert, Limit};
+pub use oracle::{AskError, Oracle};
 pub use passing::{test, test_width};
 pub use question::{Goal, Question};
 pub use ratio::Ratio;
