@@ -1,16 +1,15 @@
 -- Certificates of a bound: what each says of its case, and one bound for all.
-use Rattle.std.proofs.Common.{◌≡◌, Bool, true, false, cond, ℤ, pos, negsuc, ◌+ℤ◌, ◌*ℤ◌, ◌≤ℤ◌, ◌<ℤ◌, List, [], ◌∷◌, map, length, Result, Ok, Err, refl, sym, ap, subst, ◌∙◌, arith}
-use Rattle.std.specs.Prelude.{◌&&◌, ◌==◌, int_le, int_lt, neg_ℤ}
+use Rattle.std.proofs.Common.{◌≡◌, true, ℤ, pos, negsuc, ◌+ℤ◌, ◌*ℤ◌, ◌≤ℤ◌, ◌<ℤ◌, List, [], ◌∷◌, map, length, Ok, ap, subst, ◌∙◌, arith}
+use Rattle.std.specs.Prelude.{◌&&◌, ◌==◌, int_le, neg_ℤ}
 use Rattle.std.specs.List.{AllByRecursion, list_all, zip}
 use Rattle.std.specs.Cmp.Lexicographic.{pointwise}
 use Rattle.std.specs.Ordering.{int_eq}
 use Rattle.std.proofs.lemmas.Int.{ints, by_lt_z}
 use Rattle.std.proofs.lemmas.Bool.Decides.{Decides-int_eq}
-use Rattle.std.proofs.Math.IntN.{zero-*ℤ, *ℤ_comm}
+use Rattle.std.proofs.Math.IntN.{*ℤ_comm}
 use Rattle.items.specs.Gives.{◌>>=◌}
 use Rattle.items.proofs.Gives.{on_ok}
 use Rattle.whole_numbers.specs.Fits.{sum_of, product_of}
-use Rattle.whole_numbers.specs.declared.wide.Wide.{Wide}
 use Rattle.whole_numbers.proofs.Ring.{ring, ≤ℤ-*ℤ, *ℤ-≤ℤ}
 use Rattle.linear_terms.specs.declared.col.Col.{Col}
 use Rattle.linear_terms.specs.declared.row.Row.{Row}
@@ -18,7 +17,7 @@ use Rattle.linear_terms.specs.Polynomial.{Terms, Polynomial, IsCanonical, coeffi
 use Rattle.farkas_check.specs.declared.answer.Cert.{Cert}
 use Rattle.farkas_check.specs.declared.question.Goal.{Goal}
 use Rattle.farkas_check.specs.Columns.{monos_of}
-use Rattle.farkas_check.specs.Meaning.{RationalPoint, terms_at, sum_at, Refutes, IsBounded, IsBoundedBelow}
+use Rattle.farkas_check.specs.Meaning.{terms_at, sum_at, IsBounded, IsBoundedBelow}
 use Rattle.farkas_check.specs.Multiples.{is_multiplier, are_multipliers, Form, number_at, constant_in, sum_of_multiples, same_form, scaled_at, scaled_less, scaled_form}
 use Rattle.farkas_check.specs.Parts.{and_then}
 use Rattle.farkas_check.specs.Tested.{goal_columns, tested_sum, tested_below, tested_cert, tested_certs}

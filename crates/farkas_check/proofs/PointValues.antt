@@ -1,12 +1,12 @@
 -- Values at a point whose numbers are ratios, read as whole numerators over one denominator.
-use Rattle.std.proofs.Common.{◌≡◌, ℕ, zero, suc, ◌*◌, ◌<◌, Bool, true, false, cond, ℤ, pos, negsuc, ◌+ℤ◌, ◌*ℤ◌, ◌≤ℤ◌, ◌<ℤ◌, List, [], ◌∷◌, length, Result, Ok, Err, refl, sym, ap, subst, ◌∙◌, arith}
+use Rattle.std.proofs.Common.{◌≡◌, ℕ, ◌<◌, Bool, true, false, cond, ℤ, pos, negsuc, ◌+ℤ◌, ◌*ℤ◌, ◌≤ℤ◌, ◌<ℤ◌, List, [], ◌∷◌, Result, Ok, sym, ap, subst, ◌∙◌, arith}
 use Rattle.std.specs.Prelude.{int_div, int_le, int_lt, unsigned_abs}
 use Rattle.std.specs.Int.{◌∣◌}
 use Rattle.std.specs.List.{AllByRecursion}
-use Rattle.std.specs.Ordering.{eq_by_cmp, int_eq}
+use Rattle.std.specs.Ordering.{eq_by_cmp}
 use Rattle.std.proofs.lemmas.Int.{ints, by_lt_z, unsigned_abs-mul}
 use Rattle.std.proofs.lemmas.Bool.Decides.{Decides-int_eq}
-use Rattle.std.proofs.Math.IntN.{zero-*ℤ, *ℤ_comm}
+use Rattle.std.proofs.Math.IntN.{zero-*ℤ}
 use native.Mathlib.Nat.{dvd-mul_left}
 use Rattle.items.specs.Gives.{◌>>=◌}
 use Rattle.items.proofs.Gives.{on_ok}
@@ -23,8 +23,7 @@ use Rattle.linear_terms.specs.declared.row.Row.{Row}
 use Rattle.linear_terms.specs.Mono.{mono_cmp}
 use Rattle.linear_terms.specs.Polynomial.{Terms, Polynomial}
 use Rattle.linear_terms.specs.Row.{IsWithin, is_within}
-use Rattle.farkas_check.specs.Meaning.{RationalPoint, terms_at, sum_at, IsTrueAt, Refutes}
-use Rattle.farkas_check.specs.Parts.{and_then}
+use Rattle.farkas_check.specs.Meaning.{terms_at}
 use Rattle.farkas_check.specs.Points.{ratio_at, value_from, slope_at, ratio_value, meets}
 use Rattle.farkas_check.specs.Ratios.{Fraction, whole, lowest_terms, common_multiple, ratio_product, ratio_sum, is_at_least}
 use Rattle.farkas_check.proofs.Lowest.{divisor_positive, positive-lowest_terms, lowest_terms-num, lowest_terms-den, sum_of-value, product_of-value, positive_product, common_multiple-positive}

@@ -1,16 +1,12 @@
 -- Sums over the columns of a case, and that a polynomial whose monomials are among them is such a sum.
 use Rattle.std.proofs.Common.{◌≡◌, Bool, true, false, cond, ℤ, pos, ◌+ℤ◌, ◌*ℤ◌, List, [], ◌∷◌, ◌++◌, refl, sym, ap, subst, ◌∙◌, arith}
-use Rattle.std.specs.Prelude.{◌&&◌}
-use Rattle.std.specs.List.{AllByRecursion, list_all}
-use Rattle.std.specs.List.Sorted.{IsStrictlySortedBy}
+use Rattle.std.specs.List.{AllByRecursion}
 use Rattle.std.specs.Map.{keys_of}
-use Rattle.std.specs.Cmp.Lexicographic.{pointwise}
-use Rattle.std.specs.Ordering.{int_eq, eq_by_cmp, is_eq, match_ordering, ordering_reverse}
+use Rattle.std.specs.Ordering.{eq_by_cmp, is_eq, match_ordering, ordering_reverse}
 use Rattle.std.specs.declared.cmp.Ordering.{Ordering}
 use Rattle.std.specs.declared.cmp.Ordering.TheVariants.{Less, Equal, Greater}
 use Rattle.std.proofs.lemmas.Int.{ints}
 use Rattle.std.proofs.lemmas.Bool.{false≢true}
-use Rattle.std.proofs.lemmas.Bool.Decides.{Decides-int_eq}
 use Rattle.std.proofs.Math.IntN.{zero-*ℤ, *ℤ_comm}
 use Rattle.whole_numbers.proofs.Ring.{ring}
 use Rattle.linear_terms.specs.declared.col.Col.{Col}
@@ -22,7 +18,6 @@ use Rattle.linear_terms.proofs.Order.{mono_tie}
 use Rattle.linear_terms.proofs.Canonical.{Before, first_before, IsCanonical-tail}
 use Rattle.farkas_check.specs.Columns.{with_mono, in_print_order, monos_of, columns}
 use Rattle.farkas_check.specs.Meaning.{terms_at}
-use Rattle.farkas_check.specs.Multiples.{is_zero}
 use Rattle.farkas_check.proofs.Walks.{IsBefore, IsOrdered, reversed}
 
 -- ---- monomials among others

@@ -1,21 +1,21 @@
 -- Answers that pass: that they are the truth about rational points, and about whole numbers.
-use Rattle.std.proofs.Common.{◌≡◌, ℕ, ◌+◌, Bool, true, false, cond, ℤ, pos, negsuc, ◌+ℤ◌, ◌-ℤ◌, ◌*ℤ◌, ◌≤ℤ◌, ◌<ℤ◌, List, [], ◌∷◌, length, Option, Some, None, Result, Ok, Err, refl, sym, ap, subst, ◌∙◌, arith}
+use Rattle.std.proofs.Common.{◌≡◌, ℕ, Bool, true, false, ℤ, pos, negsuc, ◌+ℤ◌, ◌-ℤ◌, ◌*ℤ◌, ◌≤ℤ◌, ◌<ℤ◌, List, [], ◌∷◌, length, Option, Some, None, Result, Ok, refl, sym, ap, subst, ◌∙◌, arith}
 use Rattle.std.proofs.lemmas.List.Elements.{recursion_from_All, All-head, All-tail}
-use Rattle.std.specs.Prelude.{All, int_lt, unsigned_abs, slice_get, ◌==◌, ⊤}
+use Rattle.std.specs.Prelude.{All, int_lt, unsigned_abs, slice_get, ◌==◌}
 use Rattle.std.specs.List.{AllByRecursion}
 use Rattle.std.proofs.lemmas.Int.{ints, by_lt_z}
 use Rattle.std.proofs.lemmas.Bool.{eqb-true}
-use Rattle.std.proofs.Math.IntN.{zero-*ℤ, *ℤ_comm}
+use Rattle.std.proofs.Math.IntN.{zero-*ℤ}
 use Rattle.items.specs.Gives.{◌>>=◌}
 use Rattle.items.proofs.Gives.{on_ok}
 use Rattle.whole_numbers.specs.declared.wide.Wide.{Wide}
-use Rattle.whole_numbers.proofs.Ring.{ring, ≤ℤ-*ℤ, *ℤ-≤ℤ, one-*ℤ, *ℤ-one, *ℤ-not_negative}
+use Rattle.whole_numbers.proofs.Ring.{ring, ≤ℤ-*ℤ, one-*ℤ, *ℤ-one}
 use Rattle.linear_terms.specs.declared.col.Col.{Col}
 use Rattle.linear_terms.specs.declared.row.Kind.{Kind}
 use Rattle.linear_terms.specs.declared.row.Kind.TheVariants.{AtMost, Equal}
 use Rattle.linear_terms.specs.declared.row.Row.{Row}
 use Rattle.linear_terms.specs.Polynomial.{Terms, Polynomial, IsCanonical}
-use Rattle.linear_terms.specs.Row.{IsWithin, RowHolds}
+use Rattle.linear_terms.specs.Row.{IsWithin}
 use Rattle.linear_terms.specs.Value.{Valuation, mono_value, terms_value, value_of}
 use Rattle.farkas_check.specs.declared.answer.Answer.{Answer}
 use Rattle.farkas_check.specs.declared.answer.Answer.TheVariants as answer
@@ -24,13 +24,13 @@ use Rattle.farkas_check.specs.declared.question.Goal.{Goal}
 use Rattle.farkas_check.specs.declared.question.Question.{Question}
 use Rattle.farkas_check.specs.declared.question.Question.TheVariants.{Infeasible, Sup}
 use Rattle.farkas_check.specs.Columns.{columns}
-use Rattle.farkas_check.specs.Meaning.{RationalPoint, terms_at, sum_at, IsTrueAt, Refutes, IsListed, HasPoint, IsBounded, IsBoundedBelow, IsReached, IsRoundedSup, IsTight, IsLimit, RowsHold, IsAtMost, IsTrueAnswer}
+use Rattle.farkas_check.specs.Meaning.{RationalPoint, terms_at, sum_at, Refutes, IsListed, HasPoint, IsBounded, IsBoundedBelow, IsReached, IsRoundedSup, IsTight, IsLimit, RowsHold, IsAtMost, IsTrueAnswer}
 use Rattle.farkas_check.specs.Parts.{and_then}
 use Rattle.farkas_check.specs.Points.{ratio_at, slope_at, ratio_value, meets}
 use Rattle.farkas_check.specs.Ratios.{Fraction, is_at_least}
-use Rattle.farkas_check.specs.Tested.{goal_columns, tested_yes, tested_no, tested_certs, tested_point, tested_reached, tested_ray, of_case, tested_bound, tested_unbounded, tested, Passes}
+use Rattle.farkas_check.specs.Tested.{goal_columns, tested_no, tested_certs, tested_point, tested_reached, tested_ray, of_case, tested_bound, tested_unbounded, Passes}
 use Rattle.farkas_check.proofs.Lowest.{positive_product}
-use Rattle.farkas_check.proofs.Farkas.{bool_ok, both_true, on_parts, ok_true, CanonicalRows, no_point}
+use Rattle.farkas_check.proofs.Farkas.{bool_ok, on_parts, ok_true, CanonicalRows, no_point}
 use Rattle.farkas_check.proofs.Bounds as Goals
 use Rattle.farkas_check.proofs.Bounds.{bounded_below}
 use Rattle.farkas_check.specs.Kept.{AreCanonical, IsCanonicalGoal, IsCanonicalQuestion, HasPositive}

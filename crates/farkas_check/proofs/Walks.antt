@@ -1,8 +1,6 @@
 -- The walk over columns: that each step gives the next column.
 use Rattle.std.proofs.Common.{◌≡◌, Bool, true, false, cond, List, [], ◌∷◌, ◌++◌, Option, Some, None, refl, sym, ap, subst, ◌∙◌}
-use Rattle.std.specs.Prelude.{MatchOption}
-use Rattle.std.specs.List.{AllByRecursion, filter}
-use Rattle.std.specs.List.Sorted.{IsStrictlySortedBy}
+use Rattle.std.specs.List.{AllByRecursion}
 use Rattle.std.specs.Map.{keys_of}
 use Rattle.std.specs.Ordering.{is_lt, match_ordering, ordering_reverse}
 use Rattle.std.specs.declared.cmp.Ordering.{Ordering}
@@ -15,7 +13,7 @@ use Rattle.linear_terms.specs.MonoOrder.{mono_cmp_total}
 use Rattle.linear_terms.specs.Polynomial.{Terms}
 use Rattle.linear_terms.proofs.Order.{mono_tie}
 use Rattle.farkas_check.specs.Columns.{with_mono, in_print_order, monos_of, columns}
-use Rattle.farkas_check.specs.Walk.{is_after, columns_after, lesser, least_after, least_in_rows}
+use Rattle.farkas_check.specs.Walk.{is_after, columns_after, IsNext, lesser, least_after, least_in_rows}
 
 -- ---- the order
 
@@ -215,10 +213,10 @@ none_after : (cs : List (List Col)) → first_of cs ≡ None → cs ≡ []
 none_after [] e = refl
 none_after (c ∷ cs) e = cc
 
-pub next_is : (rows : List Row) (terms : Terms) (last next : Option (List Col)) → next ≡ least_after last (least_in_rows last None rows) (keys_of terms) → MatchOption next (columns_after last (columns rows terms) ≡ []) (λ m. columns_after last (columns rows terms) ≡ m ∷ columns_after next (columns rows terms))
+pub next_is : (rows : List Row) (terms : Terms) (last next : Option (List Col)) → next ≡ least_after last (least_in_rows last None rows) (keys_of terms) → IsNext next last (columns rows terms)
 next_is rows terms last next e = go next (sym (e ∙ least_in_rows-is rows terms last None ∙ least_after-joined last None (monos_of rows terms)))
   where
-    go : (next : Option (List Col)) → first_of (columns_after last (columns rows terms)) ≡ next → MatchOption next (columns_after last (columns rows terms) ≡ []) (λ m. columns_after last (columns rows terms) ≡ m ∷ columns_after next (columns rows terms))
+    go : (next : Option (List Col)) → first_of (columns_after last (columns rows terms)) ≡ next → IsNext next last (columns rows terms)
     go None f = none_after (columns_after last (columns rows terms)) f
     go (Some m) f = after_first last m (columns rows terms) (IsOrdered-columns (monos_of rows terms)) f
 

@@ -1,5 +1,5 @@
 -- The walk over the columns of a case, from each to the next.
-use Rattle.std.specs.Prelude.{List, [], ◌∷◌, Bool, true, Option, None, Some, if◌then◌else◌}
+use Rattle.std.specs.Prelude.{◌≡◌, List, [], ◌∷◌, Bool, true, Option, None, Some, if◌then◌else◌}
 use Rattle.std.specs.List.{filter}
 use Rattle.std.specs.Map.{keys_of}
 use Rattle.std.specs.Ordering.{is_lt}
@@ -15,6 +15,11 @@ is_after (Some last) m = is_lt (mono_cmp last m)
 -- the columns that stand after one
 abbrev pub columns_after : Option (List Col) → List (List Col) → List (List Col)
 columns_after last cs = filter (is_after last) cs
+
+-- the column is the first of those after the last one; there is none where the last one is the last of all
+abbrev pub IsNext : Option (List Col) → Option (List Col) → List (List Col) → Type 0
+IsNext None last cs = columns_after last cs ≡ []
+IsNext (Some m) last cs = columns_after last cs ≡ m ∷ columns_after (Some m) cs
 
 -- the lesser of two monomials, where the second counts
 abbrev pub lesser : Option (List Col) → List Col → Bool → Option (List Col)

@@ -62,3 +62,39 @@ impl Clone for Cert {
         })
     }
 }
+
+impl Clone for Answer {
+    ghost is_clone = { λ a b. b ≡ a };
+
+    fn clone(&self) -> Result<Answer, AllocError> {
+        match self {
+            Answer::Yes(by) => Ok(Answer::Yes(by.clone()?)),
+            Answer::No(point) => Ok(Answer::No(point.clone()?)),
+            Answer::Bound {
+                at,
+                certs,
+                case,
+                point,
+            } => {
+                let certs = certs.clone()?;
+                let point = point.clone()?;
+                Ok(Answer::Bound {
+                    at: *at,
+                    certs,
+                    case: *case,
+                    point,
+                })
+            }
+            Answer::Unbounded { case, point, ray } => {
+                let point = point.clone()?;
+                let ray = ray.clone()?;
+                Ok(Answer::Unbounded {
+                    case: *case,
+                    point,
+                    ray,
+                })
+            }
+            Answer::Limit(limit) => Ok(Answer::Limit(*limit)),
+        }
+    }
+}

@@ -3,7 +3,7 @@ ghost use Rattle.std.specs.Map.{keys_of};
 ghost use Rattle.std.specs.Ordering.{is_lt};
 ghost use Rattle.linear_terms.specs.Mono.{mono_cmp};
 ghost use Rattle.farkas_check.specs.Columns.{columns};
-ghost use Rattle.farkas_check.specs.Walk.{is_after, columns_after, lesser, least_after, least_in_rows};
+ghost use Rattle.farkas_check.specs.Walk.{IsNext, is_after, lesser, least_after, least_in_rows};
 
 use crate::Ratio;
 use linear_terms::{Mono, Row};
@@ -12,7 +12,7 @@ use linear_terms::{Mono, Row};
 /// the monomials of the rows and of the terms, in print order.
 #[tactic(auto, using(crate::proofs::Walks::next_column))]
 pub(crate) fn next_column(rows: &[Row], terms: &[(Mono, i128)], last: &Option<Mono>) -> Option<Mono>
-    ensures { MatchOption result (columns_after last.now (columns rows.now terms.now) ≡ []) (λ m. columns_after last.now (columns rows.now terms.now) ≡ m ∷ columns_after result (columns rows.now terms.now)) }
+    ensures { IsNext result last.now (columns rows.now terms.now) }
 {
     let least = least_in_rows(rows, last);
     least_after(terms, last, least)

@@ -366,6 +366,16 @@ fn ask_twice<O: Oracle>(oracle: &mut O, question: &Question) -> (bool, bool) {
 }
 
 #[test]
+fn copies(rt: HostRuntime) -> Result<(), TermError> {
+    let alloc = rt.alloc();
+    let question = two_cases(alloc)?;
+    let answer = bound(alloc, 3, (6, 19), 0)?;
+    assert_eq!(rt; question.clone()?, question);
+    assert_eq!(rt; answer.clone()?, answer);
+    Ok(())
+}
+
+#[test]
 fn an_oracle(rt: HostRuntime) -> Result<(), TermError> {
     let alloc = rt.alloc();
     let question = contradiction(alloc)?;

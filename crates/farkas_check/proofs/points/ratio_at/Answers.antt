@@ -1,4 +1,4 @@
-use Rattle.std.proofs.Common.{◌≡◌, sym, ◌∙◌, arith}
+use Rattle.std.proofs.Common.{sym, ◌∙◌, arith}
 use Rattle.farkas_check.specs.Columns.{columns}
 use Rattle.farkas_check.specs.Walk.{columns_after}
 use Rattle.farkas_check.proofs.Lookups.{ratio_at-drop}
