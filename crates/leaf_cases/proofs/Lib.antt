@@ -1,0 +1,13 @@
+pub mod Stated
+pub mod Shapes
+pub mod Moved
+pub mod Products
+pub mod Sitting
+pub mod Ready
+pub mod Guards
+pub mod Quotients
+pub mod Together
+pub mod Stepped
+pub mod Made
+pub mod Meant
+pub mod Expressions

@@ -1,0 +1,55 @@
+-- What the code knows of a polynomial that is no want of memory: it is the stated one.
+use Rattle.std.proofs.Common.{◌≡◌, ◌≢◌, List, [], ◌∷◌, ◌++◌, Option, Some, None, Result, Ok, Err, refl, sym, ap, ◌∙◌, append_assoc, append-nil}
+use Rattle.std.specs.List.{cons_option, flat_map}
+use Rattle.linear_terms.specs.declared.row.Kind.{Kind}
+use Rattle.linear_terms.specs.declared.row.Row.{Row}
+use Rattle.transition_formula.specs.declared.loss.Loss.{Loss}
+use Rattle.transition_formula.specs.Loss.{losses_of}
+use Rattle.transition_formula.specs.Composition.{row_of}
+use Rattle.leaf_cases.specs.Claims.{Answer, Claim, rows_of, lost_of}
+use Rattle.items.specs.Gives.{Gives}
+use Rattle.linear_terms.specs.declared.error.TermError.{TermError}
+use Rattle.linear_terms.specs.declared.error.TermError.TheVariants.{Wide, Degree, Memory}
+use Rattle.linear_terms.specs.Polynomial.{Polynomial}
+use Rattle.linear_terms.specs.TermError.{cause}
+
+pub stated_is : (made stated : Result Polynomial TermError) → Gives cause (λ p. p) made stated → made ≢ Err Memory → stated ≡ made
+stated_is (Ok p) stated gives told = gives
+stated_is (Err (Wide left right times)) stated gives told = gives
+stated_is (Err Degree) stated gives told = gives
+stated_is (Err Memory) stated gives told = absurd (told refl)
+
+-- ---- rows that are added one by one
+
+rows_of-append : (xs ys : List Claim) → rows_of (xs ++ ys) ≡ rows_of xs ++ rows_of ys
+rows_of-append [] ys = refl
+rows_of-append (x ∷ xs) ys = go (row_of x.kind x.poly)
+  where
+    go : (o : Option Row) → cons_option o (rows_of (xs ++ ys)) ≡ cons_option o (rows_of xs) ++ rows_of ys
+    go None = rows_of-append xs ys
+    go (Some row) = ap (λ l. row ∷ l) (rows_of-append xs ys)
+
+lost_of-append : (xs ys : List Claim) → lost_of (xs ++ ys) ≡ lost_of xs ++ lost_of ys
+lost_of-append [] ys = refl
+lost_of-append (x ∷ xs) ys = ap (λ l. losses_of x.poly ++ l) (lost_of-append xs ys) ∙ sym (append_assoc (losses_of x.poly) (lost_of xs) (lost_of ys))
+
+abbrev claim : Kind → Answer → Claim
+claim kind poly = record { kind = kind; poly = poly }
+
+-- one more claim behind those that are made, by the polynomial that the code has
+pub claim_made : (old before after : List Row) (claims : List Claim) (kind : Kind) (made stated : Answer) → before ≡ old ++ rows_of claims → Gives cause (λ p. p) made stated → made ≢ Err Memory
+    → after ≡ before ++ rows_of (claim kind made ∷ []) → after ≡ old ++ rows_of (claims ++ claim kind stated ∷ [])
+claim_made old before after claims kind made stated e gives told pushed =
+    pushed
+    ∙ (λ i. e i ++ rows_of (claim kind (sym (stated_is made stated gives told) i) ∷ []))
+    ∙ append_assoc old (rows_of claims) (rows_of (claim kind stated ∷ []))
+    ∙ ap (λ l. old ++ l) (sym (rows_of-append claims (claim kind stated ∷ [])))
+
+pub claim_noted : (old before after : List Loss) (claims : List Claim) (kind : Kind) (made stated : Answer) → before ≡ old ++ lost_of claims → Gives cause (λ p. p) made stated → made ≢ Err Memory
+    → after ≡ before ++ losses_of made → after ≡ old ++ lost_of (claims ++ claim kind stated ∷ [])
+claim_noted old before after claims kind made stated e gives told pushed =
+    pushed
+    ∙ (λ i. e i ++ losses_of (sym (stated_is made stated gives told) i))
+    ∙ append_assoc old (lost_of claims) (losses_of stated)
+    ∙ ap (λ l. old ++ (lost_of claims ++ l)) (sym (append-nil (losses_of stated)))
+    ∙ ap (λ l. old ++ l) (sym (lost_of-append claims (claim kind stated ∷ [])))

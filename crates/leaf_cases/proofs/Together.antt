@@ -1,0 +1,187 @@
+-- Two cases of one state hold together where each holds.
+use Rattle.std.proofs.Common.{◌≡◌, ◌⊎◌, inl, inr, ℕ, zero, suc, ◌+◌, ◌-◌, ◌<◌, ◌≤◌, Bool, true, false, cond, ℤ, pos, ◌+ℤ◌, ◌*ℤ◌, length, map, List, [], ◌∷◌, ◌++◌, refl, sym, ap, subst, ◌∙◌, arith}
+use Rattle.std.specs.Prelude.{IsTrue, nat_lt, slice_get, unwrap_or}
+use Rattle.std.specs.List.{AllByRecursion, flat_map, list_all}
+use Rattle.std.proofs.lemmas.List.{map-append}
+use Rattle.linear_terms.specs.declared.col.Col.{Col}
+use Rattle.linear_terms.specs.declared.col.Col.TheVariants.{At, Aux}
+use Rattle.linear_terms.specs.declared.row.Row.{Row}
+use Rattle.linear_terms.specs.declared.row.Case.{Case}
+use Rattle.linear_terms.specs.Auxiliaries.{renumbered, renumbered_column}
+use Rattle.linear_terms.specs.Polynomial.{Terms, Polynomial}
+use Rattle.linear_terms.specs.Row.{RowHolds, IsWithin}
+use Rattle.linear_terms.specs.Value.{Valuation, mono_value, terms_value, value_of}
+use Rattle.linear_terms.proofs.Columns.{each-append}
+use Rattle.transition_formula.specs.Meaning.{AreTrue, numbers, HoldsAt, HoldsCase, HoldsSome}
+use Rattle.transition_formula.specs.Renumbering.{renumbered_row}
+use Rattle.transition_formula.specs.Transition.{is_below}
+use Rattle.transition_formula.proofs.Fitting.{below-true, true-below}
+use Rattle.transition_formula.proofs.Meanings.{not-below}
+use Rattle.transition_formula.proofs.Values.{rows-agree, posts-agree}
+use Rattle.syntax_tree.specs.Value.{State}
+use Rattle.leaf_cases.specs.Listed.{beside}
+use Rattle.leaf_cases.specs.Listed as listed
+use Rattle.leaf_cases.proofs.Sitting.{Sits}
+
+-- ---- one of several lists
+
+pub some-left : (xs ys : List Case) (s z : List ℤ) → HoldsSome xs s z → HoldsSome (xs ++ ys) s z
+some-left [] ys s z h = absurd h
+some-left (x ∷ xs) ys s z (inl h) = inl h
+some-left (x ∷ xs) ys s z (inr h) = inr (some-left xs ys s z h)
+
+pub some-right : (xs ys : List Case) (s z : List ℤ) → HoldsSome ys s z → HoldsSome (xs ++ ys) s z
+some-right [] ys s z h = h
+some-right (x ∷ xs) ys s z h = inr (some-right xs ys s z h)
+
+pub some-either : (xs ys : List Case) (s z : List ℤ) → HoldsSome (xs ++ ys) s z → HoldsSome xs s z ⊎ HoldsSome ys s z
+some-either [] ys s z h = inr h
+some-either (x ∷ xs) ys s z (inl h) = inl (inl h)
+some-either (x ∷ xs) ys s z (inr h) = go (some-either xs ys s z h)
+  where
+    go : HoldsSome xs s z ⊎ HoldsSome ys s z → HoldsSome (x ∷ xs) s z ⊎ HoldsSome ys s z
+    go (inl k) = inl (inr k)
+    go (inr k) = inr k
+
+pub front-of : {A : Type 0} (P : A → Type 0) (xs ys : List A) → AllByRecursion P (xs ++ ys) → AllByRecursion P xs
+front-of P [] ys h = tt
+front-of P (x ∷ xs) ys h = (h.0, front-of P xs ys h.1)
+
+pub back-of : {A : Type 0} (P : A → Type 0) (xs ys : List A) → AllByRecursion P (xs ++ ys) → AllByRecursion P ys
+back-of P [] ys h = h
+back-of P (x ∷ xs) ys h = back-of P xs ys h.1
+
+-- ---- numbers for more auxiliaries
+
+-- those of the first so many, and then others
+abbrev pub extended : ℕ → (ℕ → ℤ) → (ℕ → ℤ) → ℕ → ℤ
+extended end old more n = cond (nat_lt n end) (old n) (more (n - end))
+
+extended-old : (end : ℕ) (old more : ℕ → ℤ) (n : ℕ) → n < end → old n ≡ extended end old more n
+extended-old end old more n lt = sym (ap (λ b. cond b (old n) (more (n - end))) (below-true n end lt))
+
+pub extended-more : (end : ℕ) (old more : ℕ → ℤ) (n : ℕ) → extended end old more (end + n) ≡ more n
+extended-more end old more n =
+    let back : end + n - end ≡ n = omega arith in
+    ap (λ b. cond b (old (end + n)) (more (end + n - end))) (not-below (end + n) end (omega arith)) ∙ ap more back
+
+agrees : (columns end : ℕ) (s : State) (old more : ℕ → ℤ) (c : Col) → IsTrue (is_below columns end c) → numbers s old c ≡ numbers s (extended end old more) c
+agrees columns end s old more (At n) h = refl
+agrees columns end s old more (Aux n) h = extended-old end old more n (true-below n end h)
+
+-- a case holds with numbers for auxiliaries that it does not have, too
+pub extended-holds : (columns most : ℕ) (case : Case) → Sits columns most case → (s z : List ℤ) (old more : ℕ → ℤ) → HoldsAt (numbers s old) case z → HoldsAt (numbers s (extended case.aux old more)) case z
+extended-holds columns most case sits s z old more h =
+    let v = numbers s old in
+    let w = numbers s (extended case.aux old more) in
+    let agree = agrees columns case.aux s old more in
+    record {
+      rows = rows-agree v w (is_below columns case.aux) agree case.rows sits.rows_are h.rows;
+      posts = sym (posts-agree v w (is_below columns case.aux) agree case.post sits.posts_are) ∙ h.posts;
+    }
+
+-- ---- auxiliaries with other numbers
+
+module _ (number : ℕ → ℕ) (at bt : Valuation) (tells : (c : Col) → bt (renumbered_column number c) ≡ at c) where
+  mono-told : (m : List Col) → mono_value bt (map (renumbered_column number) m) ≡ mono_value at m
+  mono-told [] = refl
+  mono-told (c ∷ m) = λ i. tells c i *ℤ mono-told m i
+
+  terms-told : (ts : Terms) → terms_value bt (map (λ t. (map (renumbered_column number) t.0, t.1)) ts) ≡ terms_value at ts
+  terms-told [] = refl
+  terms-told (t ∷ ts) = λ i. t.1 *ℤ mono-told t.0 i +ℤ terms-told ts i
+
+  value-told : (p : Polynomial) → value_of bt (renumbered number p) ≡ value_of at p
+  value-told p = ap (λ v. v +ℤ p.rest) (terms-told p.terms)
+
+  rows-told : (rows : List Row) → AreTrue at rows → AreTrue bt (map (renumbered_row number) rows)
+  rows-told [] k = tt
+  rows-told (row ∷ rows) k = (subst (IsWithin row.kind) (sym (value-told row.poly)) k.0, rows-told rows k.1)
+
+  told-rows : (rows : List Row) → AreTrue bt (map (renumbered_row number) rows) → AreTrue at rows
+  told-rows [] k = tt
+  told-rows (row ∷ rows) k = (subst (IsWithin row.kind) (value-told row.poly) k.0, told-rows rows k.1)
+
+  posts-told : (posts : List Polynomial) → map (value_of bt) (map (renumbered number) posts) ≡ map (value_of at) posts
+  posts-told [] = refl
+  posts-told (p ∷ posts) = λ i. value-told p i ∷ posts-told posts i
+
+-- ---- two cases
+
+-- two lists of values, one behind the other
+pub record Both (P Q : State → List ℤ → Type 0) (s z : List ℤ) : Type 0 where
+  pub first : List ℤ
+  pub second : List ℤ
+  pub left : P s first
+  pub right : Q s second
+  pub joined : z ≡ first ++ second
+
+module _ (columns most : ℕ) (a b : Case) (sits : Sits columns most a) (s x y : List ℤ) where
+  pub beside-holds : HoldsCase a s x → HoldsCase b s y → HoldsCase (beside a b) s (x ++ y)
+  beside-holds h k =
+      let aux = extended a.aux h.0 k.0 in
+      let w = numbers s aux in
+      let left = extended-holds columns most a sits s x h.0 k.0 h.1 in
+      let told = tells h.0 k.0 in (
+        aux,
+        record {
+          rows = each-append (RowHolds w) a.rows (map (renumbered_row (λ n. a.aux + n)) b.rows) left.rows (rows-told (λ n. a.aux + n) (numbers s k.0) w told b.rows k.1.rows);
+          posts =
+              map-append (value_of w) a.post (map (renumbered (λ n. a.aux + n)) b.post)
+              ∙ (λ i. left.posts i ++ (posts-told (λ n. a.aux + n) (numbers s k.0) w told b.post ∙ k.1.posts) i);
+        },
+      )
+    where
+      tells : (old more : ℕ → ℤ) (c : Col) → numbers s (extended a.aux old more) (renumbered_column (λ n. a.aux + n) c) ≡ numbers s more c
+      tells old more (At n) = refl
+      tells old more (Aux n) = extended-more a.aux old more n
+
+tells-later : (from : ℕ) (s : State) (aux : ℕ → ℤ) (c : Col) → numbers s aux (renumbered_column (λ n. from + n) c) ≡ numbers s (λ n. aux (from + n)) c
+tells-later from s aux (At n) = refl
+tells-later from s aux (Aux n) = refl
+
+pub beside-held : (a b : Case) (s z : List ℤ) → HoldsCase (beside a b) s z → Both (HoldsCase a) (HoldsCase b) s z
+beside-held a b s z (aux, h) =
+    let w = numbers s aux in
+    let at = numbers s (λ n. aux (a.aux + n)) in
+    let told = tells-later a.aux s aux in
+    record {
+      first = map (value_of w) a.post;
+      second = map (value_of at) b.post;
+      left = (aux, record { rows = front-of (RowHolds w) a.rows (map (renumbered_row (λ n. a.aux + n)) b.rows) h.rows; posts = refl });
+      right = (
+        λ n. aux (a.aux + n),
+        record { rows = told-rows (λ n. a.aux + n) at w told b.rows (back-of (RowHolds w) a.rows (map (renumbered_row (λ n. a.aux + n)) b.rows) h.rows); posts = refl },
+      );
+      joined =
+          sym h.posts
+          ∙ map-append (value_of w) a.post (map (renumbered (λ n. a.aux + n)) b.post)
+          ∙ ap (λ l. map (value_of w) a.post ++ l) (posts-told (λ n. a.aux + n) at w told b.post);
+    }
+
+-- ---- two lists
+
+each-beside : (columns most : ℕ) (a : Case) → Sits columns most a → (seconds : List Case) (s x y : List ℤ) → HoldsCase a s x → HoldsSome seconds s y → HoldsSome (map (beside a) seconds) s (x ++ y)
+each-beside columns most a sits [] s x y h k = absurd k
+each-beside columns most a sits (b ∷ seconds) s x y h (inl k) = inl (beside-holds columns most a b sits s x y h k)
+each-beside columns most a sits (b ∷ seconds) s x y h (inr k) = inr (each-beside columns most a sits seconds s x y h k)
+
+pub both-hold : (columns most : ℕ) (firsts seconds : List Case) → AllByRecursion (Sits columns most) firsts → (s x y : List ℤ) → HoldsSome firsts s x → HoldsSome seconds s y → HoldsSome (listed.both firsts seconds) s (x ++ y)
+unfolding listed.both
+both-hold columns most [] seconds sits s x y h k = absurd h
+both-hold columns most (a ∷ firsts) seconds sits s x y (inl h) k = some-left (map (beside a) seconds) (flat_map (λ a. map (beside a) seconds) firsts) s (x ++ y) (each-beside columns most a sits.0 seconds s x y h k)
+both-hold columns most (a ∷ firsts) seconds sits s x y (inr h) k = some-right (map (beside a) seconds) (flat_map (λ a. map (beside a) seconds) firsts) s (x ++ y) (both-hold columns most firsts seconds sits.1 s x y h k)
+
+one-beside : (a : Case) (seconds : List Case) (s z : List ℤ) → HoldsSome (map (beside a) seconds) s z → Both (HoldsCase a) (HoldsSome seconds) s z
+one-beside a [] s z h = absurd h
+one-beside a (b ∷ seconds) s z (inl h) = let k = beside-held a b s z h in record { first = k.first; second = k.second; left = k.left; right = inl k.right; joined = k.joined }
+one-beside a (b ∷ seconds) s z (inr h) = let k = one-beside a seconds s z h in record { first = k.first; second = k.second; left = k.left; right = inr k.right; joined = k.joined }
+
+pub both-held : (firsts seconds : List Case) (s z : List ℤ) → HoldsSome (listed.both firsts seconds) s z → Both (HoldsSome firsts) (HoldsSome seconds) s z
+unfolding listed.both
+both-held [] seconds s z h = absurd h
+both-held (a ∷ firsts) seconds s z h = go (some-either (map (beside a) seconds) (flat_map (λ a. map (beside a) seconds) firsts) s z h) (both-held firsts seconds s z)
+  where
+    go : HoldsSome (map (beside a) seconds) s z ⊎ HoldsSome (flat_map (λ a. map (beside a) seconds) firsts) s z → (HoldsSome (flat_map (λ a. map (beside a) seconds) firsts) s z → Both (HoldsSome firsts) (HoldsSome seconds) s z) → Both (HoldsSome (a ∷ firsts)) (HoldsSome seconds) s z
+    go (inl k) ih = let one = one-beside a seconds s z k in record { first = one.first; second = one.second; left = inl one.left; right = one.right; joined = one.joined }
+    go (inr k) ih = let one = ih k in record { first = one.first; second = one.second; left = inr one.left; right = one.right; joined = one.joined }

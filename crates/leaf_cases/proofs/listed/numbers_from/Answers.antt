@@ -1,0 +1,8 @@
+use Rattle.std.proofs.Common.{◌≡◌, ◌+◌, ◌-◌, [], ◌∷◌, ◌++◌, sym, ap, ◌∙◌, arith}
+use Rattle.std.specs.List.{range_with_len}
+use Rattle.leaf_cases.proofs.Moved.{range-more}
+use Rattle.leaf_cases.proofs.listed.numbers_from.Goals as goal
+
+pub loop-number-preserved : goal.loop-number-preserved
+loop-number-preserved c =
+    range-more c.args.first c.loop-number.number c.loop-number.made c.push.new.self (omega arith) c.loop-number.invariant c.in_ok-push.ensures.ok

@@ -1,0 +1,21 @@
+use Rattle.std.proofs.Common.{◌++◌, ◌∙◌}
+use Rattle.std.specs.List.{flat_map}
+use Rattle.transition_formula.proofs.Loops.{one_gathered, all_gathered}
+use Rattle.leaf_cases.specs.Steps.{made_at, lost_at}
+use Rattle.leaf_cases.specs.Steps as steps
+use Rattle.leaf_cases.proofs.step.cases_by.Goals as goal
+
+pub loop-step-preserved : goal.loop-step-preserved
+loop-step-preserved c = ?
+
+pub returns-clause-exact : goal.returns-clause-exact
+unfolding steps.cases_by
+returns-clause-exact c =
+    all_gathered (λ step. flat_map (made_at step) c.args.cases.now) c.args.steps.now c.loop-step.step-index c.loop-step.made (flat_map (λ step. flat_map (made_at step) c.args.cases.now) c.args.steps.now)
+    c.loop-step-test.false c.loop-step.invariant.made
+
+pub returns-clause-noted : goal.returns-clause-noted
+unfolding steps.lost_by
+returns-clause-noted c =
+    all_gathered (λ step. flat_map (lost_at step) c.args.cases.now) c.args.steps.now c.loop-step.step-index c.loop-step.losses (c.args.losses.now ++ flat_map (λ step. flat_map (lost_at step) c.args.cases.now) c.args.steps.now)
+    c.loop-step-test.false c.loop-step.invariant.noted

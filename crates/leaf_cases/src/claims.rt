@@ -1,0 +1,101 @@
+ghost use Rattle.std.specs.Prelude.{◌≡◌, ◌≢◌, ◌<◌, ◌^◌, ◌++◌, [], ◌∷◌, Ok, Err, IfOk, OnOk};
+ghost use Rattle.items.specs.Gives.{Gives};
+ghost use Rattle.linear_terms.specs.declared.col.Col.TheVariants.{Aux};
+ghost use Rattle.linear_terms.specs.declared.error.TermError.TheVariants.{Memory};
+ghost use Rattle.linear_terms.specs.Polynomial.{column_of};
+ghost use Rattle.linear_terms.specs.TermError.{cause};
+ghost use Rattle.transition_formula.specs.Loss.{noted, losses_of};
+ghost use Rattle.leaf_cases.specs.Claims.{difference, rows_of, lost_of, valued};
+
+use items::Items;
+use linear_terms::{Case, Col, Kind, Poly, Row, TermError, add, scale};
+use std::alloc::Global;
+use transition_formula::{FormulaError, Loss};
+
+/// One polynomial less another.
+pub(crate) fn difference(alloc: Global, a: &Poly, b: &Poly) -> Result<Poly, TermError>
+    ensures { Gives cause (λ p. p) result (difference a.now b.now) }
+{
+    let turned = scale(alloc, b, -1)?;
+    add(alloc, a, &turned)
+}
+
+/// One column as a polynomial.
+pub(crate) fn column(alloc: Global, col: Col) -> Result<Poly, FormulaError>
+    ensures { IfOk result (λ p. p ≡ column_of col) }
+{
+    match Poly::column(alloc, col) {
+        Ok(poly) => Ok(poly),
+        Err(_) => Err(FormulaError::Memory),
+    }
+}
+
+/// Notes an error of an operation; want of memory is an error here too.
+fn note(error: TermError, losses: &mut Items<Loss>) -> Result<(), FormulaError>
+    ensures noted { OnOk result (losses.new ≡ losses.old ++ noted error) }
+    ensures told { OnOk result (error ≢ Memory) }
+{
+    let loss = match error {
+        TermError::Wide { left, right, times } => Loss::Wide { left, right, times },
+        TermError::Degree => Loss::Degree,
+        TermError::Memory => return Err(FormulaError::Memory),
+    };
+    losses.push(loss)?;
+    Ok(())
+}
+
+/// Adds a row behind others, where it has a polynomial; one that is lost is noted.
+pub(crate) fn push_claim(
+    kind: Kind,
+    poly: Result<Poly, TermError>,
+    rows: &mut Items<Row>,
+    losses: &mut Items<Loss>,
+) -> Result<(), FormulaError>
+    ensures made { OnOk result (rows.new ≡ rows.old ++ rows_of (record { kind = kind; poly = poly } ∷ [])) }
+    ensures noted { OnOk result (losses.new ≡ losses.old ++ losses_of poly) }
+    ensures told { OnOk result (poly ≢ Err Memory) }
+{
+    match poly {
+        Ok(poly) => {
+            rows.push(Row { poly, kind })?;
+            Ok(())
+        }
+        Err(error) => note(error, losses),
+    }
+}
+
+/// The case with this value alone; one that is lost is noted, and becomes a new auxiliary.
+pub(crate) fn valued(
+    alloc: Global,
+    case: &Case,
+    value: Result<Poly, TermError>,
+    losses: &mut Items<Loss>,
+) -> Result<Case, FormulaError>
+    requires { case.now.aux < 2 ^ 31 }
+    ensures exact { IfOk result (λ c. c ≡ valued case.now value) }
+    ensures noted { OnOk result (losses.new ≡ losses.old ++ losses_of value) }
+    ensures told { OnOk result (value ≢ Err Memory) }
+{
+    match value {
+        Ok(poly) => with_value(alloc, case, case.aux, poly),
+        Err(error) => {
+            note(error, losses)?;
+            with_value(alloc, case, case.aux + 1, column(alloc, Col::Aux(case.aux))?)
+        }
+    }
+}
+
+/// The case over so many auxiliaries with this value alone.
+pub(crate) fn with_value(
+    alloc: Global,
+    case: &Case,
+    aux: u32,
+    value: Poly,
+) -> Result<Case, FormulaError>
+    ensures { IfOk result (λ c. c ≡ record { aux = aux; rows = case.now.rows; post = value ∷ [] }) }
+{
+    let rows = case.rows.clone()?;
+    let mut post = Items::new(alloc);
+    post.push(value)?;
+    Ok(Case { aux, rows, post })
+}

@@ -1,0 +1,15 @@
+//! Cases of the value, the truth and the falsity of an expression, and the formulas that say where it is
+//! true or false: a formula holds exactly where the expression is, up to what is lost because a step leaves
+//! 128 bits or passes degree 4.
+#![tactic(auto)]
+
+mod claims;
+mod division;
+mod expression;
+mod guard;
+mod listed;
+mod step;
+#[cfg(test)]
+mod tests;
+
+pub use guard::{falsity, truth};
