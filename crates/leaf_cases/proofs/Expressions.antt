@@ -24,7 +24,7 @@ use Rattle.leaf_cases.specs.declared.step.Step.{Step}
 use Rattle.leaf_cases.specs.declared.step.Step.TheVariants.{Value, Divide, Test}
 use Rattle.leaf_cases.specs.Expression.{Lists, by, known, numbered, of_number, of_test, sign_lists, calculated, compared, comparison, opposite, tests_of, operator_lists, lists_of}
 use Rattle.leaf_cases.specs.Listed.{Listed, together, either}
-use Rattle.leaf_cases.proofs.Made.{Stepped, Numbered, SomeGives}
+use Rattle.leaf_cases.proofs.Made.{Stepped, Numbered, SomeGives, constant-value}
 use Rattle.leaf_cases.proofs.Meant.{Means, OneOf, Known, means-as, means-together, means-either, means-by, means-numbered, means-known}
 use Rattle.leaf_cases.proofs.Ready.{sit}
 use Rattle.leaf_cases.proofs.Stepped.{StepGives, first_of, second_of}
@@ -75,10 +75,10 @@ module _ (columns : ℕ) (e : Term) where
       }
     where
       below : (x v : ℤ) → x ≡ v → (x -ℤ negsuc 0) ≤ℤ pos 0 → v ≢ pos 0
-      below x v same h zero = omega (arith, ints, same, zero)
+      below x v same h none = omega (arith, ints, same, none)
 
       above : (x v : ℤ) → x ≡ v → (pos 1 -ℤ x) ≤ℤ pos 0 → v ≢ pos 0
-      above x v same h zero = omega (arith, ints, same, zero)
+      above x v same h none = omega (arith, ints, same, none)
 
       truth-there : (s z : List ℤ) → Stepped (Test Negative ∷ Test Positive ∷ []) (ValueIs e) s z → TrueIs e s z
       truth-there s z m = go m.gives
@@ -140,10 +140,10 @@ module _ (columns : ℕ) (e : Term) where
       back s z m = go (bit.test s m.number m.value)
         where
           go : (m.number ≡ pos 0) ⊎ (m.number ≡ pos 1) → OneOf (Numbered (pos 1) (TrueIs e)) (Numbered (pos 0) (FalseIs e)) s z
-          go (inl zero) = record { one = inr (record { numbers_are = []; holds = record { value = m.value ∙ numbers_differ m.number (pos 0) zero; none = refl }; value_is = m.is ∙ (λ i. zero i ∷ []) }) }
+          go (inl nought) = record { one = inr (record { numbers_are = []; holds = record { value = m.value ∙ numbers_differ m.number (pos 0) nought; none = refl }; value_is = m.is ∙ (λ i. nought i ∷ []) }) }
           go (inr is) =
               record {
-                one = inl (record { numbers_are = []; holds = record { number = m.number; value = m.value; some = λ zero. clash m.number zero is; none = refl }; value_is = m.is ∙ (λ i. is i ∷ []) });
+                one = inl (record { numbers_are = []; holds = record { number = m.number; value = m.value; some = λ nought. clash m.number nought is; none = refl }; value_is = m.is ∙ (λ i. is i ∷ []) });
               }
             where
               clash : (v : ℤ) → v ≡ pos 0 → v ≡ pos 1 → ⊥
@@ -204,7 +204,7 @@ is_true-some : (x : ℤ) → x ≢ pos 0 → is_true x ≡ true
 is_true-some x h = ap not (int_eq-zero x h)
 
 some-is_true : (x : ℤ) → is_true x ≡ true → x ≢ pos 0
-some-is_true x h zero = let k = ap is_true zero in cc
+some-is_true x h none = let k = ap is_true none in cc
 
 zero-is_true : (x : ℤ) → is_true x ≡ false → x ≡ pos 0
 zero-is_true x h = go (int_eq x (pos 0)) refl h
@@ -242,14 +242,14 @@ module _ (columns : ℕ) (e : Term) (lists : Lists) (h : MeansAll columns e list
       test-means columns (Unary Not e) lists.falsity lists.truth (record { test = λ s v k. let o = unary-operand (value_of e s) (signed Not) v k in truth_value-bit (not (is_true o.number)) v o.gives })
       (means-as columns lists.falsity (FalseIs e) (TrueIs (Unary Not e)) h.falsity (λ s z m. record { number = pos 1; value = signed-value Not e s (pos 0) m.value; some = λ k. omega (arith, ints, k); none = m.none })
       (λ s z m.
-          let o = unary-operand (value_of e s) (signed Not) m.number m.value in
-          let zero = zero-is_true o.number (not-true (is_true o.number) (is-true (not (is_true o.number)) m.number o.gives m.some)) in
-          record { value = o.is ∙ numbers_differ o.number (pos 0) zero; none = m.none }))
+      let o = unary-operand (value_of e s) (signed Not) m.number m.value in
+      let nought = zero-is_true o.number (not-true (is_true o.number) (is-true (not (is_true o.number)) m.number o.gives m.some)) in
+      record { value = o.is ∙ numbers_differ o.number (pos 0) nought; none = m.none }))
       (means-as columns lists.truth (TrueIs e) (FalseIs (Unary Not e)) h.truth
       (λ s z m. record { value = signed-value Not e s m.number m.value ∙ numbers_differ (signed Not m.number) (pos 0) (ap (λ b. truth_value (not b)) (is_true-some m.number m.some)); none = m.none })
       (λ s z m.
-          let o = unary-operand (value_of e s) (signed Not) (pos 0) m.value in
-          record { number = o.number; value = o.is; some = some-is_true o.number (not-false (is_true o.number) (is-false (not (is_true o.number)) o.gives)); none = m.none }))
+      let o = unary-operand (value_of e s) (signed Not) (pos 0) m.value in
+      record { number = o.number; value = o.is; some = some-is_true o.number (not-false (is_true o.number) (is-false (not (is_true o.number)) o.gives)); none = m.none }))
 
   pub sign-means : (sign : Sign) → MeansAll columns (Unary sign e) (sign_lists sign lists)
   sign-means Plus = plus-means
@@ -302,7 +302,7 @@ divisor-some y z v e = go (int_eq y (pos 0)) refl e
   where
     go : (b : Bool) → int_eq y (pos 0) ≡ b → cond b None (Some z) ≡ Some v → (y ≢ pos 0) × (z ≡ v)
     go true f e = cc
-    go false f e = (λ zero. let k = (Decides-int_eq y (pos 0)).1 zero in cc, some_is z v e)
+    go false f e = (λ none. let k = (Decides-int_eq y (pos 0)).1 none in cc, some_is z v e)
 
 one-list : (a b : ℤ) → a ≡ b → a ∷ [] ≡ b ∷ []
 one-list a b e = λ i. e i ∷ []
@@ -648,32 +648,32 @@ module _ (columns : ℕ) (l r : Term) (L R : Lists) (h : MeansAll columns l L) (
       (record { test = λ s v e. let o = binary-operands op l r s v does.early e in truth_value-bit (test op o.left o.right) v (some_is (truth_value (test op o.left o.right)) v (sym (does.result o.left o.right) ∙ o.gives)) })
       (means-as columns (compared op L R) (Stepped (tests_of op) (Both (ValueIs l) (ValueIs r))) (TrueIs (Binary op l r)) (means-by columns (tests_of op) (together L.value R.value) (Both (ValueIs l) (ValueIs r)) pairs-mean)
       (λ s z m.
-          let x = m.holds.left.number in
-          let y = m.holds.right.number in
-          let t = does.holds x y z (subst (λ n. SomeGives (tests_of op) (first_of n) (second_of n) z) (pair_is s m.numbers_are m.holds) m.gives) in
-          record {
-            number = pos 1;
-            value = binary-value op l r s x y (does.early x) m.holds.left.value m.holds.right.value ∙ does.result x y ∙ numbers_differ (truth_value (test op x y)) (pos 1) (test-one (test op x y) t.0);
-            some = λ e. omega (arith, ints, e);
-            none = t.1;
-          })
+      let x = m.holds.left.number in
+      let y = m.holds.right.number in
+      let t = does.holds x y z (subst (λ n. SomeGives (tests_of op) (first_of n) (second_of n) z) (pair_is s m.numbers_are m.holds) m.gives) in
+      record {
+        number = pos 1;
+        value = binary-value op l r s x y (does.early x) m.holds.left.value m.holds.right.value ∙ does.result x y ∙ numbers_differ (truth_value (test op x y)) (pos 1) (test-one (test op x y) t.0);
+        some = λ e. omega (arith, ints, e);
+        none = t.1;
+      })
       (λ s z m.
-          let o = binary-operands op l r s m.number does.early m.value in
-          let t = is-true (test op o.left o.right) m.number (some_is (truth_value (test op o.left o.right)) m.number (sym (does.result o.left o.right) ∙ o.gives)) m.some in
-          record { numbers_are = o.left ∷ o.right ∷ []; holds = pair_of s o.left o.right o.left_is o.right_is; gives = does.held o.left o.right z t m.none }))
+      let o = binary-operands op l r s m.number does.early m.value in
+      let t = is-true (test op o.left o.right) m.number (some_is (truth_value (test op o.left o.right)) m.number (sym (does.result o.left o.right) ∙ o.gives)) m.some in
+      record { numbers_are = o.left ∷ o.right ∷ []; holds = pair_of s o.left o.right o.left_is o.right_is; gives = does.held o.left o.right z t m.none }))
       (means-as columns (compared (opposite op) L R) (Stepped (tests_of (opposite op)) (Both (ValueIs l) (ValueIs r))) (FalseIs (Binary op l r)) (means-by columns (tests_of (opposite op)) (together L.value R.value) (Both (ValueIs l) (ValueIs r)) pairs-mean)
       (λ s z m.
-          let x = m.holds.left.number in
-          let y = m.holds.right.number in
-          let t = does.fails x y z (subst (λ n. SomeGives (tests_of (opposite op)) (first_of n) (second_of n) z) (pair_is s m.numbers_are m.holds) m.gives) in
-          record {
-            value = binary-value op l r s x y (does.early x) m.holds.left.value m.holds.right.value ∙ does.result x y ∙ numbers_differ (truth_value (test op x y)) (pos 0) (test-zero (test op x y) t.0);
-            none = t.1;
-          })
+      let x = m.holds.left.number in
+      let y = m.holds.right.number in
+      let t = does.fails x y z (subst (λ n. SomeGives (tests_of (opposite op)) (first_of n) (second_of n) z) (pair_is s m.numbers_are m.holds) m.gives) in
+      record {
+        value = binary-value op l r s x y (does.early x) m.holds.left.value m.holds.right.value ∙ does.result x y ∙ numbers_differ (truth_value (test op x y)) (pos 0) (test-zero (test op x y) t.0);
+        none = t.1;
+      })
       (λ s z m.
-          let o = binary-operands op l r s (pos 0) does.early m.value in
-          let t = is-false (test op o.left o.right) (some_is (truth_value (test op o.left o.right)) (pos 0) (sym (does.result o.left o.right) ∙ o.gives)) in
-          record { numbers_are = o.left ∷ o.right ∷ []; holds = pair_of s o.left o.right o.left_is o.right_is; gives = does.failed o.left o.right z t m.none }))
+      let o = binary-operands op l r s (pos 0) does.early m.value in
+      let t = is-false (test op o.left o.right) (some_is (truth_value (test op o.left o.right)) (pos 0) (sym (does.result o.left o.right) ∙ o.gives)) in
+      record { numbers_are = o.left ∷ o.right ∷ []; holds = pair_of s o.left o.right o.left_is o.right_is; gives = does.failed o.left o.right z t m.none }))
 
   -- both operands are on the side that does not decide
   joint-means : (op : Op) (d : Bool) → Decides op d → Means columns (together (side_of (not d) L) (side_of (not d) R)) (SideIs (not d) (Binary op l r))
@@ -771,7 +771,7 @@ pub expression-means : (columns : ℕ) (e : Term) → IsTrue (columns_below colu
 unfolding lists_of
 expression-means columns (Lit n) h =
     number-means columns (Lit n) (known (constant_of n))
-    (means-as columns (known (constant_of n)) (Known (λ s. n)) (ValueIs (Lit n)) (means-known columns (constant_of n) (λ s. n) (λ s aux. refl) 0 (sit columns (Lit n) h).value)
+    (means-as columns (known (constant_of n)) (Known (λ s. n)) (ValueIs (Lit n)) (means-known columns (constant_of n) (λ s. n) (λ s aux. constant-value (numbers s aux) n) 0 (sit columns (Lit n) h).value)
     (λ s z m. record { number = n; value = refl; is = m.is }) (λ s z m. record { is = m.is ∙ one-list m.number n (sym (some_is n m.number m.value)) }))
 expression-means columns (Col c) h =
     number-means columns (Col c) (known (column_of (At c)))

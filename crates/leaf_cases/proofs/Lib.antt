@@ -4,10 +4,10 @@ pub mod Moved
 pub mod Products
 pub mod Sitting
 pub mod Ready
-pub mod Guards
 pub mod Quotients
 pub mod Together
 pub mod Stepped
 pub mod Made
 pub mod Meant
 pub mod Expressions
+pub mod Guards

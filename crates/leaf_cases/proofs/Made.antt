@@ -1,6 +1,7 @@
 -- What steps make of cases holds of the numbers that they give, and of no others where nothing is lost.
 use Rattle.std.proofs.Common.{◌≡◌, ◌≢◌, ◌⊎◌, inl, inr, ℕ, zero, suc, ◌+◌, Bool, true, false, ℤ, pos, ◌-ℤ◌, ◌*ℤ◌, length, map, List, [], ◌∷◌, ◌++◌, Result, Ok, Err, refl, sym, ap, subst, ◌∙◌, append-nil, arith}
 use Rattle.std.specs.Prelude.{int_div}
+use Rattle.std.proofs.lemmas.Int.{ints}
 use Rattle.std.specs.List.{AllByRecursion, flat_map}
 use Rattle.linear_terms.specs.declared.col.Col.TheVariants.{At, Aux}
 use Rattle.linear_terms.specs.declared.row.Case.{Case}
@@ -66,20 +67,18 @@ module _ (columns most : ℕ) (case : Case) (sits : Sits columns most case) (s x
           let w = numbers s aux in
           let same : case.aux + 0 ≡ case.aux = omega arith in
           let new : w (Aux case.aux) ≡ calculated_number arithmetic (first_of x) (second_of x) =
-          ap (λ n. aux n) (sym same) ∙ extended-more case.aux h.0 (λ n. calculated_number arithmetic (first_of x) (second_of x)) 0 in
-          (
+          ap (λ n. aux n) (sym same) ∙ extended-more case.aux h.0 (λ n. calculated_number arithmetic (first_of x) (second_of x)) 0 in (
             aux,
             limited-holds w case x (extended-holds columns most case sits s x h.0 (λ n. calculated_number arithmetic (first_of x) (second_of x)) h.1) 1 [] [] tt tt (column_of (Aux case.aux) ∷ []) y
-            (one-value w (column_of (Aux case.aux)) (calculated_number arithmetic (first_of x) (second_of x)) (column-value w (Aux case.aux) ∙ new) ∙ sym e),
+                (one-value w (column_of (Aux case.aux)) (calculated_number arithmetic (first_of x) (second_of x)) (column-value w (Aux case.aux) ∙ new) ∙ sym e),
           )
 
   test-holds : (relation : Relation) (y : List ℤ) → StepGives (Test relation) (first_of x) (second_of x) y → HoldsCase (limited case 0 (test_claim relation case ∷ []) []) s y
   test-holds relation y (within, e) =
-      let w = numbers s h.0 in
-      (
+      let w = numbers s h.0 in (
         h.0,
         limited-holds w case x h.1 0 (test_claim relation case ∷ []) (tested_number relation (first_of x) (second_of x) ∷ [])
-        (test-says w (operand 0 case) (operand 1 case) (first_of x) (second_of x) (operand-value w case x 0 h.1) (operand-value w case x 1 h.1) relation, tt) (within, tt) [] y (sym e),
+            (test-says w (operand 0 case) (operand 1 case) (first_of x) (second_of x) (operand-value w case x 0 h.1) (operand-value w case x 1 h.1) relation, tt) (within, tt) [] y (sym e),
       )
 
   abbrev halves : ℕ → ℤ
@@ -100,11 +99,10 @@ module _ (columns most : ℕ) (case : Case) (sits : Sits columns most case) (s x
       let says = division-says w (record { divisor = f.divisor; dividend = f.dividend }) (operand 0 case) (operand 1 case) (column_of (Aux case.aux)) (column_of (Aux (case.aux + 1))) a b (int_div a b) (a -ℤ (int_div a b *ℤ b))
       (operand-value w case x 0 at) (operand-value w case x 1 at) (column-value w (Aux case.aux) ∙ q) (column-value w (Aux (case.aux + 1)) ∙ r) in
       let within = splits-within a b (int_div a b) (a -ℤ (int_div a b *ℤ b)) f.divisor f.dividend f.splits in
-      let value : value_of w (column_of (Aux (part_at part case.aux))) ≡ part_number part a b = column-value w (Aux (part_at part case.aux)) ∙ part_is part w q r in
-      (
+      let value : value_of w (column_of (Aux (part_at part case.aux))) ≡ part_number part a b = column-value w (Aux (part_at part case.aux)) ∙ part_is part w q r in (
         aux,
         limited-holds w case x at 2 (division_at (record { divisor = f.divisor; dividend = f.dividend }) case) (division_numbers f.divisor f.dividend a b (int_div a b) (a -ℤ (int_div a b *ℤ b))) says within
-        (column_of (Aux (part_at part case.aux)) ∷ []) y (one-value w (column_of (Aux (part_at part case.aux))) (part_number part a b) value ∙ sym e),
+            (column_of (Aux (part_at part case.aux)) ∷ []) y (one-value w (column_of (Aux (part_at part case.aux))) (part_number part a b) value ∙ sym e),
       )
     where
       part_is : (part : Part) (w : Valuation) → w (Aux case.aux) ≡ int_div (first_of x) (second_of x) → w (Aux (case.aux + 1)) ≡ first_of x -ℤ (int_div (first_of x) (second_of x) *ℤ second_of x)
@@ -179,9 +177,6 @@ module _ (case : Case) (s y : List ℤ) where
   step-held (Test relation) none (inr h) = absurd h
   step-held (Divide part) none h = four h
     where
-      lost : Bool → Bool → List _
-      lost divisor dividend = lost_of (division_at (record { divisor = divisor; dividend = dividend }) case)
-
       four : HoldsSome (made_at (Divide part) case) s y → From case (Divide part) s y
       four (inl k) = division-held part true true (none-of (lost_of (division_at (record { divisor = true; dividend = true }) case)) _ none).0 k
       four (inr (inl k)) = division-held part true false (none-of (lost_of (division_at (record { divisor = true; dividend = false }) case)) _ (none-of (lost_of (division_at (record { divisor = true; dividend = true }) case)) _ none).1).0 k
@@ -255,8 +250,8 @@ pub record Numbered (value : ℤ) (P : List ℤ → List ℤ → Type 0) (s y : 
   pub holds : P s numbers_are
   pub value_is : y ≡ value ∷ []
 
-constant-value : (w : Valuation) (value : ℤ) → value_of w (constant_of value) ≡ value
-constant-value w value = refl
+pub constant-value : (w : Valuation) (value : ℤ) → value_of w (constant_of value) ≡ value
+constant-value w value = omega (arith, ints)
 
 pub numbered-hold : (value : ℤ) (cases : List Case) (s x : List ℤ) → HoldsSome cases s x → HoldsSome (map (with_number value) cases) s (value ∷ [])
 numbered-hold value [] s x h = absurd h

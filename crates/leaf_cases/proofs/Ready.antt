@@ -137,8 +137,7 @@ width_of (Col c) = (c + 1, below-true c (c + 1) (omega arith))
 width_of (Unary sign inner) = width_of inner
 width_of (Binary op left right) =
     let a = width_of left in
-    let b = width_of right in
-    (
+    let b = width_of right in (
       a.0 + b.0,
       both_true (columns_below (a.0 + b.0) left) (columns_below (a.0 + b.0) right) (columns_below-more a.0 (a.0 + b.0) left (omega arith) a.1) (columns_below-more b.0 (a.0 + b.0) right (omega arith) b.1),
     )

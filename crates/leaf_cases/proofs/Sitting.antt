@@ -241,10 +241,9 @@ module _ (columns : ℕ) where
       (one-post t (column_of (Aux (part_at part case.aux))) (column_passes t (Aux (part_at part case.aux)) (part-below part case.aux))))
       all_signs (each-any (λ signs. Unit {0}) (λ signs. tt) all_signs)
   sits-step most (Test relation) case s =
-      let t = is_below columns (case.aux + 0) in
-      (
+      let t = is_below columns (case.aux + 0) in (
         sits-more columns (most + 0) (most + 2) (omega arith) (limited case 0 (test_claim relation case ∷ []) [])
-        (sits-limited most 0 case (test_claim relation case ∷ []) [] s (test-covered t relation (operand 0 case) (operand 1 case) (operand-covered most 0 0 case s) (operand-covered most 0 1 case s), tt) refl),
+            (sits-limited most 0 case (test_claim relation case ∷ []) [] s (test-covered t relation (operand 0 case) (operand 1 case) (operand-covered most 0 0 case s) (operand-covered most 0 1 case s), tt) refl),
         tt,
       )
 

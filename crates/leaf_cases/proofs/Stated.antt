@@ -1,5 +1,5 @@
 -- What the code knows of a polynomial that is no want of memory: it is the stated one.
-use Rattle.std.proofs.Common.{◌≡◌, ◌≢◌, List, [], ◌∷◌, ◌++◌, Option, Some, None, Result, Ok, Err, refl, sym, ap, ◌∙◌, append_assoc, append-nil}
+use Rattle.std.proofs.Common.{◌≡◌, ◌≢◌, ℕ, zero, suc, ◌<◌, length, get_or, arith, List, [], ◌∷◌, ◌++◌, Option, Some, None, Result, Ok, Err, refl, sym, ap, ◌∙◌, append_assoc, append-nil}
 use Rattle.std.specs.List.{cons_option, flat_map}
 use Rattle.linear_terms.specs.declared.row.Kind.{Kind}
 use Rattle.linear_terms.specs.declared.row.Row.{Row}
@@ -23,11 +23,11 @@ stated_is (Err Memory) stated gives told = absurd (told refl)
 
 rows_of-append : (xs ys : List Claim) → rows_of (xs ++ ys) ≡ rows_of xs ++ rows_of ys
 rows_of-append [] ys = refl
-rows_of-append (x ∷ xs) ys = go (row_of x.kind x.poly)
+rows_of-append (x ∷ xs) ys = go (row_of x.kind x.poly) (rows_of-append xs ys)
   where
-    go : (o : Option Row) → cons_option o (rows_of (xs ++ ys)) ≡ cons_option o (rows_of xs) ++ rows_of ys
-    go None = rows_of-append xs ys
-    go (Some row) = ap (λ l. row ∷ l) (rows_of-append xs ys)
+    go : (o : Option Row) → rows_of (xs ++ ys) ≡ rows_of xs ++ rows_of ys → cons_option o (rows_of (xs ++ ys)) ≡ cons_option o (rows_of xs) ++ rows_of ys
+    go None e = e
+    go (Some row) e = ap (λ l. row ∷ l) e
 
 lost_of-append : (xs ys : List Claim) → lost_of (xs ++ ys) ≡ lost_of xs ++ lost_of ys
 lost_of-append [] ys = refl
@@ -53,3 +53,9 @@ claim_noted old before after claims kind made stated e gives told pushed =
     ∙ append_assoc old (lost_of claims) (losses_of stated)
     ∙ ap (λ l. old ++ (lost_of claims ++ l)) (sym (append-nil (losses_of stated)))
     ∙ ap (λ l. old ++ l) (sym (lost_of-append claims (claim kind stated ∷ [])))
+
+-- which default is given does not matter inside a list
+pub default_free : {X : Type 0} (xs : List X) (i : ℕ) (d e : X) → i < length xs → get_or xs i d ≡ get_or xs i e
+default_free [] i d e h = absurd (omega arith)
+default_free (x ∷ xs) zero d e h = refl
+default_free (x ∷ xs) (suc i) d e h = default_free xs i d e (omega arith)

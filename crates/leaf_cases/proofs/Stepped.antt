@@ -86,7 +86,7 @@ AllWithin [] (z ∷ zs) = ⊥
 AllWithin (claim ∷ claims) [] = ⊥
 AllWithin (claim ∷ claims) (z ∷ zs) = IsWithin claim.kind z × AllWithin claims zs
 
-claims-hold : (w : Valuation) (claims : List Claim) (zs : List ℤ) → AllSay w claims zs → AllWithin claims zs → AreTrue w (rows_of claims)
+pub claims-hold : (w : Valuation) (claims : List Claim) (zs : List ℤ) → AllSay w claims zs → AllWithin claims zs → AreTrue w (rows_of claims)
 claims-hold w [] zs h k = tt
 claims-hold w (claim ∷ claims) [] h k = absurd h
 claims-hold w (claim ∷ claims) (z ∷ zs) h k = go claim.poly refl (claims-hold w claims zs h.1 k.1)
@@ -95,7 +95,7 @@ claims-hold w (claim ∷ claims) (z ∷ zs) h k = go claim.poly refl (claims-hol
     go (Ok p) e rest = (subst (IsWithin claim.kind) (sym (h.0.is p e)) k.0, rest)
     go (Err d) e rest = rest
 
-claims-held : (w : Valuation) (claims : List Claim) (zs : List ℤ) → AllSay w claims zs → lost_of claims ≡ [] → AreTrue w (rows_of claims) → AllWithin claims zs
+pub claims-held : (w : Valuation) (claims : List Claim) (zs : List ℤ) → AllSay w claims zs → lost_of claims ≡ [] → AreTrue w (rows_of claims) → AllWithin claims zs
 claims-held w [] [] h none k = tt
 claims-held w [] (z ∷ zs) h none k = absurd h
 claims-held w (claim ∷ claims) [] h none k = absurd h
@@ -120,7 +120,7 @@ got f d [] n e = e
 got f d (x ∷ xs) zero e = refl
 got f d (x ∷ xs) (suc n) e = got f d xs n e
 
-operand-value : (w : Valuation) (case : Case) (z : List ℤ) (n : ℕ) → HoldsAt w case z → value_of w (operand n case) ≡ unwrap_or (slice_get z n) (pos 0)
+pub operand-value : (w : Valuation) (case : Case) (z : List ℤ) (n : ℕ) → HoldsAt w case z → value_of w (operand n case) ≡ unwrap_or (slice_get z n) (pos 0)
 operand-value w case z n h = got (value_of w) (constant_of (pos 0)) case.post n refl ∙ ap (λ l. unwrap_or (slice_get l n) (pos 0)) h.posts
 
 -- ---- what a step says of numbers
@@ -151,13 +151,13 @@ StepGives (Divide part) a b y = (b ≢ pos 0) × (y ≡ part_number part a b ∷
 StepGives (Test relation) a b y = IsWithin (kind_of relation) (tested_number relation a b) × (y ≡ [])
 
 module _ (w : Valuation) (a b : Polynomial) (x y : ℤ) (h : value_of w a ≡ x) (k : value_of w b ≡ y) where
-  value-says : (arithmetic : Arithmetic) → Says w (value_at arithmetic a b) (calculated_number arithmetic x y)
+  pub value-says : (arithmetic : Arithmetic) → Says w (value_at arithmetic a b) (calculated_number arithmetic x y)
   value-says Negate = record { is = λ p e. (turned-says w a).is p e ∙ ap (λ v. pos 0 -ℤ v) h }
   value-says Sum = record { is = λ p e. (sum-says w a b).is p e ∙ (λ i. h i +ℤ k i) }
   value-says Difference = record { is = λ p e. (difference-says w a b).is p e ∙ (λ i. h i -ℤ k i) }
   value-says Product = record { is = λ p e. product_of_polys-value w a b p e ∙ (λ i. h i *ℤ k i) }
 
-  test-says : (relation : Relation) → Says w (test_at relation a b) (tested_number relation x y)
+  pub test-says : (relation : Relation) → Says w (test_at relation a b) (tested_number relation x y)
   test-says Less = record { is = λ p e. (one_more-says w a b).is p e ∙ (λ i. h i -ℤ k i +ℤ pos 1) }
   test-says LessOrEqual = record { is = λ p e. (difference-says w a b).is p e ∙ (λ i. h i -ℤ k i) }
   test-says Greater = record { is = λ p e. (one_more-says w b a).is p e ∙ (λ i. k i -ℤ h i +ℤ pos 1) }
@@ -172,8 +172,10 @@ module _ (w : Valuation) (a b : Polynomial) (x y : ℤ) (h : value_of w a ≡ x)
     equation-says =
         bind-says w (product_of_polys q b) (λ p. difference a p >>= λ d. difference d r) (x -ℤ u *ℤ y -ℤ v)
         (λ p e. bind-says w (difference a p) (λ d. difference d r) (x -ℤ u *ℤ y -ℤ v)
-        (λ d f. record { is = λ s g. (difference-says w d r).is s g
-        ∙ (λ i. ((difference-says w a p).is d f ∙ (λ j. h j -ℤ (product_of_polys-value w q b p e ∙ (λ n. l n *ℤ k n)) j)) i -ℤ m i) }))
+        (λ d f. record {
+          is = λ s g. (difference-says w d r).is s g
+              ∙ (λ i. ((difference-says w a p).is d f ∙ (λ j. h j -ℤ (product_of_polys-value w q b p e ∙ (λ n. l n *ℤ k n)) j)) i -ℤ m i);
+        }))
 
     divisor-says : (sign : Bool) → Says w (divisor_sign sign b) (cond sign (pos 1 -ℤ y) (y -ℤ negsuc 0))
     divisor-says true = record { is = λ p e. (difference-says w one b).is p e ∙ (λ i. pos 1 -ℤ k i) }
@@ -189,8 +191,10 @@ module _ (w : Valuation) (a b : Polynomial) (x y : ℤ) (h : value_of w a ≡ x)
     lower-says true false =
         bind-says w (multiple_of b (negsuc 0)) (λ turned. sum_of_polys turned one >>= λ least. difference least r) (pos 1 -ℤ y -ℤ v)
         (λ t e. bind-says w (sum_of_polys t one) (λ least. difference least r) (pos 1 -ℤ y -ℤ v)
-        (λ n f. record { is = λ p g. (difference-says w n r).is p g ∙ (λ i. value_of w n -ℤ m i)
-        ∙ least (value_of w n) (value_of w t) ((sum-says w t one).is n f) ((turned-says w b).is t e ∙ (λ i. pos 0 -ℤ k i)) }))
+        (λ n f. record {
+          is = λ p g. (difference-says w n r).is p g ∙ (λ i. value_of w n -ℤ m i)
+              ∙ least (value_of w n) (value_of w t) ((sum-says w t one).is n f) ((turned-says w b).is t e ∙ (λ i. pos 0 -ℤ k i));
+        }))
       where
         least : (n t : ℤ) → n ≡ t +ℤ pos 1 → t ≡ pos 0 -ℤ y → n -ℤ v ≡ pos 1 -ℤ y -ℤ v
         least n t e f = omega (arith, ints, e, f)
@@ -205,8 +209,10 @@ module _ (w : Valuation) (a b : Polynomial) (x y : ℤ) (h : value_of w a ≡ x)
     upper-says false true =
         bind-says w (multiple_of b (negsuc 0)) (λ turned. difference turned one >>= λ most. difference r most) (v -ℤ (negsuc 0 -ℤ y))
         (λ t e. bind-says w (difference t one) (λ most. difference r most) (v -ℤ (negsuc 0 -ℤ y))
-        (λ n f. record { is = λ p g. (difference-says w r n).is p g ∙ (λ i. m i -ℤ value_of w n)
-        ∙ most (value_of w n) (value_of w t) ((difference-says w t one).is n f) ((turned-says w b).is t e ∙ (λ i. pos 0 -ℤ k i)) }))
+        (λ n f. record {
+          is = λ p g. (difference-says w r n).is p g ∙ (λ i. m i -ℤ value_of w n)
+              ∙ most (value_of w n) (value_of w t) ((difference-says w t one).is n f) ((turned-says w b).is t e ∙ (λ i. pos 0 -ℤ k i));
+        }))
       where
         most : (n t : ℤ) → n ≡ t -ℤ pos 1 → t ≡ pos 0 -ℤ y → v -ℤ n ≡ v -ℤ (negsuc 0 -ℤ y)
         most n t e f = omega (arith, ints, e, f)
@@ -223,7 +229,7 @@ division_numbers divisor dividend x y u v =
     ∷ (cond dividend (cond divisor (v -ℤ (y -ℤ pos 1)) (v -ℤ (negsuc 0 -ℤ y))) (v -ℤ pos 0))
     ∷ []
 
-division-says : (w : Valuation) (signs : Signs) (a b q r : Polynomial) (x y u v : ℤ) → value_of w a ≡ x → value_of w b ≡ y → value_of w q ≡ u → value_of w r ≡ v
+pub division-says : (w : Valuation) (signs : Signs) (a b q r : Polynomial) (x y u v : ℤ) → value_of w a ≡ x → value_of w b ≡ y → value_of w q ≡ u → value_of w r ≡ v
     → AllSay w (division signs a b q r) (division_numbers signs.divisor signs.dividend x y u v)
 division-says w signs a b q r x y u v h k l m = (
   equation-says w a b x y h k q r u v l m,
@@ -241,13 +247,13 @@ abbrev WithinDivision : Bool → Bool → ℤ → ℤ → ℤ → ℤ → Type 0
 WithinDivision divisor dividend x y u v = AllWithin (division (record { divisor = divisor; dividend = dividend }) one one one one) (division_numbers divisor dividend x y u v)
 
 module _ (x y u v : ℤ) where
-  splits-within : (divisor dividend : Bool) → Splits divisor dividend x y u v → WithinDivision divisor dividend x y u v
+  pub splits-within : (divisor dividend : Bool) → Splits divisor dividend x y u v → WithinDivision divisor dividend x y u v
   splits-within true true h = let a = h.equation in let b = h.divisor_is in let c = h.dividend_is in let d = h.lower in let e = h.upper in (omega (arith, ints), (omega (arith, ints), (omega (arith, ints), (omega (arith, ints), (omega (arith, ints), tt)))))
   splits-within true false h = let a = h.equation in let b = h.divisor_is in let c = h.dividend_is in let d = h.lower in let e = h.upper in (omega (arith, ints), (omega (arith, ints), (omega (arith, ints), (omega (arith, ints), (omega (arith, ints), tt)))))
   splits-within false true h = let a = h.equation in let b = h.divisor_is in let c = h.dividend_is in let d = h.lower in let e = h.upper in (omega (arith, ints), (omega (arith, ints), (omega (arith, ints), (omega (arith, ints), (omega (arith, ints), tt)))))
   splits-within false false h = let a = h.equation in let b = h.divisor_is in let c = h.dividend_is in let d = h.lower in let e = h.upper in (omega (arith, ints), (omega (arith, ints), (omega (arith, ints), (omega (arith, ints), (omega (arith, ints), tt)))))
 
-  within-splits : (divisor dividend : Bool) → WithinDivision divisor dividend x y u v → Splits divisor dividend x y u v
+  pub within-splits : (divisor dividend : Bool) → WithinDivision divisor dividend x y u v → Splits divisor dividend x y u v
   within-splits true true (a, (b, (c, (d, (e, t))))) = record { equation = omega (arith, ints); divisor_is = omega (arith, ints); dividend_is = omega (arith, ints); lower = omega (arith, ints); upper = omega (arith, ints) }
   within-splits true false (a, (b, (c, (d, (e, t))))) = record { equation = omega (arith, ints); divisor_is = omega (arith, ints); dividend_is = omega (arith, ints); lower = omega (arith, ints); upper = omega (arith, ints) }
   within-splits false true (a, (b, (c, (d, (e, t))))) = record { equation = omega (arith, ints); divisor_is = omega (arith, ints); dividend_is = omega (arith, ints); lower = omega (arith, ints); upper = omega (arith, ints) }

@@ -80,7 +80,12 @@ pub(crate) fn valued(
         Ok(poly) => with_value(alloc, case, case.aux, poly),
         Err(error) => {
             note(error, losses)?;
-            with_value(alloc, case, case.aux + 1, column(alloc, Col::Aux(case.aux))?)
+            with_value(
+                alloc,
+                case,
+                case.aux + 1,
+                column(alloc, Col::Aux(case.aux))?,
+            )
         }
     }
 }

@@ -1,16 +1,15 @@
-ghost use Rattle.std.specs.Prelude.{◌≡◌, ◌+◌, ◌≤◌, ◌<◌, ◌^◌, ◌++◌, All, IfOk, OnOk, IsTrue, map};
-ghost use Rattle.std.specs.List.{range_with_len};
-ghost use Rattle.linear_terms.specs.declared.col.Col.TheVariants.{At};
-ghost use Rattle.linear_terms.specs.Polynomial.{column_of};
+ghost use Rattle.std.specs.Prelude.{◌≡◌, ◌+◌, ◌≤◌, ◌<◌, ◌^◌, ◌++◌, ℤ, List, length, All, IfOk, OnOk, IsTrue};
 ghost use Rattle.syntax_tree.specs.declared.limits.TheConstants.{MOST_OPERATORS};
 ghost use Rattle.syntax_tree.specs.Term.{term_of};
 ghost use Rattle.syntax_tree.specs.WellFormed.{columns_below, operators_of};
+ghost use Rattle.execution.specs.Step.{IsTrueIn, IsFalseIn};
+ghost use Rattle.transition_formula.specs.Meaning.{Holds};
 ghost use Rattle.transition_formula.specs.Transition.{IsTransition};
 ghost use Rattle.leaf_cases.specs.Expression.{lists_of};
-ghost use Rattle.leaf_cases.specs.Guard.{AreCovered, columns_of, guard_of};
+ghost use Rattle.leaf_cases.specs.Guard.{AreCovered, columns_of, guard_of, with_posts};
 
-use crate::expression::{Sought, cases_of};
 use crate::claims::column;
+use crate::expression::{Sought, cases_of};
 use items::Items;
 use linear_terms::{Case, Col, Poly};
 use std::alloc::Global;
@@ -29,9 +28,13 @@ pub fn truth(
     requires operators { operators_of (term_of e.now) ≤ MOST_OPERATORS + 1 }
     ensures exact { IfOk result (λ f. f ≡ guard_of columns (lists_of (term_of e.now)).truth.cases) }
     ensures noted { OnOk result (losses.new ≡ losses.old ++ (lists_of (term_of e.now)).truth.lost) }
+    ensures few { IfOk result (λ f. All (λ case. case.aux < 2 ^ 31) f.cases) }
+    ensures at_least { (state : List ℤ) → IfOk result (λ f. length state ≡ columns → IsTrueIn (term_of e.now) state → Holds f state state) }
+    ensures at_most { (before after : List ℤ) → losses.new ≡ losses.old → IfOk result (λ f. Holds f before after → ((after ≡ before) × IsTrueIn (term_of e.now) before)) }
 {
     let cases = cases_of(alloc, e, Sought::Truth, losses)?;
-    guard(alloc, columns, cases.as_slice())
+    let formula = guard(alloc, columns, cases.as_slice())?;
+    Ok(formula)
 }
 
 /// Says that an expression is false, and that nothing changes. Losses are noted as for its truth.
@@ -45,9 +48,13 @@ pub fn falsity(
     requires operators { operators_of (term_of e.now) ≤ MOST_OPERATORS + 1 }
     ensures exact { IfOk result (λ f. f ≡ guard_of columns (lists_of (term_of e.now)).falsity.cases) }
     ensures noted { OnOk result (losses.new ≡ losses.old ++ (lists_of (term_of e.now)).falsity.lost) }
+    ensures few { IfOk result (λ f. All (λ case. case.aux < 2 ^ 31) f.cases) }
+    ensures at_least { (state : List ℤ) → IfOk result (λ f. length state ≡ columns → IsFalseIn (term_of e.now) state → Holds f state state) }
+    ensures at_most { (before after : List ℤ) → losses.new ≡ losses.old → IfOk result (λ f. Holds f before after → ((after ≡ before) × IsFalseIn (term_of e.now) before)) }
 {
     let cases = cases_of(alloc, e, Sought::Falsity, losses)?;
-    guard(alloc, columns, cases.as_slice())
+    let formula = guard(alloc, columns, cases.as_slice())?;
+    Ok(formula)
 }
 
 /// Where one of the cases is, all stays as it is.
@@ -58,11 +65,7 @@ fn guard(alloc: Global, columns: u32, cases: &[Case]) -> Result<Formula, Formula
     let post = columns_below(alloc, columns)?;
     let mut made = Items::new(alloc);
     for case in cases {
-        made.push(Case {
-            aux: case.aux,
-            rows: case.rows.clone()?,
-            post: post.clone()?,
-        })?;
+        made.push(with_posts(case, &post)?)?;
     }
     formula(columns, made)
 }
@@ -75,6 +78,19 @@ fn columns_below(alloc: Global, columns: u32) -> Result<Items<Poly>, FormulaErro
         made.push(column(alloc, Col::At(number))?)?;
     }
     Ok(made)
+}
+
+/// The case with other posts.
+fn with_posts(case: &Case, post: &Items<Poly>) -> Result<Case, FormulaError>
+    ensures { IfOk result (λ c. c ≡ with_posts post.now case.now) }
+{
+    let rows = case.rows.clone()?;
+    let post = post.clone()?;
+    Ok(Case {
+        aux: case.aux,
+        rows,
+        post,
+    })
 }
 
 /// The formula of cases that fit.

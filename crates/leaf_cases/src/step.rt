@@ -133,7 +133,12 @@ fn calculated(
     let zero = Poly::constant(alloc, 0);
     let first = operand(case, 0, &zero);
     let second = operand(case, 1, &zero);
-    valued(alloc, case, value_at(alloc, arithmetic, first, second), losses)
+    valued(
+        alloc,
+        case,
+        value_at(alloc, arithmetic, first, second),
+        losses,
+    )
 }
 
 fn value_at(alloc: Global, arithmetic: Arithmetic, a: &Poly, b: &Poly) -> Result<Poly, TermError>

@@ -1,4 +1,4 @@
-use Rattle.std.proofs.Common.{[], ◌∷◌, refl, rules}
+use Rattle.std.proofs.Common.{[], ◌∷◌, refl}
 use Rattle.syntax_tree.specs.Term.{term_of}
 use Rattle.leaf_cases.specs.declared.expression.Sought.TheVariants as sought
 use Rattle.leaf_cases.specs.declared.step.Arithmetic.TheVariants.{Negate}
@@ -21,9 +21,6 @@ joint_cases-both-requires-clause-firsts t c = found_ready (term_of c.args.left.n
 
 pub joint_cases-both-requires-clause-seconds : goal.joint_cases-both-requires-clause-seconds
 joint_cases-both-requires-clause-seconds t c = found_ready (term_of c.args.right.now) c.args.second c.as_slice-2.result.now c.in_ok-seconds.seconds c.requires.right c.in_ok-seconds.ensures.exact c.as_slice-2.ensures
-
-pub joint_cases-cases_of-requires-2 : goal.joint_cases-cases_of-requires-2
-joint_cases-cases_of-requires-2 t c = (search rules, c.requires.right)
 
 pub sign_cases-number_cases-requires : goal.sign_cases-number_cases-requires
 sign_cases-number_cases-requires t c = found_few (term_of c.args.inner.now) sought.Value c.in_ok-values-in-Plus.values c.in_ok-values-in-Plus.values c.requires c.in_ok-values-in-Plus.ensures.exact refl

@@ -3,10 +3,21 @@ use Rattle.std.specs.List.{flat_map}
 use Rattle.transition_formula.proofs.Loops.{one_gathered, all_gathered}
 use Rattle.leaf_cases.specs.Steps.{made_at, lost_at}
 use Rattle.leaf_cases.specs.Steps as steps
+use Rattle.leaf_cases.proofs.Stated.{default_free}
 use Rattle.leaf_cases.proofs.step.cases_by.Goals as goal
 
 pub loop-step-preserved : goal.loop-step-preserved
-loop-step-preserved c = ?
+loop-step-preserved c =
+    record {
+      made =
+          one_gathered (λ step. flat_map (made_at step) c.args.cases.now) c.args.steps.now c.loop-step.step-index _ c.loop-step.made c.push_each.new.made
+          c.loop-step-test.true (default_free c.args.steps.now c.loop-step.step-index _ _ c.loop-step-test.true) c.in_ok-push_each.ensures.made
+          ∙ c.loop-step.invariant.made;
+      noted =
+          one_gathered (λ step. flat_map (lost_at step) c.args.cases.now) c.args.steps.now c.loop-step.step-index _ c.loop-step.losses c.push_each.new.losses
+          c.loop-step-test.true (default_free c.args.steps.now c.loop-step.step-index _ _ c.loop-step-test.true) c.in_ok-push_each.ensures.noted
+          ∙ c.loop-step.invariant.noted;
+    }
 
 pub returns-clause-exact : goal.returns-clause-exact
 unfolding steps.cases_by
