@@ -1,5 +1,5 @@
 -- Formulas that change nothing: they fit, have few auxiliaries, and say what their cases mean.
-use Rattle.std.proofs.Common.{◌≡◌, ◌⊎◌, inl, inr, ℕ, zero, suc, ◌+◌, ◌*◌, ◌<◌, ◌≤◌, ◌^◌, true, ℤ, pos, length, map, drop, List, [], ◌∷◌, ◌++◌, refl, sym, ap, subst, ◌∙◌, append-nil, arith}
+use Rattle.std.proofs.Common.{◌≡◌, inl, inr, ℕ, zero, suc, ◌+◌, ◌*◌, ◌<◌, ◌≤◌, ◌^◌, true, ℤ, pos, length, map, drop, List, [], ◌∷◌, ◌++◌, refl, sym, ap, subst, ◌∙◌, append-nil, arith}
 use Rattle.std.proofs.lemmas.List.{drop_all}
 use Rattle.std.proofs.lemmas.List.FromFn.{fill_by_all}
 use Rattle.std.proofs.lemmas.Option.{unwrap_or-slice_get}
@@ -12,7 +12,7 @@ use Rattle.linear_terms.specs.Polynomial.{column_of}
 use Rattle.linear_terms.specs.Value.{Valuation, value_of}
 use Rattle.syntax_tree.specs.Term.{Term}
 use Rattle.execution.specs.Step.{IsTrueIn, IsFalseIn}
-use Rattle.transition_formula.specs.Meaning.{numbers, HoldsCase, HoldsSome, Holds}
+use Rattle.transition_formula.specs.Meaning.{numbers, HoldsSome, Holds}
 use Rattle.transition_formula.specs.declared.loss.Loss.{Loss}
 use Rattle.transition_formula.proofs.Meanings.{nothing-more}
 use Rattle.transition_formula.proofs.Values.{column-value}
@@ -25,8 +25,8 @@ use Rattle.leaf_cases.specs.Expression.{lists_of}
 use Rattle.leaf_cases.specs.Guard.{AreCovered, columns_of, guard_of, with_posts}
 use Rattle.leaf_cases.specs.declared.expression.Sought.TheVariants as sought
 use Rattle.leaf_cases.specs.Listed.{AreFew}
-use Rattle.leaf_cases.proofs.Expressions.{TrueIs, FalseIs, expression-means}
-use Rattle.leaf_cases.proofs.Ready.{sit, are_few, found_few}
+use Rattle.leaf_cases.proofs.Expressions.{expression-means}
+use Rattle.leaf_cases.proofs.Ready.{sit, found_few}
 use Rattle.leaf_cases.proofs.Sitting.{Sits}
 
 unchanged-fits : (n : ℕ) (case : Case) → IsTrue (every_column_of (is_below n case.aux) case) → IsTrue (fits n n (with_posts (columns_of n) case))

@@ -1,9 +1,9 @@
 -- What steps make of cases holds of the numbers that they give, and of no others where nothing is lost.
-use Rattle.std.proofs.Common.{◌≡◌, ◌≢◌, ◌⊎◌, inl, inr, ℕ, zero, suc, ◌+◌, Bool, true, false, ℤ, pos, ◌-ℤ◌, ◌*ℤ◌, length, map, List, [], ◌∷◌, ◌++◌, Result, Ok, Err, refl, sym, ap, subst, ◌∙◌, append-nil, arith}
+use Rattle.std.proofs.Common.{◌≡◌, ◌⊎◌, inl, inr, ℕ, zero, suc, ◌+◌, Bool, true, false, ℤ, ◌-ℤ◌, ◌*ℤ◌, map, List, [], ◌∷◌, Ok, Err, refl, sym, ap, ◌∙◌, arith}
 use Rattle.std.specs.Prelude.{int_div}
 use Rattle.std.proofs.lemmas.Int.{ints}
 use Rattle.std.specs.List.{AllByRecursion, flat_map}
-use Rattle.linear_terms.specs.declared.col.Col.TheVariants.{At, Aux}
+use Rattle.linear_terms.specs.declared.col.Col.TheVariants.{Aux}
 use Rattle.linear_terms.specs.declared.row.Case.{Case}
 use Rattle.linear_terms.specs.Polynomial.{Polynomial, column_of, constant_of}
 use Rattle.linear_terms.specs.Row.{RowHolds}
@@ -25,7 +25,7 @@ use Rattle.leaf_cases.specs.Steps as steps
 use Rattle.leaf_cases.specs.Steps.{operand, value_at, test_at, test_claim, division_at, part_at, made_at, lost_at, with_number}
 use Rattle.leaf_cases.proofs.Quotients.{IsDivision, Falls, division_falls, splits-divide}
 use Rattle.leaf_cases.proofs.Sitting.{Sits}
-use Rattle.leaf_cases.proofs.Stepped.{AllSay, AllWithin, claims-hold, claims-held, first_of, second_of, operand-value, calculated_number, tested_number, part_number, StepGives, Says, value-says, test-says, division_numbers, division-says, splits-within, within-splits}
+use Rattle.leaf_cases.proofs.Stepped.{AllSay, AllWithin, claims-hold, claims-held, first_of, second_of, operand-value, calculated_number, tested_number, part_number, StepGives, value-says, test-says, division_numbers, division-says, splits-within, within-splits}
 use Rattle.leaf_cases.proofs.Together.{some-left, some-right, some-either, front-of, back-of, extended, extended-more, extended-holds}
 
 -- ---- a case with more rows and other posts

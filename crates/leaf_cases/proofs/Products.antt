@@ -1,5 +1,5 @@
 -- The columns of a product are among those of its factors.
-use Rattle.std.proofs.Common.{◌≡◌, Bool, true, false, cond, ℤ, pos, List, [], ◌∷◌, ◌++◌, ◌+◌, length, fold, Result, Ok, Err, refl, sym, ap, subst}
+use Rattle.std.proofs.Common.{◌≡◌, Bool, true, false, cond, ℤ, pos, List, [], ◌∷◌, ◌++◌, ◌+◌, length, fold, Result, Ok, Err, ap, subst}
 use Rattle.std.specs.Prelude.{nat_lt}
 use Rattle.std.specs.List.{AllByRecursion}
 use Rattle.std.specs.Ordering.{int_eq, is_lt, match_ordering}

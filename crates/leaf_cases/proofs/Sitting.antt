@@ -1,24 +1,22 @@
 -- The cases of an expression have few auxiliaries, and no columns but these and those of the expression.
-use Rattle.std.proofs.Common.{◌≡◌, ℕ, zero, suc, ◌+◌, ◌*◌, ◌<◌, ◌≤◌, Bool, true, false, ℤ, pos, negsuc, length, map, List, [], ◌∷◌, ◌++◌, Result, Ok, Err, refl, sym, ap, subst, ◌∙◌, arith}
-use Rattle.std.specs.Prelude.{IsTrue, slice_get, unwrap_or, nat_lt, nat_le}
+use Rattle.std.proofs.Common.{◌≡◌, ℕ, zero, suc, ◌+◌, ◌≤◌, Bool, true, false, ℤ, pos, negsuc, map, List, [], ◌∷◌, Ok, Err, refl, ◌∙◌, arith}
+use Rattle.std.specs.Prelude.{IsTrue, slice_get, unwrap_or}
 use Rattle.std.specs.List.{AllByRecursion, list_all, flat_map, cons_option}
 use Rattle.std.proofs.lemmas.List.Folds.{list_all-append}
 use Rattle.items.specs.Gives.{◌>>=◌}
 use Rattle.items.proofs.Gives.{on_ok}
 use Rattle.linear_terms.specs.declared.col.Col.{Col}
 use Rattle.linear_terms.specs.declared.col.Col.TheVariants.{At, Aux}
-use Rattle.linear_terms.specs.declared.error.TermError.{TermError}
-use Rattle.linear_terms.specs.declared.row.Row.{Row}
 use Rattle.linear_terms.specs.declared.row.Case.{Case}
-use Rattle.linear_terms.specs.Auxiliaries.{renumbered, renumbered_column, is_numbered}
+use Rattle.linear_terms.specs.Auxiliaries.{renumbered, renumbered_column}
 use Rattle.linear_terms.specs.Polynomial.{Polynomial, column_of, constant_of}
 use Rattle.linear_terms.specs.Operations.{multiple_of, sum_of_polys, product_of_polys}
 use Rattle.linear_terms.proofs.Columns.{each-append, multiple_of-each, sum_of_polys-each}
 use Rattle.leaf_cases.proofs.Products.{product_of_polys-each}
 use Rattle.transition_formula.specs.Composition.{row_of}
 use Rattle.transition_formula.specs.Renumbering.{renumbered_row}
-use Rattle.transition_formula.specs.Transition.{every_column, every_column_of, is_below}
-use Rattle.transition_formula.proofs.Covered.{both, both_true, columns_from_test, test_from_columns, more_columns, more_columns_of, all_more, each_from_test, test_from_each}
+use Rattle.transition_formula.specs.Transition.{every_column, is_below}
+use Rattle.transition_formula.proofs.Covered.{both, both_true, columns_from_test, test_from_columns, more_columns, more_columns_of, all_more}
 use Rattle.transition_formula.proofs.Fitting.{below-true, true-below, is_below-more}
 use Rattle.leaf_cases.specs.declared.division.Part.{Part}
 use Rattle.leaf_cases.specs.declared.division.Part.TheVariants.{Quotient, Remainder}

@@ -1,25 +1,20 @@
 -- What a step makes of a case holds of the numbers that the step gives.
-use Rattle.std.proofs.Common.{◌≡◌, ◌≢◌, ◌⊎◌, inl, inr, ℕ, zero, suc, ◌+◌, ◌-◌, ◌<◌, ◌≤◌, Bool, true, false, cond, ℤ, pos, negsuc, ◌+ℤ◌, ◌-ℤ◌, ◌*ℤ◌, ◌≤ℤ◌, length, map, List, [], ◌∷◌, ◌++◌, Result, Ok, Err, refl, sym, ap, subst, ◌∙◌, arith}
-use Rattle.std.specs.Prelude.{IsTrue, slice_get, unwrap_or, int_div}
-use Rattle.std.specs.List.{AllByRecursion, flat_map, cons_option}
+use Rattle.std.proofs.Common.{◌≡◌, ◌≢◌, ℕ, zero, suc, Bool, true, false, cond, ℤ, pos, negsuc, ◌+ℤ◌, ◌-ℤ◌, ◌*ℤ◌, map, List, [], ◌∷◌, Ok, Err, refl, sym, ap, subst, ◌∙◌, arith}
+use Rattle.std.specs.Prelude.{slice_get, unwrap_or, int_div}
+use Rattle.std.specs.List.{cons_option}
 use Rattle.std.proofs.lemmas.Int.{ints}
 use Rattle.items.specs.Gives.{◌>>=◌}
 use Rattle.items.proofs.Gives.{on_ok}
-use Rattle.linear_terms.specs.declared.col.Col.{Col}
-use Rattle.linear_terms.specs.declared.col.Col.TheVariants.{At, Aux}
-use Rattle.linear_terms.specs.declared.error.TermError.{TermError}
-use Rattle.linear_terms.specs.declared.row.Row.{Row}
 use Rattle.linear_terms.specs.declared.row.Case.{Case}
-use Rattle.linear_terms.specs.Polynomial.{Polynomial, column_of, constant_of}
+use Rattle.linear_terms.specs.Polynomial.{Polynomial, constant_of}
 use Rattle.linear_terms.specs.Operations.{multiple_of, sum_of_polys, product_of_polys}
-use Rattle.linear_terms.specs.Row.{RowHolds, IsWithin}
+use Rattle.linear_terms.specs.Row.{IsWithin}
 use Rattle.linear_terms.specs.Value.{Valuation, value_of}
-use Rattle.linear_terms.proofs.Columns.{each-append}
 use Rattle.linear_terms.proofs.Values.{sum_of_polys-value, multiple_of-value, product_of_polys-value}
 use Rattle.transition_formula.specs.Composition.{row_of}
 use Rattle.transition_formula.specs.Loss.{losses_of}
-use Rattle.transition_formula.specs.Meaning.{AreTrue, numbers, HoldsAt, HoldsCase, HoldsSome}
-use Rattle.transition_formula.proofs.Values.{column-value, noted-some, none-of}
+use Rattle.transition_formula.specs.Meaning.{AreTrue, HoldsAt}
+use Rattle.transition_formula.proofs.Values.{noted-some, none-of}
 use Rattle.leaf_cases.specs.declared.division.Part.{Part}
 use Rattle.leaf_cases.specs.declared.division.Part.TheVariants.{Quotient, Remainder}
 use Rattle.leaf_cases.specs.declared.division.Signs.{Signs}
@@ -29,12 +24,10 @@ use Rattle.leaf_cases.specs.declared.step.Relation.{Relation}
 use Rattle.leaf_cases.specs.declared.step.Relation.TheVariants.{Less, LessOrEqual, Greater, GreaterOrEqual, Same, Negative, Positive, Zero}
 use Rattle.leaf_cases.specs.declared.step.Step.{Step}
 use Rattle.leaf_cases.specs.declared.step.Step.TheVariants.{Value, Divide, Test}
-use Rattle.leaf_cases.specs.Claims.{Answer, Claim, difference, rows_of, lost_of, limited, valued}
-use Rattle.leaf_cases.specs.Division.{one, minus_one, equation, divisor_sign, dividend_sign, lower_bound, upper_bound, division, all_signs}
-use Rattle.leaf_cases.specs.Steps.{one_more, operand, value_at, test_at, kind_of, test_claim, division_at, part_at, made_at, lost_at, cases_by, lost_by, with_number}
-use Rattle.leaf_cases.proofs.Quotients.{Divisor, Dividend, Lower, Upper, Splits, IsDivision, Falls, division_falls, splits-divide}
-use Rattle.leaf_cases.proofs.Sitting.{Sits}
-use Rattle.leaf_cases.proofs.Together.{some-left, some-right, some-either, front-of, back-of, extended, extended-more, extended-holds}
+use Rattle.leaf_cases.specs.Claims.{Answer, Claim, difference, rows_of, lost_of}
+use Rattle.leaf_cases.specs.Division.{one, minus_one, equation, divisor_sign, dividend_sign, lower_bound, upper_bound, division}
+use Rattle.leaf_cases.specs.Steps.{one_more, operand, value_at, test_at, kind_of}
+use Rattle.leaf_cases.proofs.Quotients.{Splits}
 
 -- ---- answers and their numbers
 

@@ -1,5 +1,5 @@
 -- One step of an expression, at a case of the values of its operands.
-use Rattle.std.specs.Prelude.{ℕ, ℤ, ◌+◌, pos, negsuc, List, [], ◌∷◌, map, slice_get, unwrap_or}
+use Rattle.std.specs.Prelude.{ℕ, ℤ, ◌+◌, negsuc, List, [], ◌∷◌, map, slice_get, unwrap_or}
 use Rattle.std.specs.List.{flat_map}
 use Rattle.items.specs.Gives.{◌>>=◌}
 use Rattle.linear_terms.specs.declared.col.Col.TheVariants.{Aux}

@@ -80,12 +80,8 @@ pub(crate) fn valued(
         Ok(poly) => with_value(alloc, case, case.aux, poly),
         Err(error) => {
             note(error, losses)?;
-            with_value(
-                alloc,
-                case,
-                case.aux + 1,
-                column(alloc, Col::Aux(case.aux))?,
-            )
+            let fresh = column(alloc, Col::Aux(case.aux))?;
+            with_value(alloc, case, case.aux + 1, fresh)
         }
     }
 }
