@@ -91,7 +91,7 @@ mapped-columns at col a zero = refl
 mapped-columns at col a (suc n) = λ i. column-value at (col a) i ∷ mapped-columns at col (a + 1) n i
 
 -- the columns have the numbers of the state
-columns-read : (n : ℕ) (s : List ℤ) (aux : ℕ → ℤ) → length s ≡ n → map (value_of (numbers s aux)) (columns_of n) ≡ s
+pub columns-read : (n : ℕ) (s : List ℤ) (aux : ℕ → ℤ) → length s ≡ n → map (value_of (numbers s aux)) (columns_of n) ≡ s
 columns-read n s aux long =
     mapped-columns (numbers s aux) (λ k. At k) 0 n ∙ sym (fill_by_all (λ k. numbers s aux (At k)) s n (pos 0) long (λ k lt. sym (unwrap_or-slice_get s k (pos 0))))
 

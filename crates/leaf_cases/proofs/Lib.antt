@@ -11,3 +11,9 @@ pub mod Made
 pub mod Meant
 pub mod Expressions
 pub mod Guards
+pub mod Graphs
+pub mod Counts
+pub mod Arguments
+pub mod EdgeFits
+pub mod EdgeMeanings
+pub mod Leaves

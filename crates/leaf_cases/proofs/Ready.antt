@@ -123,7 +123,7 @@ module _ (columns : ℕ) where
 
 -- ---- any expression has its columns below some number
 
-columns_below-more : (n m : ℕ) (e : Term) → n ≤ m → IsTrue (columns_below n e) → IsTrue (columns_below m e)
+pub columns_below-more : (n m : ℕ) (e : Term) → n ≤ m → IsTrue (columns_below n e) → IsTrue (columns_below m e)
 columns_below-more n m (Lit value) le h = refl
 columns_below-more n m (Col c) le h = let lt = true-below c n h in below-true c m (omega arith)
 columns_below-more n m (Unary sign inner) le h = columns_below-more n m inner le h
@@ -131,7 +131,7 @@ columns_below-more n m (Binary op left right) le h =
     let parts = both (columns_below n left) (columns_below n right) h in
     both_true (columns_below m left) (columns_below m right) (columns_below-more n m left le parts.0) (columns_below-more n m right le parts.1)
 
-width_of : (e : Term) → (n : ℕ) × IsTrue (columns_below n e)
+pub width_of : (e : Term) → (n : ℕ) × IsTrue (columns_below n e)
 width_of (Lit value) = (0, refl)
 width_of (Col c) = (c + 1, below-true c (c + 1) (omega arith))
 width_of (Unary sign inner) = width_of inner
@@ -156,7 +156,7 @@ is_ready-sits columns most limit lt case s =
     (more_columns_of (is_below columns case.aux) (is_numbered case.aux) (below-numbered columns case.aux) case.rows s.rows_are)
     (all_more (every_column (is_below columns case.aux)) (every_column (is_numbered case.aux)) (more_columns (is_below columns case.aux) (is_numbered case.aux) (below-numbered columns case.aux)) case.post s.posts_are))
 
-are_ready : (columns most limit : ℕ) → most < limit → (cases : List Case) → AllByRecursion (Sits columns most) cases → AreReady limit cases
+pub are_ready : (columns most limit : ℕ) → most < limit → (cases : List Case) → AllByRecursion (Sits columns most) cases → AreReady limit cases
 are_ready columns most limit lt cases h = test_from_each (is_ready limit) (Sits columns most) (is_ready-sits columns most limit lt) cases h
 
 pub are_few : (columns most limit : ℕ) → most < limit → (cases : List Case) → AllByRecursion (Sits columns most) cases → AreFew limit cases

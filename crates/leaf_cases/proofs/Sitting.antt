@@ -145,7 +145,7 @@ module _ (t : Col → Bool) where
   pub column_passes : (c : Col) → IsTrue (t c) → IsTrue (every_column t (column_of c))
   column_passes c h = test_from_columns t (column_of c) ((h, tt), tt)
 
-  got-covered : (posts : List Polynomial) (n : ℕ) → IsTrue (list_all (every_column t) posts) → IsTrue (every_column t (unwrap_or (slice_get posts n) (constant_of (pos 0))))
+  pub got-covered : (posts : List Polynomial) (n : ℕ) → IsTrue (list_all (every_column t) posts) → IsTrue (every_column t (unwrap_or (slice_get posts n) (constant_of (pos 0))))
   got-covered [] n h = refl
   got-covered (p ∷ posts) zero h = (both (every_column t p) (list_all (every_column t) posts) h).0
   got-covered (p ∷ posts) (suc n) h = got-covered posts n (both (every_column t p) (list_all (every_column t) posts) h).1

@@ -1,6 +1,8 @@
 -- What the code knows of a polynomial that is no want of memory: it is the stated one.
-use Rattle.std.proofs.Common.{◌≡◌, ◌≢◌, ℕ, zero, suc, ◌<◌, length, get_or, arith, List, [], ◌∷◌, ◌++◌, Option, Some, None, Result, Ok, Err, refl, sym, ap, ◌∙◌, append_assoc, append-nil}
+use Rattle.std.proofs.Common.{◌≡◌, ◌≢◌, ℕ, zero, suc, ◌<◌, length, get_or, arith, List, [], ◌∷◌, ◌++◌, Option, Some, None, Result, Ok, Err, refl, sym, ap, ◌∙◌, append_assoc, append-nil, ◌+◌, ◌≤◌, drop}
 use Rattle.std.specs.List.{cons_option}
+use Rattle.std.proofs.lemmas.List.{drop_all}
+use Rattle.transition_formula.proofs.Loops.{at_index}
 use Rattle.linear_terms.specs.declared.row.Kind.{Kind}
 use Rattle.linear_terms.specs.declared.row.Row.{Row}
 use Rattle.transition_formula.specs.declared.loss.Loss.{Loss}
@@ -59,3 +61,11 @@ pub default_free : {X : Type 0} (xs : List X) (i : ℕ) (d e : X) → i < length
 default_free [] i d e h = absurd (omega arith)
 default_free (x ∷ xs) zero d e h = refl
 default_free (x ∷ xs) (suc i) d e h = default_free xs i d e (omega arith)
+
+-- one more copy behind those that are made
+pub one_copied : {X : Type 0} (xs : List X) (i : ℕ) (x y : X) (made next : List X) → i < length xs → x ≡ get_or xs i x → y ≡ x → next ≡ made ++ y ∷ [] → next ++ drop (i + 1) xs ≡ made ++ drop i xs
+one_copied xs i x y made next h e same pushed =
+    ap (λ l. l ++ drop (i + 1) xs) pushed ∙ append_assoc made (y ∷ []) (drop (i + 1) xs) ∙ (λ j. made ++ (same j ∷ drop (i + 1) xs)) ∙ ap (λ l. made ++ l) (sym (at_index xs i x h e))
+
+pub all_copied : {X : Type 0} (xs : List X) (i : ℕ) (made : List X) → length xs ≤ i → made ++ drop i xs ≡ xs → made ≡ xs
+all_copied xs i made h e = sym (append-nil made) ∙ ap (λ l. made ++ l) (sym (drop_all i xs h)) ∙ e

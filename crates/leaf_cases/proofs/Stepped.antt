@@ -108,7 +108,7 @@ first_of z = unwrap_or (slice_get z 0) (pos 0)
 abbrev pub second_of : List ℤ → ℤ
 second_of z = unwrap_or (slice_get z 1) (pos 0)
 
-got : (f : Polynomial → ℤ) (d : Polynomial) (xs : List Polynomial) (n : ℕ) → f d ≡ pos 0 → f (unwrap_or (slice_get xs n) d) ≡ unwrap_or (slice_get (map f xs) n) (pos 0)
+pub got : (f : Polynomial → ℤ) (d : Polynomial) (xs : List Polynomial) (n : ℕ) → f d ≡ pos 0 → f (unwrap_or (slice_get xs n) d) ≡ unwrap_or (slice_get (map f xs) n) (pos 0)
 got f d [] n e = e
 got f d (x ∷ xs) zero e = refl
 got f d (x ∷ xs) (suc n) e = got f d xs n e

@@ -5,3 +5,5 @@ pub mod Division
 pub mod Steps
 pub mod Expression
 pub mod Guard
+pub mod Edges
+pub mod Conditions

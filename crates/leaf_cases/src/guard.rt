@@ -67,10 +67,10 @@ fn guard(alloc: Global, columns: u32, cases: &[Case]) -> Result<Formula, Formula
     for case in cases {
         made.push(with_posts(case, &post)?)?;
     }
-    formula(columns, made)
+    Ok(formula(columns, columns, made))
 }
 
-fn columns_below(alloc: Global, columns: u32) -> Result<Items<Poly>, FormulaError>
+pub(crate) fn columns_below(alloc: Global, columns: u32) -> Result<Items<Poly>, FormulaError>
     ensures { IfOk result (λ made. made ≡ columns_of columns) }
 {
     let mut made = Items::new(alloc);
@@ -94,12 +94,12 @@ fn with_posts(case: &Case, post: &Items<Poly>) -> Result<Case, FormulaError>
 }
 
 /// The formula of cases that fit.
-fn formula(columns: u32, cases: Items<Case>) -> Result<Formula, FormulaError>
-    requires { IsTransition columns columns cases }
-    ensures { IfOk result (λ f. f ≡ record { from = columns; to = columns; cases = cases }) }
+pub(crate) fn formula(from: u32, to: u32, cases: Items<Case>) -> Formula
+    requires { IsTransition from to cases }
+    ensures { result ≡ record { from = from; to = to; cases = cases } }
 {
-    match Formula::new(columns, columns, cases) {
-        Some(formula) => Ok(formula),
+    match Formula::new(from, to, cases) {
+        Some(formula) => formula,
         None => unreachable!(),
     }
 }

@@ -3,13 +3,18 @@
 //! 128 bits or passes degree 4.
 #![tactic(auto)]
 
+mod assignment;
+mod call;
 mod claims;
 mod division;
+mod edge;
 mod expression;
 mod guard;
+
 mod listed;
 mod step;
 #[cfg(test)]
 mod tests;
 
 pub use guard::{falsity, truth};
+pub use edge::leaf;

@@ -109,7 +109,7 @@ fn push_made(
 }
 
 /// The value of an operand.
-fn operand<'a>(case: &'a Case, place: usize, zero: &'a Poly) -> &'a Poly
+pub(crate) fn operand<'a>(case: &'a Case, place: usize, zero: &'a Poly) -> &'a Poly
     requires { zero.now ≡ constant_of (pos 0) }
     ensures { result.now ≡ operand place case.now }
 {

@@ -1,0 +1,6 @@
+use Rattle.std.proofs.Common.{◌≡◌, ◌++◌, map, drop, take}
+use Rattle.leaf_cases.specs.Guard.{with_posts}
+use Rattle.leaf_cases.proofs.call.cut_cases.Given as goal
+
+abbrev pub invariant-loop-case : goal.invariant-loop-case
+invariant-loop-case l = l.made ++ map (λ case. with_posts (take l.to case.post) case) (drop l.case-index l.cases) ≡ map (λ case. with_posts (take l.to case.post) case) l.cases
