@@ -1,12 +1,10 @@
 -- The cases of arguments: they fit between the state and the arguments' values, have few auxiliaries, and mean these values.
-use Rattle.std.proofs.Common.{◌≡◌, ◌⊎◌, inl, inr, ℕ, zero, suc, ◌+◌, ◌*◌, ◌<◌, ◌≤◌, ◌^◌, true, ℤ, pos, length, map, take, drop, get_or, List, [], ◌∷◌, ◌++◌, Option, Some, None, Result, Ok, Err, refl, sym, ap, subst, ◌∙◌, append_assoc, append-nil, length-append, arith}
-use Rattle.std.specs.Prelude.{IsTrue, ◌==◌}
+use Rattle.std.proofs.Common.{◌≡◌, inl, inr, ℕ, suc, ◌+◌, ◌*◌, ◌<◌, ◌≤◌, ◌^◌, ℤ, pos, length, map, take, drop, get_or, List, [], ◌∷◌, ◌++◌, Option, Some, None, Ok, Err, refl, sym, ap, subst, ◌∙◌, append_assoc, append-nil, length-append, arith}
+use Rattle.std.specs.Prelude.{IsTrue}
 use Rattle.std.specs.List.{AllByRecursion, flat_map, list_all}
 use Rattle.std.proofs.lemmas.List.{length-map, map-append, take_more, take-append-drop}
-use Rattle.std.proofs.lemmas.Bool.Decides.{Decides-eqb}
 use Rattle.linear_terms.specs.Auxiliaries.{renumbered}
 use Rattle.linear_terms.specs.declared.row.Case.{Case}
-use Rattle.linear_terms.specs.Polynomial.{Polynomial}
 use Rattle.linear_terms.proofs.Columns.{each-append}
 use Rattle.syntax_tree.specs.declared.op.Op.{Op}
 use Rattle.syntax_tree.specs.declared.op.Op.TheVariants.{Add, Sub, Mul, Div, Rem, Lt, Le, Gt, Ge, Eq, Ne, And, Or}
@@ -17,18 +15,17 @@ use Rattle.syntax_tree.specs.Term.{Term, Lit, Col, Unary, Binary, term_of}
 use Rattle.syntax_tree.specs.Value.{State, value_of}
 use Rattle.syntax_tree.specs.WellFormed.{columns_below, all_columns_below, operators_of, joint_operators}
 use Rattle.execution.specs.Step.{values_of, with_value}
-use Rattle.transition_formula.specs.Meaning.{HoldsCase, HoldsSome}
+use Rattle.transition_formula.specs.Meaning.{HoldsSome}
 use Rattle.transition_formula.specs.Transition.{fits, IsTransition}
-use Rattle.transition_formula.proofs.Covered.{both, both_true, test_from_each}
+use Rattle.transition_formula.proofs.Covered.{both, both_true}
 use Rattle.transition_formula.proofs.Fitting.{from_fitting}
 use Rattle.leaf_cases.specs.declared.division.Part.TheVariants.{Quotient, Remainder}
 use Rattle.leaf_cases.specs.declared.step.Arithmetic.TheVariants.{Negate, Sum, Difference, Product}
 use Rattle.leaf_cases.specs.declared.step.Step.{Step}
 use Rattle.leaf_cases.specs.declared.step.Step.TheVariants.{Value, Divide, Test}
 use Rattle.leaf_cases.specs.Claims.{Answer, valued}
-use Rattle.leaf_cases.specs.Division.{all_signs}
 use Rattle.leaf_cases.specs.Edges.{arguments_after, arguments_of, no_values}
-use Rattle.leaf_cases.specs.Expression.{Lists, of_number, of_test, sign_lists, operator_lists, lists_of}
+use Rattle.leaf_cases.specs.Expression.{Lists, of_test, sign_lists, operator_lists, lists_of}
 use Rattle.leaf_cases.specs.Listed.{Listed, AreReady, beside, together}
 use Rattle.leaf_cases.specs.Listed as listed
 use Rattle.leaf_cases.specs.Steps.{operand, value_at, made_at, cases_by, with_number}
@@ -264,14 +261,14 @@ after-means columns made P (e ∷ rest) h m =
       joined = b.joined ∙ (λ i. (b.front_is.joined ∙ (λ j. b.front_is.first ++ b.front_is.right.is j)) i ++ b.back) ∙ append_assoc b.front_is.first (b.front_is.right.number ∷ []) b.back;
     })
     (λ s z b.
-        let f = first_and_rest e rest s b.back b.back_is in
-        record {
-          front = b.front ++ f.first ∷ [];
-          back = f.others;
-          front_is = record { first = b.front; second = f.first ∷ []; left = b.front_is; right = record { number = f.first; value = f.first_is; is = refl }; joined = refl };
-          back_is = f.others_are;
-          joined = b.joined ∙ ap (λ l. b.front ++ l) f.joined ∙ sym (append_assoc b.front (f.first ∷ []) f.others);
-        })
+    let f = first_and_rest e rest s b.back b.back_is in
+    record {
+      front = b.front ++ f.first ∷ [];
+      back = f.others;
+      front_is = record { first = b.front; second = f.first ∷ []; left = b.front_is; right = record { number = f.first; value = f.first_is; is = refl }; joined = refl };
+      back_is = f.others_are;
+      joined = b.joined ∙ ap (λ l. b.front ++ l) f.joined ∙ sym (append_assoc b.front (f.first ∷ []) f.others);
+    })
 
 record Nothing (s z : List ℤ) : Type 0 where
   none : z ≡ []

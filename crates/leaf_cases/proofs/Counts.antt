@@ -1,10 +1,9 @@
 -- How many cases the lists of an expression have: as many as are counted for it.
-use Rattle.std.proofs.Common.{◌≡◌, ℕ, zero, suc, ◌+◌, ◌*◌, ℤ, pos, length, map, List, [], ◌∷◌, ◌++◌, refl, sym, ap, ◌∙◌, arith, length-append}
-use Rattle.std.specs.List.{AllByRecursion, flat_map}
+use Rattle.std.proofs.Common.{◌≡◌, ℕ, suc, ◌+◌, ◌*◌, pos, length, map, List, [], ◌∷◌, ◌++◌, refl, ap, ◌∙◌, arith, length-append}
+use Rattle.std.specs.List.{flat_map}
 use Rattle.std.proofs.lemmas.List.{length-map}
 use Rattle.std.proofs.Math.Nat.{mul_assoc}
 use Rattle.linear_terms.specs.declared.row.Case.{Case}
-use Rattle.linear_terms.proofs.Columns.{each-append}
 use Rattle.syntax_tree.specs.declared.cases.Cases.{Cases}
 use Rattle.syntax_tree.specs.Cases as counted
 use Rattle.syntax_tree.specs.declared.op.Op.{Op}
@@ -17,10 +16,8 @@ use Rattle.leaf_cases.specs.declared.step.Arithmetic.TheVariants.{Negate, Sum, D
 use Rattle.leaf_cases.specs.declared.step.Relation.TheVariants.{Less, LessOrEqual, Greater, GreaterOrEqual, Same, Negative, Positive, Zero}
 use Rattle.leaf_cases.specs.declared.step.Step.{Step}
 use Rattle.leaf_cases.specs.declared.step.Step.TheVariants.{Value, Divide, Test}
-use Rattle.leaf_cases.specs.Claims.{Answer, valued}
-use Rattle.leaf_cases.specs.Division.{all_signs}
 use Rattle.leaf_cases.specs.Edges.{arguments_after, arguments_of, no_values}
-use Rattle.leaf_cases.specs.Expression.{Lists, of_number, of_test, sign_lists, calculated, comparison, compared, opposite, tests_of, operator_lists, lists_of}
+use Rattle.leaf_cases.specs.Expression.{Lists, of_number, of_test, sign_lists, calculated, compared, operator_lists, lists_of}
 use Rattle.leaf_cases.specs.Listed.{Listed, beside}
 use Rattle.leaf_cases.specs.Listed as listed
 use Rattle.leaf_cases.specs.Steps.{made_at, cases_by, with_number}

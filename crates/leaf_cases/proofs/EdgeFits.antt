@@ -1,6 +1,6 @@
 -- The formulas of assignments and of calls fit between their columns, and have few auxiliaries.
-use Rattle.std.proofs.Common.{◌≡◌, ℕ, zero, suc, ◌+◌, ◌-◌, ◌*◌, ◌<◌, ◌≤◌, ◌^◌, Bool, true, pos, length, map, take, drop, get_or, List, [], ◌∷◌, ◌++◌, Option, Some, None, refl, sym, ap, subst, ◌∙◌, length-append, length-drop, arith}
-use Rattle.std.specs.Prelude.{IsTrue, All, ◌==◌, nat_lt, slice_set}
+use Rattle.std.proofs.Common.{◌≡◌, ℕ, zero, suc, ◌+◌, ◌-◌, ◌*◌, ◌<◌, ◌≤◌, ◌^◌, Bool, true, length, map, take, drop, List, [], ◌∷◌, ◌++◌, Option, Some, None, refl, sym, subst, ◌∙◌, length-append, length-drop, arith}
+use Rattle.std.specs.Prelude.{IsTrue, All, slice_set}
 use Rattle.std.specs.List.{AllByRecursion, list_all}
 use Rattle.std.proofs.lemmas.List.{length-map, length-take-le, length-set}
 use Rattle.std.proofs.lemmas.List.Folds.{list_all-append}
@@ -10,7 +10,7 @@ use Rattle.linear_terms.specs.declared.row.Case.{Case}
 use Rattle.linear_terms.specs.Polynomial.{Polynomial, column_of}
 use Rattle.syntax_tree.specs.declared.core_expr.Core.{Core}
 use Rattle.syntax_tree.specs.Term.{Term, term_of}
-use Rattle.syntax_tree.specs.WellFormed.{columns_below, all_columns_below, operators_of, joint_operators, into_fits}
+use Rattle.syntax_tree.specs.WellFormed.{columns_below, all_columns_below, joint_operators}
 use Rattle.transition_formula.specs.Transition.{Transition, every_column, is_below, fits, IsTransition, AreFew}
 use Rattle.transition_formula.proofs.Covered.{both, both_true, more_columns, all_more}
 use Rattle.transition_formula.proofs.Fitting.{Fitting, fitting, from_fitting, identity-fits, below-true, true-below}
@@ -18,7 +18,7 @@ use Rattle.leaf_cases.specs.Edges.{set_case, any_case, entering, cut, awaited, r
 use Rattle.leaf_cases.specs.Expression.{lists_of}
 use Rattle.leaf_cases.specs.Guard.{columns_of, with_posts}
 use Rattle.leaf_cases.specs.Steps.{operand}
-use Rattle.leaf_cases.proofs.Arguments.{arguments-fit, arguments-sit, value-fits}
+use Rattle.leaf_cases.proofs.Arguments.{arguments-sit, value-fits}
 use Rattle.leaf_cases.proofs.Sitting.{Sits, got-covered, column_passes}
 
 -- ---- parts of lists

@@ -1,7 +1,7 @@
 -- What the formulas of assignments and of calls say of states.
-use Rattle.std.proofs.Common.{◌≡◌, ◌⊎◌, inl, inr, ℕ, zero, suc, ◌+◌, ◌-◌, ◌<◌, ◌≤◌, Bool, true, ℤ, pos, length, map, take, drop, get_or, List, [], ◌∷◌, ◌++◌, Option, Some, None, refl, sym, ap, subst, ◌∙◌, length-append, arith}
+use Rattle.std.proofs.Common.{◌≡◌, ◌⊎◌, inl, inr, ℕ, zero, suc, ◌+◌, ◌≤◌, ℤ, pos, length, map, take, drop, List, [], ◌∷◌, ◌++◌, Option, Some, None, refl, sym, ap, subst, ◌∙◌, length-append, arith}
 use Rattle.std.specs.Prelude.{IsTrue, slice_get, slice_set, unwrap_or}
-use Rattle.std.specs.List.{list_all, range_with_len}
+use Rattle.std.specs.List.{list_all}
 use Rattle.std.proofs.lemmas.List.{map-append, map-set, take-map, drop-map, length-take-le, take-take, take_all, take_at, length-map}
 use Rattle.std.proofs.lemmas.List.FromFn.{take-map-range_with_len}
 use Rattle.linear_terms.specs.declared.col.Col.TheVariants.{At, Aux}
@@ -9,27 +9,25 @@ use Rattle.linear_terms.specs.declared.row.Case.{Case}
 use Rattle.linear_terms.specs.Polynomial.{Polynomial, column_of, constant_of}
 use Rattle.linear_terms.specs.Value.{Valuation, value_of}
 use Rattle.syntax_tree.specs.Term.{Term}
-use Rattle.syntax_tree.specs.Code.{Set, Any, Call, Guard}
+use Rattle.syntax_tree.specs.Code.{Set, Any, Call}
 use Rattle.syntax_tree.specs.WellFormed.{columns_below, all_columns_below}
-use Rattle.execution.specs.Step.{values_of}
 use Rattle.flow_graph.specs.Walks.{CallRelates, EdgeRelates}
 use Rattle.flow_graph.specs.Walks as walks
-use Rattle.transition_formula.specs.declared.loss.Loss.{Loss}
-use Rattle.transition_formula.specs.Composition.{sequence_of, lost_in_sequence}
-use Rattle.transition_formula.specs.Meaning.{numbers, HoldsAt, HoldsCase, HoldsSome, Holds}
+use Rattle.transition_formula.specs.Composition.{lost_in_sequence}
+use Rattle.transition_formula.specs.Meaning.{numbers, HoldsSome, Holds}
 use Rattle.transition_formula.specs.Transition.{Transition, fits, IsTransition}
 use Rattle.transition_formula.proofs.Covered.{both}
 use Rattle.transition_formula.proofs.Fitting.{fitting}
 use Rattle.transition_formula.proofs.Meanings.{sequence-holds, sequence-held}
 use Rattle.transition_formula.proofs.Values.{column-value, none-of}
 use Rattle.leaf_cases.specs.Conditions.{KnownCalls}
-use Rattle.leaf_cases.specs.Edges.{set_of, any_of, any_case, arguments_of, entering, cut, awaited, received, leaving_case, call_sequence, call_of, lost_in_call}
+use Rattle.leaf_cases.specs.Edges.{set_of, any_of, arguments_of, entering, cut, awaited, received, call_sequence, call_of, lost_in_call}
 use Rattle.leaf_cases.specs.Expression.{lists_of}
 use Rattle.leaf_cases.specs.Guard.{columns_of, with_posts}
 use Rattle.leaf_cases.specs.Steps.{operand}
-use Rattle.leaf_cases.proofs.Arguments.{ValuesAre, arguments-mean, arguments-fit}
+use Rattle.leaf_cases.proofs.Arguments.{arguments-mean, arguments-fit}
 use Rattle.leaf_cases.proofs.EdgeFits.{entering_fits, cut_fits}
-use Rattle.leaf_cases.proofs.Expressions.{ValueIs, expression-means}
+use Rattle.leaf_cases.proofs.Expressions.{expression-means}
 use Rattle.leaf_cases.proofs.Guards.{columns-read}
 use Rattle.leaf_cases.proofs.Stepped.{got}
 
@@ -98,12 +96,15 @@ any_holds calls globals columns col s t long (v, is) =
     let w = numbers s (λ k. v) in
     record {
       enters = long;
-      some = inl (λ k. v, record {
-        rows = tt;
-        posts =
-            map-set (value_of w) (columns_of columns) col (column_of (Aux 0))
-            ∙ (λ i. slice_set (columns-read columns s (λ k. v) long i) col (column-value w (Aux 0) i)) ∙ sym is;
-      });
+      some = inl (
+        λ k. v,
+        record {
+          rows = tt;
+          posts =
+              map-set (value_of w) (columns_of columns) col (column_of (Aux 0))
+              ∙ (λ i. slice_set (columns-read columns s (λ k. v) long i) col (column-value w (Aux 0) i)) ∙ sym is;
+        },
+      );
     }
 
 pub any_held : (calls : walks.CallMeaning) (globals columns col : ℕ) (s t : List ℤ) → Holds (any_of columns col) s t → EdgeRelates calls globals (Any col) s t

@@ -1,5 +1,5 @@
 -- What the edges of the graph of a well-formed program do keeps the limits of a program.
-use Rattle.std.proofs.Common.{◌≡◌, ◌⊎◌, ℕ, zero, suc, ◌+◌, ◌<◌, ◌≤◌, Bool, true, false, pos, length, get_or, List, [], ◌∷◌, ◌++◌, Option, Some, None, refl, sym, ap, subst, ◌∙◌, arith}
+use Rattle.std.proofs.Common.{◌≡◌, ℕ, zero, suc, ◌+◌, ◌<◌, ◌≤◌, true, false, pos, length, List, [], ◌∷◌, ◌++◌, Option, Some, None, refl, sym, ap, subst, ◌∙◌, arith}
 use Rattle.std.specs.Prelude.{IsTrue, All, is_some, not, ◌&&◌, ◌||◌, ◌==◌, nat_le, nat_lt, slice_get}
 use Rattle.std.specs.List.{AllByRecursion}
 use Rattle.std.proofs.lemmas.Bool.{leb-true}
@@ -14,7 +14,7 @@ use Rattle.syntax_tree.specs.Code.{Statement, Set, Any, Call, Guard, Check, If, 
 use Rattle.syntax_tree.specs.Nodes.{code_nodes, statement_nodes}
 use Rattle.syntax_tree.specs.Term.{Term, Lit, Unary}
 use Rattle.syntax_tree.specs.WellFormed.{columns_below, all_columns_below, operators_of, joint_operators, cond_fits, value_fits, args_fit, into_fits, callee_fits, statement_fits, code_fits, body_place, width_of, IsProcFit, IsWellFormed}
-use Rattle.flow_graph.specs.FlowGraph.{Arc, arc, skip, unless, inside, statement_arcs, code_arcs, outermost, exit_of, flow_of, body_of, graph_of}
+use Rattle.flow_graph.specs.FlowGraph.{Arc, arc, skip, unless, inside, statement_arcs, code_arcs, outermost, exit_of, flow_of, body_of}
 use Rattle.transition_formula.specs.Transition.{Transition}
 use Rattle.transition_formula.proofs.Covered.{both}
 use Rattle.transition_formula.proofs.Fitting.{true-below}

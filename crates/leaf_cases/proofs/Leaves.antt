@@ -1,10 +1,10 @@
 -- What the formula of an edge says, how many cases it has, and that they have few auxiliaries.
-use Rattle.std.proofs.Common.{◌≡◌, ◌⊎◌, inl, inr, ℕ, zero, suc, ◌+◌, ◌*◌, ◌<◌, ◌≤◌, ◌^◌, Bool, true, false, cond, ℤ, length, map, take, List, [], ◌∷◌, ◌++◌, Option, Some, None, refl, sym, ap, subst, ◌∙◌, arith}
-use Rattle.std.specs.Prelude.{IsTrue, All, is_some, not, ◌||◌, slice_get, count_by}
+use Rattle.std.proofs.Common.{◌≡◌, ◌⊎◌, inl, inr, ℕ, ◌+◌, ◌*◌, ◌<◌, ◌≤◌, ◌^◌, Bool, true, false, cond, ℤ, length, map, take, List, [], ◌∷◌, ◌++◌, Option, Some, None, refl, sym, ap, subst, ◌∙◌, arith}
+use Rattle.std.specs.Prelude.{IsTrue, All, is_some, not, ◌||◌, slice_get}
 use Rattle.std.specs.List.{AllByRecursion, list_all, flat_map}
 use Rattle.std.specs.Option.{is_none}
 use Rattle.std.proofs.Math.Nat.{mul-le-mul_left, mul-le-mul_right}
-use Rattle.std.proofs.lemmas.List.{length-map, length-take-le}
+use Rattle.std.proofs.lemmas.List.{length-map}
 use Rattle.std.proofs.lemmas.List.Sums.{count_by-le-length}
 use Rattle.linear_terms.specs.declared.row.Case.{Case}
 use Rattle.linear_terms.specs.Polynomial.{Polynomial}
@@ -14,28 +14,24 @@ use Rattle.syntax_tree.specs.Code.{Statement, Set, Any, Call, Guard, Check, If, 
 use Rattle.syntax_tree.specs.declared.core_expr.Core.{Core}
 use Rattle.syntax_tree.specs.Term.{Term, term_of}
 use Rattle.syntax_tree.specs.WellFormed.{joint_operators, operators_of, all_columns_below, into_fits}
-use Rattle.execution.specs.Step.{IsTrueIn}
 use Rattle.flow_graph.specs.Walks.{EdgeRelates}
-use Rattle.transition_formula.specs.declared.loss.Loss.{Loss}
 use Rattle.transition_formula.specs.Composition.{sequence_of, sequence_of_cases, after_case}
 use Rattle.transition_formula.specs.Loss.{answered}
-use Rattle.transition_formula.specs.Meaning.{Holds, HoldsSome}
+use Rattle.transition_formula.specs.Meaning.{Holds}
 use Rattle.transition_formula.specs.Transition.{Transition, fits, IsTransition}
 use Rattle.transition_formula.proofs.Covered.{both}
 use Rattle.transition_formula.proofs.Fitting.{fitting}
-use Rattle.transition_formula.proofs.Meanings.{nothing-more}
 use Rattle.leaf_cases.specs.Conditions.{AreKnown, IsKnown, KnownCalls, exits_of}
-use Rattle.leaf_cases.specs.Edges.{leaf_of, lost_in_leaf, known_call, lost_in_known_call, call_of, lost_in_call, call_sequence, entering, cut, awaited, leaving_case, nothing_of, set_of, set_case, any_of, arguments_of}
+use Rattle.leaf_cases.specs.Edges.{leaf_of, lost_in_leaf, known_call, lost_in_known_call, call_of, call_sequence, entering, cut, awaited, leaving_case, set_of, set_case, any_of, arguments_of}
 use Rattle.leaf_cases.specs.Expression.{lists_of}
 use Rattle.leaf_cases.specs.Guard.{columns_of, guard_of, with_posts}
 use Rattle.leaf_cases.proofs.Arguments.{arguments-sit}
 use Rattle.leaf_cases.proofs.Counts.{truth-count, value-count, arguments-count, flat_count}
 use Rattle.leaf_cases.proofs.EdgeFits.{all_of_each, each_of_all, cut_fits, few-sit}
 use Rattle.leaf_cases.proofs.EdgeMeanings.{CallAsks, set_holds, set_held, any_holds, any_held, call_holds, call_held}
-use Rattle.leaf_cases.proofs.Graphs.{GuardFits, SetFits, CallFits, EdgeFits}
+use Rattle.leaf_cases.proofs.Graphs.{CallFits, EdgeFits}
 use Rattle.leaf_cases.proofs.Guards.{truth_holds, truth_held, truth_few}
 use Rattle.leaf_cases.proofs.Ready.{sit}
-use Rattle.leaf_cases.proofs.Sitting.{Sits}
 
 module _ (program : Program) (width : ℕ) (wide : length program.globals ≤ width) (known : List (Option Transition)) (are : AreKnown program known) where
   exits-either : (callee : Proc) → (exits_of program callee ≡ length program.globals) ⊎ (exits_of program callee ≡ length program.globals + 1)

@@ -1,15 +1,12 @@
 -- What `leaf` asks for, and what known formulas say of calls.
-use Rattle.std.specs.Prelude.{◌≡◌, ℕ, ℤ, ◌+◌, ◌<◌, ◌≤◌, Option, None, Some, List, [], ◌∷◌, ◌++◌, length, take, slice_get, All, if◌then◌else◌}
+use Rattle.std.specs.Prelude.{◌≡◌, ℕ, ℤ, ◌+◌, ◌≤◌, Option, None, Some, List, [], ◌∷◌, ◌++◌, length, take, slice_get, All, if◌then◌else◌}
 use Rattle.syntax_tree.specs.declared.program.Proc.{Proc}
 use Rattle.syntax_tree.specs.declared.program.Program.{Program}
 use Rattle.syntax_tree.specs.Code.{Statement}
 use Rattle.syntax_tree.specs.WellFormed.{width_of}
-use Rattle.flow_graph.specs.declared.parts.Act.{Act}
 use Rattle.flow_graph.specs.FlowGraph.{Arc, graph_of}
-use Rattle.flow_graph.specs.Plain.{statement_of_act}
 use Rattle.transition_formula.specs.Meaning.{Holds}
 use Rattle.transition_formula.specs.Transition.{Transition, IsTransition}
-use Rattle.flow_graph.specs.Walks.{CallMeaning}
 
 -- an edge of the procedure's graph does this
 pub record IsActOf (program : Program) (proc : ℕ) (statement : Statement) : Type 0 where

@@ -53,12 +53,7 @@ fn set_cases(
     Ok(made)
 }
 
-fn set_case(
-    alloc: Global,
-    same: &Items<Poly>,
-    col: u32,
-    case: &Case,
-) -> Result<Case, FormulaError>
+fn set_case(alloc: Global, same: &Items<Poly>, col: u32, case: &Case) -> Result<Case, FormulaError>
     ensures { IfOk result (λ c. c ≡ with_posts (slice_set same.now col (operand 0 case.now)) case.now) }
 {
     let rows = case.rows.clone()?;

@@ -6,8 +6,8 @@ ghost use Rattle.transition_formula.specs.Meaning.{Holds};
 ghost use Rattle.leaf_cases.specs.Conditions.{columns_at, AreKnown, IsActOf, KnownCalls};
 ghost use Rattle.leaf_cases.specs.Edges.{leaf_of, lost_in_leaf};
 
-use crate::call::{Widths, call};
 use crate::assignment::{any, nothing, set};
+use crate::call::{Widths, call};
 use crate::guard::truth;
 use flow_graph::Act;
 use items::Items;

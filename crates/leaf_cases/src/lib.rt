@@ -1,6 +1,6 @@
-//! Cases of the value, the truth and the falsity of an expression, and the formulas that say where it is
-//! true or false: a formula holds exactly where the expression is, up to what is lost because a step leaves
-//! 128 bits or passes degree 4.
+//! Cases of expressions and the formulas of edges: the formula of an edge holds of two states exactly where
+//! the edge leads from one to the other, up to what is lost because a step leaves 128 bits or passes
+//! degree 4.
 #![tactic(auto)]
 
 mod assignment;
@@ -10,11 +10,10 @@ mod division;
 mod edge;
 mod expression;
 mod guard;
-
 mod listed;
 mod step;
 #[cfg(test)]
 mod tests;
 
-pub use guard::{falsity, truth};
 pub use edge::leaf;
+pub use guard::{falsity, truth};

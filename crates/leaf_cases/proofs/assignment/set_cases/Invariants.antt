@@ -1,4 +1,4 @@
-use Rattle.std.proofs.Common.{◌≡◌, ◌++◌, map, drop, take}
+use Rattle.std.proofs.Common.{◌≡◌, ◌++◌, map, drop}
 use Rattle.std.specs.Prelude.{slice_set}
 use Rattle.leaf_cases.specs.Guard.{with_posts}
 use Rattle.leaf_cases.specs.Steps.{operand}

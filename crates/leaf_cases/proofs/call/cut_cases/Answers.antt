@@ -1,4 +1,4 @@
-use Rattle.std.proofs.Common.{◌++◌, take, drop, ◌∙◌}
+use Rattle.std.proofs.Common.{take, ◌∙◌}
 use Rattle.leaf_cases.specs.Guard.{with_posts}
 use Rattle.transition_formula.proofs.Loops.{one_mapped}
 use Rattle.leaf_cases.proofs.Guards.{all_mapped}

@@ -136,4 +136,3 @@ returns-in-None-clause-noted c =
     sym (append-nil c.args.losses.now)
     ∙ ap (λ l. c.args.losses.now ++ l)
     (sym (ap (λ o. lost_in_known_call (columns_at c.args.program.now c.args.proc) (length c.args.program.now.globals) (map term_of c.in-Call.args) c.in-Call.into o) is) ∙ sym (ap (λ a. lost_in_leaf (columns_at c.args.program.now c.args.proc) (length c.args.program.now.globals) c.args.known.now (statement_of_act a)) c.in-Call.is))
-
