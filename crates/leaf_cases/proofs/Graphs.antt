@@ -1,10 +1,10 @@
 -- What the edges of the graph of a well-formed program do keeps the limits of a program.
-use Rattle.std.proofs.Common.{◌≡◌, ℕ, zero, suc, ◌+◌, ◌<◌, ◌≤◌, true, false, pos, length, List, [], ◌∷◌, ◌++◌, Option, Some, None, refl, sym, ap, subst, ◌∙◌, arith}
+use Rattle.std.proofs.Common.{◌≡◌, ℕ, zero, suc, ◌+◌, ◌<◌, ◌≤◌, true, false, pos, length, List, [], ◌∷◌, ◌++◌, Option, Some, None, refl, sym, ap, subst, ◌∙◌, arith, map, get_or}
 use Rattle.std.specs.Prelude.{IsTrue, All, is_some, not, ◌&&◌, ◌||◌, ◌==◌, nat_le, nat_lt, slice_get}
 use Rattle.std.specs.List.{AllByRecursion}
 use Rattle.std.proofs.lemmas.Bool.{leb-true}
 use Rattle.std.proofs.lemmas.Bool.Decides.{Decides-eqb}
-use Rattle.std.proofs.lemmas.Option.{get_or_from_slice_get, slice_get_within}
+use Rattle.std.proofs.lemmas.Option.{get_or_from_slice_get, slice_get_within, slice_get-map, slice_get_read}
 use Rattle.linear_terms.proofs.Columns.{each-append}
 use Rattle.syntax_tree.specs.declared.op.Sign.TheVariants.{Not}
 use Rattle.syntax_tree.specs.declared.program.Proc.{Proc}
@@ -14,7 +14,11 @@ use Rattle.syntax_tree.specs.Code.{Statement, Set, Any, Call, Guard, Check, If, 
 use Rattle.syntax_tree.specs.Nodes.{code_nodes, statement_nodes}
 use Rattle.syntax_tree.specs.Term.{Term, Lit, Unary}
 use Rattle.syntax_tree.specs.WellFormed.{columns_below, all_columns_below, operators_of, joint_operators, cond_fits, value_fits, args_fit, into_fits, callee_fits, statement_fits, code_fits, body_place, width_of, IsProcFit, IsWellFormed}
-use Rattle.flow_graph.specs.FlowGraph.{Arc, arc, skip, unless, inside, statement_arcs, code_arcs, outermost, exit_of, flow_of, body_of}
+use Rattle.std.specs.Option.{option_map}
+use Rattle.flow_graph.specs.declared.parts.Edge.{Edge}
+use Rattle.flow_graph.specs.declared.parts.Graph.{Graph}
+use Rattle.flow_graph.specs.FlowGraph.{graph_of, Arc, arc, skip, unless, inside, statement_arcs, code_arcs, outermost, exit_of, flow_of, body_of, FlowGraph}
+use Rattle.flow_graph.specs.Plain.{arc_of, plain, statement_of_act}
 use Rattle.transition_formula.specs.Transition.{Transition}
 use Rattle.transition_formula.proofs.Covered.{both}
 use Rattle.transition_formula.proofs.Fitting.{true-below}
@@ -193,3 +197,25 @@ globals_at program proc lt = let p = some_at program.procs proc lt in subst (λ 
 
 pub proc_within : (program : Program) (known : List (Option Transition)) (width proc : ℕ) (args : List Term) (into : Option ℕ) → AreKnown program known → CallFits program width proc args into → proc < length known
 proc_within program known width proc args into are fit = let lt = slice_get_within program.procs proc fit.callee fit.is in let same = are.each in omega arith
+
+-- ---- for callers: edges of a graph that is made, and nothing known
+
+pub act_of_edge : (program : Program) (proc : ℕ) (g : Graph) (edges : List Edge) (i : ℕ) (x : Edge) → plain g ≡ graph_of program proc → edges ≡ g.edges → i < length edges → x ≡ get_or edges i x → IsActOf program proc (statement_of_act x.act)
+act_of_edge program proc g edges i x same list lt is =
+    record {
+      place = i;
+      way = arc_of x;
+      is =
+          ap (λ (f : FlowGraph). slice_get f.arcs i) (sym same)
+          ∙ ap (λ es. slice_get (map arc_of es) i) (sym list)
+          ∙ slice_get-map arc_of edges i
+          ∙ ap (option_map arc_of) (slice_get_read edges (length edges) i x refl lt is);
+      does = refl;
+    }
+
+none-there : {X : Type 0} (n : ℕ) (x : X) → (let none : List (Option X) = None ∷ [] in slice_get none n ≡ Some (Some x)) → ⊥
+none-there zero x e = cc
+none-there (suc n) x e = cc
+
+pub none_known : (program : Program) → length program.procs ≡ 1 → AreKnown program (None ∷ [])
+none_known program one = record { each = sym one; fit = λ proc p f is known. absurd (none-there proc f known) }

@@ -1,13 +1,20 @@
 //! Formulas of guards as an independent model of the analysis gives them, written as text: each case by how
 //! many auxiliaries it has and its rows, and then what was lost.
-ghost use Rattle.std.specs.Prelude.{IsTrue};
+ghost use Rattle.std.specs.Prelude.{◌≡◌, ◌≤◌, ◌↔◌, length, All, IsTrue};
+ghost use Rattle.flow_graph.specs.Plain.{statement_of_act};
+ghost use Rattle.syntax_tree.specs.WellFormed.{IsWellFormed};
+ghost use Rattle.leaf_cases.specs.Conditions.{IsActOf};
 
-use crate::{falsity, truth};
+use crate::call::{Widths, call};
+use crate::{falsity, leaf, truth};
+use flow_graph::{Act, GraphError, graph};
 use items::{Boxed, Items};
-use linear_terms::{Kind, Poly};
+use linear_terms::{Case, Col, Kind, Poly, Row, TermError, add};
 use std::alloc::{AllocError, Global};
 use std::fmt::Write;
-use syntax_tree::{Core, Op, Sign, count_operators, has_columns_below};
+use syntax_tree::{
+    Column, Core, Name, Op, Proc, Program, Sign, Stmt, count_operators, has_columns_below,
+};
 use transition_formula::{Formula, FormulaError, Loss};
 
 const BIG: i128 = i128::MAX;
@@ -26,6 +33,18 @@ impl From<AllocError> for NoMemory {
 
 impl From<FormulaError> for NoMemory {
     fn from(_e: FormulaError) -> NoMemory {
+        NoMemory
+    }
+}
+
+impl From<TermError> for NoMemory {
+    fn from(_e: TermError) -> NoMemory {
+        NoMemory
+    }
+}
+
+impl From<GraphError> for NoMemory {
+    fn from(_e: GraphError) -> NoMemory {
         NoMemory
     }
 }
@@ -57,8 +76,8 @@ fn write_poly(text: &mut String, poly: &Poly) -> Result<(), NoMemory> {
         write!(text, "{number}")?;
         for col in mono.columns() {
             match col {
-                linear_terms::Col::At(number) => write!(text, "*x{number}")?,
-                linear_terms::Col::Aux(number) => write!(text, "*a{number}")?,
+                Col::At(number) => write!(text, "*x{number}")?,
+                Col::Aux(number) => write!(text, "*a{number}")?,
             }
         }
         write!(text, " + ")?;
@@ -241,6 +260,157 @@ fn lost_values_and_rows(rt: HostRuntime) -> Result<(), NoMemory> {
     assert_eq!(rt;
         made.as_str(),
         "0 ! 170141183460469231731687303715884105727 + 170141183460469231731687303715884105727"
+    );
+    Ok(())
+}
+
+fn write_posts(text: &mut String, formula: &Formula) -> Result<(), NoMemory> {
+    for case in formula.cases() {
+        for post in case.post.as_slice() {
+            write!(text, " ; ")?;
+            write_poly(text, post)?;
+        }
+    }
+    Ok(())
+}
+
+fn have_few(cases: &[Case]) -> bool
+    ensures { IsTrue result ↔ All (λ case. case.aux ≤ 64) cases.now }
+{
+    cases.iter().all(|case| case.aux <= 64)
+}
+
+/// A call with one argument whose value goes into column 1, of a state with one global and two more columns.
+fn called(alloc: Global, callee: &Formula, argument: Core) -> Result<String, NoMemory> {
+    let mut text = String::new(alloc);
+    let widths = Widths {
+        columns: 3,
+        globals: 1,
+    };
+    if callee.from() == 2
+        && callee.to() == 2
+        && have_few(callee.cases())
+        && has_columns_below(&argument, 3)
+        && count_operators(&argument) <= 1000
+    {
+        let args = [argument];
+        let mut losses = Items::new(alloc);
+        let formula = call(alloc, widths, &args, Some(1), callee, &mut losses)?;
+        write_formula(&mut text, &formula)?;
+        write_posts(&mut text, &formula)?;
+        write_losses(&mut text, losses.as_slice())?;
+    }
+    Ok(text)
+}
+
+/// From a global and a parameter, which is at most 5, to their sum and twice the parameter.
+fn callee(alloc: Global) -> Result<Option<Formula>, TermError> {
+    let x = Poly::column(alloc, Col::At(0))?;
+    let y = Poly::column(alloc, Col::At(1))?;
+    let mut rows = Items::new(alloc);
+    rows.push(Row {
+        poly: add(alloc, &y, &Poly::constant(alloc, -5))?,
+        kind: Kind::AtMost,
+    })?;
+    let mut post = Items::new(alloc);
+    post.push(add(alloc, &x, &y)?)?;
+    post.push(add(alloc, &y, &y)?)?;
+    let mut cases = Items::new(alloc);
+    cases.push(Case { aux: 0, rows, post })?;
+    Ok(Formula::new(2, 2, cases))
+}
+
+#[test]
+fn a_call(rt: HostRuntime) -> Result<(), NoMemory> {
+    let alloc = rt.alloc();
+    let made = match callee(alloc)? {
+        Some(formula) => called(alloc, &formula, binary(alloc, Op::Add, y(), Core::Lit(1))?)?,
+        None => String::new(alloc),
+    };
+    assert_eq!(rt;
+        made.as_str(),
+        "0 | 1*x1 + -4 <= 0 ; 1*x0 + 1*x1 + 1 ; 2*x1 + 2 ; 1*x2 + 0"
+    );
+    Ok(())
+}
+
+/// The formulas of the edges of a program with one procedure, without what is known of it.
+fn edges(alloc: Global, program: &Program) -> Result<String, NoMemory> {
+    let mut text = String::new(alloc);
+    if program.is_well_formed() && program.procs.len() == 1 {
+        let graph = graph(alloc, program, 0)?;
+        for edge in graph.edges.as_slice() {
+            let mut losses = Items::new(alloc);
+            let formula = unknown(alloc, program, &edge.act, &mut losses)?;
+            write!(text, "[")?;
+            write_formula(&mut text, &formula)?;
+            write_posts(&mut text, &formula)?;
+            write!(text, "]")?;
+        }
+    }
+    Ok(text)
+}
+
+/// The formula of an edge of the one procedure of a program, of which nothing is known.
+fn unknown(
+    alloc: Global,
+    program: &Program,
+    act: &Act,
+    losses: &mut Items<Loss>,
+) -> Result<Formula, FormulaError>
+    requires formed { IsWellFormed program.now }
+    requires one { length program.now.procs ≡ 1 }
+    requires edge { IsActOf program.now 0 (statement_of_act act.now) }
+{
+    let known: [Option<Formula>; 1] = [None];
+    leaf(alloc, program, 0, act, &known, losses)
+}
+
+fn one_procedure(alloc: Global) -> Result<Option<Program>, AllocError> {
+    let mut letters = Items::new(alloc);
+    letters.push(b'm')?;
+    let mut columns = Items::new(alloc);
+    columns.push(Column { name: None })?;
+    let mut body = Items::new(alloc);
+    body.push(Stmt::Set {
+        col: 0,
+        value: binary(alloc, Op::Sub, x(), Core::Lit(2))?,
+    })?;
+    body.push(Stmt::Any { col: 1 })?;
+    body.push(Stmt::Call {
+        proc: 0,
+        args: Items::new(alloc),
+        into: None,
+    })?;
+    let mut procs = Items::new(alloc);
+    match Name::new(letters) {
+        Some(name) => procs.push(Proc {
+            name,
+            returns: true,
+            params: 0,
+            columns,
+            body,
+        })?,
+        None => return Ok(None),
+    }
+    Ok(Some(Program {
+        globals: Items::new(alloc),
+        procs,
+        main: 0,
+        checks: Items::new(alloc),
+    }))
+}
+
+#[test]
+fn edges_of_a_program(rt: HostRuntime) -> Result<(), NoMemory> {
+    let alloc = rt.alloc();
+    let made = match one_procedure(alloc)? {
+        Some(program) => edges(alloc, &program)?,
+        None => String::new(alloc),
+    };
+    assert_eq!(rt;
+        made.as_str(),
+        "[0 ; 1*x0 + -2 ; 1*x1 + 0][1 ; 1*x0 + 0 ; 1*a0 + 0][][0 | 2 <= 0 / 0 | 0 <= 0 ; 1*x0 + 0 ; 1*x1 + 0 ; 1*x0 + 0 ; 1*x1 + 0]"
     );
     Ok(())
 }
