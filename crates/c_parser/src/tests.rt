@@ -222,7 +222,7 @@ fn told(alloc: Global, text: &[u8]) -> Result<String, Fail> {
 /// Whether each text of a table is told as it should be, and the table has so many.
 fn check(alloc: Global, rt: &impl Abort, table: &str, count: usize) -> Result<(), Fail> {
     let lines = table.lines().collect::<Vec<&str>>(alloc)?;
-    assert_eq!(rt; lines.len(), 2 * count);
+    assert_eq!(rt; lines.len() / 2, count);
     for row in lines.chunks(2) {
         let [text, expected] = row else {
             return Err("no row".into());

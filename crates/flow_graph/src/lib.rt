@@ -11,10 +11,10 @@ mod making;
 mod parts;
 mod planning;
 #[cfg(test)]
-mod tables;
-#[cfg(test)]
 mod tests;
 mod turns;
+#[cfg(test)]
+mod worked;
 
 pub use error::GraphError;
 pub use grouping::{Group, groups};

@@ -1,7 +1,7 @@
 //! Graphs and groups as a model in another language makes them. In each body the condition is the column `x`, an
 //! assignment sets `x` to 5, and a call has no arguments.
 use super::{Act, Graph, calls_are_walks, checks_are_walks, graph, groups, returns_are_walks};
-use crate::tables::{GRAPHS, GROUPS};
+use crate::worked::{GRAPHS, GROUPS};
 use items::Items;
 use std::alloc::Global;
 use std::fmt::Write;
