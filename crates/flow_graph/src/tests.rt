@@ -5,6 +5,7 @@ use crate::worked::{GRAPHS, GROUPS};
 use items::Items;
 use std::alloc::Global;
 use std::fmt::Write;
+use std::process::Abort;
 use std::test::Fail;
 use syntax_tree::{Core, GlobalVar, Name, Proc, Program, Sign, Stmt};
 
@@ -156,23 +157,27 @@ fn shown(alloc: Global, graph: &Graph) -> Result<String, Fail> {
     Ok(text)
 }
 
-#[test]
-fn graphs(rt: HostRuntime) -> Result<(), Fail> {
-    let alloc = rt.alloc();
-    let lines = GRAPHS.lines().collect::<Vec<&str>>(alloc)?;
-    assert_eq!(rt; lines.len(), 36);
+/// Whether each body of a table has the graph that stands behind it, and the table has so many.
+fn check_graphs(alloc: Global, rt: &impl Abort, table: &str, count: usize) -> Result<(), Fail> {
+    let lines = table.lines().collect::<Vec<&str>>(alloc)?;
+    assert_eq!(rt; lines.len() / 3, count);
     for row in lines.chunks(3) {
-        let [text, words, wanted] = row else {
+        let [text, words, expected] = row else {
             return Err("no row".into());
         };
         let program = program(alloc, words)?;
         if !program.is_well_formed() {
             return Err("no program".into());
         }
-        let made = graph(alloc, &program, 0)?;
-        assert_eq!(rt; shown(alloc, &made)?.as_str(), *wanted, "{text}");
+        let made = shown(alloc, &graph(alloc, &program, 0)?)?;
+        assert_eq!(rt; made.as_str(), *expected, "{text}");
     }
     Ok(())
+}
+
+#[test]
+fn graphs(rt: HostRuntime) -> Result<(), Fail> {
+    check_graphs(rt.alloc(), &rt, GRAPHS, 12)
 }
 
 /// A program without globals, whose procedures make calls and do nothing else: how many they are, and who calls whom.
@@ -215,18 +220,23 @@ fn grouped(alloc: Global, text: &str) -> Result<String, Fail> {
     Ok(made)
 }
 
-#[test]
-fn groups_of_procedures(rt: HostRuntime) -> Result<(), Fail> {
-    let alloc = rt.alloc();
-    let lines = GROUPS.lines().collect::<Vec<&str>>(alloc)?;
-    assert_eq!(rt; lines.len(), 10);
+/// Whether the procedures of each line of a table make the groups that stand behind it, and the table has so many.
+fn check_groups(alloc: Global, rt: &impl Abort, table: &str, count: usize) -> Result<(), Fail> {
+    let lines = table.lines().collect::<Vec<&str>>(alloc)?;
+    assert_eq!(rt; lines.len() / 2, count);
     for row in lines.chunks(2) {
-        let [text, wanted] = row else {
+        let [text, expected] = row else {
             return Err("no row".into());
         };
-        assert_eq!(rt; grouped(alloc, text)?.as_str(), *wanted, "{text}");
+        let made = grouped(alloc, text)?;
+        assert_eq!(rt; made.as_str(), *expected, "{text}");
     }
     Ok(())
+}
+
+#[test]
+fn groups_of_procedures(rt: HostRuntime) -> Result<(), Fail> {
+    check_groups(rt.alloc(), &rt, GROUPS, 5)
 }
 
 #[test]
