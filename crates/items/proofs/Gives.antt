@@ -5,7 +5,7 @@
 --     FailsBy-bind               a fault of the first step is the fault of both
 --     FailsBy-lifted             the same across two error types
 --     Gives-Ok, Gives-Err        a clause at an answer that is known
-use Rattle.std.proofs.Common.{◌≡◌, refl, sym, ◌∙◌, ap}
+use Rattle.std.proofs.Common.{◌≡◌, refl, ◌∙◌, ap}
 use Rattle.std.specs.Prelude.{Option, None, Some, Result, Ok, Err}
 use Rattle.items.specs.Gives.{◌>>=◌, lifted, FailsBy, Gives}
 

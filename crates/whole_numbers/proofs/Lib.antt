@@ -1,3 +1,5 @@
+-- ---- the laws of the whole numbers
+pub mod Ring
+-- ---- the greatest common divisor, and quotients by a positive number
 pub mod CommonDivisors
 pub mod Quotients
-pub mod Ring

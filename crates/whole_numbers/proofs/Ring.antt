@@ -1,8 +1,11 @@
--- The ring laws of the whole numbers, named by the left side of their equation, and what a product keeps of an order.
-use Rattle.std.proofs.Common.{◌≡◌, ℕ, zero, suc, sym, ap, ◌∙◌, arith, ℤ, pos, negsuc, ◌+ℤ◌, ◌-ℤ◌, ◌*ℤ◌, ◌≤ℤ◌, ◌<ℤ◌}
-use Rattle.std.specs.Prelude.{neg_ℤ}
-use Rattle.std.proofs.lemmas.Int.{ints, by_lt_z}
+-- The ring laws of the whole numbers, named by the left side of their equation, what a product keeps of an order, sizes, and
+-- what an answer of 128 bits is.
+use Rattle.std.proofs.Common.{◌≡◌, ℕ, zero, suc, ◌+◌, ◌*◌, ◌<◌, ◌≤◌, Bool, true, false, cond, refl, sym, ap, subst, ◌∙◌, arith, ℤ, pos, negsuc, ◌+ℤ◌, ◌-ℤ◌, ◌*ℤ◌, ◌≤ℤ◌, ◌<ℤ◌}
+use Rattle.std.specs.Prelude.{neg_ℤ, unsigned_abs, Ok, Err}
+use Rattle.std.proofs.lemmas.Int.{ints, by_lt_z, unsigned_abs-mul}
 use Rattle.std.proofs.Math.IntN.{suc_ℤ, pred_ℤ, suc_ℤ-+ℤ, pred_ℤ-+ℤ, suc_ℤ-*ℤ, pred_ℤ-*ℤ, zero-*ℤ, *ℤ_comm, +ℤ_idl, +ℤ_invl}
+use Rattle.whole_numbers.specs.declared.wide.Wide.{Wide}
+use Rattle.whole_numbers.specs.Fits.{fits, sum_of, product_of}
 
 -- ---- sums
 
@@ -69,6 +72,9 @@ pub *ℤ_assoc : (a b c : ℤ) → a *ℤ b *ℤ c ≡ a *ℤ (b *ℤ c)
 pub *ℤ_left_comm : (a b c : ℤ) → a *ℤ (b *ℤ c) ≡ b *ℤ (a *ℤ c)
 *ℤ_left_comm a b c = sym (*ℤ_assoc a b c) ∙ ap (λ x. x *ℤ c) (*ℤ_comm a b) ∙ *ℤ_assoc b a c
 
+pub *ℤ_right_comm : (a b c : ℤ) → a *ℤ b *ℤ c ≡ a *ℤ c *ℤ b
+*ℤ_right_comm a b c = *ℤ_assoc a b c ∙ ap (λ x. a *ℤ x) (*ℤ_comm b c) ∙ sym (*ℤ_assoc a c b)
+
 pub one-*ℤ : (a : ℤ) → pos 1 *ℤ a ≡ a
 one-*ℤ a = omega (arith, ints)
 
@@ -93,6 +99,12 @@ regrouped : (a b c d : ℤ) → a *ℤ (b *ℤ (c +ℤ d)) ≡ d *ℤ a *ℤ b +
 regrouped a b c d = simp ring (omega (arith, ints))
 
 -- ---- order
+
+pub <ℤ-≤ℤ : (a b : ℤ) → a <ℤ b → a ≤ℤ b
+<ℤ-≤ℤ a b h = omega (arith, ints)
+
+pub ≤ℤ_antisymm : (a b : ℤ) → a ≤ℤ b → b ≤ℤ a → a ≡ b
+≤ℤ_antisymm a b h g = omega (arith, ints)
 
 pub *ℤ-not_negative : (a b : ℤ) → pos 0 ≤ℤ a → pos 0 ≤ℤ b → pos 0 ≤ℤ (a *ℤ b)
 *ℤ-not_negative (pos n) (pos m) p q = omega (arith, ints)
@@ -125,7 +137,43 @@ pub *ℤ-≤ℤ : (a b k : ℤ) → pos 0 <ℤ k → (a *ℤ k) ≤ℤ (b *ℤ k
 -- a positive factor can be taken away from an equation
 pub *ℤ_cancel : (a b k : ℤ) → pos 0 <ℤ k → a *ℤ k ≡ b *ℤ k → a ≡ b
 *ℤ_cancel a b k p e =
-    antisymmetric a b (*ℤ-≤ℤ a b k p (omega (arith, ints, e))) (*ℤ-≤ℤ b a k p (omega (arith, ints, e)))
+    ≤ℤ_antisymm a b (*ℤ-≤ℤ a b k p (omega (arith, ints, e))) (*ℤ-≤ℤ b a k p (omega (arith, ints, e)))
+
+pub *ℤ-positive : (a b : ℤ) → pos 0 <ℤ a → pos 0 <ℤ b → pos 0 <ℤ (a *ℤ b)
+*ℤ-positive a b p q = above (a *ℤ b) (pos 1 *ℤ b) (≤ℤ-*ℤ (pos 1) a b (omega (arith, ints)) (omega (arith, ints))) (one-*ℤ b)
   where
-    antisymmetric : (x y : ℤ) → x ≤ℤ y → y ≤ℤ x → x ≡ y
-    antisymmetric x y h g = omega (arith, ints)
+    above : (x y : ℤ) → y ≤ℤ x → y ≡ b → pos 0 <ℤ x
+    above x y h e = omega (arith, ints)
+
+-- ---- sizes
+
+pub unsigned_abs-+ℤ : (a b : ℤ) → unsigned_abs (a +ℤ b) ≤ unsigned_abs a + unsigned_abs b
+unsigned_abs-+ℤ a b = omega (arith, ints)
+
+pub unsigned_abs-positive : (a : ℤ) → pos 0 <ℤ a → 0 < unsigned_abs a
+unsigned_abs-positive a h = omega (arith, ints)
+
+-- a product that is smaller than one factor has the other factor 0
+pub zero_of_small-*ℤ : (a b : ℤ) → unsigned_abs (a *ℤ b) < unsigned_abs b → a ≡ pos 0
+zero_of_small-*ℤ a b h = go a (subst (λ n. n < unsigned_abs b) (unsigned_abs-mul a b) h)
+  where
+    too_large : (n m : ℕ) → suc n * m < m → ⊥
+    too_large n m lt = omega arith
+
+    go : (a : ℤ) → unsigned_abs a * unsigned_abs b < unsigned_abs b → a ≡ pos 0
+    go (pos zero) lt = refl
+    go (pos (suc n)) lt = absurd (too_large n (unsigned_abs b) lt)
+    go (negsuc n) lt = absurd (too_large n (unsigned_abs b) lt)
+
+-- ---- numbers of 128 bits
+
+-- an answer under a test is the value that it answers
+value_of_test : (b : Bool) (x y : ℤ) (w : Wide) → cond b (Ok x) (Err w) ≡ Ok y → y ≡ x
+value_of_test true x y w e = cc
+value_of_test false x y w e = cc
+
+pub sum_of-value : (a b c : ℤ) → sum_of a b ≡ Ok c → c ≡ a +ℤ b
+sum_of-value a b c e = value_of_test (fits (a +ℤ b)) (a +ℤ b) c (record { left = a; right = b; times = false }) e
+
+pub product_of-value : (a b c : ℤ) → product_of a b ≡ Ok c → c ≡ a *ℤ b
+product_of-value a b c e = value_of_test (fits (a *ℤ b)) (a *ℤ b) c (record { left = a; right = b; times = true }) e

@@ -1,2 +1,4 @@
+-- ---- what must be believed
+pub mod Counters
 pub mod Divisors
 pub mod Fits
