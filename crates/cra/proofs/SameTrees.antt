@@ -162,6 +162,7 @@ elaborates-alike one other length_of_text e =
       procs = h.procs (h.scope 0 0 i) (h.count i) 0 i;
       main = unwrap_or (h.main 0 i) 0;
       checks = h.checks i;
+      rule = 2;
     } in
     let faults : faults_of one length_of_text ≡ faults_of other length_of_text = λ i.
     h.twice [] 0 0 i ++ h.agree (h.named 0 i) i ++ h.faults (h.scope 0 0 i) (h.count i) 0 i ++ when (is_none (h.main 0 i)) (NoMain length_of_text) in

@@ -44,6 +44,7 @@ fn program(alloc: Global, x: i128, procs: Vec<Proc>) -> Result<Program, AllocErr
         procs: Items::from_vec(procs),
         main: 0,
         checks: Items::new(alloc),
+        rule: 2,
     })
 }
 

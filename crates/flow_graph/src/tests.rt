@@ -123,6 +123,7 @@ fn program(alloc: Global, text: &str) -> Result<Program, Fail> {
         procs: Items::from_vec(vec![in alloc; main]?),
         main: 0,
         checks,
+        rule: 2,
     })
 }
 
@@ -199,6 +200,7 @@ fn calling(alloc: Global, text: &str) -> Result<Program, Fail> {
         procs,
         main: 0,
         checks: Items::new(alloc),
+        rule: 2,
     })
 }
 

@@ -398,6 +398,7 @@ fn one_procedure(alloc: Global) -> Result<Option<Program>, AllocError> {
         procs,
         main: 0,
         checks: Items::new(alloc),
+        rule: 2,
     }))
 }
 

@@ -30,13 +30,16 @@ pub struct Proc {
 }
 
 /// A program. A call names a procedure by its place in `procs`, and `main` is the place of `main`.
-/// `checks` has the places of the assertions in the text, the first of which has the number 1.
+/// `checks` has the places of the assertions in the text, the first of which has the number 1. `rule` is the
+/// rule by which the iterations of a loop are summed up: 1 bounds differences, 2 progressions too, and 3 also takes the
+/// facets of the loop's body as directions.
 #[derive(Debug, PartialEq, Eq, Drop)]
 pub struct Program {
     pub globals: Items<GlobalVar>,
     pub procs: Items<Proc>,
     pub main: u32,
     pub checks: Items<u32>,
+    pub rule: u32,
 }
 
 impl Proc {
@@ -68,6 +71,7 @@ impl Program {
             procs,
             main: self.main,
             checks: self.checks.clone()?,
+            rule: self.rule,
         })
     }
 }

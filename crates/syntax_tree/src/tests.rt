@@ -173,6 +173,7 @@ fn small_program(alloc: Global, in_body: bool) -> Result<Program, AllocError> {
         procs,
         main: 0,
         checks,
+        rule: 2,
     })
 }
 

@@ -226,7 +226,8 @@ impl Program {
     pub fn is_well_formed(&self) -> bool
         ensures { IsTrue result ↔ IsWellFormed self.now }
     {
-        self.procs.len() <= MOST_PROCEDURES
+        (1..=3).contains(&self.rule)
+            && self.procs.len() <= MOST_PROCEDURES
             && self.globals.len() <= MOST_GLOBALS
             && self.checks.len() <= MOST_CHECKS
             && has_main(self)

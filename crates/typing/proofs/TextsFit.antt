@@ -315,6 +315,8 @@ elaborated_fits items length_of_text f o =
     record {
       procedures = let x = procs_count items text globals 0 in let y = bodies_few items [] 0 0 d (omega arith) in omega (arith, x, y);
       globals = let y = globals_few items [] 0 0 d (omega arith) in omega (arith, g, y);
+      first_rule = omega arith;
+      last_rule = omega arith;
       assertions = let x = checks_few items text globals 0 q (omega arith) in omega (arith, x);
       main = main_fits items program.procs [] text [] globals 0 0 0 d refl refl m;
       each = All-from_recursion (IsProcFit program) program.procs (procs_fit items program text [] globals 0 0 0 q d (omega arith) g scope (omega arith) o);

@@ -59,4 +59,6 @@ elaborated items = record {
   procs = procs_of (declarations 0 0 items) (count_globals items) 0 items;
   main = unwrap_or (main_from 0 items) 0;
   checks = checks_in items;
+  -- iterations are summed up by differences and by progressions
+  rule = 2;
 }

@@ -51,6 +51,7 @@ fn program_of(alloc: Global, tree: &Tree, length: u32) -> Result<Program, TypeEr
             procs,
             main: main.unwrap_or(0),
             checks,
+            rule: 2,
         }),
     }
 }
