@@ -1,4 +1,5 @@
 pub use Rattle.items.specs.Gives
+pub use Rattle.whole_numbers.specs.Counters
 pub use Rattle.whole_numbers.specs.Divisors
 pub use Rattle.whole_numbers.specs.Fits
 pub use Rattle.linear_terms.specs.Mono
