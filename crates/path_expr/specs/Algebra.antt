@@ -1,10 +1,6 @@
 -- What calls of an algebra keep.
-use Rattle.std.specs.Prelude.{ℕ, ◌+◌, ◌-◌, ◌^◌, ◌≤◌, min}
+use Rattle.std.specs.Prelude.{ℕ, ◌≤◌}
 use Rattle.path_expr.specs.PathExpr.{PathExpr}
-
--- a count that only rises rose by one at least, or stands at the end of its 64 bits
-abbrev pub Rose : ℕ → ℕ → Type 0
-Rose before now = min (before + 1) (2 ^ 64 - 1) ≤ now
 
 -- what every call of an algebra ensures of what was before it: what its relations held of, they hold of now, and its count of
 -- faults did not fall

@@ -1,3 +1,4 @@
+pub use Rattle.whole_numbers.specs.Counters
 pub mod PathExpr
 pub mod Algebra
 pub mod Walks

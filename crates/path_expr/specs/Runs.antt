@@ -3,7 +3,8 @@ use Rattle.std.specs.Prelude.{◌≡◌, ℕ, List, ◌∷◌, ◌++◌, Bool, f
 use Rattle.path_expr.specs.declared.cell.ReachError.{ReachError}
 use Rattle.path_expr.specs.declared.cell.ReachError.TheVariants.{Algebra, Memory}
 use Rattle.path_expr.specs.PathExpr.{PathExpr}
-use Rattle.path_expr.specs.Algebra.{Keeps, Rose}
+use Rattle.whole_numbers.specs.Counters.{Rose}
+use Rattle.path_expr.specs.Algebra.{Keeps}
 
 -- the error of a call, if there is one
 abbrev pub error_of : {X F : Type 0} → Result X (ReachError F) → Option (ReachError F)

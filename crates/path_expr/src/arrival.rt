@@ -15,6 +15,7 @@ use std::alloc::Global;
 
 /// A path, then a step, then turns.
 fn through_path<A: Algebra>(
+    alloc: Global,
     algebra: &mut A,
     path: &A::Item,
     step: &A::Item,
@@ -28,12 +29,13 @@ fn through_path<A: Algebra>(
         (seq_operation w p ++ seq_operation (seq_of w p) q) result
         (λ item. IsItem A.fits A.spans algebra.new (seq_of (seq_of w p) q) item from to) }
 {
-    let up = seq(algebra, path, step)?;
-    turned(algebra, &up, turn)
+    let up = seq(alloc, algebra, path, step)?;
+    turned(alloc, algebra, &up, turn)
 }
 
 /// A way, then a step, then turns.
 fn through<A: Algebra>(
+    alloc: Global,
     algebra: &mut A,
     way: &Cell<A::Item>,
     step: &A::Item,
@@ -49,11 +51,11 @@ fn through<A: Algebra>(
 {
     match way {
         Cell::Zero => Ok(None),
-        Cell::One => match turned(algebra, step, turn) {
+        Cell::One => match turned(alloc, algebra, step, turn) {
             Ok(path) => Ok(Some(path)),
             Err(error) => Err(error),
         },
-        Cell::Item(way) => match through_path(algebra, way, step, turn) {
+        Cell::Item(way) => match through_path(alloc, algebra, way, step, turn) {
             Ok(path) => Ok(Some(path)),
             Err(error) => Err(error),
         },
@@ -62,6 +64,7 @@ fn through<A: Algebra>(
 
 /// The paths to place n so far, or those by place p.
 fn arrive_by<A: Algebra>(
+    alloc: Global,
     algebra: &mut A,
     table: &Table<A::Item>,
     way: &Cell<A::Item>,
@@ -84,12 +87,13 @@ fn arrive_by<A: Algebra>(
     let Some(step) = table.get(p, n) else {
         return Ok(before);
     };
-    let path = through(algebra, way, step, turn)?;
-    join_both(algebra, before, path)
+    let path = through(alloc, algebra, way, step, turn)?;
+    join_both(alloc, algebra, before, path)
 }
 
 /// The paths to place n by the places below it.
 fn arrive<A: Algebra>(
+    alloc: Global,
     algebra: &mut A,
     table: &Table<A::Item>,
     found: &[Cell<A::Item>],
@@ -109,7 +113,7 @@ fn arrive<A: Algebra>(
     let mut total = None;
     let mut from = 0;
     while let Some(p) = table.next_into(n, from) {
-        total = arrive_by(algebra, table, &found[p as usize], turn, total, p, n)?;
+        total = arrive_by(alloc, algebra, table, &found[p as usize], turn, total, p, n)?;
         from = p + 1;
     }
     Ok(total)
@@ -117,6 +121,7 @@ fn arrive<A: Algebra>(
 
 /// The way to a place that is not the source's.
 fn later_way<A: Algebra>(
+    alloc: Global,
     algebra: &mut A,
     table: &Table<A::Item>,
     stars: &mut Table<A::Item>,
@@ -136,7 +141,7 @@ fn later_way<A: Algebra>(
         (λ way. IsWay A.fits A.spans algebra.new (arrivals f n (ways f n) 0 Zero) way (node_at source 0) (node_at source n)) }
 {
     let turn = stars.take(n, n);
-    match arrive(algebra, table, found, &turn, n) {
+    match arrive(alloc, algebra, table, found, &turn, n) {
         Ok(Some(path)) => Ok(Cell::Item(path)),
         Ok(None) => Ok(Cell::Zero),
         Err(error) => Err(error),
@@ -145,6 +150,7 @@ fn later_way<A: Algebra>(
 
 /// The way to the source's place.
 fn first_way<A: Algebra>(
+    alloc: Global,
     algebra: &mut A,
     table: &Table<A::Item>,
 ) -> Result<Cell<A::Item>, ReachError<A::Fault>>
@@ -153,7 +159,7 @@ fn first_way<A: Algebra>(
         Makes A.fits A.spans A.ends A.is_memory A.faults A.made A.stopped algebra.old algebra.new (way_operations f 0) result
         (λ way. IsWay A.fits A.spans algebra.new (way_at f 0) way (node_at source 0) (node_at source 0)) }
 {
-    match turns(algebra, table, 0) {
+    match turns(alloc, algebra, table, 0) {
         Ok(Some(turn)) => Ok(Cell::Item(turn)),
         Ok(None) => Ok(Cell::One),
         Err(error) => Err(error),
@@ -162,6 +168,7 @@ fn first_way<A: Algebra>(
 
 /// The way to place n.
 fn way<A: Algebra>(
+    alloc: Global,
     algebra: &mut A,
     table: &Table<A::Item>,
     stars: &mut Table<A::Item>,
@@ -180,9 +187,9 @@ fn way<A: Algebra>(
         (λ way. IsWay A.fits A.spans algebra.new (way_at f n) way (node_at source 0) (node_at source n)) }
 {
     if n == 0 {
-        first_way(algebra, table)
+        first_way(alloc, algebra, table)
     } else {
-        later_way(algebra, table, stars, found, n)
+        later_way(alloc, algebra, table, stars, found, n)
     }
 }
 
@@ -204,7 +211,7 @@ pub(crate) fn find_ways<A: Algebra>(
 {
     let mut found = Vec::new(alloc);
     for n in 0..nodes {
-        let next = way(algebra, table, stars, found.as_slice(), n)?;
+        let next = way(alloc, algebra, table, stars, found.as_slice(), n)?;
         found.push(next)?;
     }
     Ok(found)

@@ -34,7 +34,7 @@ pub(crate) fn edges<A: Algebra>(
 {
     let mut items = Vec::new(alloc);
     for number in 0..links.len() {
-        let item = edge(algebra, number as u32)?;
+        let item = edge(alloc, algebra, number as u32)?;
         items.push(item)?;
     }
     Ok(items)
@@ -42,6 +42,7 @@ pub(crate) fn edges<A: Algebra>(
 
 /// The paths so far, or one more link.
 fn join_link<A: Algebra>(
+    alloc: Global,
     algebra: &mut A,
     before: Option<A::Item>,
     link: &A::Item,
@@ -53,12 +54,13 @@ fn join_link<A: Algebra>(
         Makes A.fits A.spans A.ends A.is_memory A.faults A.made A.stopped algebra.old algebra.new
         (join_operation p q) result (λ item. IsItem A.fits A.spans algebra.new (join_of p q) item from to) }
 {
-    let link = copy(algebra, link)?;
-    join_onto(algebra, before, link)
+    let link = copy(alloc, algebra, link)?;
+    join_onto(alloc, algebra, before, link)
 }
 
 /// The paths from one place to another by one link, of the links with these numbers.
 fn first_cell<A: Algebra>(
+    alloc: Global,
     algebra: &mut A,
     items: &[A::Item],
     numbers: &[u32],
@@ -70,7 +72,7 @@ fn first_cell<A: Algebra>(
 {
     let mut total = None;
     for number in numbers {
-        let joined = join_link(algebra, total, &items[*number as usize])?;
+        let joined = join_link(alloc, algebra, total, &items[*number as usize])?;
         total = Some(joined);
     }
     Ok(total)
@@ -78,6 +80,7 @@ fn first_cell<A: Algebra>(
 
 /// The cell for places i and j begins, by the links between them.
 fn begin_cell<A: Algebra>(
+    alloc: Global,
     algebra: &mut A,
     items: &[A::Item],
     numbers: &Rows<Items<u32>>,
@@ -97,7 +100,7 @@ fn begin_cell<A: Algebra>(
     let Some(these) = numbers.get(i, j) else {
         return Ok(());
     };
-    let first = first_cell(algebra, items, these.as_slice())?;
+    let first = first_cell(alloc, algebra, items, these.as_slice())?;
     let Some(path) = first else {
         return Ok(());
     };
@@ -107,6 +110,7 @@ fn begin_cell<A: Algebra>(
 
 /// The cells of row i begin.
 fn begin_row<A: Algebra>(
+    alloc: Global,
     algebra: &mut A,
     items: &[A::Item],
     numbers: &Rows<Items<u32>>,
@@ -126,7 +130,7 @@ fn begin_row<A: Algebra>(
 {
     let mut from = 0;
     while let Some(j) = numbers.next(i, from, nodes) {
-        begin_cell(algebra, items, numbers, table, i, j)?;
+        begin_cell(alloc, algebra, items, numbers, table, i, j)?;
         from = j + 1;
     }
     Ok(())
@@ -149,7 +153,7 @@ fn begin_rows<A: Algebra>(
 {
     let mut table = Table::new(alloc, nodes)?;
     for i in 0..nodes {
-        begin_row(algebra, items, numbers, &mut table, nodes, i)?;
+        begin_row(alloc, algebra, items, numbers, &mut table, nodes, i)?;
     }
     Ok(table)
 }

@@ -12,9 +12,11 @@ use crate::algebra::Algebra;
 use crate::cell::ReachError;
 use crate::steps::{join_onto, seq, star, turned};
 use crate::table::Table;
+use std::alloc::Global;
 
 /// A way from place i to place n goes on from n to place j.
 fn eliminate_cell<A: Algebra>(
+    alloc: Global,
     algebra: &mut A,
     table: &mut Table<A::Item>,
     way: &A::Item,
@@ -35,15 +37,16 @@ fn eliminate_cell<A: Algebra>(
     let Some(out) = table.get(n, j) else {
         return Ok(());
     };
-    let path = seq(algebra, way, out)?;
+    let path = seq(alloc, algebra, way, out)?;
     let before = table.take(i, j);
-    let joined = join_onto(algebra, before, path)?;
+    let joined = join_onto(alloc, algebra, before, path)?;
     table.put(i, j, joined)?;
     Ok(())
 }
 
 /// A way from place i to place n goes on from n to the places below n.
 fn eliminate_cells<A: Algebra>(
+    alloc: Global,
     algebra: &mut A,
     table: &mut Table<A::Item>,
     way: &A::Item,
@@ -62,7 +65,7 @@ fn eliminate_cells<A: Algebra>(
 {
     let mut from = 0;
     while let Some(j) = table.next_out(n, from) {
-        eliminate_cell(algebra, table, way, n, i, j)?;
+        eliminate_cell(alloc, algebra, table, way, n, i, j)?;
         from = j + 1;
     }
     Ok(())
@@ -70,6 +73,7 @@ fn eliminate_cells<A: Algebra>(
 
 /// Place n is eliminated in row i.
 fn eliminate_row<A: Algebra>(
+    alloc: Global,
     algebra: &mut A,
     table: &mut Table<A::Item>,
     turn: &Option<A::Item>,
@@ -89,12 +93,13 @@ fn eliminate_row<A: Algebra>(
     let Some(into) = table.get(i, n) else {
         return Ok(());
     };
-    let way = turned(algebra, into, turn)?;
-    eliminate_cells(algebra, table, &way, n, i)
+    let way = turned(alloc, algebra, into, turn)?;
+    eliminate_cells(alloc, algebra, table, &way, n, i)
 }
 
 /// The turns at place n, where there are any.
 pub(crate) fn turns<A: Algebra>(
+    alloc: Global,
     algebra: &mut A,
     table: &Table<A::Item>,
     n: u32,
@@ -107,7 +112,7 @@ pub(crate) fn turns<A: Algebra>(
     let Some(cell) = table.get(n, n) else {
         return Ok(None);
     };
-    match star(algebra, cell) {
+    match star(alloc, algebra, cell) {
         Ok(turn) => Ok(Some(turn)),
         Err(error) => Err(error),
     }
@@ -115,6 +120,7 @@ pub(crate) fn turns<A: Algebra>(
 
 /// Place n is eliminated. It answers the turns there.
 fn eliminate_place<A: Algebra>(
+    alloc: Global,
     algebra: &mut A,
     table: &mut Table<A::Item>,
     n: u32,
@@ -127,10 +133,10 @@ fn eliminate_place<A: Algebra>(
         (λ turn. HoldsAll A.fits A.spans source algebra.new (eliminated n f) table.new
         × IsItemOrOne A.fits A.spans algebra.new (star_of (f n n)) turn (node_at source n)) }
 {
-    let turn = turns(algebra, table, n)?;
+    let turn = turns(alloc, algebra, table, n)?;
     let mut from = 0;
     while let Some(i) = table.next_into(n, from) {
-        eliminate_row(algebra, table, &turn, n, i)?;
+        eliminate_row(alloc, algebra, table, &turn, n, i)?;
         from = i + 1;
     }
     Ok(turn)
@@ -138,6 +144,7 @@ fn eliminate_place<A: Algebra>(
 
 /// Place n is eliminated, and the turns there are kept at n.
 fn eliminate_next<A: Algebra>(
+    alloc: Global,
     algebra: &mut A,
     table: &mut Table<A::Item>,
     stars: &mut Table<A::Item>,
@@ -155,7 +162,7 @@ fn eliminate_next<A: Algebra>(
         × IsItemOrOne A.fits A.spans algebra.new (star_of (f n n)) (cell stars.new n n) (node_at source n)) }
     ensures others { OnOk result ((m : ℕ) → m ≢ n → cell stars.new m m ≡ cell stars.old m m) }
 {
-    if let Some(turn) = eliminate_place(algebra, table, n)? {
+    if let Some(turn) = eliminate_place(alloc, algebra, table, n)? {
         stars.put(n, n, turn)?;
     }
     Ok(())
@@ -163,6 +170,7 @@ fn eliminate_next<A: Algebra>(
 
 /// All places but the source's are eliminated, the last one first. The turns at each are kept.
 pub(crate) fn eliminate_all<A: Algebra>(
+    alloc: Global,
     algebra: &mut A,
     table: &mut Table<A::Item>,
     stars: &mut Table<A::Item>,
@@ -180,7 +188,7 @@ pub(crate) fn eliminate_all<A: Algebra>(
         (star_of (last_table nodes links source m m)) (cell stars.new m m) (node_at source m))) }
 {
     for count in 0..nodes - 1 {
-        eliminate_next(algebra, table, stars, nodes - 1 - count)?;
+        eliminate_next(alloc, algebra, table, stars, nodes - 1 - count)?;
     }
     Ok(())
 }

@@ -34,7 +34,7 @@ fn evaluate<A: Algebra>(
     let items = edges(alloc, algebra, links)?;
     let mut table = begin_table(alloc, algebra, items.as_slice(), links, source, nodes)?;
     let mut stars = Table::new(alloc, nodes)?;
-    eliminate_all(algebra, &mut table, &mut stars, nodes)?;
+    eliminate_all(alloc, algebra, &mut table, &mut stars, nodes)?;
     find_ways(alloc, algebra, &table, &mut stars, nodes)
 }
 

@@ -24,6 +24,3 @@ pub use law::paths_are_walks;
 pub use link::Link;
 pub use path::Path;
 pub use plain_paths::{PathError, PlainPaths};
-
-#[cfg(test)]
-mod tests;

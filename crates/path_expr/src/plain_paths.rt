@@ -33,16 +33,7 @@ impl<T: Drop> From<AllocFailed<T>> for PathError {
 
 /// The algebra whose items are the path expressions themselves.
 #[derive(Drop)]
-pub struct PlainPaths {
-    alloc: Global,
-}
-
-impl PlainPaths {
-    /// The algebra, which takes no memory of its own.
-    pub fn new(alloc: Global) -> PlainPaths {
-        PlainPaths { alloc }
-    }
-}
+pub struct PlainPaths;
 
 impl Algebra for PlainPaths {
     ghost use Rattle.std.specs.Prelude.{◌≡◌, true};
@@ -66,34 +57,28 @@ impl Algebra for PlainPaths {
 
     ghost stopped = { λ _ _. Unit {0} };
 
-    fn edge(&mut self, number: u32) -> Result<Path, PathError> {
+    fn edge(&mut self, _alloc: Global, number: u32) -> Result<Path, PathError> {
         Ok(Path::Edge(number))
     }
 
-    fn seq(&mut self, first: &Path, second: &Path) -> Result<Path, PathError> {
-        let first = first.copy(self.alloc)?;
-        let second = second.copy(self.alloc)?;
-        Ok(Path::Seq(
-            Boxed::new(self.alloc, first)?,
-            Boxed::new(self.alloc, second)?,
-        ))
+    fn seq(&mut self, alloc: Global, first: &Path, second: &Path) -> Result<Path, PathError> {
+        let first = first.copy(alloc)?;
+        let second = second.copy(alloc)?;
+        Ok(Path::Seq(Boxed::new(alloc, first)?, Boxed::new(alloc, second)?))
     }
 
-    fn join(&mut self, left: &Path, right: &Path) -> Result<Path, PathError> {
-        let left = left.copy(self.alloc)?;
-        let right = right.copy(self.alloc)?;
-        Ok(Path::Join(
-            Boxed::new(self.alloc, left)?,
-            Boxed::new(self.alloc, right)?,
-        ))
+    fn join(&mut self, alloc: Global, left: &Path, right: &Path) -> Result<Path, PathError> {
+        let left = left.copy(alloc)?;
+        let right = right.copy(alloc)?;
+        Ok(Path::Join(Boxed::new(alloc, left)?, Boxed::new(alloc, right)?))
     }
 
-    fn star(&mut self, turn: &Path) -> Result<Path, PathError> {
-        let turn = turn.copy(self.alloc)?;
-        Ok(Path::Star(Boxed::new(self.alloc, turn)?))
+    fn star(&mut self, alloc: Global, turn: &Path) -> Result<Path, PathError> {
+        let turn = turn.copy(alloc)?;
+        Ok(Path::Star(Boxed::new(alloc, turn)?))
     }
 
-    fn copy(&mut self, item: &Path) -> Result<Path, PathError> {
-        Ok(item.copy(self.alloc)?)
+    fn copy(&mut self, alloc: Global, item: &Path) -> Result<Path, PathError> {
+        Ok(item.copy(alloc)?)
     }
 }

@@ -6,9 +6,11 @@ ghost use Rattle.path_expr.specs.Holds.{IsItem, IsItemOrZero, IsItemOrOne};
 
 use crate::algebra::Algebra;
 use crate::cell::ReachError;
+use std::alloc::Global;
 
 /// One operation: the item of an edge.
 pub(crate) fn edge<A: Algebra>(
+    alloc: Global,
     algebra: &mut A,
     number: u32,
 ) -> Result<A::Item, ReachError<A::Fault>>
@@ -17,7 +19,7 @@ pub(crate) fn edge<A: Algebra>(
         Makes A.fits A.spans A.ends A.is_memory A.faults A.made A.stopped algebra.old algebra.new
         (Edge number ∷ []) result (λ item. IsItem A.fits A.spans algebra.new (Edge number) item from to) }
 {
-    match algebra.edge(number) {
+    match algebra.edge(alloc, number) {
         Ok(item) => Ok(item),
         Err(fault) => Err(ReachError::Algebra(fault)),
     }
@@ -25,6 +27,7 @@ pub(crate) fn edge<A: Algebra>(
 
 /// One operation: a path and then another.
 pub(crate) fn seq<A: Algebra>(
+    alloc: Global,
     algebra: &mut A,
     first: &A::Item,
     second: &A::Item,
@@ -35,7 +38,7 @@ pub(crate) fn seq<A: Algebra>(
         Makes A.fits A.spans A.ends A.is_memory A.faults A.made A.stopped algebra.old algebra.new
         (seq_operation p q) result (λ item. IsItem A.fits A.spans algebra.new (seq_of p q) item from to) }
 {
-    match algebra.seq(first, second) {
+    match algebra.seq(alloc, first, second) {
         Ok(item) => Ok(item),
         Err(fault) => Err(ReachError::Algebra(fault)),
     }
@@ -43,6 +46,7 @@ pub(crate) fn seq<A: Algebra>(
 
 /// One operation: any number of turns.
 pub(crate) fn star<A: Algebra>(
+    alloc: Global,
     algebra: &mut A,
     turn: &A::Item,
 ) -> Result<A::Item, ReachError<A::Fault>>
@@ -51,7 +55,7 @@ pub(crate) fn star<A: Algebra>(
         Makes A.fits A.spans A.ends A.is_memory A.faults A.made A.stopped algebra.old algebra.new
         (star_operation p) result (λ item. IsItem A.fits A.spans algebra.new (star_of p) item node node) }
 {
-    match algebra.star(turn) {
+    match algebra.star(alloc, turn) {
         Ok(item) => Ok(item),
         Err(fault) => Err(ReachError::Algebra(fault)),
     }
@@ -59,6 +63,7 @@ pub(crate) fn star<A: Algebra>(
 
 /// Another item of the same path, which is no operation.
 pub(crate) fn copy<A: Algebra>(
+    alloc: Global,
     algebra: &mut A,
     item: &A::Item,
 ) -> Result<A::Item, ReachError<A::Fault>>
@@ -66,7 +71,7 @@ pub(crate) fn copy<A: Algebra>(
         Makes A.fits A.spans A.ends A.is_memory A.faults A.made A.stopped algebra.old algebra.new
         [] result (λ copy. IsItem A.fits A.spans algebra.new p copy from to) }
 {
-    match algebra.copy(item) {
+    match algebra.copy(alloc, item) {
         Ok(copy) => Ok(copy),
         Err(fault) => Err(ReachError::Algebra(fault)),
     }
@@ -74,6 +79,7 @@ pub(crate) fn copy<A: Algebra>(
 
 /// A path, or either of it and one that was there before.
 pub(crate) fn join_onto<A: Algebra>(
+    alloc: Global,
     algebra: &mut A,
     before: Option<A::Item>,
     path: A::Item,
@@ -88,7 +94,7 @@ pub(crate) fn join_onto<A: Algebra>(
     let Some(before) = before else {
         return Ok(path);
     };
-    match algebra.join(&before, &path) {
+    match algebra.join(alloc, &before, &path) {
         Ok(item) => Ok(item),
         Err(fault) => Err(ReachError::Algebra(fault)),
     }
@@ -96,6 +102,7 @@ pub(crate) fn join_onto<A: Algebra>(
 
 /// Either of two paths, where each may be missing.
 pub(crate) fn join_both<A: Algebra>(
+    alloc: Global,
     algebra: &mut A,
     before: Option<A::Item>,
     path: Option<A::Item>,
@@ -110,7 +117,7 @@ pub(crate) fn join_both<A: Algebra>(
     let Some(path) = path else {
         return Ok(before);
     };
-    match join_onto(algebra, before, path) {
+    match join_onto(alloc, algebra, before, path) {
         Ok(joined) => Ok(Some(joined)),
         Err(error) => Err(error),
     }
@@ -118,6 +125,7 @@ pub(crate) fn join_both<A: Algebra>(
 
 /// A path, and turns behind it where there are any.
 pub(crate) fn turned<A: Algebra>(
+    alloc: Global,
     algebra: &mut A,
     path: &A::Item,
     turn: &Option<A::Item>,
@@ -130,7 +138,7 @@ pub(crate) fn turned<A: Algebra>(
         (seq_operation p q) result (λ item. IsItem A.fits A.spans algebra.new (seq_of p q) item from to) }
 {
     match turn {
-        Some(turn) => seq(algebra, path, turn),
-        None => copy(algebra, path),
+        Some(turn) => seq(alloc, algebra, path, turn),
+        None => copy(alloc, algebra, path),
     }
 }
