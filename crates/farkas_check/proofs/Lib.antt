@@ -1,9 +1,23 @@
+-- What an answer that passes means: it is true over whole numbers, and the truth about rational points.
+pub mod Tight
+-- Infeasible and Sup: sums of multiples of rows at a point, and the bounds that certificates give.
+pub mod Farkas
 mod Bounds
-mod Farkas
+-- Stratum: ties make a relation vanish on a case, spots show that there are no others, and the lines are a reduced basis.
+mod Basis
+mod Vanishing
+mod Spots
+mod Elimination
+mod Differences
+-- Points: ratios in lowest terms, the values that they give, and polynomials as sums over columns.
+pub mod Lowest
+pub mod PointValues
+mod RationalPoints
+pub mod Spreads
+-- The code: its walk over columns, its look-ups, and the order in which it makes sums.
+pub mod Walks
 mod Lookups
-mod Lowest
-mod PointValues
-mod Spreads
 mod Sums
-mod Tight
-mod Walks
+mod Halves
+mod Pivots
+mod Unknowns

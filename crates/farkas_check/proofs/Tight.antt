@@ -4,7 +4,6 @@ use Rattle.std.proofs.lemmas.List.Elements.{recursion_from_All, All-head, All-ta
 use Rattle.std.specs.Prelude.{All, int_lt, unsigned_abs, slice_get, ◌==◌}
 use Rattle.std.specs.List.{AllByRecursion}
 use Rattle.std.proofs.lemmas.Int.{ints, by_lt_z}
-use Rattle.std.proofs.lemmas.Bool.{eqb-true}
 use Rattle.std.proofs.Math.IntN.{zero-*ℤ}
 use Rattle.items.specs.Gives.{◌>>=◌}
 use Rattle.items.proofs.Gives.{on_ok}
@@ -16,42 +15,30 @@ use Rattle.linear_terms.specs.declared.row.Kind.TheVariants.{AtMost, Equal}
 use Rattle.linear_terms.specs.declared.row.Row.{Row}
 use Rattle.linear_terms.specs.Polynomial.{Terms, Polynomial, IsCanonical}
 use Rattle.linear_terms.specs.Row.{IsWithin}
-use Rattle.linear_terms.specs.Value.{Valuation, mono_value, terms_value, value_of}
+use Rattle.linear_terms.specs.Value.{Valuation, value_of}
 use Rattle.farkas_check.specs.declared.answer.Answer.{Answer}
 use Rattle.farkas_check.specs.declared.answer.Answer.TheVariants as answer
 use Rattle.farkas_check.specs.declared.answer.Cert.{Cert}
 use Rattle.farkas_check.specs.declared.question.Goal.{Goal}
 use Rattle.farkas_check.specs.declared.question.Question.{Question}
-use Rattle.farkas_check.specs.declared.question.Question.TheVariants.{Infeasible, Sup}
+use Rattle.farkas_check.specs.declared.question.Question.TheVariants.{Infeasible, Sup, Stratum}
 use Rattle.farkas_check.specs.Columns.{columns}
-use Rattle.farkas_check.specs.Meaning.{RationalPoint, terms_at, sum_at, Refutes, IsListed, HasPoint, IsBounded, IsBoundedBelow, IsReached, IsRoundedSup, IsTight, IsLimit, RowsHold, IsAtMost, IsTrueAnswer}
+use Rattle.farkas_check.specs.Meaning.{terms_at, sum_at, Refutes, HasPoint, IsBounded, IsBoundedBelow, IsReached, IsRoundedSup, IsTight, IsLimit, RowsHold, IsAtMost, IsTrueAnswer}
 use Rattle.farkas_check.specs.Parts.{and_then}
 use Rattle.farkas_check.specs.Points.{ratio_at, slope_at, ratio_value, meets}
 use Rattle.farkas_check.specs.Ratios.{Fraction, is_at_least}
-use Rattle.farkas_check.specs.Tested.{goal_columns, tested_no, tested_certs, tested_point, tested_reached, tested_ray, of_case, tested_bound, tested_unbounded, Passes}
+use Rattle.farkas_check.specs.Tested.{goal_columns, tested_no, tested_certs, tested_point, tested_reached, tested_ray, of_case, tested_bound, tested_unbounded, outcome}
+use Rattle.farkas_check.specs.Laws.{PassingIsTrue}
+use Rattle.farkas_check.proofs.Basis.{basis_true, basis_tight}
 use Rattle.farkas_check.proofs.Lowest.{positive_product}
 use Rattle.farkas_check.proofs.Farkas.{bool_ok, on_parts, ok_true, CanonicalRows, no_point}
 use Rattle.farkas_check.proofs.Bounds as Goals
 use Rattle.farkas_check.proofs.Bounds.{bounded_below}
 use Rattle.farkas_check.specs.Kept.{AreCanonical, IsCanonicalGoal, IsCanonicalQuestion, HasPositive}
+use Rattle.farkas_check.proofs.RationalPoints.{point_of, same_length, listed, refutes, point_at, sum_at-value, refutes_at}
 use Rattle.farkas_check.proofs.PointValues.{Stands, ArePositive, over_of, over_of-positive, numerator_of, Stands-ratio_at, slope_at-stands, ratio_value-stands, meets-each, reached, grows}
 
--- ---- the point of a list
-
-abbrev point_of : (cs : List (List Col)) (numbers : List Fraction) → ArePositive numbers → RationalPoint
-point_of cs numbers p = record { numerator = numerator_of cs numbers; over = over_of numbers; positive = over_of-positive numbers p }
-
-same_length : (m n : ℕ) → (m == n) ≡ true → m ≡ n
-same_length m n e = eqb-true m n e
-
-listed : (cs : List (List Col)) (numbers : List Fraction) (p : ArePositive numbers) → length numbers ≡ length cs → IsListed (point_of cs numbers p) cs numbers
-listed cs numbers p e = record { each = e; same = λ m. (Stands-ratio_at cs numbers m p).same }
-
--- rows that the list meets are true at its point
-refutes : (cs : List (List Col)) (numbers : List Fraction) (p : ArePositive numbers) (rows : List Row) → meets (ratio_value (ratio_at cs numbers)) rows ≡ Ok true → Refutes (point_of cs numbers p) rows
-refutes cs numbers p rows e =
-    meets-each (ratio_value (ratio_at cs numbers)) (sum_at (point_of cs numbers p)) (over_of numbers) (over_of-positive numbers p)
-    (λ q r f. ratio_value-stands (ratio_at cs numbers) (numerator_of cs numbers) (over_of numbers) q r (λ m. Stands-ratio_at cs numbers m p) f) rows e
+-- ---- points
 
 has_point : (rows : List Row) (numbers : List Fraction) → ArePositive numbers → tested_no rows numbers ≡ Ok true → HasPoint rows numbers
 has_point rows numbers p e =
@@ -202,21 +189,6 @@ unbounded goals case numbers ray p q e at =
 
 -- ---- whole numbers
 
--- whole numbers for the columns are a point
-abbrev point_at : Valuation → RationalPoint
-point_at at = record { numerator = mono_value at; over = pos 1; positive = omega (arith, ints) }
-
-terms_at-value : (at : Valuation) (ts : Terms) → terms_at (mono_value at) ts ≡ terms_value at ts
-terms_at-value at [] = refl
-terms_at-value at (t ∷ ts) = ap (λ z. t.1 *ℤ mono_value at t.0 +ℤ z) (terms_at-value at ts)
-
-sum_at-value : (at : Valuation) (p : Polynomial) → terms_at (mono_value at) p.terms +ℤ p.rest *ℤ pos 1 ≡ value_of at p
-sum_at-value at p = rw (*ℤ-one p.rest, terms_at-value at p.terms) refl
-
-refutes_at : (at : Valuation) (rows : List Row) → RowsHold at rows → Refutes (point_at at) rows
-refutes_at at [] h = tt
-refutes_at at (row ∷ rows) h = (subst (IsWithin row.kind) (sym (sum_at-value at row.poly)) h.0, refutes_at at rows h.1)
-
 at_most : (at top bottom : ℤ) → pos 0 <ℤ bottom → top <ℤ ((at +ℤ pos 1) *ℤ bottom) → (goals : List Goal) → AllByRecursion (IsBounded top bottom) goals → AllByRecursion (IsAtMost at) goals
 at_most at top bottom p below [] b = tt
 at_most at top bottom p below (goal ∷ goals) b = (λ v h. here v h, at_most at top bottom p below goals b.1)
@@ -260,23 +232,32 @@ numbers_too numbers h = recursion_from_All (λ (r : Fraction). pos 0 <ℤ r.den)
 fails : {P : Type 0} → bool_ok false ≡ Ok true → P
 fails e = cc
 
-pub tight : (question : Question) (answer : Answer) → IsCanonicalQuestion question → HasPositive answer → Passes question answer → (IsLimit answer → ⊥) → IsTight question answer
+pub tight : (question : Question) (answer : Answer) → IsCanonicalQuestion question → HasPositive answer → outcome question answer ≡ Ok true → (IsLimit answer → ⊥) → IsTight question answer
 tight (Infeasible rows) (answer.Yes by) k p e h = no_point rows by (rows_too rows k) e
 tight (Infeasible rows) (answer.No numbers) k p e h = has_point rows numbers (numbers_too numbers p) e
 tight (Infeasible rows) (answer.Bound at certs case point) k p e h = fails e
 tight (Infeasible rows) (answer.Unbounded case point ray) k p e h = fails e
+tight (Infeasible rows) (answer.Basis relations spots free) k p e h = fails e
 tight (Infeasible rows) (answer.Limit limit) k p e h = h tt
 tight (Sup goals) (answer.Yes by) k p e h = fails e
 tight (Sup goals) (answer.No numbers) k p e h = fails e
 tight (Sup goals) (answer.Bound at certs case point) k p e h = rounded_sup at goals certs case point (goals_too goals k) (numbers_too point p) e
 tight (Sup goals) (answer.Unbounded case point ray) k p e h = unbounded goals case point ray (numbers_too point p.0) (numbers_too ray p.1) e
+tight (Sup goals) (answer.Basis relations spots free) k p e h = fails e
 tight (Sup goals) (answer.Limit limit) k p e h = h tt
+tight (Stratum asked) (answer.Yes by) k p e h = fails e
+tight (Stratum asked) (answer.No numbers) k p e h = fails e
+tight (Stratum asked) (answer.Bound at certs case point) k p e h = fails e
+tight (Stratum asked) (answer.Unbounded case point ray) k p e h = fails e
+tight (Stratum asked) (answer.Basis relations spots free) k p e h = basis_tight asked.cases asked.lower relations spots free k p e
+tight (Stratum asked) (answer.Limit limit) k p e h = h tt
 
-pub sound : (question : Question) (answer : Answer) → IsCanonicalQuestion question → HasPositive answer → Passes question answer → IsTrueAnswer question answer
+pub sound : (question : Question) (answer : Answer) → IsCanonicalQuestion question → HasPositive answer → outcome question answer ≡ Ok true → IsTrueAnswer question answer
 sound (Infeasible rows) (answer.Yes by) k p e = λ at h. no_point rows by (rows_too rows k) e (point_at at) (refutes_at at rows h)
 sound (Infeasible rows) (answer.No numbers) k p e = tt
 sound (Infeasible rows) (answer.Bound at certs case point) k p e = tt
 sound (Infeasible rows) (answer.Unbounded case point ray) k p e = tt
+sound (Infeasible rows) (answer.Basis relations spots free) k p e = tt
 sound (Infeasible rows) (answer.Limit limit) k p e = tt
 sound (Sup goals) (answer.Yes by) k p e = tt
 sound (Sup goals) (answer.No numbers) k p e = tt
@@ -284,4 +265,14 @@ sound (Sup goals) (answer.Bound at certs case point) k p e =
     let sup : IsBoundedBelow (at +ℤ pos 1) goals = (rounded_sup at goals certs case point (goals_too goals k) (numbers_too point p) e).below in
     at_most at sup.top sup.bottom sup.positive sup.below goals sup.bounded
 sound (Sup goals) (answer.Unbounded case point ray) k p e = tt
+sound (Sup goals) (answer.Basis relations spots free) k p e = tt
 sound (Sup goals) (answer.Limit limit) k p e = tt
+sound (Stratum asked) (answer.Yes by) k p e = tt
+sound (Stratum asked) (answer.No numbers) k p e = tt
+sound (Stratum asked) (answer.Bound at certs case point) k p e = tt
+sound (Stratum asked) (answer.Unbounded case point ray) k p e = tt
+sound (Stratum asked) (answer.Basis relations spots free) k p e = basis_true asked.cases asked.lower relations spots free k e
+sound (Stratum asked) (answer.Limit limit) k p e = tt
+
+pub passing : PassingIsTrue
+passing question answer p = (sound question answer p.canonical p.positive p.passed, λ h. tight question answer p.canonical p.positive p.passed h)

@@ -1,4 +1,5 @@
 -- The test of an answer: its parts in order, each with its sums and products in 128 bits.
+use Rattle.farkas_check.specs.Stratum.{tested_basis}
 use Rattle.std.specs.Prelude.{◌≡◌, ℕ, ℤ, pos, negsuc, ◌+ℤ◌, ◌*ℤ◌, List, [], ◌∷◌, length, slice_get, Option, None, Some, Bool, true, false, not, ◌&&◌, ◌==◌, int_le, int_lt, Result, Ok, Err, if◌then◌else◌}
 use Rattle.items.specs.Gives.{◌>>=◌}
 use Rattle.whole_numbers.specs.Fits.{fits, sum_of, product_of}
@@ -12,7 +13,8 @@ use Rattle.farkas_check.specs.declared.answer.Limit.{Limit}
 use Rattle.farkas_check.specs.declared.answer.Limit.TheVariants.{Wide, Pivots}
 use Rattle.farkas_check.specs.declared.question.Goal.{Goal}
 use Rattle.farkas_check.specs.declared.question.Question.{Question}
-use Rattle.farkas_check.specs.declared.question.Question.TheVariants.{Infeasible, Sup}
+use Rattle.farkas_check.specs.declared.question.Question.TheVariants.{Infeasible, Sup, Stratum}
+use Rattle.farkas_check.specs.Kept.{IsCanonicalQuestion, HasPositive}
 use Rattle.farkas_check.specs.Ratios.{Fraction, is_at_least}
 use Rattle.farkas_check.specs.Columns.{columns}
 use Rattle.farkas_check.specs.Multiples.{are_multipliers, sum_of_multiples, is_positive_constant, scaled_form, same_form}
@@ -101,20 +103,29 @@ is_limit Pivots = true
 -- ---- all
 
 -- what the test of an answer comes to: true or false, or the first sum or product that leaves 128 bits
-abbrev pub tested : Question → Answer → Result Bool Step.Wide
-tested question (answer.Limit limit) = Ok (is_limit limit)
-tested (Infeasible rows) (answer.Yes by) = tested_yes rows by
-tested (Infeasible rows) (answer.No point) = tested_no rows point
-tested (Infeasible rows) (answer.Bound at certs case point) = Ok false
-tested (Infeasible rows) (answer.Unbounded case point ray) = Ok false
-tested (Sup goals) (answer.Bound at certs case point) = tested_bound at goals certs case point
-tested (Sup goals) (answer.Unbounded case point ray) = tested_unbounded goals case point ray
-tested (Sup goals) (answer.Yes by) = Ok false
-tested (Sup goals) (answer.No point) = Ok false
+abbrev pub outcome : Question → Answer → Result Bool Step.Wide
+outcome question (answer.Limit limit) = Ok (is_limit limit)
+outcome (Infeasible rows) (answer.Yes by) = tested_yes rows by
+outcome (Infeasible rows) (answer.No point) = tested_no rows point
+outcome (Infeasible rows) (answer.Bound at certs case point) = Ok false
+outcome (Infeasible rows) (answer.Unbounded case point ray) = Ok false
+outcome (Infeasible rows) (answer.Basis relations spots free) = Ok false
+outcome (Sup goals) (answer.Bound at certs case point) = tested_bound at goals certs case point
+outcome (Sup goals) (answer.Unbounded case point ray) = tested_unbounded goals case point ray
+outcome (Sup goals) (answer.Yes by) = Ok false
+outcome (Sup goals) (answer.No point) = Ok false
+outcome (Sup goals) (answer.Basis relations spots free) = Ok false
+outcome (Stratum asked) (answer.Yes by) = Ok false
+outcome (Stratum asked) (answer.No point) = Ok false
+outcome (Stratum asked) (answer.Bound at certs case point) = Ok false
+outcome (Stratum asked) (answer.Unbounded case point ray) = Ok false
+outcome (Stratum asked) (answer.Basis relations spots free) = tested_basis asked.cases asked.lower relations spots free
 
--- the answer passes the test
-abbrev pub Passes : Question → Answer → Type 0
-Passes question answer = tested question answer ≡ Ok true
+-- the answer passes the test, and both are such as their types keep them
+pub record Passes (question : Question) (answer : Answer) : Type 0 where
+  pub canonical : IsCanonicalQuestion question
+  pub positive : HasPositive answer
+  pub passed : outcome question answer ≡ Ok true
 
 -- the limit that is named where the test leaves 128 bits
 abbrev pub width_of : Result Bool Step.Wide → Option Limit

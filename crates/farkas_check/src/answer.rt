@@ -1,6 +1,6 @@
-ghost use Rattle.std.specs.Prelude.{◌≡◌};
+ghost use Rattle.std.specs.Prelude.{◌≡◌, IfOk};
 
-use crate::Ratio;
+use crate::{Ratio, Relation, Spot};
 use items::Items;
 use std::alloc::AllocError;
 
@@ -47,6 +47,13 @@ pub enum Answer {
         point: Items<Ratio>,
         ray: Items<Ratio>,
     },
+    /// The reduced basis of all relations, each tied to 0 in each case. For each unknown that is no pivot there is
+    /// one number for each spot; that sum of the spots' differences is 1 there, and 0 at the others.
+    Basis {
+        relations: Items<Relation>,
+        spots: Items<Spot>,
+        free: Items<Items<Ratio>>,
+    },
     Limit(Limit),
 }
 
@@ -64,9 +71,15 @@ impl Clone for Cert {
 }
 
 impl Clone for Answer {
+    ghost use Rattle.farkas_check.specs.Meaning.{IsLimit};
+
     ghost is_clone = { λ a b. b ≡ a };
 
-    fn clone(&self) -> Result<Answer, AllocError> {
+    /// A limit is copied without memory.
+    fn clone(&self) -> Result<Answer, AllocError>
+        ensures copy { IfOk result (λ copy. copy ≡ self.now) }
+        ensures limit { IsLimit self.now → result ≡ Ok self.now }
+    {
         match self {
             Answer::Yes(by) => Ok(Answer::Yes(by.clone()?)),
             Answer::No(point) => Ok(Answer::No(point.clone()?)),
@@ -92,6 +105,20 @@ impl Clone for Answer {
                     case: *case,
                     point,
                     ray,
+                })
+            }
+            Answer::Basis {
+                relations,
+                spots,
+                free,
+            } => {
+                let relations = relations.clone()?;
+                let spots = spots.clone()?;
+                let free = free.clone()?;
+                Ok(Answer::Basis {
+                    relations,
+                    spots,
+                    free,
                 })
             }
             Answer::Limit(limit) => Ok(Answer::Limit(*limit)),

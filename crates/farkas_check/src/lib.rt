@@ -5,18 +5,23 @@
 
 mod answer;
 mod columns;
+mod free;
 mod kept;
+mod lines;
 mod multiples;
 mod oracle;
 mod passing;
 mod points;
 mod question;
 mod ratio;
-#[cfg(test)]
-mod tests;
+mod stratum;
+mod ties;
 
 pub use answer::{Answer, Cert, Limit};
+pub use columns::{case_columns, stratum_columns};
+pub use kept::canonicity;
 pub use oracle::{AskError, Oracle};
-pub use passing::{test, test_width};
+pub use passing::{test, test_width, truth_of_passing};
 pub use question::{Goal, Question};
 pub use ratio::Ratio;
+pub use stratum::{Change, Relation, Spot, Stratum, Tie};

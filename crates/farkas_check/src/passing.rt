@@ -1,12 +1,20 @@
 ghost use Rattle.std.specs.Prelude.{◌≡◌, ◌↔◌, Ok, true, length, IsTrue};
+ghost use Rattle.farkas_check.specs.Laws.{PassingIsTrue};
 ghost use Rattle.farkas_check.specs.Meaning.{IsLimit, IsTight, IsTrueAnswer};
-ghost use Rattle.farkas_check.specs.Tested.{tested_yes, tested_no, tested_below, tested_cert, tested_certs, tested_point, tested_reached, tested_ray, tested_bound, tested_unbounded, is_limit, tested, width_of, Passes};
+ghost use Rattle.farkas_check.specs.Relations.{columns_in};
+ghost use Rattle.farkas_check.specs.Stratum.{tested_basis};
+ghost use Rattle.farkas_check.specs.Tested.{goal_columns, tested_yes, tested_no, tested_below, tested_cert, tested_certs, tested_point, tested_reached, tested_ray, tested_bound, tested_unbounded, is_limit, outcome, width_of, Passes};
 
-use crate::columns::has_length;
-use crate::kept::{see_answer, see_question};
+use crate::columns::{Columns, has_length};
+use crate::free::{tested_free, tested_spots};
+use crate::kept::{canonicity, positivity};
+use crate::lines::{have_unknowns, is_reduced};
 use crate::multiples::{are_multipliers, constant_sum, has_sum, sums_cancel};
 use crate::points::{meets, meets_slopes, ratio_value, slope_at};
-use crate::{Answer, Cert, Goal, Limit, Question, Ratio};
+use crate::stratum::unknown_count;
+use crate::ties::tested_relations;
+use crate::{Answer, Cert, Goal, Limit, Question, Ratio, Relation, Spot, Stratum};
+use items::Items;
 use linear_terms::Row;
 use whole_numbers::{Wide, product, sum};
 
@@ -16,19 +24,24 @@ pub fn test(question: &Question, answer: &Answer) -> bool
     ensures sound { IsTrue result → IsTrueAnswer question.now answer.now }
     ensures tight { IsTrue result → ¬ IsLimit answer.now → IsTight question.now answer.now }
 {
-    see_question(question);
-    see_answer(answer);
-    match run(question, answer) {
+    canonicity(question);
+    positivity(answer);
+    match outcome(question, answer) {
         Ok(passes) => passes,
         Err(_wide) => false,
     }
 }
 
+/// An answer that passes is true over whole numbers, and the truth about rational points unless it is a limit.
+pub fn truth_of_passing()
+    ensures { PassingIsTrue }
+{}
+
 /// The first sum or product of the test that leaves 128 bits before a part of the test fails.
 pub fn test_width(question: &Question, answer: &Answer) -> Option<Limit>
-    ensures { result ≡ width_of (tested question.now answer.now) }
+    ensures { result ≡ width_of (outcome question.now answer.now) }
 {
-    match run(question, answer) {
+    match outcome(question, answer) {
         Ok(_passes) => None,
         Err(step) => Some(Limit::Wide {
             left: step.left,
@@ -39,15 +52,16 @@ pub fn test_width(question: &Question, answer: &Answer) -> Option<Limit>
 }
 
 /// The parts of the test in order.
-fn run(question: &Question, answer: &Answer) -> Result<bool, Wide>
-    ensures { result ≡ tested question.now answer.now }
+fn outcome(question: &Question, answer: &Answer) -> Result<bool, Wide>
+    ensures { result ≡ outcome question.now answer.now }
 {
     match question {
         Question::Infeasible(rows) => match answer {
-            Answer::Yes(by) => run_yes(rows.as_slice(), by.as_slice()),
-            Answer::No(point) => run_no(rows.as_slice(), point.as_slice()),
+            Answer::Yes(by) => tested_yes(rows.as_slice(), by.as_slice()),
+            Answer::No(point) => tested_no(rows.as_slice(), point.as_slice()),
             Answer::Bound { .. } => Ok(false),
             Answer::Unbounded { .. } => Ok(false),
+            Answer::Basis { .. } => Ok(false),
             Answer::Limit(limit) => Ok(is_limit(limit)),
         },
         Question::Sup(goals) => match answer {
@@ -58,7 +72,7 @@ fn run(question: &Question, answer: &Answer) -> Result<bool, Wide>
                 certs,
                 case,
                 point,
-            } => run_bound(
+            } => tested_bound(
                 at,
                 goals.as_slice(),
                 certs.as_slice(),
@@ -66,8 +80,26 @@ fn run(question: &Question, answer: &Answer) -> Result<bool, Wide>
                 point.as_slice(),
             ),
             Answer::Unbounded { case, point, ray } => {
-                run_unbounded(goals.as_slice(), *case, point.as_slice(), ray.as_slice())
+                tested_unbounded(goals.as_slice(), *case, point.as_slice(), ray.as_slice())
             }
+            Answer::Basis { .. } => Ok(false),
+            Answer::Limit(limit) => Ok(is_limit(limit)),
+        },
+        Question::Stratum(stratum) => match answer {
+            Answer::Yes(_by) => Ok(false),
+            Answer::No(_point) => Ok(false),
+            Answer::Bound { .. } => Ok(false),
+            Answer::Unbounded { .. } => Ok(false),
+            Answer::Basis {
+                relations,
+                spots,
+                free,
+            } => tested_basis(
+                stratum,
+                relations.as_slice(),
+                spots.as_slice(),
+                free.as_slice(),
+            ),
             Answer::Limit(limit) => Ok(is_limit(limit)),
         },
     }
@@ -90,28 +122,29 @@ fn is_limit(limit: &Limit) -> bool
 }
 
 /// Whether the sum of the multiples is a positive constant.
-fn run_yes(rows: &[Row], by: &[i128]) -> Result<bool, Wide>
+fn tested_yes(rows: &[Row], by: &[i128]) -> Result<bool, Wide>
     ensures { result ≡ tested_yes rows.now by.now }
 {
     if !are_multipliers(rows, by) {
         return Ok(false);
     }
-    let cancel = sums_cancel(rows, &[], by)?;
+    let cancel = sums_cancel(rows, &Columns::OfCase(rows, &[]), by)?;
     let constant = constant_sum(rows, by)?;
     Ok(cancel && 0 < constant)
 }
 
 /// Whether the point makes the rows true.
-fn run_no(rows: &[Row], point: &[Ratio]) -> Result<bool, Wide>
+fn tested_no(rows: &[Row], point: &[Ratio]) -> Result<bool, Wide>
     ensures { result ≡ tested_no rows.now point.now }
 {
-    if !has_length(rows, &[], point) {
+    let columns = Columns::OfCase(rows, &[]);
+    if !has_length(&columns, point) {
         return Ok(false);
     }
-    meets(rows, &[], point)
+    meets(rows, &columns, point)
 }
 
-fn run_bound(
+fn tested_bound(
     at: &i128,
     goals: &[Goal],
     certs: &[Cert],
@@ -123,29 +156,29 @@ fn run_bound(
     if certs.len() != goals.len() {
         return Ok(false);
     }
-    if !run_certs(at, goals, certs)? {
+    if !tested_certs(at, goals, certs)? {
         return Ok(false);
     }
     match goals.get(case as usize) {
-        Some(goal) => run_reached(at, goal, point),
+        Some(goal) => tested_reached(at, goal, point),
         None => Ok(false),
     }
 }
 
 /// Whether each case is bounded below the next whole number.
-fn run_certs(at: &i128, goals: &[Goal], certs: &[Cert]) -> Result<bool, Wide>
+fn tested_certs(at: &i128, goals: &[Goal], certs: &[Cert]) -> Result<bool, Wide>
     requires { length certs.now ≡ length goals.now }
     ensures { result ≡ tested_certs at.now goals.now certs.now }
 {
     for (i, goal) in goals.iter().enumerate() {
-        if !run_cert(at, goal, &certs[i])? {
+        if !tested_cert(at, goal, &certs[i])? {
             return Ok(false);
         }
     }
     Ok(true)
 }
 
-fn run_cert(at: &i128, goal: &Goal, cert: &Cert) -> Result<bool, Wide>
+fn tested_cert(at: &i128, goal: &Goal, cert: &Cert) -> Result<bool, Wide>
     ensures { result ≡ tested_cert at.now goal.now cert.now }
 {
     if !are_multipliers(goal.rows.as_slice(), cert.by.as_slice()) {
@@ -157,11 +190,11 @@ fn run_cert(at: &i128, goal: &Goal, cert: &Cert) -> Result<bool, Wide>
     if !has_sum(goal, cert)? {
         return Ok(false);
     }
-    is_below_next(at, cert)
+    tested_below(at, cert)
 }
 
 /// Whether a certificate's bound is below the whole number after `at`.
-fn is_below_next(at: &i128, cert: &Cert) -> Result<bool, Wide>
+fn tested_below(at: &i128, cert: &Cert) -> Result<bool, Wide>
     ensures { result ≡ tested_below at.now cert.now }
 {
     let next = sum(*at, 1)?;
@@ -170,60 +203,90 @@ fn is_below_next(at: &i128, cert: &Cert) -> Result<bool, Wide>
     Ok(cert.sum <= most)
 }
 
+/// The columns of a goal.
+fn columns_of(goal: &Goal) -> Columns<'_>
+    ensures { columns_in result ≡ goal_columns goal.now }
+{
+    Columns::OfCase(goal.rows.as_slice(), goal.objective.terms())
+}
+
 /// Whether the point is one of the case.
-fn run_point(goal: &Goal, point: &[Ratio]) -> Result<bool, Wide>
+fn tested_point(goal: &Goal, point: &[Ratio]) -> Result<bool, Wide>
     ensures { result ≡ tested_point goal.now point.now }
 {
     let rows = goal.rows.as_slice();
-    let terms = goal.objective.terms();
-    if !has_length(rows, terms, point) {
+    let columns = columns_of(goal);
+    if !has_length(&columns, point) {
         return Ok(false);
     }
-    meets(rows, terms, point)
+    meets(rows, &columns, point)
 }
 
 /// Whether the point is one of the case, and its objective is at least `at`.
-fn run_reached(at: &i128, goal: &Goal, point: &[Ratio]) -> Result<bool, Wide>
+fn tested_reached(at: &i128, goal: &Goal, point: &[Ratio]) -> Result<bool, Wide>
     ensures { result ≡ tested_reached at.now goal.now point.now }
 {
-    if !run_point(goal, point)? {
+    if !tested_point(goal, point)? {
         return Ok(false);
     }
-    let value = ratio_value(
-        goal.rows.as_slice(),
-        goal.objective.terms(),
-        point,
-        &goal.objective,
-    )?;
+    let value = ratio_value(&columns_of(goal), point, &goal.objective)?;
     value.is_at_least(*at)
 }
 
-fn run_unbounded(goals: &[Goal], case: u32, point: &[Ratio], ray: &[Ratio]) -> Result<bool, Wide>
+fn tested_unbounded(goals: &[Goal], case: u32, point: &[Ratio], ray: &[Ratio]) -> Result<bool, Wide>
     ensures { result ≡ tested_unbounded goals.now case point.now ray.now }
 {
     match goals.get(case as usize) {
         Some(goal) => {
-            if !run_point(goal, point)? {
+            if !tested_point(goal, point)? {
                 return Ok(false);
             }
-            run_ray(goal, ray)
+            tested_ray(goal, ray)
         }
         None => Ok(false),
     }
 }
 
 /// Whether the rows stay true along the ray, and the objective grows.
-fn run_ray(goal: &Goal, ray: &[Ratio]) -> Result<bool, Wide>
+fn tested_ray(goal: &Goal, ray: &[Ratio]) -> Result<bool, Wide>
     ensures { result ≡ tested_ray goal.now ray.now }
 {
     let rows = goal.rows.as_slice();
-    let terms = goal.objective.terms();
-    if !has_length(rows, terms, ray) {
+    let columns = columns_of(goal);
+    if !has_length(&columns, ray) {
         return Ok(false);
     }
-    if !meets_slopes(rows, terms, ray)? {
+    if !meets_slopes(rows, &columns, ray)? {
         return Ok(false);
     }
-    let slope = slope_at(rows, terms, ray, &goal.objective)?;
+    let slope = slope_at(&columns, ray, &goal.objective)?;
     Ok(0 < slope.num())
+}
+
+/// Whether the relations are tied in each case, and spots show that there are no others.
+fn tested_basis(
+    stratum: &Stratum,
+    relations: &[Relation],
+    spots: &[Spot],
+    free: &[Items<Ratio>],
+) -> Result<bool, Wide>
+    ensures { result ≡ tested_basis stratum.now.cases stratum.now.lower relations.now spots.now free.now }
+{
+    let cases = stratum.cases();
+    let lower = stratum.lower();
+    let columns = Columns::OfStratum(cases, lower);
+    if !have_unknowns(relations, cases, lower) {
+        return Ok(false);
+    }
+    if !is_reduced(relations) {
+        return Ok(false);
+    }
+    if !tested_relations(relations, cases, lower, &columns)? {
+        return Ok(false);
+    }
+    if !tested_spots(spots, cases, &columns)? {
+        return Ok(false);
+    }
+    let count = unknown_count(cases, lower);
+    tested_free(relations, spots, cases, lower, &columns, free, count)
 }

@@ -3,6 +3,7 @@ ghost use Rattle.whole_numbers.specs.Fits.{product_of};
 ghost use Rattle.std.specs.Option.{SomeIff};
 ghost use Rattle.std.specs.Cmp.{partial_equiv_from_equiv};
 ghost use Rattle.farkas_check.specs.Ratios.{whole, lowest_terms, is_lowest, ratio_product, ratio_sum, common_multiple, is_at_least, ratio_eq, ratio_eq_equiv};
+ghost use Rattle.farkas_check.specs.Stratum.{is_exactly};
 
 use std::marker::Model;
 use whole_numbers::{Wide, gcd, product, quotient, sum};
@@ -67,7 +68,7 @@ impl Ratio {
 
     /// A numerator over a positive denominator, brought to lowest terms.
     #[tactic(auto, using(crate::proofs::Lowest::lowest))]
-    fn lowest(num: i128, den: i128) -> Ratio
+    pub fn lowest(num: i128, den: i128) -> Ratio
         requires { pos 0 <ℤ den }
         ensures { result ≡ lowest_terms num den }
     {
@@ -86,7 +87,7 @@ impl Ratio {
     }
 
     /// The product, or the first step that leaves 128 bits.
-    pub(crate) fn times(&self, by: &Ratio) -> Result<Ratio, Wide>
+    pub fn product(&self, by: &Ratio) -> Result<Ratio, Wide>
         ensures { result ≡ ratio_product self.now by.now }
     {
         let num = product(self.num, by.num)?;
@@ -95,7 +96,7 @@ impl Ratio {
     }
 
     /// The sum, or the first step that leaves 128 bits.
-    pub(crate) fn plus(&self, other: &Ratio) -> Result<Ratio, Wide>
+    pub fn sum(&self, other: &Ratio) -> Result<Ratio, Wide>
         ensures { result ≡ ratio_sum self.now other.now }
     {
         let den = common_multiple(self.den, other.den)?;
@@ -106,11 +107,19 @@ impl Ratio {
     }
 
     /// Whether this is at least a whole number, or the product that leaves 128 bits.
-    pub(crate) fn is_at_least(&self, number: i128) -> Result<bool, Wide>
+    pub fn is_at_least(&self, number: i128) -> Result<bool, Wide>
         ensures { result ≡ is_at_least self.now number }
     {
         let bound = product(number, self.den)?;
         Ok(bound <= self.num)
+    }
+
+    /// Whether this is a whole number, or the product that leaves 128 bits.
+    pub fn is_exactly(&self, number: i128) -> Result<bool, Wide>
+        ensures { result ≡ is_exactly self.now number }
+    {
+        let right = product(number, self.den)?;
+        Ok(self.num == right)
     }
 }
 

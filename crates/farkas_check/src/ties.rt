@@ -1,0 +1,311 @@
+ghost use Rattle.std.specs.Prelude.{◌≡◌, ◌&&◌, ◌==◌, pos, length, true, false, Ok};
+ghost use Rattle.std.specs.List.{list_all, zip};
+ghost use Rattle.farkas_check.specs.Relations.{Term, Lower, One, sides, numbers_of, with_side, with_sides, coefficient_at, difference_numbers, difference_form, columns_in, has_count, have_equally_many};
+ghost use Rattle.farkas_check.specs.Steps.{sums_cancel, terms_from, lower_from, value_in, is_constant, scaled_by, are_multiples};
+ghost use Rattle.farkas_check.specs.Stratum.{all_of, tested_multiple, tested_half, tested_tie, tested_relation, has_unknowns};
+
+use crate::columns::{Columns, next_column};
+use crate::multiples::{are_multipliers, column_sum, constant_sum, is_same, sums_cancel};
+use crate::{Change, Relation, Tie};
+use linear_terms::{Mono, Poly, Row};
+use whole_numbers::{Wide, product, sum};
+
+/// A place of a linear form.
+#[derive(Clone, Copy)]
+pub(crate) enum Place {
+    At(Mono),
+    Constant,
+}
+
+/// Which half of a tie: the multiples of the rows give the difference times the scale, or minus that.
+#[derive(Clone, Copy)]
+pub(crate) enum Half {
+    Up,
+    Down,
+}
+
+fn value_in(place: &Place, poly: &Poly) -> i128
+    ensures { result ≡ value_in place.now poly.now }
+{
+    match place {
+        Place::At(column) => poly.coefficient(column),
+        Place::Constant => poly.rest(),
+    }
+}
+
+/// A sum so far with a multiple of a term.
+fn with_term(total: &i128, number: &i128, place: &Place, poly: &Poly) -> Result<i128, Wide>
+    ensures { result ≡ with_side (value_in place.now) false total.now number.now (Term poly.now) }
+{
+    let part = product(*number, value_in(place, poly))?;
+    sum(*total, part)
+}
+
+/// A sum so far less a multiple of a lower term.
+fn less_lower(total: &i128, number: &i128, place: &Place, poly: &Poly) -> Result<i128, Wide>
+    ensures { result ≡ with_side (value_in place.now) false total.now number.now (Lower poly.now) }
+{
+    let part = product(*number, value_in(place, poly))?;
+    let less = product(part, -1)?;
+    sum(*total, less)
+}
+
+/// A sum so far less a number, which stands in the constant alone.
+fn less_constant(total: &i128, number: &i128, place: &Place) -> Result<i128, Wide>
+    ensures { result ≡ with_side (value_in place.now) (is_constant place.now) total.now number.now One }
+{
+    match place {
+        Place::At(_column) => Ok(*total),
+        Place::Constant => {
+            let less = product(*number, -1)?;
+            sum(*total, less)
+        }
+    }
+}
+
+fn with_terms(numbers: &[i128], terms: &[Poly], place: &Place) -> Result<i128, Wide>
+    requires { length numbers.now ≡ length terms.now }
+    ensures { result ≡ terms_from (value_in place.now) (pos 0) numbers.now terms.now }
+{
+    let mut total = 0;
+    for (i, term) in terms.iter().enumerate() {
+        total = with_term(&total, &numbers[i], place, term)?;
+    }
+    Ok(total)
+}
+
+fn less_lowers(start: i128, numbers: &[i128], lower: &[Poly], place: &Place) -> Result<i128, Wide>
+    requires { length numbers.now ≡ length lower.now }
+    ensures { result ≡ lower_from (value_in place.now) start numbers.now lower.now }
+{
+    let mut total = start;
+    for (i, term) in lower.iter().enumerate() {
+        total = less_lower(&total, &numbers[i], place, term)?;
+    }
+    Ok(total)
+}
+
+/// What the difference of a relation has at a place, or the first step that leaves 128 bits.
+fn difference_at(
+    relation: &Relation,
+    terms: &[Poly],
+    lower: &[Poly],
+    place: &Place,
+) -> Result<i128, Wide>
+    requires terms { length relation.now.a ≡ length terms.now }
+    requires lower { length relation.now.b ≡ length lower.now }
+    ensures { result ≡ with_sides (value_in place.now) (is_constant place.now) (pos 0) (numbers_of relation.now) (sides terms.now lower.now) }
+{
+    let terms_sum = with_terms(relation.a.as_slice(), terms, place)?;
+    let both = less_lowers(terms_sum, relation.b.as_slice(), lower, place)?;
+    less_constant(&both, &relation.c, place)
+}
+
+fn scaled_by(half: Half, scale: &i128, number: i128) -> Result<i128, Wide>
+    ensures { result ≡ scaled_by half scale.now number }
+{
+    let part = product(*scale, number)?;
+    match half {
+        Half::Up => Ok(part),
+        Half::Down => product(part, -1),
+    }
+}
+
+/// What the difference has at a column.
+fn difference_number(
+    relation: &Relation,
+    terms: &[Poly],
+    lower: &[Poly],
+    column: Mono,
+) -> Result<i128, Wide>
+    requires terms { length relation.now.a ≡ length terms.now }
+    requires lower { length relation.now.b ≡ length lower.now }
+    ensures { result ≡ with_sides (coefficient_at column) false (pos 0) (numbers_of relation.now) (sides terms.now lower.now) }
+{
+    difference_at(relation, terms, lower, &Place::At(column))
+}
+
+/// Whether the difference is 0 at each column; every number is made.
+#[tactic(auto, using(crate::proofs::Walks::walk))]
+fn differences_cancel(
+    relation: &Relation,
+    terms: &[Poly],
+    lower: &[Poly],
+    columns: &Columns<'_>,
+) -> Result<bool, Wide>
+    requires terms { length relation.now.a ≡ length terms.now }
+    requires lower { length relation.now.b ≡ length lower.now }
+    ensures { result ≡ sums_cancel true (difference_numbers (numbers_of relation.now) (sides terms.now lower.now) (columns_in columns.now)) }
+{
+    let mut last = None;
+    let mut cancel = true;
+    while let Some(column) = next_column(columns, &last) {
+        let number = difference_number(relation, terms, lower, column)?;
+        cancel = cancel && number == 0;
+        last = Some(column);
+    }
+    Ok(cancel)
+}
+
+/// Whether the sum of the multiples is a multiple of the difference at each column. The sum is made first.
+#[tactic(auto, using(crate::proofs::Walks::walk))]
+fn are_multiples(
+    relation: &Relation,
+    case: &Change,
+    lower: &[Poly],
+    columns: &Columns<'_>,
+    half: Half,
+    scale: &i128,
+    by: &[i128],
+) -> Result<bool, Wide>
+    requires terms { length relation.now.a ≡ length case.now.terms }
+    requires lower { length relation.now.b ≡ length lower.now }
+    requires by { length by.now ≡ length case.now.rows }
+    ensures { result ≡ are_multiples (scaled_by half scale.now) true case.now.rows by.now (numbers_of relation.now) (sides case.now.terms lower.now) (columns_in columns.now) }
+{
+    let mut last = None;
+    let mut same = true;
+    while let Some(column) = next_column(columns, &last) {
+        let left = column_sum(case.rows.as_slice(), by, &column)?;
+        let own = difference_number(relation, case.terms.as_slice(), lower, column)?;
+        let right = scaled_by(half, scale, own)?;
+        same = same && left == right;
+        last = Some(column);
+    }
+    Ok(same)
+}
+
+/// Whether the sum of the multiples is the scale, or minus the scale, times the difference.
+fn tested_multiple(
+    relation: &Relation,
+    case: &Change,
+    lower: &[Poly],
+    columns: &Columns<'_>,
+    half: Half,
+    scale: &i128,
+    by: &[i128],
+) -> Result<bool, Wide>
+    requires terms { length relation.now.a ≡ length case.now.terms }
+    requires lower { length relation.now.b ≡ length lower.now }
+    requires by { length by.now ≡ length case.now.rows }
+    ensures { result ≡ tested_multiple (scaled_by half scale.now) (columns_in columns.now) case.now.rows (difference_form (numbers_of relation.now) (sides case.now.terms lower.now) (columns_in columns.now)) by.now }
+{
+    let rows = case.rows.as_slice();
+    let terms = case.terms.as_slice();
+    // Every number of a side is made before the first one of the next.
+    sums_cancel(rows, columns, by)?;
+    let left = constant_sum(rows, by)?;
+    differences_cancel(relation, terms, lower, columns)?;
+    let own = difference_at(relation, terms, lower, &Place::Constant)?;
+    let same = are_multiples(relation, case, lower, columns, half, scale, by)?;
+    let right = scaled_by(half, scale, own)?;
+    Ok(is_same(same, &left, &right))
+}
+
+fn tested_half(
+    relation: &Relation,
+    case: &Change,
+    lower: &[Poly],
+    columns: &Columns<'_>,
+    half: Half,
+    scale: &i128,
+    by: &[i128],
+) -> Result<bool, Wide>
+    requires terms { length relation.now.a ≡ length case.now.terms }
+    requires lower { length relation.now.b ≡ length lower.now }
+    ensures { result ≡ tested_half (scaled_by half) (columns_in columns.now) case.now.rows (difference_form (numbers_of relation.now) (sides case.now.terms lower.now) (columns_in columns.now)) scale.now by.now }
+{
+    if !are_multipliers(case.rows.as_slice(), by) {
+        return Ok(false);
+    }
+    if *scale < 1 {
+        return Ok(false);
+    }
+    tested_multiple(relation, case, lower, columns, half, scale, by)
+}
+
+/// Whether the multiples of the rows tie the difference of the relation to 0.
+fn tested_tie(
+    relation: &Relation,
+    case: &Change,
+    lower: &[Poly],
+    columns: &Columns<'_>,
+    tie: &Tie,
+) -> Result<bool, Wide>
+    requires terms { length relation.now.a ≡ length case.now.terms }
+    requires lower { length relation.now.b ≡ length lower.now }
+    ensures { result ≡ tested_tie (columns_in columns.now) lower.now (numbers_of relation.now) case.now tie.now }
+{
+    let up = tie.up.as_slice();
+    let down = tie.down.as_slice();
+    if !tested_half(relation, case, lower, columns, Half::Up, &tie.up_scale, up)? {
+        return Ok(false);
+    }
+    tested_half(
+        relation,
+        case,
+        lower,
+        columns,
+        Half::Down,
+        &tie.down_scale,
+        down,
+    )
+}
+
+fn tested_ties(
+    relation: &Relation,
+    cases: &[Change],
+    lower: &[Poly],
+    columns: &Columns<'_>,
+    ties: &[Tie],
+) -> Result<bool, Wide>
+    requires terms { list_all (has_count (length relation.now.a)) cases.now ≡ true }
+    requires lower { length relation.now.b ≡ length lower.now }
+    requires ties { length ties.now ≡ length cases.now }
+    ensures { result ≡ all_of (λ p. tested_tie (columns_in columns.now) lower.now (numbers_of relation.now) p.0 p.1) (zip cases.now ties.now) }
+{
+    for (i, case) in cases.iter().enumerate() {
+        if !tested_tie(relation, case, lower, columns, &ties[i])? {
+            return Ok(false);
+        }
+    }
+    Ok(true)
+}
+
+/// Whether each case has a tie of the relation.
+#[tactic(auto, using(crate::proofs::Halves::counts))]
+fn tested_relation(
+    relation: &Relation,
+    cases: &[Change],
+    lower: &[Poly],
+    columns: &Columns<'_>,
+) -> Result<bool, Wide>
+    requires even { have_equally_many cases.now ≡ true }
+    requires counts { has_unknowns cases.now lower.now relation.now ≡ true }
+    ensures { result ≡ tested_relation (columns_in columns.now) cases.now lower.now relation.now }
+{
+    let ties = relation.ties.as_slice();
+    if ties.len() != cases.len() {
+        return Ok(false);
+    }
+    tested_ties(relation, cases, lower, columns, ties)
+}
+
+/// Whether each relation is tied in each case.
+pub(crate) fn tested_relations(
+    relations: &[Relation],
+    cases: &[Change],
+    lower: &[Poly],
+    columns: &Columns<'_>,
+) -> Result<bool, Wide>
+    requires even { have_equally_many cases.now ≡ true }
+    requires counts { list_all (has_unknowns cases.now lower.now) relations.now ≡ true }
+    ensures { result ≡ all_of (tested_relation (columns_in columns.now) cases.now lower.now) relations.now }
+{
+    for relation in relations {
+        if !tested_relation(relation, cases, lower, columns)? {
+            return Ok(false);
+        }
+    }
+    Ok(true)
+}

@@ -1,0 +1,302 @@
+//! Readers of the short texts of questions and answers.
+
+use farkas_check::{
+    Answer, Cert, Change, Goal, Limit, Question, Ratio, Relation, Spot, Stratum, Tie,
+};
+use items::Items;
+use linear_terms::{Col, Kind, Poly, Row, add, mul};
+use std::alloc::Global;
+use std::test::Fail;
+
+/// The parts between separators, without the blanks around them; none of a blank text.
+pub(crate) fn parts<'a>(alloc: Global, text: &'a str, by: char) -> Result<Vec<&'a str>, Fail> {
+    let mut made = Vec::new(alloc);
+    if text.trim().is_empty() {
+        return Ok(made);
+    }
+    for part in text.split(by) {
+        made.push(part.trim())?;
+    }
+    Ok(made)
+}
+
+/// The column or number that a factor is.
+fn factor(alloc: Global, text: &str) -> Result<Poly, Fail> {
+    if let Some(number) = text.strip_prefix('x') {
+        return Ok(Poly::column(alloc, Col::At(number.parse::<u32>()?))?);
+    }
+    Ok(Poly::constant(alloc, text.parse::<i128>()?))
+}
+
+pub(crate) fn poly(alloc: Global, text: &str) -> Result<Poly, Fail> {
+    let mut made = Poly::constant(alloc, 0);
+    for term in text.split('+') {
+        let mut product = Poly::constant(alloc, 1);
+        for part in term.trim().split('*') {
+            product = mul(alloc, &product, &factor(alloc, part)?)?;
+        }
+        made = add(alloc, &made, &product)?;
+    }
+    Ok(made)
+}
+
+fn polys(alloc: Global, text: &str) -> Result<Items<Poly>, Fail> {
+    let mut made = Items::new(alloc);
+    for part in parts(alloc, text, ';')? {
+        made.push(poly(alloc, part)?)?;
+    }
+    Ok(made)
+}
+
+fn row(alloc: Global, text: &str) -> Result<Row, Fail> {
+    if let Some(left) = text.strip_suffix('<') {
+        let poly = poly(alloc, left)?;
+        return Ok(Row {
+            poly,
+            kind: Kind::AtMost,
+        });
+    }
+    let poly = poly(alloc, text.strip_suffix('=').ok_or("no row")?)?;
+    Ok(Row {
+        poly,
+        kind: Kind::Equal,
+    })
+}
+
+pub(crate) fn rows(alloc: Global, text: &str) -> Result<Items<Row>, Fail> {
+    let mut made = Items::new(alloc);
+    for part in parts(alloc, text, ';')? {
+        made.push(row(alloc, part)?)?;
+    }
+    Ok(made)
+}
+
+fn goal(alloc: Global, text: &str) -> Result<Goal, Fail> {
+    let (before, after) = text.split_once(':').ok_or("no goal")?;
+    let rows = rows(alloc, before)?;
+    let objective = poly(alloc, after)?;
+    Ok(Goal { rows, objective })
+}
+
+pub(crate) fn sup(alloc: Global, text: &str) -> Result<Question, Fail> {
+    let mut goals = Items::new(alloc);
+    for part in parts(alloc, text, '%')? {
+        goals.push(goal(alloc, part)?)?;
+    }
+    Ok(Question::Sup(goals))
+}
+
+fn change(alloc: Global, text: &str) -> Result<Change, Fail> {
+    let (before, after) = text.split_once(':').ok_or("no case")?;
+    let rows = rows(alloc, before)?;
+    let terms = polys(alloc, after)?;
+    Ok(Change { rows, terms })
+}
+
+pub(crate) fn changes(alloc: Global, text: &str) -> Result<Items<Change>, Fail> {
+    let mut made = Items::new(alloc);
+    for part in parts(alloc, text, '%')? {
+        made.push(change(alloc, part)?)?;
+    }
+    Ok(made)
+}
+
+pub(crate) fn stratum(alloc: Global, text: &str) -> Result<Stratum, Fail> {
+    let (before, after) = text.split_once('|').ok_or("no question")?;
+    let cases = changes(alloc, before)?;
+    let lower = polys(alloc, after)?;
+    Ok(Stratum::new(cases, lower).ok_or("unequal cases")?)
+}
+
+pub(crate) fn numbers(alloc: Global, text: &str) -> Result<Items<i128>, Fail> {
+    let mut made = Items::new(alloc);
+    for part in parts(alloc, text, ',')? {
+        made.push(part.parse::<i128>()?)?;
+    }
+    Ok(made)
+}
+
+/// A ratio in lowest terms.
+pub(crate) fn ratio(text: &str) -> Result<Ratio, Fail> {
+    match text.split_once('/') {
+        Some((num, den)) => {
+            let made = Ratio::new(num.parse::<i128>()?, den.parse::<i128>()?);
+            Ok(made.ok_or("not in lowest terms")?)
+        }
+        None => Ok(Ratio::whole(text.parse::<i128>()?)),
+    }
+}
+
+pub(crate) fn ratios(alloc: Global, text: &str) -> Result<Items<Ratio>, Fail> {
+    let mut made = Items::new(alloc);
+    for part in parts(alloc, text, ',')? {
+        made.push(ratio(part)?)?;
+    }
+    Ok(made)
+}
+
+/// A scale, a sum and multipliers.
+fn cert(alloc: Global, text: &str) -> Result<Cert, Fail> {
+    let (scale, rest) = text.split_once(',').ok_or("no scale")?;
+    let (sum, by) = match rest.split_once(',') {
+        Some((sum, by)) => (sum, by),
+        None => (rest, ""),
+    };
+    Ok(Cert {
+        scale: scale.parse::<i128>()?,
+        sum: sum.parse::<i128>()?,
+        by: numbers(alloc, by)?,
+    })
+}
+
+fn bound(alloc: Global, text: &str) -> Result<Answer, Fail> {
+    let fields = parts(alloc, text, '%')?;
+    let [at, all, case, at_point] = fields.as_slice() else {
+        return Err("no bound".into());
+    };
+    let mut certs = Items::new(alloc);
+    for part in parts(alloc, all, ';')? {
+        certs.push(cert(alloc, part)?)?;
+    }
+    let point = ratios(alloc, at_point)?;
+    Ok(Answer::Bound {
+        at: at.parse::<i128>()?,
+        certs,
+        case: case.parse::<u32>()?,
+        point,
+    })
+}
+
+fn unbounded(alloc: Global, text: &str) -> Result<Answer, Fail> {
+    let fields = parts(alloc, text, '%')?;
+    let [case, at_point, along] = fields.as_slice() else {
+        return Err("no ray".into());
+    };
+    let point = ratios(alloc, at_point)?;
+    let ray = ratios(alloc, along)?;
+    Ok(Answer::Unbounded {
+        case: case.parse::<u32>()?,
+        point,
+        ray,
+    })
+}
+
+/// `pivots`, or two numbers with `times` or `plus` between them.
+pub(crate) fn limit(text: &str) -> Result<Limit, Fail> {
+    if text == "pivots" {
+        return Ok(Limit::Pivots);
+    }
+    if let Some((left, right)) = text.split_once(" times ") {
+        return wide(left, right, true);
+    }
+    let (left, right) = text.split_once(" plus ").ok_or("no limit")?;
+    wide(left, right, false)
+}
+
+fn wide(left: &str, right: &str, times: bool) -> Result<Limit, Fail> {
+    Ok(Limit::Wide {
+        left: left.parse::<i128>()?,
+        right: right.parse::<i128>()?,
+        times,
+    })
+}
+
+/// An answer about rows or a supremum: its kind, and then its parts.
+pub(crate) fn answer(alloc: Global, text: &str) -> Result<Answer, Fail> {
+    let (kind, rest) = text.split_once(' ').ok_or("no answer")?;
+    match kind {
+        "yes" => Ok(Answer::Yes(numbers(alloc, rest)?)),
+        "no" => Ok(Answer::No(ratios(alloc, rest)?)),
+        "bound" => bound(alloc, rest),
+        "unbounded" => unbounded(alloc, rest),
+        _ => Ok(Answer::Limit(limit(rest)?)),
+    }
+}
+
+/// A scale and multipliers.
+fn half(alloc: Global, text: &str) -> Result<(i128, Items<i128>), Fail> {
+    match text.split_once(',') {
+        Some((scale, by)) => Ok((scale.parse::<i128>()?, numbers(alloc, by)?)),
+        None => Ok((text.parse::<i128>()?, Items::new(alloc))),
+    }
+}
+
+fn tie(alloc: Global, text: &str) -> Result<Tie, Fail> {
+    let (above, below) = text.split_once('!').ok_or("no tie")?;
+    let (up_scale, up) = half(alloc, above)?;
+    let (down_scale, down) = half(alloc, below)?;
+    Ok(Tie {
+        up_scale,
+        up,
+        down_scale,
+        down,
+    })
+}
+
+fn relation(alloc: Global, text: &str) -> Result<Relation, Fail> {
+    let fields = parts(alloc, text, ':')?;
+    let [a, b, c, all] = fields.as_slice() else {
+        return Err("no relation".into());
+    };
+    let mut ties = Items::new(alloc);
+    for part in parts(alloc, all, ';')? {
+        ties.push(tie(alloc, part)?)?;
+    }
+    let a = numbers(alloc, a)?;
+    let b = numbers(alloc, b)?;
+    Ok(Relation {
+        a,
+        b,
+        c: c.parse::<i128>()?,
+        ties,
+    })
+}
+
+fn relations(alloc: Global, text: &str) -> Result<Items<Relation>, Fail> {
+    let mut made = Items::new(alloc);
+    for part in parts(alloc, text, '%')? {
+        made.push(relation(alloc, part)?)?;
+    }
+    Ok(made)
+}
+
+fn spot(alloc: Global, text: &str) -> Result<Spot, Fail> {
+    let (case, numbers) = text.split_once(':').ok_or("no spot")?;
+    let at = ratios(alloc, numbers)?;
+    Ok(Spot {
+        case: case.trim().parse::<u32>()?,
+        at,
+    })
+}
+
+fn spots(alloc: Global, text: &str) -> Result<Items<Spot>, Fail> {
+    let mut made = Items::new(alloc);
+    for part in parts(alloc, text, '%')? {
+        made.push(spot(alloc, part)?)?;
+    }
+    Ok(made)
+}
+
+/// Lists of ratios; `-` stands for no list.
+fn free(alloc: Global, text: &str) -> Result<Items<Items<Ratio>>, Fail> {
+    let mut made = Items::new(alloc);
+    if text == "-" {
+        return Ok(made);
+    }
+    for part in text.split('%') {
+        made.push(ratios(alloc, part)?)?;
+    }
+    Ok(made)
+}
+
+/// Relations, spots and the numbers of the other unknowns.
+pub(crate) fn basis(alloc: Global, all: &str, at: &str, others: &str) -> Result<Answer, Fail> {
+    let relations = relations(alloc, all)?;
+    let spots = spots(alloc, at)?;
+    let free = free(alloc, others)?;
+    Ok(Answer::Basis {
+        relations,
+        spots,
+        free,
+    })
+}
