@@ -1,14 +1,24 @@
-pub mod Each
+-- ---- the walks of a graph are the executions: `returns_are_walks`, `checks_are_walks`, `calls_are_walks`
+pub mod Theorems
+-- what a step of the machine does to a frame, and frames of a stack
 pub mod Moves
 pub mod Frames
+-- what a statement does, and how it ends
 pub mod Does
 pub mod Fates
+-- where the arcs of a body stand, and that each move of an activation is explained by one of them
+pub mod Each
 pub mod Places
 pub mod Explained
 pub mod Live
 pub mod Activations
 pub mod Walking
-pub mod Theorems
+-- ---- the stack of an execution is a chain of activations: `stacks_are_chains`, `failures_are_in_chains`
+pub mod StackChain
+-- ---- a program has one list of groups: `groups_are_determined`
+pub mod OneList
+-- ---- the groups of a program's procedures
+-- lists of numbers, and tables of them
 pub mod Within
 pub mod Statements
 pub mod Members
@@ -16,6 +26,7 @@ pub mod Reaching
 pub mod Sieves
 pub mod Tables
 pub mod Chains
+-- the search for strong components, step by step
 pub mod SearchMarks
 pub mod Entering
 pub mod Joins
@@ -23,6 +34,7 @@ pub mod Joining
 pub mod Leaving
 pub mod Visiting
 pub mod Searching
+-- their order, and what is planned for it
 pub mod Turning
 pub mod Settling
 pub mod Orders

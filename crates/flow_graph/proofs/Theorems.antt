@@ -136,7 +136,7 @@ module _ (program : Program) (proc : ℕ) (globals args : State) where
             (subst (λ l. Does program (width_in program) acts.shape (first_items acts.entry) (first_state acts.entry) l acts.final) stands.items_are acts.does),
       )
 
-  stands_by : (entry : Entry program proc globals args) (shape : Shape) (items : List Item) (final : State)
+  pub stands_by : (entry : Entry program proc globals args) (shape : Shape) (items : List Item) (final : State)
       → Does program (width_in program) shape (first_items entry) (first_state entry) items final → Stands program proc globals args items final
   stands_by entry shape items final does =
       let run = executed program proc globals args entry shape items final does in

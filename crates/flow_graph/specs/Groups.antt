@@ -64,3 +64,7 @@ AreGroupsAfter program come (group ∷ rest) =
 
 abbrev pub AreGroups : Program → List Group → Type 0
 AreGroups program groups = AreGroupsAfter program [] groups
+
+-- A program has no other list of groups.
+abbrev pub GroupsAreDetermined : Type 0
+GroupsAreDetermined = (program : Program) (one other : List Group) → AreGroups program one → AreGroups program other → one ≡ other

@@ -10,14 +10,12 @@ mod laws;
 mod making;
 mod parts;
 mod planning;
-#[cfg(test)]
-mod tests;
 mod turns;
-#[cfg(test)]
-mod worked;
 
 pub use error::GraphError;
 pub use grouping::{Group, groups};
-pub use laws::{calls_are_walks, checks_are_walks, returns_are_walks};
+pub use laws::{
+    calls_are_walks, checks_are_walks, groups_are_determined, returns_are_walks, stacks_are_chains,
+};
 pub use making::graph;
 pub use parts::{Act, CheckNode, Edge, Graph};
