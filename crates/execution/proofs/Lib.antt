@@ -1,7 +1,10 @@
+-- ---- the laws of `specs/Laws`
 pub mod Joining
 pub mod Determined
 pub mod Stack
 pub mod Straight
-pub mod Examples
-pub mod Tasks
 pub mod Widths
+-- ---- executions by hand
+pub mod Examples
+-- ---- the interpreter
+pub mod Tasks

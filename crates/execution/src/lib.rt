@@ -5,8 +5,6 @@
 
 mod interpreter;
 mod laws;
-#[cfg(test)]
-mod tests;
 
 pub use interpreter::{Activation, Feed, Machine, Repeat, Stop, Task};
 pub use laws::{
