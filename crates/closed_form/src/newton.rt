@@ -1,12 +1,13 @@
-ghost use Rattle.std.specs.Prelude.{◌↔◌, ℕ, Ok, IfOk};
+ghost use Rattle.std.specs.Prelude.{◌↔◌, ℕ, pos, Ok, IfOk};
 ghost use Rattle.items.specs.Gives.{Gives};
 ghost use Rattle.linear_terms.specs.TermError.{cause};
 ghost use Rattle.linear_terms.specs.Row.{RowHolds};
 ghost use Rattle.linear_terms.specs.Value.{Valuation, value_of};
-ghost use Rattle.closed_form.specs.ClosedRow.{◌⊠◌, ◌⊟◌, number, closed_poly, closed_row};
+ghost use Rattle.linear_terms.specs.Expressions.{◌⊠◌, ◌⊟◌, whole};
+ghost use Rattle.closed_form.specs.ClosedRow.{closed_poly, closed_row};
 ghost use Rattle.closed_form.specs.Differences.{IsForwardSum, Sequence, third_difference, IsConstant, Run, IsRun, run_of, ReadsAs};
 
-use linear_terms::{Col, Kind, Poly, Row, TermError, add, mul, scale};
+use linear_terms::{Col, Kind, Poly, Row, TermError, difference, mul};
 use std::alloc::Global;
 
 /// The row `6*after - 6*before - 6k*d1 - 3k(k-1)*d2 - k(k-1)(k-2)*d3 = 0`, or the first step of making it that leaves
@@ -54,24 +55,24 @@ fn closed_poly(
         (closed_poly (Ok after.now) (Ok before.now) (Ok d1.now) (Ok d2.now) (Ok d3.now) (Ok k.now)) }
 {
     let change = change(alloc, after, before)?;
-    let linear = minus(alloc, &change, &first_term(alloc, k, d1)?)?;
-    let quadratic = minus(alloc, &linear, &second_term(alloc, k, d2)?)?;
-    minus(alloc, &quadratic, &third_term(alloc, k, d3)?)
+    let linear = difference(alloc, &change, &first_term(alloc, k, d1)?)?;
+    let quadratic = difference(alloc, &linear, &second_term(alloc, k, d2)?)?;
+    difference(alloc, &quadratic, &third_term(alloc, k, d3)?)
 }
 
 /// `6*after - 6*before`
 fn change(alloc: Global, after: &Poly, before: &Poly) -> Result<Poly, TermError>
-    ensures { Gives cause (λ p. p) result (number 6 ⊠ Ok after.now ⊟ number 6 ⊠ Ok before.now) }
+    ensures { Gives cause (λ p. p) result (whole (pos 6) ⊠ Ok after.now ⊟ whole (pos 6) ⊠ Ok before.now) }
 {
     let six = Poly::constant(alloc, 6);
     let left = mul(alloc, &six, after)?;
     let right = mul(alloc, &six, before)?;
-    minus(alloc, &left, &right)
+    difference(alloc, &left, &right)
 }
 
 /// `6k*d1`
 fn first_term(alloc: Global, k: &Poly, d1: &Poly) -> Result<Poly, TermError>
-    ensures { Gives cause (λ p. p) result (number 6 ⊠ Ok k.now ⊠ Ok d1.now) }
+    ensures { Gives cause (λ p. p) result (whole (pos 6) ⊠ Ok k.now ⊠ Ok d1.now) }
 {
     let factor = mul(alloc, &Poly::constant(alloc, 6), k)?;
     mul(alloc, &factor, d1)
@@ -79,7 +80,7 @@ fn first_term(alloc: Global, k: &Poly, d1: &Poly) -> Result<Poly, TermError>
 
 /// `3k(k-1)*d2`
 fn second_term(alloc: Global, k: &Poly, d2: &Poly) -> Result<Poly, TermError>
-    ensures { Gives cause (λ p. p) result (number 3 ⊠ Ok k.now ⊠ (Ok k.now ⊟ number 1) ⊠ Ok d2.now) }
+    ensures { Gives cause (λ p. p) result (whole (pos 3) ⊠ Ok k.now ⊠ (Ok k.now ⊟ whole (pos 1)) ⊠ Ok d2.now) }
 {
     let thrice = mul(alloc, &Poly::constant(alloc, 3), k)?;
     let factor = mul(alloc, &thrice, &less(alloc, k, 1)?)?;
@@ -88,7 +89,7 @@ fn second_term(alloc: Global, k: &Poly, d2: &Poly) -> Result<Poly, TermError>
 
 /// `k(k-1)(k-2)*d3`
 fn third_term(alloc: Global, k: &Poly, d3: &Poly) -> Result<Poly, TermError>
-    ensures { Gives cause (λ p. p) result (Ok k.now ⊠ (Ok k.now ⊟ number 1) ⊠ (Ok k.now ⊟ number 2) ⊠ Ok d3.now) }
+    ensures { Gives cause (λ p. p) result (Ok k.now ⊠ (Ok k.now ⊟ whole (pos 1)) ⊠ (Ok k.now ⊟ whole (pos 2)) ⊠ Ok d3.now) }
 {
     let pair = mul(alloc, k, &less(alloc, k, 1)?)?;
     let factor = mul(alloc, &pair, &less(alloc, k, 2)?)?;
@@ -97,15 +98,7 @@ fn third_term(alloc: Global, k: &Poly, d3: &Poly) -> Result<Poly, TermError>
 
 /// `k - 1`, or `k - 2`.
 fn less(alloc: Global, k: &Poly, by: u8) -> Result<Poly, TermError>
-    ensures { Gives cause (λ p. p) result (Ok k.now ⊟ number by) }
+    ensures { Gives cause (λ p. p) result (Ok k.now ⊟ whole (pos by)) }
 {
-    minus(alloc, k, &Poly::constant(alloc, i128::from(by)))
-}
-
-/// What is subtracted is multiplied by -1 and then added.
-fn minus(alloc: Global, a: &Poly, b: &Poly) -> Result<Poly, TermError>
-    ensures { Gives cause (λ p. p) result (Ok a.now ⊟ Ok b.now) }
-{
-    let turned = scale(alloc, b, -1)?;
-    add(alloc, a, &turned)
+    difference(alloc, k, &Poly::constant(alloc, i128::from(by)))
 }

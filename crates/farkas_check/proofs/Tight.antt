@@ -14,7 +14,7 @@ use Rattle.linear_terms.specs.declared.row.Kind.{Kind}
 use Rattle.linear_terms.specs.declared.row.Kind.TheVariants.{AtMost, Equal}
 use Rattle.linear_terms.specs.declared.row.Row.{Row}
 use Rattle.linear_terms.specs.Polynomial.{Terms, Polynomial, IsCanonical}
-use Rattle.linear_terms.specs.Row.{IsWithin}
+use Rattle.linear_terms.specs.Row.{IsWithin, RowsHold, AreCanonical}
 use Rattle.linear_terms.specs.Value.{Valuation, value_of}
 use Rattle.farkas_check.specs.declared.answer.Answer.{Answer}
 use Rattle.farkas_check.specs.declared.answer.Answer.TheVariants as answer
@@ -23,7 +23,7 @@ use Rattle.farkas_check.specs.declared.question.Goal.{Goal}
 use Rattle.farkas_check.specs.declared.question.Question.{Question}
 use Rattle.farkas_check.specs.declared.question.Question.TheVariants.{Infeasible, Sup, Stratum}
 use Rattle.farkas_check.specs.Columns.{columns}
-use Rattle.farkas_check.specs.Meaning.{terms_at, sum_at, Refutes, HasPoint, IsBounded, IsBoundedBelow, IsReached, IsRoundedSup, IsTight, IsLimit, RowsHold, IsAtMost, IsTrueAnswer}
+use Rattle.farkas_check.specs.Meaning.{terms_at, sum_at, Refutes, HasPoint, IsBounded, IsBoundedBelow, IsReached, IsRoundedSup, IsTight, IsLimit, IsAtMost, IsTrueAnswer}
 use Rattle.farkas_check.specs.Parts.{and_then}
 use Rattle.farkas_check.specs.Points.{ratio_at, slope_at, ratio_value, meets}
 use Rattle.farkas_check.specs.Ratios.{Fraction, is_at_least}
@@ -34,7 +34,7 @@ use Rattle.farkas_check.proofs.Lowest.{positive_product}
 use Rattle.farkas_check.proofs.Farkas.{bool_ok, on_parts, ok_true, CanonicalRows, no_point}
 use Rattle.farkas_check.proofs.Bounds as Goals
 use Rattle.farkas_check.proofs.Bounds.{bounded_below}
-use Rattle.farkas_check.specs.Kept.{AreCanonical, IsCanonicalGoal, IsCanonicalQuestion, HasPositive}
+use Rattle.farkas_check.specs.Kept.{IsCanonicalGoal, IsCanonicalQuestion, HasPositive}
 use Rattle.farkas_check.proofs.RationalPoints.{point_of, same_length, listed, refutes, point_at, sum_at-value, refutes_at}
 use Rattle.farkas_check.proofs.PointValues.{Stands, ArePositive, over_of, over_of-positive, numerator_of, Stands-ratio_at, slope_at-stands, ratio_value-stands, meets-each, reached, grows}
 

@@ -1,5 +1,6 @@
 ghost use Rattle.std.specs.Prelude.{All};
-ghost use Rattle.farkas_check.specs.Kept.{AreCanonical, ArePolysCanonical, IsCanonicalChange, IsCanonicalStratum, IsPositiveSpot, IsCanonicalGoal, IsCanonicalQuestion, ArePositive, HasPositive};
+ghost use Rattle.linear_terms.specs.Row.{AreCanonical};
+ghost use Rattle.farkas_check.specs.Kept.{ArePolysCanonical, IsCanonicalChange, IsCanonicalStratum, IsPositiveSpot, IsCanonicalGoal, IsCanonicalQuestion, ArePositive, HasPositive};
 
 use crate::{Answer, Change, Goal, Question, Ratio, Spot, Stratum};
 use items::Items;

@@ -6,11 +6,11 @@ use Rattle.std.specs.List.{AllByRecursion, flat_map}
 use Rattle.linear_terms.specs.declared.col.Col.TheVariants.{Aux}
 use Rattle.linear_terms.specs.declared.row.Case.{Case}
 use Rattle.linear_terms.specs.Polynomial.{Polynomial, column_of, constant_of}
-use Rattle.linear_terms.specs.Row.{RowHolds}
+use Rattle.linear_terms.specs.Row.{RowHolds, RowsHold}
 use Rattle.linear_terms.specs.Value.{Valuation, value_of}
 use Rattle.linear_terms.proofs.Columns.{each-append}
 use Rattle.transition_formula.specs.Loss.{losses_of}
-use Rattle.transition_formula.specs.Meaning.{AreTrue, numbers, HoldsAt, HoldsCase, HoldsSome}
+use Rattle.transition_formula.specs.Meaning.{numbers, HoldsAt, HoldsCase, HoldsSome}
 use Rattle.transition_formula.proofs.Values.{column-value, noted-some, none-of}
 use Rattle.leaf_cases.specs.declared.division.Part.{Part}
 use Rattle.leaf_cases.specs.declared.division.Part.TheVariants.{Quotient, Remainder}
@@ -38,7 +38,7 @@ limited-holds w case x h more claims zs says within post y e = record { rows = e
 before-limited : (w : Valuation) (case : Case) (more : ℕ) (claims : List Claim) (post : List Polynomial) (y : List ℤ) → HoldsAt w (limited case more claims post) y → HoldsAt w case (map (value_of w) case.post)
 before-limited w case more claims post y h = record { rows = front-of (RowHolds w) case.rows (rows_of claims) h.rows; posts = refl }
 
-rows-limited : (w : Valuation) (case : Case) (more : ℕ) (claims : List Claim) (post : List Polynomial) (y : List ℤ) → HoldsAt w (limited case more claims post) y → AreTrue w (rows_of claims)
+rows-limited : (w : Valuation) (case : Case) (more : ℕ) (claims : List Claim) (post : List Polynomial) (y : List ℤ) → HoldsAt w (limited case more claims post) y → RowsHold w (rows_of claims)
 rows-limited w case more claims post y h = back-of (RowHolds w) case.rows (rows_of claims) h.rows
 
 one-value : (w : Valuation) (p : Polynomial) (z : ℤ) → value_of w p ≡ z → map (value_of w) (p ∷ []) ≡ z ∷ []

@@ -10,7 +10,7 @@ use Rattle.linear_terms.specs.declared.col.Col.TheVariants.{At, Aux}
 use Rattle.linear_terms.specs.declared.row.Case.{Case}
 use Rattle.linear_terms.specs.Auxiliaries.{renumbered, renumbered_column}
 use Rattle.linear_terms.specs.Polynomial.{Polynomial, column_of, constant_of}
-use Rattle.linear_terms.specs.Operations.{multiple_of, sum_of_polys, product_of_polys}
+use Rattle.linear_terms.specs.Operations.{multiple_of, sum_of_polys, product_of_polys, difference_of_polys}
 use Rattle.linear_terms.proofs.Columns.{each-append, multiple_of-each, sum_of_polys-each}
 use Rattle.leaf_cases.proofs.Products.{product_of_polys-each}
 use Rattle.transition_formula.specs.Composition.{row_of}
@@ -27,7 +27,7 @@ use Rattle.leaf_cases.specs.declared.step.Relation.{Relation}
 use Rattle.leaf_cases.specs.declared.step.Relation.TheVariants.{Less, LessOrEqual, Greater, GreaterOrEqual, Same, Negative, Positive, Zero}
 use Rattle.leaf_cases.specs.declared.step.Step.{Step}
 use Rattle.leaf_cases.specs.declared.step.Step.TheVariants.{Value, Divide, Test}
-use Rattle.leaf_cases.specs.Claims.{Answer, Claim, difference, rows_of, limited, valued}
+use Rattle.leaf_cases.specs.Claims.{Answer, Claim, rows_of, limited, valued}
 use Rattle.leaf_cases.specs.Division.{one, minus_one, equation, divisor_sign, dividend_sign, lower_bound, upper_bound, division, all_signs}
 use Rattle.leaf_cases.specs.Listed.{beside}
 use Rattle.leaf_cases.specs.Listed as listed
@@ -76,7 +76,7 @@ module _ (t : Col → Bool) where
   bind-covered : (r : Answer) (f : Polynomial → Answer) → Covers t r → ((p : Polynomial) → IsTrue (every_column t p) → Covers t (f p)) → Covers t (r >>= f)
   bind-covered r f h tells = record { is = λ p e. on_ok r f p e (λ x g k. (tells x (h.is x g)).is p k) }
 
-  difference-covered : (a b : Polynomial) → IsTrue (every_column t a) → IsTrue (every_column t b) → Covers t (difference a b)
+  difference-covered : (a b : Polynomial) → IsTrue (every_column t a) → IsTrue (every_column t b) → Covers t (difference_of_polys a b)
   difference-covered a b h k = bind-covered (multiple_of b (negsuc 0)) (λ turned. sum_of_polys a turned) (multiple-covered b (negsuc 0) k) (λ m l. sum-covered a m h l)
 
   value-covered : (arithmetic : Arithmetic) (a b : Polynomial) → IsTrue (every_column t a) → IsTrue (every_column t b) → Covers t (value_at arithmetic a b)
@@ -86,7 +86,7 @@ module _ (t : Col → Bool) where
   value-covered Product a b h k = product-covered a b h k
 
   one_more-covered : (a b : Polynomial) → IsTrue (every_column t a) → IsTrue (every_column t b) → Covers t (one_more a b)
-  one_more-covered a b h k = bind-covered (difference a b) (λ d. sum_of_polys d one) (difference-covered a b h k) (λ d l. sum-covered d one l refl)
+  one_more-covered a b h k = bind-covered (difference_of_polys a b) (λ d. sum_of_polys d one) (difference-covered a b h k) (λ d l. sum-covered d one l refl)
 
   test-covered : (relation : Relation) (a b : Polynomial) → IsTrue (every_column t a) → IsTrue (every_column t b) → Covers t (test_at relation a b)
   test-covered Less a b h k = one_more-covered a b h k
@@ -110,22 +110,22 @@ module _ (t : Col → Bool) where
   lower-covered true true b r h k = difference-covered (constant_of (pos 0)) r refl k
   lower-covered false true b r h k = difference-covered (constant_of (pos 0)) r refl k
   lower-covered true false b r h k =
-      bind-covered (multiple_of b (negsuc 0)) (λ turned. sum_of_polys turned one >>= λ least. difference least r) (multiple-covered b (negsuc 0) h)
-      (λ m l. bind-covered (sum_of_polys m one) (λ least. difference least r) (sum-covered m one l refl) (λ least n. difference-covered least r n k))
-  lower-covered false false b r h k = bind-covered (sum_of_polys b one) (λ least. difference least r) (sum-covered b one h refl) (λ least n. difference-covered least r n k)
+      bind-covered (multiple_of b (negsuc 0)) (λ turned. sum_of_polys turned one >>= λ least. difference_of_polys least r) (multiple-covered b (negsuc 0) h)
+      (λ m l. bind-covered (sum_of_polys m one) (λ least. difference_of_polys least r) (sum-covered m one l refl) (λ least n. difference-covered least r n k))
+  lower-covered false false b r h k = bind-covered (sum_of_polys b one) (λ least. difference_of_polys least r) (sum-covered b one h refl) (λ least n. difference-covered least r n k)
 
   upper-covered : (divisor dividend : Bool) (b r : Polynomial) → IsTrue (every_column t b) → IsTrue (every_column t r) → Covers t (upper_bound divisor dividend b r)
   upper-covered true false b r h k = difference-covered r (constant_of (pos 0)) k refl
   upper-covered false false b r h k = difference-covered r (constant_of (pos 0)) k refl
-  upper-covered true true b r h k = bind-covered (difference b one) (λ most. difference r most) (difference-covered b one h refl) (λ most n. difference-covered r most k n)
+  upper-covered true true b r h k = bind-covered (difference_of_polys b one) (λ most. difference_of_polys r most) (difference-covered b one h refl) (λ most n. difference-covered r most k n)
   upper-covered false true b r h k =
-      bind-covered (multiple_of b (negsuc 0)) (λ turned. difference turned one >>= λ most. difference r most) (multiple-covered b (negsuc 0) h)
-      (λ m l. bind-covered (difference m one) (λ most. difference r most) (difference-covered m one l refl) (λ most n. difference-covered r most k n))
+      bind-covered (multiple_of b (negsuc 0)) (λ turned. difference_of_polys turned one >>= λ most. difference_of_polys r most) (multiple-covered b (negsuc 0) h)
+      (λ m l. bind-covered (difference_of_polys m one) (λ most. difference_of_polys r most) (difference-covered m one l refl) (λ most n. difference-covered r most k n))
 
   equation-covered : (a b q r : Polynomial) → IsTrue (every_column t a) → IsTrue (every_column t b) → IsTrue (every_column t q) → IsTrue (every_column t r) → Covers t (equation a b q r)
   equation-covered a b q r h k l m =
-      bind-covered (product_of_polys q b) (λ p. difference a p >>= λ d. difference d r) (product-covered q b l k)
-      (λ p n. bind-covered (difference a p) (λ d. difference d r) (difference-covered a p h n) (λ d o. difference-covered d r o m))
+      bind-covered (product_of_polys q b) (λ p. difference_of_polys a p >>= λ d. difference_of_polys d r) (product-covered q b l k)
+      (λ p n. bind-covered (difference_of_polys a p) (λ d. difference_of_polys d r) (difference-covered a p h n) (λ d o. difference-covered d r o m))
 
   pub division-covered : (signs : Signs) (a b q r : Polynomial) → IsTrue (every_column t a) → IsTrue (every_column t b) → IsTrue (every_column t q) → IsTrue (every_column t r)
       → AllByRecursion (λ claim. Covers t claim.poly) (division signs a b q r)

@@ -7,13 +7,13 @@ use Rattle.items.specs.Gives.{◌>>=◌}
 use Rattle.items.proofs.Gives.{on_ok}
 use Rattle.linear_terms.specs.declared.row.Case.{Case}
 use Rattle.linear_terms.specs.Polynomial.{Polynomial, constant_of}
-use Rattle.linear_terms.specs.Operations.{multiple_of, sum_of_polys, product_of_polys}
-use Rattle.linear_terms.specs.Row.{IsWithin}
+use Rattle.linear_terms.specs.Operations.{multiple_of, sum_of_polys, product_of_polys, difference_of_polys}
+use Rattle.linear_terms.specs.Row.{IsWithin, RowsHold}
 use Rattle.linear_terms.specs.Value.{Valuation, value_of}
 use Rattle.linear_terms.proofs.Values.{sum_of_polys-value, multiple_of-value, product_of_polys-value}
 use Rattle.transition_formula.specs.Composition.{row_of}
 use Rattle.transition_formula.specs.Loss.{losses_of}
-use Rattle.transition_formula.specs.Meaning.{AreTrue, HoldsAt}
+use Rattle.transition_formula.specs.Meaning.{HoldsAt}
 use Rattle.transition_formula.proofs.Values.{noted-some, none-of}
 use Rattle.leaf_cases.specs.declared.division.Part.{Part}
 use Rattle.leaf_cases.specs.declared.division.Part.TheVariants.{Quotient, Remainder}
@@ -24,7 +24,7 @@ use Rattle.leaf_cases.specs.declared.step.Relation.{Relation}
 use Rattle.leaf_cases.specs.declared.step.Relation.TheVariants.{Less, LessOrEqual, Greater, GreaterOrEqual, Same, Negative, Positive, Zero}
 use Rattle.leaf_cases.specs.declared.step.Step.{Step}
 use Rattle.leaf_cases.specs.declared.step.Step.TheVariants.{Value, Divide, Test}
-use Rattle.leaf_cases.specs.Claims.{Answer, Claim, difference, rows_of, lost_of}
+use Rattle.leaf_cases.specs.Claims.{Answer, Claim, rows_of, lost_of}
 use Rattle.leaf_cases.specs.Division.{one, minus_one, equation, divisor_sign, dividend_sign, lower_bound, upper_bound, division}
 use Rattle.leaf_cases.specs.Steps.{one_more, operand, value_at, test_at, kind_of}
 use Rattle.leaf_cases.proofs.Quotients.{Splits}
@@ -51,7 +51,7 @@ module _ (w : Valuation) where
       turn : (x : ℤ) → x *ℤ negsuc 0 ≡ pos 0 -ℤ x
       turn x = omega (arith, ints)
 
-  difference-says : (a b : Polynomial) → Says w (difference a b) (value_of w a -ℤ value_of w b)
+  difference-says : (a b : Polynomial) → Says w (difference_of_polys a b) (value_of w a -ℤ value_of w b)
   difference-says a b =
       bind-says (multiple_of b (negsuc 0)) (λ turned. sum_of_polys a turned) (value_of w a -ℤ value_of w b)
       (λ m e. record { is = λ p f. (sum-says a m).is p f ∙ less (value_of w a) (value_of w b) (value_of w m) ((turned-says b).is m e) })
@@ -61,7 +61,7 @@ module _ (w : Valuation) where
 
   one_more-says : (a b : Polynomial) → Says w (one_more a b) (value_of w a -ℤ value_of w b +ℤ pos 1)
   one_more-says a b =
-      bind-says (difference a b) (λ d. sum_of_polys d one) (value_of w a -ℤ value_of w b +ℤ pos 1)
+      bind-says (difference_of_polys a b) (λ d. sum_of_polys d one) (value_of w a -ℤ value_of w b +ℤ pos 1)
       (λ d e. record { is = λ p f. (sum-says d one).is p f ∙ ap (λ x. x +ℤ pos 1) ((difference-says a b).is d e) })
 
 -- ---- rows
@@ -79,16 +79,16 @@ AllWithin [] (z ∷ zs) = ⊥
 AllWithin (claim ∷ claims) [] = ⊥
 AllWithin (claim ∷ claims) (z ∷ zs) = IsWithin claim.kind z × AllWithin claims zs
 
-pub claims-hold : (w : Valuation) (claims : List Claim) (zs : List ℤ) → AllSay w claims zs → AllWithin claims zs → AreTrue w (rows_of claims)
+pub claims-hold : (w : Valuation) (claims : List Claim) (zs : List ℤ) → AllSay w claims zs → AllWithin claims zs → RowsHold w (rows_of claims)
 claims-hold w [] zs h k = tt
 claims-hold w (claim ∷ claims) [] h k = absurd h
 claims-hold w (claim ∷ claims) (z ∷ zs) h k = go claim.poly refl (claims-hold w claims zs h.1 k.1)
   where
-    go : (r : Answer) → claim.poly ≡ r → AreTrue w (rows_of claims) → AreTrue w (cons_option (row_of claim.kind r) (rows_of claims))
+    go : (r : Answer) → claim.poly ≡ r → RowsHold w (rows_of claims) → RowsHold w (cons_option (row_of claim.kind r) (rows_of claims))
     go (Ok p) e rest = (subst (IsWithin claim.kind) (sym (h.0.is p e)) k.0, rest)
     go (Err d) e rest = rest
 
-pub claims-held : (w : Valuation) (claims : List Claim) (zs : List ℤ) → AllSay w claims zs → lost_of claims ≡ [] → AreTrue w (rows_of claims) → AllWithin claims zs
+pub claims-held : (w : Valuation) (claims : List Claim) (zs : List ℤ) → AllSay w claims zs → lost_of claims ≡ [] → RowsHold w (rows_of claims) → AllWithin claims zs
 claims-held w [] [] h none k = tt
 claims-held w [] (z ∷ zs) h none k = absurd h
 claims-held w (claim ∷ claims) [] h none k = absurd h
@@ -96,7 +96,7 @@ claims-held w (claim ∷ claims) (z ∷ zs) h none k =
     let parts = none-of (losses_of claim.poly) (lost_of claims) none in
     go claim.poly refl parts.0 k (λ rest. claims-held w claims zs h.1 parts.1 rest)
   where
-    go : (r : Answer) → claim.poly ≡ r → losses_of r ≡ [] → AreTrue w (cons_option (row_of claim.kind r) (rows_of claims)) → (AreTrue w (rows_of claims) → AllWithin claims zs) → AllWithin (claim ∷ claims) (z ∷ zs)
+    go : (r : Answer) → claim.poly ≡ r → losses_of r ≡ [] → RowsHold w (cons_option (row_of claim.kind r) (rows_of claims)) → (RowsHold w (rows_of claims) → AllWithin claims zs) → AllWithin (claim ∷ claims) (z ∷ zs)
     go (Ok p) e n held ih = (subst (IsWithin claim.kind) (h.0.is p e) held.0, ih held.1)
     go (Err d) e n held ih = absurd (noted-some d n)
 
@@ -163,8 +163,8 @@ module _ (w : Valuation) (a b : Polynomial) (x y : ℤ) (h : value_of w a ≡ x)
   module _ (q r : Polynomial) (u v : ℤ) (l : value_of w q ≡ u) (m : value_of w r ≡ v) where
     equation-says : Says w (equation a b q r) (x -ℤ u *ℤ y -ℤ v)
     equation-says =
-        bind-says w (product_of_polys q b) (λ p. difference a p >>= λ d. difference d r) (x -ℤ u *ℤ y -ℤ v)
-        (λ p e. bind-says w (difference a p) (λ d. difference d r) (x -ℤ u *ℤ y -ℤ v)
+        bind-says w (product_of_polys q b) (λ p. difference_of_polys a p >>= λ d. difference_of_polys d r) (x -ℤ u *ℤ y -ℤ v)
+        (λ p e. bind-says w (difference_of_polys a p) (λ d. difference_of_polys d r) (x -ℤ u *ℤ y -ℤ v)
         (λ d f. record {
           is = λ s g. (difference-says w d r).is s g
               ∙ (λ i. ((difference-says w a p).is d f ∙ (λ j. h j -ℤ (product_of_polys-value w q b p e ∙ (λ n. l n *ℤ k n)) j)) i -ℤ m i);
@@ -182,8 +182,8 @@ module _ (w : Valuation) (a b : Polynomial) (x y : ℤ) (h : value_of w a ≡ x)
     lower-says true true = record { is = λ p e. (difference-says w (constant_of (pos 0)) r).is p e ∙ (λ i. pos 0 -ℤ m i) }
     lower-says false true = record { is = λ p e. (difference-says w (constant_of (pos 0)) r).is p e ∙ (λ i. pos 0 -ℤ m i) }
     lower-says true false =
-        bind-says w (multiple_of b (negsuc 0)) (λ turned. sum_of_polys turned one >>= λ least. difference least r) (pos 1 -ℤ y -ℤ v)
-        (λ t e. bind-says w (sum_of_polys t one) (λ least. difference least r) (pos 1 -ℤ y -ℤ v)
+        bind-says w (multiple_of b (negsuc 0)) (λ turned. sum_of_polys turned one >>= λ least. difference_of_polys least r) (pos 1 -ℤ y -ℤ v)
+        (λ t e. bind-says w (sum_of_polys t one) (λ least. difference_of_polys least r) (pos 1 -ℤ y -ℤ v)
         (λ n f. record {
           is = λ p g. (difference-says w n r).is p g ∙ (λ i. value_of w n -ℤ m i)
               ∙ least (value_of w n) (value_of w t) ((sum-says w t one).is n f) ((turned-says w b).is t e ∙ (λ i. pos 0 -ℤ k i));
@@ -192,16 +192,16 @@ module _ (w : Valuation) (a b : Polynomial) (x y : ℤ) (h : value_of w a ≡ x)
         least : (n t : ℤ) → n ≡ t +ℤ pos 1 → t ≡ pos 0 -ℤ y → n -ℤ v ≡ pos 1 -ℤ y -ℤ v
         least n t e f = omega (arith, ints, e, f)
     lower-says false false =
-        bind-says w (sum_of_polys b one) (λ least. difference least r) (y +ℤ pos 1 -ℤ v)
+        bind-says w (sum_of_polys b one) (λ least. difference_of_polys least r) (y +ℤ pos 1 -ℤ v)
         (λ n f. record { is = λ p g. (difference-says w n r).is p g ∙ (λ i. ((sum-says w b one).is n f ∙ (λ j. k j +ℤ pos 1)) i -ℤ m i) })
 
     upper-says : (divisor dividend : Bool) → Says w (upper_bound divisor dividend b r) (cond dividend (cond divisor (v -ℤ (y -ℤ pos 1)) (v -ℤ (negsuc 0 -ℤ y))) (v -ℤ pos 0))
     upper-says true true =
-        bind-says w (difference b one) (λ most. difference r most) (v -ℤ (y -ℤ pos 1))
+        bind-says w (difference_of_polys b one) (λ most. difference_of_polys r most) (v -ℤ (y -ℤ pos 1))
         (λ n f. record { is = λ p g. (difference-says w r n).is p g ∙ (λ i. m i -ℤ ((difference-says w b one).is n f ∙ (λ j. k j -ℤ pos 1)) i) })
     upper-says false true =
-        bind-says w (multiple_of b (negsuc 0)) (λ turned. difference turned one >>= λ most. difference r most) (v -ℤ (negsuc 0 -ℤ y))
-        (λ t e. bind-says w (difference t one) (λ most. difference r most) (v -ℤ (negsuc 0 -ℤ y))
+        bind-says w (multiple_of b (negsuc 0)) (λ turned. difference_of_polys turned one >>= λ most. difference_of_polys r most) (v -ℤ (negsuc 0 -ℤ y))
+        (λ t e. bind-says w (difference_of_polys t one) (λ most. difference_of_polys r most) (v -ℤ (negsuc 0 -ℤ y))
         (λ n f. record {
           is = λ p g. (difference-says w r n).is p g ∙ (λ i. m i -ℤ value_of w n)
               ∙ most (value_of w n) (value_of w t) ((difference-says w t one).is n f) ((turned-says w b).is t e ∙ (λ i. pos 0 -ℤ k i));

@@ -9,10 +9,10 @@ use Rattle.linear_terms.specs.declared.row.Row.{Row}
 use Rattle.linear_terms.specs.declared.row.Case.{Case}
 use Rattle.linear_terms.specs.Auxiliaries.{renumbered, renumbered_column}
 use Rattle.linear_terms.specs.Polynomial.{Terms, Polynomial}
-use Rattle.linear_terms.specs.Row.{RowHolds, IsWithin}
+use Rattle.linear_terms.specs.Row.{RowHolds, IsWithin, RowsHold}
 use Rattle.linear_terms.specs.Value.{Valuation, mono_value, terms_value, value_of}
 use Rattle.linear_terms.proofs.Columns.{each-append}
-use Rattle.transition_formula.specs.Meaning.{AreTrue, numbers, HoldsAt, HoldsCase, HoldsSome}
+use Rattle.transition_formula.specs.Meaning.{numbers, HoldsAt, HoldsCase, HoldsSome}
 use Rattle.transition_formula.specs.Renumbering.{renumbered_row}
 use Rattle.transition_formula.specs.Transition.{is_below}
 use Rattle.transition_formula.proofs.Fitting.{below-true, true-below}
@@ -94,11 +94,11 @@ module _ (number : ℕ → ℕ) (at bt : Valuation) (tells : (c : Col) → bt (r
   value-told : (p : Polynomial) → value_of bt (renumbered number p) ≡ value_of at p
   value-told p = ap (λ v. v +ℤ p.rest) (terms-told p.terms)
 
-  rows-told : (rows : List Row) → AreTrue at rows → AreTrue bt (map (renumbered_row number) rows)
+  rows-told : (rows : List Row) → RowsHold at rows → RowsHold bt (map (renumbered_row number) rows)
   rows-told [] k = tt
   rows-told (row ∷ rows) k = (subst (IsWithin row.kind) (sym (value-told row.poly)) k.0, rows-told rows k.1)
 
-  told-rows : (rows : List Row) → AreTrue bt (map (renumbered_row number) rows) → AreTrue at rows
+  told-rows : (rows : List Row) → RowsHold bt (map (renumbered_row number) rows) → RowsHold at rows
   told-rows [] k = tt
   told-rows (row ∷ rows) k = (subst (IsWithin row.kind) (value-told row.poly) k.0, told-rows rows k.1)
 

@@ -17,10 +17,6 @@ use Rattle.transition_formula.specs.Composition.{row_of}
 abbrev pub Answer : Type 0
 Answer = Result Polynomial TermError
 
--- what is subtracted is turned in sign and then added
-abbrev pub difference : Polynomial → Polynomial → Answer
-difference a b = multiple_of b (negsuc 0) >>= λ turned. sum_of_polys a turned
-
 -- a row that is to be added
 pub record Claim : Type 0 where
   pub kind : Kind

@@ -7,7 +7,7 @@ use Rattle.linear_terms.specs.declared.row.Kind.{Kind}
 use Rattle.linear_terms.specs.declared.row.Kind.TheVariants as kind
 use Rattle.linear_terms.specs.declared.row.Case.{Case}
 use Rattle.linear_terms.specs.Polynomial.{Polynomial, column_of, constant_of}
-use Rattle.linear_terms.specs.Operations.{multiple_of, sum_of_polys, product_of_polys}
+use Rattle.linear_terms.specs.Operations.{multiple_of, sum_of_polys, product_of_polys, difference_of_polys}
 use Rattle.transition_formula.specs.declared.loss.Loss.{Loss}
 use Rattle.transition_formula.specs.Loss.{losses_of}
 use Rattle.leaf_cases.specs.declared.division.Part.{Part}
@@ -19,7 +19,7 @@ use Rattle.leaf_cases.specs.declared.step.Relation.{Relation}
 use Rattle.leaf_cases.specs.declared.step.Relation.TheVariants.{Less, LessOrEqual, Greater, GreaterOrEqual, Same, Negative, Positive, Zero}
 use Rattle.leaf_cases.specs.declared.step.Step.{Step}
 use Rattle.leaf_cases.specs.declared.step.Step.TheVariants.{Value, Divide, Test}
-use Rattle.leaf_cases.specs.Claims.{Answer, Claim, difference, limited, lost_of, valued}
+use Rattle.leaf_cases.specs.Claims.{Answer, Claim, limited, lost_of, valued}
 use Rattle.leaf_cases.specs.Division.{zero, one, minus_one, division, all_signs}
 
 -- the value of the first operand, or of the second
@@ -29,23 +29,23 @@ operand n case = unwrap_or (slice_get case.post n) zero
 abbrev pub value_at : Arithmetic → Polynomial → Polynomial → Answer
 value_at Negate a b = multiple_of a (negsuc 0)
 value_at Sum a b = sum_of_polys a b
-value_at Difference a b = difference a b
+value_at Difference a b = difference_of_polys a b
 value_at Product a b = product_of_polys a b
 
 -- a - b + 1
 abbrev pub one_more : Polynomial → Polynomial → Answer
-one_more a b = difference a b >>= λ d. sum_of_polys d one
+one_more a b = difference_of_polys a b >>= λ d. sum_of_polys d one
 
 -- what a test says of its operands, or of its one operand and 0: `a < b` is the row `a - b + 1 <= 0`
 abbrev pub test_at : Relation → Polynomial → Polynomial → Answer
 test_at Less a b = one_more a b
-test_at LessOrEqual a b = difference a b
+test_at LessOrEqual a b = difference_of_polys a b
 test_at Greater a b = one_more b a
-test_at GreaterOrEqual a b = difference b a
-test_at Same a b = difference a b
-test_at Negative a b = difference a minus_one
-test_at Positive a b = difference one a
-test_at Zero a b = difference a zero
+test_at GreaterOrEqual a b = difference_of_polys b a
+test_at Same a b = difference_of_polys a b
+test_at Negative a b = difference_of_polys a minus_one
+test_at Positive a b = difference_of_polys one a
+test_at Zero a b = difference_of_polys a zero
 
 abbrev pub kind_of : Relation → Kind
 kind_of Same = kind.Equal

@@ -5,20 +5,12 @@ ghost use Rattle.linear_terms.specs.declared.error.TermError.TheVariants.{Memory
 ghost use Rattle.linear_terms.specs.Polynomial.{column_of};
 ghost use Rattle.linear_terms.specs.TermError.{cause};
 ghost use Rattle.transition_formula.specs.Loss.{noted, losses_of};
-ghost use Rattle.leaf_cases.specs.Claims.{difference, rows_of, lost_of, valued};
+ghost use Rattle.leaf_cases.specs.Claims.{rows_of, lost_of, valued};
 
 use items::Items;
-use linear_terms::{Case, Col, Kind, Poly, Row, TermError, add, scale};
+use linear_terms::{Case, Col, Kind, Poly, Row, TermError};
 use std::alloc::Global;
 use transition_formula::{FormulaError, Loss};
-
-/// One polynomial less another.
-pub(crate) fn difference(alloc: Global, a: &Poly, b: &Poly) -> Result<Poly, TermError>
-    ensures { Gives cause (λ p. p) result (difference a.now b.now) }
-{
-    let turned = scale(alloc, b, -1)?;
-    add(alloc, a, &turned)
-}
 
 /// One column as a polynomial.
 pub(crate) fn column(alloc: Global, col: Col) -> Result<Poly, FormulaError>

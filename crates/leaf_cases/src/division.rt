@@ -4,9 +4,9 @@ ghost use Rattle.linear_terms.specs.TermError.{cause};
 ghost use Rattle.leaf_cases.specs.Claims.{rows_of, lost_of};
 ghost use Rattle.leaf_cases.specs.Division.{equation, divisor_sign, dividend_sign, lower_bound, upper_bound, division};
 
-use crate::claims::{difference, push_claim};
+use crate::claims::push_claim;
 use items::Items;
-use linear_terms::{Kind, Poly, Row, TermError, add, mul, scale};
+use linear_terms::{Kind, Poly, Row, TermError, add, difference, mul, scale};
 use std::alloc::Global;
 use transition_formula::{FormulaError, Loss};
 

@@ -9,10 +9,10 @@ ghost use Rattle.leaf_cases.specs.Claims.{limited, lost_of, valued};
 ghost use Rattle.leaf_cases.specs.Listed.{AreFew};
 ghost use Rattle.leaf_cases.specs.Steps.{one_more, operand, with_number, value_at, test_at, test_claim, kind_of, part_at, division_at, made_at, lost_at, cases_by, lost_by};
 
-use crate::claims::{column, difference, push_claim, valued, with_value};
+use crate::claims::{column, push_claim, valued, with_value};
 use crate::division::{Division, Part, Signs};
 use items::Items;
-use linear_terms::{Case, Col, Kind, Poly, TermError, add, mul, scale};
+use linear_terms::{Case, Col, Kind, Poly, TermError, add, difference, mul, scale};
 use std::alloc::Global;
 use transition_formula::{FormulaError, Loss};
 

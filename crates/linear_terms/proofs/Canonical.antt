@@ -1,5 +1,6 @@
 -- Terms in print order without zeros, and that the operations keep them so.
-use Rattle.std.proofs.Common.{◌≡◌, Bool, true, false, cond, ℤ, pos, List, [], ◌∷◌, ◌≢◌, Result, Ok, refl, sym, ap, subst, ◌∙◌}
+use Rattle.std.proofs.Common.{◌≡◌, Bool, true, false, cond, ℤ, pos, negsuc, ◌+◌, length, List, [], ◌∷◌, ◌++◌, ◌≢◌, Result, Ok, Err, refl, sym, ap, subst, ◌∙◌}
+use Rattle.std.specs.Prelude.{nat_lt}
 use Rattle.std.specs.List.{AllByRecursion, filter}
 use Rattle.std.specs.List.Sorted.{IsStrictlySortedBy}
 use Rattle.std.specs.Map.{keys_of}
@@ -12,11 +13,15 @@ use Rattle.items.specs.Gives.{◌>>=◌}
 use Rattle.items.proofs.Gives.{on_ok}
 use Rattle.linear_terms.specs.declared.col.Col.{Col}
 use Rattle.linear_terms.specs.declared.error.TermError.{TermError}
+use Rattle.linear_terms.specs.declared.error.TermError.TheVariants.{Degree}
 use Rattle.linear_terms.specs.TermError.{plus, times}
-use Rattle.linear_terms.specs.Mono.{mono_cmp}
+use Rattle.linear_terms.specs.Mono.{mono_cmp, in_order}
 use Rattle.linear_terms.specs.MonoOrder.{mono_cmp_total}
-use Rattle.linear_terms.specs.Polynomial.{Terms, IsCanonical}
-use Rattle.linear_terms.specs.Operations.{kept, put, put_all, times_each}
+use Rattle.linear_terms.specs.Polynomial.{Terms, Polynomial, IsCanonical, constant_of}
+use Rattle.linear_terms.specs.Operations.{kept, put, put_all, sum_of_polys, times_each, multiple_of, difference_of_polys, parts, put_part, add_product, add_row, add_rows, product_of_polys, replaced, add_substituted, substituted}
+
+abbrev done : {X : Type 0} → X → Result X TermError
+done x = Ok x
 
 -- ---- one term and the others
 
@@ -122,6 +127,76 @@ IsCanonical-times_each by (t ∷ ts) made k e =
     (λ c f g. on_ok (times_each ts by) (λ more. Ok (kept t.0 c more)) made g
     (λ more h l. same_made IsCanonical (kept t.0 c more) made l
     (IsCanonical-kept t.0 c more (Before-times_each t.0 by ts more (first_before t ts k) h) (IsCanonical-times_each by ts more (IsCanonical-tail t ts k) h))))
+
+-- ---- polynomials
+
+IsCanonical-made : (ts : Terms) (r : ℤ) (p : Polynomial) → done (record { terms = ts; rest = r }) ≡ Ok p → IsCanonical ts → IsCanonical p.terms
+IsCanonical-made ts r p e k = let same : record { terms = ts; rest = r } ≡ p = cc in subst IsCanonical (ap (λ q. q.terms) same) k
+
+-- a sum has the terms of its left side in order, and a multiple those of the polynomial
+pub IsCanonical-sum_of_polys : (a b p : Polynomial) → sum_of_polys a b ≡ Ok p → IsCanonical a.terms → IsCanonical p.terms
+IsCanonical-sum_of_polys a b p e k =
+    on_ok (put_all a.terms b.terms) (λ ts. plus a.rest b.rest >>= λ r. Ok record { terms = ts; rest = r }) p e
+    (λ ts f g. on_ok (plus a.rest b.rest) (λ r. Ok record { terms = ts; rest = r }) p g
+    (λ r h l. IsCanonical-made ts r p l (IsCanonical-put_all b.terms a.terms ts k f)))
+
+pub IsCanonical-multiple_of : (a : Polynomial) (by : ℤ) (p : Polynomial) → multiple_of a by ≡ Ok p → IsCanonical a.terms → IsCanonical p.terms
+IsCanonical-multiple_of a by p e k =
+    on_ok (times_each a.terms by) (λ ts. times a.rest by >>= λ r. Ok record { terms = ts; rest = r }) p e
+    (λ ts f g. on_ok (times a.rest by) (λ r. Ok record { terms = ts; rest = r }) p g
+    (λ r h l. IsCanonical-made ts r p l (IsCanonical-times_each by a.terms ts k f)))
+
+pub IsCanonical-difference_of_polys : (a b p : Polynomial) → difference_of_polys a b ≡ Ok p → IsCanonical a.terms → IsCanonical p.terms
+IsCanonical-difference_of_polys a b p e k =
+    on_ok (multiple_of b (negsuc 0)) (λ turned. sum_of_polys a turned) p e (λ turned f g. IsCanonical-sum_of_polys a turned p g k)
+
+-- ---- products, whatever the factors are
+
+same_poly : (a p : Polynomial) → done a ≡ Ok p → IsCanonical a.terms → IsCanonical p.terms
+same_poly a p e k = let same : a ≡ p = cc in subst IsCanonical (ap (λ q. q.terms) same) k
+
+IsCanonical-put_part : (m : List Col) (c : ℤ) (a p : Polynomial) → put_part m c a ≡ Ok p → IsCanonical a.terms → IsCanonical p.terms
+IsCanonical-put_part [] c a p e k = on_ok (plus a.rest c) (λ r. Ok record { terms = a.terms; rest = r }) p e (λ r f g. IsCanonical-made a.terms r p g k)
+IsCanonical-put_part (x ∷ m) c a p e k =
+    on_ok (put (x ∷ m) c a.terms) (λ ts. Ok record { terms = ts; rest = a.rest }) p e
+    (λ ts f g. IsCanonical-made ts a.rest p g (IsCanonical-put (x ∷ m) c a.terms ts k f))
+
+IsCanonical-add_product : (m : List Col) (c : ℤ) (n : List Col) (d : ℤ) (a p : Polynomial) → add_product m c n d a ≡ Ok p → IsCanonical a.terms → IsCanonical p.terms
+IsCanonical-add_product m c n d a p e k = go (nat_lt 4 (length m + length n)) e
+  where
+    go : (b : Bool) → cond b (Err Degree) (times c d >>= λ f. put_part (in_order (m ++ n)) f a) ≡ Ok p → IsCanonical p.terms
+    go true f = cc
+    go false f = on_ok (times c d) (λ g. put_part (in_order (m ++ n)) g a) p f (λ g h l. IsCanonical-put_part (in_order (m ++ n)) g a p l k)
+
+IsCanonical-add_row : (m : List Col) (c : ℤ) (ts : Terms) (a p : Polynomial) → add_row m c ts a ≡ Ok p → IsCanonical a.terms → IsCanonical p.terms
+IsCanonical-add_row m c [] a p e k = same_poly a p e k
+IsCanonical-add_row m c (t ∷ ts) a p e k =
+    on_ok (add_product m c t.0 t.1 a) (λ next. add_row m c ts next) p e
+    (λ next f g. IsCanonical-add_row m c ts next p g (IsCanonical-add_product m c t.0 t.1 a next f k))
+
+IsCanonical-add_rows : (ts others : Terms) (a p : Polynomial) → add_rows ts others a ≡ Ok p → IsCanonical a.terms → IsCanonical p.terms
+IsCanonical-add_rows [] others a p e k = same_poly a p e k
+IsCanonical-add_rows (t ∷ ts) others a p e k =
+    on_ok (add_row t.0 t.1 others a) (λ next. add_rows ts others next) p e
+    (λ next f g. IsCanonical-add_rows ts others next p g (IsCanonical-add_row t.0 t.1 others a next f k))
+
+pub IsCanonical-product_of_polys : (a b p : Polynomial) → product_of_polys a b ≡ Ok p → IsCanonical p.terms
+IsCanonical-product_of_polys a b p e = IsCanonical-add_rows (parts a) (parts b) (constant_of (pos 0)) p e IsCanonical-nil
+
+-- ---- substitutions, whatever is put in
+
+IsCanonical-add_substituted : (put_in : Col → Polynomial) (ts : Terms) (a p : Polynomial) → add_substituted put_in ts a ≡ Ok p → IsCanonical a.terms → IsCanonical p.terms
+IsCanonical-add_substituted put_in [] a p e k = same_poly a p e k
+IsCanonical-add_substituted put_in (t ∷ ts) a p e k =
+    on_ok (replaced put_in t.0 t.1) (λ term. sum_of_polys a term >>= λ next. add_substituted put_in ts next) p e
+    (λ term f g. on_ok (sum_of_polys a term) (λ next. add_substituted put_in ts next) p g
+    (λ next h l. IsCanonical-add_substituted put_in ts next p l (IsCanonical-sum_of_polys a term next h k)))
+
+pub IsCanonical-substituted : (put_in : Col → Polynomial) (a p : Polynomial) → substituted put_in a ≡ Ok p → IsCanonical p.terms
+IsCanonical-substituted put_in a p e =
+    on_ok (add_substituted put_in a.terms (constant_of (pos 0))) (λ sum. plus sum.rest a.rest >>= λ r. Ok record { terms = sum.terms; rest = r }) p e
+    (λ sum f g. on_ok (plus sum.rest a.rest) (λ r. Ok record { terms = sum.terms; rest = r }) p g
+    (λ r h l. IsCanonical-made sum.terms r p l (IsCanonical-add_substituted put_in a.terms (constant_of (pos 0)) sum f IsCanonical-nil)))
 
 -- ---- some of the terms
 

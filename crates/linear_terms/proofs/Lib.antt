@@ -1,6 +1,7 @@
 pub mod Canonical
 pub mod Columns
 pub mod Equal
+pub mod Faults
 pub mod Lookups
 pub mod Merge
 pub mod Normals
@@ -9,3 +10,4 @@ pub mod Order
 pub mod Placed
 pub mod Steps
 pub mod Values
+pub mod Worth

@@ -1,5 +1,5 @@
 -- Normal forms: that they say as much as their rows, and that they are normal.
-use Rattle.std.proofs.Common.{◌≡◌, ◌≢◌, ℕ, Bool, true, false, cond, ℤ, pos, negsuc, ◌+◌, ◌*◌, ◌<◌, ◌≤◌, length, drop, get_or, ◌+ℤ◌, ◌*ℤ◌, ◌≤ℤ◌, ◌<ℤ◌, List, [], ◌∷◌, Result, Ok, Err, refl, sym, ap, subst, ◌∙◌, arith}
+use Rattle.std.proofs.Common.{◌≡◌, ◌≢◌, ℕ, zero, suc, Bool, true, false, cond, ℤ, pos, negsuc, ◌+◌, ◌*◌, ◌<◌, ◌≤◌, length, drop, get_or, ◌+ℤ◌, ◌*ℤ◌, ◌≤ℤ◌, ◌<ℤ◌, List, [], ◌∷◌, Result, Ok, Err, refl, sym, ap, subst, ◌∙◌, arith}
 use Rattle.std.specs.Prelude.{neg_ℤ, unsigned_abs, int_div, int_le, int_lt, IsTrue, ◌↔◌, IfOk}
 use Rattle.std.specs.Int.{◌∣◌}
 use Rattle.std.specs.List.{AllByRecursion}
@@ -27,10 +27,10 @@ use Rattle.linear_terms.specs.declared.row.Normal.TheVariants.{Constant, Kept}
 use Rattle.linear_terms.specs.TermError.{times, cause}
 use Rattle.linear_terms.specs.Polynomial.{Terms, Polynomial, IsCanonical}
 use Rattle.linear_terms.specs.Operations.{kept, times_each, multiple_of}
-use Rattle.linear_terms.specs.Row.{IsWithin, is_within, divided, starts_negative, turned, reduced, normal_form, SaysAsMuch, StartsPositive, IsNormal}
+use Rattle.linear_terms.specs.Row.{IsWithin, is_within, divided, starts_negative, with_positive_first, reduced, normal_form, SaysAsMuch, StartsPositive, IsNormal, HasCanonicalTerms}
 use Rattle.linear_terms.specs.Value.{Valuation, mono_value, terms_value, value_of}
 use Rattle.std.proofs.lemmas.List.{drop_all}
-use Rattle.linear_terms.proofs.Canonical.{first_some}
+use Rattle.linear_terms.proofs.Canonical.{first_some, IsCanonical-multiple_of}
 use Rattle.linear_terms.proofs.Steps.{at_index}
 use Rattle.linear_terms.proofs.Values.{times-value, int_eq-zero, multiple_of-value}
 
@@ -175,8 +175,8 @@ StartsPositive-kept t ts n some = by_lt_z (pos 0) t.1 (λ above. above) (λ belo
     tie : t.1 ≤ℤ pos 0 → int_lt t.1 (pos 0) ≡ false → t.1 ≡ pos 0
     tie h k = omega (arith, ints)
 
-turned-zero : (at : Valuation) (p q : Polynomial) → turned p ≡ Ok q → (value_of at q ≡ pos 0) ↔ (value_of at p ≡ pos 0)
-turned-zero at p q e = go (starts_negative p.terms) e
+with_positive_first-zero : (at : Valuation) (p q : Polynomial) → with_positive_first p ≡ Ok q → (value_of at q ≡ pos 0) ↔ (value_of at p ≡ pos 0)
+with_positive_first-zero at p q e = go (starts_negative p.terms) e
   where
     negated : (u v : ℤ) → u ≡ v *ℤ negsuc 0 → (u ≡ pos 0) ↔ (v ≡ pos 0)
     negated u v e = (λ h. omega (arith, ints), λ h. omega (arith, ints))
@@ -193,8 +193,8 @@ StartsPositive-not_negative (t ∷ ts) c one n = StartsPositive-kept t ts n (fir
 abbrev IsReduced : Polynomial → Type 0
 IsReduced p = (gcd_of_all (values_of p.terms) ≡ 1) × StartsPositive p.terms
 
-turned-IsReduced : (p q : Polynomial) → IsCanonical p.terms → gcd_of_all (values_of p.terms) ≡ 1 → turned p ≡ Ok q → IsReduced q
-turned-IsReduced p q c one e = go (starts_negative p.terms) refl e
+with_positive_first-IsReduced : (p q : Polynomial) → IsCanonical p.terms → gcd_of_all (values_of p.terms) ≡ 1 → with_positive_first p ≡ Ok q → IsReduced q
+with_positive_first-IsReduced p q c one e = go (starts_negative p.terms) refl e
   where
     go : (b : Bool) → starts_negative p.terms ≡ b → cond b (multiple_of p (negsuc 0)) (Ok p) ≡ Ok q → IsReduced q
     go true n f =
@@ -235,11 +235,11 @@ reduced-SaysAsMuch at AtMost g p n h e f =
     (rounded (terms_value at (divided g p.terms)) (terms_value at p.terms) p.rest g h (value_of-over at g p e))
 reduced-SaysAsMuch at Equal g p n h e f = go (divides g (unsigned_abs p.rest)) refl f
   where
-    go : (b : Bool) → divides g (unsigned_abs p.rest) ≡ b → cond b (turned (over g p (int_div p.rest (pos g))) >>= λ q. Ok (Kept (row_of Equal q))) (Ok (Constant false)) ≡ Ok n → SaysAsMuch at (row_of Equal p) n
+    go : (b : Bool) → divides g (unsigned_abs p.rest) ≡ b → cond b (with_positive_first (over g p (int_div p.rest (pos g))) >>= λ q. Ok (Kept (row_of Equal q))) (Ok (Constant false)) ≡ Ok n → SaysAsMuch at (row_of Equal p) n
     go true d k =
-        on_ok (turned (over g p (int_div p.rest (pos g)))) (λ q. Ok (Kept (row_of Equal q))) n k
+        on_ok (with_positive_first (over g p (int_div p.rest (pos g)))) (λ q. Ok (Kept (row_of Equal q))) n k
         (λ q l m. same_made (SaysAsMuch at (row_of Equal p)) (Kept (row_of Equal q)) n m
-        (both (turned-zero at (over g p (int_div p.rest (pos g))) q l)
+        (both (with_positive_first-zero at (over g p (int_div p.rest (pos g))) q l)
         (exact (terms_value at (divided g p.terms)) (terms_value at p.terms) (int_div p.rest (pos g)) p.rest g h (value_of-over at g p e) (int_div-*ℤ p.rest g (divides-true g (unsigned_abs p.rest) d)))))
     go false d k =
         same_made (SaysAsMuch at (row_of Equal p)) (Constant false) n k
@@ -250,10 +250,10 @@ reduced-IsNormal AtMost g p n h e c f =
     same_made IsNormal (Kept (row_of AtMost (over g p (ceiling_of p.rest g)))) n f (gcd_of_all-over g p h e, λ l. cc)
 reduced-IsNormal Equal g p n h e c f = go (divides g (unsigned_abs p.rest)) f
   where
-    go : (b : Bool) → cond b (turned (over g p (int_div p.rest (pos g))) >>= λ q. Ok (Kept (row_of Equal q))) (Ok (Constant false)) ≡ Ok n → IsNormal n
+    go : (b : Bool) → cond b (with_positive_first (over g p (int_div p.rest (pos g))) >>= λ q. Ok (Kept (row_of Equal q))) (Ok (Constant false)) ≡ Ok n → IsNormal n
     go true k =
-        on_ok (turned (over g p (int_div p.rest (pos g)))) (λ q. Ok (Kept (row_of Equal q))) n k
-        (λ q l m. let parts = turned-IsReduced (over g p (int_div p.rest (pos g))) q (IsCanonical-divided g p.terms e c) (gcd_of_all-over g p h e) l in
+        on_ok (with_positive_first (over g p (int_div p.rest (pos g)))) (λ q. Ok (Kept (row_of Equal q))) n k
+        (λ q l m. let parts = with_positive_first-IsReduced (over g p (int_div p.rest (pos g))) q (IsCanonical-divided g p.terms e c) (gcd_of_all-over g p h e) l in
         same_made IsNormal (Kept (row_of Equal q)) n m (parts.0, λ e. parts.1))
     go false k = same_made IsNormal (Constant false) n k tt
 
@@ -284,6 +284,48 @@ normal_form-some row h = go row.poly.terms h
     go : (ts : Terms) → 0 < gcd_of_all (values_of ts) → normal_form (row_of row.kind (record { terms = ts; rest = row.poly.rest })) ≡ reduced row.kind (gcd_of_all (values_of ts)) (record { terms = ts; rest = row.poly.rest })
     go [] h = absurd (omega arith)
     go (t ∷ ts) h = refl
+
+-- ---- laws of normal forms
+
+-- a law of all rows without columns and of all reduced rows is one of all normal forms
+normal_form-law : (P : Normal → Type 0) (row : Row) (n : Normal) → IsCanonical row.poly.terms → normal_form row ≡ Ok n
+    → (gcd_of_all (values_of row.poly.terms) ≡ 0 → P (Constant (is_within row.kind row.poly.rest)))
+    → (0 < gcd_of_all (values_of row.poly.terms) → reduced row.kind (gcd_of_all (values_of row.poly.terms)) row.poly ≡ Ok n → P n) → P n
+normal_form-law P row n c e without_columns with_columns = go (gcd_of_all (values_of row.poly.terms)) refl
+  where
+    go : (g : ℕ) → gcd_of_all (values_of row.poly.terms) ≡ g → P n
+    go zero z = same_made P (Constant (is_within row.kind row.poly.rest)) n (sym (normal_form-none row c z) ∙ e) (without_columns z)
+    go (suc g) z = let some : 0 < gcd_of_all (values_of row.poly.terms) = omega arith in with_columns some (sym (normal_form-some row some) ∙ e)
+
+pub normal_form-SaysAsMuch : (at : Valuation) (row : Row) (n : Normal) → IsCanonical row.poly.terms → normal_form row ≡ Ok n → SaysAsMuch at row n
+normal_form-SaysAsMuch at row n c e =
+    normal_form-law (SaysAsMuch at row) row n c e (SaysAsMuch-none at row c) (λ some f. reduced-SaysAsMuch at row.kind (gcd_of_all (values_of row.poly.terms)) row.poly n some refl f)
+
+pub normal_form-IsNormal : (row : Row) (n : Normal) → IsCanonical row.poly.terms → normal_form row ≡ Ok n → IsNormal n
+normal_form-IsNormal row n c e =
+    normal_form-law IsNormal row n c e (λ z. tt) (λ some f. reduced-IsNormal row.kind (gcd_of_all (values_of row.poly.terms)) row.poly n some refl c f)
+
+with_positive_first-IsCanonical : (p q : Polynomial) → IsCanonical p.terms → with_positive_first p ≡ Ok q → IsCanonical q.terms
+with_positive_first-IsCanonical p q c e = go (starts_negative p.terms) e
+  where
+    go : (b : Bool) → cond b (multiple_of p (negsuc 0)) (Ok p) ≡ Ok q → IsCanonical q.terms
+    go true f = IsCanonical-multiple_of p (negsuc 0) q f c
+    go false f = let same : p ≡ q = cc in subst (λ r. IsCanonical r.terms) same c
+
+reduced-HasCanonicalTerms : (k : Kind) (g : ℕ) (p : Polynomial) (n : Normal) → g ≡ gcd_of_all (values_of p.terms) → IsCanonical p.terms → reduced k g p ≡ Ok n → HasCanonicalTerms n
+reduced-HasCanonicalTerms AtMost g p n e c f =
+    same_made HasCanonicalTerms (Kept (row_of AtMost (over g p (ceiling_of p.rest g)))) n f (IsCanonical-divided g p.terms e c)
+reduced-HasCanonicalTerms Equal g p n e c f = go (divides g (unsigned_abs p.rest)) f
+  where
+    go : (b : Bool) → cond b (with_positive_first (over g p (int_div p.rest (pos g))) >>= λ q. Ok (Kept (row_of Equal q))) (Ok (Constant false)) ≡ Ok n → HasCanonicalTerms n
+    go true k =
+        on_ok (with_positive_first (over g p (int_div p.rest (pos g)))) (λ q. Ok (Kept (row_of Equal q))) n k
+        (λ q l m. same_made HasCanonicalTerms (Kept (row_of Equal q)) n m (with_positive_first-IsCanonical (over g p (int_div p.rest (pos g))) q (IsCanonical-divided g p.terms e c) l))
+    go false k = same_made HasCanonicalTerms (Constant false) n k tt
+
+pub normal_form-HasCanonicalTerms : (row : Row) (n : Normal) → IsCanonical row.poly.terms → normal_form row ≡ Ok n → HasCanonicalTerms n
+normal_form-HasCanonicalTerms row n c e =
+    normal_form-law HasCanonicalTerms row n c e (λ z. tt) (λ some f. reduced-HasCanonicalTerms row.kind (gcd_of_all (values_of row.poly.terms)) row.poly n refl c f)
 
 -- ---- for the code: what a call that answers the reduced row answers of the row
 

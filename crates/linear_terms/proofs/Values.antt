@@ -1,5 +1,5 @@
 -- What the operations on terms do to values.
-use Rattle.std.proofs.Common.{◌≡◌, Bool, true, false, cond, ℤ, pos, ◌+ℤ◌, ◌*ℤ◌, List, [], ◌∷◌, ◌++◌, ◌+◌, length, fold, Result, Ok, Err, refl, sym, ap, ◌∙◌, arith}
+use Rattle.std.proofs.Common.{◌≡◌, Bool, true, false, cond, ℤ, pos, negsuc, ◌+ℤ◌, ◌-ℤ◌, ◌*ℤ◌, List, [], ◌∷◌, ◌++◌, ◌+◌, length, fold, Result, Ok, Err, refl, sym, ap, ◌∙◌, arith}
 use Rattle.std.specs.Prelude.{nat_lt}
 use Rattle.std.specs.Ordering.{int_eq, is_lt, match_ordering}
 use Rattle.std.specs.declared.cmp.Ordering.{Ordering}
@@ -19,7 +19,7 @@ use Rattle.linear_terms.specs.Col.{col_cmp}
 use Rattle.linear_terms.specs.TermError.{wide, plus, times}
 use Rattle.linear_terms.specs.Mono.{mono_cmp, placed, in_order}
 use Rattle.linear_terms.specs.Polynomial.{Terms, Polynomial, constant_of}
-use Rattle.linear_terms.specs.Operations.{kept, put, put_all, sum_of_polys, times_each, multiple_of, parts, put_part, add_product, add_row, add_rows, product_of_polys, product_on, product_in, replaced, add_substituted, substituted}
+use Rattle.linear_terms.specs.Operations.{kept, put, put_all, sum_of_polys, times_each, multiple_of, difference_of_polys, parts, put_part, add_product, add_row, add_rows, product_of_polys, product_on, product_in, replaced, add_substituted, substituted}
 use Rattle.linear_terms.specs.Value.{Valuation, mono_value, terms_value, value_of}
 use Rattle.linear_terms.proofs.Order.{mono_tie}
 
@@ -169,6 +169,14 @@ multiple_of-value at a by p e =
     together : (us : Terms) (s : ℤ) → terms_value at us ≡ terms_value at a.terms *ℤ by → s ≡ a.rest *ℤ by → terms_value at us +ℤ s ≡ value_of at a *ℤ by
     together us s f g = rw (f, g) (sym (+ℤ-*ℤ (terms_value at a.terms) a.rest by))
 
+pub difference_of_polys-value : (at : Valuation) (a b p : Polynomial) → difference_of_polys a b ≡ Ok p → value_of at p ≡ value_of at a -ℤ value_of at b
+difference_of_polys-value at a b p e =
+    on_ok (multiple_of b (negsuc 0)) (λ turned. sum_of_polys a turned) p e
+    (λ turned f g. sum_of_polys-value at a turned p g ∙ less (value_of at a) (value_of at b) (value_of at turned) (multiple_of-value at b (negsuc 0) turned f))
+  where
+    less : (u v w : ℤ) → w ≡ v *ℤ negsuc 0 → u +ℤ w ≡ u -ℤ v
+    less u v w e = omega (arith, ints)
+
 -- ---- products
 
 value_of-parts : (at : Valuation) (a : Polynomial) → terms_value at (parts a) ≡ value_of at a
@@ -311,6 +319,8 @@ substituted-value at put_in a p e =
 pub ruleset sum_of_polys_value = (sum_of_polys-value)
 
 pub ruleset multiple_of_value = (multiple_of-value)
+
+pub ruleset difference_of_polys_value = (difference_of_polys-value)
 
 pub ruleset product_of_polys_value = (product_of_polys-value)
 

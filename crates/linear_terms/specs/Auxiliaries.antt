@@ -1,4 +1,4 @@
--- One auxiliary of a polynomial: where it occurs, what is put in for it, and new numbers for all.
+-- One column of a polynomial: where it occurs; what is put in for an auxiliary, and new numbers for all of them.
 use Rattle.std.specs.Prelude.{◌<◌, ℕ, List, map, Bool, true, false, ◌==◌, nat_lt, not, IsTrue, if◌then◌else◌}
 use Rattle.std.specs.List.{list_any, filter}
 use Rattle.linear_terms.specs.declared.col.Col.{Col}
@@ -17,6 +17,15 @@ has_auxiliary n m = list_any (is_auxiliary n) m
 -- the auxiliary n occurs in the polynomial
 abbrev pub occurs : ℕ → Polynomial → Bool
 occurs n p = list_any (λ t. has_auxiliary n t.0) p.terms
+
+-- the column is the entry column n
+abbrev pub is_entry : ℕ → Col → Bool
+is_entry n (At m) = m == n
+is_entry n (Aux m) = false
+
+-- the entry column n occurs in the polynomial
+abbrev pub has_entry : ℕ → Polynomial → Bool
+has_entry n p = list_any (λ t. list_any (is_entry n) t.0) p.terms
 
 -- the polynomial without the terms in which the auxiliary n occurs
 abbrev pub without : ℕ → Polynomial → Polynomial

@@ -4,6 +4,7 @@ pub use Rattle.whole_numbers.specs.Fits
 pub mod Auxiliaries
 pub mod Col
 pub mod Equality
+pub mod Expressions
 pub mod Lookup
 pub mod Mono
 pub mod MonoFields
@@ -13,4 +14,5 @@ pub mod Polynomial
 pub mod Replacement
 pub mod Row
 pub mod TermError
+pub mod Texts
 pub mod Value

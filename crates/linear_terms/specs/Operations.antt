@@ -1,6 +1,6 @@
 -- What the operations on polynomials answer: a polynomial, or the first step that leaves 128 bits or passes degree 4.
 -- Sums run over monomials in print order, the constant last.
-use Rattle.std.specs.Prelude.{◌+◌, ℤ, pos, List, [], ◌∷◌, ◌++◌, length, Result, Ok, Err, nat_lt, if◌then◌else◌}
+use Rattle.std.specs.Prelude.{◌+◌, ℤ, pos, negsuc, List, [], ◌∷◌, ◌++◌, length, Result, Ok, Err, nat_lt, if◌then◌else◌}
 use Rattle.std.specs.Ordering.{int_eq, match_ordering}
 use Rattle.items.specs.Gives.{◌>>=◌}
 use Rattle.linear_terms.specs.declared.col.Col.{Col}
@@ -38,6 +38,10 @@ times_each (t ∷ ts) by = times t.1 by >>= λ c. times_each ts by >>= λ made. 
 
 abbrev pub multiple_of : Polynomial → ℤ → Result Polynomial TermError
 multiple_of p by = times_each p.terms by >>= λ ts. times p.rest by >>= λ r. Ok record { terms = ts; rest = r }
+
+-- what is subtracted is multiplied by -1 and then added
+abbrev pub difference_of_polys : Polynomial → Polynomial → Result Polynomial TermError
+difference_of_polys a b = multiple_of b (negsuc 0) >>= λ turned. sum_of_polys a turned
 
 -- ---- products: each pair is multiplied, then added; the pairs in the order of the first, then of the second
 

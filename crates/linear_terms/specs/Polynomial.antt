@@ -27,6 +27,10 @@ constant_of value = record { terms = []; rest = value }
 abbrev pub column_of : Col → Polynomial
 column_of col = record { terms = (col ∷ [], pos 1) ∷ []; rest = pos 0 }
 
+-- the polynomial with 0 as its constant
+abbrev pub without_constant : Polynomial → Polynomial
+without_constant p = record { terms = p.terms; rest = pos 0 }
+
 -- the coefficient of a monomial, and zero where it is not there
 abbrev pub coefficient_in : Terms → List Col → ℤ
 coefficient_in [] m = pos 0

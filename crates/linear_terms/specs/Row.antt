@@ -1,5 +1,6 @@
 -- Rows, when they hold, and their normal form.
-use Rattle.std.specs.Prelude.{◌≡◌, ℤ, pos, negsuc, ◌≤ℤ◌, ◌<ℤ◌, ◌↔◌, IsTrue, int_le, int_lt, int_div, unsigned_abs, ℕ, [], ◌∷◌, map, Bool, false, Result, Ok, if◌then◌else◌}
+use Rattle.std.specs.Prelude.{◌≡◌, ℤ, pos, negsuc, ◌≤ℤ◌, ◌<ℤ◌, ◌↔◌, IsTrue, int_le, int_lt, int_div, unsigned_abs, ℕ, All, List, [], ◌∷◌, map, Bool, false, Result, Ok, Err, if◌then◌else◌}
+use Rattle.std.specs.List.{AllByRecursion}
 use Rattle.std.specs.Ordering.{int_eq}
 use Rattle.std.specs.Map.{values_of}
 use Rattle.items.specs.Gives.{◌>>=◌}
@@ -10,7 +11,8 @@ use Rattle.linear_terms.specs.declared.row.Row.{Row}
 use Rattle.linear_terms.specs.declared.row.Normal.{Normal}
 use Rattle.linear_terms.specs.declared.row.Normal.TheVariants.{Constant, Kept}
 use Rattle.linear_terms.specs.declared.error.TermError.{TermError}
-use Rattle.linear_terms.specs.Polynomial.{Terms, Polynomial}
+use Rattle.linear_terms.specs.TermError.{times}
+use Rattle.linear_terms.specs.Polynomial.{Terms, Polynomial, IsCanonical}
 use Rattle.linear_terms.specs.Operations.{multiple_of}
 use Rattle.linear_terms.specs.Value.{Valuation, value_of}
 
@@ -22,6 +24,14 @@ IsWithin Equal z = z ≡ pos 0
 -- the row is true under numbers for its columns
 abbrev pub RowHolds : Valuation → Row → Type 0
 RowHolds at row = IsWithin row.kind (value_of at row.poly)
+
+-- each of the rows is true
+abbrev pub RowsHold : Valuation → List Row → Type 0
+RowsHold at rows = AllByRecursion (RowHolds at) rows
+
+-- each of the rows has its monomials in print order, each once, with coefficients that are not zero
+abbrev pub AreCanonical : List Row → Type 0
+AreCanonical rows = All (λ (row : Row). IsCanonical row.poly.terms) rows
 
 -- the same test for a number that is known
 abbrev pub is_within : Kind → ℤ → Bool
@@ -38,8 +48,8 @@ starts_negative [] = false
 starts_negative (t ∷ ts) = int_lt t.1 (pos 0)
 
 -- the signs turned where the first coefficient is negative
-abbrev pub turned : Polynomial → Result Polynomial TermError
-turned p = if starts_negative p.terms then multiple_of p (negsuc 0) else Ok p
+abbrev pub with_positive_first : Polynomial → Result Polynomial TermError
+with_positive_first p = if starts_negative p.terms then multiple_of p (negsuc 0) else Ok p
 
 -- of a row with columns, by the greatest common divisor g of its coefficients
 abbrev pub reduced : Kind → ℕ → Polynomial → Result Normal TermError
@@ -47,7 +57,7 @@ reduced AtMost g p =
     Ok (Kept record { poly = record { terms = divided g p.terms; rest = ceiling_of p.rest g }; kind = AtMost })
 reduced Equal g p =
     if divides g (unsigned_abs p.rest)
-    then (turned record { terms = divided g p.terms; rest = int_div p.rest (pos g) } >>= λ q. Ok (Kept record { poly = q; kind = Equal }))
+    then (with_positive_first record { terms = divided g p.terms; rest = int_div p.rest (pos g) } >>= λ q. Ok (Kept record { poly = q; kind = Equal }))
     else Ok (Constant false)
 
 -- A row without columns is true or false. Else the coefficients are divided by their greatest common divisor; the constant of
@@ -75,3 +85,11 @@ StartsPositive (t ∷ ts) = pos 0 <ℤ t.1
 abbrev pub IsNormal : Normal → Type 0
 IsNormal (Constant holds) = Unit {0}
 IsNormal (Kept row) = (gcd_of_all (values_of row.poly.terms) ≡ 1) × (row.kind ≡ Equal → StartsPositive row.poly.terms)
+
+abbrev pub HasCanonicalTerms : Normal → Type 0
+HasCanonicalTerms (Constant holds) = Unit {0}
+HasCanonicalTerms (Kept row) = IsCanonical row.poly.terms
+
+-- the fault of a number whose sign cannot be turned
+abbrev pub IsTurnFault : TermError → Type 0
+IsTurnFault e = (number : ℤ) × (times number (negsuc 0) ≡ Err e)

@@ -8,7 +8,7 @@ pub enum Col {
 }
 
 impl Col {
-    ghost use Rattle.linear_terms.specs.Auxiliaries.{is_auxiliary, is_numbered, renumbered_column};
+    ghost use Rattle.linear_terms.specs.Auxiliaries.{is_auxiliary, is_entry, is_numbered, renumbered_column};
     ghost use Rattle.linear_terms.specs.Replacement.{IsBelow};
 
     /// Whether this is the auxiliary of that number.
@@ -18,6 +18,16 @@ impl Col {
         match self {
             Col::At(_) => false,
             Col::Aux(number) => number == aux,
+        }
+    }
+
+    /// Whether this is the entry column of that number.
+    pub(crate) fn is_entry(self, at: u32) -> bool
+        ensures { result ≡ is_entry at self }
+    {
+        match self {
+            Col::At(number) => number == at,
+            Col::Aux(_) => false,
         }
     }
 

@@ -6,6 +6,7 @@
 mod auxiliaries;
 mod col;
 mod error;
+mod expressions;
 mod mono;
 mod multiply;
 mod normalise;
@@ -14,20 +15,18 @@ mod row;
 mod scaling;
 mod substitute;
 mod sums;
-#[cfg(test)]
-mod tables;
-#[cfg(test)]
-mod tests;
+mod text;
 mod total;
 
 pub use auxiliaries::{renumbered, subst_aux, without};
 pub use col::Col;
 pub use error::TermError;
+pub use expressions::{combination, difference, negation};
 pub use mono::Mono;
 pub use multiply::mul;
 pub use normalise::normal;
 pub use poly::Poly;
-pub use row::{Case, Kind, Normal, Row};
+pub use row::{Case, Kind, Normal, Row, see_rows};
 pub use scaling::scale;
 pub use substitute::subst;
 pub use sums::add;

@@ -1,11 +1,11 @@
 ghost use Rattle.std.specs.Prelude.{◌≡◌, ◌+◌, ◌-◌, ◌<◌, ◌≤◌, [], ◌∷◌, ◌++◌, length, take, drop, fold, map, slice_index, All, ◌↔◌, IsTrue, Some, refl};
-ghost use Rattle.std.specs.List.{list_all};
+ghost use Rattle.std.specs.List.{list_all, list_any};
 ghost use Rattle.std.specs.Option.{SomeIff};
 ghost use Rattle.std.specs.Ordering.{eq_by_cmp, is_lt};
 ghost use Rattle.linear_terms.specs.Col.{col_cmp};
 ghost use Rattle.std.specs.Cmp.{partial_order_from_agreeing_total, partial_equiv_from_equiv, eq_by_cmp_equiv};
 ghost use Rattle.linear_terms.specs.Mono.{mono_cmp, in_order, is_in_order, placed};
-ghost use Rattle.linear_terms.specs.Auxiliaries.{has_auxiliary, is_numbered, renumbered_column, KeepsOrder};
+ghost use Rattle.linear_terms.specs.Auxiliaries.{has_auxiliary, is_entry, is_numbered, renumbered_column, KeepsOrder};
 ghost use Rattle.linear_terms.specs.Replacement.{IsBelow};
 ghost use Rattle.linear_terms.specs.MonoOrder.{mono_cmp_total};
 
@@ -102,6 +102,13 @@ impl Mono {
         ensures { result ≡ has_auxiliary aux self.now }
     {
         self.columns().iter().any(|col| col.is_auxiliary(aux))
+    }
+
+    /// Whether the entry column is one of the columns.
+    pub(crate) fn has_entry(&self, at: u32) -> bool
+        ensures { result ≡ list_any (is_entry at) self.now }
+    {
+        self.columns().iter().any(|col| col.is_entry(at))
     }
 
     /// The columns, in order.

@@ -1,10 +1,11 @@
-ghost use Rattle.std.specs.Prelude.{◌≡◌, ◌<◌, pos, int_div, IfOk};
+ghost use Rattle.std.specs.Prelude.{◌≡◌, ◌≢◌, ◌<◌, pos, int_div, IfOk, IfErr};
 ghost use Rattle.std.specs.Map.{values_of};
 ghost use Rattle.items.specs.Gives.{Gives};
 ghost use Rattle.whole_numbers.specs.Divisors.{gcd_of_all};
 ghost use Rattle.linear_terms.specs.TermError.{cause};
+ghost use Rattle.linear_terms.specs.declared.error.TermError.TheVariants.{Memory};
 ghost use Rattle.linear_terms.specs.Polynomial.{IsCanonical};
-ghost use Rattle.linear_terms.specs.Row.{normal_form, reduced, divided, turned, starts_negative, is_within, SaysAsMuch, IsNormal};
+ghost use Rattle.linear_terms.specs.Row.{normal_form, reduced, divided, with_positive_first, starts_negative, is_within, SaysAsMuch, IsNormal, IsTurnFault};
 ghost use Rattle.linear_terms.specs.Value.{Valuation};
 
 use crate::{Kind, Mono, Normal, Poly, Row, TermError, scale};
@@ -20,6 +21,7 @@ pub fn normal(alloc: Global, row: &Row) -> Result<Normal, TermError>
     ensures exact { Gives cause (λ n. n) result (normal_form row.now) }
     ensures same { (at : Valuation) → IfOk result (SaysAsMuch at row.now) }
     ensures is_normal { IfOk result IsNormal }
+    ensures fault { IfErr result (λ e. e ≢ Memory → IsTurnFault e) }
 {
     let divisor = divisor(&row.poly);
     if divisor == 0 {
@@ -73,7 +75,7 @@ fn reduced(alloc: Global, kind: Kind, divisor: u128, poly: &Poly) -> Result<Norm
                 return Ok(Normal::Constant(false));
             }
             let rest = quotient(poly.rest, divisor);
-            let poly = turned(alloc, divided(alloc, poly, divisor, rest)?)?;
+            let poly = with_positive_first(alloc, divided(alloc, poly, divisor, rest)?)?;
             Ok(Normal::Kept(Row { poly, kind }))
         }
     }
@@ -105,8 +107,8 @@ fn quotients(
 }
 
 /// The signs turned where the first coefficient is negative.
-fn turned(alloc: Global, poly: Poly) -> Result<Poly, TermError>
-    ensures { Gives cause (λ p. p) result (turned poly) }
+fn with_positive_first(alloc: Global, poly: Poly) -> Result<Poly, TermError>
+    ensures { Gives cause (λ p. p) result (with_positive_first poly) }
 {
     if starts_negative(poly.terms.as_slice()) {
         scale(alloc, &poly, -1)

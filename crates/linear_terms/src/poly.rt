@@ -3,8 +3,8 @@ ghost use Rattle.std.specs.Cmp.{partial_equiv_from_equiv};
 ghost use Rattle.items.specs.Gives.{Gives};
 ghost use Rattle.std.specs.List.{list_any};
 ghost use Rattle.linear_terms.specs.TermError.{cause};
-ghost use Rattle.linear_terms.specs.Auxiliaries.{has_auxiliary, occurs};
-ghost use Rattle.linear_terms.specs.Polynomial.{constant_of, column_of, coefficient_in, IsCanonical};
+ghost use Rattle.linear_terms.specs.Auxiliaries.{has_auxiliary, occurs, has_entry};
+ghost use Rattle.linear_terms.specs.Polynomial.{constant_of, column_of, without_constant, coefficient_in, IsCanonical};
 ghost use Rattle.linear_terms.specs.Replacement.{IsBelow};
 ghost use Rattle.linear_terms.specs.Equality.{poly_eq, poly_eq_equiv};
 
@@ -111,6 +111,26 @@ impl Poly {
         ensures { result ≡ occurs aux self.now }
     {
         any_has_auxiliary(self.terms.as_slice(), aux)
+    }
+
+    /// Whether the entry column of that number occurs.
+    pub fn has_entry(&self, at: u32) -> bool
+        ensures { result ≡ has_entry at self.now }
+    {
+        self.terms
+            .as_slice()
+            .iter()
+            .any(|(mono, _)| mono.has_entry(at))
+    }
+
+    /// The polynomial with 0 as its constant, which takes no memory.
+    pub fn without_constant(self) -> Poly
+        ensures { result ≡ without_constant self }
+    {
+        Poly {
+            terms: self.terms,
+            rest: 0,
+        }
     }
 
     /// The monomial at a place, from 0, in print order, with its coefficient.

@@ -1,4 +1,5 @@
 ghost use Rattle.std.specs.Prelude.{◌≡◌, ◌↔◌, IsTrue};
+ghost use Rattle.linear_terms.specs.Row.{AreCanonical};
 
 use crate::Poly;
 use items::Items;
@@ -35,6 +36,16 @@ impl Clone for Row {
             poly,
             kind: self.kind,
         })
+    }
+}
+
+/// Each row has its monomials in print order, each once, with numbers that are not zero. It goes over the rows and has no
+/// part in an answer: a list of rows does not hand out what the type of its polynomials keeps.
+pub fn see_rows(rows: &[Row])
+    ensures { AreCanonical rows.now }
+{
+    for row in rows {
+        let _ = row.poly.terms();
     }
 }
 

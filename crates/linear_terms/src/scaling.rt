@@ -1,6 +1,7 @@
-ghost use Rattle.std.specs.Prelude.{◌≡◌, ℤ, ◌*ℤ◌, IfOk};
+ghost use Rattle.std.specs.Prelude.{◌≡◌, ◌≢◌, ℤ, ◌*ℤ◌, IfOk, IfErr};
 ghost use Rattle.items.specs.Gives.{Gives};
 ghost use Rattle.linear_terms.specs.TermError.{cause};
+ghost use Rattle.linear_terms.specs.declared.error.TermError.TheVariants.{Degree};
 ghost use Rattle.linear_terms.specs.Operations.{times_each, multiple_of};
 ghost use Rattle.linear_terms.specs.Value.{Valuation, value_of};
 
@@ -14,6 +15,7 @@ use whole_numbers::product;
 pub fn scale(alloc: Global, a: &Poly, by: i128) -> Result<Poly, TermError>
     ensures exact { Gives cause (λ p. p) result (multiple_of a.now by) }
     ensures value { (at : Valuation) → IfOk result (λ p. value_of at p ≡ value_of at a.now *ℤ by) }
+    ensures no_degree { IfErr result (λ e. e ≢ Degree) }
 {
     let terms = scaled(alloc, a.terms.as_slice(), by)?;
     let rest = product(a.rest, by)?;
@@ -21,7 +23,8 @@ pub fn scale(alloc: Global, a: &Poly, by: i128) -> Result<Poly, TermError>
 }
 
 fn scaled(alloc: Global, terms: &[(Mono, i128)], by: i128) -> Result<Items<(Mono, i128)>, TermError>
-    ensures { Gives cause (λ made. made) result (times_each terms.now by) }
+    ensures exact { Gives cause (λ made. made) result (times_each terms.now by) }
+    ensures no_degree { IfErr result (λ e. e ≢ Degree) }
 {
     let mut made = Items::new(alloc);
     for (mono, number) in terms {

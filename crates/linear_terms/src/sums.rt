@@ -1,6 +1,7 @@
-ghost use Rattle.std.specs.Prelude.{◌≡◌, ◌+ℤ◌, ◌++◌, IfOk, IfErr, OnOk, Ok, Err, Some};
+ghost use Rattle.std.specs.Prelude.{◌≡◌, ◌≢◌, ◌+ℤ◌, ◌++◌, IfOk, IfErr, OnOk, Ok, Err, Some};
 ghost use Rattle.items.specs.Gives.{Gives};
 ghost use Rattle.linear_terms.specs.TermError.{cause, plus};
+ghost use Rattle.linear_terms.specs.declared.error.TermError.TheVariants.{Degree};
 ghost use Rattle.linear_terms.specs.Polynomial.{IsCanonical};
 ghost use Rattle.linear_terms.specs.Operations.{put_all, sum_of_polys};
 ghost use Rattle.linear_terms.specs.Value.{Valuation, value_of};
@@ -16,6 +17,7 @@ use whole_numbers::sum;
 pub fn add(alloc: Global, a: &Poly, b: &Poly) -> Result<Poly, TermError>
     ensures exact { Gives cause (λ p. p) result (sum_of_polys a.now b.now) }
     ensures value { (at : Valuation) → IfOk result (λ p. value_of at p ≡ value_of at a.now +ℤ value_of at b.now) }
+    ensures no_degree { IfErr result (λ e. e ≢ Degree) }
 {
     let terms = merged(alloc, a.terms.as_slice(), b.terms.as_slice())?;
     let rest = sum(a.rest, b.rest)?;
@@ -30,7 +32,8 @@ fn merged(
 ) -> Result<Items<(Mono, i128)>, TermError>
     requires left { IsCanonical left.now }
     requires right { IsCanonical right.now }
-    ensures { Gives cause (λ made. made) result (put_all left.now right.now) }
+    ensures exact { Gives cause (λ made. made) result (put_all left.now right.now) }
+    ensures no_degree { IfErr result (λ e. e ≢ Degree) }
 {
     let mut made = Items::new(alloc);
     let mut left = left;
@@ -72,6 +75,7 @@ fn joined(left: &(Mono, i128), right: &(Mono, i128)) -> Result<(Mono, i128), Ter
     ensures mono { IfOk result (λ t. t.0 ≡ left.now.0) }
     ensures err { IfErr result (λ e. plus left.now.1 right.now.1 ≡ Err e) }
     ensures told { IfErr result (λ e. cause e ≡ Some e) }
+    ensures no_degree { IfErr result (λ e. e ≢ Degree) }
 {
     let number = sum(left.1, right.1)?;
     Ok((left.0, number))

@@ -20,7 +20,7 @@ use Rattle.linear_terms.specs.declared.row.Normal.TheVariants.{Constant, Kept}
 use Rattle.linear_terms.specs.Polynomial.{Terms, Polynomial, column_of, coefficient_in}
 use Rattle.linear_terms.specs.Operations.{multiple_of, substituted}
 use Rattle.linear_terms.specs.Auxiliaries.{has_auxiliary, occurs, without, put_for, is_numbered}
-use Rattle.linear_terms.specs.Row.{normal_form, divided, turned, starts_negative, reduced}
+use Rattle.linear_terms.specs.Row.{normal_form, divided, with_positive_first, starts_negative, reduced}
 use Rattle.linear_terms.proofs.Columns.{EachColumn, multiple_of-each}
 use Rattle.transition_formula.specs.Transition.{every_column, every_column_of}
 use Rattle.transition_formula.specs.Composition.{by, posts_by, rows_by}
@@ -39,8 +39,8 @@ divided-each : (P : Col → Type 0) (d : ℕ) (ts : Terms) → EachColumn P ts �
 divided-each P d [] h = tt
 divided-each P d (t ∷ ts) h = (h.0, divided-each P d ts h.1)
 
-turned-each : (P : Col → Type 0) (p q : Polynomial) → turned p ≡ Ok q → EachColumn P p.terms → EachColumn P q.terms
-turned-each P p q e h = go (starts_negative p.terms) e
+with_positive_first-each : (P : Col → Type 0) (p q : Polynomial) → with_positive_first p ≡ Ok q → EachColumn P p.terms → EachColumn P q.terms
+with_positive_first-each P p q e h = go (starts_negative p.terms) e
   where
     go : (b : Bool) → cond b (multiple_of p (negsuc 0)) (Ok p) ≡ Ok q → EachColumn P q.terms
     go true f = multiple_of-each P p (negsuc 0) q f h
@@ -56,10 +56,10 @@ reduced-each P Equal g p r e h = go (divides g (unsigned_abs p.rest)) e
     quotient : Polynomial
     quotient = record { terms = divided g p.terms; rest = int_div p.rest (pos g) }
 
-    go : (b : Bool) → cond b (turned quotient >>= λ q. Ok (Kept record { poly = q; kind = Equal })) (Ok (Constant false)) ≡ Ok (Kept r) → EachColumn P r.poly.terms
+    go : (b : Bool) → cond b (with_positive_first quotient >>= λ q. Ok (Kept record { poly = q; kind = Equal })) (Ok (Constant false)) ≡ Ok (Kept r) → EachColumn P r.poly.terms
     go true f =
-        on_ok (turned quotient) (λ q. Ok (Kept record { poly = q; kind = Equal })) (Kept r) f
-        (λ q k l. let same : record { poly = q; kind = Equal } ≡ r = cc in subst (λ (s : Row). EachColumn P s.poly.terms) same (turned-each P quotient q k (divided-each P g p.terms h)))
+        on_ok (with_positive_first quotient) (λ q. Ok (Kept record { poly = q; kind = Equal })) (Kept r) f
+        (λ q k l. let same : record { poly = q; kind = Equal } ≡ r = cc in subst (λ (s : Row). EachColumn P s.poly.terms) same (with_positive_first-each P quotient q k (divided-each P g p.terms h)))
     go false f = cc
 
 normal_form-each : (P : Col → Type 0) (ts : Terms) (rest : ℤ) (kind : Kind) (r : Row) → normal_form record { poly = record { terms = ts; rest = rest }; kind = kind } ≡ Ok (Kept r) → EachColumn P ts → EachColumn P r.poly.terms

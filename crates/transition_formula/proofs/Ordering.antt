@@ -4,10 +4,11 @@ use Rattle.std.specs.Prelude.{slice_get}
 use Rattle.std.specs.List.{remove}
 use Rattle.std.specs.Option.{option_map}
 use Rattle.linear_terms.specs.declared.row.Row.{Row}
+use Rattle.linear_terms.specs.Row.{RowsHold}
 use Rattle.linear_terms.specs.declared.row.Case.{Case}
 use Rattle.linear_terms.specs.Value.{Valuation}
 use Rattle.transition_formula.specs.declared.loss.Loss.{Loss}
-use Rattle.transition_formula.specs.Meaning.{AreTrue, AreTrueLeft, numbers, HoldsCase, HoldsLeft}
+use Rattle.transition_formula.specs.Meaning.{AreTrueLeft, numbers, HoldsCase, HoldsLeft}
 use Rattle.transition_formula.specs.Order.{first_equation, solution}
 use Rattle.transition_formula.specs.Renumbering.{renumbered_case}
 use Rattle.transition_formula.specs.Rounds.{with_rows, with_solved, lost_with_solved}
@@ -44,16 +45,16 @@ more_of old new more e = omega (arith, ap length e, length-append old more)
 
 -- ---- the rows tidied
 
-pub tidied_left-hold : (case : Case) (rows : List Row) (o : Option (List Row)) → rows ≡ case.rows → ((at : Valuation) → AreTrue at rows → AreTrueLeft at o) → (before after : List ℤ) → HoldsCase case before after → HoldsLeft (option_map (with_rows case) o) before after
-tidied_left-hold case rows o same says before after (aux, h) = go o (says (numbers before aux) (subst (AreTrue (numbers before aux)) (sym same) h.rows))
+pub tidied_left-hold : (case : Case) (rows : List Row) (o : Option (List Row)) → rows ≡ case.rows → ((at : Valuation) → RowsHold at rows → AreTrueLeft at o) → (before after : List ℤ) → HoldsCase case before after → HoldsLeft (option_map (with_rows case) o) before after
+tidied_left-hold case rows o same says before after (aux, h) = go o (says (numbers before aux) (subst (RowsHold (numbers before aux)) (sym same) h.rows))
   where
     go : (o : Option (List Row)) → AreTrueLeft (numbers before aux) o → HoldsLeft (option_map (with_rows case) o) before after
     go None k = k
     go (Some made) k = (aux, record { rows = k; posts = h.posts })
 
-pub tidied_left-held : (case : Case) (rows : List Row) (o : Option (List Row)) → rows ≡ case.rows → ((at : Valuation) → AreTrueLeft at o → AreTrue at rows) → (before after : List ℤ) → HoldsLeft (option_map (with_rows case) o) before after → HoldsCase case before after
+pub tidied_left-held : (case : Case) (rows : List Row) (o : Option (List Row)) → rows ≡ case.rows → ((at : Valuation) → AreTrueLeft at o → RowsHold at rows) → (before after : List ℤ) → HoldsLeft (option_map (with_rows case) o) before after → HoldsCase case before after
 tidied_left-held case rows None same says before after h = absurd h
-tidied_left-held case rows (Some made) same says before after (aux, h) = (aux, record { rows = subst (AreTrue (numbers before aux)) same (says (numbers before aux) h.rows); posts = h.posts })
+tidied_left-held case rows (Some made) same says before after (aux, h) = (aux, record { rows = subst (RowsHold (numbers before aux)) same (says (numbers before aux) h.rows); posts = h.posts })
 
 -- ---- the steps
 

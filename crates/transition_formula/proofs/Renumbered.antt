@@ -10,11 +10,11 @@ use Rattle.linear_terms.specs.declared.row.Row.{Row}
 use Rattle.linear_terms.specs.declared.row.Case.{Case}
 use Rattle.linear_terms.specs.Auxiliaries.{occurs, renumbered, renumbered_column, is_numbered}
 use Rattle.linear_terms.specs.Polynomial.{Terms, Polynomial}
-use Rattle.linear_terms.specs.Row.{IsWithin}
+use Rattle.linear_terms.specs.Row.{IsWithin, RowsHold}
 use Rattle.linear_terms.specs.Value.{Valuation, mono_value, terms_value, value_of}
 use Rattle.linear_terms.proofs.Columns.{EachColumn}
 use Rattle.linear_terms.proofs.Numbering.{Occurring, terms_occur}
-use Rattle.transition_formula.specs.Meaning.{AreTrue, numbers, HoldsCase}
+use Rattle.transition_formula.specs.Meaning.{numbers, HoldsCase}
 use Rattle.transition_formula.specs.Renumbering.{count_below, new_number, occurs_in, renumbered_case, renumbered_row}
 use Rattle.transition_formula.specs.Transition.{every_column}
 use Rattle.transition_formula.proofs.Covered.{both, columns_from_test}
@@ -64,11 +64,11 @@ module _ (number : ℕ → ℕ) (at bt : Valuation) (P : Col → Type 0) (tells 
   value-told : (p : Polynomial) → EachColumn P p.terms → value_of bt (renumbered number p) ≡ value_of at p
   value-told p h = ap (λ v. v +ℤ p.rest) (terms-told p.terms h)
 
-  rows-told : (rows : List Row) → AllByRecursion (λ row. EachColumn P row.poly.terms) rows → AreTrue at rows → AreTrue bt (map (renumbered_row number) rows)
+  rows-told : (rows : List Row) → AllByRecursion (λ row. EachColumn P row.poly.terms) rows → RowsHold at rows → RowsHold bt (map (renumbered_row number) rows)
   rows-told [] h k = tt
   rows-told (row ∷ rows) h k = (subst (IsWithin row.kind) (sym (value-told row.poly h.0)) k.0, rows-told rows h.1 k.1)
 
-  told-rows : (rows : List Row) → AllByRecursion (λ row. EachColumn P row.poly.terms) rows → AreTrue bt (map (renumbered_row number) rows) → AreTrue at rows
+  told-rows : (rows : List Row) → AllByRecursion (λ row. EachColumn P row.poly.terms) rows → RowsHold bt (map (renumbered_row number) rows) → RowsHold at rows
   told-rows [] h k = tt
   told-rows (row ∷ rows) h k = (subst (IsWithin row.kind) (value-told row.poly h.0) k.0, told-rows rows h.1 k.1)
 

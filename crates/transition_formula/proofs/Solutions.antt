@@ -22,14 +22,14 @@ use Rattle.linear_terms.specs.Mono.{mono_cmp}
 use Rattle.linear_terms.specs.MonoOrder.{mono_cmp_total}
 use Rattle.linear_terms.specs.Operations.{multiple_of, substituted}
 use Rattle.linear_terms.specs.Polynomial.{Terms, Polynomial, column_of, coefficient_in}
-use Rattle.linear_terms.specs.Row.{IsWithin, RowHolds}
+use Rattle.linear_terms.specs.Row.{IsWithin, RowHolds, RowsHold}
 use Rattle.linear_terms.specs.Value.{Valuation, mono_value, terms_value, value_of}
 use Rattle.linear_terms.proofs.Columns.{EachColumn, multiple_of-each}
 use Rattle.linear_terms.proofs.Order.{mono_tie}
 use Rattle.linear_terms.proofs.Values.{multiple_of-value, substituted-value}
 use Rattle.transition_formula.specs.Composition.{Operation, by, lost_by}
 use Rattle.transition_formula.specs.Loss.{losses_of}
-use Rattle.transition_formula.specs.Meaning.{AreTrue, numbers, HoldsAt, HoldsCase}
+use Rattle.transition_formula.specs.Meaning.{numbers, HoldsAt, HoldsCase}
 use Rattle.transition_formula.specs.Order.{solves, or_else, first_solved, solved_by, place_from, first_equation, solution, with_solution}
 use Rattle.transition_formula.specs.Rounds.{with_rows, with_solved, lost_with_solved}
 use Rattle.transition_formula.specs.Transition.{every_column}
@@ -382,12 +382,12 @@ module _ (case : Case) (n : ℕ) (q : Polynomial) (all : Numbered case) (before 
 
 -- ---- the equation among the rows
 
-got : (at : Valuation) (rows : List Row) (place : ℕ) (row : Row) → Some row ≡ slice_get rows place → AreTrue at rows → RowHolds at row × AreTrue at (remove rows place)
+got : (at : Valuation) (rows : List Row) (place : ℕ) (row : Row) → Some row ≡ slice_get rows place → RowsHold at rows → RowHolds at row × RowsHold at (remove rows place)
 got at [] place row e h = cc
 got at (r ∷ rows) zero row e h = let same : row ≡ r = cc in (subst (RowHolds at) (sym same) h.0, h.1)
 got at (r ∷ rows) (suc place) row e h = let more = got at rows place row e h.1 in (more.0, (h.0, more.1))
 
-put_back : (at : Valuation) (rows : List Row) (place : ℕ) (row : Row) → Some row ≡ slice_get rows place → RowHolds at row → AreTrue at (remove rows place) → AreTrue at rows
+put_back : (at : Valuation) (rows : List Row) (place : ℕ) (row : Row) → Some row ≡ slice_get rows place → RowHolds at row → RowsHold at (remove rows place) → RowsHold at rows
 put_back at [] place row e h k = cc
 put_back at (r ∷ rows) zero row e h k = let same : row ≡ r = cc in (subst (RowHolds at) same h, k)
 put_back at (r ∷ rows) (suc place) row e h k = (k.0, put_back at rows place row e h k.1)
@@ -413,7 +413,7 @@ module _ (case : Case) (place n : ℕ) (row : Row) (all : AllNumbered case) (can
   pub solved-hold : HoldsCase case before after → HoldsCase (with_solved (solution row.poly n) n left) before after
   solved-hold (aux, h) = go (solution row.poly n) refl
     where
-      two : RowHolds (numbers before aux) row × AreTrue (numbers before aux) (remove case.rows place)
+      two : RowHolds (numbers before aux) row × RowsHold (numbers before aux) (remove case.rows place)
       two = got (numbers before aux) case.rows place row is h.rows
 
       go : (r : Result Polynomial TermError) → solution row.poly n ≡ r → HoldsCase (with_solved r n left) before after

@@ -12,11 +12,11 @@ use Rattle.linear_terms.specs.declared.row.Kind.TheVariants.{AtMost, Equal}
 use Rattle.linear_terms.specs.declared.row.Row.{Row}
 use Rattle.linear_terms.specs.Polynomial.{Terms, Polynomial}
 use Rattle.linear_terms.specs.Equality.{term_eq, poly_eq}
-use Rattle.linear_terms.specs.Row.{IsWithin, RowHolds, starts_negative}
+use Rattle.linear_terms.specs.Row.{IsWithin, RowHolds, starts_negative, RowsHold}
 use Rattle.linear_terms.specs.Value.{Valuation, mono_value, terms_value, value_of}
 use Rattle.linear_terms.proofs.Columns.{each-append}
 use Rattle.linear_terms.proofs.Equal.{poly_eq_decides}
-use Rattle.transition_formula.specs.Meaning.{AreTrue, AreTrueLeft}
+use Rattle.transition_formula.specs.Meaning.{AreTrueLeft}
 use Rattle.transition_formula.specs.Rows.{alike_by, alike, stronger, with_row, each_once, is_at_most, negated, are_opposite, exclude, can_agree, close, equation_of, with_met, met, opposites_met}
 use Rattle.transition_formula.proofs.Covered.{both, both_true}
 use Rattle.transition_formula.proofs.Loops.{row_with, or_right}
@@ -98,27 +98,27 @@ module _ (at : Valuation) where
       go true = k
       go false = h
 
-  with_row-hold : (rows : List Row) (s : Row) → AreTrue at rows → RowHolds at s → AreTrue at (with_row rows s)
+  with_row-hold : (rows : List Row) (s : Row) → RowsHold at rows → RowHolds at s → RowsHold at (with_row rows s)
   with_row-hold [] s h k = (k, tt)
   with_row-hold (r ∷ rows) s h k = go (alike r s) (with_row-hold rows s h.1 k)
     where
-      go : (b : Bool) → AreTrue at (with_row rows s) → AreTrue at (cond b (stronger r s ∷ rows) (r ∷ with_row rows s))
+      go : (b : Bool) → RowsHold at (with_row rows s) → RowsHold at (cond b (stronger r s ∷ rows) (r ∷ with_row rows s))
       go true later = (stronger-holds r s h.0 k, h.1)
       go false later = (h.0, later)
 
-  with_row-held : (rows : List Row) (s : Row) → AreTrue at (with_row rows s) → AreTrue at rows × RowHolds at s
+  with_row-held : (rows : List Row) (s : Row) → RowsHold at (with_row rows s) → RowsHold at rows × RowHolds at s
   with_row-held [] s h = (tt, h.0)
   with_row-held (r ∷ rows) s h = go (alike r s) refl h (λ k. with_row-held rows s k)
     where
-      go : (b : Bool) → alike r s ≡ b → AreTrue at (cond b (stronger r s ∷ rows) (r ∷ with_row rows s)) → (AreTrue at (with_row rows s) → AreTrue at rows × RowHolds at s) → AreTrue at (r ∷ rows) × RowHolds at s
+      go : (b : Bool) → alike r s ≡ b → RowsHold at (cond b (stronger r s ∷ rows) (r ∷ with_row rows s)) → (RowsHold at (with_row rows s) → RowsHold at rows × RowHolds at s) → RowsHold at (r ∷ rows) × RowHolds at s
       go true e k ih = let two = alike-held r.poly r.kind s.poly s.kind e k.0 in ((two.0, k.1), two.1)
       go false e k ih = let more = ih k.1 in ((k.0, more.0), more.1)
 
-  once-hold : (front rows : List Row) → AreTrue at front → AreTrue at rows → AreTrue at (fold with_row front rows)
+  once-hold : (front rows : List Row) → RowsHold at front → RowsHold at rows → RowsHold at (fold with_row front rows)
   once-hold front [] h k = h
   once-hold front (r ∷ rows) h k = once-hold (with_row front r) rows (with_row-hold front r h k.0) k.1
 
-  once-held : (front rows : List Row) → AreTrue at (fold with_row front rows) → AreTrue at front × AreTrue at rows
+  once-held : (front rows : List Row) → RowsHold at (fold with_row front rows) → RowsHold at front × RowsHold at rows
   once-held front [] h = (h, tt)
   once-held front (r ∷ rows) h =
       let more = once-held (with_row front r) rows h in
@@ -182,7 +182,7 @@ module _ (at : Valuation) where
       turn : (t u c d : ℤ) → u ≡ neg_ℤ t → c +ℤ d ≡ pos 0 → u +ℤ d ≡ neg_ℤ (t +ℤ c)
       turn t u c d e f = omega (arith, ints)
 
-  agree : (rows : List Row) → AreTrue at rows → IsTrue (can_agree rows)
+  agree : (rows : List Row) → RowsHold at rows → IsTrue (can_agree rows)
   agree [] h = refl
   agree (r ∷ rows) h = both_true (not (list_any (exclude r) rows)) (can_agree rows) (go (list_any (exclude r) rows) refl) (agree rows h.1)
     where
@@ -220,11 +220,11 @@ module _ (at : Valuation) where
       go true k = zero_of (value_of at r.poly) (value_of at s.poly) c.values k
       go false k = k
 
-  met-hold : (before rows : List Row) → AreTrue at rows → AreTrue at (met before rows)
+  met-hold : (before rows : List Row) → RowsHold at rows → RowsHold at (met before rows)
   met-hold before [] h = tt
   met-hold before (r ∷ rows) h = go (list_any (λ s. close s r) before) (find (close r) rows) refl (met-hold (before ++ r ∷ []) rows h.1)
     where
-      go : (b : Bool) (o : Option Row) → find (close r) rows ≡ o → AreTrue at (met (before ++ r ∷ []) rows) → AreTrue at (with_met r b o (met (before ++ r ∷ []) rows))
+      go : (b : Bool) (o : Option Row) → find (close r) rows ≡ o → RowsHold at (met (before ++ r ∷ []) rows) → RowsHold at (with_met r b o (met (before ++ r ∷ []) rows))
       go true o e later = later
       go false None e later = (h.0, later)
       go false (Some s) e later =
@@ -237,9 +237,9 @@ module _ (at : Valuation) where
   Settled before rows = AllByRecursion (λ s. IsTrue (list_any (close s) rows) → value_of at s.poly ≡ pos 0) before
 
   abbrev HeldAfter : List Row → Row → List Row → Type 0
-  HeldAfter before r rows = Settled (before ++ r ∷ []) rows → AreTrue at (met (before ++ r ∷ []) rows) → AreTrue at rows
+  HeldAfter before r rows = Settled (before ++ r ∷ []) rows → RowsHold at (met (before ++ r ∷ []) rows) → RowsHold at rows
 
-  met-held : (before rows : List Row) → Settled before rows → AreTrue at (met before rows) → AreTrue at rows
+  met-held : (before rows : List Row) → Settled before rows → RowsHold at (met before rows) → RowsHold at rows
   met-held before [] settled h = tt
   met-held before (r ∷ rows) settled h = go (list_any (λ s. close s r) before) (find (close r) rows) refl refl h (λ next k. met-held (before ++ r ∷ []) rows next k)
     where
@@ -249,13 +249,13 @@ module _ (at : Valuation) where
           (everywhere (λ s. IsTrue (list_any (close s) (r ∷ rows)) → value_of at s.poly ≡ pos 0) (λ s. IsTrue (list_any (close s) rows) → value_of at s.poly ≡ pos 0) (λ s k any. k (or_right (close s r) (list_any (close s) rows) any)) before settled)
           (own, tt)
 
-      with_own : HeldAfter before r rows → RowHolds at r → (IsTrue (list_any (close r) rows) → value_of at r.poly ≡ pos 0) → AreTrue at (met (before ++ r ∷ []) rows) → AreTrue at (r ∷ rows)
+      with_own : HeldAfter before r rows → RowHolds at r → (IsTrue (list_any (close r) rows) → value_of at r.poly ≡ pos 0) → RowsHold at (met (before ++ r ∷ []) rows) → RowsHold at (r ∷ rows)
       with_own ih holds own k = (holds, ih (later own) k)
 
       first_any : (s : Row) → IsTrue (close s r) → IsTrue (list_any (close s) (r ∷ rows))
       first_any s e = ap (λ b. b || list_any (close s) rows) e
 
-      go : (b : Bool) (o : Option Row) → list_any (λ s. close s r) before ≡ b → find (close r) rows ≡ o → AreTrue at (with_met r b o (met (before ++ r ∷ []) rows)) → HeldAfter before r rows → AreTrue at (r ∷ rows)
+      go : (b : Bool) (o : Option Row) → list_any (λ s. close s r) before ≡ b → find (close r) rows ≡ o → RowsHold at (with_met r b o (met (before ++ r ∷ []) rows)) → HeldAfter before r rows → RowsHold at (r ∷ rows)
       go true o e f k ih =
           some_of (λ s. close s r) (λ s. IsTrue (list_any (close s) (r ∷ rows)) → value_of at s.poly ≡ pos 0) before e settled
           (λ s closes tells.
@@ -274,10 +274,10 @@ module _ (at : Valuation) where
 
   -- ---- together
 
-  pub once_met-hold : (rows : List Row) → AreTrue at rows → AreTrueLeft at (opposites_met (Some (each_once rows)))
+  pub once_met-hold : (rows : List Row) → RowsHold at rows → AreTrueLeft at (opposites_met (Some (each_once rows)))
   once_met-hold rows h = go (can_agree (each_once rows)) refl
     where
-      once : AreTrue at (each_once rows)
+      once : RowsHold at (each_once rows)
       once = once-hold [] rows tt h
 
       go : (b : Bool) → can_agree (each_once rows) ≡ b → AreTrueLeft at (cond b (Some (met [] (each_once rows))) None)
@@ -288,9 +288,9 @@ module _ (at : Valuation) where
           clash true e f = cc
           clash false e f = cc
 
-  pub once_met-held : (rows : List Row) → AreTrueLeft at (opposites_met (Some (each_once rows))) → AreTrue at rows
+  pub once_met-held : (rows : List Row) → AreTrueLeft at (opposites_met (Some (each_once rows))) → RowsHold at rows
   once_met-held rows h = go (can_agree (each_once rows)) h
     where
-      go : (b : Bool) → AreTrueLeft at (cond b (Some (met [] (each_once rows))) None) → AreTrue at rows
+      go : (b : Bool) → AreTrueLeft at (cond b (Some (met [] (each_once rows))) None) → RowsHold at rows
       go true k = (once-held [] rows (met-held [] (each_once rows) tt k)).1
       go false k = absurd k

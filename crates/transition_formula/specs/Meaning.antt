@@ -4,7 +4,7 @@ use Rattle.std.specs.List.{AllByRecursion}
 use Rattle.linear_terms.specs.declared.col.Col.TheVariants.{At, Aux}
 use Rattle.linear_terms.specs.declared.row.Case.{Case}
 use Rattle.linear_terms.specs.declared.row.Row.{Row}
-use Rattle.linear_terms.specs.Row.{RowHolds, normal_form, SaysAsMuch}
+use Rattle.linear_terms.specs.Row.{normal_form, SaysAsMuch, RowsHold}
 use Rattle.linear_terms.specs.Value.{Valuation, value_of}
 use Rattle.transition_formula.specs.declared.solving.Solved.{Solved}
 use Rattle.transition_formula.specs.declared.solving.Solved.TheVariants.{Kept, False}
@@ -15,10 +15,6 @@ abbrev pub numbers : List ℤ → (ℕ → ℤ) → Valuation
 numbers before aux (At number) = unwrap_or (slice_get before number) (pos 0)
 numbers before aux (Aux number) = aux number
 
--- each row is true
-abbrev pub AreTrue : Valuation → List Row → Type 0
-AreTrue at rows = AllByRecursion (RowHolds at) rows
-
 -- the normal form of the row, if it has one, is true where the row is and nowhere else
 abbrev pub KeepsTruth : Row → Type 0
 KeepsTruth row = IfOk (normal_form row) (λ form. (at : Valuation) → SaysAsMuch at row form)
@@ -26,11 +22,11 @@ KeepsTruth row = IfOk (normal_form row) (λ form. (at : Valuation) → SaysAsMuc
 -- each row that is left is true; nothing is left of rows that can't all be true
 abbrev pub AreTrueLeft : Valuation → Option (List Row) → Type 0
 AreTrueLeft at None = ⊥
-AreTrueLeft at (Some rows) = AreTrue at rows
+AreTrueLeft at (Some rows) = RowsHold at rows
 
 -- each row is true, and the posts have the values `after`
 pub record HoldsAt (at : Valuation) (case : Case) (after : List ℤ) : Type 0 where
-  pub rows : AreTrue at case.rows
+  pub rows : RowsHold at case.rows
   pub posts : map (value_of at) case.post ≡ after
 
 -- some numbers for the auxiliaries make each row true and each post its number in `after`

@@ -1,5 +1,5 @@
 use Rattle.std.proofs.Common.{take}
-use Rattle.farkas_check.specs.Kept.{AreCanonical}
+use Rattle.linear_terms.specs.Row.{AreCanonical}
 use Rattle.farkas_check.proofs.kept.canonical_rows.Given as goal
 
 abbrev pub invariant-loop-row : goal.invariant-loop-row

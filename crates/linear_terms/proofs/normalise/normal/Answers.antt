@@ -6,6 +6,7 @@ use Rattle.linear_terms.specs.TermError.{cause}
 use Rattle.linear_terms.specs.Polynomial.{IsCanonical}
 use Rattle.linear_terms.specs.Row.{reduced}
 use Rattle.linear_terms.proofs.Normals.{IfOk-SaysAsMuch, IfOk-IsNormal}
+use Rattle.linear_terms.proofs.Faults.{reduced-fault, IfErr-fault}
 use Rattle.linear_terms.proofs.normalise.normal.Goals as goal
 
 pub returns-clause-same : goal.returns-clause-same
@@ -20,3 +21,8 @@ returns-clause-is_normal c =
     let canonical : IsCanonical c.args.row.now.poly.terms = search rules in
     let given : Gives cause (λ n. n) c.reduced.result (reduced c.args.row.now.kind c.divisor-divisor.result c.args.row.now.poly) = search rules in
     IfOk-IsNormal c.args.row.now c.divisor-divisor.result c.reduced.result (omega arith) greatest canonical given
+
+pub returns-clause-fault : goal.returns-clause-fault
+returns-clause-fault c =
+    let given : Gives cause (λ n. n) c.reduced.result (reduced c.args.row.now.kind c.divisor-divisor.result c.args.row.now.poly) = search rules in
+    IfErr-fault (λ n. n) c.reduced.result (reduced c.args.row.now.kind c.divisor-divisor.result c.args.row.now.poly) (reduced-fault c.args.row.now.kind c.divisor-divisor.result c.args.row.now.poly) given

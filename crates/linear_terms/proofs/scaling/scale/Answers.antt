@@ -9,7 +9,7 @@ use Rattle.linear_terms.proofs.scaling.scale.Goals as goal
 
 pub invariant_of-result : goal.invariant_of-result
 invariant_of-result c =
-    IsCanonical-times_each c.args.by c.as_slice.result.now c.in_ok-terms.terms (rw c.as_slice.ensures c.a.invariant) (rw (to_z-of_z w128 c.args.by c.ranges.by) at c.in_ok-terms.ensures)
+    IsCanonical-times_each c.args.by c.as_slice.result.now c.in_ok-terms.terms (rw c.as_slice.ensures c.a.invariant) (rw (to_z-of_z w128 c.args.by c.ranges.by) at c.in_ok-terms.ensures.exact)
 
 pub returns-clause-value : goal.returns-clause-value
 returns-clause-value c at =

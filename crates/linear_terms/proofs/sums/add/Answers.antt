@@ -8,7 +8,7 @@ use Rattle.linear_terms.proofs.sums.add.Goals as goal
 
 pub invariant_of-result : goal.invariant_of-result
 invariant_of-result c =
-    IsCanonical-put_all c.as_slice-2.result.now c.as_slice.result.now c.in_ok-terms.terms (rw c.as_slice.ensures c.a.invariant) c.in_ok-terms.ensures
+    IsCanonical-put_all c.as_slice-2.result.now c.as_slice.result.now c.in_ok-terms.terms (rw c.as_slice.ensures c.a.invariant) c.in_ok-terms.ensures.exact
 
 pub returns-clause-value : goal.returns-clause-value
 returns-clause-value c at =

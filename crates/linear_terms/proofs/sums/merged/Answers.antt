@@ -64,8 +64,8 @@ loop-first-preserved c =
       right_canonical = rest_canonical c.in-Some-split_first.other.now c.loop-first.right.now c.in-Some-split_first.rights.now right_is so_far.right_canonical;
     }
 
-pub returns-in_err-term-in-Equal : goal.returns-in_err-term-in-Equal
-returns-in_err-term-in-Equal c =
+pub returns-in_err-term-in-Equal-clause-exact : goal.returns-in_err-term-in-Equal-clause-exact
+returns-in_err-term-in-Equal-clause-exact c =
     let fault = c.in_err-term-in-Equal.field-0.0 in
     let p = err_from_is_err_and c.from_residual-in_err-term-in-Equal.result c.from_residual-in_err-term-in-Equal.ensures.1 in
     let fails : put_all c.args.left.now c.args.right.now ≡ Err fault =
@@ -74,8 +74,8 @@ returns-in_err-term-in-Equal c =
     c.in-Some.ensures.cases.0 c.in-Some-split_first.ensures.cases.0 (sym c.cmp.ensures ∙ c.in-Equal.is) c.in_err-term-in-Equal.ensures.err in
     rw (p.1, p.2, c.in_err-term-in-Equal.ensures.told) fails
 
-pub returns : goal.returns
-returns c =
+pub returns-clause-exact : goal.returns-clause-exact
+returns-clause-exact c =
     let so_far = c.loop-first.invariant in
     let made_is = c.in_ok-push_each-2.ensures.made ∙ ap (λ front. front ++ c.loop-first.right.now) c.in_ok-push_each.ensures.made in
     elim c.match-split_first.branch [
