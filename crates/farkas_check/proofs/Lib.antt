@@ -16,6 +16,7 @@ mod RationalPoints
 pub mod Spreads
 -- The code: its walk over columns, its look-ups, and the order in which it makes sums.
 pub mod Walks
+mod Listing
 mod Lookups
 mod Sums
 mod Halves

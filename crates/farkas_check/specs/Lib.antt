@@ -28,4 +28,5 @@ pub mod Asking
 -- ---- words of proofs: the steps that the code's loops take
 
 pub mod Walk
+pub mod Listing
 pub mod Steps

@@ -1,33 +1,126 @@
-ghost use Rattle.std.specs.Prelude.{◌≡◌, [], ◌∷◌, ◌==◌, length, map, MatchOption, IfOk};
+ghost use Rattle.std.specs.Prelude.{◌≡◌, [], ◌∷◌, ◌==◌, length, map, slice_get, Some, MatchOption, IfOk, IfSome};
 ghost use Rattle.std.specs.Map.{keys_of};
 ghost use Rattle.std.specs.Ordering.{is_lt};
 ghost use Rattle.linear_terms.specs.Mono.{mono_cmp};
 ghost use Rattle.farkas_check.specs.Columns.{columns};
-ghost use Rattle.farkas_check.specs.Relations.{stratum_columns, columns_in};
-ghost use Rattle.farkas_check.specs.Walk.{IsNext, is_after, lesser, least_after, least_in_rows, least_in_polys, least_in_cases};
+ghost use Rattle.farkas_check.specs.Relations.{stratum_columns, source_columns};
+ghost use Rattle.farkas_check.specs.Listing.{columns_in};
+ghost use Rattle.farkas_check.specs.Walk.{IsNext, IsBlank, IsListing, IsBehind, is_after, lesser, least_after, least_in_rows, least_in_polys, least_in_cases};
 
+use crate::source::{Columns, LISTED, Source};
 use crate::{Change, Ratio, Stratum};
 use items::Items;
 use linear_terms::{Mono, Poly, Row};
 use std::alloc::{AllocError, Global};
 
-/// Where the columns of a question come from: the rows and the terms of a case, or all cases and lower terms of
-/// a stratum question.
-#[derive(Clone, Copy)]
-pub(crate) enum Columns<'a> {
-    OfCase(&'a [Row], &'a [(Mono, i128)]),
-    OfStratum(&'a [Change], &'a [Poly]),
+impl<'a> Columns<'a> {
+    #[tactic(auto, using(crate::proofs::Listing::listing))]
+    pub(crate) fn of(source: Source<'a>) -> Columns<'a>
+        ensures { columns_in result ≡ source_columns source.entry }
+    {
+        let mut listed = blank::<LISTED>();
+        list_columns(&source, &mut listed);
+        Columns { source, listed }
+    }
+}
+
+fn blank<const N: usize>() -> [Option<Mono>; N]
+    ensures { IsBlank result }
+{
+    [None; N]
+}
+
+/// Puts the first columns in their places, as many as there is room for.
+#[tactic(auto, using(crate::proofs::Listing::listing))]
+fn list_columns(source: &Source<'_>, listed: &mut [Option<Mono>])
+    requires { IsBlank listed.old }
+    ensures { IsListing listed.new (source_columns source.now) }
+{
+    let mut last = None;
+    for place in 0..listed.len() {
+        let next = next_of(source, &last);
+        if next.is_none() {
+            return;
+        }
+        listed[place] = next;
+        last = next;
+    }
 }
 
 /// The first column after another one, or the first of all; none after the last. The columns are monomials in
 /// print order, each once.
-#[tactic(auto, using(crate::proofs::Walks::next_column))]
+#[tactic(auto, using(crate::proofs::Listing::listing))]
 pub(crate) fn next_column(columns: &Columns<'_>, last: &Option<Mono>) -> Option<Mono>
     ensures { IsNext result last.now (columns_in columns.now) }
 {
-    match columns {
-        Columns::OfCase(rows, terms) => next_of_case(rows, terms, last),
-        Columns::OfStratum(cases, lower) => next_of_stratum(cases, lower, last),
+    match listed_next(&columns.listed, last) {
+        Some(column) => Some(column),
+        None => next_of(&columns.source, last),
+    }
+}
+
+/// The column listed behind another one, or the first of all.
+fn listed_next(listed: &[Option<Mono>], last: &Option<Mono>) -> Option<Mono>
+    ensures { IfSome result (IsBehind listed.now last.now) }
+{
+    match last {
+        None => listed_at(listed, 0),
+        Some(column) => listed_behind(listed, column),
+    }
+}
+
+fn listed_behind(listed: &[Option<Mono>], column: &Mono) -> Option<Mono>
+    ensures { IfSome result (IsBehind listed.now (Some column.now)) }
+{
+    match place_of(listed, 0, column) {
+        Some(place) => listed_at(listed, place + 1),
+        None => None,
+    }
+}
+
+fn listed_at(listed: &[Option<Mono>], place: usize) -> Option<Mono>
+    ensures { IfSome result (λ column. slice_get listed.now place ≡ Some (Some column)) }
+{
+    if place < listed.len() {
+        listed[place]
+    } else {
+        None
+    }
+}
+
+/// The place of a column among all of them, where it is listed from another place on.
+#[tactic(auto, using(crate::proofs::Listing::listing))]
+pub(crate) fn listed_place(columns: &Columns<'_>, start: usize, column: &Mono) -> Option<usize>
+    ensures { IfSome result (λ place. slice_get (columns_in columns.now) place ≡ Some column.now) }
+{
+    place_of(&columns.listed, start, column)
+}
+
+/// A place where a column is listed, from another place on.
+#[tactic(auto, using(crate::proofs::Listing::listing))]
+fn place_of(listed: &[Option<Mono>], start: usize, column: &Mono) -> Option<usize>
+    ensures { IfSome result (λ place. slice_get listed.now place ≡ Some (Some column.now)) }
+{
+    for place in start..listed.len() {
+        match listed_at(listed, place) {
+            Some(own) => {
+                if own == *column {
+                    return Some(place);
+                }
+            }
+            None => return None,
+        }
+    }
+    None
+}
+
+#[tactic(auto, using(crate::proofs::Walks::next_column))]
+fn next_of(source: &Source<'_>, last: &Option<Mono>) -> Option<Mono>
+    ensures { IsNext result last.now (source_columns source.now) }
+{
+    match source {
+        Source::OfCase(rows, terms) => next_of_case(rows, terms, last),
+        Source::OfStratum(cases, lower) => next_of_stratum(cases, lower, last),
     }
 }
 
@@ -147,19 +240,20 @@ pub fn case_columns(
 ) -> Result<Items<Mono>, AllocError>
     ensures { IfOk result (λ made. made ≡ columns rows.now terms.now) }
 {
-    listed(alloc, &Columns::OfCase(rows, terms))
+    column_list(alloc, &Columns::of(Source::OfCase(rows, terms)))
 }
 
 /// The columns that each case of a stratum question has: those of all cases and of the lower terms.
 pub fn stratum_columns(alloc: Global, stratum: &Stratum) -> Result<Items<Mono>, AllocError>
     ensures { IfOk result (λ made. made ≡ stratum_columns stratum.now.cases stratum.now.lower) }
 {
-    listed(alloc, &Columns::OfStratum(stratum.cases(), stratum.lower()))
+    let source = Source::OfStratum(stratum.cases(), stratum.lower());
+    column_list(alloc, &Columns::of(source))
 }
 
 /// Columns as a list.
 #[tactic(auto, using(crate::proofs::Walks::walk))]
-fn listed(alloc: Global, columns: &Columns<'_>) -> Result<Items<Mono>, AllocError>
+fn column_list(alloc: Global, columns: &Columns<'_>) -> Result<Items<Mono>, AllocError>
     ensures { IfOk result (λ made. made ≡ columns_in columns.now) }
 {
     let mut last = None;

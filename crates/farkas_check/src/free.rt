@@ -1,13 +1,15 @@
 ghost use Rattle.std.specs.Prelude.{◌≡◌, ◌<◌, ◌-◌, ◌^◌, length, map, pos, slice_get};
 ghost use Rattle.farkas_check.specs.Points.{ratio_at, ratio_value};
 ghost use Rattle.farkas_check.specs.Ratios.{whole};
-ghost use Rattle.farkas_check.specs.Relations.{columns_in, numbers_of, places, free_places};
+ghost use Rattle.farkas_check.specs.Listing.{columns_in};
+ghost use Rattle.farkas_check.specs.Relations.{numbers_of, places, free_places};
 ghost use Rattle.farkas_check.specs.Steps.{unless_pivot, counted, is_free, part_with, units_from};
 ghost use Rattle.farkas_check.specs.Stratum.{all_of, rows_of, terms_of, tested_spot, spots_from, minus_value, spot_side, unit_at, tested_at, tested_unit, tested_free};
 
-use crate::columns::{Columns, has_length};
+use crate::columns::has_length;
 use crate::lines::is_pivot;
 use crate::points::{meets, ratio_value};
+use crate::source::Columns;
 use crate::{Change, Ratio, Relation, Spot};
 use items::Items;
 use linear_terms::{Poly, Row};

@@ -1,16 +1,17 @@
 ghost use Rattle.std.specs.Prelude.{◌≡◌, ◌↔◌, Ok, true, length, IsTrue};
 ghost use Rattle.farkas_check.specs.Laws.{PassingIsTrue};
 ghost use Rattle.farkas_check.specs.Meaning.{IsLimit, IsTight, IsTrueAnswer};
-ghost use Rattle.farkas_check.specs.Relations.{columns_in};
+ghost use Rattle.farkas_check.specs.Listing.{columns_in};
 ghost use Rattle.farkas_check.specs.Stratum.{tested_basis};
 ghost use Rattle.farkas_check.specs.Tested.{goal_columns, tested_yes, tested_no, tested_below, tested_cert, tested_certs, tested_point, tested_reached, tested_ray, tested_bound, tested_unbounded, is_limit, outcome, width_of, Passes};
 
-use crate::columns::{Columns, has_length};
+use crate::columns::has_length;
 use crate::free::{tested_free, tested_spots};
 use crate::kept::{canonicity, positivity};
 use crate::lines::{have_unknowns, is_reduced};
 use crate::multiples::{are_multipliers, constant_sum, has_sum, sums_cancel};
 use crate::points::{meets, meets_slopes, ratio_value, slope_at};
+use crate::source::{Columns, Source};
 use crate::stratum::unknown_count;
 use crate::ties::tested_relations;
 use crate::{Answer, Cert, Goal, Limit, Question, Ratio, Relation, Spot, Stratum};
@@ -128,7 +129,8 @@ fn tested_yes(rows: &[Row], by: &[i128]) -> Result<bool, Wide>
     if !are_multipliers(rows, by) {
         return Ok(false);
     }
-    let cancel = sums_cancel(rows, &Columns::OfCase(rows, &[]), by)?;
+    let columns = Columns::of(Source::OfCase(rows, &[]));
+    let cancel = sums_cancel(rows, &columns, by)?;
     let constant = constant_sum(rows, by)?;
     Ok(cancel && 0 < constant)
 }
@@ -137,7 +139,7 @@ fn tested_yes(rows: &[Row], by: &[i128]) -> Result<bool, Wide>
 fn tested_no(rows: &[Row], point: &[Ratio]) -> Result<bool, Wide>
     ensures { result ≡ tested_no rows.now point.now }
 {
-    let columns = Columns::OfCase(rows, &[]);
+    let columns = Columns::of(Source::OfCase(rows, &[]));
     if !has_length(&columns, point) {
         return Ok(false);
     }
@@ -203,33 +205,26 @@ fn tested_below(at: &i128, cert: &Cert) -> Result<bool, Wide>
     Ok(cert.sum <= most)
 }
 
-/// The columns of a goal.
-fn columns_of(goal: &Goal) -> Columns<'_>
-    ensures { columns_in result ≡ goal_columns goal.now }
-{
-    Columns::OfCase(goal.rows.as_slice(), goal.objective.terms())
-}
-
 /// Whether the point is one of the case.
-fn tested_point(goal: &Goal, point: &[Ratio]) -> Result<bool, Wide>
+fn tested_point(goal: &Goal, columns: &Columns<'_>, point: &[Ratio]) -> Result<bool, Wide>
+    requires { columns_in columns.now ≡ goal_columns goal.now }
     ensures { result ≡ tested_point goal.now point.now }
 {
-    let rows = goal.rows.as_slice();
-    let columns = columns_of(goal);
-    if !has_length(&columns, point) {
+    if !has_length(columns, point) {
         return Ok(false);
     }
-    meets(rows, &columns, point)
+    meets(goal.rows.as_slice(), columns, point)
 }
 
 /// Whether the point is one of the case, and its objective is at least `at`.
 fn tested_reached(at: &i128, goal: &Goal, point: &[Ratio]) -> Result<bool, Wide>
     ensures { result ≡ tested_reached at.now goal.now point.now }
 {
-    if !tested_point(goal, point)? {
+    let columns = Columns::of(Source::OfCase(goal.rows.as_slice(), goal.objective.terms()));
+    if !tested_point(goal, &columns, point)? {
         return Ok(false);
     }
-    let value = ratio_value(&columns_of(goal), point, &goal.objective)?;
+    let value = ratio_value(&columns, point, &goal.objective)?;
     value.is_at_least(*at)
 }
 
@@ -238,28 +233,28 @@ fn tested_unbounded(goals: &[Goal], case: u32, point: &[Ratio], ray: &[Ratio]) -
 {
     match goals.get(case as usize) {
         Some(goal) => {
-            if !tested_point(goal, point)? {
+            let columns = Columns::of(Source::OfCase(goal.rows.as_slice(), goal.objective.terms()));
+            if !tested_point(goal, &columns, point)? {
                 return Ok(false);
             }
-            tested_ray(goal, ray)
+            tested_ray(goal, &columns, ray)
         }
         None => Ok(false),
     }
 }
 
 /// Whether the rows stay true along the ray, and the objective grows.
-fn tested_ray(goal: &Goal, ray: &[Ratio]) -> Result<bool, Wide>
+fn tested_ray(goal: &Goal, columns: &Columns<'_>, ray: &[Ratio]) -> Result<bool, Wide>
+    requires { columns_in columns.now ≡ goal_columns goal.now }
     ensures { result ≡ tested_ray goal.now ray.now }
 {
-    let rows = goal.rows.as_slice();
-    let columns = columns_of(goal);
-    if !has_length(&columns, ray) {
+    if !has_length(columns, ray) {
         return Ok(false);
     }
-    if !meets_slopes(rows, &columns, ray)? {
+    if !meets_slopes(goal.rows.as_slice(), columns, ray)? {
         return Ok(false);
     }
-    let slope = slope_at(&columns, ray, &goal.objective)?;
+    let slope = slope_at(columns, ray, &goal.objective)?;
     Ok(0 < slope.num())
 }
 
@@ -274,7 +269,7 @@ fn tested_basis(
 {
     let cases = stratum.cases();
     let lower = stratum.lower();
-    let columns = Columns::OfStratum(cases, lower);
+    let columns = Columns::of(Source::OfStratum(cases, lower));
     if !have_unknowns(relations, cases, lower) {
         return Ok(false);
     }

@@ -1,15 +1,44 @@
-ghost use Rattle.std.specs.Prelude.{◌≡◌, pos};
+ghost use Rattle.std.specs.Prelude.{◌≡◌, pos, get_or};
 ghost use Rattle.linear_terms.specs.Row.{is_within};
 ghost use Rattle.farkas_check.specs.Ratios.{whole};
-ghost use Rattle.farkas_check.specs.Relations.{columns_in};
+ghost use Rattle.farkas_check.specs.Listing.{columns_in};
 ghost use Rattle.farkas_check.specs.Points.{ratio_at, value_from, slope_at, ratio_value, meets};
 
 use crate::Ratio;
-use crate::columns::{Columns, next_column};
+use crate::columns::{listed_place, next_column};
+use crate::source::Columns;
 use linear_terms::{Kind, Mono, Poly, Row};
 use whole_numbers::Wide;
 
-/// The number that a point has at a column.
+/// The number that a point has at a column, and the place of the column, from which the search for the next one
+/// begins: the monomials of a polynomial stand in the same order as the columns.
+#[tactic(auto, using(crate::proofs::Listing::listing))]
+fn ratio_and_place(
+    columns: &Columns<'_>,
+    point: &[Ratio],
+    start: usize,
+    column: &Mono,
+) -> (Ratio, usize)
+    ensures { result.0 ≡ ratio_at (columns_in columns.now) point.now column.now }
+{
+    match listed_place(columns, start, column) {
+        Some(place) => (number_at(point, place), place),
+        None => (ratio_at(columns, point, column), start),
+    }
+}
+
+/// The number at a place; zero past the last.
+fn number_at(point: &[Ratio], place: usize) -> Ratio
+    ensures { result ≡ get_or point.now place (whole (pos 0)) }
+{
+    if place < point.len() {
+        point[place]
+    } else {
+        Ratio::whole(0)
+    }
+}
+
+/// The number that a point has at a column, by a walk over the columns.
 #[tactic(auto, using(crate::proofs::Walks::walk))]
 fn ratio_at(columns: &Columns<'_>, point: &[Ratio], column: &Mono) -> Ratio
     ensures { result ≡ ratio_at (columns_in columns.now) point.now column.now }
@@ -34,9 +63,12 @@ fn terms_value(columns: &Columns<'_>, point: &[Ratio], of: &[(Mono, i128)]) -> R
     ensures { result ≡ value_from (ratio_at (columns_in columns.now) point.now) (whole (pos 0)) of.now }
 {
     let mut total = Ratio::whole(0);
+    let mut place = 0;
     for (mono, number) in of {
-        let part = Ratio::whole(*number).product(&ratio_at(columns, point, mono))?;
+        let (ratio, found) = ratio_and_place(columns, point, place, mono);
+        let part = Ratio::whole(*number).product(&ratio)?;
         total = total.sum(&part)?;
+        place = found;
     }
     Ok(total)
 }

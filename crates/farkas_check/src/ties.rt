@@ -1,11 +1,13 @@
 ghost use Rattle.std.specs.Prelude.{◌≡◌, ◌&&◌, ◌==◌, pos, length, true, false, Ok};
 ghost use Rattle.std.specs.List.{list_all, zip};
-ghost use Rattle.farkas_check.specs.Relations.{Term, Lower, One, sides, numbers_of, with_side, with_sides, coefficient_at, difference_numbers, difference_form, columns_in, has_count, have_equally_many};
+ghost use Rattle.farkas_check.specs.Listing.{columns_in};
+ghost use Rattle.farkas_check.specs.Relations.{Term, Lower, One, sides, numbers_of, with_side, with_sides, coefficient_at, difference_numbers, difference_form, has_count, have_equally_many};
 ghost use Rattle.farkas_check.specs.Steps.{sums_cancel, terms_from, lower_from, value_in, is_constant, scaled_by, are_multiples};
 ghost use Rattle.farkas_check.specs.Stratum.{all_of, tested_multiple, tested_half, tested_tie, tested_relation, has_unknowns};
 
-use crate::columns::{Columns, next_column};
+use crate::columns::next_column;
 use crate::multiples::{are_multipliers, column_sum, constant_sum, is_same, sums_cancel};
+use crate::source::Columns;
 use crate::{Change, Relation, Tie};
 use linear_terms::{Mono, Poly, Row};
 use whole_numbers::{Wide, product, sum};

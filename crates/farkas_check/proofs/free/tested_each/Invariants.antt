@@ -1,5 +1,6 @@
 use Rattle.std.proofs.Common.{◌≡◌, drop, map}
-use Rattle.farkas_check.specs.Relations.{columns_in, numbers_of, places}
+use Rattle.farkas_check.specs.Listing.{columns_in}
+use Rattle.farkas_check.specs.Relations.{numbers_of, places}
 use Rattle.farkas_check.specs.Steps.{unless_pivot}
 use Rattle.farkas_check.specs.Stratum.{all_of, tested_at, spot_side}
 use Rattle.farkas_check.proofs.free.tested_each.Given as goal

@@ -1,5 +1,5 @@
 use Rattle.std.proofs.Common.{◌≡◌, drop}
-use Rattle.farkas_check.specs.Relations.{columns_in}
+use Rattle.farkas_check.specs.Listing.{columns_in}
 use Rattle.farkas_check.specs.Stratum.{all_of, tested_spot}
 use Rattle.farkas_check.proofs.free.tested_spots.Given as goal
 

@@ -1,5 +1,6 @@
 use Rattle.std.proofs.Common.{◌≡◌, ◌≤◌, drop, map}
-use Rattle.farkas_check.specs.Relations.{columns_in, numbers_of, places, free_places}
+use Rattle.farkas_check.specs.Listing.{columns_in}
+use Rattle.farkas_check.specs.Relations.{numbers_of, places, free_places}
 use Rattle.farkas_check.specs.Steps.{units_from}
 use Rattle.farkas_check.specs.Stratum.{tested_unit, spot_side}
 use Rattle.farkas_check.proofs.free.tested_units.Given as goal

@@ -1,5 +1,6 @@
 use Rattle.std.proofs.Common.{◌≡◌, ◌∙◌, rules}
-use Rattle.farkas_check.specs.Relations.{columns_in, sides, numbers_of}
+use Rattle.farkas_check.specs.Listing.{columns_in}
+use Rattle.farkas_check.specs.Relations.{sides, numbers_of}
 use Rattle.farkas_check.specs.Steps.{scaled_by}
 use Rattle.farkas_check.proofs.Halves.{summed_half, summed_half-is}
 use Rattle.farkas_check.proofs.Sums.{ok_of}

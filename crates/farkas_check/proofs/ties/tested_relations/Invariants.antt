@@ -1,6 +1,6 @@
 use Rattle.std.proofs.Common.{◌≡◌, drop, true}
 use Rattle.std.specs.List.{list_all}
-use Rattle.farkas_check.specs.Relations.{columns_in}
+use Rattle.farkas_check.specs.Listing.{columns_in}
 use Rattle.farkas_check.specs.Stratum.{all_of, tested_relation, has_unknowns}
 use Rattle.farkas_check.proofs.ties.tested_relations.Given as goal
 

@@ -1,6 +1,7 @@
 use Rattle.std.proofs.Common.{◌≡◌, drop, length, true}
 use Rattle.std.specs.List.{list_all, zip}
-use Rattle.farkas_check.specs.Relations.{columns_in, has_count, numbers_of}
+use Rattle.farkas_check.specs.Listing.{columns_in}
+use Rattle.farkas_check.specs.Relations.{has_count, numbers_of}
 use Rattle.farkas_check.specs.Stratum.{all_of, tested_tie}
 use Rattle.farkas_check.proofs.ties.tested_ties.Given as goal
 
