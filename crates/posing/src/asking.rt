@@ -1,0 +1,44 @@
+ghost use Rattle.std.specs.Prelude.{List};
+ghost use Rattle.posing.specs.declared.note.Note.{Note};
+ghost use Rattle.posing.specs.Posing.{answer_to};
+ghost use Rattle.posing.specs.Follows.{Follows};
+ghost use Rattle.posing.specs.Logs.{log_of};
+
+use crate::{Log, WorkError};
+use farkas_check::{Answer, Oracle, Question};
+use items::Items;
+use std::alloc::Global;
+use std::mem;
+
+/// Asks a question and logs its answer. An answer that is taken is logged, also where memory is wanting after it.
+pub fn ask<O: Oracle>(
+    alloc: Global,
+    question: &Question,
+    oracle: &mut O,
+    log: &mut Log,
+) -> Result<Answer, WorkError>
+    ensures { Follows O.asking oracle.old oracle.new log.old log.new result (answer_to question.now) }
+{
+    let mut answers = mem::replace(&mut log.answers, Items::new(alloc)).into_vec();
+    let result = answer_into(alloc, question, oracle, &mut answers);
+    log.answers = Items::from_vec(answers);
+    result
+}
+
+/// There is room for the answer before it is asked for.
+fn answer_into<O: Oracle>(
+    alloc: Global,
+    question: &Question,
+    oracle: &mut O,
+    answers: &mut Vec<Answer>,
+) -> Result<Answer, WorkError>
+    ensures { (notes : List Note) → Follows O.asking oracle.old oracle.new (log_of notes answers.old.items) (log_of notes answers.new.items) result (answer_to question.now) }
+{
+    answers.reserve(1)?;
+    let answer = oracle.ask(alloc, question)?;
+    let copy: Result<_, _> = answer.clone();
+    match answers.push(answer) {
+        Ok(()) => Ok(copy?),
+        Err(_full) => unreachable!(),
+    }
+}

@@ -1,0 +1,13 @@
+//! Calls that ask an oracle. Each is stated as a computation that makes notes and poses questions; its contract says
+//! how far the oracle's answers led it. Every property of what it gives is a law of the computation.
+#![tactic(auto)]
+
+mod asking;
+mod error;
+mod log;
+mod note;
+
+pub use asking::ask;
+pub use error::WorkError;
+pub use log::Log;
+pub use note::{Note, Witness};
