@@ -12,6 +12,7 @@ mod Differences
 -- Points: ratios in lowest terms, the values that they give, and polynomials as sums over columns.
 pub mod Lowest
 pub mod PointValues
+mod RatioLaws
 mod RationalPoints
 pub mod Spreads
 -- The code: its walk over columns, its look-ups, and the order in which it makes sums.

@@ -21,6 +21,10 @@ pub mod Parts
 pub mod Relations
 pub mod Stratum
 pub mod Tested
+-- which questions are dead, slim, narrow, calm and tame, by their rows and numbers alone
+pub mod Sizes
+pub mod Frames
+pub mod Calm
 -- what types keep, and what an oracle says of itself
 pub mod Kept
 pub mod Refusals

@@ -24,5 +24,5 @@ pub use kept::canonicity;
 pub use oracle::{AskError, Oracle};
 pub use passing::{test, test_width, truth_of_passing};
 pub use question::{Goal, Question};
-pub use ratio::Ratio;
+pub use ratio::{Ratio, exactness_of_ratios};
 pub use stratum::{Change, Relation, Spot, Stratum, Tie};

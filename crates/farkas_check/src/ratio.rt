@@ -4,6 +4,7 @@ ghost use Rattle.std.specs.Option.{SomeIff};
 ghost use Rattle.std.specs.Cmp.{partial_equiv_from_equiv};
 ghost use Rattle.farkas_check.specs.Ratios.{whole, lowest_terms, is_lowest, ratio_product, ratio_sum, common_multiple, is_at_least, ratio_eq, ratio_eq_equiv};
 ghost use Rattle.farkas_check.specs.Stratum.{is_exactly};
+ghost use Rattle.farkas_check.specs.Laws.{SumsAreExact, ProductsAreExact, ValuesAreExact};
 
 use std::marker::Model;
 use whole_numbers::{Wide, gcd, product, quotient, sum};
@@ -148,3 +149,11 @@ impl PartialEq for Ratio {
 impl Eq for Ratio {
     ghost laws = { ratio_eq_equiv };
 }
+
+/// Sums and products of ratios, and values of polynomials at points, are what they say wherever their steps have 128
+/// bits.
+pub fn exactness_of_ratios()
+    ensures sums { SumsAreExact }
+    ensures products { ProductsAreExact }
+    ensures values { ValuesAreExact }
+{}
