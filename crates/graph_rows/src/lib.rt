@@ -1,0 +1,12 @@
+//! Rows for the libraries of graphs, which another implementation worked out: how programs run, the flow graphs and the groups
+//! of their procedures, and the paths of graphs. A program stands as its C text.
+#![tactic(auto)]
+
+#[cfg(test)]
+mod graphs;
+#[cfg(test)]
+mod paths;
+#[cfg(test)]
+mod programs;
+#[cfg(test)]
+mod runs;
