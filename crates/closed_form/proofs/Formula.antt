@@ -8,7 +8,7 @@ use Rattle.closed_form.specs.Differences.{Sequence, IsConstant, third_difference
 -- ---- one step of each sum
 
 -- a number and a sum of equal ones, twice a number and a sum of such sums, and six times a number and a sum of these
-abbrev sums : ℤ → ℤ → ℤ → ℤ
+abbrev pub sums : ℤ → ℤ → ℤ → ℤ
 sums before d1 k = before +ℤ k *ℤ d1
 
 abbrev two_sums : ℤ → ℤ → ℤ → ℤ → ℤ
@@ -19,7 +19,7 @@ six_sums before d1 d2 d3 k =
     pos 6 *ℤ before +ℤ pos 6 *ℤ k *ℤ d1 +ℤ pos 3 *ℤ k *ℤ (k -ℤ pos 1) *ℤ d2 +ℤ k *ℤ (k -ℤ pos 1) *ℤ (k -ℤ pos 2) *ℤ d3
 
 -- products with small numbers as sums, so that what is left of an identity is linear
-twice : (x : ℤ) → x *ℤ pos 2 ≡ x +ℤ x
+pub twice : (x : ℤ) → x *ℤ pos 2 ≡ x +ℤ x
 twice x = omega (arith, ints)
 
 thrice : (x : ℤ) → x *ℤ pos 3 ≡ x +ℤ x +ℤ x
@@ -57,7 +57,7 @@ six_sums-next before d1 d2 d3 k =
 
 -- ---- sequences
 
-pos-suc : (i : ℕ) → pos (suc i) ≡ pos i +ℤ pos 1
+pub pos-suc : (i : ℕ) → pos (suc i) ≡ pos i +ℤ pos 1
 pos-suc i = omega (arith, ints)
 
 grown : (n : ℕ) (growth u : Sequence) (i : ℕ) → GrowsBy n growth u → suc i ≤ n → u (suc i) ≡ u i +ℤ growth i
@@ -69,7 +69,7 @@ grown n growth u i grows within =
     moved : (x y z : ℤ) → x -ℤ y ≡ z → x ≡ y +ℤ z
     moved x y z e = omega (arith, ints)
 
-sums-are : (n : ℕ) (u : Sequence) (d : ℤ) → GrowsBy n (λ i. d) u → (i : ℕ) → i ≤ n → u i ≡ sums (u 0) d (pos i)
+pub sums-are : (n : ℕ) (u : Sequence) (d : ℤ) → GrowsBy n (λ i. d) u → (i : ℕ) → i ≤ n → u i ≡ sums (u 0) d (pos i)
 sums-are n u d grows zero within = omega (arith, ints, zero-*ℤ d)
 sums-are n u d grows (suc i) within =
     grown n (λ j. d) u i grows within ∙ ap (λ x. x +ℤ d) (sums-are n u d grows i (omega arith))

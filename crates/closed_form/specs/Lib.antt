@@ -1,2 +1,3 @@
 pub mod ClosedRow
 pub mod Differences
+pub mod Progressions

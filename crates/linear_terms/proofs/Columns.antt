@@ -1,5 +1,5 @@
 -- The columns of what an operation answers are among those of its operands: what holds of each column of these holds of each of its own.
-use Rattle.std.proofs.Common.{◌≡◌, Bool, true, false, cond, ℤ, pos, List, [], ◌∷◌, ◌++◌, ◌+◌, length, fold, map, Result, Ok, Err, refl, sym, ap, subst}
+use Rattle.std.proofs.Common.{◌≡◌, Bool, true, false, cond, ℤ, pos, List, [], ◌∷◌, ◌++◌, ◌+◌, length, fold, Result, Ok, Err, ap, subst}
 use Rattle.std.specs.Prelude.{nat_lt}
 use Rattle.std.specs.List.{AllByRecursion}
 use Rattle.std.specs.Ordering.{int_eq, is_lt, match_ordering}
@@ -13,7 +13,7 @@ use Rattle.linear_terms.specs.declared.error.TermError.TheVariants.{Degree}
 use Rattle.linear_terms.specs.Col.{col_cmp}
 use Rattle.linear_terms.specs.TermError.{plus, times}
 use Rattle.linear_terms.specs.Mono.{mono_cmp, placed, in_order}
-use Rattle.linear_terms.specs.Polynomial.{Terms, Polynomial, constant_of, column_of}
+use Rattle.linear_terms.specs.Polynomial.{Terms, Polynomial, constant_of}
 use Rattle.linear_terms.specs.Operations.{kept, put, put_all, sum_of_polys, times_each, multiple_of, parts, put_part, add_product, add_row, add_rows, product_of_polys, product_on, product_in, replaced, add_substituted, substituted}
 
 -- each column of each term has the property

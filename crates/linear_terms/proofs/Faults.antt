@@ -1,5 +1,5 @@
 -- Which faults an operation cannot have.
-use Rattle.std.proofs.Common.{◌≡◌, ◌≢◌, ℕ, Bool, true, false, cond, ℤ, pos, negsuc, List, [], ◌∷◌, Result, Ok, Err, Some, None, refl, sym, ap, ◌∙◌}
+use Rattle.std.proofs.Common.{◌≡◌, ◌≢◌, ℕ, Bool, true, false, cond, ℤ, pos, negsuc, List, [], ◌∷◌, Result, Ok, Err, refl}
 use Rattle.std.specs.Prelude.{int_div, unsigned_abs, IfErr}
 use Rattle.std.specs.Map.{values_of}
 use Rattle.std.specs.Ordering.{match_ordering}
@@ -8,7 +8,7 @@ use Rattle.std.specs.declared.cmp.Ordering.TheVariants.{Less, Equal, Greater}
 use Rattle.items.specs.Gives.{◌>>=◌, lifted, FailsBy, Gives}
 use Rattle.items.proofs.Gives.{on_err}
 use Rattle.whole_numbers.specs.declared.wide.Wide as Step
-use Rattle.whole_numbers.specs.Divisors.{divides, gcd_of_all, ceiling_of}
+use Rattle.whole_numbers.specs.Divisors.{divides, gcd_of_all}
 use Rattle.whole_numbers.specs.Fits.{sum_of, product_of}
 use Rattle.linear_terms.specs.declared.col.Col.{Col}
 use Rattle.linear_terms.specs.declared.error.TermError.{TermError}
@@ -16,7 +16,6 @@ use Rattle.linear_terms.specs.declared.error.TermError.TheVariants.{Degree, Memo
 use Rattle.linear_terms.specs.declared.row.Kind.{Kind}
 use Rattle.linear_terms.specs.declared.row.Kind.TheVariants as Kinds
 use Rattle.linear_terms.specs.declared.row.Row.{Row}
-use Rattle.linear_terms.specs.declared.row.Normal.{Normal}
 use Rattle.linear_terms.specs.declared.row.Normal.TheVariants.{Constant, Kept}
 use Rattle.linear_terms.specs.TermError.{wide, plus, times, cause}
 use Rattle.linear_terms.specs.Mono.{mono_cmp}

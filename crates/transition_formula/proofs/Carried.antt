@@ -5,6 +5,7 @@ use Rattle.std.specs.List.{list_all, list_any, find, filter}
 use Rattle.std.specs.Option.{option_map}
 use Rattle.std.specs.Ordering.{int_eq}
 use Rattle.items.specs.Gives.{◌>>=◌}
+use Rattle.items.proofs.Each.{each_from_test, test_from_each}
 use Rattle.items.proofs.Gives.{on_ok}
 use Rattle.whole_numbers.specs.Divisors.{divides, gcd_of_all}
 use Rattle.std.specs.Map.{values_of}
@@ -28,6 +29,7 @@ use Rattle.transition_formula.specs.Rows.{with_normal, normal_rows, stronger, al
 use Rattle.transition_formula.specs.Order.{solution, with_solution}
 use Rattle.transition_formula.specs.Rounds.{with_solved}
 use Rattle.transition_formula.proofs.Covered.{both, both_true, lost, Carries, substituted-carries, columns_from_test, test_from_columns, more_columns, rows_by-covered, posts_by-covered}
+use Rattle.transition_formula.proofs.Tidied.{tidied-keeps}
 use Rattle.transition_formula.proofs.Fitting.{below-true, true-below}
 
 abbrev done : {X : Type 0} → X → Result X TermError
@@ -74,79 +76,10 @@ module _ (test : Col → Bool) where
   normal_form-passes row r e h =
       test_from_columns test r.poly (normal_form-each (λ c. IsTrue (test c)) row.poly.terms row.poly.rest row.kind r e (columns_from_test test row.poly h))
 
-  normal_rows-pass : (rows made : List Row) → (normal_rows rows).rows ≡ Some made → IsTrue (list_all passes rows) → IsTrue (list_all passes made)
-  normal_rows-pass [] made e h = let same : [] ≡ made = cc in subst (λ l. IsTrue (list_all passes l)) same refl
-  normal_rows-pass (row ∷ rows) made e h =
-      let parts = both (passes row) (list_all passes rows) h in
-      go (normal_form row) refl e parts.0 (λ m f. normal_rows-pass rows m f parts.1)
-    where
-      kept : (r : Row) (o : Option (List Row)) → option_map (λ l. r ∷ l) o ≡ Some made → IsTrue (passes r) → ((m : List Row) → o ≡ Some m → IsTrue (list_all passes m)) → IsTrue (list_all passes made)
-      kept r None f k ih = cc
-      kept r (Some l) f k ih = let same : r ∷ l ≡ made = cc in subst (λ m. IsTrue (list_all passes m)) same (both_true (passes r) (list_all passes l) k (ih l refl))
-
-      go : (n : Result Normal TermError) → normal_form row ≡ n → (with_normal n (normal_rows rows)).rows ≡ Some made → IsTrue (passes row) → ((m : List Row) → (normal_rows rows).rows ≡ Some m → IsTrue (list_all passes m)) → IsTrue (list_all passes made)
-      go (Err x) n f k ih = ih made f
-      go (Ok (Constant true)) n f k ih = ih made f
-      go (Ok (Constant false)) n f k ih = cc
-      go (Ok (Kept r)) n f k ih = kept r (normal_rows rows).rows f (normal_form-passes row r n k) ih
-
-  -- ---- each once
-
-  with_row-passes : (rows : List Row) (s : Row) → IsTrue (list_all passes rows) → IsTrue (passes s) → IsTrue (list_all passes (with_row rows s))
-  with_row-passes [] s h k = both_true (passes s) true k refl
-  with_row-passes (r ∷ rows) s h k =
-      let parts = both (passes r) (list_all passes rows) h in
-      go (alike r s) parts.0 parts.1 (with_row-passes rows s parts.1 k)
-    where
-      strong : (b : Bool) → IsTrue (passes r) → IsTrue (passes (cond b s r))
-      strong true f = k
-      strong false f = f
-
-      go : (b : Bool) → IsTrue (passes r) → IsTrue (list_all passes rows) → IsTrue (list_all passes (with_row rows s)) → IsTrue (list_all passes (cond b (stronger r s ∷ rows) (r ∷ with_row rows s)))
-      go true f g later = both_true (passes (stronger r s)) (list_all passes rows) (strong (int_lt r.poly.rest s.poly.rest) f) g
-      go false f g later = both_true (passes r) (list_all passes (with_row rows s)) f later
-
-  fold-passes : (rows more : List Row) → IsTrue (list_all passes rows) → IsTrue (list_all passes more) → IsTrue (list_all passes (fold with_row rows more))
-  fold-passes rows [] h k = h
-  fold-passes rows (s ∷ more) h k = let parts = both (passes s) (list_all passes more) k in fold-passes (with_row rows s) more (with_row-passes rows s h parts.0) parts.1
-
-  -- ---- opposite rows
-
-  found-passes : (find_by : Row → Bool) (rows : List Row) (s : Row) → find find_by rows ≡ Some s → IsTrue (list_all passes rows) → IsTrue (passes s)
-  found-passes find_by [] s e h = cc
-  found-passes find_by (r ∷ rows) s e h =
-      let parts = both (passes r) (list_all passes rows) h in
-      go (find_by r) e parts.0 (λ f. found-passes find_by rows s f parts.1)
-    where
-      go : (b : Bool) → cond b (Some r) (find find_by rows) ≡ Some s → IsTrue (passes r) → (find find_by rows ≡ Some s → IsTrue (passes s)) → IsTrue (passes s)
-      go true f k ih = let same : r ≡ s = cc in subst (λ x. IsTrue (passes x)) same k
-      go false f k ih = ih f
-
-  met-passes : (before rows : List Row) → IsTrue (list_all passes rows) → IsTrue (list_all passes (met before rows))
-  met-passes before [] h = refl
-  met-passes before (r ∷ rows) h =
-      let parts = both (passes r) (list_all passes rows) h in
-      go (list_any (λ s. close s r) before) (find (close r) rows) (λ s f. found-passes (close r) rows s f parts.1) parts.0 (met-passes (before ++ r ∷ []) rows parts.1)
-    where
-      turned_to : (b : Bool) (s : Row) → IsTrue (passes r) → IsTrue (passes s) → IsTrue (every_column test (cond b s.poly r.poly))
-      turned_to true s f g = g
-      turned_to false s f g = f
-
-      go : (b : Bool) (o : Option Row) → ((s : Row) → o ≡ Some s → IsTrue (passes s)) → IsTrue (passes r) → IsTrue (list_all passes (met (before ++ r ∷ []) rows)) → IsTrue (list_all passes (with_met r b o (met (before ++ r ∷ []) rows)))
-      go true o found f later = later
-      go false None found f later = both_true (passes r) (list_all passes (met (before ++ r ∷ []) rows)) f later
-      go false (Some s) found f later = both_true (passes (equation_of r s)) (list_all passes (met (before ++ r ∷ []) rows)) (turned_to (starts_negative r.poly.terms) s f (found s refl)) later
-
   pub tidied-passes : (rows made : List Row) → (tidied rows).rows ≡ Some made → IsTrue (list_all passes rows) → IsTrue (list_all passes made)
-  tidied-passes rows made e h = go (normal_rows rows).rows (λ l f. normal_rows-pass rows l f h) e
-    where
-      agreed : (b : Bool) (l : List Row) → cond b (Some (met [] l)) None ≡ Some made → IsTrue (list_all passes l) → IsTrue (list_all passes made)
-      agreed true l f k = let same : met [] l ≡ made = cc in subst (λ m. IsTrue (list_all passes m)) same (met-passes [] l k)
-      agreed false l f k = cc
-
-      go : (o : Option (List Row)) → ((l : List Row) → o ≡ Some l → IsTrue (list_all passes l)) → opposites_met (option_map each_once o) ≡ Some made → IsTrue (list_all passes made)
-      go None tells f = cc
-      go (Some l) tells f = agreed (can_agree (each_once l)) (each_once l) f (fold-passes [] l refl (tells l refl))
+  tidied-passes rows made e h =
+      test_from_each passes (λ row. IsTrue (passes row)) (λ row k. k) made
+      (tidied-keeps (λ p. IsTrue (every_column test p)) normal_form-passes rows made e (each_from_test passes (λ row. IsTrue (passes row)) (λ row k. k) rows h))
 
   -- ---- a solution
 

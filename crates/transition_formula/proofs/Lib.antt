@@ -16,5 +16,6 @@ pub mod Renumbered
 pub mod Rounding
 pub mod Sequences
 pub mod Solutions
+pub mod Tidied
 pub mod Truths
 pub mod Values

@@ -1,10 +1,9 @@
 -- What a formula says of two states.
-use Rattle.std.specs.Prelude.{◌≡◌, ◌⊎◌, ℕ, ℤ, pos, List, [], ◌∷◌, length, map, slice_get, unwrap_or, Option, None, Some, IfOk}
-use Rattle.std.specs.List.{AllByRecursion}
+use Rattle.std.specs.Prelude.{◌≡◌, ◌⊎◌, ℕ, ℤ, pos, List, [], ◌∷◌, length, map, slice_get, unwrap_or, Option, None, Some}
 use Rattle.linear_terms.specs.declared.col.Col.TheVariants.{At, Aux}
 use Rattle.linear_terms.specs.declared.row.Case.{Case}
 use Rattle.linear_terms.specs.declared.row.Row.{Row}
-use Rattle.linear_terms.specs.Row.{normal_form, SaysAsMuch, RowsHold}
+use Rattle.linear_terms.specs.Row.{RowsHold}
 use Rattle.linear_terms.specs.Value.{Valuation, value_of}
 use Rattle.transition_formula.specs.declared.solving.Solved.{Solved}
 use Rattle.transition_formula.specs.declared.solving.Solved.TheVariants.{Kept, False}
@@ -14,10 +13,6 @@ use Rattle.transition_formula.specs.Transition.{Transition}
 abbrev pub numbers : List ℤ → (ℕ → ℤ) → Valuation
 numbers before aux (At number) = unwrap_or (slice_get before number) (pos 0)
 numbers before aux (Aux number) = aux number
-
--- the normal form of the row, if it has one, is true where the row is and nowhere else
-abbrev pub KeepsTruth : Row → Type 0
-KeepsTruth row = IfOk (normal_form row) (λ form. (at : Valuation) → SaysAsMuch at row form)
 
 -- each row that is left is true; nothing is left of rows that can't all be true
 abbrev pub AreTrueLeft : Valuation → Option (List Row) → Type 0

@@ -12,10 +12,6 @@ mod places;
 mod sequence;
 mod solution;
 mod solving;
-#[cfg(test)]
-mod tables;
-#[cfg(test)]
-mod tests;
 mod tidy;
 
 pub use compose::{identity, join};

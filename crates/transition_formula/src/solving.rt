@@ -1,7 +1,7 @@
 ghost use Rattle.std.specs.Prelude.{◌≡◌, ℕ, ℤ, List, ◌+◌, ◌<◌, ◌^◌, ◌++◌, length, IfOk, OnOk, IsTrue};
 ghost use Rattle.std.specs.Option.{option_map};
 ghost use Rattle.linear_terms.specs.Auxiliaries.{is_numbered};
-ghost use Rattle.transition_formula.specs.Meaning.{HoldsCase, HoldsLeft, HoldsSolved};
+ghost use Rattle.transition_formula.specs.Meaning.{HoldsCase, HoldsSolved};
 ghost use Rattle.transition_formula.specs.Transition.{every_column_of, fits};
 ghost use Rattle.transition_formula.specs.Rows.{tidied};
 ghost use Rattle.transition_formula.specs.Rounds.{with_rows, in_order, solved, Stays};
@@ -12,7 +12,7 @@ use crate::solution::without_equation;
 use crate::tidy::tidy;
 use crate::{FormulaError, Loss};
 use items::Items;
-use linear_terms::Case;
+use linear_terms::{Case, see_rows};
 use std::alloc::Global;
 
 /// What is left of a case that is put in order.
@@ -35,6 +35,15 @@ pub fn solve(alloc: Global, case: &Case, losses: &mut Items<Loss>) -> Result<Sol
     ensures at_most { (before after : List ℤ) → losses.new ≡ losses.old → IfOk result (λ made. HoldsSolved made before after → HoldsCase case.now before after) }
     ensures fits { (from to : ℕ) → IsTrue (fits from to case.now) → IfOk result (Stays (λ c. IsTrue (fits from to c))) }
 {
+    see_rows(case.rows.as_slice());
+    in_order(alloc, case, losses)
+}
+
+fn in_order(alloc: Global, case: &Case, losses: &mut Items<Loss>) -> Result<Solved, FormulaError>
+    requires numbered { IsTrue (every_column_of (is_numbered case.now.aux) case.now) }
+    ensures exact { IfOk result (λ made. made ≡ solved (in_order case.now).left) }
+    ensures noted { OnOk result (losses.new ≡ losses.old ++ (in_order case.now).losses) }
+{
     let mut left = case.clone()?;
     for _round in 0..case.rows.len() {
         let Some(tidied) = tidied(alloc, left, losses)? else {
@@ -54,8 +63,6 @@ pub fn solve(alloc: Global, case: &Case, losses: &mut Items<Loss>) -> Result<Sol
 fn tidied(alloc: Global, case: Case, losses: &mut Items<Loss>) -> Result<Option<Case>, FormulaError>
     ensures exact { IfOk result (λ made. made ≡ option_map (with_rows case) (tidied case.rows).rows) }
     ensures noted { OnOk result (losses.new ≡ losses.old ++ (tidied case.rows).losses) }
-    ensures at_least { (before after : List ℤ) → IfOk result (λ made. HoldsCase case before after → HoldsLeft made before after) }
-    ensures at_most { (before after : List ℤ) → losses.new ≡ losses.old → IfOk result (λ made. HoldsLeft made before after → HoldsCase case before after) }
 {
     let Some(rows) = tidy(alloc, case.rows.as_slice(), losses)? else {
         return Ok(None);

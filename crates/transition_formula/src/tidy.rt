@@ -3,10 +3,8 @@ ghost use Rattle.std.specs.List.{list_any, find, cons_option};
 ghost use Rattle.std.specs.Ordering.{int_eq};
 ghost use Rattle.std.specs.Cmp.Lexicographic.{pointwise};
 ghost use Rattle.linear_terms.specs.Equality.{term_eq};
-ghost use Rattle.linear_terms.specs.Row.{normal_form, starts_negative, RowsHold};
-ghost use Rattle.linear_terms.specs.Value.{Valuation};
+ghost use Rattle.linear_terms.specs.Row.{normal_form, starts_negative};
 ghost use Rattle.transition_formula.specs.Loss.{answered, losses_of};
-ghost use Rattle.transition_formula.specs.Meaning.{AreTrueLeft, KeepsTruth};
 ghost use Rattle.transition_formula.specs.Places.{key_of, EachApart, TellsPlaces};
 ghost use Rattle.transition_formula.specs.Rows.{normal_rows, each_once, is_at_most, negated, are_opposite, exclude, can_agree, close, equation_of, with_met, met, opposites_met, tidied};
 
@@ -26,8 +24,6 @@ pub(crate) fn tidy(
 ) -> Result<Option<Items<Row>>, FormulaError>
     ensures exact { IfOk result (λ made. made ≡ (tidied rows.now).rows) }
     ensures noted { OnOk result (losses.new ≡ losses.old ++ (tidied rows.now).losses) }
-    ensures at_least { (at : Valuation) → IfOk result (λ made. RowsHold at rows.now → AreTrueLeft at made) }
-    ensures at_most { (at : Valuation) → losses.new ≡ losses.old → IfOk result (λ made. AreTrueLeft at made → RowsHold at rows.now) }
 {
     let Some(rows) = normal_rows(alloc, rows, losses)? else {
         return Ok(None);
@@ -43,8 +39,6 @@ fn normal_rows(
 ) -> Result<Option<Items<Row>>, FormulaError>
     ensures exact { IfOk result (λ made. made ≡ (normal_rows rows.now).rows) }
     ensures noted { OnOk result (losses.new ≡ losses.old ++ (normal_rows rows.now).losses) }
-    ensures at_least { (at : Valuation) → IfOk result (λ made. RowsHold at rows.now → AreTrueLeft at made) }
-    ensures at_most { (at : Valuation) → losses.new ≡ losses.old → IfOk result (λ made. AreTrueLeft at made → RowsHold at rows.now) }
 {
     let mut made = Items::new(alloc);
     for row in rows {
@@ -69,7 +63,6 @@ fn normal_row(
 ) -> Result<Option<Normal>, FormulaError>
     ensures answer { IfOk result (λ made. made ≡ answered (normal_form row.now)) }
     ensures noted { OnOk result (losses.new ≡ losses.old ++ losses_of (normal_form row.now)) }
-    ensures told { OnOk result (KeepsTruth row.now) }
 {
     match normal(alloc, row) {
         Ok(form) => Ok(Some(form)),

@@ -1,4 +1,4 @@
-use Rattle.std.proofs.Common.{subst, sym, ap, rules}
+use Rattle.std.proofs.Common.{subst, sym, rules}
 use Rattle.std.specs.Prelude.{not}
 use Rattle.linear_terms.specs.Auxiliaries.{has_auxiliary}
 use Rattle.linear_terms.specs.Polynomial.{IsCanonical}

@@ -1,7 +1,5 @@
-use Rattle.std.proofs.Common.{◌≡◌, ◌++◌, drop, take}
-use Rattle.std.specs.List.{AllByRecursion}
+use Rattle.std.proofs.Common.{◌≡◌, ◌++◌, drop}
 use Rattle.std.specs.Option.{option_map}
-use Rattle.transition_formula.specs.Meaning.{KeepsTruth}
 use Rattle.transition_formula.specs.Rows.{normal_rows}
 use Rattle.transition_formula.proofs.tidy.normal_rows.Given as goal
 
@@ -10,5 +8,4 @@ invariant-loop-row l =
     record {
       made : option_map (λ rest. l.made ++ rest) (normal_rows (drop l.row-index l.rows)).rows ≡ (normal_rows l.rows).rows;
       noted : l.losses ++ (normal_rows (drop l.row-index l.rows)).losses ≡ l.initial.losses ++ (normal_rows l.rows).losses;
-      told : AllByRecursion KeepsTruth (take l.row-index l.rows);
     }

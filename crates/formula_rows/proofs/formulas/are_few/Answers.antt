@@ -1,6 +1,6 @@
 use Rattle.std.proofs.Common.{◌≡◌, true, sym, ◌∙◌, arith, rules}
 use Rattle.transition_formula.proofs.Few.{all_few}
-use Rattle.transition_formula.proofs.tests.are_few.Goals as goal
+use Rattle.formula_rows.proofs.formulas.are_few.Goals as goal
 
 pub returns : goal.returns
 returns c h =

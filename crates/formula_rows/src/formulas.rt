@@ -3,71 +3,20 @@ ghost use Rattle.std.specs.List.{list_all};
 ghost use Rattle.linear_terms.specs.Auxiliaries.{is_numbered};
 ghost use Rattle.transition_formula.specs.Transition.{every_column};
 
-use crate::tables::{
+use crate::formula_tables::{
     A_CASE_DROPPED_LATE, A_GREATER_CONSTANT_MEETS_ITS_OPPOSITE, AN_AUXILIARY_IN_A_PRODUCT_STAYS,
     AUXILIARIES_ARE_RENUMBERED, EQUAL_ROWS_STAND_ONCE, EQUATIONS_ARE_SOLVED, LOSSES_OF_DEGREE,
     LOSSES_OF_WIDTH, OPPOSITE_INEQUALITIES, OPPOSITE_NUMBERS_AT_THE_ENDS, ROWS_IN_NORMAL_FORM,
     SEQUENCES,
 };
-use crate::{Formula, Loss, Solved, identity, join, seq, solve};
 use items::Items;
-use linear_terms::{Case, Col, Kind, Mono, Poly, Row, add, mul};
+use linear_terms::{Case, Col, Mono, Poly, Row};
+use polynomial_texts::case;
 use std::alloc::Global;
 use std::fmt::Write;
 use std::process::Abort;
 use std::test::Fail;
-
-/// The column or number that a factor is.
-fn factor(alloc: Global, text: &str) -> Result<Poly, Fail> {
-    if let Some(number) = text.strip_prefix('x') {
-        return Ok(Poly::column(alloc, Col::At(number.parse::<u32>()?))?);
-    }
-    if let Some(number) = text.strip_prefix('a') {
-        return Ok(Poly::column(alloc, Col::Aux(number.parse::<u32>()?))?);
-    }
-    Ok(Poly::constant(alloc, text.parse::<i128>()?))
-}
-
-/// The polynomial that is written as `write_poly` writes it.
-fn poly(alloc: Global, text: &str) -> Result<Poly, Fail> {
-    let mut made = Poly::constant(alloc, 0);
-    for term in text.split('+') {
-        let mut product = Poly::constant(alloc, 1);
-        for part in term.trim().split('*') {
-            product = mul(alloc, &product, &factor(alloc, part)?)?;
-        }
-        made = add(alloc, &made, &product)?;
-    }
-    Ok(made)
-}
-
-fn row(alloc: Global, text: &str) -> Result<Row, Fail> {
-    let (left, kind) = match text.trim().strip_suffix("<= 0") {
-        Some(left) => (left, Kind::AtMost),
-        None => (
-            text.trim().strip_suffix("= 0").ok_or("no row")?,
-            Kind::Equal,
-        ),
-    };
-    let poly = poly(alloc, left)?;
-    Ok(Row { poly, kind })
-}
-
-/// The case that is written as `write_case` writes it.
-fn case(alloc: Global, text: &str) -> Result<Case, Fail> {
-    let mut parts = text.split(';');
-    let mut head = parts.next().ok_or("no case")?.split('|');
-    let aux = head.next().ok_or("no number")?.trim().parse::<u32>()?;
-    let mut rows = Items::new(alloc);
-    for part in head {
-        rows.push(row(alloc, part)?)?;
-    }
-    let mut post = Items::new(alloc);
-    for part in parts {
-        post.push(poly(alloc, part)?)?;
-    }
-    Ok(Case { aux, rows, post })
-}
+use transition_formula::{Formula, Loss, Solved, identity, join, seq, solve};
 
 /// The formula between so many columns whose cases stand between slashes.
 fn formula(alloc: Global, from: u32, to: u32, text: &str) -> Result<Formula, Fail> {
@@ -78,35 +27,13 @@ fn formula(alloc: Global, from: u32, to: u32, text: &str) -> Result<Formula, Fai
     Ok(Formula::new(from, to, cases).ok_or("no formula")?)
 }
 
-fn write_poly(text: &mut String, poly: &Poly) -> Result<(), Fail> {
-    for (mono, number) in poly.terms() {
-        write!(text, "{number}")?;
-        for col in mono.columns() {
-            match col {
-                Col::At(number) => write!(text, "*x{number}")?,
-                Col::Aux(number) => write!(text, "*a{number}")?,
-            }
-        }
-        write!(text, " + ")?;
-    }
-    let rest = poly.rest();
-    write!(text, "{rest}")?;
-    Ok(())
-}
-
 fn write_case(text: &mut String, case: &Case) -> Result<(), Fail> {
     write!(text, "{}", case.aux)?;
     for row in case.rows.as_slice() {
-        write!(text, " | ")?;
-        write_poly(text, &row.poly)?;
-        match row.kind {
-            Kind::AtMost => write!(text, " <= 0")?,
-            Kind::Equal => write!(text, " = 0")?,
-        }
+        write!(text, " | {row}")?;
     }
     for post in case.post.as_slice() {
-        write!(text, " ; ")?;
-        write_poly(text, post)?;
+        write!(text, " ; {post}")?;
     }
     Ok(())
 }
@@ -247,13 +174,13 @@ fn identity_and_choice(rt: HostRuntime) -> Result<(), Fail> {
     let same = identity(alloc, 2)?;
     let mut text = String::new(alloc);
     write_formula(&mut text, &same)?;
-    assert_eq!(rt; text.as_str(), "0 ; 1*x0 + 0 ; 1*x1 + 0");
-    let other = formula(alloc, 2, 2, "1 ; 2*x0 ; a0")?;
+    assert_eq!(rt; text.as_str(), "0 ; x0 ; x1");
+    let other = formula(alloc, 2, 2, "1 ; 2*x0 ; $1")?;
     let mut text = String::new(alloc);
     write_formula(&mut text, &either(alloc, &same, &other)?)?;
     assert_eq!(rt;
         text.as_str(),
-        "0 ; 1*x0 + 0 ; 1*x1 + 0 / 1 ; 2*x0 + 0 ; 1*a0 + 0"
+        "0 ; x0 ; x1 / 1 ; 2*x0 ; $1"
     );
     Ok(())
 }
