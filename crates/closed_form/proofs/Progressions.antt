@@ -1,19 +1,19 @@
 -- A climb stays below the sum of its progression, and the row says so.
-use Rattle.std.proofs.Common.{◌≡◌, ℕ, zero, suc, ◌+◌, ◌<◌, ◌≤◌, Ok, sym, ap, ◌∙◌, arith, add-one, ℤ, pos, ◌+ℤ◌, ◌-ℤ◌, ◌*ℤ◌, ◌≤ℤ◌}
+use Rattle.std.proofs.Common.{◌≡◌, ℕ, zero, suc, ◌+◌, ◌<◌, ◌≤◌, Ok, ap, ◌∙◌, arith, add-one, ℤ, pos, ◌+ℤ◌, ◌-ℤ◌, ◌*ℤ◌, ◌≤ℤ◌}
 use Rattle.std.specs.Prelude.{◌↔◌}
 use Rattle.std.proofs.lemmas.Int.{ints}
 use Rattle.std.proofs.Math.IntN.{zero-*ℤ}
 use Rattle.whole_numbers.proofs.Ring.{ring}
 use Rattle.linear_terms.specs.declared.col.Col.{Col}
 use Rattle.linear_terms.specs.declared.row.Row.{Row}
-use Rattle.linear_terms.specs.Expressions.{◌⊠◌, ◌⊟◌, whole, column}
+use Rattle.linear_terms.specs.Expressions.{whole, column}
 use Rattle.linear_terms.specs.Polynomial.{Polynomial}
 use Rattle.linear_terms.specs.Row.{RowHolds}
 use Rattle.linear_terms.specs.Value.{Valuation, value_of}
 use Rattle.linear_terms.proofs.Worth.{IsWorth, IsWorth-Ok, IsWorth-whole, IsWorth-column, IsWorth-product, IsWorth-difference, RowHolds-at_most}
 use Rattle.closed_form.specs.ClosedRow.{sum_poly, sum_row}
 use Rattle.closed_form.specs.Progressions.{Climb, IsClimb, IsSumBound, ReadsClimb}
-use Rattle.closed_form.proofs.Formula.{sums, sums-are, pos-suc, twice}
+use Rattle.closed_form.proofs.Formula.{sums-are, pos-suc, twice}
 
 -- ---- the sum of a progression
 

@@ -56,9 +56,9 @@ pub closed_row-value : (at : Valuation) (after before d1 d2 d3 : Polynomial) (k 
 closed_row-value at after before d1 d2 d3 k r e =
     let says = RowHolds-equation (closed_poly-value at after before d1 d2 d3 k) r e in
     let sides = moved (pos 6 *ℤ value_of at after) (pos 6 *ℤ value_of at before)
-        (pos 6 *ℤ at k *ℤ value_of at d1)
-        (pos 3 *ℤ at k *ℤ (at k -ℤ pos 1) *ℤ value_of at d2)
-        (at k *ℤ (at k -ℤ pos 1) *ℤ (at k -ℤ pos 2) *ℤ value_of at d3) in
+    (pos 6 *ℤ at k *ℤ value_of at d1)
+    (pos 3 *ℤ at k *ℤ (at k -ℤ pos 1) *ℤ value_of at d2)
+    (at k *ℤ (at k -ℤ pos 1) *ℤ (at k -ℤ pos 2) *ℤ value_of at d3) in
     (λ h. sides.0 (says.0 h), λ h. says.1 (sides.1 h))
   where
     moved : (a b x y z : ℤ) → (a -ℤ b -ℤ x -ℤ y -ℤ z ≡ pos 0) ↔ (a ≡ b +ℤ x +ℤ y +ℤ z)

@@ -93,7 +93,14 @@ fn sum_rows(rt: HostRuntime) -> Result<(), Fail> {
         let growth = growth.trim().parse::<i128>()?;
         let constant = constant.trim().parse::<i128>()?;
         let change = poly(alloc, change)?;
-        let made = sum_row(alloc, &change, &poly(alloc, term)?, growth, constant, Col::Aux(1));
+        let made = sum_row(
+            alloc,
+            &change,
+            &poly(alloc, term)?,
+            growth,
+            constant,
+            Col::Aux(1),
+        );
         let made = shown(alloc, made)?;
         assert_eq!(rt; made.as_str(), wanted.trim(), "{line}");
     }

@@ -178,10 +178,7 @@ fn identity_and_choice(rt: HostRuntime) -> Result<(), Fail> {
     let other = formula(alloc, 2, 2, "1 ; 2*x0 ; $1")?;
     let mut text = String::new(alloc);
     write_formula(&mut text, &either(alloc, &same, &other)?)?;
-    assert_eq!(rt;
-        text.as_str(),
-        "0 ; x0 ; x1 / 1 ; 2*x0 ; $1"
-    );
+    assert_eq!(rt; text.as_str(), "0 ; x0 ; x1 / 1 ; 2*x0 ; $1");
     Ok(())
 }
 

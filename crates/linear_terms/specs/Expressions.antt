@@ -17,7 +17,6 @@ Made = Result Polynomial TermError
 infixl 7 ◌⊠◌
 infixl 6 ◌⊞◌
 infixl 6 ◌⊟◌
-
 -- a product
 abbrev pub ◌⊠◌ : Made → Made → Made
 a ⊠ b = a >>= λ p. b >>= λ q. product_of_polys p q

@@ -81,7 +81,5 @@ fn column(text: &str) -> Result<Option<Col>, TextError> {
         return Ok(None);
     };
     let number = number.parse::<u32>()?;
-    Ok(Some(Col::Aux(
-        number.checked_sub(1).ok_or(TextError::Malformed)?,
-    )))
+    Ok(Some(Col::Aux(number.checked_sub(1).ok_or(TextError::Malformed)?)))
 }

@@ -1,8 +1,7 @@
 -- A case put in order has the columns that it had: what passes for each column of its rows and posts passes on.
-use Rattle.std.proofs.Common.{◌≡◌, ℕ, ◌+◌, ◌≤◌, Bool, true, false, cond, ℤ, pos, negsuc, fold, List, [], ◌∷◌, ◌++◌, Option, Some, None, Result, Ok, Err, refl, subst, arith}
-use Rattle.std.specs.Prelude.{IsTrue, not, ◌==◌, int_lt, int_div, unsigned_abs, count_by}
-use Rattle.std.specs.List.{list_all, list_any, find, filter}
-use Rattle.std.specs.Option.{option_map}
+use Rattle.std.proofs.Common.{◌≡◌, ℕ, ◌+◌, ◌≤◌, Bool, true, false, cond, ℤ, pos, negsuc, List, [], ◌∷◌, Some, Result, Ok, Err, refl, subst, arith}
+use Rattle.std.specs.Prelude.{IsTrue, not, ◌==◌, int_div, unsigned_abs, count_by}
+use Rattle.std.specs.List.{list_all, filter}
 use Rattle.std.specs.Ordering.{int_eq}
 use Rattle.items.specs.Gives.{◌>>=◌}
 use Rattle.items.proofs.Each.{each_from_test, test_from_each}
@@ -16,7 +15,6 @@ use Rattle.linear_terms.specs.declared.row.Kind.{Kind}
 use Rattle.linear_terms.specs.declared.row.Kind.TheVariants.{AtMost, Equal}
 use Rattle.linear_terms.specs.declared.row.Row.{Row}
 use Rattle.linear_terms.specs.declared.row.Case.{Case}
-use Rattle.linear_terms.specs.declared.row.Normal.{Normal}
 use Rattle.linear_terms.specs.declared.row.Normal.TheVariants.{Constant, Kept}
 use Rattle.linear_terms.specs.Polynomial.{Terms, Polynomial, column_of, coefficient_in}
 use Rattle.linear_terms.specs.Operations.{multiple_of, substituted}
@@ -25,7 +23,7 @@ use Rattle.linear_terms.specs.Row.{normal_form, divided, with_positive_first, st
 use Rattle.linear_terms.proofs.Columns.{EachColumn, multiple_of-each}
 use Rattle.transition_formula.specs.Transition.{every_column, every_column_of}
 use Rattle.transition_formula.specs.Composition.{by, posts_by, rows_by}
-use Rattle.transition_formula.specs.Rows.{with_normal, normal_rows, stronger, alike, with_row, each_once, close, equation_of, with_met, met, can_agree, opposites_met, tidied}
+use Rattle.transition_formula.specs.Rows.{tidied}
 use Rattle.transition_formula.specs.Order.{solution, with_solution}
 use Rattle.transition_formula.specs.Rounds.{with_solved}
 use Rattle.transition_formula.proofs.Covered.{both, both_true, lost, Carries, substituted-carries, columns_from_test, test_from_columns, more_columns, rows_by-covered, posts_by-covered}

@@ -1,21 +1,27 @@
-pub mod AtPlaces
+-- ---- a case put in order holds of what it held of
+pub mod Ordering
+pub mod NormalRows
+pub mod Solutions
+pub mod Renumbered
+pub mod Truths
+-- ---- sequence, choice and some of the posts
+pub mod Meanings
+pub mod Meeting
+pub mod Sequences
+pub mod SomePosts
+pub mod Values
+-- ---- which columns results have, and which formulas can be put in order
 pub mod Carried
 pub mod Covered
 pub mod Few
+pub mod Fitted
 pub mod Fitting
 pub mod Kept
-pub mod Loops
-pub mod Meanings
-pub mod Meeting
-pub mod NormalRows
 pub mod Numbers
-pub mod Opposites
-pub mod Ordering
-pub mod Ranges
-pub mod Renumbered
-pub mod Rounding
-pub mod Sequences
-pub mod Solutions
 pub mod Tidied
-pub mod Truths
-pub mod Values
+-- ---- loops of the code
+pub mod AtPlaces
+pub mod Loops
+pub mod Opposites
+pub mod Ranges
+pub mod Rounding

@@ -1,11 +1,11 @@
 -- Rows in normal form are true where they were, if they are canonical.
-use Rattle.std.proofs.Common.{◌≡◌, true, false, List, [], ◌∷◌, ◌++◌, Option, Some, None, Result, Ok, Err, refl, sym, subst, ◌∙◌}
+use Rattle.std.proofs.Common.{◌≡◌, true, false, List, [], ◌∷◌, ◌++◌, Option, Some, None, Result, Ok, Err, refl, sym, ◌∙◌}
 use Rattle.std.specs.Option.{option_map}
 use Rattle.linear_terms.specs.declared.error.TermError.{TermError}
 use Rattle.linear_terms.specs.declared.row.Row.{Row}
 use Rattle.linear_terms.specs.declared.row.Normal.{Normal}
 use Rattle.linear_terms.specs.declared.row.Normal.TheVariants.{Constant, Kept}
-use Rattle.linear_terms.specs.Polynomial.{Polynomial, IsCanonical}
+use Rattle.linear_terms.specs.Polynomial.{IsCanonical}
 use Rattle.linear_terms.specs.Row.{normal_form, SaysAsMuch, RowsHold}
 use Rattle.linear_terms.specs.Value.{Valuation}
 use Rattle.linear_terms.proofs.Normals.{normal_form-SaysAsMuch}

@@ -1,18 +1,17 @@
 -- What a case that is put in order holds of: all that it held of, and no more where nothing is noted, if its rows are
 -- canonical and its auxiliaries numbered.
-use Rattle.std.proofs.Common.{◌≡◌, ℕ, zero, suc, Bool, true, false, cond, ℤ, List, [], ◌∷◌, ◌++◌, length, Option, Some, None, Result, Ok, Err, refl, sym, ap, subst, ◌∙◌}
+use Rattle.std.proofs.Common.{◌≡◌, ℕ, zero, suc, Bool, true, false, cond, ℤ, List, [], ◌∷◌, ◌++◌, length, Option, Some, None, Result, Ok, Err, refl, sym, subst, ◌∙◌}
 use Rattle.std.specs.Prelude.{IsTrue, slice_get, IfOk, OnOk}
 use Rattle.std.specs.List.{remove, cons_option}
 use Rattle.std.proofs.lemmas.List.Elements.{recursion_from_All}
 use Rattle.linear_terms.specs.declared.error.TermError.{TermError}
 use Rattle.linear_terms.specs.declared.row.Row.{Row}
 use Rattle.linear_terms.specs.declared.row.Case.{Case}
-use Rattle.linear_terms.specs.declared.row.Kind.{Kind}
 use Rattle.linear_terms.specs.declared.row.Normal.TheVariants.{Kept}
 use Rattle.linear_terms.specs.Auxiliaries.{occurs, put_for}
 use Rattle.linear_terms.specs.Operations.{substituted}
 use Rattle.linear_terms.specs.Polynomial.{Polynomial, IsCanonical}
-use Rattle.linear_terms.specs.Row.{normal_form, RowsHold, AreCanonical}
+use Rattle.linear_terms.specs.Row.{normal_form, AreCanonical}
 use Rattle.linear_terms.proofs.Canonical.{IsCanonical-substituted}
 use Rattle.linear_terms.proofs.Normals.{normal_form-HasCanonicalTerms}
 use Rattle.transition_formula.specs.declared.loss.Loss.{Loss}
@@ -20,18 +19,17 @@ use Rattle.transition_formula.specs.declared.solving.Solved.{Solved}
 use Rattle.transition_formula.specs.declared.error.FormulaError.{FormulaError}
 use Rattle.transition_formula.specs.Transition.{fits}
 use Rattle.transition_formula.proofs.Kept.{kept-fits}
-use Rattle.transition_formula.specs.Composition.{Operation, by, rows_by, row_of}
+use Rattle.transition_formula.specs.Composition.{rows_by, row_of}
 use Rattle.transition_formula.specs.Meaning.{AreTrueLeft, numbers, HoldsCase, HoldsLeft, HoldsSolved}
 use Rattle.transition_formula.specs.Order.{first_equation, solution, with_solution}
-use Rattle.transition_formula.specs.Renumbering.{renumbered_case}
 use Rattle.transition_formula.specs.Rows.{tidied}
-use Rattle.transition_formula.specs.Rounds.{Ordered, after_losses, with_rows, with_solved, lost_with_solved, solved_at, solved_first, round, rounds, in_order, solved, Stays}
+use Rattle.transition_formula.specs.Rounds.{with_rows, with_solved, lost_with_solved, solved_at, solved_first, round, rounds, in_order, solved, Stays}
 use Rattle.transition_formula.proofs.NormalRows.{AreCanonicalEach, tidied-hold, tidied-held, nothing_new}
 use Rattle.transition_formula.proofs.Numbers.{numbered}
 use Rattle.transition_formula.proofs.Renumbered.{renumbered-hold, renumbered-held}
-use Rattle.transition_formula.proofs.Rounding.{AllNumbered, IsTidied, found_at, first_equation-row, tidied-numbered, solved-numbered}
+use Rattle.transition_formula.proofs.Rounding.{AllNumbered, found_at, first_equation-row, tidied-numbered, solved-numbered}
 use Rattle.transition_formula.proofs.Solutions.{found-can_solve, solved-hold, solved-held}
-use Rattle.transition_formula.proofs.Tidied.{EachRow, tidied-keeps}
+use Rattle.transition_formula.proofs.Tidied.{tidied-keeps}
 use Rattle.transition_formula.proofs.Values.{none-of}
 
 -- ---- rows stay canonical
@@ -139,10 +137,13 @@ module _ (before after : List ℤ) where
       first left (Some found) e k lost held ih = at_equation left found.0 found.1 (slice_get left.rows found.0) refl e k lost held ih
 
       back : (rows : List Row) → (tidied case.rows).rows ≡ Some rows → (tidied case.rows).losses ≡ [] → HoldsCase (with_rows case rows) before after → HoldsCase case before after
-      back rows e lost (aux, k) = (aux, record {
-        rows = tidied-held (numbers before aux) case.rows ready.canonical lost (subst (AreTrueLeft (numbers before aux)) (sym e) k.rows);
-        posts = k.posts;
-      })
+      back rows e lost (aux, k) = (
+        aux,
+        record {
+          rows = tidied-held (numbers before aux) case.rows ready.canonical lost (subst (AreTrueLeft (numbers before aux)) (sym e) k.rows);
+          posts = k.posts;
+        },
+      )
 
       go : (o : Option (List Row)) → (tidied case.rows).rows ≡ o → (tidied case.rows).losses ≡ [] → (round (rounds n) case o).losses ≡ [] → HoldsLeft (round (rounds n) case o).left before after
           → ((next : Case) → IsReady next → (rounds n next).losses ≡ [] → HoldsLeft (rounds n next).left before after → HoldsCase next before after) → HoldsCase case before after

@@ -9,7 +9,7 @@ use Rattle.linear_terms.specs.declared.row.Normal.{Normal}
 use Rattle.linear_terms.specs.declared.row.Normal.TheVariants.{Constant, Kept}
 use Rattle.linear_terms.specs.Polynomial.{Polynomial}
 use Rattle.linear_terms.specs.Row.{normal_form, starts_negative}
-use Rattle.transition_formula.specs.Rows.{with_normal, normal_rows, stronger, alike, with_row, each_once, close, equation_of, with_met, met, can_agree, opposites_met, tidied}
+use Rattle.transition_formula.specs.Rows.{with_normal, normal_rows, stronger, alike, with_row, each_once, close, with_met, met, can_agree, opposites_met, tidied}
 
 -- it holds of each row's polynomial
 abbrev pub EachRow : (Polynomial → Type 0) → List Row → Type 0

@@ -47,3 +47,22 @@ HoldsSome (case ∷ cases) before after = HoldsCase case before after ⊎ HoldsS
 pub record Holds (f : Transition) (before after : List ℤ) : Type 0 where
   pub enters : length before ≡ f.from
   pub some : HoldsSome f.cases before after
+
+-- the first formula holds of all that the second holds of
+abbrev pub Covers : Transition → Transition → Type 0
+Covers f g = (before after : List ℤ) → Holds g before after → Holds f before after
+
+-- ---- states that a formula links
+
+-- it holds of each state and the next
+abbrev pub IsChain : Transition → List ℤ → List (List ℤ) → Type 0
+IsChain f first [] = Unit {0}
+IsChain f first (next ∷ more) = Holds f first next × IsChain f next more
+
+abbrev pub last_of : List ℤ → List (List ℤ) → List ℤ
+last_of first [] = first
+last_of first (next ∷ more) = last_of next more
+
+-- the second formula holds of the first and the last state of every chain under the first
+abbrev pub HoldsOfChains : Transition → Transition → Type 0
+HoldsOfChains f g = (first : List ℤ) (more : List (List ℤ)) → length first ≡ f.from → IsChain f first more → Holds g first (last_of first more)

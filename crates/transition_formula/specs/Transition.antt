@@ -1,9 +1,10 @@
 -- Formulas between the numbers of a state and those of a later one, as plain data.
-use Rattle.std.specs.Prelude.{ℕ, ◌+◌, ◌<◌, ◌^◌, List, All, Bool, ◌&&◌, ◌==◌, nat_lt, length, IsTrue}
+use Rattle.std.specs.Prelude.{ℕ, ◌+◌, ◌<◌, ◌^◌, List, All, Bool, ◌&&◌, ◌==◌, nat_lt, nat_le, length, IsTrue}
 use Rattle.std.specs.List.{list_all}
 use Rattle.linear_terms.specs.declared.col.Col.{Col}
 use Rattle.linear_terms.specs.declared.col.Col.TheVariants.{At, Aux}
 use Rattle.linear_terms.specs.declared.row.Case.{Case}
+use Rattle.linear_terms.specs.Auxiliaries.{is_numbered}
 use Rattle.linear_terms.specs.Polynomial.{Polynomial}
 
 -- from so many columns to so many, by one case or another
@@ -32,6 +33,23 @@ fits from to case = length case.post == to && every_column_of (is_below from cas
 -- each case fits
 abbrev pub IsTransition : ℕ → ℕ → List Case → Type 0
 IsTransition from to cases = IsTrue (list_all (fits from to) cases)
+
+-- at most 16 cases, each of at most 64 rows and 64 auxiliaries: the analysis goes on with so many as they are
+abbrev pub is_fitted : List Case → Bool
+is_fitted cases = nat_le (length cases) 16 && list_all (λ case. nat_le (length case.rows) 64 && nat_le case.aux 64) cases
+
+abbrev pub IsFitted : List Case → Type 0
+IsFitted cases = IsTrue (is_fitted cases)
+
+-- The case can be put in order: its auxiliaries are numbered below their count, and numbers of 32 bits suffice for one more
+-- by post.
+pub record IsSolvable (case : Case) : Type 0 where
+  pub numbered : IsTrue (every_column_of (is_numbered case.aux) case)
+  pub few : case.aux + length case.post < 2 ^ 32
+
+-- each case can
+abbrev pub AreSolvable : List Case → Type 0
+AreSolvable cases = All IsSolvable cases
 
 -- the auxiliaries of any case of the one, those of any case of the other and the other's columns are few enough to be numbered
 abbrev pub AreFew : Transition → Transition → Type 0

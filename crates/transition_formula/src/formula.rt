@@ -1,7 +1,7 @@
-ghost use Rattle.std.specs.Prelude.{◌≡◌, IsTrue};
+ghost use Rattle.std.specs.Prelude.{◌≡◌, ◌↔◌, ◌&&◌, nat_le, length, IsTrue};
 ghost use Rattle.std.specs.List.{list_all};
 ghost use Rattle.std.specs.Option.{SomeIff};
-ghost use Rattle.transition_formula.specs.Transition.{Transition, fits, every_column, every_column_of, is_below, IsTransition};
+ghost use Rattle.transition_formula.specs.Transition.{Transition, fits, every_column, every_column_of, is_below, is_fitted, IsTransition};
 
 use items::Items;
 use linear_terms::{Case, Poly, Row};
@@ -40,6 +40,30 @@ impl Formula {
         }
     }
 
+    /// The formula of cases that fit.
+    pub fn from_cases(from: u32, to: u32, cases: Items<Case>) -> Formula
+        requires { IsTransition from to cases }
+        ensures { result ≡ record { from = from; to = to; cases = cases } }
+    {
+        Formula { from, to, cases }
+    }
+
+    /// Whether two formulas are equal.
+    pub fn same(&self, other: &Formula) -> bool
+        ensures { IsTrue result ↔ (self.now ≡ other.now) }
+    {
+        self.from == other.from
+            && self.to == other.to
+            && are_same(self.cases.as_slice(), other.cases.as_slice())
+    }
+
+    /// Whether there are at most 16 cases, each of at most 64 rows and 64 auxiliaries.
+    pub fn is_fitted(&self) -> bool
+        ensures { result ≡ is_fitted self.now.cases }
+    {
+        self.cases.len() <= 16 && have_few_parts(self.cases.as_slice())
+    }
+
     /// The number of columns at entry.
     pub fn from(&self) -> u32
         ensures { result ≡ self.now.from }
@@ -73,6 +97,20 @@ impl Clone for Formula {
             cases,
         })
     }
+}
+
+fn are_same(cases: &[Case], others: &[Case]) -> bool
+    ensures { IsTrue result ↔ (cases.now ≡ others.now) }
+{
+    cases == others
+}
+
+fn have_few_parts(cases: &[Case]) -> bool
+    ensures { result ≡ list_all (λ case. nat_le (length case.rows) 64 && nat_le case.aux 64) cases.now }
+{
+    cases
+        .iter()
+        .all(|case| case.rows.len() <= 64 && case.aux <= 64)
 }
 
 fn all_fit(cases: &[Case], from: u32, to: u32) -> bool

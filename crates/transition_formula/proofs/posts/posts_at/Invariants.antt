@@ -1,0 +1,7 @@
+use Rattle.std.proofs.Common.{◌≡◌, ◌++◌, drop}
+use Rattle.transition_formula.specs.Posts.{posts_at}
+use Rattle.transition_formula.proofs.posts.posts_at.Given as goal
+
+-- those so far, and then the rest
+abbrev pub invariant-loop-place : goal.invariant-loop-place
+invariant-loop-place l = l.made ++ posts_at (drop l.place-index l.places) l.posts ≡ posts_at l.places l.posts
