@@ -121,6 +121,15 @@ outcome (Stratum asked) (answer.Bound at certs case point) = Ok false
 outcome (Stratum asked) (answer.Unbounded case point ray) = Ok false
 outcome (Stratum asked) (answer.Basis relations spots free) = tested_basis asked.cases asked.lower relations spots free
 
+-- whether that is true; where a step leaves 128 bits it is not
+abbrev pub is_passed : Result Bool Step.Wide → Bool
+is_passed (Ok holds) = holds
+is_passed (Err step) = false
+
+-- whether an answer passes the test of its question
+abbrev pub passes : Question → Answer → Bool
+passes question answer = is_passed (outcome question answer)
+
 -- the answer passes the test, and both are such as their types keep them
 pub record Passes (question : Question) (answer : Answer) : Type 0 where
   pub canonical : IsCanonicalQuestion question

@@ -3,7 +3,7 @@ ghost use Rattle.farkas_check.specs.Laws.{PassingIsTrue};
 ghost use Rattle.farkas_check.specs.Meaning.{IsLimit, IsTight, IsTrueAnswer};
 ghost use Rattle.farkas_check.specs.Listing.{columns_in};
 ghost use Rattle.farkas_check.specs.Stratum.{tested_basis};
-ghost use Rattle.farkas_check.specs.Tested.{goal_columns, tested_yes, tested_no, tested_below, tested_cert, tested_certs, tested_point, tested_reached, tested_ray, tested_bound, tested_unbounded, is_limit, outcome, width_of, Passes};
+ghost use Rattle.farkas_check.specs.Tested.{goal_columns, tested_yes, tested_no, tested_below, tested_cert, tested_certs, tested_point, tested_reached, tested_ray, tested_bound, tested_unbounded, is_limit, outcome, passes, width_of, Passes};
 
 use crate::columns::has_length;
 use crate::free::{tested_free, tested_spots};
@@ -21,7 +21,8 @@ use whole_numbers::{Wide, product, sum};
 
 /// Whether an answer passes the test of its question, with no sum or product of it past 128 bits.
 pub fn test(question: &Question, answer: &Answer) -> bool
-    ensures exact { IsTrue result ↔ Passes question.now answer.now }
+    ensures exact { result ≡ passes question.now answer.now }
+    ensures passing { IsTrue result ↔ Passes question.now answer.now }
     ensures sound { IsTrue result → IsTrueAnswer question.now answer.now }
     ensures tight { IsTrue result → ¬ IsLimit answer.now → IsTight question.now answer.now }
 {

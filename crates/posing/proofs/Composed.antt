@@ -10,12 +10,12 @@ use Rattle.std.proofs.Common.{◌≡◌, List, [], ◌∷◌, ◌++◌, Option, 
 use Rattle.farkas_check.specs.declared.answer.Answer.{Answer}
 use Rattle.farkas_check.specs.declared.question.Question.{Question}
 use Rattle.farkas_check.specs.Asking.{Asking}
-use Rattle.farkas_check.specs.Tested.{Passes}
+use Rattle.farkas_check.specs.Tested.{Passes, passes}
 use Rattle.posing.specs.declared.error.WorkError.{WorkError}
 use Rattle.posing.specs.declared.error.WorkError.TheVariants.{Refused, Memory}
 use Rattle.posing.specs.declared.log.Log.{Log}
 use Rattle.posing.specs.declared.note.Note.{Note}
-use Rattle.posing.specs.Posing.{Posing, Done, Noted, Asked, ◌>>=◌, each, Finished, Stuck, after_notes, passes, run, Always, Path}
+use Rattle.posing.specs.Posing.{Posing, Done, Noted, Asked, ◌>>=◌, each, Finished, Stuck, after_notes, run, Always, Path}
 use Rattle.posing.specs.Posing as posing
 use Rattle.posing.specs.Follows.{IsGood, with_all, silent, Leads, IsRefused, Follows}
 use Rattle.posing.specs.Replay.{IsMissing, IsReplay, Keeps}

@@ -18,9 +18,9 @@ use Rattle.std.proofs.Common.{◌≡◌, ℕ, zero, suc, List, [], ◌∷◌, �
 use Rattle.farkas_check.specs.declared.answer.Answer.{Answer}
 use Rattle.farkas_check.specs.declared.question.Question.{Question}
 use Rattle.farkas_check.specs.Meaning.{IsTrueAnswer}
-use Rattle.farkas_check.specs.Tested.{Passes}
+use Rattle.farkas_check.specs.Tested.{Passes, is_passed, passes}
 use Rattle.posing.specs.declared.note.Note.{Note}
-use Rattle.posing.specs.Posing.{Posing, Done, Noted, Asked, ◌>>=◌, each, down, until, Posed, Finished, Stuck, after_notes, is_passed, passes, run, Always, Path, here, noted, asked}
+use Rattle.posing.specs.Posing.{Posing, Done, Noted, Asked, ◌>>=◌, each, down, until, Posed, Finished, Stuck, after_notes, run, Always, Path, here, noted, asked}
 
 -- ---- the laws of `>>=`
 

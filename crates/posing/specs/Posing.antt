@@ -1,13 +1,12 @@
 -- Computations that ask questions. Each next question is determined by the answers before it.
-use Rattle.std.specs.Prelude.{ℕ, zero, suc, List, [], ◌∷◌, ◌++◌, Bool, false, Result, Ok, Err, if◌then◌else◌}
-use Rattle.whole_numbers.specs.declared.wide.Wide.{Wide}
+use Rattle.std.specs.Prelude.{ℕ, zero, suc, List, [], ◌∷◌, ◌++◌, Bool, if◌then◌else◌}
 use Rattle.farkas_check.specs.declared.answer.Answer.{Answer}
 use Rattle.farkas_check.specs.declared.question.Question.{Question}
 use Rattle.farkas_check.specs.Meaning.{IsTrueAnswer}
-use Rattle.farkas_check.specs.Tested.{outcome}
+use Rattle.farkas_check.specs.Tested.{passes}
 use Rattle.posing.specs.declared.note.Note.{Note}
 
--- it ends with a value, or makes notes and goes on, or answer_to a question and goes on by the answer
+-- it ends with a value, or makes notes and goes on, or asks a question and goes on by the answer
 pub data Posing (A : Type 0) : Type 0 where
   Done : (value : A) → Posing A
   Noted : (notes : List Note) (next : Posing A) → Posing A
@@ -50,13 +49,6 @@ pub data Posed (A : Type 0) : Type 0 where
 abbrev pub after_notes : {A : Type 0} → List Note → Posed A → Posed A
 after_notes notes (Finished value more left) = Finished value (notes ++ more) left
 after_notes notes (Stuck question left) = Stuck question left
-
-abbrev pub is_passed : Result Bool Wide → Bool
-is_passed (Ok passes) = passes
-is_passed (Err step) = false
-
-abbrev pub passes : Question → Answer → Bool
-passes question answer = is_passed (outcome question answer)
 
 abbrev pub run : {A : Type 0} → Posing A → List Answer → Posed A
 run (Done value) answers = Finished value [] answers

@@ -4,7 +4,8 @@ use Rattle.farkas_check.specs.declared.answer.Answer.{Answer}
 use Rattle.farkas_check.specs.declared.question.Question.{Question}
 use Rattle.farkas_check.specs.Asking.{Asking}
 use Rattle.posing.specs.declared.note.Note.{Note}
-use Rattle.posing.specs.Posing.{Posing, Done, passes, Path}
+use Rattle.farkas_check.specs.Tested.{passes}
+use Rattle.posing.specs.Posing.{Posing, Done, Path}
 
 -- the next answer is missing, or does not pass
 abbrev pub IsMissing : Question → List Answer → Type 0

@@ -1,59 +1,65 @@
-//! An oracle that hands out listed answers.
+//! Calls over an oracle that hands out listed answers.
 
-ghost use Rattle.std.specs.Prelude.{reverse, ⊤, Some};
-
-use crate::texts::{numbers, rows};
-use farkas_check::{Answer, AskError, Oracle, Question, test};
+use crate::texts::{answer, rows};
+use crate::{Listed, exclusions, first_excluded};
+use farkas_check::{Answer, Limit};
 use items::Items;
+use linear_terms::Row;
+use posing::{Log, Note, WorkError};
 use std::alloc::Global;
 use std::test::Fail;
 
-/// Hands out answers, the last first, where they pass.
-#[derive(Drop)]
-struct Handed {
-    answers: Items<Answer>,
-    refusals: u64,
+/// Rows that have a point, rows that exclude each other, and again.
+fn lists(alloc: Global) -> Result<Items<Items<Row>>, Fail> {
+    let mut made = Items::new(alloc);
+    made.push(rows(alloc, "x0 - 1 <= 0")?)?;
+    made.push(rows(alloc, "x0 - 1 <= 0; -x0 + 2 <= 0")?)?;
+    made.push(rows(alloc, "x0 = 0")?)?;
+    Ok(made)
 }
 
-impl Oracle for Handed {
-    ghost use Rattle.std.specs.Prelude.{Some, reverse, ⊤};
-    ghost use Rattle.farkas_check.specs.Tested.{Passes};
-
-    ghost asking = { record { refusals = λ s. s.refusals; declines = λ s question. ⊤; allows = Passes; left = λ s. Some (reverse s.answers) } };
-
-    fn ask(&mut self, _alloc: Global, question: &Question) -> Result<Answer, AskError> {
-        let passes = match self.answers.as_slice().last() {
-            Some(answer) => test(question, answer),
-            None => false,
-        };
-        if passes {
-            if let Some(answer) = self.answers.pop() {
-                return Ok(answer);
-            }
-        }
-        self.refusals = self.refusals.saturating_add(1);
-        Err(AskError::Refused)
+/// Answers, the first of which stands last.
+fn answers(alloc: Global, texts: &[&str]) -> Result<Items<Answer>, Fail> {
+    let mut made = Items::new(alloc);
+    for text in texts.iter().rev() {
+        made.push(answer(alloc, text)?)?;
     }
-}
-
-fn ask_twice<O: Oracle>(alloc: Global, oracle: &mut O, question: &Question) -> (bool, bool) {
-    let first = oracle.ask(alloc, question);
-    let second = oracle.ask(alloc, question);
-    (first.is_ok(), second == Err(AskError::Refused))
+    Ok(made)
 }
 
 #[test]
-fn an_oracle(rt: HostRuntime) -> Result<(), Fail> {
+fn each_list(rt: HostRuntime) -> Result<(), Fail> {
     let alloc = rt.alloc();
-    let question = Question::Infeasible(rows(alloc, "1*x0 + -1 <; -1*x0 + 2 <")?);
-    let mut answers = Items::new(alloc);
-    answers.push(Answer::Yes(numbers(alloc, "0,0")?))?;
-    answers.push(Answer::Yes(numbers(alloc, "1,1")?))?;
-    let mut oracle = Handed {
-        answers,
-        refusals: 0,
-    };
-    assert_eq!(rt; ask_twice(alloc, &mut oracle, &question), (true, true));
-    assert_eq!(rt; oracle.refusals, 1);
+    let mut oracle = Listed::new(answers(alloc, &["no 1", "yes 1,1", "limit pivots"])?);
+    let mut log = Log::new(alloc);
+    let lists = lists(alloc)?;
+    let made = exclusions(alloc, lists.as_slice(), &mut oracle, &mut log);
+    assert!(rt; made == Ok(Items::from_slice(alloc, &[false, true, false])?));
+    assert_eq!(rt; log.answers.len(), 3);
+    assert!(rt; log.notes.as_slice().first() == Some(&Note::Limit(Limit::Pivots)));
+    Ok(())
+}
+
+#[test]
+fn first_list(rt: HostRuntime) -> Result<(), Fail> {
+    let alloc = rt.alloc();
+    let mut oracle = Listed::new(answers(alloc, &["no 1", "yes 1,1", "limit pivots"])?);
+    let mut log = Log::new(alloc);
+    let lists = lists(alloc)?;
+    let made = first_excluded(alloc, lists.as_slice(), &mut oracle, &mut log);
+    assert!(rt; made == Ok(Some(1)));
+    assert_eq!(rt; log.answers.len(), 2);
+    Ok(())
+}
+
+#[test]
+fn refusal(rt: HostRuntime) -> Result<(), Fail> {
+    let alloc = rt.alloc();
+    let mut oracle = Listed::new(answers(alloc, &["no 2"])?);
+    let mut log = Log::new(alloc);
+    let lists = lists(alloc)?;
+    let made = first_excluded(alloc, lists.as_slice(), &mut oracle, &mut log);
+    assert!(rt; made == Err(WorkError::Refused));
+    assert!(rt; log.answers.is_empty());
     Ok(())
 }

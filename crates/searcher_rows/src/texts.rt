@@ -4,7 +4,8 @@ use farkas_check::{
     Answer, Cert, Change, Goal, Limit, Question, Ratio, Relation, Spot, Stratum, Tie,
 };
 use items::Items;
-use linear_terms::{Col, Kind, Poly, Row, add, mul};
+use linear_terms::{Poly, Row};
+use polynomial_texts::{poly, row};
 use std::alloc::Global;
 use std::test::Fail;
 
@@ -20,47 +21,12 @@ pub(crate) fn parts<'a>(alloc: Global, text: &'a str, by: char) -> Result<Vec<&'
     Ok(made)
 }
 
-/// The column or number that a factor is.
-fn factor(alloc: Global, text: &str) -> Result<Poly, Fail> {
-    if let Some(number) = text.strip_prefix('x') {
-        return Ok(Poly::column(alloc, Col::At(number.parse::<u32>()?))?);
-    }
-    Ok(Poly::constant(alloc, text.parse::<i128>()?))
-}
-
-pub(crate) fn poly(alloc: Global, text: &str) -> Result<Poly, Fail> {
-    let mut made = Poly::constant(alloc, 0);
-    for term in text.split('+') {
-        let mut product = Poly::constant(alloc, 1);
-        for part in term.trim().split('*') {
-            product = mul(alloc, &product, &factor(alloc, part)?)?;
-        }
-        made = add(alloc, &made, &product)?;
-    }
-    Ok(made)
-}
-
 fn polys(alloc: Global, text: &str) -> Result<Items<Poly>, Fail> {
     let mut made = Items::new(alloc);
     for part in parts(alloc, text, ';')? {
         made.push(poly(alloc, part)?)?;
     }
     Ok(made)
-}
-
-fn row(alloc: Global, text: &str) -> Result<Row, Fail> {
-    if let Some(left) = text.strip_suffix('<') {
-        let poly = poly(alloc, left)?;
-        return Ok(Row {
-            poly,
-            kind: Kind::AtMost,
-        });
-    }
-    let poly = poly(alloc, text.strip_suffix('=').ok_or("no row")?)?;
-    Ok(Row {
-        poly,
-        kind: Kind::Equal,
-    })
 }
 
 pub(crate) fn rows(alloc: Global, text: &str) -> Result<Items<Row>, Fail> {
