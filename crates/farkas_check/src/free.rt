@@ -1,7 +1,7 @@
 ghost use Rattle.std.specs.Prelude.{◌≡◌, ◌<◌, ◌-◌, ◌^◌, length, map, pos, slice_get};
 ghost use Rattle.farkas_check.specs.Points.{ratio_at, ratio_value};
 ghost use Rattle.farkas_check.specs.Ratios.{whole};
-ghost use Rattle.farkas_check.specs.Listing.{columns_in};
+ghost use Rattle.farkas_check.specs.Listing.{columns_in, side_in, lines_in};
 ghost use Rattle.farkas_check.specs.Relations.{numbers_of, places, free_places};
 ghost use Rattle.farkas_check.specs.Steps.{unless_pivot, counted, is_free, part_with, units_from};
 ghost use Rattle.farkas_check.specs.Stratum.{all_of, rows_of, terms_of, tested_spot, spots_from, minus_value, spot_side, unit_at, tested_at, tested_unit, tested_free};
@@ -99,22 +99,30 @@ fn spot_side(
     }
 }
 
+/// What the numbers of the unknowns that are no pivot are tested against.
+#[derive(Clone, Copy)]
+pub(crate) struct Basis<'a> {
+    pub(crate) relations: &'a [Relation],
+    pub(crate) spots: &'a [Spot],
+    pub(crate) cases: &'a [Change],
+    pub(crate) lower: &'a [Poly],
+    pub(crate) count: usize,
+}
+
 /// The sum of multiples of what the spots' differences have at an unknown.
 fn spots_sum(
-    spots: &[Spot],
-    cases: &[Change],
-    lower: &[Poly],
+    basis: &Basis<'_>,
     columns: &Columns<'_>,
     place: usize,
     by: &[Ratio],
 ) -> Result<Ratio, Wide>
-    requires { length by.now ≡ length spots.now }
-    ensures { result ≡ spots_from (λ spot. spot_side (columns_in columns.now) cases.now lower.now spot place) (whole (pos 0)) spots.now by.now }
+    requires { length by.now ≡ length basis.now.spots.now }
+    ensures { result ≡ spots_from (λ spot. spot_side (columns_in columns.now) basis.now.cases.now basis.now.lower.now spot place) (whole (pos 0)) basis.now.spots.now by.now }
 {
     let mut total = Ratio::whole(0);
-    for (i, spot) in spots.iter().enumerate() {
+    for (i, spot) in basis.spots.iter().enumerate() {
         let number = by[i];
-        let value = spot_side(spot, cases, lower, columns, place)?;
+        let value = spot_side(spot, basis.cases, basis.lower, columns, place)?;
         let part = value.product(&number)?;
         total = total.sum(&part)?;
     }
@@ -123,18 +131,16 @@ fn spots_sum(
 
 /// Whether that sum is what a unit at a place has at an unknown.
 fn tested_at(
-    spots: &[Spot],
-    cases: &[Change],
-    lower: &[Poly],
+    basis: &Basis<'_>,
     columns: &Columns<'_>,
     place: usize,
     by: &[Ratio],
     other: usize,
 ) -> Result<bool, Wide>
-    requires { length by.now ≡ length spots.now }
-    ensures { result ≡ tested_at (spot_side (columns_in columns.now) cases.now lower.now) spots.now place by.now other }
+    requires { length by.now ≡ length basis.now.spots.now }
+    ensures { result ≡ tested_at (side_in basis.now columns.now) basis.now.spots.now place by.now other }
 {
-    let total = spots_sum(spots, cases, lower, columns, other, by)?;
+    let total = spots_sum(basis, columns, other, by)?;
     total.is_exactly(unit_at(place, other))
 }
 
@@ -146,41 +152,34 @@ fn unit_at(place: usize, other: usize) -> i128
 
 /// The same, unless the unknown is a pivot.
 fn unless_pivot(
-    relations: &[Relation],
-    spots: &[Spot],
-    cases: &[Change],
-    lower: &[Poly],
+    basis: &Basis<'_>,
     columns: &Columns<'_>,
     place: usize,
     by: &[Ratio],
     other: usize,
 ) -> Result<bool, Wide>
-    requires { length by.now ≡ length spots.now }
-    ensures { result ≡ unless_pivot (map numbers_of relations.now) (tested_at (spot_side (columns_in columns.now) cases.now lower.now) spots.now place by.now) other }
+    requires { length by.now ≡ length basis.now.spots.now }
+    ensures { result ≡ unless_pivot (lines_in basis.now) (tested_at (side_in basis.now columns.now) basis.now.spots.now place by.now) other }
 {
-    if is_pivot(relations, other) {
+    if is_pivot(basis.relations, other) {
         return Ok(true);
     }
-    tested_at(spots, cases, lower, columns, place, by, other)
+    tested_at(basis, columns, place, by, other)
 }
 
-/// Whether the sums are a unit at a place, over the first `count` unknowns.
+/// Whether the sums are a unit at a place, over all unknowns.
 #[tactic(auto, using(crate::proofs::Unknowns::walk_places))]
 fn tested_each(
-    relations: &[Relation],
-    spots: &[Spot],
-    cases: &[Change],
-    lower: &[Poly],
+    basis: &Basis<'_>,
     columns: &Columns<'_>,
     place: usize,
     by: &[Ratio],
-    count: usize,
 ) -> Result<bool, Wide>
-    requires { length by.now ≡ length spots.now }
-    ensures { result ≡ all_of (unless_pivot (map numbers_of relations.now) (tested_at (spot_side (columns_in columns.now) cases.now lower.now) spots.now place by.now)) (places count) }
+    requires { length by.now ≡ length basis.now.spots.now }
+    ensures { result ≡ all_of (unless_pivot (lines_in basis.now) (tested_at (side_in basis.now columns.now) basis.now.spots.now place by.now)) (places basis.now.count) }
 {
-    for other in 0..count {
-        if !unless_pivot(relations, spots, cases, lower, columns, place, by, other)? {
+    for other in 0..basis.count {
+        if !unless_pivot(basis, columns, place, by, other)? {
             return Ok(false);
         }
     }
@@ -189,21 +188,17 @@ fn tested_each(
 
 #[tactic(auto, using(crate::proofs::Unknowns::free_ones))]
 fn tested_unit(
-    relations: &[Relation],
-    spots: &[Spot],
-    cases: &[Change],
-    lower: &[Poly],
+    basis: &Basis<'_>,
     columns: &Columns<'_>,
     place: usize,
     by: &[Ratio],
-    count: usize,
 ) -> Result<bool, Wide>
-    ensures { result ≡ tested_unit (spot_side (columns_in columns.now) cases.now lower.now) spots.now (free_places (map numbers_of relations.now) count) place by.now }
+    ensures { result ≡ tested_unit (side_in basis.now columns.now) basis.now.spots.now (free_places (lines_in basis.now) basis.now.count) place by.now }
 {
-    if by.len() != spots.len() {
+    if by.len() != basis.spots.len() {
         return Ok(false);
     }
-    tested_each(relations, spots, cases, lower, columns, place, by, count)
+    tested_each(basis, columns, place, by)
 }
 
 /// A count, with one more where something counts.
@@ -232,58 +227,40 @@ fn free_count(relations: &[Relation], count: usize) -> usize
     total
 }
 
+/// The unit at a place by the numbers that stand next, where the place is free and numbers are left.
 fn part_with(
-    relations: &[Relation],
-    spots: &[Spot],
-    cases: &[Change],
-    lower: &[Poly],
+    basis: &Basis<'_>,
     columns: &Columns<'_>,
     place: usize,
     free: &[Items<Ratio>],
     next: usize,
-    count: usize,
 ) -> Result<bool, Wide>
-    ensures { result ≡ part_with (is_free (map numbers_of relations.now) place) (tested_unit (spot_side (columns_in columns.now) cases.now lower.now) spots.now (free_places (map numbers_of relations.now) count) place) (slice_get free.now next) }
+    ensures { result ≡ part_with (is_free (lines_in basis.now) place) (tested_unit (side_in basis.now columns.now) basis.now.spots.now (free_places (lines_in basis.now) basis.now.count) place) (slice_get free.now next) }
 {
-    if !is_free(relations, place) {
+    if !is_free(basis.relations, place) {
         return Ok(true);
     }
     if free.len() <= next {
         return Ok(true);
     }
-    tested_unit(
-        relations,
-        spots,
-        cases,
-        lower,
-        columns,
-        place,
-        free[next].as_slice(),
-        count,
-    )
+    tested_unit(basis, columns, place, free[next].as_slice())
 }
 
 /// Whether the sums are a unit at each unknown that is no pivot.
 #[tactic(auto, using(crate::proofs::Unknowns::walk_places))]
 fn tested_units(
-    relations: &[Relation],
-    spots: &[Spot],
-    cases: &[Change],
-    lower: &[Poly],
+    basis: &Basis<'_>,
     columns: &Columns<'_>,
     free: &[Items<Ratio>],
-    count: usize,
 ) -> Result<bool, Wide>
-    ensures { result ≡ units_from (map numbers_of relations.now) (tested_unit (spot_side (columns_in columns.now) cases.now lower.now) spots.now (free_places (map numbers_of relations.now) count)) free.now 0 (places count) }
+    ensures { result ≡ units_from (lines_in basis.now) (tested_unit (side_in basis.now columns.now) basis.now.spots.now (free_places (lines_in basis.now) basis.now.count)) free.now 0 (places basis.now.count) }
 {
     let mut next = 0;
-    for place in 0..count {
-        if !part_with(
-            relations, spots, cases, lower, columns, place, free, next, count,
-        )? {
+    for place in 0..basis.count {
+        if !part_with(basis, columns, place, free, next)? {
             return Ok(false);
         }
-        next = counted(next, is_free(relations, place));
+        next = counted(next, is_free(basis.relations, place));
     }
     Ok(true)
 }
@@ -291,18 +268,14 @@ fn tested_units(
 /// Whether each unknown that is no pivot has numbers that make it a unit.
 #[tactic(auto, using(crate::proofs::Unknowns::each_unit))]
 pub(crate) fn tested_free(
-    relations: &[Relation],
-    spots: &[Spot],
-    cases: &[Change],
-    lower: &[Poly],
+    basis: &Basis<'_>,
     columns: &Columns<'_>,
     free: &[Items<Ratio>],
-    count: usize,
 ) -> Result<bool, Wide>
-    ensures { result ≡ tested_free (spot_side (columns_in columns.now) cases.now lower.now) spots.now (free_places (map numbers_of relations.now) count) free.now }
+    ensures { result ≡ tested_free (side_in basis.now columns.now) basis.now.spots.now (free_places (lines_in basis.now) basis.now.count) free.now }
 {
-    if free.len() != free_count(relations, count) {
+    if free.len() != free_count(basis.relations, basis.count) {
         return Ok(false);
     }
-    tested_units(relations, spots, cases, lower, columns, free, count)
+    tested_units(basis, columns, free)
 }

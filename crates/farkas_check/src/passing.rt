@@ -6,7 +6,7 @@ ghost use Rattle.farkas_check.specs.Stratum.{tested_basis};
 ghost use Rattle.farkas_check.specs.Tested.{goal_columns, tested_yes, tested_no, tested_below, tested_cert, tested_certs, tested_point, tested_reached, tested_ray, tested_bound, tested_unbounded, is_limit, outcome, passes, width_of, Passes};
 
 use crate::columns::has_length;
-use crate::free::{tested_free, tested_spots};
+use crate::free::{Basis, tested_free, tested_spots};
 use crate::kept::{canonicity, positivity};
 use crate::lines::{have_unknowns, is_reduced};
 use crate::multiples::{are_multipliers, constant_sum, has_sum, sums_cancel};
@@ -283,6 +283,12 @@ fn tested_basis(
     if !tested_spots(spots, cases, &columns)? {
         return Ok(false);
     }
-    let count = unknown_count(cases, lower);
-    tested_free(relations, spots, cases, lower, &columns, free, count)
+    let basis = Basis {
+        relations,
+        spots,
+        cases,
+        lower,
+        count: unknown_count(cases, lower),
+    };
+    tested_free(&basis, &columns, free)
 }

@@ -26,6 +26,14 @@ pub(crate) enum Half {
     Down,
 }
 
+/// A half of a tie: multiples of the rows, and the scale of the difference that they give.
+#[derive(Clone, Copy)]
+pub(crate) struct Multiples<'a> {
+    half: Half,
+    scale: i128,
+    by: &'a [i128],
+}
+
 fn value_in(place: &Place, poly: &Poly) -> i128
     ensures { result ≡ value_in place.now poly.now }
 {
@@ -156,21 +164,19 @@ fn are_multiples(
     case: &Change,
     lower: &[Poly],
     columns: &Columns<'_>,
-    half: Half,
-    scale: &i128,
-    by: &[i128],
+    multiples: &Multiples<'_>,
 ) -> Result<bool, Wide>
     requires terms { length relation.now.a ≡ length case.now.terms }
     requires lower { length relation.now.b ≡ length lower.now }
-    requires by { length by.now ≡ length case.now.rows }
-    ensures { result ≡ are_multiples (scaled_by half scale.now) true case.now.rows by.now (numbers_of relation.now) (sides case.now.terms lower.now) (columns_in columns.now) }
+    requires by { length multiples.now.by.now ≡ length case.now.rows }
+    ensures { result ≡ are_multiples (scaled_by multiples.now.half multiples.now.scale) true case.now.rows multiples.now.by.now (numbers_of relation.now) (sides case.now.terms lower.now) (columns_in columns.now) }
 {
     let mut last = None;
     let mut same = true;
     while let Some(column) = next_column(columns, &last) {
-        let left = column_sum(case.rows.as_slice(), by, &column)?;
+        let left = column_sum(case.rows.as_slice(), multiples.by, &column)?;
         let own = difference_number(relation, case.terms.as_slice(), lower, column)?;
-        let right = scaled_by(half, scale, own)?;
+        let right = scaled_by(multiples.half, &multiples.scale, own)?;
         same = same && left == right;
         last = Some(column);
     }
@@ -183,24 +189,22 @@ fn tested_multiple(
     case: &Change,
     lower: &[Poly],
     columns: &Columns<'_>,
-    half: Half,
-    scale: &i128,
-    by: &[i128],
+    multiples: &Multiples<'_>,
 ) -> Result<bool, Wide>
     requires terms { length relation.now.a ≡ length case.now.terms }
     requires lower { length relation.now.b ≡ length lower.now }
-    requires by { length by.now ≡ length case.now.rows }
-    ensures { result ≡ tested_multiple (scaled_by half scale.now) (columns_in columns.now) case.now.rows (difference_form (numbers_of relation.now) (sides case.now.terms lower.now) (columns_in columns.now)) by.now }
+    requires by { length multiples.now.by.now ≡ length case.now.rows }
+    ensures { result ≡ tested_multiple (scaled_by multiples.now.half multiples.now.scale) (columns_in columns.now) case.now.rows (difference_form (numbers_of relation.now) (sides case.now.terms lower.now) (columns_in columns.now)) multiples.now.by.now }
 {
     let rows = case.rows.as_slice();
     let terms = case.terms.as_slice();
     // Every number of a side is made before the first one of the next.
-    sums_cancel(rows, columns, by)?;
-    let left = constant_sum(rows, by)?;
+    sums_cancel(rows, columns, multiples.by)?;
+    let left = constant_sum(rows, multiples.by)?;
     differences_cancel(relation, terms, lower, columns)?;
     let own = difference_at(relation, terms, lower, &Place::Constant)?;
-    let same = are_multiples(relation, case, lower, columns, half, scale, by)?;
-    let right = scaled_by(half, scale, own)?;
+    let same = are_multiples(relation, case, lower, columns, multiples)?;
+    let right = scaled_by(multiples.half, &multiples.scale, own)?;
     Ok(is_same(same, &left, &right))
 }
 
@@ -209,21 +213,19 @@ fn tested_half(
     case: &Change,
     lower: &[Poly],
     columns: &Columns<'_>,
-    half: Half,
-    scale: &i128,
-    by: &[i128],
+    multiples: &Multiples<'_>,
 ) -> Result<bool, Wide>
     requires terms { length relation.now.a ≡ length case.now.terms }
     requires lower { length relation.now.b ≡ length lower.now }
-    ensures { result ≡ tested_half (scaled_by half) (columns_in columns.now) case.now.rows (difference_form (numbers_of relation.now) (sides case.now.terms lower.now) (columns_in columns.now)) scale.now by.now }
+    ensures { result ≡ tested_half (scaled_by multiples.now.half) (columns_in columns.now) case.now.rows (difference_form (numbers_of relation.now) (sides case.now.terms lower.now) (columns_in columns.now)) multiples.now.scale multiples.now.by.now }
 {
-    if !are_multipliers(case.rows.as_slice(), by) {
+    if !are_multipliers(case.rows.as_slice(), multiples.by) {
         return Ok(false);
     }
-    if *scale < 1 {
+    if multiples.scale < 1 {
         return Ok(false);
     }
-    tested_multiple(relation, case, lower, columns, half, scale, by)
+    tested_multiple(relation, case, lower, columns, multiples)
 }
 
 /// Whether the multiples of the rows tie the difference of the relation to 0.
@@ -238,20 +240,20 @@ fn tested_tie(
     requires lower { length relation.now.b ≡ length lower.now }
     ensures { result ≡ tested_tie (columns_in columns.now) lower.now (numbers_of relation.now) case.now tie.now }
 {
-    let up = tie.up.as_slice();
-    let down = tie.down.as_slice();
-    if !tested_half(relation, case, lower, columns, Half::Up, &tie.up_scale, up)? {
+    let up = Multiples {
+        half: Half::Up,
+        scale: tie.up_scale,
+        by: tie.up.as_slice(),
+    };
+    let down = Multiples {
+        half: Half::Down,
+        scale: tie.down_scale,
+        by: tie.down.as_slice(),
+    };
+    if !tested_half(relation, case, lower, columns, &up)? {
         return Ok(false);
     }
-    tested_half(
-        relation,
-        case,
-        lower,
-        columns,
-        Half::Down,
-        &tie.down_scale,
-        down,
-    )
+    tested_half(relation, case, lower, columns, &down)
 }
 
 fn tested_ties(
