@@ -35,6 +35,7 @@ IsCalmGoal goal = IsCalmCase (goal_columns goal) goal.rows (goal.objective ∷ [
 abbrev pub row_frame : List (List Col) → List Row → Frame
 row_frame cs rows = frame_of cs (row_polys rows [])
 
+-- a place is one of the chosen columns
 abbrev pub is_among : ℕ → List ℕ → Bool
 is_among place chosen = list_any (λ p. p == place) chosen
 
@@ -106,6 +107,7 @@ without_divisor numbers = map (λ z. int_div z (pos (gcd_of_all numbers))) numbe
 abbrev pub spot_line : List (List Col) → List Change → List Polynomial → SpotPoint → List ℤ
 spot_line cs cases lower spot = without_divisor (map (value_at cs spot) (terms_of cases spot.case) ++ (map (λ p. neg_ℤ (value_at cs spot p)) lower ++ neg_ℤ spot.over ∷ []))
 
+-- the frame of spots: a line for each under the unknowns a, b and c
 abbrev pub spot_frame : List (List Col) → List Change → List Polynomial → List SpotPoint → Frame
 spot_frame cs cases lower spots = record { lines = map (spot_line cs cases lower) spots; units = unknown_count cases lower }
 
@@ -150,6 +152,7 @@ pub record IsCalmStratum (cs : List (List Col)) (cases : List Change) (lower : L
 
 -- ---- all
 
+-- what calm asks of the cases of each kind of question
 abbrev pub HasCalmCases : Question → Type 0
 HasCalmCases (Infeasible rows) = IsCalmCase (columns rows []) rows []
 HasCalmCases (Sup goals) = AllByRecursion IsCalmGoal goals
@@ -170,6 +173,7 @@ choices (Stratum asked) = map (λ (case : Change). choice_count (length (stratum
 abbrev pub HasFewChoices : Question → Type 0
 HasFewChoices question = AllByRecursion (λ n. n ≤ 170141183460469231731687303715884105727) (choices question)
 
+-- not dead, calm, and with few choices
 pub record IsLiveAndCalm (question : Question) : Type 0 where
   pub live : IsDead question → ⊥
   pub calm : IsCalm question

@@ -15,9 +15,11 @@ pub record Frame : Type 0 where
   -- how many numbers each line has before its unit columns
   pub units : ℕ
 
+-- how many lines a frame has
 abbrev pub line_count : Frame → ℕ
 line_count frame = length frame.lines
 
+-- how many columns a frame has, its unit columns among them
 abbrev pub width : Frame → ℕ
 width frame = frame.units + line_count frame
 

@@ -33,10 +33,12 @@ column_lists (Stratum asked) = stratum_columns asked.cases asked.lower ∷ []
 abbrev pub row_polys : List Row → List Polynomial → List Polynomial
 row_polys rows others = map (λ (row : Row). row.poly) rows ++ others
 
+-- the polynomials of cases with objectives
 abbrev pub goal_polys : List Goal → List Polynomial
 goal_polys [] = []
 goal_polys (goal ∷ goals) = row_polys goal.rows (goal.objective ∷ goal_polys goals)
 
+-- the polynomials of cases with terms, and then the lower terms
 abbrev pub change_polys : List Change → List Polynomial → List Polynomial
 change_polys [] lower = lower
 change_polys (case ∷ cases) lower = row_polys case.rows (case.terms ++ change_polys cases lower)
@@ -75,6 +77,7 @@ abbrev pub weight : Kind → ℕ
 weight AtMost = 1
 weight Equal = 2
 
+-- how many inequalities the rows stand for
 abbrev pub row_count : List Row → ℕ
 row_count [] = 0
 row_count (row ∷ rows) = weight row.kind + row_count rows
@@ -100,6 +103,7 @@ pub record HasRoom (case : Change) : Type 0 where
   pub point : HasRationalPoint case.rows
   pub free : HasNoEquation case.rows
 
+-- some rational point makes the rows of the case true
 abbrev pub GoalHasPoint : Goal → Type 0
 GoalHasPoint goal = HasRationalPoint goal.rows
 
@@ -109,6 +113,7 @@ narrow_most (Infeasible rows) = 64
 narrow_most (Sup goals) = 64
 narrow_most (Stratum asked) = 4
 
+-- what narrow asks of the cases of each kind of question
 abbrev pub HasNarrowCases : Question → Type 0
 HasNarrowCases (Infeasible rows) = ⊤
 HasNarrowCases (Sup goals) = (goals ≡ [] → ⊥) × AllByRecursion GoalHasPoint goals

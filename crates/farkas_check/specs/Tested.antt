@@ -50,6 +50,7 @@ abbrev pub tested_below : ℤ → Cert → Result Bool Step.Wide
 tested_below at cert =
     sum_of at (pos 1) >>= λ next. product_of cert.scale next >>= λ limit. sum_of limit (negsuc 0) >>= λ most. Ok (int_le cert.sum most)
 
+-- the certificate is one of its case, and bounds it below the next whole number
 abbrev pub tested_cert : ℤ → Goal → Cert → Result Bool Step.Wide
 tested_cert at goal cert =
     and_then (Ok (are_multipliers goal.rows cert.by && int_le (pos 1) cert.scale)) (and_then (tested_sum goal cert) (tested_below at cert))
@@ -85,11 +86,13 @@ of_case goals case part = of_found (slice_get goals case)
     of_found None = Ok false
     of_found (Some goal) = part goal
 
+-- each case is bounded below the next whole number, and one gets as far as `at`
 abbrev pub tested_bound : ℤ → List Goal → List Cert → ℕ → List Fraction → Result Bool Step.Wide
 tested_bound at goals certs case point =
     and_then (Ok (length certs == length goals))
     (and_then (tested_certs at goals certs) (of_case goals case (λ goal. tested_reached at goal point)))
 
+-- a point of a case, and a ray along which its objective grows
 abbrev pub tested_unbounded : List Goal → ℕ → List Fraction → List Fraction → Result Bool Step.Wide
 tested_unbounded goals case point ray = of_case goals case (λ goal. and_then (tested_point goal point) (tested_ray goal ray))
 

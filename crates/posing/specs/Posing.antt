@@ -46,10 +46,12 @@ pub data Posed (A : Type 0) : Type 0 where
   Finished : (value : A) (notes : List Note) (left : List Answer) → Posed A
   Stuck : (question : Question) (left : List Answer) → Posed A
 
+-- notes before those of an outcome
 abbrev pub after_notes : {A : Type 0} → List Note → Posed A → Posed A
 after_notes notes (Finished value more left) = Finished value (notes ++ more) left
 after_notes notes (Stuck question left) = Stuck question left
 
+-- a computation under listed answers, which are taken one after another
 abbrev pub run : {A : Type 0} → Posing A → List Answer → Posed A
 run (Done value) answers = Finished value [] answers
 run (Noted notes next) answers = after_notes notes (run next answers)
