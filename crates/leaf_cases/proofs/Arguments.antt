@@ -3,9 +3,9 @@ use Rattle.std.proofs.Common.{◌≡◌, inl, inr, ℕ, suc, ◌+◌, ◌*◌, �
 use Rattle.std.specs.Prelude.{IsTrue}
 use Rattle.std.specs.List.{AllByRecursion, flat_map, list_all}
 use Rattle.std.proofs.lemmas.List.{length-map, map-append, take_more, take-append-drop}
+use Rattle.items.proofs.Each.{each-append, each-flat_map, each-map, each-any, each-more}
 use Rattle.linear_terms.specs.Auxiliaries.{renumbered}
 use Rattle.linear_terms.specs.declared.row.Case.{Case}
-use Rattle.linear_terms.proofs.Columns.{each-append}
 use Rattle.syntax_tree.specs.declared.op.Op.{Op}
 use Rattle.syntax_tree.specs.declared.op.Op.TheVariants.{Add, Sub, Mul, Div, Rem, Lt, Le, Gt, Ge, Eq, Ne, And, Or}
 use Rattle.syntax_tree.specs.declared.op.Sign.{Sign}
@@ -32,7 +32,7 @@ use Rattle.leaf_cases.specs.Steps.{operand, value_at, made_at, cases_by, with_nu
 use Rattle.leaf_cases.proofs.Expressions.{ValueIs, expression-means}
 use Rattle.leaf_cases.proofs.Meant.{Means, means-as, means-together}
 use Rattle.leaf_cases.proofs.Ready.{sit, are_ready, width_of, columns_below-more}
-use Rattle.leaf_cases.proofs.Sitting.{Sits, sits-more, sits-both, each-flat_map, each-map, each-any, each-more}
+use Rattle.leaf_cases.proofs.Sitting.{Sits, sits-more, sits-both}
 use Rattle.leaf_cases.proofs.Together.{Both}
 
 -- ---- how many posts

@@ -3,6 +3,7 @@ use Rattle.std.proofs.Common.{◌≡◌, ℕ, zero, suc, ◌+◌, ◌-◌, ◌*�
 use Rattle.std.specs.Prelude.{IsTrue, All, slice_set}
 use Rattle.std.specs.List.{AllByRecursion, list_all}
 use Rattle.std.proofs.lemmas.List.{length-map, length-take-le, length-set}
+use Rattle.std.proofs.lemmas.List.Elements.{recursion_from_All, All-from_recursion}
 use Rattle.std.proofs.lemmas.List.Folds.{list_all-append}
 use Rattle.linear_terms.specs.declared.col.Col.{Col}
 use Rattle.linear_terms.specs.declared.col.Col.TheVariants.{At, Aux}
@@ -37,15 +38,6 @@ all-drop : {X : Type 0} (test : X → Bool) (n : ℕ) (xs : List X) → IsTrue (
 all-drop test zero xs h = h
 all-drop test (suc n) [] h = refl
 all-drop test (suc n) (x ∷ xs) h = let parts = both (test x) (list_all test xs) h in all-drop test n xs parts.1
-
-pub each_of_all : {X : Type 0} (P : X → Type 0) (xs : List X) → All P xs → AllByRecursion P xs
-each_of_all P [] all = tt
-each_of_all P (x ∷ xs) all = (all 0 x (omega arith), each_of_all P xs (λ i d lt. all (suc i) d (omega arith)))
-
-pub all_of_each : {X : Type 0} (P : X → Type 0) (xs : List X) → AllByRecursion P xs → All P xs
-all_of_each P [] h i d lt = absurd (omega arith)
-all_of_each P (x ∷ xs) h zero d lt = h.0
-all_of_each P (x ∷ xs) h (suc i) d lt = all_of_each P xs h.1 i d (omega arith)
 
 -- ---- the columns of a state
 
@@ -165,8 +157,8 @@ few-sit columns most (case ∷ cases) h = (h.0.few, few-sit columns most cases h
 
 all-few : (j k to : ℕ) (firsts seconds : List Case) → AllByRecursion (λ case. case.aux ≤ j) firsts → AllByRecursion (λ case. case.aux ≤ k) seconds → j + k + to < 2 ^ 32 → All (λ (a : Case). All (λ (b : Case). a.aux + b.aux + to < 2 ^ 32) seconds) firsts
 all-few j k to firsts seconds h l lt i d below m e within =
-    let one = all_of_each (λ (case : Case). case.aux ≤ j) firsts h i d below in
-    let other = all_of_each (λ (case : Case). case.aux ≤ k) seconds l m e within in omega arith
+    let one = All-from_recursion (λ (case : Case). case.aux ≤ j) firsts h i d below in
+    let other = All-from_recursion (λ (case : Case). case.aux ≤ k) seconds l m e within in omega arith
 
 pub call_few : (columns globals : ℕ) (args : List Term) (into : Option ℕ) (f a b : Transition) → IsTrue (all_columns_below columns args) → joint_operators args ≤ 200000 → columns ≤ 1000 → globals ≤ columns → All (λ (case : Case). case.aux ≤ 64) f.cases
     → a ≡ entering columns globals (length args) (arguments_of args).cases → b ≡ cut (awaited globals into) f → AreFew a b
@@ -175,7 +167,7 @@ call_few columns globals args into f a b h few narrow le known e g =
     (subst (λ (x : Transition). AreFew (entering columns globals (length args) (arguments_of args).cases) x) (sym g)
     (all-few 800000 64 (awaited globals into) (entering columns globals (length args) (arguments_of args).cases).cases (cut (awaited globals into) f).cases
     (each-aux (λ n. n ≤ 800000) (λ case. columns_of globals ++ case.post) (arguments_of args).cases (wider (few-sit columns (4 * joint_operators args) (arguments_of args).cases (arguments-sit columns args h))))
-    (each-aux (λ n. n ≤ 64) (λ case. take (awaited globals into) case.post) f.cases (each_of_all (λ (case : Case). case.aux ≤ 64) f.cases known)) (most into)))
+    (each-aux (λ n. n ≤ 64) (λ case. take (awaited globals into) case.post) f.cases (recursion_from_All (λ (case : Case). case.aux ≤ 64) f.cases known)) (most into)))
   where
     wider-by : (m : ℕ) (cases : List Case) → m ≤ 800000 → AllByRecursion (λ case. case.aux ≤ m) cases → AllByRecursion (λ case. case.aux ≤ 800000) cases
     wider-by m [] le h = tt

@@ -5,7 +5,7 @@ use Rattle.std.specs.List.{AllByRecursion}
 use Rattle.std.proofs.lemmas.Bool.{leb-true}
 use Rattle.std.proofs.lemmas.Bool.Decides.{Decides-eqb}
 use Rattle.std.proofs.lemmas.Option.{get_or_from_slice_get, slice_get_within, slice_get-map, slice_get_read}
-use Rattle.linear_terms.proofs.Columns.{each-append}
+use Rattle.items.proofs.Each.{each-append, each-get}
 use Rattle.syntax_tree.specs.declared.op.Sign.TheVariants.{Not}
 use Rattle.syntax_tree.specs.declared.program.Proc.{Proc}
 use Rattle.syntax_tree.specs.declared.program.Program.{Program}
@@ -155,11 +155,6 @@ module _ (program : Program) (width : ℕ) where
   graph-arcs : (place : _) (body : Code) → IsTrue (code_fits program width place body) → AllByRecursion Fit (flow_of body).arcs
   graph-arcs place body h = each-append Fit (code_arcs (outermost body) 0 body) (arc (code_nodes body) (exit_of body) skip ∷ []) (code-arcs (outermost body) 0 place body h) (skip-fits, tt)
 
-each_get : {X : Type 0} (P : X → Type 0) (xs : List X) (k : ℕ) (x : X) → AllByRecursion P xs → slice_get xs k ≡ Some x → P x
-each_get P [] k x a e = absurd (cc e)
-each_get P (y ∷ ys) zero x a e = let same : y ≡ x = cc in subst P same a.0
-each_get P (y ∷ ys) (suc k) x a e = each_get P ys k x a.1 e
-
 pub all_get : {X : Type 0} (P : X → Type 0) (xs : List X) (k : ℕ) (x : X) → All P xs → slice_get xs k ≡ Some x → P x
 all_get P xs k x all e = subst P (get_or_from_slice_get xs k x x e) (all k x (slice_get_within xs k x e))
 
@@ -169,7 +164,7 @@ act-fits program proc p statement formed is act =
     let width = width_of program p in
     let all = graph-arcs program width _ (code_of p.body) fit.body in
     let same = subst (λ (o : Option Proc). slice_get (flow_of (body_of o)).arcs act.place ≡ Some act.way) is act.is in
-    subst (EdgeFits program width) act.does (each_get (Fit program width) (flow_of (code_of p.body)).arcs act.place act.way all same)
+    subst (EdgeFits program width) act.does (each-get (Fit program width) (flow_of (code_of p.body)).arcs act.place act.way all same)
 
 some_at : {X : Type 0} (xs : List X) (k : ℕ) → k < length xs → (x : X) × (slice_get xs k ≡ Some x)
 some_at [] k lt = absurd (omega arith)

@@ -5,6 +5,7 @@ use Rattle.std.specs.List.{AllByRecursion, list_all, flat_map}
 use Rattle.std.specs.Option.{is_none}
 use Rattle.std.proofs.Math.Nat.{mul-le-mul_left, mul-le-mul_right}
 use Rattle.std.proofs.lemmas.List.{length-map}
+use Rattle.std.proofs.lemmas.List.Elements.{recursion_from_All, All-from_recursion}
 use Rattle.std.proofs.lemmas.List.Sums.{count_by-le-length}
 use Rattle.linear_terms.specs.declared.row.Case.{Case}
 use Rattle.linear_terms.specs.Polynomial.{Polynomial}
@@ -27,7 +28,7 @@ use Rattle.leaf_cases.specs.Expression.{lists_of}
 use Rattle.leaf_cases.specs.Guard.{columns_of, guard_of, with_posts}
 use Rattle.leaf_cases.proofs.Arguments.{arguments-sit}
 use Rattle.leaf_cases.proofs.Counts.{truth-count, value-count, arguments-count, flat_count}
-use Rattle.leaf_cases.proofs.EdgeFits.{all_of_each, each_of_all, cut_fits, few-sit}
+use Rattle.leaf_cases.proofs.EdgeFits.{cut_fits, few-sit}
 use Rattle.leaf_cases.proofs.EdgeMeanings.{CallAsks, set_holds, set_held, any_holds, any_held, call_holds, call_held}
 use Rattle.leaf_cases.proofs.Graphs.{CallFits, EdgeFits}
 use Rattle.leaf_cases.proofs.Guards.{truth_holds, truth_held, truth_few}
@@ -171,7 +172,7 @@ pub call_few : (j k to : ℕ) (a b : Transition) (F : Case → List Polynomial) 
 call_few j k to a b F h few long = mapped-few (j + k + to) (λ case. with_posts (F case) case) (λ case le. le) (sequence_of a b).cases (pairs-few j k to a.cases b.cases h few long)
 
 below-limit : (m : ℕ) (cases : List Case) → m < 2 ^ 31 → AllByRecursion (λ case. case.aux ≤ m) cases → All (λ (case : Case). case.aux < 2 ^ 31) cases
-below-limit m cases lt h = all_of_each (λ (case : Case). case.aux < 2 ^ 31) cases (narrowed cases h)
+below-limit m cases lt h = All-from_recursion (λ (case : Case). case.aux < 2 ^ 31) cases (narrowed cases h)
   where
     narrowed : (cases : List Case) → AllByRecursion (λ case. case.aux ≤ m) cases → AllByRecursion (λ (case : Case). case.aux < 2 ^ 31) cases
     narrowed [] h = tt
@@ -199,7 +200,7 @@ module _ (program : Program) (width : ℕ) (wide : length program.globals ≤ wi
       let few = fit.operators in
       let most = awaited-few into in
       let firsts = mapped-few (4 * joint_operators args) (λ case. with_posts (columns_of (length program.globals) ++ case.post) case) (λ case le. le) (arguments_of args).cases (few-sit width (4 * joint_operators args) (arguments_of args).cases (arguments-sit width args fit.below)) in
-      let seconds = mapped-few 64 (λ case. with_posts (take n case.post) case) (λ case le. le) f.cases (each_of_all (λ (case : Case). case.aux ≤ 64) f.cases k.auxiliaries) in
+      let seconds = mapped-few 64 (λ case. with_posts (take n case.post) case) (λ case le. le) f.cases (recursion_from_All (λ (case : Case). case.aux ≤ 64) f.cases k.auxiliaries) in
       let long = posts-most f.from n b.cases (cut_fits n f b.cases asks.asked k.fits refl) in
       below-limit (4 * joint_operators args + 64 + awaited (length program.globals) into) (call_of width (length program.globals) args into f).cases (omega arith)
       (call_few (4 * joint_operators args) 64 n a b (λ case. (leaving_case width (length program.globals) into case).post) firsts seconds long)

@@ -17,3 +17,4 @@ pub mod Arguments
 pub mod EdgeFits
 pub mod EdgeMeanings
 pub mod Leaves
+pub mod MetCalls

@@ -3,12 +3,12 @@ use Rattle.std.proofs.Common.{◌≡◌, ◌⊎◌, inl, inr, ℕ, zero, suc, �
 use Rattle.std.specs.Prelude.{int_div}
 use Rattle.std.proofs.lemmas.Int.{ints}
 use Rattle.std.specs.List.{AllByRecursion, flat_map}
+use Rattle.items.proofs.Each.{each-append, each-front, each-back}
 use Rattle.linear_terms.specs.declared.col.Col.TheVariants.{Aux}
 use Rattle.linear_terms.specs.declared.row.Case.{Case}
 use Rattle.linear_terms.specs.Polynomial.{Polynomial, column_of, constant_of}
 use Rattle.linear_terms.specs.Row.{RowHolds, RowsHold}
 use Rattle.linear_terms.specs.Value.{Valuation, value_of}
-use Rattle.linear_terms.proofs.Columns.{each-append}
 use Rattle.transition_formula.specs.Loss.{losses_of}
 use Rattle.transition_formula.specs.Meaning.{numbers, HoldsAt, HoldsCase, HoldsSome}
 use Rattle.transition_formula.proofs.Values.{column-value, noted-some, none-of}
@@ -26,7 +26,7 @@ use Rattle.leaf_cases.specs.Steps.{operand, value_at, test_at, test_claim, divis
 use Rattle.leaf_cases.proofs.Quotients.{IsDivision, Falls, division_falls, splits-divide}
 use Rattle.leaf_cases.proofs.Sitting.{Sits}
 use Rattle.leaf_cases.proofs.Stepped.{AllSay, AllWithin, claims-hold, claims-held, first_of, second_of, operand-value, calculated_number, tested_number, part_number, StepGives, value-says, test-says, division_numbers, division-says, splits-within, within-splits}
-use Rattle.leaf_cases.proofs.Together.{some-left, some-right, some-either, front-of, back-of, extended, extended-more, extended-holds}
+use Rattle.leaf_cases.proofs.Together.{some-left, some-right, some-either, extended, extended-more, extended-holds}
 
 -- ---- a case with more rows and other posts
 
@@ -36,10 +36,10 @@ limited-holds w case x h more claims zs says within post y e = record { rows = e
 
 -- the numbers of the case before
 before-limited : (w : Valuation) (case : Case) (more : ℕ) (claims : List Claim) (post : List Polynomial) (y : List ℤ) → HoldsAt w (limited case more claims post) y → HoldsAt w case (map (value_of w) case.post)
-before-limited w case more claims post y h = record { rows = front-of (RowHolds w) case.rows (rows_of claims) h.rows; posts = refl }
+before-limited w case more claims post y h = record { rows = each-front (RowHolds w) case.rows (rows_of claims) h.rows; posts = refl }
 
 rows-limited : (w : Valuation) (case : Case) (more : ℕ) (claims : List Claim) (post : List Polynomial) (y : List ℤ) → HoldsAt w (limited case more claims post) y → RowsHold w (rows_of claims)
-rows-limited w case more claims post y h = back-of (RowHolds w) case.rows (rows_of claims) h.rows
+rows-limited w case more claims post y h = each-back (RowHolds w) case.rows (rows_of claims) h.rows
 
 one-value : (w : Valuation) (p : Polynomial) (z : ℤ) → value_of w p ≡ z → map (value_of w) (p ∷ []) ≡ z ∷ []
 one-value w p z e = λ i. e i ∷ []

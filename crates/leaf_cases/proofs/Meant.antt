@@ -1,9 +1,9 @@
 -- What lists of cases mean: the values of which they hold, in each state.
 use Rattle.std.proofs.Common.{◌≡◌, ◌⊎◌, inl, inr, ℕ, ◌+◌, ℤ, pos, map, List, [], ◌∷◌, ◌++◌, sym, subst, ◌∙◌, arith}
 use Rattle.std.specs.List.{AllByRecursion}
+use Rattle.items.proofs.Each.{each-append, each-more}
 use Rattle.linear_terms.specs.Polynomial.{Polynomial}
 use Rattle.linear_terms.specs.Value.{value_of}
-use Rattle.linear_terms.proofs.Columns.{each-append}
 use Rattle.transition_formula.specs.Meaning.{numbers, HoldsSome}
 use Rattle.transition_formula.proofs.Values.{none-of}
 use Rattle.leaf_cases.specs.declared.step.Step.{Step}
@@ -11,7 +11,7 @@ use Rattle.leaf_cases.specs.Expression.{by, known, numbered}
 use Rattle.leaf_cases.specs.Listed.{Listed, together, either}
 use Rattle.leaf_cases.specs.Steps.{lost_by, with_number}
 use Rattle.leaf_cases.proofs.Made.{Stepped, Numbered, steps-hold, steps-held, numbered-hold, numbered-held}
-use Rattle.leaf_cases.proofs.Sitting.{Sits, sits-more, sits-both, sits-cases_by, sits-numbered, each-more}
+use Rattle.leaf_cases.proofs.Sitting.{Sits, sits-more, sits-both, sits-cases_by, sits-numbered}
 use Rattle.leaf_cases.proofs.Together.{Both, both-hold, both-held, some-left, some-right, some-either}
 use Rattle.leaf_cases.specs.Listed as listed
 

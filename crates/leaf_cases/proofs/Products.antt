@@ -7,6 +7,7 @@ use Rattle.std.specs.declared.cmp.Ordering.{Ordering}
 use Rattle.std.specs.declared.cmp.Ordering.TheVariants.{Less, Equal, Greater}
 use Rattle.items.specs.Gives.{◌>>=◌}
 use Rattle.items.proofs.Gives.{on_ok}
+use Rattle.items.proofs.Each.{each-append}
 use Rattle.linear_terms.specs.declared.col.Col.{Col}
 use Rattle.linear_terms.specs.declared.error.TermError.{TermError}
 use Rattle.linear_terms.specs.declared.error.TermError.TheVariants.{Degree}
@@ -15,7 +16,7 @@ use Rattle.linear_terms.specs.TermError.{plus, times}
 use Rattle.linear_terms.specs.Mono.{mono_cmp, placed, in_order}
 use Rattle.linear_terms.specs.Polynomial.{Terms, Polynomial, constant_of}
 use Rattle.linear_terms.specs.Operations.{kept, put, parts, put_part, add_product, add_row, add_rows, product_of_polys}
-use Rattle.linear_terms.proofs.Columns.{EachColumn, each-append}
+use Rattle.linear_terms.proofs.Columns.{EachColumn}
 
 abbrev done : {X : Type 0} → X → Result X TermError
 done x = Ok x

@@ -2,6 +2,7 @@
 use Rattle.std.proofs.Common.{◌≡◌, ℕ, ◌+◌, ◌*◌, ◌<◌, ◌≤◌, ◌^◌, true, pos, map, List, [], ◌∷◌, ◌++◌, refl, sym, ap, subst, ◌∙◌, arith}
 use Rattle.std.specs.Prelude.{IsTrue, nat_lt}
 use Rattle.std.specs.List.{AllByRecursion, list_all}
+use Rattle.items.proofs.Each.{each-append, each-more}
 use Rattle.linear_terms.specs.declared.col.Col as col
 use Rattle.linear_terms.specs.declared.col.Col.TheVariants.{At, Aux}
 use Rattle.linear_terms.specs.declared.row.Case.{Case}
@@ -27,8 +28,7 @@ use Rattle.leaf_cases.specs.Expression.{Lists, of_number, of_test, sign_lists, c
 use Rattle.leaf_cases.specs.Listed.{Listed, AreFew, AreReady, is_ready}
 use Rattle.leaf_cases.specs.Listed as listed
 use Rattle.leaf_cases.specs.Steps.{cases_by, with_number}
-use Rattle.leaf_cases.proofs.Sitting.{Sits, sits-more, sits-both, sits-cases_by, sits-numbered, each-more, column_passes}
-use Rattle.linear_terms.proofs.Columns.{each-append}
+use Rattle.leaf_cases.proofs.Sitting.{Sits, sits-more, sits-both, sits-cases_by, sits-numbered, column_passes}
 
 -- ---- the cases of an expression
 

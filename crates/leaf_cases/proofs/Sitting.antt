@@ -5,13 +5,14 @@ use Rattle.std.specs.List.{AllByRecursion, list_all, flat_map, cons_option}
 use Rattle.std.proofs.lemmas.List.Folds.{list_all-append}
 use Rattle.items.specs.Gives.{◌>>=◌}
 use Rattle.items.proofs.Gives.{on_ok}
+use Rattle.items.proofs.Each.{each-flat_map, each-map, each-any}
 use Rattle.linear_terms.specs.declared.col.Col.{Col}
 use Rattle.linear_terms.specs.declared.col.Col.TheVariants.{At, Aux}
 use Rattle.linear_terms.specs.declared.row.Case.{Case}
 use Rattle.linear_terms.specs.Auxiliaries.{renumbered, renumbered_column}
 use Rattle.linear_terms.specs.Polynomial.{Polynomial, column_of, constant_of}
 use Rattle.linear_terms.specs.Operations.{multiple_of, sum_of_polys, product_of_polys, difference_of_polys}
-use Rattle.linear_terms.proofs.Columns.{each-append, multiple_of-each, sum_of_polys-each}
+use Rattle.linear_terms.proofs.Columns.{multiple_of-each, sum_of_polys-each}
 use Rattle.leaf_cases.proofs.Products.{product_of_polys-each}
 use Rattle.transition_formula.specs.Composition.{row_of}
 use Rattle.transition_formula.specs.Renumbering.{renumbered_row}
@@ -34,22 +35,6 @@ use Rattle.leaf_cases.specs.Listed as listed
 use Rattle.leaf_cases.specs.Steps.{one_more, operand, value_at, test_at, test_claim, division_at, part_at, made_at, cases_by, with_number}
 
 -- ---- lists
-
-pub each-flat_map : {X Y : Type 0} (P : X → Type 0) (Q : Y → Type 0) (f : X → List Y) → ((x : X) → P x → AllByRecursion Q (f x)) → (xs : List X) → AllByRecursion P xs → AllByRecursion Q (flat_map f xs)
-each-flat_map P Q f tells [] h = tt
-each-flat_map P Q f tells (x ∷ xs) h = each-append Q (f x) (flat_map f xs) (tells x h.0) (each-flat_map P Q f tells xs h.1)
-
-pub each-map : {X Y : Type 0} (P : X → Type 0) (Q : Y → Type 0) (f : X → Y) → ((x : X) → P x → Q (f x)) → (xs : List X) → AllByRecursion P xs → AllByRecursion Q (map f xs)
-each-map P Q f tells [] h = tt
-each-map P Q f tells (x ∷ xs) h = (tells x h.0, each-map P Q f tells xs h.1)
-
-pub each-any : {X : Type 0} (P : X → Type 0) → ((x : X) → P x) → (xs : List X) → AllByRecursion P xs
-each-any P tells [] = tt
-each-any P tells (x ∷ xs) = (tells x, each-any P tells xs)
-
-pub each-more : {X : Type 0} (P Q : X → Type 0) → ((x : X) → P x → Q x) → (xs : List X) → AllByRecursion P xs → AllByRecursion Q xs
-each-more P Q tells [] h = tt
-each-more P Q tells (x ∷ xs) h = (tells x h.0, each-more P Q tells xs h.1)
 
 mapped-passes : {X Y : Type 0} (f : X → Y) (s : X → Bool) (t : Y → Bool) → ((x : X) → IsTrue (s x) → IsTrue (t (f x))) → (xs : List X) → IsTrue (list_all s xs) → IsTrue (list_all t (map f xs))
 mapped-passes f s t tells [] h = refl

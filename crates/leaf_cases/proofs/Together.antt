@@ -3,6 +3,7 @@ use Rattle.std.proofs.Common.{◌≡◌, ◌⊎◌, inl, inr, ℕ, ◌+◌, ◌-
 use Rattle.std.specs.Prelude.{IsTrue, nat_lt}
 use Rattle.std.specs.List.{AllByRecursion, flat_map}
 use Rattle.std.proofs.lemmas.List.{map-append}
+use Rattle.items.proofs.Each.{each-append, each-front, each-back}
 use Rattle.linear_terms.specs.declared.col.Col.{Col}
 use Rattle.linear_terms.specs.declared.col.Col.TheVariants.{At, Aux}
 use Rattle.linear_terms.specs.declared.row.Row.{Row}
@@ -11,7 +12,6 @@ use Rattle.linear_terms.specs.Auxiliaries.{renumbered, renumbered_column}
 use Rattle.linear_terms.specs.Polynomial.{Terms, Polynomial}
 use Rattle.linear_terms.specs.Row.{RowHolds, IsWithin, RowsHold}
 use Rattle.linear_terms.specs.Value.{Valuation, mono_value, terms_value, value_of}
-use Rattle.linear_terms.proofs.Columns.{each-append}
 use Rattle.transition_formula.specs.Meaning.{numbers, HoldsAt, HoldsCase, HoldsSome}
 use Rattle.transition_formula.specs.Renumbering.{renumbered_row}
 use Rattle.transition_formula.specs.Transition.{is_below}
@@ -42,14 +42,6 @@ some-either (x ∷ xs) ys s z (inr h) = go (some-either xs ys s z h)
     go : HoldsSome xs s z ⊎ HoldsSome ys s z → HoldsSome (x ∷ xs) s z ⊎ HoldsSome ys s z
     go (inl k) = inl (inr k)
     go (inr k) = inr k
-
-pub front-of : {A : Type 0} (P : A → Type 0) (xs ys : List A) → AllByRecursion P (xs ++ ys) → AllByRecursion P xs
-front-of P [] ys h = tt
-front-of P (x ∷ xs) ys h = (h.0, front-of P xs ys h.1)
-
-pub back-of : {A : Type 0} (P : A → Type 0) (xs ys : List A) → AllByRecursion P (xs ++ ys) → AllByRecursion P ys
-back-of P [] ys h = h
-back-of P (x ∷ xs) ys h = back-of P xs ys h.1
 
 -- ---- numbers for more auxiliaries
 
@@ -148,10 +140,10 @@ beside-held a b s z (aux, h) =
     record {
       first = map (value_of w) a.post;
       second = map (value_of at) b.post;
-      left = (aux, record { rows = front-of (RowHolds w) a.rows (map (renumbered_row (λ n. a.aux + n)) b.rows) h.rows; posts = refl });
+      left = (aux, record { rows = each-front (RowHolds w) a.rows (map (renumbered_row (λ n. a.aux + n)) b.rows) h.rows; posts = refl });
       right = (
         λ n. aux (a.aux + n),
-        record { rows = told-rows (λ n. a.aux + n) at w told b.rows (back-of (RowHolds w) a.rows (map (renumbered_row (λ n. a.aux + n)) b.rows) h.rows); posts = refl },
+        record { rows = told-rows (λ n. a.aux + n) at w told b.rows (each-back (RowHolds w) a.rows (map (renumbered_row (λ n. a.aux + n)) b.rows) h.rows); posts = refl },
       );
       joined =
           sym h.posts

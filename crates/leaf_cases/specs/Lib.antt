@@ -7,3 +7,4 @@ pub mod Expression
 pub mod Guard
 pub mod Edges
 pub mod Conditions
+pub mod Summaries

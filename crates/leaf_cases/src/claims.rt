@@ -5,7 +5,7 @@ ghost use Rattle.linear_terms.specs.declared.error.TermError.TheVariants.{Memory
 ghost use Rattle.linear_terms.specs.Polynomial.{column_of};
 ghost use Rattle.linear_terms.specs.TermError.{cause};
 ghost use Rattle.transition_formula.specs.Loss.{noted, losses_of};
-ghost use Rattle.leaf_cases.specs.Claims.{rows_of, lost_of, valued};
+ghost use Rattle.leaf_cases.specs.Claims.{loss_of, rows_of, lost_of, valued};
 
 use items::Items;
 use linear_terms::{Case, Col, Kind, Poly, Row, TermError};
@@ -22,18 +22,29 @@ pub(crate) fn column(alloc: Global, col: Col) -> Result<Poly, FormulaError>
     }
 }
 
+/// The loss that an error of an operation is. Want of memory is none.
+fn loss_of(error: TermError) -> Option<Loss>
+    ensures { result ≡ loss_of error }
+{
+    match error {
+        TermError::Wide { left, right, times } => Some(Loss::Wide { left, right, times }),
+        TermError::Degree => Some(Loss::Degree),
+        TermError::Memory => None,
+    }
+}
+
 /// Notes an error of an operation; want of memory is an error here too.
 fn note(error: TermError, losses: &mut Items<Loss>) -> Result<(), FormulaError>
     ensures noted { OnOk result (losses.new ≡ losses.old ++ noted error) }
     ensures told { OnOk result (error ≢ Memory) }
 {
-    let loss = match error {
-        TermError::Wide { left, right, times } => Loss::Wide { left, right, times },
-        TermError::Degree => Loss::Degree,
-        TermError::Memory => return Err(FormulaError::Memory),
-    };
-    losses.push(loss)?;
-    Ok(())
+    match loss_of(error) {
+        Some(loss) => {
+            losses.push(loss)?;
+            Ok(())
+        }
+        None => Err(FormulaError::Memory),
+    }
 }
 
 /// Adds a row behind others, where it has a polynomial; one that is lost is noted.

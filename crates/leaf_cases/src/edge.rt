@@ -1,4 +1,4 @@
-ghost use Rattle.std.specs.Prelude.{◌≡◌, ◌+◌, ◌≤◌, ◌<◌, ◌^◌, ◌++◌, ℤ, List, length, All, IfOk, OnOk};
+ghost use Rattle.std.specs.Prelude.{◌≡◌, ◌+◌, ◌≤◌, ◌<◌, ◌^◌, ◌++◌, ℤ, List, length, All, IfOk, OnOk, OnErr};
 ghost use Rattle.flow_graph.specs.Plain.{statement_of_act};
 ghost use Rattle.flow_graph.specs.Walks.{EdgeRelates};
 ghost use Rattle.syntax_tree.specs.WellFormed.{IsWellFormed};
@@ -17,7 +17,7 @@ use transition_formula::{Formula, FormulaError, Loss};
 
 /// The formula of an edge of a procedure's graph, by the known formulas of the procedures. A call of a
 /// procedure without a known formula has no cases. What is lost is noted after the losses that are there; after
-/// an error more may be noted.
+/// an error nothing is noted.
 pub fn leaf(
     alloc: Global,
     program: &Program,
@@ -32,12 +32,15 @@ pub fn leaf(
     requires known { AreKnown program.now known.now }
     ensures exact { IfOk result (λ f. f ≡ leaf_of (columns_at program.now proc) (length program.now.globals) known.now (statement_of_act act.now)) }
     ensures noted { OnOk result (losses.new ≡ losses.old ++ lost_in_leaf (columns_at program.now proc) (length program.now.globals) known.now (statement_of_act act.now)) }
+    ensures kept { OnErr result (losses.new ≡ losses.old) }
     ensures cases { IfOk result (λ f. length f.cases ≤ 4096) }
     ensures few { IfOk result (λ f. All (λ case. case.aux < 2 ^ 31) f.cases) }
     ensures at_least { (before after : List ℤ) → IfOk result (λ f. length before ≡ columns_at program.now proc → EdgeRelates (KnownCalls known.now) (length program.now.globals) (statement_of_act act.now) before after → Holds f before after) }
     ensures at_most { (before after : List ℤ) → losses.new ≡ losses.old → IfOk result (λ f. Holds f before after → EdgeRelates (KnownCalls known.now) (length program.now.globals) (statement_of_act act.now) before after) }
 {
-    let formula = act_formula(alloc, program, proc, act, known, losses)?;
+    let mut lost = Items::new(alloc);
+    let formula = act_formula(alloc, program, proc, act, known, &mut lost)?;
+    losses.append(lost)?;
     Ok(formula)
 }
 

@@ -1,4 +1,4 @@
-ghost use Rattle.std.specs.Prelude.{◌≡◌, ◌+◌, ◌≤◌, ◌<◌, ◌^◌, ◌++◌, ℤ, List, length, All, IfOk, OnOk, IsTrue};
+ghost use Rattle.std.specs.Prelude.{◌≡◌, ◌+◌, ◌≤◌, ◌<◌, ◌^◌, ◌++◌, ℤ, List, length, All, IfOk, OnOk, OnErr, IsTrue};
 ghost use Rattle.syntax_tree.specs.declared.limits.TheConstants.{MOST_OPERATORS};
 ghost use Rattle.syntax_tree.specs.Term.{term_of};
 ghost use Rattle.syntax_tree.specs.WellFormed.{columns_below, operators_of};
@@ -17,7 +17,7 @@ use syntax_tree::Core;
 use transition_formula::{Formula, FormulaError, Loss};
 
 /// Says that an expression is true, and that nothing changes. What is lost is noted after the losses that
-/// are there: a lost row is left out, and a lost value may be any number. After an error more may be noted.
+/// are there: a lost row is left out, and a lost value may be any number. After an error nothing is noted.
 pub fn truth(
     alloc: Global,
     e: &Core,
@@ -28,12 +28,15 @@ pub fn truth(
     requires operators { operators_of (term_of e.now) ≤ MOST_OPERATORS + 1 }
     ensures exact { IfOk result (λ f. f ≡ guard_of columns (lists_of (term_of e.now)).truth.cases) }
     ensures noted { OnOk result (losses.new ≡ losses.old ++ (lists_of (term_of e.now)).truth.lost) }
+    ensures kept { OnErr result (losses.new ≡ losses.old) }
     ensures few { IfOk result (λ f. All (λ case. case.aux < 2 ^ 31) f.cases) }
     ensures at_least { (state : List ℤ) → IfOk result (λ f. length state ≡ columns → IsTrueIn (term_of e.now) state → Holds f state state) }
     ensures at_most { (before after : List ℤ) → losses.new ≡ losses.old → IfOk result (λ f. Holds f before after → ((after ≡ before) × IsTrueIn (term_of e.now) before)) }
 {
-    let cases = cases_of(alloc, e, Sought::Truth, losses)?;
+    let mut lost = Items::new(alloc);
+    let cases = cases_of(alloc, e, Sought::Truth, &mut lost)?;
     let formula = guard(alloc, columns, cases.as_slice())?;
+    losses.append(lost)?;
     Ok(formula)
 }
 
@@ -48,12 +51,15 @@ pub fn falsity(
     requires operators { operators_of (term_of e.now) ≤ MOST_OPERATORS + 1 }
     ensures exact { IfOk result (λ f. f ≡ guard_of columns (lists_of (term_of e.now)).falsity.cases) }
     ensures noted { OnOk result (losses.new ≡ losses.old ++ (lists_of (term_of e.now)).falsity.lost) }
+    ensures kept { OnErr result (losses.new ≡ losses.old) }
     ensures few { IfOk result (λ f. All (λ case. case.aux < 2 ^ 31) f.cases) }
     ensures at_least { (state : List ℤ) → IfOk result (λ f. length state ≡ columns → IsFalseIn (term_of e.now) state → Holds f state state) }
     ensures at_most { (before after : List ℤ) → losses.new ≡ losses.old → IfOk result (λ f. Holds f before after → ((after ≡ before) × IsFalseIn (term_of e.now) before)) }
 {
-    let cases = cases_of(alloc, e, Sought::Falsity, losses)?;
+    let mut lost = Items::new(alloc);
+    let cases = cases_of(alloc, e, Sought::Falsity, &mut lost)?;
     let formula = guard(alloc, columns, cases.as_slice())?;
+    losses.append(lost)?;
     Ok(formula)
 }
 

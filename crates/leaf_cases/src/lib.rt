@@ -10,6 +10,7 @@ mod division;
 mod edge;
 mod expression;
 mod guard;
+mod laws;
 mod listed;
 mod step;
 #[cfg(test)]
@@ -17,3 +18,4 @@ mod tests;
 
 pub use edge::leaf;
 pub use guard::{falsity, truth};
+pub use laws::met_calls_are_known;

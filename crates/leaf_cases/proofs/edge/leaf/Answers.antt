@@ -1,4 +1,4 @@
-use Rattle.std.proofs.Common.{◌<◌, ◌≤◌, ◌^◌, length, refl, sym, subst, ◌∙◌}
+use Rattle.std.proofs.Common.{◌<◌, ◌≤◌, ◌^◌, length, ◌++◌, ap, refl, sym, subst, ◌∙◌}
 use Rattle.std.specs.Prelude.{All}
 use Rattle.linear_terms.specs.declared.row.Case.{Case}
 use Rattle.flow_graph.specs.Plain.{statement_of_act}
@@ -34,5 +34,5 @@ pub returns-clause-at_most : goal.returns-clause-at_most
 returns-clause-at_most c before after kept holds =
     let fit = fit_as c.args.program.now c.args.proc (statement_of_act c.args.act.now) (statement_of_act c.args.act.now) (columns_at c.args.program.now c.args.proc) c.requires.formed c.requires.procedure c.requires.edge refl refl in
     let wide = globals_at c.args.program.now c.args.proc c.requires.procedure in
-    let none = nothing-more c.args.losses.now (lost_in_leaf (columns_at c.args.program.now c.args.proc) (length c.args.program.now.globals) c.args.known.now (statement_of_act c.args.act.now)) (sym c.in_ok-formula.ensures.noted ∙ kept) in
+    let none = nothing-more c.args.losses.now (lost_in_leaf (columns_at c.args.program.now c.args.proc) (length c.args.program.now.globals) c.args.known.now (statement_of_act c.args.act.now)) (sym (c.in_ok-append.ensures.ok ∙ ap (λ more. c.args.losses.now ++ more) (c.in_ok-formula.ensures.noted ∙ ap (λ front. front ++ (lost_in_leaf (columns_at c.args.program.now c.args.proc) (length c.args.program.now.globals) c.args.known.now (statement_of_act c.args.act.now))) c.new-lost.ensures)) ∙ kept) in
     leaf_held c.args.program.now (columns_at c.args.program.now c.args.proc) wide c.args.known.now c.requires.known (statement_of_act c.args.act.now) fit none before after (subst (λ (f : Transition). Holds f before after) c.in_ok-formula.ensures.exact holds)

@@ -1,5 +1,6 @@
-use Rattle.std.proofs.Common.{ap, ◌∙◌}
+use Rattle.std.proofs.Common.{◌++◌, ap, ◌∙◌}
 use Rattle.syntax_tree.specs.Term.{term_of}
+use Rattle.leaf_cases.specs.Expression.{lists_of}
 use Rattle.leaf_cases.specs.Guard.{guard_of}
 use Rattle.leaf_cases.proofs.Guards.{falsity_covered, falsity_few, falsity_holds, falsity_held}
 use Rattle.leaf_cases.proofs.guard.falsity.Goals as goal
@@ -19,5 +20,5 @@ returns-clause-at_least c state long holds =
 
 pub returns-clause-at_most : goal.returns-clause-at_most
 returns-clause-at_most c before after kept holds =
-    falsity_held c.args.columns (term_of c.args.e.now) c.in_ok-formula.formula c.args.losses.now c.cases_of.new.losses c.requires.below
-    (c.in_ok-formula.ensures ∙ ap (guard_of c.args.columns) (c.as_slice.ensures ∙ c.in_ok-cases.ensures.exact)) c.in_ok-cases.ensures.noted kept before after holds
+    falsity_held c.args.columns (term_of c.args.e.now) c.in_ok-formula.formula c.args.losses.now c.append.new.self c.requires.below
+    (c.in_ok-formula.ensures ∙ ap (guard_of c.args.columns) (c.as_slice.ensures ∙ c.in_ok-cases.ensures.exact)) (c.in_ok-append.ensures.ok ∙ ap (λ more. c.args.losses.now ++ more) (c.in_ok-cases.ensures.noted ∙ ap (λ front. front ++ (lists_of (term_of c.args.e.now)).falsity.lost) c.new-lost.ensures)) kept before after holds
