@@ -1,20 +1,23 @@
-pub mod Stated
-pub mod Shapes
-pub mod Moved
-pub mod Products
-pub mod Sitting
-pub mod Ready
-pub mod Quotients
-pub mod Together
-pub mod Stepped
-pub mod Made
-pub mod Meant
-pub mod Expressions
-pub mod Guards
-pub mod Graphs
-pub mod Counts
-pub mod Arguments
-pub mod EdgeFits
-pub mod EdgeMeanings
+-- ---- the formula of an edge holds exactly where the edge leads, and known formulas that are met tell of executions
 pub mod Leaves
 pub mod MetCalls
+pub mod EdgeMeanings
+pub mod EdgeFits
+pub mod Arguments
+pub mod Graphs
+-- ---- what the cases of an expression mean
+pub mod Guards
+pub mod Expressions
+pub mod Meant
+pub mod Made
+pub mod Stepped
+pub mod Together
+pub mod Quotients
+-- ---- how many cases and auxiliaries there are, and which columns they have
+pub mod Counts
+pub mod Ready
+pub mod Sitting
+pub mod Products
+pub mod Moved
+pub mod Shapes
+pub mod Stated

@@ -13,8 +13,6 @@ mod guard;
 mod laws;
 mod listed;
 mod step;
-#[cfg(test)]
-mod tests;
 
 pub use edge::leaf;
 pub use guard::{falsity, truth};
