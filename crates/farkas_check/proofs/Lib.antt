@@ -19,6 +19,7 @@ pub mod Spreads
 pub mod Walks
 mod Listing
 mod Lookups
+mod Ordered
 mod Sums
 mod Halves
 mod Pivots

@@ -1,5 +1,5 @@
 -- Columns that are listed in their places: the next one, and the number of a point at one.
-use Rattle.std.proofs.Common.{◌≡◌, ◌⊎◌, inl, inr, ℕ, zero, suc, ◌+◌, Bool, true, List, [], ◌∷◌, drop, get_or, set, Option, Some, None, pos, refl, sym, ap, subst, ◌∙◌, arith}
+use Rattle.std.proofs.Common.{◌≡◌, ◌⊎◌, inl, inr, ℕ, zero, suc, ◌+◌, true, List, [], ◌∷◌, drop, get_or, set, Option, Some, None, pos, refl, sym, ap, subst, ◌∙◌, arith}
 use Rattle.std.specs.Prelude.{slice_get}
 use Rattle.std.specs.Ordering.{ordering_reverse, eq_by_cmp, is_eq}
 use Rattle.std.specs.declared.cmp.Ordering.{Ordering}
@@ -14,7 +14,7 @@ use Rattle.farkas_check.specs.Columns.{monos_of}
 use Rattle.farkas_check.specs.Points.{ratio_at}
 use Rattle.farkas_check.specs.Ratios.{Fraction, whole}
 use Rattle.farkas_check.specs.Relations.{case_monos, source_columns}
-use Rattle.farkas_check.specs.Walk.{columns_after, is_after, IsNext, IsBlank, IsListing, IsPair, IsBehind}
+use Rattle.farkas_check.specs.Walk.{columns_after, IsNext, IsBlank, IsListing, IsBehind}
 use Rattle.farkas_check.proofs.Walks.{IsBefore, IsOrdered, IsOrdered-columns, reversed, first_of, after_first, all_before, ties_itself, columns_after-None}
 
 -- ---- order
@@ -32,7 +32,7 @@ first_there : (cs : List (List Col)) (m : List Col) → slice_get cs 0 ≡ Some 
 first_there [] m e = cc
 first_there (c ∷ cs) m e = e
 
-mono_itself : (m : List Col) → mono_cmp m m ≡ Equal
+pub mono_itself : (m : List Col) → mono_cmp m m ≡ Equal
 mono_itself m = go (mono_cmp m m) (mono_cmp_total.antisymm m m)
   where
     go : (o : Ordering) → o ≡ ordering_reverse o → o ≡ Equal

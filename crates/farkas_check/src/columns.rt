@@ -2,11 +2,13 @@ ghost use Rattle.std.specs.Prelude.{◌≡◌, [], ◌∷◌, ◌==◌, length, 
 ghost use Rattle.std.specs.Map.{keys_of};
 ghost use Rattle.std.specs.Ordering.{is_lt};
 ghost use Rattle.linear_terms.specs.Mono.{mono_cmp};
+ghost use Rattle.linear_terms.specs.Polynomial.{IsCanonical};
 ghost use Rattle.farkas_check.specs.Columns.{columns};
 ghost use Rattle.farkas_check.specs.Relations.{stratum_columns, source_columns};
 ghost use Rattle.farkas_check.specs.Listing.{columns_in};
 ghost use Rattle.farkas_check.specs.Walk.{IsNext, IsBlank, IsListing, IsBehind, is_after, lesser, least_after, least_in_rows, least_in_polys, least_in_cases};
 
+use crate::search::{first_behind, is_after};
 use crate::source::{Columns, LISTED, Source};
 use crate::{Change, Ratio, Stratum};
 use items::Items;
@@ -162,7 +164,7 @@ fn least_in_polys(polys: &[Poly], last: &Option<Mono>, known: Option<Mono>) -> O
 {
     let mut least = known;
     for poly in polys {
-        least = least_after(poly.terms(), last, least);
+        least = least_in_order(poly.terms(), last, least);
     }
     least
 }
@@ -172,9 +174,23 @@ fn least_in_rows(rows: &[Row], last: &Option<Mono>, known: Option<Mono>) -> Opti
 {
     let mut least = known;
     for row in rows {
-        least = least_after(row.poly.terms(), last, least);
+        least = least_in_order(row.poly.terms(), last, least);
     }
     least
+}
+
+/// The same of terms in print order, whose first one after `last` is the least of those.
+#[tactic(auto, using(crate::proofs::Ordered::ordered))]
+fn least_in_order(terms: &[(Mono, i128)], last: &Option<Mono>, known: Option<Mono>) -> Option<Mono>
+    requires { IsCanonical terms.now }
+    ensures { result ≡ least_after last.now known (keys_of terms.now) }
+{
+    let place = first_behind(terms, last);
+    if place < terms.len() {
+        lesser(known, terms[place].0, true)
+    } else {
+        known
+    }
 }
 
 /// The least of the monomials after `last`, and of one that is known.
@@ -186,15 +202,6 @@ fn least_after(terms: &[(Mono, i128)], last: &Option<Mono>, known: Option<Mono>)
         least = lesser(least, *mono, is_after(last, mono));
     }
     least
-}
-
-fn is_after(last: &Option<Mono>, mono: &Mono) -> bool
-    ensures { result ≡ is_after last.now mono.now }
-{
-    match last {
-        Some(last) => *last < *mono,
-        None => true,
-    }
 }
 
 /// The lesser of two monomials, where the second counts.

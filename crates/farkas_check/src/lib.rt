@@ -14,6 +14,7 @@ mod passing;
 mod points;
 mod question;
 mod ratio;
+mod search;
 mod source;
 mod stratum;
 mod ties;
