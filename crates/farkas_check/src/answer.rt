@@ -5,7 +5,7 @@ use items::Items;
 use std::alloc::AllocError;
 
 /// Multipliers for the rows of a case, whose sum is `scale` times the objective less `sum`.
-#[derive(Debug, PartialEq, Eq, Drop)]
+#[derive(Debug, PartialEq, Eq, Hash, Drop)]
 pub struct Cert {
     pub scale: i128,
     pub sum: i128,
@@ -13,7 +13,7 @@ pub struct Cert {
 }
 
 /// Why a question has no other answer.
-#[derive(Clone, Copy, Debug, PartialEq, Eq)]
+#[derive(Clone, Copy, Debug, PartialEq, Eq, Hash)]
 pub enum Limit {
     /// The product, where `times` holds, or else the sum of these two numbers is no number of 128 bits.
     Wide {
@@ -27,7 +27,7 @@ pub enum Limit {
 
 /// An answer, with what shows that it is true. Points and rays have one number for each column of their case,
 /// in print order.
-#[derive(Debug, PartialEq, Eq, Drop)]
+#[derive(Debug, PartialEq, Eq, Hash, Drop)]
 pub enum Answer {
     /// No point makes the rows true: one multiplier for each row.
     Yes(Items<i128>),

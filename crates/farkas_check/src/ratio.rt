@@ -2,7 +2,7 @@ ghost use Rattle.std.specs.Prelude.{◌≡◌, ◌<ℤ◌, pos, int_div, IsTrue,
 ghost use Rattle.whole_numbers.specs.Fits.{product_of};
 ghost use Rattle.std.specs.Option.{SomeIff};
 ghost use Rattle.std.specs.Cmp.{partial_equiv_from_equiv};
-ghost use Rattle.farkas_check.specs.Ratios.{whole, lowest_terms, is_lowest, ratio_product, ratio_sum, common_multiple, is_at_least, ratio_eq, ratio_eq_equiv};
+ghost use Rattle.farkas_check.specs.Ratios.{IsLowest, whole, lowest_terms, is_lowest, ratio_product, ratio_sum, common_multiple, is_at_least, ratio_eq, ratio_eq_equiv};
 ghost use Rattle.farkas_check.specs.Stratum.{is_exactly};
 ghost use Rattle.farkas_check.specs.Laws.{SumsAreExact, ProductsAreExact, ValuesAreExact};
 
@@ -10,7 +10,7 @@ use std::marker::Model;
 use whole_numbers::{Wide, gcd, product, quotient, sum};
 
 /// A ratio of whole numbers in lowest terms, with a positive denominator.
-#[derive(Clone, Copy, Debug)]
+#[derive(Clone, Copy, Debug, Hash)]
 pub struct Ratio {
     num: i128,
     den: i128,
@@ -63,6 +63,7 @@ impl Ratio {
     pub fn den(&self) -> i128
         ensures den { result ≡ self.now.den }
         ensures positive { pos 0 <ℤ result }
+        ensures lowest { IsLowest self.now }
     {
         self.den
     }
