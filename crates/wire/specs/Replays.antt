@@ -1,0 +1,36 @@
+-- An oracle that hands out listed answers, each where it passes.
+use Rattle.std.specs.Prelude.{ℕ, Option, None, Some, List, [], ◌∷◌, length, drop, map, slice_index, slice_index_or}
+use Rattle.farkas_check.specs.declared.answer.Answer.{Answer}
+use Rattle.farkas_check.specs.declared.answer.Answer.TheVariants.{Limit}
+use Rattle.farkas_check.specs.declared.answer.Limit.TheVariants.{Pivots}
+use Rattle.farkas_check.specs.declared.question.Question.{Question}
+use Rattle.farkas_check.specs.Tested.{Passes}
+
+-- what is seen of it: the answers that it has left in order, how many were taken, how often it refused
+pub record Replayed : Type 0 where
+  pub left : List Answer
+  pub taken : ℕ
+  pub refusals : ℕ
+
+-- the answer at a place
+abbrev pub answer_at : List Answer → ℕ → Answer
+answer_at answers place = slice_index_or answers place (Limit Pivots)
+
+-- how many answers are handed out in all: each in its turn, or those at listed places
+abbrev pub count_of : List Answer → Option (List ℕ) → ℕ
+count_of answers None = length answers
+count_of answers (Some places) = length places
+
+-- the next answer, and all behind those that were taken
+abbrev pub next_of : List Answer → Option (List ℕ) → ℕ → Answer
+next_of answers None taken = answer_at answers taken
+next_of answers (Some places) taken = answer_at answers (slice_index places taken)
+
+abbrev pub left_from : List Answer → Option (List ℕ) → ℕ → List Answer
+left_from answers None taken = drop taken answers
+left_from answers (Some places) taken = map (answer_at answers) (drop taken places)
+
+-- no answer is left, or the next one does not pass
+abbrev pub IsMissing : List Answer → Question → Type 0
+IsMissing [] question = Unit {0}
+IsMissing (answer ∷ answers) question = ¬ Passes question answer

@@ -1,0 +1,66 @@
+-- How a part of a JSON value is read. A part has a value, or a first wrong part in it, which is told by its path from there: a
+-- JSON pointer (RFC 6901). An object is looked at before its members, a list before its items, and each in order.
+use Rattle.std.specs.Prelude.{ℕ, ◌+◌, Bool, Option, None, Some, is_some, Result, Ok, Err, List, [], ◌∷◌, ◌++◌, codes, decimal, nat_lt, ◌^◌, if◌then◌else◌}
+use Rattle.items.specs.Gives.{◌>>=◌, lifted}
+use Rattle.serde_json.specs.Data.{Data, Num, Items, no_items, item, Members}
+use Rattle.serde_json.specs.Find.{get_member, as_array, as_bool, as_number, as_object, as_str, as_u64}
+
+abbrev pub Path : Type 0
+Path = List ℕ
+
+abbrev pub Reading : Type 0 → Type 0
+Reading A = Data → Result A Path
+
+-- the path of the member of this name, and of the item at this place
+abbrev pub member_path : List ℕ → Path
+member_path key = 47 ∷ key
+
+abbrev pub item_path : ℕ → Path
+item_path place = 47 ∷ decimal place
+
+-- what was read of a part, told from what the part stands in
+abbrev pub under : {A : Type 0} → Path → Result A Path → Result A Path
+under step read = lifted (λ path. step ++ path) read
+
+-- what is there, else the part itself is wrong
+abbrev pub or_wrong : {A : Type 0} → Option A → Result A Path
+or_wrong (Some x) = Ok x
+or_wrong None = Err []
+
+-- a member of an object: an absent one is wrong at its own path
+abbrev pub or_absent : List ℕ → Option Data → Result Data Path
+or_absent key (Some d) = Ok d
+or_absent key None = Err (member_path key)
+
+abbrev pub member_of : List ℕ → Reading Data
+member_of key d = or_wrong (as_object d) >>= λ members. or_absent key (get_member key members)
+
+-- what a member stands for
+abbrev pub field : {A : Type 0} → List ℕ → Reading A → Reading A
+field key reads d = member_of key d >>= λ value. under (member_path key) (reads value)
+
+-- the items of a list, from a place on
+abbrev pub items_from : {A : Type 0} → Reading A → ℕ → Items → Result (List A) Path
+items_from reads place no_items = Ok []
+items_from reads place (item d ds) = under (item_path place) (reads d) >>= λ x. items_from reads (place + 1) ds >>= λ xs. Ok (x ∷ xs)
+
+abbrev pub list : {A : Type 0} → Reading A → Reading (List A)
+list reads d = or_wrong (as_array d) >>= λ ds. items_from reads 0 ds
+
+-- a text, as its bytes
+abbrev pub text : Reading (List ℕ)
+text d = or_wrong (as_str d)
+
+abbrev pub boolean : Reading Bool
+boolean d = or_wrong (as_bool d)
+
+-- a number that fits 32 bits
+abbrev pub if_small : ℕ → Option ℕ
+if_small n = if nat_lt n (2 ^ 32) then Some n else None
+
+-- a whole number that is not negative and fits 64 bits
+abbrev pub natural : Reading ℕ
+natural d = or_wrong (as_number d) >>= λ n. or_wrong (as_u64 n)
+
+abbrev pub small : Reading ℕ
+small d = natural d >>= λ n. or_wrong (if_small n)

@@ -1,0 +1,396 @@
+ghost use Rattle.std.specs.Prelude.{◌≡◌, [], ◌∷◌, Ok, Some, IfOk, find};
+ghost use Rattle.farkas_check.specs.declared.answer.Answer.TheVariants.{Basis, Bound, Unbounded};
+ghost use Rattle.items.specs.Gives.{Gives};
+ghost use Rattle.serde_json.specs.View.{view};
+ghost use Rattle.wire.specs.Answers.{answer, basis, bound, has_kind, kind_key, kinds, of_kind, of_sole, sole_kind, unbounded, wide};
+ghost use Rattle.wire.specs.Errors.{wrong_path};
+ghost use Rattle.wire.specs.Written.{alone, basis_data, bound_data, unbounded_data};
+
+use crate::error::Wrong;
+use crate::shape::{Shape, Written, field, member, under_key};
+use farkas_check::{Answer, Cert, Limit, Ratio, Relation, Spot, Tie};
+use items::Items;
+use serde_json::{Map, Value, json, put};
+use std::alloc::{AllocError, Global};
+
+/// The kinds of answers, each by the key that it has in a file.
+#[derive(Clone, Copy, PartialEq, Eq)]
+pub(crate) enum Kind {
+    Infeasible,
+    Point,
+    Bound,
+    Unbounded,
+    Basis,
+    Limit,
+}
+
+const KINDS: [Kind; 6] = [
+    Kind::Infeasible,
+    Kind::Point,
+    Kind::Bound,
+    Kind::Unbounded,
+    Kind::Basis,
+    Kind::Limit,
+];
+
+impl Kind {
+    fn key(self) -> &'static str
+        ensures { result.now ≡ kind_key self }
+    {
+        match self {
+            Kind::Infeasible => "infeasible",
+            Kind::Point => "point",
+            Kind::Bound => "bound",
+            Kind::Unbounded => "unbounded",
+            Kind::Basis => "basis",
+            Kind::Limit => "limit",
+        }
+    }
+}
+
+impl Shape for Cert {
+    ghost use Rattle.wire.specs.Answers.{cert};
+
+    ghost reads = { cert };
+
+    fn read(alloc: Global, part: &Value) -> Result<Cert, Wrong> {
+        let by = field(alloc, part, "by")?;
+        let scale = field(alloc, part, "scale")?;
+        let sum = field(alloc, part, "sum")?;
+        Ok(Cert { scale, sum, by })
+    }
+}
+
+impl Written for Cert {
+    ghost use Rattle.wire.specs.Written.{cert_data};
+
+    ghost writes = { cert_data };
+
+    fn write(&self, alloc: Global) -> Result<Value, AllocError> {
+        let by = self.by.write(alloc)?;
+        let scale = self.scale.write(alloc)?;
+        let sum = self.sum.write(alloc)?;
+        json!(in alloc; {"by": by, "scale": scale, "sum": sum})
+    }
+}
+
+impl Shape for Tie {
+    ghost use Rattle.wire.specs.Answers.{tie};
+
+    ghost reads = { tie };
+
+    fn read(alloc: Global, part: &Value) -> Result<Tie, Wrong> {
+        let down = field(alloc, part, "down")?;
+        let down_scale = field(alloc, part, "down_scale")?;
+        let up = field(alloc, part, "up")?;
+        let up_scale = field(alloc, part, "up_scale")?;
+        Ok(Tie {
+            up_scale,
+            up,
+            down_scale,
+            down,
+        })
+    }
+}
+
+impl Written for Tie {
+    ghost use Rattle.wire.specs.Written.{tie_data};
+
+    ghost writes = { tie_data };
+
+    fn write(&self, alloc: Global) -> Result<Value, AllocError> {
+        let down = self.down.write(alloc)?;
+        let down_scale = self.down_scale.write(alloc)?;
+        let up = self.up.write(alloc)?;
+        let up_scale = self.up_scale.write(alloc)?;
+        json!(in alloc; {"down": down, "down_scale": down_scale, "up": up, "up_scale": up_scale})
+    }
+}
+
+impl Shape for Relation {
+    ghost use Rattle.wire.specs.Answers.{relation};
+
+    ghost reads = { relation };
+
+    fn read(alloc: Global, part: &Value) -> Result<Relation, Wrong> {
+        let a = field(alloc, part, "a")?;
+        let b = field(alloc, part, "b")?;
+        let c = field(alloc, part, "c")?;
+        let ties = field(alloc, part, "ties")?;
+        Ok(Relation { a, b, c, ties })
+    }
+}
+
+impl Written for Relation {
+    ghost use Rattle.wire.specs.Written.{relation_data};
+
+    ghost writes = { relation_data };
+
+    fn write(&self, alloc: Global) -> Result<Value, AllocError> {
+        let a = self.a.write(alloc)?;
+        let b = self.b.write(alloc)?;
+        let c = self.c.write(alloc)?;
+        let ties = self.ties.write(alloc)?;
+        json!(in alloc; {"a": a, "b": b, "c": c, "ties": ties})
+    }
+}
+
+impl Shape for Spot {
+    ghost use Rattle.wire.specs.Answers.{spot};
+
+    ghost reads = { spot };
+
+    fn read(alloc: Global, part: &Value) -> Result<Spot, Wrong> {
+        let at = field(alloc, part, "at")?;
+        let case = field(alloc, part, "case")?;
+        Ok(Spot { case, at })
+    }
+}
+
+impl Written for Spot {
+    ghost use Rattle.wire.specs.Written.{spot_data};
+
+    ghost writes = { spot_data };
+
+    fn write(&self, alloc: Global) -> Result<Value, AllocError> {
+        let at = self.at.write(alloc)?;
+        let case = self.case.write(alloc)?;
+        json!(in alloc; {"at": at, "case": case})
+    }
+}
+
+/// Two numbers whose product or sum leaves 128 bits.
+fn wide(alloc: Global, part: &Value) -> Result<Limit, Wrong>
+    ensures { Gives wrong_path (λ x. x) result (wide (view part.now)) }
+{
+    let left = field(alloc, part, "left")?;
+    let right = field(alloc, part, "right")?;
+    let times = field(alloc, part, "times")?;
+    Ok(Limit::Wide { left, right, times })
+}
+
+impl Shape for Limit {
+    ghost use Rattle.wire.specs.Answers.{limit};
+
+    ghost reads = { limit };
+
+    fn read(alloc: Global, part: &Value) -> Result<Limit, Wrong> {
+        match part.as_str() {
+            Some("pivots") => Ok(Limit::Pivots),
+            _ => wide(alloc, part),
+        }
+    }
+}
+
+impl Written for Limit {
+    ghost use Rattle.wire.specs.Written.{limit_data};
+
+    ghost writes = { limit_data };
+
+    fn write(&self, alloc: Global) -> Result<Value, AllocError> {
+        match self {
+            Limit::Wide { left, right, times } => {
+                let left = left.write(alloc)?;
+                let right = right.write(alloc)?;
+                json!(in alloc; {"left": left, "right": right, "times": *times})
+            }
+            Limit::Pivots => Value::try_from_str(alloc, "pivots"),
+        }
+    }
+}
+
+fn bound(alloc: Global, part: &Value) -> Result<Answer, Wrong>
+    ensures { Gives wrong_path (λ x. x) result (bound (view part.now)) }
+{
+    let at = field(alloc, part, "at")?;
+    let case = field(alloc, part, "case")?;
+    let certs = field(alloc, part, "certs")?;
+    let point = field(alloc, part, "point")?;
+    Ok(Answer::Bound {
+        at,
+        certs,
+        case,
+        point,
+    })
+}
+
+fn unbounded(alloc: Global, part: &Value) -> Result<Answer, Wrong>
+    ensures { Gives wrong_path (λ x. x) result (unbounded (view part.now)) }
+{
+    let case = field(alloc, part, "case")?;
+    let point = field(alloc, part, "point")?;
+    let ray = field(alloc, part, "ray")?;
+    Ok(Answer::Unbounded { case, point, ray })
+}
+
+fn basis(alloc: Global, part: &Value) -> Result<Answer, Wrong>
+    ensures { Gives wrong_path (λ x. x) result (basis (view part.now)) }
+{
+    let free = field(alloc, part, "free")?;
+    let relations = field(alloc, part, "relations")?;
+    let spots = field(alloc, part, "spots")?;
+    Ok(Answer::Basis {
+        relations,
+        spots,
+        free,
+    })
+}
+
+/// An answer of a kind.
+fn of_kind(alloc: Global, kind: Kind, part: &Value) -> Result<Answer, Wrong>
+    ensures { Gives wrong_path (λ x. x) result (of_kind kind (view part.now)) }
+{
+    match kind {
+        Kind::Infeasible => Ok(Answer::Yes(Items::read(alloc, part)?)),
+        Kind::Point => Ok(Answer::No(Items::read(alloc, part)?)),
+        Kind::Bound => bound(alloc, part),
+        Kind::Unbounded => unbounded(alloc, part),
+        Kind::Basis => basis(alloc, part),
+        Kind::Limit => Ok(Answer::Limit(Limit::read(alloc, part)?)),
+    }
+}
+
+fn has_kind(part: &Value, kind: Kind) -> bool
+    ensures { result ≡ has_kind (view part.now) kind }
+{
+    part.get(kind.key()).is_some()
+}
+
+/// The first of these kinds whose key an object has.
+fn first_kind(part: &Value, among: &[Kind]) -> Option<Kind>
+    ensures { result ≡ find (has_kind (view part.now)) among.now }
+{
+    among.iter().copied().find(|kind| has_kind(part, *kind))
+}
+
+/// Of these kinds the one whose key an object has; none where it has none of the keys or several.
+fn sole_kind(part: &Value, among: &[Kind]) -> Option<Kind>
+    ensures { result ≡ sole_kind among.now (view part.now) }
+{
+    if among.iter().filter(|kind| has_kind(part, **kind)).count() == 1 {
+        first_kind(part, among)
+    } else {
+        None
+    }
+}
+
+impl Shape for Answer {
+    ghost use Rattle.wire.specs.Answers.{answer};
+
+    ghost reads = { answer };
+
+    fn read(alloc: Global, part: &Value) -> Result<Answer, Wrong> {
+        match sole_kind(part, &KINDS) {
+            Some(kind) => of_sole_kind(alloc, kind, part),
+            None => Err(Wrong::At(Items::new(alloc))),
+        }
+    }
+}
+
+impl Written for Answer {
+    ghost use Rattle.wire.specs.Written.{answer_data};
+
+    ghost writes = { answer_data };
+
+    fn write(&self, alloc: Global) -> Result<Value, AllocError> {
+        match self {
+            Answer::Yes(by) => alone(alloc, Kind::Infeasible, by.write(alloc)?),
+            Answer::No(point) => alone(alloc, Kind::Point, point.write(alloc)?),
+            Answer::Bound {
+                at,
+                certs,
+                case,
+                point,
+            } => {
+                alone(
+                    alloc,
+                    Kind::Bound,
+                    bound_part(alloc, at, certs, case, point)?,
+                )
+            }
+            Answer::Unbounded { case, point, ray } => {
+                alone(
+                    alloc,
+                    Kind::Unbounded,
+                    unbounded_part(alloc, case, point, ray)?,
+                )
+            }
+            Answer::Basis {
+                relations,
+                spots,
+                free,
+            } => {
+                alone(
+                    alloc,
+                    Kind::Basis,
+                    basis_part(alloc, relations, spots, free)?,
+                )
+            }
+            Answer::Limit(limit) => alone(alloc, Kind::Limit, limit.write(alloc)?),
+        }
+    }
+}
+
+fn of_sole_kind(alloc: Global, kind: Kind, part: &Value) -> Result<Answer, Wrong>
+    ensures { Gives wrong_path (λ x. x) result (of_sole (Some kind) (view part.now)) }
+{
+    let key = kind.key();
+    let value = member(alloc, part, key)?;
+    under_key(alloc, key, of_kind(alloc, kind, value))
+}
+
+/// An object of one member.
+fn alone(alloc: Global, kind: Kind, part: Value) -> Result<Value, AllocError>
+    ensures { IfOk result (λ object. view object ≡ alone (kind_key kind) (view part)) }
+{
+    let mut members = Map::new(alloc);
+    put(&mut members, alloc, kind.key(), part)?;
+    Ok(Value::Object(members))
+}
+
+fn bound_part(
+    alloc: Global,
+    at: &i128,
+    certs: &Items<Cert>,
+    case: &u32,
+    point: &Items<Ratio>,
+) -> Result<Value, AllocError>
+    ensures written { IfOk result (λ part. view part ≡ bound_data at.now certs.now case.now point.now) }
+    ensures back { IfOk result (λ part. bound (view part) ≡ Ok (Bound at.now certs.now case.now point.now)) }
+{
+    let at = at.write(alloc)?;
+    let case = case.write(alloc)?;
+    let certs = certs.write(alloc)?;
+    let point = point.write(alloc)?;
+    json!(in alloc; {"at": at, "case": case, "certs": certs, "point": point})
+}
+
+fn unbounded_part(
+    alloc: Global,
+    case: &u32,
+    point: &Items<Ratio>,
+    ray: &Items<Ratio>,
+) -> Result<Value, AllocError>
+    ensures written { IfOk result (λ part. view part ≡ unbounded_data case.now point.now ray.now) }
+    ensures back { IfOk result (λ part. unbounded (view part) ≡ Ok (Unbounded case.now point.now ray.now)) }
+{
+    let case = case.write(alloc)?;
+    let point = point.write(alloc)?;
+    let ray = ray.write(alloc)?;
+    json!(in alloc; {"case": case, "point": point, "ray": ray})
+}
+
+fn basis_part(
+    alloc: Global,
+    relations: &Items<Relation>,
+    spots: &Items<Spot>,
+    free: &Items<Items<Ratio>>,
+) -> Result<Value, AllocError>
+    ensures written { IfOk result (λ part. view part ≡ basis_data relations.now spots.now free.now) }
+    ensures back { IfOk result (λ part. basis (view part) ≡ Ok (Basis relations.now spots.now free.now)) }
+{
+    let free = free.write(alloc)?;
+    let relations = relations.write(alloc)?;
+    let spots = spots.write(alloc)?;
+    json!(in alloc; {"free": free, "relations": relations, "spots": spots})
+}

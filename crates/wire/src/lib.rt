@@ -1,0 +1,18 @@
+//! Certificate files and edit scripts, as JSON: what each part has to look like, where the first wrong part
+//! is, and how the whole is written so that it reads back. And the oracle that hands out kept answers.
+#![tactic(auto)]
+
+mod answers;
+mod certificate;
+mod error;
+mod numbers;
+mod replay;
+mod script;
+mod shape;
+mod text;
+
+pub use certificate::{Certificate, Version, read_certificate};
+pub use error::WireError;
+pub use replay::Replay;
+pub use script::{Edit, Script};
+pub use text::Text;

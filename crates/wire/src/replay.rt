@@ -1,0 +1,126 @@
+ghost use Rattle.std.specs.Prelude.{◌≡◌, ◌<◌, length, map, IfOk};
+ghost use Rattle.std.specs.List.{AllByRecursion};
+ghost use Rattle.wire.specs.Replays.{answer_at, count_of, next_of};
+
+use farkas_check::{Answer, AskError, Limit, Oracle, Question, test};
+use items::Items;
+use std::alloc::{AllocError, Global};
+use std::marker::Model;
+
+/// An oracle that hands out listed answers in order, each where it passes the test of the question. It refuses where
+/// none is left or the next one does not pass, and then stays at that answer.
+#[derive(Drop)]
+pub struct Replay {
+    answers: Items<Answer>,
+    places: Option<Items<usize>>,
+    taken: usize,
+    refusals: u64,
+}
+
+impl Model for Replay {
+    ghost use Rattle.wire.specs.Replays.{Replayed, left_from};
+
+    ghost Value = { Replayed };
+
+    ghost view = { λ r. record { left = left_from r.answers r.places r.taken; taken = r.taken; refusals = r.refusals } };
+}
+
+impl Replay {
+    /// Hands out the answers in order.
+    pub fn new(answers: Items<Answer>) -> Replay
+        ensures { result ≡ record { left = answers; taken = 0; refusals = 0 } }
+    {
+        Replay {
+            answers,
+            places: None,
+            taken: 0,
+            refusals: 0,
+        }
+    }
+
+    /// Hands out the answers at places in order, each as often as it is listed.
+    pub fn shared(answers: Items<Answer>, order: Items<usize>) -> Replay
+        requires { AllByRecursion (λ place. place < length answers) order }
+        ensures { result ≡ record { left = map (answer_at answers) order; taken = 0; refusals = 0 } }
+    {
+        Replay {
+            answers,
+            places: Some(order),
+            taken: 0,
+            refusals: 0,
+        }
+    }
+
+    /// How many answers were handed out.
+    pub fn taken(&self) -> usize
+        ensures { result ≡ self.now.taken }
+    {
+        self.taken
+    }
+
+    /// How many are left.
+    #[tactic(auto, using(crate::proofs::Replaying::replays))]
+    pub fn left(&self) -> usize
+        ensures { result ≡ length self.now.left }
+    {
+        answer_count(&self.answers, &self.places).saturating_sub(self.taken)
+    }
+}
+
+fn answer_count(answers: &Items<Answer>, places: &Option<Items<usize>>) -> usize
+    ensures { result ≡ count_of answers.now places.now }
+{
+    match places {
+        Some(places) => places.len(),
+        None => answers.len(),
+    }
+}
+
+/// A copy of the answer at a place.
+fn copy_at(alloc: Global, answers: &[Answer], place: usize) -> Result<Answer, AllocError>
+    ensures { IfOk result (λ copy. copy ≡ answer_at answers.now place) }
+{
+    match answers.get(place) {
+        Some(answer) => answer.clone(),
+        None => Ok(Answer::Limit(Limit::Pivots)),
+    }
+}
+
+fn next_answer(
+    alloc: Global,
+    answers: &Items<Answer>,
+    places: &Option<Items<usize>>,
+    taken: usize,
+) -> Result<Answer, AllocError>
+    requires { taken < count_of answers.now places.now }
+    ensures { IfOk result (λ next. next ≡ next_of answers.now places.now taken) }
+{
+    let place = match places {
+        Some(places) => places.as_slice()[taken],
+        None => taken,
+    };
+    copy_at(alloc, answers.as_slice(), place)
+}
+
+impl Oracle for Replay {
+    ghost use Rattle.std.specs.Prelude.{Some};
+    ghost use Rattle.farkas_check.specs.Tested.{Passes};
+    ghost use Rattle.wire.specs.Replays.{IsMissing};
+
+    ghost asking = { record { refusals = λ r. r.refusals; declines = λ r question. IsMissing r.left question; allows = Passes; left = λ r. Some r.left } };
+
+    #[tactic(auto, using(crate::proofs::Replaying::replays))]
+    fn ask(&mut self, alloc: Global, question: &Question) -> Result<Answer, AskError> {
+        if self.taken < answer_count(&self.answers, &self.places) {
+            let Ok(answer) = next_answer(alloc, &self.answers, &self.places, self.taken) else {
+                return Err(AskError::Memory);
+            };
+            if test(question, &answer) {
+                self.taken += 1;
+                return Ok(answer);
+            }
+        }
+        self.refusals = self.refusals.saturating_add(1);
+        Err(AskError::Refused)
+    }
+}
