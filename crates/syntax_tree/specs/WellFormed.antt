@@ -1,7 +1,7 @@
 -- What a program of the core keeps: its parts name one another rightly, and it stays within the limits.
 use Rattle.std.specs.Prelude.{◌≡◌, ℕ, ◌+◌, ◌≤◌, Bool, true, false, not, ◌&&◌, ◌||◌, ◌==◌, nat_le, nat_lt, Option, None, Some, is_some, IsSomeAnd, IsTrue, List, [], ◌∷◌, length, take, slice_get, All, if◌then◌else◌}
 use Rattle.std.specs.List.{list_all}
-use Rattle.syntax_tree.specs.declared.limits.TheConstants.{MOST_PROCEDURES, MOST_PARAMETERS, MOST_GLOBALS, MOST_SLOTS, MOST_NODES, MOST_CHECKS, MOST_CASES, MOST_OPERATORS}
+use Rattle.syntax_tree.specs.Limits.{most_procedures, most_parameters, most_globals, most_slots, most_nodes, most_checks, most_cases, most_operators}
 use Rattle.syntax_tree.specs.declared.program.Column.{Column}
 use Rattle.syntax_tree.specs.declared.program.Proc.{Proc}
 use Rattle.syntax_tree.specs.declared.program.Program.{Program}
@@ -36,17 +36,17 @@ joint_operators (e ∷ rest) = operators_of e + joint_operators rest
 
 abbrev pub value_fits : ℕ → Term → Bool
 value_fits width e =
-    columns_below width e && nat_le (operators_of e) MOST_OPERATORS && nat_le (cases_of e).value MOST_CASES
+    columns_below width e && nat_le (operators_of e) most_operators && nat_le (cases_of e).value most_cases
 
 abbrev pub cond_fits : ℕ → Term → Bool
 cond_fits width e =
-    columns_below width e && nat_le (operators_of e) MOST_OPERATORS
-    && nat_le (cases_of e).truth MOST_CASES && nat_le (cases_of e).falsity MOST_CASES
+    columns_below width e && nat_le (operators_of e) most_operators
+    && nat_le (cases_of e).truth most_cases && nat_le (cases_of e).falsity most_cases
 
 abbrev pub args_fit : ℕ → List Term → Bool
 args_fit width args =
-    all_columns_below width args && nat_le (joint_operators args) MOST_OPERATORS
-    && nat_le (joint_cases args) MOST_CASES
+    all_columns_below width args && nat_le (joint_operators args) most_operators
+    && nat_le (joint_cases args) most_cases
 
 abbrev pub into_fits : ℕ → Option ℕ → Bool
 into_fits width None = true
@@ -117,18 +117,18 @@ abbrev pub has_name : Column → Bool
 has_name column = is_some column.name
 
 pub record IsProcFit (program : Program) (p : Proc) : Type 0 where
-  pub params : p.params ≤ MOST_PARAMETERS
-  pub slots : length p.columns ≤ MOST_SLOTS
+  pub params : p.params ≤ most_parameters
+  pub slots : length p.columns ≤ most_slots
   -- the parameters are the first columns, and have names
   pub first : p.params ≤ length p.columns
   pub named : IsTrue (list_all has_name (take p.params p.columns))
   pub body : IsTrue (code_fits program (width_of program p) Outside (code_of p.body))
-  pub nodes : graph_nodes (code_of p.body) ≤ MOST_NODES
+  pub nodes : graph_nodes (code_of p.body) ≤ most_nodes
 
 pub record IsWellFormed (program : Program) : Type 0 where
-  pub procedures : length program.procs ≤ MOST_PROCEDURES
-  pub globals : length program.globals ≤ MOST_GLOBALS
-  pub assertions : length program.checks ≤ MOST_CHECKS
+  pub procedures : length program.procs ≤ most_procedures
+  pub globals : length program.globals ≤ most_globals
+  pub assertions : length program.checks ≤ most_checks
   -- `main` is a procedure without parameters
   pub main : IsSomeAnd (slice_get program.procs program.main) (λ p. p.params ≡ 0)
   pub each : All (IsProcFit program) program.procs

@@ -1,6 +1,7 @@
 ghost use Rattle.std.specs.Prelude.{◌≡◌, ◌+◌, ◌*◌, min, List, [], length, map};
 ghost use Rattle.syntax_tree.specs.Term.{term_of};
 ghost use Rattle.syntax_tree.specs.Cases.{at_most, cases_of, joint_cases, of_number, of_test, operator_cases, sign_cases};
+ghost use Rattle.syntax_tree.specs.Limits.{most_cases};
 
 use crate::core_expr::Core;
 use crate::limits::MOST_CASES;
@@ -19,7 +20,7 @@ const CAP: usize = MOST_CASES + 1;
 /// The cases of an expression. A number past `MOST_CASES` counts as one more than that.
 #[tactic(auto, using(crate::proofs::Counts::counts))]
 pub fn count_cases(e: &Core) -> Cases
-    ensures { result ≡ at_most (MOST_CASES + 1) (cases_of (term_of e.now)) }
+    ensures { result ≡ at_most (most_cases + 1) (cases_of (term_of e.now)) }
 {
     match e {
         Core::Lit(_) => of_number(1),
@@ -30,19 +31,19 @@ pub fn count_cases(e: &Core) -> Cases
 }
 
 fn sum(a: usize, b: usize) -> usize
-    ensures { result ≡ min (a + b) (MOST_CASES + 1) }
+    ensures { result ≡ min (a + b) (most_cases + 1) }
 {
     a.saturating_add(b).min(CAP)
 }
 
 pub(crate) fn product(a: usize, b: usize) -> usize
-    ensures { result ≡ min (a * b) (MOST_CASES + 1) }
+    ensures { result ≡ min (a * b) (most_cases + 1) }
 {
     a.saturating_mul(b).min(CAP)
 }
 
 fn of_number(value: usize) -> Cases
-    ensures { result ≡ at_most (MOST_CASES + 1) (of_number value) }
+    ensures { result ≡ at_most (most_cases + 1) (of_number value) }
 {
     Cases {
         value: value.min(CAP),
@@ -52,7 +53,7 @@ fn of_number(value: usize) -> Cases
 }
 
 fn of_test(truth: usize, falsity: usize) -> Cases
-    ensures { result ≡ at_most (MOST_CASES + 1) (of_test truth falsity) }
+    ensures { result ≡ at_most (most_cases + 1) (of_test truth falsity) }
 {
     Cases {
         value: sum(truth, falsity),
@@ -62,7 +63,7 @@ fn of_test(truth: usize, falsity: usize) -> Cases
 }
 
 fn at_sign(sign: Sign, inner: Cases) -> Cases
-    ensures { result ≡ at_most (MOST_CASES + 1) (sign_cases sign inner) }
+    ensures { result ≡ at_most (most_cases + 1) (sign_cases sign inner) }
 {
     match sign {
         Sign::Plus => of_number(inner.value),
@@ -72,7 +73,7 @@ fn at_sign(sign: Sign, inner: Cases) -> Cases
 }
 
 fn at_operator(op: Op, left: Cases, right: Cases) -> Cases
-    ensures { result ≡ at_most (MOST_CASES + 1) (operator_cases op left right) }
+    ensures { result ≡ at_most (most_cases + 1) (operator_cases op left right) }
 {
     let both = product(left.value, right.value);
     match op {

@@ -16,8 +16,6 @@ mod nodes;
 mod op;
 mod program;
 mod stmt;
-#[cfg(test)]
-mod tests;
 mod tree;
 mod well_formed;
 

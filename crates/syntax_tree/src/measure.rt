@@ -2,6 +2,7 @@ ghost use Rattle.std.specs.Prelude.{◌≡◌, ◌+◌, map, min};
 ghost use Rattle.syntax_tree.specs.Cases.{joint_cases};
 ghost use Rattle.syntax_tree.specs.Term.{term_of};
 ghost use Rattle.syntax_tree.specs.WellFormed.{all_columns_below, args_fit, columns_below, cond_fits, joint_operators, operators_of, value_fits};
+ghost use Rattle.syntax_tree.specs.Limits.{most_cases, most_operators};
 
 use crate::cases::{count_cases, product};
 use crate::core_expr::Core;
@@ -25,7 +26,7 @@ pub fn has_columns_below(e: &Core, width: usize) -> bool
 /// The operators of the expression. A number past `MOST_OPERATORS` counts as one more than that.
 #[tactic(auto, using(crate::proofs::Terms::terms))]
 pub fn count_operators(e: &Core) -> usize
-    ensures { result ≡ min (operators_of (term_of e.now)) (MOST_OPERATORS + 1) }
+    ensures { result ≡ min (operators_of (term_of e.now)) (most_operators + 1) }
 {
     match e {
         Core::Lit(_) => 0,
@@ -78,7 +79,7 @@ fn all_columns_below(args: &[Core], width: usize) -> bool
 }
 
 fn joint_operators(args: &[Core]) -> usize
-    ensures { result ≡ min (joint_operators (map term_of args.now)) (MOST_OPERATORS + 1) }
+    ensures { result ≡ min (joint_operators (map term_of args.now)) (most_operators + 1) }
 {
     let mut total = 0;
     for e in args {
@@ -89,7 +90,7 @@ fn joint_operators(args: &[Core]) -> usize
 
 /// The cases of the values together. A number past `MOST_CASES` counts as one more than that.
 pub fn joint_cases(args: &[Core]) -> usize
-    ensures { result ≡ min (joint_cases (map term_of args.now)) (MOST_CASES + 1) }
+    ensures { result ≡ min (joint_cases (map term_of args.now)) (most_cases + 1) }
 {
     let mut total = 1;
     for e in args {

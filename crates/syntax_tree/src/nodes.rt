@@ -1,6 +1,7 @@
 ghost use Rattle.std.specs.Prelude.{◌≡◌, ◌+◌, min};
 ghost use Rattle.syntax_tree.specs.Code.{code_of, statement_of};
 ghost use Rattle.syntax_tree.specs.Nodes.{code_nodes, graph_nodes, statement_nodes};
+ghost use Rattle.syntax_tree.specs.Limits.{most_nodes};
 
 use crate::limits::MOST_NODES;
 use crate::stmt::Stmt;
@@ -10,7 +11,7 @@ const CAP: usize = MOST_NODES + 1;
 /// The nodes of the flow graph of a procedure with this body. A number past `MOST_NODES` counts as one
 /// more than that.
 pub fn count_nodes(body: &[Stmt]) -> usize
-    ensures { result ≡ min (graph_nodes (code_of body.now)) (MOST_NODES + 1) }
+    ensures { result ≡ min (graph_nodes (code_of body.now)) (most_nodes + 1) }
 {
     (2 + nodes_of(body)).min(CAP)
 }
@@ -18,7 +19,7 @@ pub fn count_nodes(body: &[Stmt]) -> usize
 #[cycle(nodes)]
 #[tactic(auto, using(crate::proofs::Codes::statements))]
 fn nodes_of(stmts: &[Stmt]) -> usize
-    ensures { result ≡ min (code_nodes (code_of stmts.now)) (MOST_NODES + 1) }
+    ensures { result ≡ min (code_nodes (code_of stmts.now)) (most_nodes + 1) }
 {
     let mut total = 0;
     for stmt in stmts {
@@ -30,7 +31,7 @@ fn nodes_of(stmts: &[Stmt]) -> usize
 #[cycle(nodes)]
 #[tactic(auto, using(crate::proofs::Codes::statements))]
 fn stmt_nodes(stmt: &Stmt) -> usize
-    ensures { result ≡ min (statement_nodes (statement_of stmt.now)) (MOST_NODES + 1) }
+    ensures { result ≡ min (statement_nodes (statement_of stmt.now)) (most_nodes + 1) }
 {
     match stmt {
         Stmt::If { yes, no, .. } => {

@@ -2,6 +2,7 @@ ghost use Rattle.std.specs.Prelude.{◌≡◌, ◌≤◌, ◌+◌, ◌↔◌, �
 ghost use Rattle.std.specs.List.{list_all};
 ghost use Rattle.syntax_tree.specs.Code.{code_of, statement_of};
 ghost use Rattle.syntax_tree.specs.WellFormed.{body_place, callee_fits, code_checks, code_fits, into_fits, may_leave, has_name, IsProcFit, IsWellFormed, procs_checks, statement_checks, statement_fits, width_of};
+ghost use Rattle.syntax_tree.specs.Limits.{most_globals};
 
 use crate::limits::{
     MOST_CHECKS, MOST_GLOBALS, MOST_NODES, MOST_PARAMETERS, MOST_PROCEDURES, MOST_SLOTS,
@@ -184,7 +185,7 @@ fn have_names(columns: &[Column]) -> bool
 }
 
 fn is_proc_fit(proc: &Proc, program: &Program) -> bool
-    requires { length program.now.globals ≤ MOST_GLOBALS }
+    requires { length program.now.globals ≤ most_globals }
     ensures { IsTrue result ↔ IsProcFit program.now proc.now }
 {
     if proc.columns.len() > MOST_SLOTS {
@@ -200,7 +201,7 @@ fn is_proc_fit(proc: &Proc, program: &Program) -> bool
 }
 
 fn procs_fit(procs: &[Proc], program: &Program) -> bool
-    requires { length program.now.globals ≤ MOST_GLOBALS }
+    requires { length program.now.globals ≤ most_globals }
     ensures { IsTrue result ↔ All (IsProcFit program.now) procs.now }
 {
     for proc in procs {
