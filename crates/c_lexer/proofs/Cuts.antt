@@ -8,7 +8,7 @@ use Rattle.c_lexer.specs.declared.mark.Mark.{Mark}
 use Rattle.c_lexer.specs.declared.piece.Found.TheVariants.{Space, Word, Number, Sign}
 use Rattle.c_lexer.specs.Spellings.{mark_bytes}
 use Rattle.c_lexer.specs.Kinds.{Spells}
-use Rattle.c_lexer.specs.Pieces.{Piece, Blank, BlockComment, LineComment, SkippedLine, Lexeme, IsSpace, begins_comment}
+use Rattle.c_lexer.specs.Pieces.{Piece, Blank, BlockComment, LineComment, SkippedLine, Lexeme, IsSpace, Stands, begins_comment}
 use Rattle.c_lexer.specs.Found.{IsLexeme, Tells}
 use Rattle.c_lexer.specs.Scanned.{IsFront, kind_in}
 
@@ -28,14 +28,17 @@ front_space fresh line bytes len tells = record {
   told = space_has_no_kind tells.0 tells.2;
 }
 
+lexeme_stands : (fresh : Bool) (bytes : List ℕ) (len : ℕ) (kind : Kind) → IsLexeme bytes len → Spells kind (take len bytes) → Stands fresh bytes (Lexeme kind (take len bytes))
+lexeme_stands fresh bytes len kind lexeme spells = record {
+  rest = drop len bytes;
+  whole = sym (take-append-drop len bytes);
+  fits = (spells, lexeme.longest, ap (λ text. not (begins_comment text)) (take-append-drop len bytes) ∙ lexeme.open_text);
+}
+
 front_lexeme : (fresh : Bool) (bytes : List ℕ) (len : ℕ) (kind : Kind) → IsLexeme bytes len → Spells kind (take len bytes) → IsFront fresh bytes (record { len = len; fresh = false; kind = Some kind })
 front_lexeme fresh bytes len kind lexeme spells = record {
   piece = Lexeme kind (take len bytes);
-  stands = record {
-    rest = drop len bytes;
-    whole = sym (take-append-drop len bytes);
-    fits = (spells, lexeme.longest, ap (λ text. not (begins_comment text)) (take-append-drop len bytes) ∙ lexeme.open_text);
-  };
+  stands = lexeme_stands fresh bytes len kind lexeme spells;
   long = length-take-le len bytes lexeme.within;
   state = refl;
   told = refl;
@@ -49,3 +52,8 @@ front_number fresh bytes len value tells = front_lexeme fresh bytes len (kind.Nu
 
 pub front_mark : (fresh : Bool) (bytes : List ℕ) (m : Mark) → Tells fresh bytes (Sign m) → IsFront fresh bytes (record { len = length (mark_bytes m); fresh = false; kind = Some (kind.Mark m) })
 front_mark fresh bytes m tells = front_lexeme fresh bytes (length (mark_bytes m)) (kind.Mark m) tells.0 tells.1
+
+-- a name for whose copy there is no memory
+pub name_stands : (fresh : Bool) (bytes : List ℕ) (len : ℕ) → Tells fresh bytes (Word len) → Spells (kind.Word (take len bytes)) (take len bytes)
+    → (name : List ℕ) × Stands fresh bytes (Lexeme (kind.Word name) name)
+name_stands fresh bytes len tells spells = (take len bytes, lexeme_stands fresh bytes len (kind.Word (take len bytes)) tells.0 spells)

@@ -1,12 +1,17 @@
+-- Main theorems: a text has one outcome, and the places of its tokens ascend.
+pub mod OneOutcome
+pub mod Places
+pub mod Outcomes
+pub mod Unique
+-- What the scanner keeps from piece to piece.
+pub mod Scanning
 pub mod Cuts
-pub mod Found
-pub mod Slices
-pub mod Keywords
-pub mod Marks
-pub mod Shapes
+-- What stands at the front of some bytes.
 pub mod Lexemes
 pub mod Spaces
-pub mod Scanning
-pub mod Unique
-pub mod Outcomes
-pub mod OneOutcome
+pub mod Shapes
+pub mod Keywords
+pub mod Marks
+-- Lists and slices.
+pub mod Found
+pub mod Slices

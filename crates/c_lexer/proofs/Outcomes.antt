@@ -4,7 +4,7 @@ use Rattle.std.specs.Prelude.{codes, nat_eq}
 use Rattle.std.specs.List.{starts_with}
 use Rattle.std.proofs.Math.Seq.{drop-append_seam}
 use Rattle.std.proofs.lemmas.Bool.{false≢true}
-use Rattle.c_lexer.specs.declared.TheConstants.{MOST_TOKENS}
+use Rattle.c_lexer.specs.Limits.{most_tokens}
 use Rattle.c_lexer.specs.declared.kind.Kind.{Kind}
 use Rattle.c_lexer.specs.declared.kind.Kind.TheVariants as kind
 use Rattle.c_lexer.specs.declared.token.Token.{Token}
@@ -26,7 +26,7 @@ shape_some : (w : List ℕ) → HasShape w → 0 < length w
 shape_some [] shape = absurd (⊎_elim (λ k. false≢true k) (λ other. ⊎_elim (λ k. false≢true k) (λ mark. no_mark_empty mark.0 mark.1) other) shape)
 shape_some (b ∷ w) shape = omega arith
 
-piece_some : (fresh : Bool) (p : Piece) (x : List ℕ) → PieceFits fresh p x → 0 < length (piece_bytes p)
+pub piece_some : (fresh : Bool) (p : Piece) (x : List ℕ) → PieceFits fresh p x → 0 < length (piece_bytes p)
 piece_some fresh (Blank byte) x fits = omega arith
 piece_some fresh (BlockComment body) x fits = omega arith
 piece_some fresh (LineComment body) x fits = omega arith
@@ -126,7 +126,7 @@ no_literal fresh bytes len q lexeme shape none s = at q s
 
 -- where a piece stands, a cut may stop for the number of its tokens alone
 stop_stands : (ps : List Piece) (rest : List ℕ) (e : LexError) (q : Piece) → StopsAt ps rest e → Stands (fresh_behind true ps) rest q
-    → length (lexemes_from 0 ps) ≡ MOST_TOKENS × (k : Kind) × (w : List ℕ) × (q ≡ Lexeme k w)
+    → length (lexemes_from 0 ps) ≡ most_tokens × (k : Kind) × (w : List ℕ) × (q ≡ Lexeme k w)
 stop_stands ps rest (error.Byte at) q stops s = absurd (no_begin (fresh_behind true ps) rest q stops.2 s)
 stop_stands ps rest (error.Comment at) q stops s = absurd (no_close (fresh_behind true ps) rest q stops.1.0 stops.1.1 s)
 stop_stands ps rest (error.Literal at) q stops s = absurd (no_literal (fresh_behind true ps) rest stops.1.0 q stops.1.1 stops.1.2 stops.1.3 s)
@@ -136,7 +136,7 @@ stop_stands ps rest error.Memory q stops s = absurd stops
 
 -- no cut goes on where another one stops
 no_further : (ps qs : List Piece) (rest : List ℕ) (e : LexError) (q : Piece) (more : List Piece) → StopsAt ps rest e → Stands (fresh_behind true ps) rest q
-    → qs ≡ ps ++ q ∷ more → length (lexemes_from 0 qs) ≤ MOST_TOKENS → ⊥
+    → qs ≡ ps ++ q ∷ more → length (lexemes_from 0 qs) ≤ most_tokens → ⊥
 no_further ps qs rest e q more stops s whole few =
     let found = stop_stands ps rest e q stops s in
     let longer : qs ≡ ps ++ Lexeme found.1 found.2 ∷ more = whole ∙ ap (λ r. ps ++ r ∷ more) found.3 in

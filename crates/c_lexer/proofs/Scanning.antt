@@ -1,16 +1,18 @@
 -- The cut of a text goes on piece by piece.
-use Rattle.std.proofs.Common.{◌≡◌, ◌≢◌, ℕ, ◌+◌, ◌-◌, ◌≤◌, List, [], ◌∷◌, ◌++◌, length, take, drop, Bool, true, None, Some, refl, sym, ap, subst, ◌∙◌, arith, append_assoc, append-nil, length-append, length-drop, drop-drop}
+use Rattle.std.proofs.Common.{◌≡◌, ◌≢◌, ℕ, zero, suc, ◌+◌, ◌-◌, ◌≤◌, List, [], ◌∷◌, ◌++◌, length, take, drop, Bool, true, None, Some, refl, sym, ap, subst, ◌∙◌, inl, inr, arith, append_assoc, append-nil, length-append, length-drop, drop-drop}
+use Rattle.std.proofs.Math.ListN.{drop_of_length-le}
 use Rattle.std.proofs.Math.Seq.{drop-append_seam}
-use Rattle.c_lexer.specs.declared.TheConstants.{MOST_TOKENS}
+use Rattle.c_lexer.specs.Limits.{most_tokens}
 use Rattle.c_lexer.specs.declared.kind.Kind.{Kind}
+use Rattle.c_lexer.specs.declared.kind.Kind.TheVariants as kind
 use Rattle.c_lexer.specs.declared.token.Token.{Token}
 use Rattle.c_lexer.specs.declared.scan.Cut.{Cut}
 use Rattle.c_lexer.specs.Pieces.{Piece, Blank, BlockComment, LineComment, SkippedLine, Lexeme, Stands, PieceFits, piece_bytes, fresh_after, text_of, Fit}
 use Rattle.c_lexer.specs.Tokens.{lexemes_from}
 use Rattle.c_lexer.specs.declared.error.LexError.TheVariants as error
-use Rattle.c_lexer.specs.Refusals.{fresh_behind, IsOneTooMany, Stops}
+use Rattle.c_lexer.specs.Refusals.{fresh_behind, Reaches, Stops, TakesMemory}
 use Rattle.c_lexer.proofs.Slices.{take_drop_all}
-use Rattle.c_lexer.specs.Scanned.{IsFront, IsScanned, kind_in}
+use Rattle.c_lexer.specs.Scanned.{IsFront, IsScanned, IsWhy, kind_in}
 
 -- one piece more
 
@@ -64,7 +66,7 @@ from_zero n = omega arith
 
 -- one piece more is cut
 pub IsScanned-more : (text : List ℕ) (at : ℕ) (fresh : Bool) (tokens : List Token) (cut : Cut) (scanned : IsScanned text at fresh tokens) (front : IsFront fresh (drop at text) cut)
-    → length (tokens ++ tokens_of at front.piece) ≤ MOST_TOKENS → IsScanned text (at + cut.len) cut.fresh (tokens ++ tokens_of at front.piece)
+    → length (tokens ++ tokens_of at front.piece) ≤ most_tokens → IsScanned text (at + cut.len) cut.fresh (tokens ++ tokens_of at front.piece)
 IsScanned-more text at fresh tokens cut scanned front few =
     let pieces = scanned.pieces in
     let piece = front.piece in
@@ -127,11 +129,11 @@ Kept-space text at fresh tokens cut h scanned found none =
     record {
       within = within_text text at fresh cut h front;
       so_far = subst (λ (ts : List Token). IsScanned text (at + cut.len) cut.fresh ts) same
-          (IsScanned-more text at fresh tokens cut scanned front (subst (λ (ts : List Token). length ts ≤ MOST_TOKENS) (sym same) scanned.few));
+          (IsScanned-more text at fresh tokens cut scanned front (subst (λ (ts : List Token). length ts ≤ most_tokens) (sym same) scanned.few));
     }
 
 pub Kept-lexeme : (text : List ℕ) (at : ℕ) (fresh : Bool) (tokens : List Token) (cut : Cut) (kind : Kind) → at ≤ length text → IsScanned text at fresh tokens → IsFront fresh (slice_from text at) cut
-    → cut.kind ≡ Some kind → length tokens ≢ MOST_TOKENS → Kept text (at + cut.len) cut.fresh (tokens ++ record { kind = kind; at = at; len = cut.len } ∷ [])
+    → cut.kind ≡ Some kind → length tokens ≢ most_tokens → Kept text (at + cut.len) cut.fresh (tokens ++ record { kind = kind; at = at; len = cut.len } ∷ [])
 Kept-lexeme text at fresh tokens cut kind h scanned found some room =
     let front : IsFront fresh (drop at text) cut = subst (λ (bytes : List ℕ). IsFront fresh bytes cut) (take_drop_all text at) found in
     let one : tokens_of at front.piece ≡ record { kind = kind; at = at; len = cut.len } ∷ [] = tokens_of-lexeme at cut.len kind front.piece (sym some ∙ front.told) front.long in
@@ -140,32 +142,64 @@ Kept-lexeme text at fresh tokens cut kind h scanned found some room =
     record {
       within = within_text text at fresh cut h front;
       so_far = subst (λ (ts : List Token). IsScanned text (at + cut.len) cut.fresh ts) same
-          (IsScanned-more text at fresh tokens cut scanned front (subst (λ (ts : List Token). length ts ≤ MOST_TOKENS) (sym same) (not_full (length tokens) _ MOST_TOKENS scanned.few room more)));
+          (IsScanned-more text at fresh tokens cut scanned front (subst (λ (ts : List Token). length ts ≤ most_tokens) (sym same) (not_full (length tokens) _ most_tokens scanned.few room more)));
     }
   where
     not_full : (n m most : ℕ) → n ≤ most → n ≢ most → m ≡ n + 1 → m ≤ most
     not_full n m most h k e = omega arith
 
+-- ---- where a token is made
+
+lexeme_in : (fresh : Bool) (bytes : List ℕ) (kind : Kind) (piece : Piece) → Some kind ≡ kind_in piece → Stands fresh bytes piece
+    → (kind : Kind) × (spelling : List ℕ) × Stands fresh bytes (Lexeme kind spelling)
+lexeme_in fresh bytes kind (Blank byte) e stands = cc
+lexeme_in fresh bytes kind (BlockComment body) e stands = cc
+lexeme_in fresh bytes kind (LineComment body) e stands = cc
+lexeme_in fresh bytes kind (SkippedLine blanks body) e stands = cc
+lexeme_in fresh bytes kind (Lexeme other spelling) e stands = (other, spelling, stands)
+
+-- what stands at the place that the scanner came to
+stands_there : (text : List ℕ) (at : ℕ) (fresh : Bool) (tokens : List Token) (scanned : IsScanned text at fresh tokens) (piece : Piece)
+    → Stands fresh (slice_from text at) piece → Stands (fresh_behind true scanned.pieces) (drop at text) piece
+stands_there text at fresh tokens scanned piece stands =
+    subst (λ (state : Bool). Stands state (drop at text) piece) scanned.state (subst (λ (bytes : List ℕ). Stands fresh bytes piece) (take_drop_all text at) stands)
+
+scanned_reaches : (text : List ℕ) (at : ℕ) (fresh : Bool) (tokens : List Token) (scanned : IsScanned text at fresh tokens) → Reaches text scanned.pieces (drop at text)
+scanned_reaches text at fresh tokens scanned = record {
+  whole = scanned.whole;
+  fit = scanned.fit;
+  few = subst (λ (n : ℕ). n ≤ most_tokens) (ap length scanned.told) scanned.few;
+}
+
+pub TakesMemory-name : (text : List ℕ) (at place : ℕ) (fresh : Bool) (tokens : List Token) → IsScanned text at fresh tokens → IsWhy fresh (slice_from text at) place error.Memory → TakesMemory text
+TakesMemory-name text at place fresh tokens scanned why = (
+  scanned.pieces,
+  drop at text,
+  scanned_reaches text at fresh tokens scanned,
+  inr (kind.Word why.0, why.0, stands_there text at fresh tokens scanned (Lexeme (kind.Word why.0) why.0) why.1),
+)
+
+pub TakesMemory-lexeme : (text : List ℕ) (at : ℕ) (fresh : Bool) (tokens : List Token) (cut : Cut) (kind : Kind) → IsScanned text at fresh tokens
+    → IsFront fresh (slice_from text at) cut → cut.kind ≡ Some kind → TakesMemory text
+TakesMemory-lexeme text at fresh tokens cut kind scanned front some = (
+  scanned.pieces,
+  drop at text,
+  scanned_reaches text at fresh tokens scanned,
+  inr (lexeme_in _ _ kind front.piece (sym some ∙ front.told) (stands_there text at fresh tokens scanned front.piece front.stands)),
+)
+
+pub TakesMemory-end : (text : List ℕ) (at : ℕ) (fresh : Bool) (tokens : List Token) → IsScanned text at fresh tokens → length text ≤ at → TakesMemory text
+TakesMemory-end text at fresh tokens scanned past =
+    (scanned.pieces, drop at text, scanned_reaches text at fresh tokens scanned, inl (drop_of_length-le text past))
+
 -- one lexeme too many
 pub Stops-full : (text : List ℕ) (at : ℕ) (fresh : Bool) (tokens : List Token) (cut : Cut) (kind : Kind) → IsScanned text at fresh tokens → IsFront fresh (slice_from text at) cut
-    → cut.kind ≡ Some kind → length tokens ≡ MOST_TOKENS → Stops text (error.TooManyTokens at)
-Stops-full text at fresh tokens cut kind scanned found some full =
-    let front : IsFront fresh (drop at text) cut = subst (λ (bytes : List ℕ). IsFront fresh bytes cut) (take_drop_all text at) found in
-    let few : length (lexemes_from 0 scanned.pieces) ≡ length tokens = ap length (sym scanned.told) in (
+    → cut.kind ≡ Some kind → length tokens ≡ most_tokens → Stops text (error.TooManyTokens at)
+Stops-full text at fresh tokens cut kind scanned front some full =
+    let found = lexeme_in _ _ kind front.piece (sym some ∙ front.told) (stands_there text at fresh tokens scanned front.piece front.stands) in
+    let same : length (lexemes_from 0 scanned.pieces) ≡ length tokens = ap length (sym scanned.told) in (
       scanned.pieces,
       drop at text,
-      record { whole = scanned.whole; fit = scanned.fit; few = subst (λ (n : ℕ). n ≤ MOST_TOKENS) (sym few) scanned.few },
-      (sym scanned.long, one_more (lexeme_of kind front.piece (sym some ∙ front.told) (subst (λ (state : Bool). Stands state (drop at text) front.piece) scanned.state front.stands)) (few ∙ full)),
+      scanned_reaches text at fresh tokens scanned,
+      (sym scanned.long, (same ∙ full, found.0, found.1, found.2)),
     )
-  where
-    one_more : (kind : Kind) × (spelling : List ℕ) × Stands (fresh_behind true scanned.pieces) (drop at text) (Lexeme kind spelling) → length (lexemes_from 0 scanned.pieces) ≡ MOST_TOKENS
-        → IsOneTooMany scanned.pieces (drop at text)
-    one_more found e = (e, found.0, found.1, found.2)
-
-    lexeme_of : (kind : Kind) (piece : Piece) → Some kind ≡ kind_in piece → Stands (fresh_behind true scanned.pieces) (drop at text) piece
-        → (kind : Kind) × (spelling : List ℕ) × Stands (fresh_behind true scanned.pieces) (drop at text) (Lexeme kind spelling)
-    lexeme_of kind (Blank byte) e stands = cc
-    lexeme_of kind (BlockComment body) e stands = cc
-    lexeme_of kind (LineComment body) e stands = cc
-    lexeme_of kind (SkippedLine blanks body) e stands = cc
-    lexeme_of kind (Lexeme other spelling) e stands = (other, spelling, stands)

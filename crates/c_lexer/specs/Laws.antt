@@ -1,5 +1,5 @@
 -- What may come of a text: one list of tokens, or one refusal.
-use Rattle.std.specs.Prelude.{◌≡◌, ℕ, List}
+use Rattle.std.specs.Prelude.{◌≡◌, ℕ, ◌+◌, nat_le, Bool, true, ◌&&◌, List, [], ◌∷◌, map, IsTrue}
 use Rattle.c_lexer.specs.declared.token.Token.{Token}
 use Rattle.c_lexer.specs.declared.error.LexError.{LexError}
 use Rattle.c_lexer.specs.Tokens.{Tokenizes}
@@ -16,3 +16,12 @@ TokensAreNotRefused = (text : List ℕ) (tokens : List Token) (e : LexError) →
 -- a text is refused for one reason at most
 abbrev pub RefusalIsOne : Type 0
 RefusalIsOne = (text : List ℕ) (one other : LexError) → IsRefused text one → IsRefused text other → one ≡ other
+
+-- each number is at least the first one told, and more than those before it
+abbrev pub ascends_from : ℕ → List ℕ → Bool
+ascends_from least [] = true
+ascends_from least (n ∷ rest) = nat_le least n && ascends_from (n + 1) rest
+
+-- the places of the tokens of a text ascend
+abbrev pub TokensAscend : Type 0
+TokensAscend = (text : List ℕ) (tokens : List Token) → Tokenizes text tokens → IsTrue (ascends_from 0 (map (λ token. token.at) tokens))

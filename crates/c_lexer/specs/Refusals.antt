@@ -1,7 +1,7 @@
 -- Why a text has no tokens: the first fault in the order of the text.
 use Rattle.std.specs.Prelude.{◌≡◌, ℕ, ◌<◌, ◌≤◌, List, [], ◌∷◌, ◌++◌, ◌⊎◌, length, Bool, true}
 use Rattle.std.specs.Str.{IsValidUpTo}
-use Rattle.c_lexer.specs.declared.TheConstants.{MOST_TOKENS}
+use Rattle.c_lexer.specs.Limits.{most_tokens}
 use Rattle.c_lexer.specs.declared.kind.Kind.{Kind}
 use Rattle.c_lexer.specs.declared.error.LexError.{LexError}
 use Rattle.c_lexer.specs.declared.error.LexError.TheVariants as error
@@ -19,12 +19,12 @@ fresh_behind fresh (piece ∷ pieces) = fresh_behind (fresh_after fresh piece) p
 pub record Reaches (text : List ℕ) (pieces : List Piece) (rest : List ℕ) : Type 0 where
   pub whole : text ≡ text_of pieces ++ rest
   pub fit : Fit true pieces rest
-  pub few : length (lexemes_from 0 pieces) ≤ MOST_TOKENS
+  pub few : length (lexemes_from 0 pieces) ≤ most_tokens
 
 -- one lexeme too many stands at the front
 abbrev pub IsOneTooMany : List Piece → List ℕ → Type 0
 IsOneTooMany pieces rest =
-    (length (lexemes_from 0 pieces) ≡ MOST_TOKENS) × (kind : Kind) × (spelling : List ℕ) × Stands (fresh_behind true pieces) rest (Lexeme kind spelling)
+    (length (lexemes_from 0 pieces) ≡ most_tokens) × (kind : Kind) × (spelling : List ℕ) × Stands (fresh_behind true pieces) rest (Lexeme kind spelling)
 
 -- the cut stops at the place behind these pieces, with this error
 abbrev pub StopsAt : List Piece → List ℕ → LexError → Type 0
@@ -37,6 +37,14 @@ StopsAt pieces rest error.Memory = ⊥
 -- The cut of the text stops with this error.
 abbrev pub Stops : List ℕ → LexError → Type 0
 Stops text e = (pieces : List Piece) × (rest : List ℕ) × Reaches text pieces rest × StopsAt pieces rest e
+
+-- a token is made at the front of these bytes: of a lexeme, or of the end of the text
+abbrev pub MakesToken : Bool → List ℕ → Type 0
+MakesToken fresh rest = (rest ≡ []) ⊎ ((kind : Kind) × (spelling : List ℕ) × Stands fresh rest (Lexeme kind spelling))
+
+-- Memory is taken for the text: a place is reached where a token is made.
+abbrev pub TakesMemory : List ℕ → Type 0
+TakesMemory text = (pieces : List Piece) × (rest : List ℕ) × Reaches text pieces rest × MakesToken (fresh_behind true pieces) rest
 
 -- the place that a refusal tells
 abbrev pub place_of : LexError → ℕ

@@ -1,10 +1,12 @@
 -- How far a text is cut, as the scanner goes on.
 use Rattle.std.specs.Prelude.{◌≡◌, ℕ, ◌≤◌, List, ◌++◌, drop, length, Bool, true, Option, None, Some}
-use Rattle.c_lexer.specs.declared.TheConstants.{MOST_TOKENS}
+use Rattle.c_lexer.specs.Limits.{most_tokens}
 use Rattle.c_lexer.specs.declared.kind.Kind.{Kind}
+use Rattle.c_lexer.specs.declared.kind.Kind.TheVariants as kind
 use Rattle.c_lexer.specs.declared.token.Token.{Token}
 use Rattle.c_lexer.specs.declared.error.LexError.{LexError}
 use Rattle.c_lexer.specs.declared.error.LexError.TheVariants as error
+use Rattle.c_lexer.specs.declared.piece.Stop.{Stop}
 use Rattle.c_lexer.specs.declared.piece.Stop.TheVariants as stop
 use Rattle.c_lexer.specs.declared.scan.Cut.{Cut}
 use Rattle.c_lexer.specs.Pieces.{Piece, Lexeme, Stands, piece_bytes, fresh_after, text_of, Fit}
@@ -25,13 +27,20 @@ pub record IsFront (fresh : Bool) (bytes : List ℕ) (cut : Cut) : Type 0 where
   pub state : cut.fresh ≡ fresh_after fresh piece
   pub told : cut.kind ≡ kind_in piece
 
--- why no piece stands at the front of the bytes, which stand at a place
+-- the refusal for which a cut stops at a place
+abbrev pub refusal_at : Stop → ℕ → LexError
+refusal_at stop.Byte at = error.Byte at
+refusal_at stop.Comment at = error.Comment at
+refusal_at stop.Literal at = error.Literal at
+
+-- why no piece is cut from the front of the bytes, which stand at a place: none stands there, or a name does, and there is
+-- no memory for its copy
 abbrev pub IsWhy : Bool → List ℕ → ℕ → LexError → Type 0
 IsWhy fresh bytes place (error.Byte at) = (at ≡ place) × Tells_why fresh bytes stop.Byte
 IsWhy fresh bytes place (error.Comment at) = (at ≡ place) × Tells_why fresh bytes stop.Comment
 IsWhy fresh bytes place (error.Literal at) = (at ≡ place) × Tells_why fresh bytes stop.Literal
 IsWhy fresh bytes place (error.TooManyTokens at) = ⊥
-IsWhy fresh bytes place error.Memory = Unit {0}
+IsWhy fresh bytes place error.Memory = (name : List ℕ) × Stands fresh bytes (Lexeme (kind.Word name) name)
 
 -- the text is cut up to a place, into pieces whose lexemes are these tokens
 pub record IsScanned (text : List ℕ) (at : ℕ) (fresh : Bool) (tokens : List Token) : Type 0 where
@@ -41,4 +50,4 @@ pub record IsScanned (text : List ℕ) (at : ℕ) (fresh : Bool) (tokens : List 
   pub fit : Fit true pieces (drop at text)
   pub state : fresh ≡ fresh_behind true pieces
   pub told : tokens ≡ lexemes_from 0 pieces
-  pub few : length tokens ≤ MOST_TOKENS
+  pub few : length tokens ≤ most_tokens

@@ -2,7 +2,7 @@
 use Rattle.std.specs.Prelude.{◌≡◌, ℕ, ◌+◌, ◌≤◌, List, [], ◌∷◌, ◌++◌, length, true}
 use Rattle.std.specs.Str.{IsUtf8}
 use Rattle.c_lexer.specs.declared.kind.Kind.TheVariants as kind
-use Rattle.c_lexer.specs.declared.TheConstants.{MOST_TOKENS}
+use Rattle.c_lexer.specs.Limits.{most_tokens}
 use Rattle.c_lexer.specs.declared.token.Token.{Token}
 use Rattle.c_lexer.specs.Pieces.{Piece, Lexeme, piece_bytes, text_of, Fit}
 
@@ -23,7 +23,7 @@ pub record IsCut (text : List ℕ) (tokens : List Token) : Type 0 where
   pub whole : text ≡ text_of pieces
   pub fit : Fit true pieces []
   pub told : tokens ≡ lexemes_from 0 pieces ++ end_at (length text) ∷ []
-  pub few : length (lexemes_from 0 pieces) ≤ MOST_TOKENS
+  pub few : length (lexemes_from 0 pieces) ≤ most_tokens
 
 -- The text has these tokens: it is UTF-8, and it is cut into them.
 pub record Tokenizes (text : List ℕ) (tokens : List Token) : Type 0 where

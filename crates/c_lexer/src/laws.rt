@@ -1,4 +1,4 @@
-ghost use Rattle.c_lexer.specs.Laws.{TokensAreOne, TokensAreNotRefused, RefusalIsOne};
+ghost use Rattle.c_lexer.specs.Laws.{RefusalIsOne, TokensAreNotRefused, TokensAreOne, TokensAscend};
 
 /// A text has one list of tokens at most.
 pub fn tokens_are_one()
@@ -13,4 +13,9 @@ pub fn tokens_are_not_refused()
 /// A text is refused for one reason at most.
 pub fn refusal_is_one()
     ensures { RefusalIsOne }
+{}
+
+/// Each token of a text stands behind those before it.
+pub fn tokens_ascend()
+    ensures { TokensAscend }
 {}

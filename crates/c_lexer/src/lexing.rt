@@ -3,7 +3,7 @@ ghost use Rattle.c_lexer.specs.declared.token.Token.{Token};
 ghost use Rattle.c_lexer.specs.declared.error.LexError.{LexError};
 ghost use Rattle.std.specs.Str.{IsValidUpTo};
 ghost use Rattle.c_lexer.specs.Tokens.{IsCut, Tokenizes};
-ghost use Rattle.c_lexer.specs.Refusals.{IsRefused, Stops, place_of};
+ghost use Rattle.c_lexer.specs.Refusals.{IsRefused, Stops, TakesMemory, place_of};
 
 use crate::scan::scan;
 use crate::{LexError, Token};
@@ -27,8 +27,9 @@ fn is_before(e: LexError, at: u32) -> bool
 
 /// Of a fault of the cut and of the place where a text stops being UTF-8, the one that comes first.
 fn first_fault(scanned: Result<Items<Token>, LexError>, at: u32) -> LexError
-    ensures { (text : List ℕ) → IsValidUpTo text at → IfOk scanned (IsCut text) → IfErr scanned (λ e. e ≢ LexError.Memory → Stops text e) →
+    ensures first { (text : List ℕ) → IsValidUpTo text at → IfOk scanned (IsCut text) → IfErr scanned (λ e. e ≢ LexError.Memory → Stops text e) →
         result ≢ LexError.Memory → IsRefused text result }
+    ensures memory { result ≡ LexError.Memory → scanned ≡ Err LexError.Memory }
 {
     match scanned {
         Err(e) if is_before(e, at) => e,
@@ -36,11 +37,12 @@ fn first_fault(scanned: Result<Items<Token>, LexError>, at: u32) -> LexError
     }
 }
 
-/// The tokens of a text or the first fault, or want of memory.
+/// The tokens of a text, or the first fault.
 fn tokens_of(alloc: Global, bytes: &[u8]) -> Result<Items<Token>, LexError>
     requires { length bytes.now ≤ 2 ^ 20 }
     ensures found { IfOk result (Tokenizes bytes.now) }
     ensures refused { IfErr result (λ e. e ≢ LexError.Memory → IsRefused bytes.now e) }
+    ensures memory { IfErr result (λ e. e ≡ LexError.Memory → TakesMemory bytes.now) }
 {
     let scanned = scan(alloc, bytes);
     match str::from_utf8(bytes) {
@@ -57,6 +59,9 @@ pub fn lex(alloc: Global, bytes: &[u8]) -> Result<Items<Token>, LexError>
     requires { length bytes.now ≤ 2 ^ 20 }
     ensures found { IfOk result (Tokenizes bytes.now) }
     ensures refused { IfErr result (λ e. e ≢ LexError.Memory → IsRefused bytes.now e) }
+
+    // Memory is wanted only where a token is made: a fault in front of all tokens is always answered.
+    ensures memory { IfErr result (λ e. e ≡ LexError.Memory → TakesMemory bytes.now) }
 
     // What a text has, and why it is refused, is answered but for want of memory.
     ensures tokens { (tokens : List Token) → Tokenizes bytes.now tokens → IfErr result (λ e. e ≡ LexError.Memory) × IfOk result (λ found. found ≡ tokens) }

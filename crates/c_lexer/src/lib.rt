@@ -12,14 +12,12 @@ mod mark;
 mod number;
 mod piece;
 mod scan;
-#[cfg(test)]
-mod tests;
 mod token;
 
 pub use error::LexError;
 pub use keyword::Keyword;
 pub use kind::Kind;
-pub use laws::{refusal_is_one, tokens_are_not_refused, tokens_are_one};
+pub use laws::{refusal_is_one, tokens_are_not_refused, tokens_are_one, tokens_ascend};
 pub use lexing::lex;
 pub use mark::Mark;
 pub use token::Token;

@@ -1,9 +1,8 @@
 ghost use Rattle.std.specs.Prelude.{◌≡◌, ◌<◌, ◌≤◌, ◌^◌, length, true, pos, ◌≢◌, IfOk, IfErr, take};
 ghost use Rattle.c_lexer.specs.Kinds.{Spells, is_word_shape};
-ghost use Rattle.c_lexer.specs.Scanned.{IsFront, IsWhy};
+ghost use Rattle.c_lexer.specs.Scanned.{IsFront, IsWhy, refusal_at};
 ghost use Rattle.c_lexer.specs.Tokens.{IsCut};
-ghost use Rattle.c_lexer.specs.Refusals.{Stops};
-ghost use Rattle.c_lexer.specs.declared.TheConstants.{MOST_TOKENS};
+ghost use Rattle.c_lexer.specs.Refusals.{Stops, TakesMemory};
 
 use crate::keyword::keyword_of;
 use crate::piece::{Found, Stop, piece_at};
@@ -16,7 +15,8 @@ use syntax_tree::Name;
 #[tactic(auto, using(crate::proofs::Keywords::keyword_found, crate::proofs::Keywords::keyword_missed, crate::proofs::Shapes::word_bytes))]
 fn word_kind(alloc: Global, word: &[u8]) -> Result<Kind, AllocError>
     requires { is_word_shape word.now ≡ true }
-    ensures { IfOk result (λ kind. Spells kind word.now) }
+    ensures kind { IfOk result (λ kind. Spells kind word.now) }
+    ensures name { IfErr result (λ _. Spells (Kind.Word word.now) word.now) }
 {
     match keyword_of(word) {
         Some(keyword) => Ok(Kind::Keyword(keyword)),
@@ -41,6 +41,17 @@ struct Cut {
     len: usize,
     fresh: bool,
     kind: Option<Kind>,
+}
+
+/// The refusal for which the cut stops at a place.
+fn refusal_at(stop: Stop, at: u32) -> LexError
+    ensures { result ≡ refusal_at stop at }
+{
+    match stop {
+        Stop::Byte => LexError::Byte(at),
+        Stop::Comment => LexError::Comment(at),
+        Stop::Literal => LexError::Literal(at),
+    }
 }
 
 /// Cuts the first piece from a text, of which it is told at which place it stands.
@@ -74,9 +85,7 @@ fn cut_at(alloc: Global, bytes: &[u8], fresh: bool, at: u32) -> Result<Cut, LexE
             fresh: false,
             kind: Some(Kind::Mark(mark)),
         }),
-        Err(Stop::Byte) => Err(LexError::Byte(at)),
-        Err(Stop::Comment) => Err(LexError::Comment(at)),
-        Err(Stop::Literal) => Err(LexError::Literal(at)),
+        Err(stop) => Err(refusal_at(stop, at)),
     }
 }
 
@@ -85,6 +94,7 @@ pub(crate) fn scan(alloc: Global, bytes: &[u8]) -> Result<Items<Token>, LexError
     requires { length bytes.now ≤ 2 ^ 20 }
     ensures cut { IfOk result (IsCut bytes.now) }
     ensures stops { IfErr result (λ e. e ≢ LexError.Memory → Stops bytes.now e) }
+    ensures memory { IfErr result (λ e. e ≡ LexError.Memory → TakesMemory bytes.now) }
 {
     let mut tokens = Items::new(alloc);
     let mut at = 0;

@@ -6,8 +6,8 @@ use Rattle.c_lexer.proofs.OneOutcome.{fault_before, fault_after, fault_in_cut}
 use Rattle.c_lexer.proofs.lexing.first_fault.Goals as goal
 use Rattle.c_lexer.proofs.lexing.first_fault.Goals.{in-Err, in_default-2, in_default}
 
-pub returns : goal.returns
-returns c = λ text valid cut stops some. elim c.match-scanned.branch [
+pub returns-clause-first : goal.returns-clause-first
+returns-clause-first c = λ text valid cut stops some. elim c.match-scanned.branch [
   | in-Err w ↦
       let real : w.in-Err.e ≢ Memory = λ e. some (w.result-is ∙ e) in
       subst (IsRefused text) (sym w.result-is)
