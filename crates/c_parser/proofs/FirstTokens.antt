@@ -1,13 +1,14 @@
 -- What single tokens and the first tokens of an expression are.
-use Rattle.std.proofs.Common.{◌≡◌, ℕ, ◌<◌, Bool, true, false, List, ◌∷◌, ◌++◌, refl, ap, ◌∙◌, arith, append_assoc}
-use Rattle.std.specs.Prelude.{None, Some, nat_eq, ◌&&◌}
+use Rattle.std.proofs.Common.{◌≡◌, ℕ, ◌<◌, Bool, true, false, List, [], ◌∷◌, ◌++◌, refl, ap, ◌∙◌, arith, append_assoc}
+use Rattle.std.specs.Prelude.{None, Some, nat_eq, ◌&&◌, if◌then◌else◌}
 use Rattle.std.proofs.lemmas.Bool.Decides.{nat_tests}
 use Rattle.c_lexer.specs.declared.mark.Mark.TheVariants as marks
 use Rattle.syntax_tree.specs.declared.op.Op.{Op}
 use Rattle.syntax_tree.specs.declared.op.Op.TheVariants.{Add, Sub, Mul, Div, Rem, Lt, Le, Gt, Ge, Eq, Ne, And, Or}
 use Rattle.syntax_tree.specs.declared.op.Sign.{Sign}
 use Rattle.syntax_tree.specs.declared.op.Sign.TheVariants.{Plus, Minus, Not}
-use Rattle.c_parser.specs.Descent.{begins_with, of_rank, op_at, op_of, place_at, sign_of}
+use Rattle.c_parser.specs.declared.error.ParseError.TheVariants as error
+use Rattle.c_parser.specs.Descent.{begins_with, is_outside, of_rank, op_at, op_of, place_at, refused, sign_of}
 use Rattle.c_parser.specs.Expressions.{Operand, Number, Named, Called, Bracketed, Signed, Expression, Single, Joined, Applied, operand_spots, expression_spots, operand_place, place}
 use Rattle.c_parser.specs.Operators.{op_mark, rank, sign_mark}
 use Rattle.c_parser.specs.Spots.{Spot, mark}
@@ -77,6 +78,15 @@ pub sign_of-sign_mark : (sign : Sign) → sign_of (sign_mark sign) ≡ Some sign
 sign_of-sign_mark Plus = refl
 sign_of-sign_mark Minus = refl
 sign_of-sign_mark Not = refl
+
+-- a refusal is no want of memory
+pub refused_no_memory : (spots : List Spot) → refused spots ≡ error.Memory → ⊥
+refused_no_memory [] e = cc
+refused_no_memory (spot ∷ rest) e = by (is_outside spot.kind) e
+  where
+    by : (b : Bool) → (if b then error.Unsupported spot.at else error.Syntax spot.at) ≡ error.Memory → ⊥
+    by true e = cc
+    by false e = cc
 
 -- ---- the first token
 

@@ -1,19 +1,30 @@
-pub mod Repeats
-pub mod Equations
-pub mod Loops
-pub mod FirstTokens
+-- Main theorems: which tree tokens read as, that the lexer's tokens end once, and how many operators a tree has.
+pub mod Readings
+pub mod Lexed
+pub mod FewOperators
+
+-- Texts: what is read is derived, and what is derived is read.
+pub mod SoundTexts
+pub mod CompleteTexts
+pub mod TextLoops
+pub mod LastToken
+
+-- The same of lines.
+pub mod SoundLines
+pub mod CompleteLines
+pub mod FoundLines
+pub mod LineLoops
+pub mod Lines
+
+-- The same of expressions.
+pub mod Sound
 pub mod Complete
 pub mod Found
-pub mod Sound
-pub mod Lines
-pub mod LineLoops
-pub mod TextLoops
-pub mod CompleteLines
-pub mod SoundLines
-pub mod FoundLines
-pub mod CompleteTexts
-pub mod SoundTexts
-pub mod Readings
-pub mod LastToken
-pub mod Lexed
+pub mod FirstTokens
+pub mod Loops
+pub mod Equations
+
+-- Steps that repeat.
+pub mod Repeats
+
 mod Examples

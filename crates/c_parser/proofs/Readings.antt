@@ -7,7 +7,7 @@ use Rattle.c_lexer.specs.declared.kind.Kind.TheVariants as kind
 use Rattle.c_lexer.specs.declared.token.Token.{Token}
 use Rattle.c_parser.specs.declared.error.ParseError.{ParseError}
 use Rattle.c_parser.specs.declared.error.ParseError.TheVariants as error
-use Rattle.c_parser.specs.declared.limits.TheConstants.{MOST_LEVELS, MOST_OPERATORS}
+use Rattle.c_parser.specs.Limits.{most_levels, most_binary_operators}
 use Rattle.c_parser.specs.Declarations.{Declaration, text_spots, text_levels, text_operators}
 use Rattle.c_parser.specs.Descent.{told}
 use Rattle.c_parser.specs.Reads.{IsReading, ReadsWithinLimits}
@@ -45,10 +45,10 @@ ended [] e = absurd (cc)
 ended (spot ∷ rest) e = (spot.at, rest, (let same = is_end-kind spot.kind e in λ i. record { at = spot.at; kind = same i } ∷ rest))
 
 pub read_is_reading : (tokens : List Token) (items : List SourceItem) (after : List Spot) → ends_once (spots_of tokens) ≡ true
-    → text MOST_OPERATORS MOST_LEVELS ([], spots_of tokens) ≡ Ok (items, after) → ReadsWithinLimits tokens items
+    → text most_binary_operators most_levels ([], spots_of tokens) ≡ Ok (items, after) → ReadsWithinLimits tokens items
 read_is_reading tokens items after once e =
-    let has = text_found MOST_OPERATORS MOST_LEVELS (spots_of tokens) (items, after) e in
-    let stops = repeat-ends items_left goes_on (one_declaration MOST_OPERATORS MOST_LEVELS) ([], spots_of tokens) (items, after) e in
+    let has = text_found most_binary_operators most_levels (spots_of tokens) (items, after) e in
+    let stops = repeat-ends items_left goes_on (one_declaration most_binary_operators most_levels) ([], spots_of tokens) (items, after) e in
     let last = ended after (not_false (at_end after) stops) in
     let whole : spots_of tokens ≡ text_spots has.text ++ end last.0 ∷ last.1 = has.spells ∙ ap (λ s. text_spots has.text ++ s) last.2 in
     let alone = end-last (text_spots has.text) last.1 last.0 (ap ends_once (sym whole) ∙ once) in (
@@ -65,8 +65,8 @@ reading_is_read tokens items ds most lv reading deep few = (
 )
 
 pub within_is_read : (tokens : List Token) (items : List SourceItem) → ReadsWithinLimits tokens items
-    → (after : List Spot) × (text MOST_OPERATORS MOST_LEVELS ([], spots_of tokens) ≡ Ok (items, after))
-within_is_read tokens items reads = reading_is_read tokens items reads.0 MOST_OPERATORS MOST_LEVELS reads.1 reads.2.shallow reads.2.short
+    → (after : List Spot) × (text most_binary_operators most_levels ([], spots_of tokens) ≡ Ok (items, after))
+within_is_read tokens items reads = reading_is_read tokens items reads.0 most_binary_operators most_levels reads.1 reads.2.shallow reads.2.short
 
 -- where a tree is stated, no error is told but want of memory
 pub no_other_error : {A : Type 0} (e : ParseError) (stated : Result A ParseError) (x : A) → stated ≡ Ok x → FailsBy (told e) stated → e ≡ error.Memory

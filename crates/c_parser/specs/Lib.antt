@@ -1,3 +1,5 @@
+-- What must be believed: the words of the clauses of public calls.
+pub mod Limits
 pub mod Spots
 pub mod Operators
 pub mod Expressions
@@ -6,6 +8,7 @@ pub mod Declarations
 pub mod SourceItem
 pub mod Reads
 pub mod Laws
+-- Words of proofs: what each function of the parser comes to.
 pub mod Repeat
 pub mod Descent
 pub mod Statements

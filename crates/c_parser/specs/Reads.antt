@@ -1,7 +1,7 @@
 -- Which tree a list of tokens reads as (C11 6.9), and the limits that the parser keeps.
 use Rattle.std.specs.Prelude.{◌≡◌, ◌≤◌, ℕ, List, [], ◌∷◌, ◌++◌, IsTrue}
 use Rattle.c_lexer.specs.declared.token.Token.{Token}
-use Rattle.c_parser.specs.declared.limits.TheConstants.{MOST_LEVELS, MOST_OPERATORS}
+use Rattle.c_parser.specs.Limits.{most_levels, most_binary_operators}
 use Rattle.c_parser.specs.Declarations.{Declaration, text_spots, text_is_made, text_items, text_levels, text_operators}
 use Rattle.c_parser.specs.SourceItem.{SourceItem}
 use Rattle.c_parser.specs.Spots.{spots_of, end}
@@ -17,8 +17,8 @@ abbrev pub Reads : List Token → List SourceItem → Type 0
 Reads tokens items = (text : List Declaration) × IsReading tokens items text
 
 pub record IsWithinLimits (text : List Declaration) : Type 0 where
-  pub shallow : text_levels text ≤ MOST_LEVELS
-  pub short : text_operators text ≤ MOST_OPERATORS
+  pub shallow : text_levels text ≤ most_levels
+  pub short : text_operators text ≤ most_binary_operators
 
 abbrev pub ReadsWithinLimits : List Token → List SourceItem → Type 0
 ReadsWithinLimits tokens items = (text : List Declaration) × IsReading tokens items text × IsWithinLimits text

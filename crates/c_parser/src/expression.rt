@@ -5,12 +5,13 @@ ghost use Rattle.items.specs.Gives.{Gives};
 ghost use Rattle.syntax_tree.specs.SourceExpr.{source_expr_of};
 ghost use Rattle.c_parser.specs.Descent.{told, arguments, bracketed_by, call, joined, link, marked_by, named_by, operand, operand_by, rest_of, signed_by, whole, whole_call};
 ghost use Rattle.c_parser.specs.Expressions.{placed};
+ghost use Rattle.c_parser.specs.Limits.{most_binary_operators};
 ghost use Rattle.c_parser.specs.Spots.{spots_of};
 
 use crate::rank::RANKS;
 use crate::rest::{Rest, behind, deeper, spend, tail};
 use crate::tokens::{begins_with, op_at, place_at, refused, sign_of};
-use crate::{MOST_OPERATORS, ParseError};
+use crate::{MOST_BINARY_OPERATORS, ParseError};
 use c_lexer::{Kind, Mark, Token};
 use items::{Boxed, Items};
 use std::alloc::Global;
@@ -240,12 +241,12 @@ pub(crate) fn whole(
     levels: usize,
     tokens: &[Token],
 ) -> Result<(Expr, &[Token]), ParseError>
-    ensures exact { Gives told (λ x. (source_expr_of x.0, spots_of x.1.now)) result (whole MOST_OPERATORS levels (spots_of tokens.now)) }
+    ensures exact { Gives told (λ x. (source_expr_of x.0, spots_of x.1.now)) result (whole most_binary_operators levels (spots_of tokens.now)) }
     ensures shorter { IfOk result (λ x. length x.1.now < length tokens.now) }
 {
     let rest = Rest {
         tokens,
-        operators: MOST_OPERATORS,
+        operators: MOST_BINARY_OPERATORS,
     };
     let (e, after) = joined(alloc, RANKS, levels, rest)?;
     Ok((e, after.tokens))
@@ -259,12 +260,12 @@ pub(crate) fn whole_call<'a>(
     name: &Name,
     tokens: &'a [Token],
 ) -> Result<(Expr, &'a [Token]), ParseError>
-    ensures exact { Gives told (λ x. (source_expr_of x.0, spots_of x.1.now)) result (whole_call MOST_OPERATORS levels at name.now (spots_of tokens.now)) }
+    ensures exact { Gives told (λ x. (source_expr_of x.0, spots_of x.1.now)) result (whole_call most_binary_operators levels at name.now (spots_of tokens.now)) }
     ensures shorter { IfOk result (λ x. length x.1.now < length tokens.now) }
 {
     let rest = Rest {
         tokens,
-        operators: MOST_OPERATORS,
+        operators: MOST_BINARY_OPERATORS,
     };
     let (e, after) = call(alloc, levels, at, name, rest)?;
     Ok((e, after.tokens))

@@ -1,10 +1,10 @@
-ghost use Rattle.std.specs.Prelude.{◌≡◌, ◌≢◌, ◌<◌, ◌≤◌, [], ◌∷◌, Ok, IfOk, length, map};
+ghost use Rattle.std.specs.Prelude.{◌≡◌, ◌≢◌, ◌<◌, ◌≤◌, [], ◌∷◌, Ok, IfErr, IfOk, length, map};
 ghost use Rattle.items.specs.Gives.{Gives};
 ghost use Rattle.c_parser.specs.Descent.{told};
 ghost use Rattle.c_parser.specs.SourceItem.{parameter_of, source_item_of};
 ghost use Rattle.c_parser.specs.Spots.{spots_of};
 ghost use Rattle.c_parser.specs.Texts.{at_end, behind_signature, behind_type, behind_word, body, constant, declaration, globals, initial, more_slots, negative_at, next_shared, number_at, procedure, shared, shared_list, signature, slot, slot_list, text, typed};
-ghost use Rattle.c_parser.specs.declared.limits.TheConstants.{MOST_OPERATORS};
+ghost use Rattle.c_parser.specs.Limits.{most_binary_operators};
 
 use crate::ParseError;
 use crate::expression::copied;
@@ -19,9 +19,11 @@ use std::alloc::Global;
 use syntax_tree::{Item, Name, Param};
 
 /// The number that has to stand first.
+#[tactic(auto, using(crate::proofs::FirstTokens::refused_no_memory))]
 fn number_at(tokens: &[Token]) -> Result<(i128, &[Token]), ParseError>
     ensures exact { Gives told (λ x. (x.0, spots_of x.1.now)) result (number_at (spots_of tokens.now)) }
     ensures shorter { IfOk result (λ x. length x.1.now < length tokens.now) }
+    ensures memory { IfErr result (λ e. e ≢ ParseError.Memory) }
 {
     match tokens {
         [] => Err(ParseError::Syntax(0)),
@@ -33,9 +35,11 @@ fn number_at(tokens: &[Token]) -> Result<(i128, &[Token]), ParseError>
 }
 
 /// The opposite of the number that has to stand first, which has no sign of its own.
+#[tactic(auto, using(crate::proofs::FirstTokens::refused_no_memory))]
 fn negative_at(tokens: &[Token]) -> Result<(i128, &[Token]), ParseError>
     ensures exact { Gives told (λ x. (x.0, spots_of x.1.now)) result (negative_at (spots_of tokens.now)) }
     ensures shorter { IfOk result (λ x. length x.1.now < length tokens.now) }
+    ensures memory { IfErr result (λ e. e ≢ ParseError.Memory) }
 {
     let (value, after) = number_at(tokens)?;
     if value < 0 {
@@ -49,6 +53,7 @@ fn negative_at(tokens: &[Token]) -> Result<(i128, &[Token]), ParseError>
 fn constant(tokens: &[Token]) -> Result<(i128, &[Token]), ParseError>
     ensures exact { Gives told (λ x. (x.0, spots_of x.1.now)) result (constant (spots_of tokens.now)) }
     ensures within { IfOk result (λ x. length x.1.now ≤ length tokens.now) }
+    ensures memory { IfErr result (λ e. e ≢ ParseError.Memory) }
 {
     if begins_with(tokens, Mark::Minus) {
         negative_at(tail(tokens))
@@ -61,6 +66,7 @@ fn constant(tokens: &[Token]) -> Result<(i128, &[Token]), ParseError>
 fn initial(tokens: &[Token]) -> Result<(i128, &[Token]), ParseError>
     ensures exact { Gives told (λ x. (x.0, spots_of x.1.now)) result (initial (spots_of tokens.now)) }
     ensures within { IfOk result (λ x. length x.1.now ≤ length tokens.now) }
+    ensures memory { IfErr result (λ e. e ≢ ParseError.Memory) }
 {
     if begins_with(tokens, Mark::Assign) {
         constant(tail(tokens))
@@ -252,7 +258,7 @@ fn body<'a>(
     tokens: &'a [Token],
 ) -> Result<(Items<Item>, &'a [Token]), ParseError>
     requires { 0 < length tokens.now }
-    ensures exact { Gives told (λ x. (map source_item_of x.0, spots_of x.1.now)) result (body MOST_OPERATORS levels (record { outside = head.outside; returns = head.returns; at = head.at; name = head.name }) (map parameter_of params) (spots_of tokens.now)) }
+    ensures exact { Gives told (λ x. (map source_item_of x.0, spots_of x.1.now)) result (body most_binary_operators levels (record { outside = head.outside; returns = head.returns; at = head.at; name = head.name }) (map parameter_of params) (spots_of tokens.now)) }
     ensures shorter { IfOk result (λ x. length x.1.now < length tokens.now) }
 {
     let level = deeper(levels, place_at(tokens))?;
@@ -282,7 +288,7 @@ fn behind_signature<'a>(
     signature: Signature,
     tokens: &'a [Token],
 ) -> Result<(Items<Item>, &'a [Token]), ParseError>
-    ensures exact { Gives told (λ x. (map source_item_of x.0, spots_of x.1.now)) result (behind_signature MOST_OPERATORS levels (record { outside = head.outside; returns = head.returns; at = head.at; name = head.name })
+    ensures exact { Gives told (λ x. (map source_item_of x.0, spots_of x.1.now)) result (behind_signature most_binary_operators levels (record { outside = head.outside; returns = head.returns; at = head.at; name = head.name })
         (record { told = signature.entry.told; count = signature.entry.count; named = map parameter_of signature.entry.named; rest = spots_of signature.entry.rest.now }) (spots_of tokens.now)) }
     ensures shorter { IfOk result (λ x. length x.1.now < length tokens.now) }
 {
@@ -321,7 +327,7 @@ fn procedure(
     head: Head,
     tokens: &[Token],
 ) -> Result<(Items<Item>, &[Token]), ParseError>
-    ensures exact { Gives told (λ x. (map source_item_of x.0, spots_of x.1.now)) result (procedure MOST_OPERATORS levels (record { outside = head.outside; returns = head.returns; at = head.at; name = head.name }) (spots_of tokens.now)) }
+    ensures exact { Gives told (λ x. (map source_item_of x.0, spots_of x.1.now)) result (procedure most_binary_operators levels (record { outside = head.outside; returns = head.returns; at = head.at; name = head.name }) (spots_of tokens.now)) }
     ensures shorter { IfOk result (λ x. length x.1.now < length tokens.now) }
 {
     let signature = signature_at(alloc, tokens)?;
@@ -337,7 +343,7 @@ fn behind_word<'a>(
     returns: bool,
     word: Word<'a>,
 ) -> Result<(Items<Item>, &'a [Token]), ParseError>
-    ensures exact { Gives told (λ x. (map source_item_of x.0, spots_of x.1.now)) result (behind_word MOST_OPERATORS levels outside returns (record { at = word.entry.at; name = word.entry.name.now; rest = spots_of word.entry.rest.now })) }
+    ensures exact { Gives told (λ x. (map source_item_of x.0, spots_of x.1.now)) result (behind_word most_binary_operators levels outside returns (record { at = word.entry.at; name = word.entry.name.now; rest = spots_of word.entry.rest.now })) }
     ensures shorter { IfOk result (λ x. length x.1.now < length word.entry.rest.now) }
 {
     if begins_with(word.rest, Mark::OpenRound) {
@@ -364,7 +370,7 @@ fn behind_type(
     returns: bool,
     tokens: &[Token],
 ) -> Result<(Items<Item>, &[Token]), ParseError>
-    ensures exact { Gives told (λ x. (map source_item_of x.0, spots_of x.1.now)) result (behind_type MOST_OPERATORS levels outside returns (spots_of tokens.now)) }
+    ensures exact { Gives told (λ x. (map source_item_of x.0, spots_of x.1.now)) result (behind_type most_binary_operators levels outside returns (spots_of tokens.now)) }
     ensures shorter { IfOk result (λ x. length x.1.now < length tokens.now) }
 {
     let word = word_at(tokens)?;
@@ -378,7 +384,7 @@ fn typed(
     outside: bool,
     tokens: &[Token],
 ) -> Result<(Items<Item>, &[Token]), ParseError>
-    ensures exact { Gives told (λ x. (map source_item_of x.0, spots_of x.1.now)) result (typed MOST_OPERATORS levels outside (spots_of tokens.now)) }
+    ensures exact { Gives told (λ x. (map source_item_of x.0, spots_of x.1.now)) result (typed most_binary_operators levels outside (spots_of tokens.now)) }
     ensures shorter { IfOk result (λ x. length x.1.now < length tokens.now) }
 {
     if begins_with_keyword(tokens, Keyword::Int) {
@@ -397,7 +403,7 @@ fn declaration(
     levels: usize,
     tokens: &[Token],
 ) -> Result<(Items<Item>, &[Token]), ParseError>
-    ensures exact { Gives told (λ x. (map source_item_of x.0, spots_of x.1.now)) result (declaration MOST_OPERATORS levels (spots_of tokens.now)) }
+    ensures exact { Gives told (λ x. (map source_item_of x.0, spots_of x.1.now)) result (declaration most_binary_operators levels (spots_of tokens.now)) }
     ensures shorter { IfOk result (λ x. length x.1.now < length tokens.now) }
 {
     if begins_with_keyword(tokens, Keyword::Extern) {
@@ -425,7 +431,7 @@ pub(crate) fn text(
     levels: usize,
     tokens: &[Token],
 ) -> Result<(Items<Item>, &[Token]), ParseError>
-    ensures { Gives told (λ x. (map source_item_of x.0, spots_of x.1.now)) result (text MOST_OPERATORS levels ([], spots_of tokens.now)) }
+    ensures { Gives told (λ x. (map source_item_of x.0, spots_of x.1.now)) result (text most_binary_operators levels ([], spots_of tokens.now)) }
 {
     let mut items = Items::new(alloc);
     let mut after = tokens;

@@ -13,14 +13,10 @@ mod parsing;
 mod rank;
 mod rest;
 mod simple;
-#[cfg(test)]
-mod tables;
-#[cfg(test)]
-mod tests;
 mod tokens;
 
 pub use ends::ends_once;
 pub use error::ParseError;
-pub use laws::{lexed_ends_once, reading_is_one};
-pub use limits::{MOST_LEVELS, MOST_OPERATORS};
+pub use laws::{lexed_ends_once, reading_is_one, readings_are_short};
+pub use limits::{MOST_BINARY_OPERATORS, MOST_LEVELS};
 pub use parsing::parse;

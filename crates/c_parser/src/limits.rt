@@ -3,4 +3,4 @@
 pub const MOST_LEVELS: usize = 64;
 
 /// The most operators with two operands in one whole expression.
-pub const MOST_OPERATORS: usize = 256;
+pub const MOST_BINARY_OPERATORS: usize = 256;

@@ -8,7 +8,7 @@ ghost use Rattle.syntax_tree.specs.SourceLine.{source_line_of};
 ghost use Rattle.c_parser.specs.Descent.{place_at, refused, tail, told};
 ghost use Rattle.c_parser.specs.Spots.{spots_of};
 ghost use Rattle.c_parser.specs.Statements.{block, block_by, condition, do_by, entries, entry, for_by, for_condition, for_step, if_by, init, keyword_by, line_read, otherwise, return_by, returned, simple_line, single_by, while_by};
-ghost use Rattle.c_parser.specs.declared.limits.TheConstants.{MOST_OPERATORS};
+ghost use Rattle.c_parser.specs.Limits.{most_binary_operators};
 
 use crate::ParseError;
 use crate::expression::whole;
@@ -29,7 +29,7 @@ fn line(
     levels: usize,
     tokens: &[Token],
 ) -> Result<(Items<Line>, &[Token]), ParseError>
-    ensures exact { Gives told (λ x. (map source_line_of x.0, spots_of x.1.now)) result (line_read MOST_OPERATORS levels (spots_of tokens.now)) }
+    ensures exact { Gives told (λ x. (map source_line_of x.0, spots_of x.1.now)) result (line_read most_binary_operators levels (spots_of tokens.now)) }
     ensures shorter { IfOk result (λ x. length x.1.now < length tokens.now) }
 {
     if begins_with(tokens, Mark::OpenBrace) {
@@ -53,7 +53,7 @@ fn keyword_line(
     tokens: &[Token],
 ) -> Result<(Items<Line>, &[Token]), ParseError>
     requires { 0 < length tokens.now }
-    ensures exact { Gives told (λ x. (map source_line_of x.0, spots_of x.1.now)) result (keyword_by MOST_OPERATORS (line_read MOST_OPERATORS) levels keyword (place_at (spots_of tokens.now)) (tail (spots_of tokens.now)) (refused (spots_of tokens.now))) }
+    ensures exact { Gives told (λ x. (map source_line_of x.0, spots_of x.1.now)) result (keyword_by most_binary_operators (line_read most_binary_operators) levels keyword (place_at (spots_of tokens.now)) (tail (spots_of tokens.now)) (refused (spots_of tokens.now))) }
     ensures shorter { IfOk result (λ x. length x.1.now < length tokens.now) }
 {
     let at = place_at(tokens);
@@ -78,7 +78,7 @@ fn block_line(
     at: u32,
     tokens: &[Token],
 ) -> Result<(Items<Line>, &[Token]), ParseError>
-    ensures exact { Gives told (λ x. (map source_line_of x.0, spots_of x.1.now)) result (block_by MOST_OPERATORS (line_read MOST_OPERATORS) levels at (spots_of tokens.now)) }
+    ensures exact { Gives told (λ x. (map source_line_of x.0, spots_of x.1.now)) result (block_by most_binary_operators (line_read most_binary_operators) levels at (spots_of tokens.now)) }
     ensures shorter { IfOk result (λ x. length x.1.now < length tokens.now) }
 {
     let level = deeper(levels, at)?;
@@ -93,7 +93,7 @@ pub(crate) fn block(
     level: usize,
     tokens: &[Token],
 ) -> Result<(Items<Line>, u32, &[Token]), ParseError>
-    ensures exact { Gives told (λ x. (map source_line_of x.0, x.1, spots_of x.2.now)) result (block MOST_OPERATORS (line_read MOST_OPERATORS level) level (spots_of tokens.now)) }
+    ensures exact { Gives told (λ x. (map source_line_of x.0, x.1, spots_of x.2.now)) result (block most_binary_operators (line_read most_binary_operators level) level (spots_of tokens.now)) }
     ensures shorter { IfOk result (λ x. length x.2.now < length tokens.now) }
 {
     let (lines, closing) = entries(alloc, level, tokens)?;
@@ -108,7 +108,7 @@ fn entries(
     level: usize,
     tokens: &[Token],
 ) -> Result<(Items<Line>, &[Token]), ParseError>
-    ensures exact { Gives told (λ x. (map source_line_of x.0, spots_of x.1.now)) result (entries MOST_OPERATORS (line_read MOST_OPERATORS level) level ([], spots_of tokens.now)) }
+    ensures exact { Gives told (λ x. (map source_line_of x.0, spots_of x.1.now)) result (entries most_binary_operators (line_read most_binary_operators level) level ([], spots_of tokens.now)) }
     ensures within { IfOk result (λ x. length x.1.now ≤ length tokens.now) }
 {
     let mut lines = Items::new(alloc);
@@ -128,7 +128,7 @@ fn entry(
     level: usize,
     tokens: &[Token],
 ) -> Result<(Items<Line>, &[Token]), ParseError>
-    ensures exact { Gives told (λ x. (map source_line_of x.0, spots_of x.1.now)) result (entry MOST_OPERATORS (line_read MOST_OPERATORS level) level (spots_of tokens.now)) }
+    ensures exact { Gives told (λ x. (map source_line_of x.0, spots_of x.1.now)) result (entry most_binary_operators (line_read most_binary_operators level) level (spots_of tokens.now)) }
     ensures shorter { IfOk result (λ x. length x.1.now < length tokens.now) }
 {
     if begins_with_keyword(tokens, Keyword::Int) {
@@ -146,7 +146,7 @@ fn if_line(
     at: u32,
     tokens: &[Token],
 ) -> Result<(Items<Line>, &[Token]), ParseError>
-    ensures exact { Gives told (λ x. (map source_line_of x.0, spots_of x.1.now)) result (if_by MOST_OPERATORS (line_read MOST_OPERATORS) levels at (spots_of tokens.now)) }
+    ensures exact { Gives told (λ x. (map source_line_of x.0, spots_of x.1.now)) result (if_by most_binary_operators (line_read most_binary_operators) levels at (spots_of tokens.now)) }
     ensures shorter { IfOk result (λ x. length x.1.now < length tokens.now) }
 {
     let level = deeper(levels, at)?;
@@ -163,7 +163,7 @@ fn otherwise(
     level: usize,
     tokens: &[Token],
 ) -> Result<(Items<Line>, &[Token]), ParseError>
-    ensures exact { Gives told (λ x. (map source_line_of x.0, spots_of x.1.now)) result (otherwise (line_read MOST_OPERATORS level) (spots_of tokens.now)) }
+    ensures exact { Gives told (λ x. (map source_line_of x.0, spots_of x.1.now)) result (otherwise (line_read most_binary_operators level) (spots_of tokens.now)) }
     ensures within { IfOk result (λ x. length x.1.now ≤ length tokens.now) }
 {
     if begins_with_keyword(tokens, Keyword::Else) {
@@ -181,7 +181,7 @@ fn while_line(
     at: u32,
     tokens: &[Token],
 ) -> Result<(Items<Line>, &[Token]), ParseError>
-    ensures exact { Gives told (λ x. (map source_line_of x.0, spots_of x.1.now)) result (while_by MOST_OPERATORS (line_read MOST_OPERATORS) levels at (spots_of tokens.now)) }
+    ensures exact { Gives told (λ x. (map source_line_of x.0, spots_of x.1.now)) result (while_by most_binary_operators (line_read most_binary_operators) levels at (spots_of tokens.now)) }
     ensures shorter { IfOk result (λ x. length x.1.now < length tokens.now) }
 {
     let level = deeper(levels, at)?;
@@ -205,7 +205,7 @@ fn do_line(
     at: u32,
     tokens: &[Token],
 ) -> Result<(Items<Line>, &[Token]), ParseError>
-    ensures exact { Gives told (λ x. (map source_line_of x.0, spots_of x.1.now)) result (do_by MOST_OPERATORS (line_read MOST_OPERATORS) levels at (spots_of tokens.now)) }
+    ensures exact { Gives told (λ x. (map source_line_of x.0, spots_of x.1.now)) result (do_by most_binary_operators (line_read most_binary_operators) levels at (spots_of tokens.now)) }
     ensures shorter { IfOk result (λ x. length x.1.now < length tokens.now) }
 {
     let level = deeper(levels, at)?;
@@ -231,7 +231,7 @@ fn for_line(
     at: u32,
     tokens: &[Token],
 ) -> Result<(Items<Line>, &[Token]), ParseError>
-    ensures exact { Gives told (λ x. (map source_line_of x.0, spots_of x.1.now)) result (for_by MOST_OPERATORS (line_read MOST_OPERATORS) levels at (spots_of tokens.now)) }
+    ensures exact { Gives told (λ x. (map source_line_of x.0, spots_of x.1.now)) result (for_by most_binary_operators (line_read most_binary_operators) levels at (spots_of tokens.now)) }
     ensures shorter { IfOk result (λ x. length x.1.now < length tokens.now) }
 {
     let level = deeper(levels, at)?;
@@ -259,7 +259,7 @@ fn init(
     level: usize,
     tokens: &[Token],
 ) -> Result<(Items<Line>, &[Token]), ParseError>
-    ensures exact { Gives told (λ x. (map source_line_of x.0, spots_of x.1.now)) result (init MOST_OPERATORS level (spots_of tokens.now)) }
+    ensures exact { Gives told (λ x. (map source_line_of x.0, spots_of x.1.now)) result (init most_binary_operators level (spots_of tokens.now)) }
     ensures within { IfOk result (λ x. length x.1.now ≤ length tokens.now) }
 {
     if begins_with_keyword(tokens, Keyword::Int) {
@@ -278,7 +278,7 @@ fn for_condition(
     level: usize,
     tokens: &[Token],
 ) -> Result<(Expr, &[Token]), ParseError>
-    ensures exact { Gives told (λ x. (source_expr_of x.0, spots_of x.1.now)) result (for_condition MOST_OPERATORS level (spots_of tokens.now)) }
+    ensures exact { Gives told (λ x. (source_expr_of x.0, spots_of x.1.now)) result (for_condition most_binary_operators level (spots_of tokens.now)) }
     ensures within { IfOk result (λ x. length x.1.now ≤ length tokens.now) }
 {
     if begins_with(tokens, Mark::Semi) {
@@ -294,7 +294,7 @@ fn for_step(
     level: usize,
     tokens: &[Token],
 ) -> Result<(Items<Line>, &[Token]), ParseError>
-    ensures exact { Gives told (λ x. (map source_line_of x.0, spots_of x.1.now)) result (for_step MOST_OPERATORS level (spots_of tokens.now)) }
+    ensures exact { Gives told (λ x. (map source_line_of x.0, spots_of x.1.now)) result (for_step most_binary_operators level (spots_of tokens.now)) }
     ensures within { IfOk result (λ x. length x.1.now ≤ length tokens.now) }
 {
     if begins_with(tokens, Mark::CloseRound) {
@@ -306,7 +306,7 @@ fn for_step(
 
 /// An expression in brackets.
 fn condition(alloc: Global, level: usize, tokens: &[Token]) -> Result<(Expr, &[Token]), ParseError>
-    ensures exact { Gives told (λ x. (source_expr_of x.0, spots_of x.1.now)) result (condition MOST_OPERATORS level (spots_of tokens.now)) }
+    ensures exact { Gives told (λ x. (source_expr_of x.0, spots_of x.1.now)) result (condition most_binary_operators level (spots_of tokens.now)) }
     ensures shorter { IfOk result (λ x. length x.1.now < length tokens.now) }
 {
     let inside = past(tokens, Mark::OpenRound)?;
@@ -321,7 +321,7 @@ fn simple_line(
     levels: usize,
     tokens: &[Token],
 ) -> Result<(Items<Line>, &[Token]), ParseError>
-    ensures exact { Gives told (λ x. (map source_line_of x.0, spots_of x.1.now)) result (simple_line MOST_OPERATORS levels (spots_of tokens.now)) }
+    ensures exact { Gives told (λ x. (map source_line_of x.0, spots_of x.1.now)) result (simple_line most_binary_operators levels (spots_of tokens.now)) }
     ensures shorter { IfOk result (λ x. length x.1.now < length tokens.now) }
 {
     let (line, after) = simple(alloc, levels, tokens)?;
@@ -348,7 +348,7 @@ fn returned(
     levels: usize,
     tokens: &[Token],
 ) -> Result<(Option<Expr>, &[Token]), ParseError>
-    ensures exact { Gives told (λ x. (option_map source_expr_of x.0, spots_of x.1.now)) result (returned MOST_OPERATORS levels (spots_of tokens.now)) }
+    ensures exact { Gives told (λ x. (option_map source_expr_of x.0, spots_of x.1.now)) result (returned most_binary_operators levels (spots_of tokens.now)) }
     ensures within { IfOk result (λ x. length x.1.now ≤ length tokens.now) }
 {
     if begins_with(tokens, Mark::Semi) {
@@ -365,7 +365,7 @@ fn return_line(
     at: u32,
     tokens: &[Token],
 ) -> Result<(Items<Line>, &[Token]), ParseError>
-    ensures exact { Gives told (λ x. (map source_line_of x.0, spots_of x.1.now)) result (return_by MOST_OPERATORS levels at (spots_of tokens.now)) }
+    ensures exact { Gives told (λ x. (map source_line_of x.0, spots_of x.1.now)) result (return_by most_binary_operators levels at (spots_of tokens.now)) }
     ensures shorter { IfOk result (λ x. length x.1.now < length tokens.now) }
 {
     let (value, after) = returned(alloc, levels, tokens)?;

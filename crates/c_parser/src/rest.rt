@@ -1,4 +1,4 @@
-ghost use Rattle.std.specs.Prelude.{◌≡◌, ◌<◌, ◌≤◌, IfOk, IfErr, length, drop};
+ghost use Rattle.std.specs.Prelude.{◌≡◌, ◌≢◌, ◌<◌, ◌≤◌, IfOk, IfErr, length, drop};
 ghost use Rattle.items.specs.Gives.{Gives};
 ghost use Rattle.c_parser.specs.Descent.{told, behind, deeper, rest_of, spend, tail};
 ghost use Rattle.c_parser.specs.Spots.{spots_of};
@@ -30,6 +30,7 @@ pub(crate) fn tail(tokens: &[Token]) -> &[Token]
 pub(crate) fn behind(rest: Rest, mark: Mark) -> Result<Rest, ParseError>
     ensures exact { Gives told (λ x. rest_of x.tokens.now x.operators) result (behind mark (rest_of rest.entry.tokens.now rest.entry.operators)) }
     ensures shorter { IfOk result (λ x. length x.tokens.now < length rest.entry.tokens.now) }
+    ensures memory { IfErr result (λ e. e ≢ ParseError.Memory) }
 {
     let tokens = past(rest.tokens, mark)?;
     Ok(Rest {
@@ -42,6 +43,7 @@ pub(crate) fn behind(rest: Rest, mark: Mark) -> Result<Rest, ParseError>
 pub(crate) fn deeper(levels: usize, at: u32) -> Result<usize, ParseError>
     ensures exact { Gives told (λ level. level) result (deeper levels at) }
     ensures less { IfOk result (λ level. level < levels) }
+    ensures memory { IfErr result (λ e. e ≢ ParseError.Memory) }
 {
     if levels == 0 {
         Err(ParseError::Deep(at))
@@ -54,6 +56,7 @@ pub(crate) fn deeper(levels: usize, at: u32) -> Result<usize, ParseError>
 pub(crate) fn spend(rest: Rest) -> Result<Rest, ParseError>
     ensures exact { Gives told (λ x. rest_of x.tokens.now x.operators) result (spend (rest_of rest.entry.tokens.now rest.entry.operators)) }
     ensures within { IfOk result (λ x. length x.tokens.now ≤ length rest.entry.tokens.now) }
+    ensures memory { IfErr result (λ e. e ≢ ParseError.Memory) }
 {
     if rest.operators == 0 {
         Err(ParseError::Deep(place_at(rest.tokens)))

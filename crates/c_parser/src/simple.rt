@@ -6,7 +6,7 @@ ghost use Rattle.syntax_tree.specs.SourceExpr.{source_expr_of};
 ghost use Rattle.syntax_tree.specs.SourceLine.{source_line_of};
 ghost use Rattle.c_parser.specs.Descent.{told};
 ghost use Rattle.c_parser.specs.Spots.{spots_of};
-ghost use Rattle.c_parser.specs.declared.limits.TheConstants.{MOST_OPERATORS};
+ghost use Rattle.c_parser.specs.Limits.{most_binary_operators};
 ghost use Rattle.c_parser.specs.Statements.{acted, assigned, behind_name, changed, counted, counted_before, initialised, local, simple, variable, variables};
 
 use crate::ParseError;
@@ -46,7 +46,7 @@ fn assigned<'a>(
     name: &Name,
     tokens: &'a [Token],
 ) -> Result<(Line, &'a [Token]), ParseError>
-    ensures exact { Gives told (λ x. (source_line_of x.0, spots_of x.1.now)) result (assigned MOST_OPERATORS levels at name.now (spots_of tokens.now)) }
+    ensures exact { Gives told (λ x. (source_line_of x.0, spots_of x.1.now)) result (assigned most_binary_operators levels at name.now (spots_of tokens.now)) }
     ensures shorter { IfOk result (λ x. length x.1.now < length tokens.now) }
 {
     let (value, after) = whole(alloc, levels, tail(tokens))?;
@@ -62,7 +62,7 @@ fn acted<'a>(
     name: &Name,
     tokens: &'a [Token],
 ) -> Result<(Line, &'a [Token]), ParseError>
-    ensures exact { Gives told (λ x. (source_line_of x.0, spots_of x.1.now)) result (acted MOST_OPERATORS levels at name.now (spots_of tokens.now)) }
+    ensures exact { Gives told (λ x. (source_line_of x.0, spots_of x.1.now)) result (acted most_binary_operators levels at name.now (spots_of tokens.now)) }
     ensures shorter { IfOk result (λ x. length x.1.now < length tokens.now) }
 {
     let (call, after) = whole_call(alloc, levels, at, name, tokens)?;
@@ -77,7 +77,7 @@ fn behind_name<'a>(
     name: &Name,
     tokens: &'a [Token],
 ) -> Result<(Line, &'a [Token]), ParseError>
-    ensures exact { Gives told (λ x. (source_line_of x.0, spots_of x.1.now)) result (behind_name MOST_OPERATORS levels at name.now (spots_of tokens.now)) }
+    ensures exact { Gives told (λ x. (source_line_of x.0, spots_of x.1.now)) result (behind_name most_binary_operators levels at name.now (spots_of tokens.now)) }
     ensures within { IfOk result (λ x. length x.1.now ≤ length tokens.now) }
 {
     if begins_with(tokens, Mark::Assign) {
@@ -112,7 +112,7 @@ pub(crate) fn simple(
     levels: usize,
     tokens: &[Token],
 ) -> Result<(Line, &[Token]), ParseError>
-    ensures exact { Gives told (λ x. (source_line_of x.0, spots_of x.1.now)) result (simple MOST_OPERATORS levels (spots_of tokens.now)) }
+    ensures exact { Gives told (λ x. (source_line_of x.0, spots_of x.1.now)) result (simple most_binary_operators levels (spots_of tokens.now)) }
     ensures shorter { IfOk result (λ x. length x.1.now < length tokens.now) }
 {
     match tokens {
@@ -138,7 +138,7 @@ fn initialised<'a>(
     name: &Name,
     tokens: &'a [Token],
 ) -> Result<(Line, &'a [Token]), ParseError>
-    ensures exact { Gives told (λ x. (source_line_of x.0, spots_of x.1.now)) result (initialised MOST_OPERATORS levels at name.now (spots_of tokens.now)) }
+    ensures exact { Gives told (λ x. (source_line_of x.0, spots_of x.1.now)) result (initialised most_binary_operators levels at name.now (spots_of tokens.now)) }
     ensures shorter { IfOk result (λ x. length x.1.now < length tokens.now) }
 {
     let (value, after) = whole(alloc, levels, tail(tokens))?;
@@ -149,7 +149,7 @@ fn initialised<'a>(
 
 /// A local, with its value or without.
 fn variable(alloc: Global, levels: usize, tokens: &[Token]) -> Result<(Line, &[Token]), ParseError>
-    ensures exact { Gives told (λ x. (source_line_of x.0, spots_of x.1.now)) result (variable MOST_OPERATORS levels (spots_of tokens.now)) }
+    ensures exact { Gives told (λ x. (source_line_of x.0, spots_of x.1.now)) result (variable most_binary_operators levels (spots_of tokens.now)) }
     ensures shorter { IfOk result (λ x. length x.1.now < length tokens.now) }
 {
     let word = word_at(tokens)?;
@@ -173,7 +173,7 @@ fn variables<'a>(
     first: Items<Line>,
     tokens: &'a [Token],
 ) -> Result<(Items<Line>, &'a [Token]), ParseError>
-    ensures exact { Gives told (λ x. (map source_line_of x.0, spots_of x.1.now)) result (variables MOST_OPERATORS levels (map source_line_of first, spots_of tokens.now)) }
+    ensures exact { Gives told (λ x. (map source_line_of x.0, spots_of x.1.now)) result (variables most_binary_operators levels (map source_line_of first, spots_of tokens.now)) }
     ensures within { IfOk result (λ x. length x.1.now ≤ length tokens.now) }
 {
     let mut lines = first;
@@ -192,7 +192,7 @@ pub(crate) fn local(
     levels: usize,
     tokens: &[Token],
 ) -> Result<(Items<Line>, &[Token]), ParseError>
-    ensures exact { Gives told (λ x. (map source_line_of x.0, spots_of x.1.now)) result (local MOST_OPERATORS levels (spots_of tokens.now)) }
+    ensures exact { Gives told (λ x. (map source_line_of x.0, spots_of x.1.now)) result (local most_binary_operators levels (spots_of tokens.now)) }
     ensures shorter { IfOk result (λ x. length x.1.now < length tokens.now) }
 {
     let (first, after) = variable(alloc, levels, tokens)?;

@@ -1,4 +1,4 @@
-ghost use Rattle.std.specs.Prelude.{◌≡◌, ◌<◌, IfOk, IfSome, length, true};
+ghost use Rattle.std.specs.Prelude.{◌≡◌, ◌≢◌, ◌<◌, IfErr, IfOk, IfSome, length, true};
 ghost use Rattle.items.specs.Gives.{Gives};
 ghost use Rattle.c_parser.specs.Descent.{told, is_mark, begins_with, mark_is_outside, keyword_is_inside, is_outside, refused, place_at, past, sign_of, op_of, op_at};
 ghost use Rattle.c_parser.specs.Spots.{spots_of};
@@ -115,9 +115,11 @@ pub(crate) fn place_at(tokens: &[Token]) -> u32
 }
 
 /// The tokens behind a mark that has to stand first.
+#[tactic(auto, using(crate::proofs::FirstTokens::refused_no_memory))]
 pub(crate) fn past(tokens: &[Token], mark: Mark) -> Result<&[Token], ParseError>
     ensures exact { Gives told (λ rest. spots_of rest.now) result (past mark (spots_of tokens.now)) }
     ensures shorter { IfOk result (λ rest. length rest.now < length tokens.now) }
+    ensures memory { IfErr result (λ e. e ≢ ParseError.Memory) }
 {
     match tokens {
         [token, rest @ ..] if is_mark(&token.kind, mark) => Ok(rest),
@@ -210,9 +212,11 @@ pub(crate) fn keyword_at(tokens: &[Token]) -> Option<Keyword>
 }
 
 /// The tokens behind a keyword that has to stand first.
+#[tactic(auto, using(crate::proofs::FirstTokens::refused_no_memory))]
 pub(crate) fn past_keyword(tokens: &[Token], keyword: Keyword) -> Result<&[Token], ParseError>
     ensures exact { Gives told (λ rest. spots_of rest.now) result (past_keyword keyword (spots_of tokens.now)) }
     ensures shorter { IfOk result (λ rest. length rest.now < length tokens.now) }
+    ensures memory { IfErr result (λ e. e ≢ ParseError.Memory) }
 {
     match tokens {
         [token, rest @ ..] if is_keyword(&token.kind, keyword) => Ok(rest),
@@ -229,9 +233,11 @@ pub(crate) struct Word<'a> {
 }
 
 /// The name that has to stand first.
+#[tactic(auto, using(crate::proofs::FirstTokens::refused_no_memory))]
 pub(crate) fn word_at(tokens: &[Token]) -> Result<Word, ParseError>
     ensures exact { Gives told (λ word. record { at = word.at; name = word.name.now; rest = spots_of word.rest.now }) result (word_at (spots_of tokens.now)) }
     ensures shorter { IfOk result (λ word. length word.rest.now < length tokens.now) }
+    ensures memory { IfErr result (λ e. e ≢ ParseError.Memory) }
 {
     match tokens {
         [] => Err(ParseError::Syntax(0)),

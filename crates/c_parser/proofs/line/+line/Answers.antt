@@ -6,7 +6,7 @@ use Rattle.syntax_tree.specs.SourceLine.{source_line_of}
 use Rattle.c_parser.specs.Descent.{told}
 use Rattle.c_parser.specs.Spots.{spots_of}
 use Rattle.c_parser.specs.Statements.{line_read}
-use Rattle.c_parser.specs.declared.limits.TheConstants.{MOST_OPERATORS}
+use Rattle.c_parser.specs.Limits.{most_binary_operators}
 use Rattle.c_parser.proofs.LineLoops.{entries-done, entries-fail, entries-more, line-block, line-empty, line-other}
 use Rattle.c_parser.proofs.line.+line.Goals as goal
 
@@ -14,14 +14,14 @@ pub entries-returns-in_err-more-clause-exact : goal.entries-returns-in_err-more-
 entries-returns-in_err-more-clause-exact t c =
     let p = err_from_is_err_and c.from_residual.result c.from_residual.ensures.1 in
     rw (p.1, p.2) (subst (FailsBy (told c.in_err-more.field-0.0)) c.entries.invariant.stated
-    (entries-fail MOST_OPERATORS (line_read MOST_OPERATORS c.args.level) c.args.level (map source_line_of c.entries.lines, spots_of c.entries.after.now) _
+    (entries-fail most_binary_operators (line_read most_binary_operators c.args.level) c.args.level (map source_line_of c.entries.lines, spots_of c.entries.after.now) _
     (sym c.begins_with.ensures.exact ∙ c.entries-test.true) c.in_err-more.ensures.exact))
 
 pub entries-entries-preserved : goal.entries-entries-preserved
 entries-entries-preserved t c = record {
   stated =
       rw (c.in_ok-append.ensures.ok, map-append)
-      (sym (entries-more MOST_OPERATORS (line_read MOST_OPERATORS c.args.level) c.args.level (map source_line_of c.entries.lines, spots_of c.entries.after.now) _
+      (sym (entries-more most_binary_operators (line_read most_binary_operators c.args.level) c.args.level (map source_line_of c.entries.lines, spots_of c.entries.after.now) _
       (sym c.begins_with.ensures.exact ∙ c.entries-test.true) c.in_ok-more.ensures.exact
       (simp length-map (omega (arith, c.in_ok-more.ensures.shorter))))
       ∙ c.entries.invariant.stated);
@@ -31,18 +31,18 @@ entries-entries-preserved t c = record {
 pub entries-returns-clause-exact : goal.entries-returns-clause-exact
 entries-returns-clause-exact t c =
     sym c.entries.invariant.stated
-    ∙ entries-done MOST_OPERATORS (line_read MOST_OPERATORS c.args.level) c.args.level (map source_line_of c.entries.lines, spots_of c.entries.after.now)
+    ∙ entries-done most_binary_operators (line_read most_binary_operators c.args.level) c.args.level (map source_line_of c.entries.lines, spots_of c.entries.after.now)
     (sym c.begins_with.ensures.exact ∙ c.entries-test.false)
 
 pub line-returns-then-begins_with-clause-exact : goal.line-returns-then-begins_with-clause-exact
 line-returns-then-begins_with-clause-exact t c =
-    rw (line-block MOST_OPERATORS c.args.levels (spots_of c.args.tokens.now) (sym c.begins_with.ensures.exact ∙ c.if-begins_with.true), ← c.place_at.ensures, ← c.tail.ensures.exact)
+    rw (line-block most_binary_operators c.args.levels (spots_of c.args.tokens.now) (sym c.begins_with.ensures.exact ∙ c.if-begins_with.true), ← c.place_at.ensures, ← c.tail.ensures.exact)
     c.block_line.ensures.exact
 
 pub line-returns-then-begins_with-2-clause-exact : goal.line-returns-then-begins_with-2-clause-exact
 line-returns-then-begins_with-2-clause-exact t c =
     rw (
-      line-empty MOST_OPERATORS c.args.levels (spots_of c.args.tokens.now) (sym c.begins_with.ensures.exact ∙ c.if-begins_with.false)
+      line-empty most_binary_operators c.args.levels (spots_of c.args.tokens.now) (sym c.begins_with.ensures.exact ∙ c.if-begins_with.false)
           (sym c.begins_with-2.ensures.exact ∙ c.if-begins_with-2.true),
       ← c.tail-then-begins_with-2.ensures.exact,
       c.new.ensures,
@@ -51,12 +51,12 @@ line-returns-then-begins_with-2-clause-exact t c =
 
 pub line-returns-in-Some-clause-exact : goal.line-returns-in-Some-clause-exact
 line-returns-in-Some-clause-exact t c =
-    rw (line-other MOST_OPERATORS c.args.levels (spots_of c.args.tokens.now) _ (sym c.begins_with.ensures.exact ∙ c.if-begins_with.false)
+    rw (line-other most_binary_operators c.args.levels (spots_of c.args.tokens.now) _ (sym c.begins_with.ensures.exact ∙ c.if-begins_with.false)
     (sym c.begins_with-2.ensures.exact ∙ c.if-begins_with-2.false) (sym c.keyword_at.ensures.exact ∙ c.in-Some.is))
     c.keyword_line.ensures.exact
 
 pub line-returns-in-None-clause-exact : goal.line-returns-in-None-clause-exact
 line-returns-in-None-clause-exact t c =
-    rw (line-other MOST_OPERATORS c.args.levels (spots_of c.args.tokens.now) _ (sym c.begins_with.ensures.exact ∙ c.if-begins_with.false)
+    rw (line-other most_binary_operators c.args.levels (spots_of c.args.tokens.now) _ (sym c.begins_with.ensures.exact ∙ c.if-begins_with.false)
     (sym c.begins_with-2.ensures.exact ∙ c.if-begins_with-2.false) (sym c.keyword_at.ensures.exact ∙ c.in-None.is))
     c.simple_line.ensures.exact

@@ -2,7 +2,7 @@ use Rattle.std.proofs.Common.{◌≡◌, ◌≤◌, ◌+◌, ◌*◌, [], length
 use Rattle.syntax_tree.specs.SourceLine.{source_line_of}
 use Rattle.c_parser.specs.Spots.{spots_of}
 use Rattle.c_parser.specs.Statements.{entries, line_read}
-use Rattle.c_parser.specs.declared.limits.TheConstants.{MOST_OPERATORS}
+use Rattle.c_parser.specs.Limits.{most_binary_operators}
 use Rattle.c_parser.proofs.line.+line.Given as goal
 
 abbrev pub decreases-line : goal.decreases-line
@@ -41,8 +41,8 @@ decreases-block l = 20 * l.level + 13
 -- what is still to be read comes to what the function is to give
 abbrev pub invariant-entries-entries : goal.invariant-entries-entries
 invariant-entries-entries l = record {
-  stated : entries MOST_OPERATORS (line_read MOST_OPERATORS l.level) l.level (map source_line_of l.lines, spots_of l.after)
-      ≡ entries MOST_OPERATORS (line_read MOST_OPERATORS l.level) l.level ([], spots_of l.fn.tokens);
+  stated : entries most_binary_operators (line_read most_binary_operators l.level) l.level (map source_line_of l.lines, spots_of l.after)
+      ≡ entries most_binary_operators (line_read most_binary_operators l.level) l.level ([], spots_of l.fn.tokens);
   within : length l.after ≤ length l.fn.tokens;
 }
 
