@@ -13,9 +13,10 @@ some_least : (fault : TypeError) (rest : List TypeError) → (least : TypeError)
 some_least fault [] = (fault, refl)
 some_least fault (next ∷ rest) = some_least (lesser (Some fault) next) rest
 
-told : (faults : List TypeError) (program answer : Program) → unless_fault (least_of None faults) program ≡ Ok answer → (faults ≡ []) × (answer ≡ program)
-told [] program answer h = (refl, cc)
-told (fault ∷ rest) program answer h =
+-- an answer says that there was no fault
+faultless : (faults : List TypeError) (program answer : Program) → unless_fault (least_of None faults) program ≡ Ok answer → (faults ≡ []) × (answer ≡ program)
+faultless [] program answer h = (refl, cc)
+faultless (fault ∷ rest) program answer h =
     let least = some_least fault rest in
     let wrong : Err least.0 ≡ Ok answer = ap (λ (l : Option TypeError). unless_fault l program) (sym least.1) ∙ h in
     cc
@@ -23,7 +24,7 @@ told (fault ∷ rest) program answer h =
 pub answered : (items : List Item) (length_of_text : ℕ) (program : Program) → elaboration_of items length_of_text ≡ Ok program → Elaborates items length_of_text program
 unfolding elaboration_of
 answered items length_of_text program h =
-    let both = told (faults_of items length_of_text) (elaborated items) program h in
+    let both = faultless (faults_of items length_of_text) (elaborated items) program h in
     record { faultless = both.0; same = both.1 }
 
 pub answers : (items : List Item) (length_of_text : ℕ) (program : Program) → Elaborates items length_of_text program → elaboration_of items length_of_text ≡ Ok program

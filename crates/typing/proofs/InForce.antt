@@ -8,9 +8,9 @@ use Rattle.std.proofs.lemmas.Slice.Eq.{bytes_eq-Decides}
 use Rattle.typing.specs.declared.meaning.Meaning.{Meaning}
 use Rattle.typing.specs.declared.scopes.Held.{Held}
 use Rattle.typing.specs.declared.scopes.Declaration.{Declaration}
-use Rattle.typing.specs.Scopes.{Scope, found, is_declared_here, meaning_of, or_outer}
+use Rattle.typing.specs.Scopes.{Scope, meaning_in, is_declared_here, meaning_of, or_outer}
 use Rattle.typing.specs.InForce.{after_declaration, AllAfter, entry_of, flat, held_by, in_force, is_at, IsInForce, IsInnermost, or_held, Restores, RestoresAll, shown}
-use Rattle.typing.proofs.Lookups.{found-append}
+use Rattle.typing.proofs.Lookups.{meaning_in-append}
 
 -- ---- lists whose elements have to do with those before them
 
@@ -53,21 +53,21 @@ shown-push stack scope =
 -- ---- what is in force
 
 found-other : (scope : Scope) (name other : List ℕ) (meaning : Meaning) → bytes_eq name other ≡ false
-    → found (scope ++ (name, meaning) ∷ []) other ≡ found scope other
+    → meaning_in (scope ++ (name, meaning) ∷ []) other ≡ meaning_in scope other
 found-other scope name other meaning q =
-    found-append scope ((name, meaning) ∷ []) other
-    ∙ ap (λ (b : Bool). or_outer (found scope other) (if b then Some meaning else None)) q
-    ∙ or-none (found scope other)
+    meaning_in-append scope ((name, meaning) ∷ []) other
+    ∙ ap (λ (b : Bool). or_outer (meaning_in scope other) (if b then Some meaning else None)) q
+    ∙ or-none (meaning_in scope other)
   where
     or-none : (m : Option Meaning) → or_outer m None ≡ m
     or-none None = refl
     or-none (Some m) = refl
 
 found-same : (scope : Scope) (name : List ℕ) (meaning : Meaning)
-    → found (scope ++ (name, meaning) ∷ []) name ≡ or_outer (found scope name) (Some meaning)
+    → meaning_in (scope ++ (name, meaning) ∷ []) name ≡ or_outer (meaning_in scope name) (Some meaning)
 found-same scope name meaning =
-    found-append scope ((name, meaning) ∷ []) name
-    ∙ ap (λ (b : Bool). or_outer (found scope name) (if b then Some meaning else None)) ((bytes_eq-Decides name name).1 refl)
+    meaning_in-append scope ((name, meaning) ∷ []) name
+    ∙ ap (λ (b : Bool). or_outer (meaning_in scope name) (if b then Some meaning else None)) ((bytes_eq-Decides name name).1 refl)
 
 -- a declaration is in force for other names what was before
 pub other-stays : (scope : Scope) (outer : List Scope) (name other : List ℕ) (meaning : Meaning) → bytes_eq name other ≡ false
@@ -76,22 +76,22 @@ other-stays scope outer name other meaning q =
     ap (λ m. or_held (length outer) m (in_force outer other)) (found-other scope name other meaning q)
 
 -- what the innermost scope declares is in force
-pub declared-held : (scope : Scope) (outer : List Scope) (name : List ℕ) (meaning : Meaning)
+pub with_variable-held : (scope : Scope) (outer : List Scope) (name : List ℕ) (meaning : Meaning)
     → in_force ((scope ++ (name, meaning) ∷ []) ∷ outer) name ≡ None → ⊥
-declared-held scope outer name meaning none =
-    by (found scope name) (sym (ap (λ m. or_held (length outer) m (in_force outer name)) (found-same scope name meaning)) ∙ none)
+with_variable-held scope outer name meaning none =
+    by (meaning_in scope name) (sym (ap (λ m. or_held (length outer) m (in_force outer name)) (found-same scope name meaning)) ∙ none)
   where
     by : (m : Option Meaning) → or_held (length outer) (or_outer m (Some meaning)) (in_force outer name) ≡ None → ⊥
     by None q = absurd (cc)
     by (Some first) q = absurd (cc)
 
 -- A scope's last declaration is taken back: the map holds what it hid.
-pub taken-back : (old new : List (List ℕ × Option Held)) (rest : List Declaration) (last : Declaration) (outer : List Scope)
+pub with_columns_taken-back : (old new : List (List ℕ × Option Held)) (rest : List Declaration) (last : Declaration) (outer : List Scope)
     → last.hidden ≡ in_force (map entry_of rest ∷ outer) last.name
     → IsInForce old (map entry_of (rest ++ last ∷ []) ∷ outer)
     → ((other : List ℕ) → held_by new other ≡ (if bytes_eq last.name other then last.hidden else held_by old other))
     → IsInForce new (map entry_of rest ∷ outer)
-taken-back old new rest last outer hidden holds put other = put other ∙ by (bytes_eq last.name other) refl
+with_columns_taken-back old new rest last outer hidden holds put other = put other ∙ by (bytes_eq last.name other) refl
   where
     by : (b : Bool) → bytes_eq last.name other ≡ b → (if b then last.hidden else held_by old other) ≡ in_force (map entry_of rest ∷ outer) other
     by true q = hidden ∙ ap (in_force (map entry_of rest ∷ outer)) ((bytes_eq-Decides last.name other).0 q)
@@ -104,7 +104,7 @@ taken-back old new rest last outer hidden holds put other = put other ∙ by (by
 
 held-depth : (scopes : List Scope) (name : List ℕ) (held : Held) → in_force scopes name ≡ Some held → held.depth < length scopes
 held-depth [] name held q = absurd (cc)
-held-depth (scope ∷ outer) name held q = by (held-depth outer name held) (found scope name) q
+held-depth (scope ∷ outer) name held q = by (held-depth outer name held) (meaning_in scope name) q
   where
     by : (in_force outer name ≡ Some held → held.depth < length outer) → (m : Option Meaning) → or_held (length outer) m (in_force outer name) ≡ Some held → held.depth < length (scope ∷ outer)
     by below None p = let inner = below p in omega arith
@@ -114,8 +114,8 @@ at_self : (n : ℕ) → (n == n) ≡ true
 at_self n = grind arith
 
 -- a name is declared in the innermost scope exactly where what is in force stands there
-pub here : (scope : Scope) (outer : List Scope) (name : List ℕ) → is_at (in_force (scope ∷ outer) name) (length outer) ≡ is_some (found scope name)
-here scope outer name = by (found scope name)
+pub here : (scope : Scope) (outer : List Scope) (name : List ℕ) → is_at (in_force (scope ∷ outer) name) (length outer) ≡ is_some (meaning_in scope name)
+here scope outer name = by (meaning_in scope name)
   where
     below : (h : Option Held) → in_force outer name ≡ h → is_at h (length outer) ≡ false
     below None q = refl
@@ -125,9 +125,9 @@ here scope outer name = by (found scope name)
     by None = below (in_force outer name) refl
     by (Some meaning) = at_self (length outer)
 
-pub meant : (scopes : List Scope) (name : List ℕ) → option_map (λ held. held.meaning) (in_force scopes name) ≡ meaning_of scopes name
-meant [] name = refl
-meant (scope ∷ outer) name = by (meant outer name) (found scope name)
+pub meaning-in_force : (scopes : List Scope) (name : List ℕ) → option_map (λ held. held.meaning) (in_force scopes name) ≡ meaning_of scopes name
+meaning-in_force [] name = refl
+meaning-in_force (scope ∷ outer) name = by (meaning-in_force outer name) (meaning_in scope name)
   where
     by : option_map (λ held. held.meaning) (in_force outer name) ≡ meaning_of outer name → (m : Option Meaning) → option_map (λ held. held.meaning) (or_held (length outer) m (in_force outer name)) ≡ or_outer m (meaning_of outer name)
     by same None = same
@@ -143,7 +143,7 @@ declaration-held scope outer name meaning other = by (bytes_eq name other) refl
     held : Held
     held = record { depth = length outer; meaning = meaning }
 
-    first : (m : Option Meaning) → found scope name ≡ m
+    first : (m : Option Meaning) → meaning_in scope name ≡ m
         → after_declaration name held (in_force (scope ∷ outer) name) (in_force (scope ∷ outer) name) name
         ≡ in_force ((scope ++ (name, meaning) ∷ []) ∷ outer) name
     first None q =
@@ -165,7 +165,7 @@ declaration-held scope outer name meaning other = by (bytes_eq name other) refl
         → after_declaration name held (in_force (scope ∷ outer) name) (in_force (scope ∷ outer) other) other
         ≡ in_force ((scope ++ (name, meaning) ∷ []) ∷ outer) other
     by true q = subst (λ o. after_declaration name held (in_force (scope ∷ outer) name) (in_force (scope ∷ outer) o) o ≡ in_force ((scope ++ (name, meaning) ∷ []) ∷ outer) o)
-        ((bytes_eq-Decides name other).0 q) (first (found scope name) refl)
+        ((bytes_eq-Decides name other).0 q) (first (meaning_in scope name) refl)
     by false q =
         ap (λ (b : Bool). if is_at (in_force (scope ∷ outer) name) (length outer) then in_force (scope ∷ outer) other else (if b then Some held else in_force (scope ∷ outer) other)) q
         ∙ either (is_at (in_force (scope ∷ outer) name) (length outer)) (in_force (scope ∷ outer) other)
@@ -180,16 +180,16 @@ pub record Opened (entries : List (List ℕ × Option Held)) (rest : List (List 
   pub restores : Restores scope (shown rest)
   pub others : RestoresAll rest
 
-pub opened : (entries : List (List ℕ × Option Held)) (stack rest : List (List Declaration)) (scope : List Declaration)
+pub with_scope : (entries : List (List ℕ × Option Held)) (stack rest : List (List Declaration)) (scope : List Declaration)
     → IsInnermost stack rest scope → IsInForce entries (shown stack) → RestoresAll stack → Opened entries rest scope
-opened entries stack rest scope (inl q) holds all =
+with_scope entries stack rest scope (inl q) holds all =
     let every : RestoresAll (rest ++ scope ∷ []) = subst RestoresAll q all in
     record {
       holds = λ name. holds name ∙ ap (λ scopes. in_force scopes name) (ap shown q ∙ shown-push rest scope);
       restores = after-last (λ outer one. Restores one (shown outer)) rest scope every;
       others = after-pop (λ outer one. Restores one (shown outer)) rest scope every;
     }
-opened entries stack rest scope (inr none) holds all =
+with_scope entries stack rest scope (inr none) holds all =
     record {
       holds = λ name.
           holds name ∙ ap (λ scopes. in_force (shown scopes) name) none.0
@@ -199,14 +199,14 @@ opened entries stack rest scope (inr none) holds all =
     }
 
 -- the innermost scope is put back with one more declaration
-pub declared-again : (old new : List (List ℕ × Option Held)) (rest : List (List Declaration)) (scope : List Declaration)
+pub with_variable-again : (old new : List (List ℕ × Option Held)) (rest : List (List Declaration)) (scope : List Declaration)
     (name : List ℕ) (meaning : Meaning) (hidden : Option Held)
     → Opened old rest scope
     → hidden ≡ held_by old name
     → ((other : List ℕ) → held_by new other ≡ after_declaration name record { depth = length rest; meaning = meaning } hidden (held_by old other) other)
     → IsInForce new (shown (rest ++ (scope ++ record { name = name; meaning = meaning; hidden = hidden } ∷ []) ∷ []))
     × RestoresAll (rest ++ (scope ++ record { name = name; meaning = meaning; hidden = hidden } ∷ []) ∷ [])
-declared-again old new rest scope name meaning hidden known before put = (in_force_again, all_again)
+with_variable-again old new rest scope name meaning hidden known before put = (in_force_again, all_again)
   where
     declaration : Declaration
     declaration = record { name = name; meaning = meaning; hidden = hidden }
@@ -232,10 +232,10 @@ declared-again old new rest scope name meaning hidden known before put = (in_for
         (after-push (λ older one. one.hidden ≡ in_force (map entry_of older ∷ shown rest) one.name) scope declaration known.restores hides)
 
 -- a scope without declarations is opened
-pub opened-again : (entries : List (List ℕ × Option Held)) (stack : List (List Declaration))
+pub with_scope-again : (entries : List (List ℕ × Option Held)) (stack : List (List Declaration))
     → IsInForce entries (shown stack) → RestoresAll stack
     → IsInForce entries (shown (stack ++ [] ∷ [])) × RestoresAll (stack ++ [] ∷ [])
-opened-again entries stack holds all = (
+with_scope-again entries stack holds all = (
   (λ name. holds name ∙ ap (λ scopes. in_force scopes name) (sym (shown-push stack []))),
   after-push (λ outer one. Restores one (shown outer)) stack [] all
       (after-none (λ older one. one.hidden ≡ in_force (map entry_of older ∷ shown stack) one.name)),
@@ -249,11 +249,11 @@ here-at (scope ∷ outer) name depth q =
     let one : length outer ≡ depth = omega arith in
     ap (is_at (in_force (scope ∷ outer) name)) (sym one) ∙ here scope outer name
 
-pub meant-some : (scopes : List Scope) (name : List ℕ) (held : Held) → in_force scopes name ≡ Some held → meaning_of scopes name ≡ Some held.meaning
-meant-some scopes name held q = sym (meant scopes name) ∙ ap (option_map (λ (h : Held). h.meaning)) q
+pub meaning-in_force-some : (scopes : List Scope) (name : List ℕ) (held : Held) → in_force scopes name ≡ Some held → meaning_of scopes name ≡ Some held.meaning
+meaning-in_force-some scopes name held q = sym (meaning-in_force scopes name) ∙ ap (option_map (λ (h : Held). h.meaning)) q
 
-pub meant-none : (scopes : List Scope) (name : List ℕ) → in_force scopes name ≡ None → meaning_of scopes name ≡ None
-meant-none scopes name q = sym (meant scopes name) ∙ ap (option_map (λ (h : Held). h.meaning)) q
+pub meaning-in_force-none : (scopes : List Scope) (name : List ℕ) → in_force scopes name ≡ None → meaning_of scopes name ≡ None
+meaning-in_force-none scopes name q = sym (meaning-in_force scopes name) ∙ ap (option_map (λ (h : Held). h.meaning)) q
 
 -- ---- taking a scope back
 
@@ -269,12 +269,12 @@ takes-back outer old new scope rest last q put keeps =
     let P : List Declaration → Declaration → Type 0 = λ older one. one.hidden ≡ in_force (map entry_of older ∷ outer) one.name in
     let every : Restores (rest ++ last ∷ []) outer = subst (λ one. Restores one outer) q keeps.0 in (
       after-pop P rest last every,
-      taken-back old new rest last outer (after-last P rest last every) (subst (λ one. IsInForce old (map entry_of one ∷ outer)) q keeps.1) put,
+      with_columns_taken-back old new rest last outer (after-last P rest last every) (subst (λ one. IsInForce old (map entry_of one ∷ outer)) q keeps.1) put,
     )
 
 -- the last declaration of a scope is in force, so a map that holds what is has its name
 pub has-name : (entries : List (List ℕ × Option Held)) (rest : List Declaration) (last : Declaration) (outer : List Scope)
     → IsInForce entries (map entry_of (rest ++ last ∷ []) ∷ outer) → lookup (bytes_eq last.name) entries ≡ None → ⊥
 has-name entries rest last outer holds none =
-    declared-held (map entry_of rest) outer last.name last.meaning
+    with_variable-held (map entry_of rest) outer last.name last.meaning
     (ap (λ scope. in_force (scope ∷ outer) last.name) (sym (map-append entry_of rest (last ∷ []))) ∙ sym (holds last.name) ∙ ap flat none)

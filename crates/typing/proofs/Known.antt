@@ -12,8 +12,8 @@ use Rattle.typing.specs.declared.meaning.Meaning.TheVariants.{Variable, Procedur
 use Rattle.typing.specs.declared.meaning.Signature.{Signature}
 use Rattle.typing.specs.declared.special.Special.{Special}
 use Rattle.typing.specs.CallFaults.{variable_faults}
-use Rattle.typing.specs.Env.{closed, declared, numbered, opened, placed, taken}
-use Rattle.typing.specs.Scopes.{Entry, Scope, callee_of, column_of, declared_in, found, if_procedure, if_special, if_variable, meaning_of, or_outer, outer_of, variable_of}
+use Rattle.typing.specs.Env.{without_scope, with_variable, with_assertions, with_scope, with_place, with_columns_taken}
+use Rattle.typing.specs.Scopes.{Entry, Scope, callee_of, column_of, declared_in, meaning_in, if_procedure, if_special, if_variable, meaning_of, or_outer, outer_of, variable_of}
 use Rattle.typing.specs.Specials.{is_special, special_of}
 use Rattle.typing.proofs.Splits.{not_when}
 
@@ -44,9 +44,9 @@ if_fits : (procs : List Proc) (width : ℕ) (b : Bool) (x y : Option Meaning) �
 if_fits procs width true x y h k = h
 if_fits procs width false x y h k = k
 
-found_fits : (procs : List Proc) (width : ℕ) (scope : Scope) (name : List ℕ) → ScopeFits procs width scope → IfFits procs width (found scope name)
+found_fits : (procs : List Proc) (width : ℕ) (scope : Scope) (name : List ℕ) → ScopeFits procs width scope → IfFits procs width (meaning_in scope name)
 found_fits procs width [] name h = tt
-found_fits procs width (entry ∷ rest) name h = if_fits procs width (bytes_eq entry.0 name) (Some entry.1) (found rest name) h.0 (found_fits procs width rest name h.1)
+found_fits procs width (entry ∷ rest) name h = if_fits procs width (bytes_eq entry.0 name) (Some entry.1) (meaning_in rest name) h.0 (found_fits procs width rest name h.1)
 
 or_fits : (procs : List Proc) (width : ℕ) (x y : Option Meaning) → IfFits procs width x → IfFits procs width y → IfFits procs width (or_outer x y)
 or_fits procs width None y h k = k
@@ -55,7 +55,7 @@ or_fits procs width (Some m) y h k = h
 pub meaning_fits : (procs : List Proc) (width : ℕ) (scopes : List Scope) (name : List ℕ) → ScopesFit procs width scopes → IfFits procs width (meaning_of scopes name)
 meaning_fits procs width [] name h = tt
 meaning_fits procs width (scope ∷ outer) name h =
-    or_fits procs width (found scope name) (meaning_of outer name) (found_fits procs width scope name h.0) (meaning_fits procs width outer name h.1)
+    or_fits procs width (meaning_in scope name) (meaning_of outer name) (found_fits procs width scope name h.0) (meaning_fits procs width outer name h.1)
 
 abbrev IsYes : Bool → Type 0
 IsYes true = Unit {0}
@@ -115,26 +115,26 @@ pub record EnvFits (procs : List Proc) (width : ℕ) (env : Env) : Type 0 where
   pub scopes : ScopesFit procs width env.scopes
   pub ret : env.ret + 1 ≡ width
 
-pub taken_env : {procs : List Proc} {width : ℕ} (n : ℕ) (env : Env) → EnvFits procs width env → EnvFits procs width (taken n env)
-unfolding taken
+pub taken_env : {procs : List Proc} {width : ℕ} (n : ℕ) (env : Env) → EnvFits procs width env → EnvFits procs width (with_columns_taken n env)
+unfolding with_columns_taken
 taken_env n env h = record { scopes = h.scopes; ret = h.ret }
 
-pub numbered_env : {procs : List Proc} {width : ℕ} (n : ℕ) (env : Env) → EnvFits procs width env → EnvFits procs width (numbered n env)
-unfolding numbered
+pub numbered_env : {procs : List Proc} {width : ℕ} (n : ℕ) (env : Env) → EnvFits procs width env → EnvFits procs width (with_assertions n env)
+unfolding with_assertions
 numbered_env n env h = record { scopes = h.scopes; ret = h.ret }
 
-pub declared_env : {procs : List Proc} {width : ℕ} (name : List ℕ) (env : Env) → env.next < width → EnvFits procs width env → EnvFits procs width (declared name env)
-unfolding declared
+pub declared_env : {procs : List Proc} {width : ℕ} (name : List ℕ) (env : Env) → env.next < width → EnvFits procs width env → EnvFits procs width (with_variable name env)
+unfolding with_variable
 declared_env {procs = procs} {width = width} name env l h = record { scopes = declared_fits procs width env.scopes name (Variable env.next) h.scopes l; ret = h.ret }
 
-pub opened_env : {procs : List Proc} {width : ℕ} (env : Env) → EnvFits procs width env → EnvFits procs width (opened env)
-unfolding opened
+pub opened_env : {procs : List Proc} {width : ℕ} (env : Env) → EnvFits procs width env → EnvFits procs width (with_scope env)
+unfolding with_scope
 opened_env env h = record { scopes = (tt, h.scopes); ret = h.ret }
 
-pub closed_env : {procs : List Proc} {width : ℕ} (env : Env) → EnvFits procs width env → EnvFits procs width (closed env)
-unfolding closed
+pub closed_env : {procs : List Proc} {width : ℕ} (env : Env) → EnvFits procs width env → EnvFits procs width (without_scope env)
+unfolding without_scope
 closed_env {procs = procs} {width = width} env h = record { scopes = outer_fits procs width env.scopes h.scopes; ret = h.ret }
 
-pub placed_env : {procs : List Proc} {width : ℕ} (place : Place) (env : Env) → EnvFits procs width env → EnvFits procs width (placed place env)
-unfolding placed
+pub placed_env : {procs : List Proc} {width : ℕ} (place : Place) (env : Env) → EnvFits procs width env → EnvFits procs width (with_place place env)
+unfolding with_place
 placed_env place env h = record { scopes = h.scopes; ret = h.ret }

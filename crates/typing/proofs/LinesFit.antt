@@ -5,7 +5,7 @@ use Rattle.std.specs.Prelude.{◌==◌, ◌||◌, not}
 use Rattle.std.proofs.lemmas.Grind.{common_steps}
 use Rattle.syntax_tree.specs.declared.core_expr.Core.{Core}
 use Rattle.syntax_tree.specs.declared.core_expr.Core.TheVariants as core
-use Rattle.syntax_tree.specs.declared.limits.TheConstants.{MOST_CASES, MOST_OPERATORS}
+use Rattle.syntax_tree.specs.Limits.{most_cases, most_operators}
 use Rattle.syntax_tree.specs.declared.program.Proc.{Proc}
 use Rattle.syntax_tree.specs.declared.program.Program.{Program}
 use Rattle.syntax_tree.specs.declared.stmt.Stmt.TheVariants as stmt
@@ -14,6 +14,7 @@ use Rattle.syntax_tree.specs.SourceExpr.{SourceExpr, Lit, Var, Call, Unary, Bina
 use Rattle.syntax_tree.specs.SourceExpr as expr
 use Rattle.syntax_tree.specs.SourceLine.{SourceLine, Block, Local, Assign, Act, If, Loop, Break, Continue, Return, SourceLines, End, Then}
 use Rattle.syntax_tree.specs.Term.{Term, term_of}
+use Rattle.syntax_tree.specs.SourceOperators.{all_source_operators, has_fewer, if_fewer, line_has_fewer, lines_have_fewer, source_operators}
 use Rattle.syntax_tree.specs.WellFormed as fit
 use Rattle.syntax_tree.specs.WellFormed.{args_fit, code_fits, columns_below, cond_fits, statement_fits}
 use Rattle.syntax_tree.proofs.Codes.{statement_of-Any, statement_of-Call, statement_of-Guard, statement_of-Check, statement_of-If, statement_of-Loop, statement_of-Break, statement_of-Continue, statement_of-Return}
@@ -26,11 +27,10 @@ use Rattle.typing.specs.declared.meaning.Meaning.TheVariants.{Variable, Procedur
 use Rattle.typing.specs.declared.special.Special.{Special}
 use Rattle.typing.specs.declared.special.Special.TheVariants.{Assert, Assume, Nondet, Error, Abort, Exit}
 use Rattle.typing.specs.CallFaults.{act_faults, all_expression_faults, argument_faults, condition_faults, first_truth_faults, has_many_ways, statement_call_faults}
-use Rattle.typing.specs.Calls.{act_checks, act_in, all_calls_in, calls_in, condition_of, if_assertion, listed_if, put_temporaries, statement_made}
-use Rattle.typing.specs.Env.{body_place, closed, declared, numbered, opened, placed, taken}
+use Rattle.typing.specs.Calls.{act_checks, act_in, all_calls_in, calls_in, condition_of, if_assertion, listed_if, put_temporaries, act_statements}
+use Rattle.typing.specs.Env.{body_place, without_scope, with_variable, with_assertions, with_scope, with_place, with_columns_taken}
 use Rattle.typing.specs.LineFaults.{all_faults_in, faults_in, init_faults, may_leave, return_faults}
-use Rattle.typing.specs.Lines.{after, after_all, all_checks_of, all_columns_of, all_statements_of, at_body, at_first_body, at_last_step, at_last_test, at_step, at_test, checks_of, columns_of, in_branch, in_second_branch, local_put, nameless, statements_of, value_columns, value_put, with_value}
-use Rattle.typing.specs.Operators.{all_source_operators, has_few_operators, if_few_operators, line_has_few, lines_have_few, source_operators}
+use Rattle.typing.specs.Lines.{after, after_all, all_checks_of, all_columns_of, all_statements_of, at_body, at_first_body, at_last_step, at_last_test, at_step, at_test, checks_of, columns_of, in_branch, in_second_branch, local_statements, nameless, statements_of, value_columns, value_statements, with_value}
 use Rattle.typing.specs.Scopes.{callee_of, column_of, if_procedure, if_special, meaning_of}
 use Rattle.typing.specs.Specials.{special_of}
 use Rattle.typing.specs.Terms.{all_temporaries, count_of, temporaries, term_in, terms_in}
@@ -61,12 +61,12 @@ or_true : (a : Bool) → (a || true) ≡ true
 or_true true = refl
 or_true false = refl
 
-few_ways : (width : ℕ) (t : Term) → columns_below width t ≡ true → fit.operators_of t ≤ MOST_OPERATORS → has_many_ways t ≡ false → cond_fits width t ≡ true
+few_ways : (width : ℕ) (t : Term) → columns_below width t ≡ true → fit.operators_of t ≤ most_operators → has_many_ways t ≡ false → cond_fits width t ≡ true
 few_ways width t c o w =
-    both _ _ (both _ _ (both _ _ c (is_at_most _ MOST_OPERATORS o)) (is_at_most _ MOST_CASES (no_more _ _ (or_left _ _ w)))) (is_at_most _ MOST_CASES (no_more _ _ (or_right _ _ w)))
+    both _ _ (both _ _ (both _ _ c (is_at_most _ most_operators o)) (is_at_most _ most_cases (no_more _ _ (or_left _ _ w)))) (is_at_most _ most_cases (no_more _ _ (or_right _ _ w)))
 
 pub condition_fits : (cond : SourceExpr) (procs : List Proc) (width : ℕ) (env : Env) → condition_faults env cond ≡ [] → EnvFits procs width env
-    → env.next + temporaries cond ≤ env.ret → source_operators cond ≤ MOST_OPERATORS → cond_fits width (term_of (term_in env cond)) ≡ true
+    → env.next + temporaries cond ≤ env.ret → source_operators cond ≤ most_operators → cond_fits width (term_of (term_in env cond)) ≡ true
 condition_fits cond procs width env f h r o =
     few_ways width (term_of (term_in env cond)) (term_below cond procs width env false (first_nil _ _ f) h r) (let x = term_operators cond env in omega (arith, x, o)) (not_when _ _ (second_nil _ _ f))
 
@@ -74,7 +74,7 @@ zero_fits : (width : ℕ) → cond_fits width (term_of (core.Lit (pos 0))) ≡ t
 zero_fits width = ap (cond_fits width) (term_of-Lit (pos 0))
 
 first_fits : (es : SourceExprs) (procs : List Proc) (width : ℕ) (env : Env) → all_expression_faults env false es ≡ [] → first_truth_faults (terms_in env es) es ≡ []
-    → EnvFits procs width env → env.next + all_temporaries es ≤ env.ret → all_source_operators es ≤ MOST_OPERATORS
+    → EnvFits procs width env → env.next + all_temporaries es ≤ env.ret → all_source_operators es ≤ most_operators
     → cond_fits width (term_of (condition_of (terms_in env es))) ≡ true
 first_fits expr.End procs width env f t h r o = zero_fits width
 first_fits (expr.Then e rest) procs width env f t h r o =
@@ -84,7 +84,7 @@ first_fits (expr.Then e rest) procs width env f t h r o =
 
 own_fits : (m : Option Meaning) (program : Program) (width : ℕ) (place : _) (number at : ℕ) (name : List ℕ) (args : List Core) (count : ℕ)
     → statement_call_faults (if_procedure m) at name count ≡ [] → IfFits program.procs width m → length (map term_of args) ≡ count
-    → args_fit width (map term_of args) ≡ true → code_fits program width place (code_of (statement_made number (if_procedure m) args)) ≡ true
+    → args_fit width (map term_of args) ≡ true → code_fits program width place (code_of (act_statements number (if_procedure m) args)) ≡ true
 own_fits None program width place number at name args count f k n a = absurd (cons_is_not_nil _ _ f)
 own_fits (Some (Variable col)) program width place number at name args count f k n a = absurd (cons_is_not_nil _ _ f)
 own_fits (Some (Procedure signature)) program width place number at name args count f k n a =
@@ -105,9 +105,9 @@ guard_fits program width place cond c = both _ _ (ap (statement_fits program wid
 made_fits : (o : Option Special) (m : Option Meaning) (es : SourceExprs) (program : Program) (width : ℕ) (place : _) (env : Env) (at : ℕ) (name : List ℕ)
     → statement_call_faults (if_special o (if_procedure m)) at name (count_of es) ≡ [] → all_expression_faults env false es ≡ []
     → argument_faults env.number (terms_in env es) (if_special o (if_procedure m)) at es ≡ [] → IfFits program.procs width m
-    → EnvFits program.procs width env → env.next + all_temporaries es ≤ env.ret → all_source_operators es ≤ MOST_OPERATORS
+    → EnvFits program.procs width env → env.next + all_temporaries es ≤ env.ret → all_source_operators es ≤ most_operators
     → env.number + length (listed_if (if_assertion o) at) ≤ length program.checks
-    → code_fits program width place (code_of (statement_made (env.number + 1) (if_special o (if_procedure m)) (terms_in env es))) ≡ true
+    → code_fits program width place (code_of (act_statements (env.number + 1) (if_special o (if_procedure m)) (terms_in env es))) ≡ true
 made_fits None None es program width place env at name f e j k h r o l = absurd (cons_is_not_nil _ _ f)
 made_fits None (Some (Variable col)) es program width place env at name f e j k h r o l = absurd (cons_is_not_nil _ _ f)
 made_fits None (Some (Procedure signature)) es program width place env at name f e j k h r o l =
@@ -125,15 +125,15 @@ made_fits (Some Exit) m es program width place env at name f e j k h r o l = gua
 statement_fits_here : (es : SourceExprs) (program : Program) (width : ℕ) (place : _) (env : Env) (at : ℕ) (name : List ℕ)
     → statement_call_faults (callee_of env.scopes name) at name (count_of es) ≡ [] → all_expression_faults env false es ≡ []
     → argument_faults env.number (terms_in env es) (callee_of env.scopes name) at es ≡ []
-    → EnvFits program.procs width env → env.next + all_temporaries es ≤ env.ret → all_source_operators es ≤ MOST_OPERATORS
+    → EnvFits program.procs width env → env.next + all_temporaries es ≤ env.ret → all_source_operators es ≤ most_operators
     → env.number + length (listed_if (if_assertion (special_of name)) at) ≤ length program.checks
-    → code_fits program width place (code_of (statement_made (env.number + 1) (callee_of env.scopes name) (terms_in env es))) ≡ true
+    → code_fits program width place (code_of (act_statements (env.number + 1) (callee_of env.scopes name) (terms_in env es))) ≡ true
 unfolding callee_of
 statement_fits_here es program width place env at name f e j h r o l =
     made_fits (special_of name) (meaning_of env.scopes name) es program width place env at name f e j (meaning_fits program.procs width env.scopes name h.scopes) h r o l
 
 pub act_fits : (call : SourceExpr) (program : Program) (width : ℕ) (place : _) (env : Env) → act_faults env call ≡ [] → EnvFits program.procs width env
-    → env.next + put_temporaries call ≤ env.ret → source_operators call ≤ MOST_OPERATORS → env.number + length (act_checks call) ≤ length program.checks
+    → env.next + put_temporaries call ≤ env.ret → source_operators call ≤ most_operators → env.number + length (act_checks call) ≤ length program.checks
     → code_fits program width place (code_of (act_in env call)) ≡ true
 act_fits (Lit at value) program width place env f h r o l = refl
 act_fits (Var at name) program width place env f h r o l = refl
@@ -165,10 +165,10 @@ leave_agrees InStep place a f = absurd (true_is_not_false f)
 
 -- a line leaves the place as it was
 mutual
-  unfolding taken declared numbered opened closed placed
+  unfolding with_columns_taken with_variable with_assertions with_scope without_scope with_place
 
   line_place : (line : SourceLine) (env : Env) → (after env line).place ≡ env.place
-  line_place (Block lines) env = lines_place lines (opened env)
+  line_place (Block lines) env = lines_place lines (with_scope env)
   line_place (Local name at None) env = refl
   line_place (Local name at (Some e)) env = refl
   line_place (Assign name at value) env = refl
@@ -193,18 +193,18 @@ pub record Fit (program : Program) (width : ℕ) (made : Bool) (to : Env) : Type
   pub code : made ≡ true
   pub env : EnvFits program.procs width to
 
-few_operators : (e : SourceExpr) → has_few_operators e ≡ true → source_operators e ≤ MOST_OPERATORS
+few_operators : (e : SourceExpr) → has_fewer (most_operators + 1) e ≡ true → source_operators e ≤ most_operators
 few_operators e h = grind (arith, common_steps, h)
 
 value_fits_at : (value : Option SourceExpr) (program : Program) (width : ℕ) (place : _) (env : Env) (col : ℕ) → init_faults env value ≡ [] → EnvFits program.procs width env
-    → col < width → env.next + length (value_columns value) ≤ env.ret → if_few_operators value ≡ true → code_fits program width place (code_of (value_put env col value)) ≡ true
+    → col < width → env.next + length (value_columns value) ≤ env.ret → if_fewer (most_operators + 1) value ≡ true → code_fits program width place (code_of (value_statements env col value)) ≡ true
 value_fits_at None program width place env col f h l r o = refl
 value_fits_at (Some e) program width place env col f h l r o =
     let n = nameless_length (put_temporaries e) in
     put_fits e program width place env col f h l (omega (arith, r, n)) (few_operators e o)
 
 local_fits : (value : Option SourceExpr) (program : Program) (width : ℕ) (place : _) (env : Env) (col : ℕ) → init_faults env value ≡ [] → EnvFits program.procs width env
-    → col < width → env.next + length (value_columns value) ≤ env.ret → if_few_operators value ≡ true → code_fits program width place (code_of (local_put env col value)) ≡ true
+    → col < width → env.next + length (value_columns value) ≤ env.ret → if_fewer (most_operators + 1) value ≡ true → code_fits program width place (code_of (local_statements env col value)) ≡ true
 local_fits None program width place env col f h l r o = both _ _ (ap (statement_fits program width place) (statement_of-Any col) ∙ is_below col width l) refl
 local_fits (Some e) program width place env col f h l r o = value_fits_at (Some e) program width place env col f h l r o
 
@@ -232,48 +232,48 @@ left_over most total n m r l = let a = m.number in omega (arith, a, r, l)
 pub agrees_at : (p q : Place) (place : _) → q ≡ p → AgreesBy fit.may_leave fit.body_place p place → AgreesBy fit.may_leave fit.body_place q place
 agrees_at p q place e a = subst (λ (x : Place). AgreesBy fit.may_leave fit.body_place x place) (sym e) a
 
-opened_place : (env : Env) → (opened env).place ≡ env.place
-unfolding opened
+opened_place : (env : Env) → (with_scope env).place ≡ env.place
+unfolding with_scope
 opened_place env = refl
 
 branch_place : (env : Env) (cond : SourceExpr) → (in_branch env cond).place ≡ env.place
-unfolding opened taken
+unfolding with_scope with_columns_taken
 branch_place env cond = refl
 
 second_place : (env : Env) (cond : SourceExpr) (on_true : SourceLines) → (in_second_branch env cond on_true).place ≡ env.place
-unfolding opened taken closed
+unfolding with_scope with_columns_taken without_scope
 second_place env cond on_true = lines_place on_true (in_branch env cond)
 
 step_place : (env : Env) (init : SourceLines) (cond : SourceExpr) → (at_step env init cond).place ≡ InStep
-unfolding placed
+unfolding with_place
 step_place env init cond = refl
 
 body_place_at : (env : Env) (init : SourceLines) (cond : SourceExpr) (step : SourceLines) → (at_body env init cond step).place ≡ body_place env.place
-unfolding opened placed
+unfolding with_scope with_place
 body_place_at env init cond step = refl
 
 first_body_place : (env : Env) (init : SourceLines) → (at_first_body env init).place ≡ body_place env.place
-unfolding opened placed
-first_body_place env init = ap body_place (lines_place init (opened env))
+unfolding with_scope with_place
+first_body_place env init = ap body_place (lines_place init (with_scope env))
 
 last_step_place : (env : Env) (init body : SourceLines) (cond : SourceExpr) → (at_last_step env init body cond).place ≡ InStep
-unfolding placed
+unfolding with_place
 last_step_place env init body cond = refl
 
 mutual
   pub line_fits : (line : SourceLine) (program : Program) (width : ℕ) (place : _) (env : Env) → faults_in env line ≡ [] → EnvFits program.procs width env
       → AgreesBy fit.may_leave fit.body_place env.place place → env.next + length (columns_of line) ≤ env.ret → env.number + length (checks_of line) ≤ length program.checks
-      → line_has_few line ≡ true → Fit program width (code_fits program width place (code_of (statements_of env line))) (after env line)
+      → line_has_fewer (most_operators + 1) line ≡ true → Fit program width (code_fits program width place (code_of (statements_of env line))) (after env line)
   line_fits (Block lines) program width place env f h a r l o =
-      let one = lines_fit lines program width place (opened env) f (opened_env env h) (agrees_at _ _ place (opened_place env) a)
+      let one = lines_fit lines program width place (with_scope env) f (opened_env env h) (agrees_at _ _ place (opened_place env) a)
       (room _ _ (moves_opened env) r (omega arith)) (left_over _ _ _ (moves_opened env) l (omega arith)) o in
       record { code = one.code; env = closed_env _ one.env }
   line_fits (Local name at init) program width place env f h a r l o =
       let low : env.next < width = (let e = h.ret in omega (arith, r, e)) in
       let d = declared_env name env low h in
       record {
-        code = local_fits init program width place (declared name env) env.next (second_nil _ _ f) d low (room _ _ (moves_declared name env) r (omega arith)) o;
-        env = with_value_env init (declared name env) d;
+        code = local_fits init program width place (with_variable name env) env.next (second_nil _ _ f) d low (room _ _ (moves_declared name env) r (omega arith)) o;
+        env = with_value_env init (with_variable name env) d;
       }
   line_fits (Assign name at value) program width place env f h a r l o =
       let n = nameless_length (put_temporaries value) in
@@ -294,14 +294,14 @@ mutual
       let s = sum_of_three (nameless (temporaries cond)) (all_columns_of on_true) (all_columns_of on_false) in
       let k = length-append (all_checks_of on_true) (all_checks_of on_false) in
       let oc = few_operators cond (left_of _ _ o) in
-      let ob = right_of (has_few_operators cond) _ o in
+      let ob = right_of (has_fewer (most_operators + 1) cond) _ o in
       let c : env.next + temporaries cond ≤ env.ret = omega (arith, r, n, s) in
       let one = lines_fit on_true program width place (in_branch env cond) (second_nil _ _ f2) (opened_env _ (taken_env (temporaries cond) env h))
       (agrees_at _ _ place (branch_place env cond) a) (room _ (length (all_columns_of on_true)) (to_branch env cond) r (omega (arith, n, s)))
       (left_over _ _ (length (all_checks_of on_true)) (to_branch env cond) l (omega (arith, k))) (left_of _ _ ob) in
       let two = lines_fit on_false program width place (in_second_branch env cond on_true) (second_nil _ _ f) (opened_env _ (closed_env _ one.env))
       (agrees_at _ _ place (second_place env cond on_true) a) (room _ (length (all_columns_of on_false)) (to_second_branch env cond on_true) r (omega (arith, n, s)))
-      (left_over _ _ (length (all_checks_of on_false)) (to_second_branch env cond on_true) l (omega (arith, k))) (right_of (lines_have_few on_true) _ ob) in
+      (left_over _ _ (length (all_checks_of on_false)) (to_second_branch env cond on_true) l (omega (arith, k))) (right_of (lines_have_fewer (most_operators + 1) on_true) _ ob) in
       record {
         code = code_push program width place (calls_in env cond) _ (calls_fit cond program width place env false (first_nil _ _ (first_nil _ _ f2)) h c oc)
             (ap (statement_fits program width place) (statement_of-If (term_in env cond) (all_statements_of (in_branch env cond) on_true) (all_statements_of (in_second_branch env cond on_true) on_false))
@@ -314,9 +314,9 @@ mutual
       let s = sum_of_four (all_columns_of init) (nameless (temporaries cond)) (all_columns_of step) (all_columns_of body) in
       let k = sum_of_places (all_checks_of init) (all_checks_of step) (all_checks_of body) in
       let oc = few_operators cond (left_of _ _ o) in
-      let oi = right_of (has_few_operators cond) _ o in
-      let os = right_of (lines_have_few init) _ oi in
-      let one = lines_fit init program width place (opened env) (first_nil _ _ f2) (opened_env env h) (agrees_at _ _ place (opened_place env) a)
+      let oi = right_of (has_fewer (most_operators + 1) cond) _ o in
+      let os = right_of (lines_have_fewer (most_operators + 1) init) _ oi in
+      let one = lines_fit init program width place (with_scope env) (first_nil _ _ f2) (opened_env env h) (agrees_at _ _ place (opened_place env) a)
       (room _ (length (all_columns_of init)) (moves_opened env) r (omega (arith, s))) (left_over _ _ (length (all_checks_of init)) (moves_opened env) l (omega (arith, k))) (left_of _ _ oi) in
       let c = room _ (temporaries cond) (to_test env init) r (omega (arith, n, s)) in
       let two = lines_fit step program width _ (at_step env init cond) (second_nil _ _ f3) (placed_env InStep _ (taken_env (temporaries cond) (at_test env init) one.env))
@@ -326,9 +326,9 @@ mutual
       (opened_env _ (placed_env _ _ (placed_env env.place _ two.env)))
       (agrees_at _ _ (fit.body_place place) (body_place_at env init cond step) (body_agrees env.place place a))
       (room _ (length (all_columns_of body)) (to_body env init cond step) r (omega (arith, n, s)))
-      (left_over _ _ (length (all_checks_of body)) (to_body env init cond step) l (omega (arith, k))) (right_of (lines_have_few step) _ os) in
+      (left_over _ _ (length (all_checks_of body)) (to_body env init cond step) l (omega (arith, k))) (right_of (lines_have_fewer (most_operators + 1) step) _ os) in
       record {
-        code = code_push program width place (all_statements_of (opened env) init) _ one.code
+        code = code_push program width place (all_statements_of (with_scope env) init) _ one.code
             (ap (statement_fits program width place) (statement_of-Loop (calls_in (at_test env init) cond) (term_in (at_test env init) cond)
             (all_statements_of (at_body env init cond step) body) (all_statements_of (at_step env init cond) step) false)
             ∙ both _ _ (both _ _ (both _ _ (condition_fits cond program.procs width (at_test env init) (second_nil _ _ f2) one.env c oc)
@@ -341,22 +341,22 @@ mutual
       let s = sum_of_four (all_columns_of init) (all_columns_of body) (nameless (temporaries cond)) (all_columns_of step) in
       let k = sum_of_places (all_checks_of init) (all_checks_of body) (all_checks_of step) in
       let oc = few_operators cond (left_of _ _ o) in
-      let oi = right_of (has_few_operators cond) _ o in
-      let os = right_of (lines_have_few init) _ oi in
-      let one = lines_fit init program width place (opened env) (first_nil _ _ f2) (opened_env env h) (agrees_at _ _ place (opened_place env) a)
+      let oi = right_of (has_fewer (most_operators + 1) cond) _ o in
+      let os = right_of (lines_have_fewer (most_operators + 1) init) _ oi in
+      let one = lines_fit init program width place (with_scope env) (first_nil _ _ f2) (opened_env env h) (agrees_at _ _ place (opened_place env) a)
       (room _ (length (all_columns_of init)) (moves_opened env) r (omega (arith, s))) (left_over _ _ (length (all_checks_of init)) (moves_opened env) l (omega (arith, k))) (left_of _ _ oi) in
       let two = lines_fit body program width (fit.body_place place) (at_first_body env init) (second_nil _ _ f2)
       (opened_env _ (placed_env _ _ one.env))
       (agrees_at _ _ (fit.body_place place) (first_body_place env init) (body_agrees env.place place a))
       (room _ (length (all_columns_of body)) (to_first_body env init) r (omega (arith, n, s)))
-      (left_over _ _ (length (all_checks_of body)) (to_first_body env init) l (omega (arith, k))) (right_of (lines_have_few step) _ os) in
+      (left_over _ _ (length (all_checks_of body)) (to_first_body env init) l (omega (arith, k))) (right_of (lines_have_fewer (most_operators + 1) step) _ os) in
       let behind = placed_env env.place _ (closed_env _ two.env) in
       let c = room _ (temporaries cond) (to_last_test env init body) r (omega (arith, n, s)) in
       let three = lines_fit step program width _ (at_last_step env init body cond) (second_nil _ _ f) (placed_env InStep _ (taken_env (temporaries cond) (at_last_test env init body) behind))
       (agrees_at InStep _ _ (last_step_place env init body cond) tt) (room _ (length (all_columns_of step)) (to_last_step env init body cond) r (omega (arith, n, s)))
       (left_over _ _ (length (all_checks_of step)) (to_last_step env init body cond) l (omega (arith, k))) (left_of _ _ os) in
       record {
-        code = code_push program width place (all_statements_of (opened env) init) _ one.code
+        code = code_push program width place (all_statements_of (with_scope env) init) _ one.code
             (ap (statement_fits program width place) (statement_of-Loop (calls_in (at_last_test env init body) cond) (term_in (at_last_test env init body) cond)
             (all_statements_of (at_first_body env init) body) (all_statements_of (at_last_step env init body cond) step) true)
             ∙ both _ _ (both _ _ (both _ _ (condition_fits cond program.procs width (at_last_test env init body) (second_nil _ _ f3) behind c oc)
@@ -369,7 +369,7 @@ mutual
       record { code = both _ _ (ap (statement_fits program width place) statement_of-Continue ∙ leave_agrees env.place place a (not_when _ _ f)) refl; env = h }
   line_fits (Return at value) program width place env f h a r l o =
       record {
-        code = code_push program width place (value_put env env.ret value) stmt.Return
+        code = code_push program width place (value_statements env env.ret value) stmt.Return
             (value_fits_at value program width place env env.ret (return_init value env at f) h (ret_below env h) r o)
             (ap (statement_fits program width place) statement_of-Return);
         env = with_value_env value env h;
@@ -377,7 +377,7 @@ mutual
 
   pub lines_fit : (lines : SourceLines) (program : Program) (width : ℕ) (place : _) (env : Env) → all_faults_in env lines ≡ [] → EnvFits program.procs width env
       → AgreesBy fit.may_leave fit.body_place env.place place → env.next + length (all_columns_of lines) ≤ env.ret → env.number + length (all_checks_of lines) ≤ length program.checks
-      → lines_have_few lines ≡ true → Fit program width (code_fits program width place (code_of (all_statements_of env lines))) (after_all env lines)
+      → lines_have_fewer (most_operators + 1) lines ≡ true → Fit program width (code_fits program width place (code_of (all_statements_of env lines))) (after_all env lines)
   lines_fit End program width place env f h a r l o = record { code = refl; env = h }
   lines_fit (Then line rest) program width place env f h a r l o =
       let s = length-append (columns_of line) (all_columns_of rest) in
@@ -385,5 +385,5 @@ mutual
       let one = line_fits line program width place env (first_nil _ _ f) h a (omega (arith, r, s)) (omega (arith, l, k)) (left_of _ _ o) in
       let two = lines_fit rest program width place (after env line) (second_nil _ _ f) one.env (agrees_at _ _ place (line_place line env) a)
       (room _ (length (all_columns_of rest)) (line_moves line env) r (omega (arith, s))) (left_over _ _ (length (all_checks_of rest)) (line_moves line env) l (omega (arith, k)))
-      (right_of (line_has_few line) _ o) in
+      (right_of (line_has_fewer (most_operators + 1) line) _ o) in
       record { code = code_append program width place (statements_of env line) _ one.code two.code; env = two.env }

@@ -4,14 +4,14 @@ use Rattle.std.specs.Prelude.{if◌then◌else◌}
 use Rattle.std.specs.Str.{bytes_eq}
 use Rattle.std.specs.Map.{lookup}
 use Rattle.std.proofs.lemmas.Slice.Eq.{bytes_eq-Decides}
-use Rattle.typing.specs.Scopes.{Scope, found, or_outer}
+use Rattle.typing.specs.Scopes.{Scope, meaning_in, or_outer}
 
-pub found-append : (scope more : Scope) (name : List ℕ) → found (scope ++ more) name ≡ or_outer (found scope name) (found more name)
-found-append [] more name = refl
-found-append (entry ∷ rest) more name = by (bytes_eq entry.0 name) (found-append rest more name)
+pub meaning_in-append : (scope more : Scope) (name : List ℕ) → meaning_in (scope ++ more) name ≡ or_outer (meaning_in scope name) (meaning_in more name)
+meaning_in-append [] more name = refl
+meaning_in-append (entry ∷ rest) more name = by (bytes_eq entry.0 name) (meaning_in-append rest more name)
   where
-    by : (b : Bool) → found (rest ++ more) name ≡ or_outer (found rest name) (found more name)
-        → (if b then Some entry.1 else found (rest ++ more) name) ≡ or_outer (if b then Some entry.1 else found rest name) (found more name)
+    by : (b : Bool) → meaning_in (rest ++ more) name ≡ or_outer (meaning_in rest name) (meaning_in more name)
+        → (if b then Some entry.1 else meaning_in (rest ++ more) name) ≡ or_outer (if b then Some entry.1 else meaning_in rest name) (meaning_in more name)
     by true same = refl
     by false same = same
 
@@ -27,8 +27,8 @@ bytes_eq-sym a b =
     (λ h. (bytes_eq-Decides a b).1 (sym ((bytes_eq-Decides b a).0 h)))
 
 -- what a map finds is what its entries declare first
-pub lookup-found : (scope : Scope) (name : List ℕ) → lookup (bytes_eq name) scope ≡ found scope name
-lookup-found [] name = refl
-lookup-found (entry ∷ rest) name =
+pub lookup-meaning_in : (scope : Scope) (name : List ℕ) → lookup (bytes_eq name) scope ≡ meaning_in scope name
+lookup-meaning_in [] name = refl
+lookup-meaning_in (entry ∷ rest) name =
     ap (λ b. if b then Some entry.1 else lookup (bytes_eq name) rest) (bytes_eq-sym name entry.0)
-    ∙ ap (λ m. if bytes_eq entry.0 name then Some entry.1 else m) (lookup-found rest name)
+    ∙ ap (λ m. if bytes_eq entry.0 name then Some entry.1 else m) (lookup-meaning_in rest name)

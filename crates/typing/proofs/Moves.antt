@@ -9,7 +9,7 @@ use Rattle.typing.specs.declared.env.Env.{Env}
 use Rattle.typing.specs.declared.env.Place.{Place}
 use Rattle.typing.specs.declared.env.Place.TheVariants.{InStep}
 use Rattle.typing.specs.Calls.{act_checks, put_temporaries}
-use Rattle.typing.specs.Env.{body_place, closed, declared, numbered, opened, placed, taken}
+use Rattle.typing.specs.Env.{body_place, without_scope, with_variable, with_assertions, with_scope, with_place, with_columns_taken}
 use Rattle.typing.specs.Lines.{after, after_all, all_checks_of, all_columns_of, at_body, at_first_body, at_last_step, at_last_test, at_step, at_test, behind_body, checks_of, columns_of, in_body, in_branch, in_second_branch, in_step, nameless, value_columns, with_value}
 use Rattle.typing.specs.Terms.{temporaries}
 
@@ -45,28 +45,28 @@ moves_as h e f = record {
 pub moves_on : {a b c : Env} {m n k l : ℕ} → Moves a b m k → Moves b c n l → Moves a c (m + n) (k + l)
 moves_on {a = a} {b = b} {c = c} {m = m} {n = n} {k = k} {l = l} one two = moves_then a b c m n k l one two
 
-pub moves_taken : (columns : ℕ) (env : Env) → Moves env (taken columns env) columns 0
-unfolding taken
+pub moves_taken : (columns : ℕ) (env : Env) → Moves env (with_columns_taken columns env) columns 0
+unfolding with_columns_taken
 moves_taken columns env = record { next = refl; number = omega arith; returns = refl; ret = refl; full = refl }
 
-pub moves_numbered : (checks : ℕ) (env : Env) → Moves env (numbered checks env) 0 checks
-unfolding numbered
+pub moves_numbered : (checks : ℕ) (env : Env) → Moves env (with_assertions checks env) 0 checks
+unfolding with_assertions
 moves_numbered checks env = record { next = omega arith; number = refl; returns = refl; ret = refl; full = refl }
 
-pub moves_declared : (name : List ℕ) (env : Env) → Moves env (declared name env) 1 0
-unfolding declared
+pub moves_declared : (name : List ℕ) (env : Env) → Moves env (with_variable name env) 1 0
+unfolding with_variable
 moves_declared name env = record { next = refl; number = omega arith; returns = refl; ret = refl; full = refl }
 
-pub moves_opened : (env : Env) → Moves env (opened env) 0 0
-unfolding opened
+pub moves_opened : (env : Env) → Moves env (with_scope env) 0 0
+unfolding with_scope
 moves_opened env = record { next = omega arith; number = omega arith; returns = refl; ret = refl; full = refl }
 
-pub moves_closed : (env : Env) → Moves env (closed env) 0 0
-unfolding closed
+pub moves_closed : (env : Env) → Moves env (without_scope env) 0 0
+unfolding without_scope
 moves_closed env = record { next = omega arith; number = omega arith; returns = refl; ret = refl; full = refl }
 
-pub moves_placed : (place : Place) (env : Env) → Moves env (placed place env) 0 0
-unfolding placed
+pub moves_placed : (place : Place) (env : Env) → Moves env (with_place place env) 0 0
+unfolding with_place
 moves_placed place env = record { next = omega arith; number = omega arith; returns = refl; ret = refl; full = refl }
 
 -- and on, without a column or an assertion
@@ -84,16 +84,16 @@ with_value_moves None env = moves_self env
 with_value_moves (Some e) env = moves_as (moves_taken (put_temporaries e) env) (sym (nameless_length (put_temporaries e))) refl
 
 -- a scope of its own
-in_scope : {a b : Env} {m k : ℕ} → Moves (opened a) b m k → Moves a (closed b) m k
+in_scope : {a b : Env} {m k : ℕ} → Moves (with_scope a) b m k → Moves a (without_scope b) m k
 in_scope {a = a} {b = b} h = then_still (still_then (moves_opened a) h) (moves_closed b)
 
 pub in_body_moves : (env : Env) → Moves env (in_body env) 0 0
-in_body_moves env = then_still (moves_placed (body_place env.place) env) (moves_opened (placed (body_place env.place) env))
+in_body_moves env = then_still (moves_placed (body_place env.place) env) (moves_opened (with_place (body_place env.place) env))
 
 pub behind_body_moves : (place : Place) (env : Env) → Moves env (behind_body place env) 0 0
-behind_body_moves place env = then_still (moves_closed env) (moves_placed place (closed env))
+behind_body_moves place env = then_still (moves_closed env) (moves_placed place (without_scope env))
 
-cond_moves : (cond : SourceExpr) (env : Env) → Moves env (taken (temporaries cond) env) (length (nameless (temporaries cond))) 0
+cond_moves : (cond : SourceExpr) (env : Env) → Moves env (with_columns_taken (temporaries cond) env) (length (nameless (temporaries cond))) 0
 cond_moves cond env = moves_as (moves_taken (temporaries cond) env) (sym (nameless_length (temporaries cond))) refl
 
 pub sum_of_three : (xs ys zs : List Column) → length xs + length ys + length zs ≡ length (xs ++ ys ++ zs)
@@ -107,40 +107,40 @@ sum_of_places xs ys zs = sym (length-append (xs ++ ys) zs ∙ ap (λ (n : ℕ). 
 
 mutual
   pub line_moves : (line : SourceLine) (env : Env) → Moves env (after env line) (length (columns_of line)) (length (checks_of line))
-  line_moves (Block lines) env = in_scope (lines_move lines (opened env))
-  line_moves (Local name at init) env = moves_as (moves_on (moves_declared name env) (with_value_moves init (declared name env))) (omega arith) (omega arith)
+  line_moves (Block lines) env = in_scope (lines_move lines (with_scope env))
+  line_moves (Local name at init) env = moves_as (moves_on (moves_declared name env) (with_value_moves init (with_variable name env))) (omega arith) (omega arith)
   line_moves (Assign name at value) env = moves_as (moves_taken (put_temporaries value) env) (sym (nameless_length (put_temporaries value))) refl
   line_moves (Act call) env =
-      moves_as (moves_on (moves_taken (put_temporaries call) env) (moves_numbered (length (act_checks call)) (taken (put_temporaries call) env)))
+      moves_as (moves_on (moves_taken (put_temporaries call) env) (moves_numbered (length (act_checks call)) (with_columns_taken (put_temporaries call) env)))
       (omega (arith, nameless_length (put_temporaries call))) (omega arith)
   line_moves (If cond on_true on_false) env =
-      let first = in_scope (lines_move on_true (opened (taken (temporaries cond) env))) in
-      let second = in_scope (lines_move on_false (opened (closed (after_all (opened (taken (temporaries cond) env)) on_true)))) in
+      let first = in_scope (lines_move on_true (with_scope (with_columns_taken (temporaries cond) env))) in
+      let second = in_scope (lines_move on_false (with_scope (without_scope (after_all (with_scope (with_columns_taken (temporaries cond) env)) on_true)))) in
       moves_as (moves_on (moves_on (cond_moves cond env) first) second)
       (sum_of_three (nameless (temporaries cond)) (all_columns_of on_true) (all_columns_of on_false))
       (omega (arith, length-append (all_checks_of on_true) (all_checks_of on_false)))
   line_moves (Loop init cond step body false) env =
-      let first = still_then (moves_opened env) (lines_move init (opened env)) in
-      let test = moves_on first (cond_moves cond (after_all (opened env) init)) in
-      let stepped = moves_on test (still_then (moves_placed InStep (taken (temporaries cond) (after_all (opened env) init)))
-      (lines_move step (in_step (taken (temporaries cond) (after_all (opened env) init))))) in
-      let back = then_still stepped (moves_placed env.place (after_all (in_step (taken (temporaries cond) (after_all (opened env) init))) step)) in
-      let inner = placed env.place (after_all (in_step (taken (temporaries cond) (after_all (opened env) init))) step) in
+      let first = still_then (moves_opened env) (lines_move init (with_scope env)) in
+      let test = moves_on first (cond_moves cond (after_all (with_scope env) init)) in
+      let stepped = moves_on test (still_then (moves_placed InStep (with_columns_taken (temporaries cond) (after_all (with_scope env) init)))
+      (lines_move step (in_step (with_columns_taken (temporaries cond) (after_all (with_scope env) init))))) in
+      let back = then_still stepped (moves_placed env.place (after_all (in_step (with_columns_taken (temporaries cond) (after_all (with_scope env) init))) step)) in
+      let inner = with_place env.place (after_all (in_step (with_columns_taken (temporaries cond) (after_all (with_scope env) init))) step) in
       let all = moves_on back (still_then (in_body_moves inner) (lines_move body (in_body inner))) in
       let done = then_still all (behind_body_moves env.place (after_all (in_body inner) body)) in
       moves_as (then_still done (moves_closed (behind_body env.place (after_all (in_body inner) body))))
       (sum_of_four (all_columns_of init) (nameless (temporaries cond)) (all_columns_of step) (all_columns_of body))
       (omega (arith, sum_of_places (all_checks_of init) (all_checks_of step) (all_checks_of body)))
   line_moves (Loop init cond step body true) env =
-      let first = still_then (moves_opened env) (lines_move init (opened env)) in
-      let start = after_all (opened env) init in
+      let first = still_then (moves_opened env) (lines_move init (with_scope env)) in
+      let start = after_all (with_scope env) init in
       let inner = moves_on first (still_then (in_body_moves start) (lines_move body (in_body start))) in
       let behind = behind_body env.place (after_all (in_body start) body) in
       let out = then_still inner (behind_body_moves env.place (after_all (in_body start) body)) in
       let test = moves_on out (cond_moves cond behind) in
-      let stepped = moves_on test (still_then (moves_placed InStep (taken (temporaries cond) behind)) (lines_move step (in_step (taken (temporaries cond) behind)))) in
-      let last = after_all (in_step (taken (temporaries cond) behind)) step in
-      moves_as (then_still (then_still stepped (moves_placed env.place last)) (moves_closed (placed env.place last)))
+      let stepped = moves_on test (still_then (moves_placed InStep (with_columns_taken (temporaries cond) behind)) (lines_move step (in_step (with_columns_taken (temporaries cond) behind)))) in
+      let last = after_all (in_step (with_columns_taken (temporaries cond) behind)) step in
+      moves_as (then_still (then_still stepped (moves_placed env.place last)) (moves_closed (with_place env.place last)))
       (sum_of_four (all_columns_of init) (all_columns_of body) (nameless (temporaries cond)) (all_columns_of step))
       (omega (arith, sum_of_places (all_checks_of init) (all_checks_of body) (all_checks_of step)))
   line_moves (Break at) env = moves_self env
@@ -156,7 +156,7 @@ mutual
 -- ---- to the parts of a line
 
 pub to_branch : (env : Env) (cond : SourceExpr) → Moves env (in_branch env cond) (temporaries cond) 0
-to_branch env cond = then_still (moves_taken (temporaries cond) env) (moves_opened (taken (temporaries cond) env))
+to_branch env cond = then_still (moves_taken (temporaries cond) env) (moves_opened (with_columns_taken (temporaries cond) env))
 
 pub to_second_branch : (env : Env) (cond : SourceExpr) (on_true : SourceLines)
     → Moves env (in_second_branch env cond on_true) (temporaries cond + length (all_columns_of on_true)) (length (all_checks_of on_true))
@@ -164,7 +164,7 @@ to_second_branch env cond on_true =
     moves_as (moves_on (to_branch env cond) (then_still (then_still (lines_move on_true (in_branch env cond)) (moves_closed _)) (moves_opened _))) refl (omega arith)
 
 pub to_test : (env : Env) (init : SourceLines) → Moves env (at_test env init) (length (all_columns_of init)) (length (all_checks_of init))
-to_test env init = still_then (moves_opened env) (lines_move init (opened env))
+to_test env init = still_then (moves_opened env) (lines_move init (with_scope env))
 
 pub to_step : (env : Env) (init : SourceLines) (cond : SourceExpr)
     → Moves env (at_step env init cond) (length (all_columns_of init) + temporaries cond) (length (all_checks_of init))

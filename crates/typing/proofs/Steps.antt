@@ -10,40 +10,40 @@ use Rattle.typing.specs.declared.meaning.Meaning.TheVariants.{Variable, Procedur
 use Rattle.typing.specs.declared.special.Special.{Special}
 use Rattle.typing.specs.declared.env.Place.{Place}
 use Rattle.typing.specs.declared.error.TypeError.{TypeError}
-use Rattle.typing.specs.Env.{numbered, placed, taken}
+use Rattle.typing.specs.Env.{with_assertions, with_place, with_columns_taken}
 use Rattle.typing.specs.Faults.{least_of, lesser}
 use Rattle.typing.specs.Calls.{callee_asserts, if_assertion}
 use Rattle.typing.specs.Scopes.{Scope, callee_of, if_procedure, if_special, meaning_of}
 use Rattle.typing.specs.Specials.{special_of}
 use Rattle.typing.specs.Terms.{count_of}
 
-pub taken-taken : (a b : ℕ) (env : Env) → taken b (taken a env) ≡ taken (a + b) env
-unfolding taken
-taken-taken a b env = let same : (env.next + a) + b ≡ env.next + (a + b) = omega arith in ap (λ (n : ℕ). record env { next = n }) same
+pub with_columns_taken-taken : (a b : ℕ) (env : Env) → with_columns_taken b (with_columns_taken a env) ≡ with_columns_taken (a + b) env
+unfolding with_columns_taken
+with_columns_taken-taken a b env = let same : (env.next + a) + b ≡ env.next + (a + b) = omega arith in ap (λ (n : ℕ). record env { next = n }) same
 
-pub taken-zero : (env : Env) → taken 0 env ≡ env
-unfolding taken
-taken-zero env = let same : env.next + 0 ≡ env.next = omega arith in ap (λ (n : ℕ). record env { next = n }) same
+pub with_columns_taken-zero : (env : Env) → with_columns_taken 0 env ≡ env
+unfolding with_columns_taken
+with_columns_taken-zero env = let same : env.next + 0 ≡ env.next = omega arith in ap (λ (n : ℕ). record env { next = n }) same
 
-pub taken-next : (n : ℕ) (env : Env) → (taken n env).next ≡ env.next + n
-unfolding taken
-taken-next n env = refl
+pub with_columns_taken-next : (n : ℕ) (env : Env) → (with_columns_taken n env).next ≡ env.next + n
+unfolding with_columns_taken
+with_columns_taken-next n env = refl
 
-pub taken-number : (n : ℕ) (env : Env) → (taken n env).number ≡ env.number
-unfolding taken
-taken-number n env = refl
+pub with_columns_taken-number : (n : ℕ) (env : Env) → (with_columns_taken n env).number ≡ env.number
+unfolding with_columns_taken
+with_columns_taken-number n env = refl
 
-pub taken-scopes : (n : ℕ) (env : Env) → (taken n env).scopes ≡ env.scopes
-unfolding taken
-taken-scopes n env = refl
+pub with_columns_taken-scopes : (n : ℕ) (env : Env) → (with_columns_taken n env).scopes ≡ env.scopes
+unfolding with_columns_taken
+with_columns_taken-scopes n env = refl
 
-pub numbered-zero : (env : Env) → numbered 0 env ≡ env
-unfolding numbered
-numbered-zero env = let same : env.number + 0 ≡ env.number = omega arith in ap (λ (n : ℕ). record env { number = n }) same
+pub with_assertions-zero : (env : Env) → with_assertions 0 env ≡ env
+unfolding with_assertions
+with_assertions-zero env = let same : env.number + 0 ≡ env.number = omega arith in ap (λ (n : ℕ). record env { number = n }) same
 
-pub placed-place : (place : Place) (env : Env) → (placed place env).place ≡ place
-unfolding placed
-placed-place place env = refl
+pub with_place-place : (place : Place) (env : Env) → (with_place place env).place ≡ place
+unfolding with_place
+with_place-place place env = refl
 
 pub least_of-append : (least : Option TypeError) (faults more : List TypeError) → least_of least (faults ++ more) ≡ least_of (least_of least faults) more
 least_of-append least [] more = refl
@@ -74,4 +74,4 @@ pub callee_asserts-special : (scopes : List Scope) (name : List ℕ) → callee_
 unfolding callee_of
 callee_asserts-special scopes name = asserts (special_of name) (meaning_of scopes name)
 
-pub ruleset steps = (appended, taken-taken, taken-zero, taken-next, taken-number, taken-scopes, numbered-zero, placed-place, least_of-append, count_of-length, callee_asserts-special)
+pub ruleset steps = (appended, with_columns_taken-taken, with_columns_taken-zero, with_columns_taken-next, with_columns_taken-number, with_columns_taken-scopes, with_assertions-zero, with_place-place, least_of-append, count_of-length, callee_asserts-special)

@@ -6,7 +6,7 @@ use Rattle.std.proofs.lemmas.List.Elements.{All-from_recursion}
 use Rattle.std.specs.List.{AllByRecursion, list_all}
 use Rattle.std.specs.Prelude.{◌==◌, ◌&&◌, not, is_none, slice_get, unwrap_or, IfOk, IsSomeAnd, if◌then◌else◌}
 use Rattle.std.proofs.lemmas.Grind.{common_steps}
-use Rattle.syntax_tree.specs.declared.limits.TheConstants.{MOST_CHECKS, MOST_GLOBALS, MOST_PARAMETERS, MOST_PROCEDURES, MOST_SLOTS}
+use Rattle.syntax_tree.specs.Limits.{most_checks, most_globals, most_operators, most_parameters, most_procedures, most_slots}
 use Rattle.syntax_tree.specs.declared.line.Line.{Line}
 use Rattle.syntax_tree.specs.declared.program.Column.{Column}
 use Rattle.syntax_tree.specs.declared.program.Proc.{Proc}
@@ -22,14 +22,16 @@ use Rattle.typing.specs.declared.env.Env.{Env}
 use Rattle.typing.specs.declared.env.Place.TheVariants.{Outside}
 use Rattle.typing.specs.declared.error.TypeError.{TypeError}
 use Rattle.typing.specs.Elaborated.{checks_in, elaborated, globals_of, main_from, proc_of, procs_of}
-use Rattle.typing.specs.Env.{declared}
+use Rattle.typing.specs.Env.{with_variable}
 use Rattle.items.specs.Gives.{Gives}
 use Rattle.typing.specs.Faults.{body_faults, cause, declaration_faults, elaboration_of, faults_of, least_of, lesser, unless_fault, parameter_faults, params_faults, procs_faults}
 use Rattle.typing.specs.Lines.{after_all, all_checks_of, all_columns_of, all_statements_of}
-use Rattle.typing.specs.Operators.{items_have_few, lines_have_few}
+use Rattle.syntax_tree.specs.SourceOperators.{lines_have_fewer}
+use Rattle.typing.specs.Operators.{items_have_few}
 use Rattle.typing.specs.Scopes.{Scope}
 use Rattle.typing.specs.Specials.{is_main}
 use Rattle.typing.specs.Texts.{beginning, body_columns, body_env, count_globals, declarations, param_column, with_params}
+use Rattle.typing.proofs.Answered.{answered}
 use Rattle.typing.proofs.Splits.{first_nil, second_nil, not_when}
 use Rattle.typing.proofs.Moves.{Moves, moves_as, moves_on, moves_self, moves_declared, lines_move}
 use Rattle.typing.proofs.Within.{IsWithin, declared_within, lines_within}
@@ -63,27 +65,27 @@ procs_count (Body name at returns params lines end ∷ rest) text globals number
 another : (n most : ℕ) → (n == most) ≡ false → n ≤ most → n + 1 ≤ most
 another n most e l = grind (arith, common_steps, e, l)
 
-globals_few : (items : List Item) (above : Scope) (g p : ℕ) → declaration_faults above g p items ≡ [] → g ≤ MOST_GLOBALS → g + count_globals items ≤ MOST_GLOBALS
+globals_few : (items : List Item) (above : Scope) (g p : ℕ) → declaration_faults above g p items ≡ [] → g ≤ most_globals → g + count_globals items ≤ most_globals
 globals_few [] above g p f l = omega (arith, l)
 globals_few (Global name at init ∷ rest) above g p f l =
-    let x = another g MOST_GLOBALS (not_when _ _ (second_nil _ _ (first_nil _ _ f))) l in
+    let x = another g most_globals (not_when _ _ (second_nil _ _ (first_nil _ _ f))) l in
     let y = globals_few rest _ (g + 1) p (second_nil _ _ f) x in omega (arith, y)
 globals_few (Proto name at returns params ∷ rest) above g p f l = globals_few rest above g p f l
 globals_few (Body name at returns params lines end ∷ rest) above g p f l = globals_few rest _ g (p + 1) (second_nil _ _ f) l
 
-bodies_few : (items : List Item) (above : Scope) (g p : ℕ) → declaration_faults above g p items ≡ [] → p ≤ MOST_PROCEDURES → p + count_bodies items ≤ MOST_PROCEDURES
+bodies_few : (items : List Item) (above : Scope) (g p : ℕ) → declaration_faults above g p items ≡ [] → p ≤ most_procedures → p + count_bodies items ≤ most_procedures
 unfolding count_bodies
 bodies_few [] above g p f l = omega (arith, l)
 bodies_few (Global name at init ∷ rest) above g p f l = bodies_few rest _ (g + 1) p (second_nil _ _ f) l
 bodies_few (Proto name at returns params ∷ rest) above g p f l = bodies_few rest above g p f l
 bodies_few (Body name at returns params lines end ∷ rest) above g p f l =
-    let x = another p MOST_PROCEDURES (not_when _ _ (second_nil _ _ (first_nil _ _ (first_nil _ _ (first_nil _ _ f))))) l in
+    let x = another p most_procedures (not_when _ _ (second_nil _ _ (first_nil _ _ (first_nil _ _ (first_nil _ _ f))))) l in
     let y = bodies_few rest _ g (p + 1) (second_nil _ _ f) x in omega (arith, y)
 
-params_few : (params : List Param) (above : ℕ) → parameter_faults above params ≡ [] → above ≤ MOST_PARAMETERS → above + length params ≤ MOST_PARAMETERS
+params_few : (params : List Param) (above : ℕ) → parameter_faults above params ≡ [] → above ≤ most_parameters → above + length params ≤ most_parameters
 params_few [] above f l = omega (arith, l)
 params_few (param ∷ rest) above f l =
-    let x = another above MOST_PARAMETERS (not_when _ _ (first_nil _ _ f)) l in
+    let x = another above most_parameters (not_when _ _ (first_nil _ _ f)) l in
     let y = params_few rest (above + 1) (second_nil _ _ f) x in omega (arith, y)
 
 -- ---- the scope of the text
@@ -141,18 +143,18 @@ main_fits (Body name at returns params lines end ∷ rest) procs front text abov
 
 with_params_moves : (params : List Param) (env : Env) → Moves env (with_params env params) (length params) 0
 with_params_moves [] env = moves_self env
-with_params_moves (param ∷ rest) env = moves_as (moves_on (moves_declared param.name env) (with_params_moves rest (declared param.name env))) (omega arith) (omega arith)
+with_params_moves (param ∷ rest) env = moves_as (moves_on (moves_declared param.name env) (with_params_moves rest (with_variable param.name env))) (omega arith) (omega arith)
 
 with_params_within : (params : List Param) (env : Env) → params_faults env params ≡ [] → IsWithin env → IsWithin (with_params env params)
 with_params_within [] env f w = w
 with_params_within (param ∷ rest) env f w =
-    with_params_within rest (declared param.name env) (second_nil _ _ f) (declared_within param.name env param.at (first_nil _ _ f) w)
+    with_params_within rest (with_variable param.name env) (second_nil _ _ f) (declared_within param.name env param.at (first_nil _ _ f) w)
 
 with_params_fit : {procs : List Proc} {width : ℕ} (params : List Param) (env : Env) → env.next + length params < width → EnvFits procs width env → EnvFits procs width (with_params env params)
 with_params_fit [] env l h = h
 with_params_fit (param ∷ rest) env l h =
     let m = (moves_declared param.name env).next in
-    with_params_fit rest (declared param.name env) (omega (arith, l, m)) (declared_env param.name env (omega (arith, l)) h)
+    with_params_fit rest (with_variable param.name env) (omega (arith, l, m)) (declared_env param.name env (omega (arith, l)) h)
 
 columns_count : (params : List Param) (lines : List Line) → length (body_columns params lines) ≡ length params + length (all_columns_of (source_lines_of lines))
 columns_count params lines = length-append (map param_column params) (all_columns_of (source_lines_of lines)) ∙ ap (λ (n : ℕ). n + length (all_columns_of (source_lines_of lines))) (length-map params param_column)
@@ -162,7 +164,7 @@ params_named [] rest = refl
 params_named (param ∷ params) rest = params_named params rest
 
 -- what a procedure begins with is within the limits, and fits
-begins_within : (text : Scope) (globals n columns : ℕ) (returns : Bool) → n ≤ MOST_CHECKS → IsWithin (beginning text globals n returns columns)
+begins_within : (text : Scope) (globals n columns : ℕ) (returns : Bool) → n ≤ most_checks → IsWithin (beginning text globals n returns columns)
 unfolding beginning
 begins_within text globals n columns returns l = record { columns = omega arith; checks = l }
 
@@ -176,7 +178,7 @@ pub record Stands (env : Env) (globals columns params n : ℕ) : Type 0 where
   pub next : env.next ≡ globals + params
   pub number : env.number ≡ n
   pub ret : env.ret ≡ globals + columns
-  pub full : env.full ≡ globals + MOST_SLOTS
+  pub full : env.full ≡ globals + most_slots
 
 stands_behind : (params : List Param) (text : Scope) (globals n columns : ℕ) (returns : Bool)
     → Stands (with_params (beginning text globals n returns columns) params) globals columns (length params) n
@@ -192,7 +194,7 @@ next_begin params text globals n columns returns l = omega (arith, l)
 
 -- how far a body comes
 body_within : (text : Scope) (globals n : ℕ) (returns : Bool) (params : List Param) (lines : List Line) (end : ℕ)
-    → body_faults text globals n returns params lines end ≡ [] → n ≤ MOST_CHECKS
+    → body_faults text globals n returns params lines end ≡ [] → n ≤ most_checks
     → IsWithin (after_all (body_env text globals n returns params lines) (source_lines_of lines))
 body_within text globals n returns params lines end f l =
     let f2 = first_nil _ _ f in
@@ -201,8 +203,8 @@ body_within text globals n returns params lines end f l =
     (begins_within text globals n (length (body_columns params lines)) returns l))
 
 body_few : (text : Scope) (globals n : ℕ) (returns : Bool) (params : List Param) (lines : List Line) (end : ℕ)
-    → body_faults text globals n returns params lines end ≡ [] → n ≤ MOST_CHECKS
-    → (length (body_columns params lines) ≤ MOST_SLOTS) × (n + length (all_checks_of (source_lines_of lines)) ≤ MOST_CHECKS)
+    → body_faults text globals n returns params lines end ≡ [] → n ≤ most_checks
+    → (length (body_columns params lines) ≤ most_slots) × (n + length (all_checks_of (source_lines_of lines)) ≤ most_checks)
 body_few text globals n returns params lines end f l =
     let w = body_within text globals n returns params lines end f l in
     let s = stands_behind params text globals n (length (body_columns params lines)) returns in
@@ -211,9 +213,9 @@ body_few text globals n returns params lines end f l =
     (omega (arith, w.columns, s.next, s.full, m.next, m.full, c), omega (arith, w.checks, s.number, m.number))
 
 with_params_place : (params : List Param) (env : Env) → (with_params env params).place ≡ env.place
-unfolding declared
+unfolding with_variable
 with_params_place [] env = refl
-with_params_place (param ∷ rest) env = with_params_place rest (declared param.name env)
+with_params_place (param ∷ rest) env = with_params_place rest (with_variable param.name env)
 
 begins_outside : (text : Scope) (globals n columns : ℕ) (returns : Bool) → (beginning text globals n returns columns).place ≡ Outside
 unfolding beginning
@@ -222,7 +224,7 @@ begins_outside text globals n columns returns = refl
 proc_code : (program : Program) (text : Scope) (globals n : ℕ) (returns : Bool) (params : List Param) (lines : List Line) (end width : ℕ) (place : _)
     → body_faults text globals n returns params lines end ≡ [] → globals + length (body_columns params lines) + 1 ≡ width
     → ((width : ℕ) → globals ≤ width → ScopeFits program.procs width text) → n + length (all_checks_of (source_lines_of lines)) ≤ length program.checks
-    → lines_have_few (source_lines_of lines) ≡ true → AgreesBy fit.may_leave fit.body_place Outside place
+    → lines_have_fewer (most_operators + 1) (source_lines_of lines) ≡ true → AgreesBy fit.may_leave fit.body_place Outside place
     → code_fits program width place (code_of (all_statements_of (body_env text globals n returns params lines) (source_lines_of lines))) ≡ true
 proc_code program text globals n returns params lines end width place f wide scope checks o agrees =
     let columns = length (body_columns params lines) in
@@ -237,9 +239,9 @@ proc_code program text globals n returns params lines end width place f wide sco
     (omega (arith, s.next, s.ret, c)) (omega (arith, s.number, checks)) o).code
 
 proc_fits : (program : Program) (text : Scope) (globals n : ℕ) (name : List ℕ) (returns : Bool) (params : List Param) (lines : List Line) (end : ℕ)
-    → body_faults text globals n returns params lines end ≡ [] → parameter_faults 0 params ≡ [] → n ≤ MOST_CHECKS → length program.globals ≡ globals
+    → body_faults text globals n returns params lines end ≡ [] → parameter_faults 0 params ≡ [] → n ≤ most_checks → length program.globals ≡ globals
     → ((width : ℕ) → globals ≤ width → ScopeFits program.procs width text) → n + length (all_checks_of (source_lines_of lines)) ≤ length program.checks
-    → lines_have_few (source_lines_of lines) ≡ true → IsProcFit program (proc_of text globals n name returns params lines)
+    → lines_have_fewer (most_operators + 1) (source_lines_of lines) ≡ true → IsProcFit program (proc_of text globals n name returns params lines)
 proc_fits program text globals n name returns params lines end f p l g scope checks o =
     let few = body_few text globals n returns params lines end f l in
     let c = columns_count params lines in
@@ -254,7 +256,7 @@ proc_fits program text globals n name returns params lines end f p l g scope che
     }
 
 procs_fit : (items : List Item) (program : Program) (text above : Scope) (globals g p n : ℕ) → procs_faults text globals n items ≡ [] → declaration_faults above g p items ≡ []
-    → n ≤ MOST_CHECKS → length program.globals ≡ globals → ((width : ℕ) → globals ≤ width → ScopeFits program.procs width text)
+    → n ≤ most_checks → length program.globals ≡ globals → ((width : ℕ) → globals ≤ width → ScopeFits program.procs width text)
     → n + length (checks_in items) ≤ length program.checks → items_have_few items ≡ true → AllByRecursion (IsProcFit program) (procs_of text globals n items)
 procs_fit [] program text above globals g p n f d l e scope checks o = tt
 procs_fit (Global name at init ∷ rest) program text above globals g p n f d l e scope checks o =
@@ -266,12 +268,12 @@ procs_fit (Body name at returns params lines end ∷ rest) program text above gl
     let few = body_few text globals n returns params lines end (first_nil _ _ f) l in (
       proc_fits program text globals n name returns params lines end (first_nil _ _ f) (second_nil _ _ (first_nil _ _ d)) l e scope (omega (arith, checks, k)) (left_of _ _ o),
       procs_fit rest program text _ globals g (p + 1) (n + length (all_checks_of (source_lines_of lines))) (second_nil _ _ f) (second_nil _ _ d) few.1 e scope (omega (arith, checks, k))
-          (right_of (lines_have_few (source_lines_of lines)) _ o),
+          (right_of (lines_have_fewer (most_operators + 1) (source_lines_of lines)) _ o),
     )
 
 -- ---- assertions
 
-checks_few : (items : List Item) (text : Scope) (globals n : ℕ) → procs_faults text globals n items ≡ [] → n ≤ MOST_CHECKS → n + length (checks_in items) ≤ MOST_CHECKS
+checks_few : (items : List Item) (text : Scope) (globals n : ℕ) → procs_faults text globals n items ≡ [] → n ≤ most_checks → n + length (checks_in items) ≤ most_checks
 checks_few [] text globals n f l = omega (arith, l)
 checks_few (Global name at init ∷ rest) text globals n f l = checks_few rest text globals n f l
 checks_few (Proto name at returns params ∷ rest) text globals n f l = checks_few rest text globals n f l
@@ -323,32 +325,12 @@ elaborated_fits items length_of_text f o =
       once = λ k l h. procs_listed k items text globals 0 ∙ listed_within k (length (checks_in items)) l h;
     }
 
-ok_or : Result Program TypeError → Program → Program
-ok_or (Ok program) other = program
-ok_or (Err fault) other = other
-
-is_ok : Result Program TypeError → Bool
-is_ok (Ok program) = true
-is_ok (Err fault) = false
-
-least_stays : (faults : List TypeError) (fault : TypeError) (made program : Program) → unless_fault (least_of (Some fault) faults) made ≡ Ok program → ⊥
-unfolding is_ok
-least_stays [] fault made program e = true_is_not_false (sym (ap is_ok e))
-least_stays (next ∷ rest) fault made program e = least_stays rest (lesser (Some fault) next) made program e
-
--- an answer says that there was no fault
-no_fault : (faults : List TypeError) (made program : Program) → unless_fault (least_of None faults) made ≡ Ok program → (faults ≡ []) × (program ≡ made)
-unfolding ok_or
-no_fault [] made program e = (refl, sym (ap (λ (r : Result Program TypeError). ok_or r made) e))
-no_fault (fault ∷ rest) made program e = absurd (least_stays rest fault made program e)
-
 -- what elaboration answers is well formed
 pub answer_fits : (items : List Item) (length_of_text : ℕ) (program : Program) → items_have_few items ≡ true
     → elaboration_of items length_of_text ≡ Ok program → IsWellFormed program
-unfolding elaboration_of
 answer_fits items length_of_text program o e =
-    let n = no_fault (faults_of items length_of_text) (elaborated items) program e in
-    subst IsWellFormed (sym n.1) (elaborated_fits items length_of_text n.0 o)
+    let is = answered items length_of_text program e in
+    subst IsWellFormed (sym is.same) (elaborated_fits items length_of_text is.faultless o)
 
 pub answered_fits : (items : List Item) (length_of_text : ℕ) (made : Result Program TypeError) → Gives cause (λ (p : Program). p) made (elaboration_of items length_of_text)
     → items_have_few items ≡ true → IfOk made IsWellFormed

@@ -1,7 +1,7 @@
 -- The faults of expressions and calls, each with its place.
 use Rattle.std.specs.Prelude.{ℕ, Bool, true, false, not, ◌&&◌, ◌||◌, ◌==◌, nat_lt, is_none, List, [], ◌∷◌, ◌++◌, map}
 use Rattle.syntax_tree.specs.declared.core_expr.Core.{Core}
-use Rattle.syntax_tree.specs.declared.limits.TheConstants.{MOST_CASES, MOST_CHECKS}
+use Rattle.syntax_tree.specs.Limits.{most_cases, most_checks}
 use Rattle.syntax_tree.specs.declared.op.Op.{Op}
 use Rattle.syntax_tree.specs.declared.op.Op.TheVariants.{And, Or}
 use Rattle.syntax_tree.specs.Cases.{cases_of, joint_cases}
@@ -17,7 +17,7 @@ use Rattle.typing.specs.declared.meaning.Signature.{Signature}
 use Rattle.typing.specs.declared.special.Special.{Special}
 use Rattle.typing.specs.declared.special.Special.TheVariants.{Assert, Assume, Nondet, Error, Abort, Exit}
 use Rattle.typing.specs.Calls.{condition_of}
-use Rattle.typing.specs.Env.{taken}
+use Rattle.typing.specs.Env.{with_columns_taken}
 use Rattle.typing.specs.Scopes.{callee_of, variable_of}
 use Rattle.typing.specs.Specials.{arguments_of, has_value, is_main}
 use Rattle.typing.specs.Terms.{all_temporaries, count_of, place_of, temporaries, term_in, terms_in}
@@ -59,7 +59,7 @@ statement_call_faults callee.Nobody at name count = Unknown at ∷ []
 abbrev pub many_together : List Core → SourceExprs → List TypeError
 many_together terms End = []
 many_together terms (Then expr rest) =
-    when (nat_lt MOST_CASES (joint_cases (map term_of terms))) (Many limited.Cases (place_of expr))
+    when (nat_lt most_cases (joint_cases (map term_of terms))) (Many limited.Cases (place_of expr))
 
 abbrev pub joint_faults : Env → SourceExprs → List TypeError
 joint_faults env args = many_together (terms_in env args) args
@@ -78,20 +78,20 @@ abbrev mutual
       value_call_faults (callee_of env.scopes name) right at name (count_of args)
       ++ all_expression_faults env right args
       ++ joint_faults env args
-      ++ slot_faults (taken (all_temporaries args) env) at
+      ++ slot_faults (with_columns_taken (all_temporaries args) env) at
   expression_faults env right (Unary at sign inner) = expression_faults env right inner
   expression_faults env right (Binary at op left rest) =
-      expression_faults env right left ++ expression_faults (taken (temporaries left) env) (right || is_logical op) rest
+      expression_faults env right left ++ expression_faults (with_columns_taken (temporaries left) env) (right || is_logical op) rest
 
   pub all_expression_faults : Env → Bool → SourceExprs → List TypeError
   all_expression_faults env right End = []
   all_expression_faults env right (Then expr rest) =
-      expression_faults env right expr ++ all_expression_faults (taken (temporaries expr) env) right rest
+      expression_faults env right expr ++ all_expression_faults (with_columns_taken (temporaries expr) env) right rest
 
 -- a value with too many cases
 abbrev pub value_faults : Env → SourceExpr → List TypeError
 value_faults env value =
-    when (nat_lt MOST_CASES (cases_of (term_of (term_in env value))).value) (Many limited.Cases (place_of value))
+    when (nat_lt most_cases (cases_of (term_of (term_in env value))).value) (Many limited.Cases (place_of value))
 
 -- a whole right side
 abbrev pub put_faults : Env → SourceExpr → List TypeError
@@ -103,7 +103,7 @@ put_faults env value = expression_faults env false value ++ value_faults env val
 
 -- a condition with too many cases of its truth or of its falsity
 abbrev pub has_many_ways : Term → Bool
-has_many_ways cond = nat_lt MOST_CASES (cases_of cond).truth || nat_lt MOST_CASES (cases_of cond).falsity
+has_many_ways cond = nat_lt most_cases (cases_of cond).truth || nat_lt most_cases (cases_of cond).falsity
 
 abbrev pub truth_faults : Env → SourceExpr → List TypeError
 truth_faults env cond = when (has_many_ways (term_of (term_in env cond))) (Many limited.Cases (place_of cond))
@@ -119,7 +119,7 @@ first_truth_faults terms (Then cond rest) =
 
 -- behind so many assertions the next one is one too many
 abbrev pub number_faults : ℕ → ℕ → List TypeError
-number_faults number at = when (number == MOST_CHECKS) (Many limited.Assertions at)
+number_faults number at = when (number == most_checks) (Many limited.Assertions at)
 
 -- What a special call that is a statement by itself asks for beside its arguments. The status of an exit goes
 -- nowhere, so its cases are not counted.

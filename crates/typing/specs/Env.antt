@@ -7,26 +7,26 @@ use Rattle.typing.specs.declared.meaning.Meaning.TheVariants.{Variable}
 use Rattle.typing.specs.Scopes.{declared_in, outer_of}
 
 -- so many more columns are taken
-unfoldable pub taken : ℕ → Env → Env
-taken columns env = record env { next = env.next + columns }
+unfoldable pub with_columns_taken : ℕ → Env → Env
+with_columns_taken columns env = record env { next = env.next + columns }
 
 -- a variable is declared, and takes the next column
-unfoldable pub declared : List ℕ → Env → Env
-declared name env = record env { scopes = declared_in name (Variable env.next) env.scopes; next = env.next + 1 }
+unfoldable pub with_variable : List ℕ → Env → Env
+with_variable name env = record env { scopes = declared_in name (Variable env.next) env.scopes; next = env.next + 1 }
 
 -- so many more assertions stand above
-unfoldable pub numbered : ℕ → Env → Env
-numbered assertions env = record env { number = env.number + assertions }
+unfoldable pub with_assertions : ℕ → Env → Env
+with_assertions assertions env = record env { number = env.number + assertions }
 
 -- in a scope of its own, and behind it
-unfoldable pub opened : Env → Env
-opened env = record env { scopes = [] ∷ env.scopes }
+unfoldable pub with_scope : Env → Env
+with_scope env = record env { scopes = [] ∷ env.scopes }
 
-unfoldable pub closed : Env → Env
-closed env = record env { scopes = outer_of env.scopes }
+unfoldable pub without_scope : Env → Env
+without_scope env = record env { scopes = outer_of env.scopes }
 
-unfoldable pub placed : Place → Env → Env
-placed place env = record env { place = place }
+unfoldable pub with_place : Place → Env → Env
+with_place place env = record env { place = place }
 
 -- the place of a loop's body; inside a step nothing leaves, the loops there included
 abbrev pub body_place : Place → Place

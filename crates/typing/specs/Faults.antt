@@ -1,6 +1,6 @@
 -- All faults of a text, and the one that is told.
 use Rattle.std.specs.Prelude.{ℕ, ◌+◌, Bool, true, false, not, ◌&&◌, ◌||◌, ◌==◌, nat_lt, Option, None, Some, is_none, Result, Ok, Err, List, [], ◌∷◌, ◌++◌, length, if◌then◌else◌}
-use Rattle.syntax_tree.specs.declared.limits.TheConstants.{MOST_PROCEDURES, MOST_PARAMETERS, MOST_GLOBALS, MOST_NODES}
+use Rattle.syntax_tree.specs.Limits.{most_procedures, most_parameters, most_globals, most_nodes}
 use Rattle.syntax_tree.specs.declared.line.Line.{Line}
 use Rattle.syntax_tree.specs.declared.program.Program.{Program}
 use Rattle.syntax_tree.specs.declared.tree.Item.{Item}
@@ -18,10 +18,10 @@ use Rattle.typing.specs.declared.meaning.Meaning.{Meaning}
 use Rattle.typing.specs.declared.meaning.Meaning.TheVariants.{Variable, Procedure}
 use Rattle.typing.specs.CallFaults.{when}
 use Rattle.typing.specs.Elaborated.{elaborated, main_from}
-use Rattle.typing.specs.Env.{declared}
+use Rattle.typing.specs.Env.{with_variable}
 use Rattle.typing.specs.LineFaults.{all_faults_in, declare_faults, twice_faults}
 use Rattle.typing.specs.Lines.{all_checks_of, all_statements_of}
-use Rattle.typing.specs.Scopes.{Scope, found}
+use Rattle.typing.specs.Scopes.{Scope, meaning_in}
 use Rattle.typing.specs.Specials.{is_main}
 use Rattle.typing.specs.Texts.{beginning, body_columns, body_env, bodies, count_globals, declarations, procedure}
 
@@ -35,20 +35,20 @@ main_faults at name params = when (is_main name && not (length params == 0)) (Ar
 abbrev pub parameter_faults : ℕ → List Param → List TypeError
 parameter_faults above [] = []
 parameter_faults above (param ∷ rest) =
-    when (above == MOST_PARAMETERS) (Many limited.Parameters param.at) ++ parameter_faults (above + 1) rest
+    when (above == most_parameters) (Many limited.Parameters param.at) ++ parameter_faults (above + 1) rest
 
 -- Behind these declarations, so many globals and so many procedures.
 abbrev pub declaration_faults : Scope → ℕ → ℕ → List Item → List TypeError
 declaration_faults above globals procs [] = []
 declaration_faults above globals procs (Global name at init ∷ rest) =
     twice_faults (above ∷ []) at name
-    ++ when (globals == MOST_GLOBALS) (Many limited.Globals at)
+    ++ when (globals == most_globals) (Many limited.Globals at)
     ++ declaration_faults (above ++ (name, Variable globals) ∷ []) (globals + 1) procs rest
 declaration_faults above globals procs (Proto name at returns params ∷ rest) =
     declaration_faults above globals procs rest
 declaration_faults above globals procs (Body name at returns params lines end ∷ rest) =
     twice_faults (above ∷ []) at name
-    ++ when (procs == MOST_PROCEDURES) (Many limited.Procedures at)
+    ++ when (procs == most_procedures) (Many limited.Procedures at)
     ++ main_faults at name params
     ++ parameter_faults 0 params
     ++ declaration_faults (above ++ (name, procedure procs returns params) ∷ []) globals (procs + 1) rest
@@ -73,19 +73,19 @@ abbrev pub prototype_faults : Scope → List Item → List TypeError
 prototype_faults procs [] = []
 prototype_faults procs (Global name at init ∷ rest) = prototype_faults procs rest
 prototype_faults procs (Proto name at returns params ∷ rest) =
-    when (not (agrees returns params (found procs name))) (Arity at) ++ prototype_faults procs rest
+    when (not (agrees returns params (meaning_in procs name))) (Arity at) ++ prototype_faults procs rest
 prototype_faults procs (Body name at returns params lines end ∷ rest) = prototype_faults procs rest
 
 -- ---- procedures
 
 abbrev pub params_faults : Env → List Param → List TypeError
 params_faults env [] = []
-params_faults env (param ∷ rest) = declare_faults env param.at param.name ++ params_faults (declared param.name env) rest
+params_faults env (param ∷ rest) = declare_faults env param.at param.name ++ params_faults (with_variable param.name env) rest
 
 -- a body whose flow graph has too many nodes, told at its closing brace
 abbrev pub node_faults : Env → SourceLines → ℕ → List TypeError
 node_faults env lines end =
-    when (nat_lt MOST_NODES (graph_nodes (code_of (all_statements_of env lines)))) (Many limited.Nodes end)
+    when (nat_lt most_nodes (graph_nodes (code_of (all_statements_of env lines)))) (Many limited.Nodes end)
 
 abbrev pub body_faults : Scope → ℕ → ℕ → Bool → List Param → List Line → ℕ → List TypeError
 body_faults text globals number returns params lines end =

@@ -5,7 +5,7 @@ use Rattle.std.specs.Map.{lookup}
 use Rattle.typing.specs.declared.meaning.Meaning.{Meaning}
 use Rattle.typing.specs.declared.scopes.Held.{Held}
 use Rattle.typing.specs.declared.scopes.Declaration.{Declaration}
-use Rattle.typing.specs.Scopes.{Entry, Scope, found}
+use Rattle.typing.specs.Scopes.{Entry, Scope, meaning_in}
 
 abbrev pub or_held : ℕ → Option Meaning → Option Held → Option Held
 or_held depth None outer = outer
@@ -14,7 +14,7 @@ or_held depth (Some meaning) outer = Some record { depth = depth; meaning = mean
 -- the declaration of a name in the innermost scope that has one, and how many scopes stand around that
 abbrev pub in_force : List Scope → List ℕ → Option Held
 in_force [] name = None
-in_force (scope ∷ outer) name = or_held (length outer) (found scope name) (in_force outer name)
+in_force (scope ∷ outer) name = or_held (length outer) (meaning_in scope name) (in_force outer name)
 
 abbrev pub flat : Option (Option Held) → Option Held
 flat None = None

@@ -1,6 +1,6 @@
+-- What must be believed: the words of the clauses of public calls.
 pub mod Specials
 pub mod Scopes
-pub mod InForce
 pub mod Env
 pub mod Terms
 pub mod Calls
@@ -12,3 +12,5 @@ pub mod LineFaults
 pub mod Faults
 pub mod Operators
 pub mod Elaborates
+-- Words of proofs: how the scopes are kept.
+pub mod InForce

@@ -8,7 +8,7 @@ use Rattle.typing.specs.declared.env.Place.TheVariants.{Outside, InBody, InStep}
 use Rattle.typing.specs.declared.error.TypeError.{TypeError}
 use Rattle.typing.specs.declared.error.TypeError.TheVariants.{Unknown, Twice, Arity}
 use Rattle.typing.specs.CallFaults.{act_faults, condition_faults, put_faults, slot_faults, variable_faults, when}
-use Rattle.typing.specs.Env.{declared, opened}
+use Rattle.typing.specs.Env.{with_variable, with_scope}
 use Rattle.typing.specs.Lines.{after, at_body, at_first_body, at_last_step, at_last_test, at_step, at_test, in_branch, in_second_branch}
 use Rattle.typing.specs.Scopes.{Scope, is_declared_here}
 use Rattle.typing.specs.Specials.{is_special}
@@ -41,8 +41,8 @@ return_faults env at (Some value) = when (not env.returns) (Arity at) ++ put_fau
 -- the faults of a line, and of several
 abbrev mutual
   pub faults_in : Env → SourceLine → List TypeError
-  faults_in env (Block lines) = all_faults_in (opened env) lines
-  faults_in env (Local name at init) = declare_faults env at name ++ init_faults (declared name env) init
+  faults_in env (Block lines) = all_faults_in (with_scope env) lines
+  faults_in env (Local name at init) = declare_faults env at name ++ init_faults (with_variable name env) init
   faults_in env (Assign name at value) = variable_faults env at name ++ put_faults env value
   faults_in env (Act call) = act_faults env call
   faults_in env (If cond on_true on_false) =
@@ -50,12 +50,12 @@ abbrev mutual
       ++ all_faults_in (in_branch env cond) on_true
       ++ all_faults_in (in_second_branch env cond on_true) on_false
   faults_in env (Loop init cond step body false) =
-      all_faults_in (opened env) init
+      all_faults_in (with_scope env) init
       ++ condition_faults (at_test env init) cond
       ++ all_faults_in (at_step env init cond) step
       ++ all_faults_in (at_body env init cond step) body
   faults_in env (Loop init cond step body true) =
-      all_faults_in (opened env) init
+      all_faults_in (with_scope env) init
       ++ all_faults_in (at_first_body env init) body
       ++ condition_faults (at_last_test env init body) cond
       ++ all_faults_in (at_last_step env init body cond) step

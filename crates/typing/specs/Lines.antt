@@ -11,7 +11,7 @@ use Rattle.typing.specs.declared.env.Env.{Env}
 use Rattle.typing.specs.declared.env.Place.{Place}
 use Rattle.typing.specs.declared.env.Place.TheVariants.{InStep}
 use Rattle.typing.specs.Calls.{act_checks, act_in, calls_in, put_in, put_temporaries}
-use Rattle.typing.specs.Env.{body_place, closed, declared, numbered, opened, placed, taken}
+use Rattle.typing.specs.Env.{body_place, without_scope, with_variable, with_assertions, with_scope, with_place, with_columns_taken}
 use Rattle.typing.specs.Scopes.{column_of}
 use Rattle.typing.specs.Terms.{temporaries, term_in}
 
@@ -72,34 +72,34 @@ abbrev mutual
 
 abbrev pub with_value : Option SourceExpr → Env → Env
 with_value None env = env
-with_value (Some value) env = taken (put_temporaries value) env
+with_value (Some value) env = with_columns_taken (put_temporaries value) env
 
 -- in the body of a loop, which is a scope, and behind it
 abbrev pub in_body : Env → Env
-in_body env = opened (placed (body_place env.place) env)
+in_body env = with_scope (with_place (body_place env.place) env)
 
 abbrev pub behind_body : Place → Env → Env
-behind_body place env = placed place (closed env)
+behind_body place env = with_place place (without_scope env)
 
 abbrev pub in_step : Env → Env
-in_step env = placed InStep env
+in_step env = with_place InStep env
 
 -- A line leaves the variables that it declares, the columns that it takes and the assertions that it has; a block, a
 -- branch and a body are scopes, and so is a loop with its initialiser (C11 6.8).
 abbrev mutual
   pub after : Env → SourceLine → Env
-  after env (Block lines) = closed (after_all (opened env) lines)
-  after env (Local name at init) = with_value init (declared name env)
-  after env (Assign name at value) = taken (put_temporaries value) env
-  after env (Act call) = numbered (length (act_checks call)) (taken (put_temporaries call) env)
+  after env (Block lines) = without_scope (after_all (with_scope env) lines)
+  after env (Local name at init) = with_value init (with_variable name env)
+  after env (Assign name at value) = with_columns_taken (put_temporaries value) env
+  after env (Act call) = with_assertions (length (act_checks call)) (with_columns_taken (put_temporaries call) env)
   after env (If cond on_true on_false) =
-      closed (after_all (opened (closed (after_all (opened (taken (temporaries cond) env)) on_true))) on_false)
+      without_scope (after_all (with_scope (without_scope (after_all (with_scope (with_columns_taken (temporaries cond) env)) on_true))) on_false)
   after env (Loop init cond step body false) =
-      closed (behind_body env.place (after_all (in_body (placed env.place
-      (after_all (in_step (taken (temporaries cond) (after_all (opened env) init))) step))) body))
+      without_scope (behind_body env.place (after_all (in_body (with_place env.place
+      (after_all (in_step (with_columns_taken (temporaries cond) (after_all (with_scope env) init))) step))) body))
   after env (Loop init cond step body true) =
-      closed (placed env.place (after_all (in_step (taken (temporaries cond)
-      (behind_body env.place (after_all (in_body (after_all (opened env) init)) body)))) step))
+      without_scope (with_place env.place (after_all (in_step (with_columns_taken (temporaries cond)
+      (behind_body env.place (after_all (in_body (after_all (with_scope env) init)) body)))) step))
   after env (Break at) = env
   after env (Continue at) = env
   after env (Return at value) = with_value value env
@@ -112,48 +112,48 @@ abbrev mutual
 
 -- the second branch of an `if` stands behind the first
 abbrev pub in_branch : Env → SourceExpr → Env
-in_branch env cond = opened (taken (temporaries cond) env)
+in_branch env cond = with_scope (with_columns_taken (temporaries cond) env)
 
 abbrev pub in_second_branch : Env → SourceExpr → SourceLines → Env
-in_second_branch env cond on_true = opened (closed (after_all (in_branch env cond) on_true))
+in_second_branch env cond on_true = with_scope (without_scope (after_all (in_branch env cond) on_true))
 
 -- the condition of a loop that tests first, its step and its body
 abbrev pub at_test : Env → SourceLines → Env
-at_test env init = after_all (opened env) init
+at_test env init = after_all (with_scope env) init
 
 abbrev pub at_step : Env → SourceLines → SourceExpr → Env
-at_step env init cond = in_step (taken (temporaries cond) (at_test env init))
+at_step env init cond = in_step (with_columns_taken (temporaries cond) (at_test env init))
 
 abbrev pub at_body : Env → SourceLines → SourceExpr → SourceLines → Env
-at_body env init cond step = in_body (placed env.place (after_all (at_step env init cond) step))
+at_body env init cond step = in_body (with_place env.place (after_all (at_step env init cond) step))
 
 -- the body of a `do`, its condition and its step
 abbrev pub at_first_body : Env → SourceLines → Env
-at_first_body env init = in_body (after_all (opened env) init)
+at_first_body env init = in_body (after_all (with_scope env) init)
 
 abbrev pub at_last_test : Env → SourceLines → SourceLines → Env
 at_last_test env init body = behind_body env.place (after_all (at_first_body env init) body)
 
 abbrev pub at_last_step : Env → SourceLines → SourceLines → SourceExpr → Env
-at_last_step env init body cond = in_step (taken (temporaries cond) (at_last_test env init body))
+at_last_step env init body cond = in_step (with_columns_taken (temporaries cond) (at_last_test env init body))
 
 -- ---- statements
 
-abbrev pub value_put : Env → ℕ → Option SourceExpr → List Stmt
-value_put env col None = []
-value_put env col (Some value) = put_in env col value
+abbrev pub value_statements : Env → ℕ → Option SourceExpr → List Stmt
+value_statements env col None = []
+value_statements env col (Some value) = put_in env col value
 
 -- a local has any value until it is given one
-abbrev pub local_put : Env → ℕ → Option SourceExpr → List Stmt
-local_put env col None = stmt.Any col ∷ []
-local_put env col (Some value) = put_in env col value
+abbrev pub local_statements : Env → ℕ → Option SourceExpr → List Stmt
+local_statements env col None = stmt.Any col ∷ []
+local_statements env col (Some value) = put_in env col value
 
 -- The statements of a line, and of several. The calls of a condition stand before its `If`; those of a loop's
 -- condition are made each time that it is tested.
 abbrev mutual
   pub statements_of : Env → SourceLine → List Stmt
-  statements_of env (Block lines) = all_statements_of (opened env) lines
-  statements_of env (Local name at init) = local_put (declared name env) env.next init
+  statements_of env (Block lines) = all_statements_of (with_scope env) lines
+  statements_of env (Local name at init) = local_statements (with_variable name env) env.next init
   statements_of env (Assign name at value) = put_in env (column_of env.scopes name) value
   statements_of env (Act call) = act_in env call
   statements_of env (If cond on_true on_false) =
@@ -163,7 +163,7 @@ abbrev mutual
       (all_statements_of (in_second_branch env cond on_true) on_false)
       ∷ []
   statements_of env (Loop init cond step body false) =
-      all_statements_of (opened env) init
+      all_statements_of (with_scope env) init
       ++ stmt.Loop
       (calls_in (at_test env init) cond)
       (term_in (at_test env init) cond)
@@ -172,7 +172,7 @@ abbrev mutual
       false
       ∷ []
   statements_of env (Loop init cond step body true) =
-      all_statements_of (opened env) init
+      all_statements_of (with_scope env) init
       ++ stmt.Loop
       (calls_in (at_last_test env init body) cond)
       (term_in (at_last_test env init body) cond)
@@ -182,7 +182,7 @@ abbrev mutual
       ∷ []
   statements_of env (Break at) = stmt.Break ∷ []
   statements_of env (Continue at) = stmt.Continue ∷ []
-  statements_of env (Return at value) = value_put env env.ret value ++ stmt.Return ∷ []
+  statements_of env (Return at value) = value_statements env env.ret value ++ stmt.Return ∷ []
 
   pub all_statements_of : Env → SourceLines → List Stmt
   all_statements_of env End = []

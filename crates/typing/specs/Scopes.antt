@@ -17,9 +17,9 @@ abbrev pub Scope : Type 0
 Scope = List Entry
 
 -- the first declaration of a name in one scope
-abbrev pub found : Scope → List ℕ → Option Meaning
-found [] name = None
-found (entry ∷ rest) name = if bytes_eq entry.0 name then Some entry.1 else found rest name
+abbrev pub meaning_in : Scope → List ℕ → Option Meaning
+meaning_in [] name = None
+meaning_in (entry ∷ rest) name = if bytes_eq entry.0 name then Some entry.1 else meaning_in rest name
 
 abbrev pub or_outer : Option Meaning → Option Meaning → Option Meaning
 or_outer None outer = outer
@@ -28,12 +28,12 @@ or_outer (Some meaning) outer = Some meaning
 -- A name means its declaration in the innermost scope that has one. The scopes are given innermost first.
 abbrev pub meaning_of : List Scope → List ℕ → Option Meaning
 meaning_of [] name = None
-meaning_of (scope ∷ outer) name = or_outer (found scope name) (meaning_of outer name)
+meaning_of (scope ∷ outer) name = or_outer (meaning_in scope name) (meaning_of outer name)
 
 -- the innermost scope has the name
 abbrev pub is_declared_here : List Scope → List ℕ → Bool
 is_declared_here [] name = false
-is_declared_here (scope ∷ outer) name = is_some (found scope name)
+is_declared_here (scope ∷ outer) name = is_some (meaning_in scope name)
 
 -- one more declaration in the innermost scope
 abbrev pub declared_in : List ℕ → Meaning → List Scope → List Scope

@@ -5,7 +5,7 @@ use Rattle.syntax_tree.specs.declared.core_expr.Core.{Core}
 use Rattle.syntax_tree.specs.declared.core_expr.Core.TheVariants as core
 use Rattle.syntax_tree.specs.SourceExpr.{SourceExpr, Lit, Var, Call, Unary, Binary, SourceExprs, End, Then}
 use Rattle.typing.specs.declared.env.Env.{Env}
-use Rattle.typing.specs.Env.{taken}
+use Rattle.typing.specs.Env.{with_columns_taken}
 use Rattle.typing.specs.Scopes.{column_of}
 
 -- the place of an expression
@@ -39,8 +39,8 @@ term_in env (Lit at value) = core.Lit value
 term_in env (Var at name) = core.Col (column_of env.scopes name)
 term_in env (Call at name args) = core.Col (env.next + all_temporaries args)
 term_in env (Unary at sign inner) = core.Unary sign (term_in env inner)
-term_in env (Binary at op left right) = core.Binary op (term_in env left) (term_in (taken (temporaries left) env) right)
+term_in env (Binary at op left right) = core.Binary op (term_in env left) (term_in (with_columns_taken (temporaries left) env) right)
 
 abbrev pub terms_in : Env → SourceExprs → List Core
 terms_in env End = []
-terms_in env (Then expr rest) = term_in env expr ∷ terms_in (taken (temporaries expr) env) rest
+terms_in env (Then expr rest) = term_in env expr ∷ terms_in (with_columns_taken (temporaries expr) env) rest

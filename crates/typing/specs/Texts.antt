@@ -1,6 +1,6 @@
 -- The scope of a text, and what each of its procedures begins with.
 use Rattle.std.specs.Prelude.{ℕ, ◌+◌, Bool, List, [], ◌∷◌, ◌++◌, length, map}
-use Rattle.syntax_tree.specs.declared.limits.TheConstants.{MOST_SLOTS}
+use Rattle.syntax_tree.specs.Limits.{most_slots}
 use Rattle.syntax_tree.specs.declared.line.Line.{Line}
 use Rattle.syntax_tree.specs.declared.program.Column.{Column}
 use Rattle.syntax_tree.specs.declared.tree.Item.{Item}
@@ -11,7 +11,7 @@ use Rattle.typing.specs.declared.env.Env.{Env}
 use Rattle.typing.specs.declared.env.Place.TheVariants.{Outside}
 use Rattle.typing.specs.declared.meaning.Meaning.{Meaning}
 use Rattle.typing.specs.declared.meaning.Meaning.TheVariants.{Variable, Procedure}
-use Rattle.typing.specs.Env.{declared}
+use Rattle.typing.specs.Env.{with_variable}
 use Rattle.typing.specs.Lines.{all_columns_of, named}
 use Rattle.typing.specs.Scopes.{Scope}
 
@@ -61,7 +61,7 @@ body_columns params lines = map param_column params ++ all_columns_of (source_li
 
 abbrev pub with_params : Env → List Param → Env
 with_params env [] = env
-with_params env (param ∷ rest) = with_params (declared param.name env) rest
+with_params env (param ∷ rest) = with_params (with_variable param.name env) rest
 
 -- The beginning of a procedure with so many columns, in a text with this scope and so many globals, behind so many
 -- assertions. The returned value has the last column.
@@ -73,7 +73,7 @@ beginning text globals number returns columns = record {
   place = Outside;
   returns = returns;
   ret = globals + columns;
-  full = globals + MOST_SLOTS;
+  full = globals + most_slots;
 }
 
 -- the same with its parameters; they and its outermost block are one scope (C11 6.2.1)

@@ -4,8 +4,8 @@ ghost use Rattle.std.specs.Prelude.{◌≡◌, ◌+◌, [], ◌∷◌, ◌++◌,
 ghost use Rattle.syntax_tree.specs.SourceExpr.{source_expr_of, source_exprs_of};
 ghost use Rattle.syntax_tree.specs.Term.{term_of};
 ghost use Rattle.typing.specs.CallFaults.{act_faults, all_expression_faults, argument_faults, expression_faults, first_truth_faults, number_faults, special_faults, statement_call_faults};
-ghost use Rattle.typing.specs.Calls.{act_checks, callee_asserts, act_in, all_calls_in, calls_in, condition_of, if_assertion, listed_if, put_temporaries, special_made, statement_made};
-ghost use Rattle.typing.specs.Env.{numbered, taken};
+ghost use Rattle.typing.specs.Calls.{act_checks, callee_asserts, act_in, all_calls_in, calls_in, condition_of, if_assertion, listed_if, put_temporaries, special_statements, act_statements};
+ghost use Rattle.typing.specs.Env.{with_assertions, with_columns_taken};
 ghost use Rattle.typing.specs.Faults.{least_of};
 ghost use Rattle.typing.specs.Scopes.{callee_of};
 ghost use Rattle.typing.specs.Specials.{is_assertion, special_of};
@@ -50,7 +50,7 @@ impl Elaborator {
     /// A call that is a statement by itself.
     pub(crate) fn act(&mut self, e: &Expr, out: &mut Items<Stmt>) -> Result<(), AllocError>
         ensures statements { OnOk result (out.new ≡ out.old ++ act_in self.old.env (source_expr_of e.now)) }
-        ensures env { OnOk result (self.new.env ≡ numbered (length (act_checks (source_expr_of e.now))) (taken (put_temporaries (source_expr_of e.now)) self.old.env)) }
+        ensures env { OnOk result (self.new.env ≡ with_assertions (length (act_checks (source_expr_of e.now))) (with_columns_taken (put_temporaries (source_expr_of e.now)) self.old.env)) }
         ensures least { OnOk result (self.new.least ≡ least_of self.old.least (act_faults self.old.env (source_expr_of e.now))) }
     {
         match e {
@@ -90,8 +90,8 @@ impl Elaborator {
         args: &[Expr],
         out: &mut Items<Stmt>,
     ) -> Result<(), AllocError>
-        ensures statements { OnOk result (out.new ≡ out.old ++ (all_calls_in self.old.env (source_exprs_of args.now) ++ statement_made (self.old.env.number + 1) (callee_of self.old.env.scopes name.now) (terms_in self.old.env (source_exprs_of args.now)))) }
-        ensures env { OnOk result (self.new.env ≡ numbered (length (listed_if (if_assertion (special_of name.now)) at)) (taken (all_temporaries (source_exprs_of args.now)) self.old.env)) }
+        ensures statements { OnOk result (out.new ≡ out.old ++ (all_calls_in self.old.env (source_exprs_of args.now) ++ act_statements (self.old.env.number + 1) (callee_of self.old.env.scopes name.now) (terms_in self.old.env (source_exprs_of args.now)))) }
+        ensures env { OnOk result (self.new.env ≡ with_assertions (length (listed_if (if_assertion (special_of name.now)) at)) (with_columns_taken (all_temporaries (source_exprs_of args.now)) self.old.env)) }
         ensures least { OnOk result (self.new.least ≡ least_of self.old.least (statement_call_faults (callee_of self.old.env.scopes name.now) at name.now (length args.now) ++ all_expression_faults self.old.env false (source_exprs_of args.now) ++ argument_faults self.old.env.number (terms_in self.old.env (source_exprs_of args.now)) (callee_of self.old.env.scopes name.now) at (source_exprs_of args.now))) }
     {
         let callee = self.statement_callee(at, name, args.len());
@@ -108,8 +108,8 @@ impl Elaborator {
         terms: Items<Core>,
         out: &mut Items<Stmt>,
     ) -> Result<(), AllocError>
-        ensures statements { OnOk result (out.new ≡ out.old ++ statement_made (self.old.env.number + 1) callee terms) }
-        ensures env { OnOk result (self.new.env ≡ numbered (length (listed_if (callee_asserts callee) at)) self.old.env) }
+        ensures statements { OnOk result (out.new ≡ out.old ++ act_statements (self.old.env.number + 1) callee terms) }
+        ensures env { OnOk result (self.new.env ≡ with_assertions (length (listed_if (callee_asserts callee) at)) self.old.env) }
         ensures least { OnOk result (self.new.least ≡ least_of self.old.least (argument_faults self.old.env.number terms callee at (source_exprs_of args.now))) }
     {
         match callee {
@@ -143,8 +143,8 @@ impl Elaborator {
         terms: Items<Core>,
         out: &mut Items<Stmt>,
     ) -> Result<(), AllocError>
-        ensures statements { OnOk result (out.new ≡ out.old ++ special_made (self.old.env.number + 1) special terms) }
-        ensures env { OnOk result (self.new.env ≡ numbered (length (listed_if (is_assertion special) at)) self.old.env) }
+        ensures statements { OnOk result (out.new ≡ out.old ++ special_statements (self.old.env.number + 1) special terms) }
+        ensures env { OnOk result (self.new.env ≡ with_assertions (length (listed_if (is_assertion special) at)) self.old.env) }
         ensures least { OnOk result (self.new.least ≡ least_of self.old.least (special_faults self.old.env.number terms special at (source_exprs_of args.now))) }
     {
         match special {
@@ -173,7 +173,7 @@ impl Elaborator {
     // The next assertion may be one too many.
     fn assertion(&mut self, at: u32) -> Result<u32, AllocError>
         ensures number { IfOk result (λ number. number ≡ self.old.env.number + 1) }
-        ensures env { OnOk result (self.new.env ≡ numbered 1 self.old.env) }
+        ensures env { OnOk result (self.new.env ≡ with_assertions 1 self.old.env) }
         ensures least { OnOk result (self.new.least ≡ least_of self.old.least (number_faults self.old.env.number at)) }
     {
         let is_full = self.env.number as usize == MOST_CHECKS;
@@ -188,7 +188,7 @@ impl Elaborator {
     // No grammar has another expression than a call here.
     fn calls_alone(&mut self, e: &Expr, out: &mut Items<Stmt>) -> Result<(), AllocError>
         ensures statements { OnOk result (out.new ≡ out.old ++ calls_in self.old.env (source_expr_of e.now)) }
-        ensures env { OnOk result (self.new.env ≡ numbered 0 (taken (temporaries (source_expr_of e.now)) self.old.env)) }
+        ensures env { OnOk result (self.new.env ≡ with_assertions 0 (with_columns_taken (temporaries (source_expr_of e.now)) self.old.env)) }
         ensures least { OnOk result (self.new.least ≡ least_of self.old.least (expression_faults self.old.env false (source_expr_of e.now))) }
     {
         let _ = self.expression(e, false, out)?;

@@ -1,6 +1,7 @@
 #![tactic(auto, using(crate::proofs::Items::items))]
 
 ghost use Rattle.std.specs.Prelude.{◌≡◌, ◌+◌, [], ◌∷◌, ◌++◌, IfOk, OnOk, None, Some, ◌==◌};
+ghost use Rattle.syntax_tree.specs.Limits.{most_globals, most_procedures};
 ghost use Rattle.typing.specs.CallFaults.{when};
 ghost use Rattle.typing.specs.Faults.{agrees, agrees_in_number, agrees_in_value, declaration_faults, least_of, main_faults, parameter_faults, prototype_faults};
 ghost use Rattle.typing.specs.LineFaults.{twice_faults};
@@ -11,6 +12,7 @@ use crate::least::note_if;
 use crate::meaning::{Meaning, Signature};
 use crate::scopes::Scopes;
 use crate::special::{is_main, special_of};
+use crate::sums::sum;
 use std::alloc::{AllocError, Global};
 use syntax_tree::{Item, MOST_GLOBALS, MOST_PARAMETERS, MOST_PROCEDURES, Name, Param};
 
@@ -91,7 +93,7 @@ impl Declarations {
         ensures bodies { OnOk result (self.new.bodies ≡ self.old.bodies) }
         ensures globals { OnOk result (self.new.globals ≡ self.old.globals + 1) }
         ensures procs { OnOk result (self.new.procs ≡ self.old.procs) }
-        ensures least { OnOk result (self.new.least ≡ least_of self.old.least (twice_faults (top self.old.scopes ∷ []) at name.now ++ when (self.old.globals == MOST_GLOBALS) (TypeError.Many Limited.Globals at))) }
+        ensures least { OnOk result (self.new.least ≡ least_of self.old.least (twice_faults (top self.old.scopes ∷ []) at name.now ++ when (self.old.globals == most_globals) (TypeError.Many Limited.Globals at))) }
     {
         self.note_twice(name, at);
         let is_full = self.globals as usize == MOST_GLOBALS;
@@ -102,7 +104,7 @@ impl Declarations {
         );
         let meaning = Meaning::Variable(self.globals);
         self.scopes.declare(self.alloc, name.clone()?, meaning)?;
-        self.globals = self.globals.checked_add(1).ok_or(AllocError)?;
+        self.globals = sum(self.globals, 1)?;
         Ok(())
     }
 
@@ -119,7 +121,7 @@ impl Declarations {
         ensures bodies { OnOk result (self.new.bodies ≡ (top self.old.bodies ++ (name.now, procedure self.old.procs returns params.now) ∷ []) ∷ []) }
         ensures globals { OnOk result (self.new.globals ≡ self.old.globals) }
         ensures procs { OnOk result (self.new.procs ≡ self.old.procs + 1) }
-        ensures least { OnOk result (self.new.least ≡ least_of self.old.least (twice_faults (top self.old.scopes ∷ []) at name.now ++ when (self.old.procs == MOST_PROCEDURES) (TypeError.Many Limited.Procedures at) ++ main_faults at name.now params.now ++ parameter_faults 0 params.now)) }
+        ensures least { OnOk result (self.new.least ≡ least_of self.old.least (twice_faults (top self.old.scopes ∷ []) at name.now ++ when (self.old.procs == most_procedures) (TypeError.Many Limited.Procedures at) ++ main_faults at name.now params.now ++ parameter_faults 0 params.now)) }
     {
         self.note_twice(name, at);
         let is_full = self.procs as usize == MOST_PROCEDURES;
@@ -138,7 +140,7 @@ impl Declarations {
         });
         self.scopes.declare(self.alloc, name.clone()?, meaning)?;
         self.bodies.declare(self.alloc, name.clone()?, meaning)?;
-        self.procs = self.procs.checked_add(1).ok_or(AllocError)?;
+        self.procs = sum(self.procs, 1)?;
         Ok(())
     }
 

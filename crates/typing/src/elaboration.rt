@@ -1,6 +1,6 @@
 #![tactic(auto, using(crate::proofs::Items::items), unfolding(crate::specs::Faults::elaboration_of))]
 
-ghost use Rattle.std.specs.Prelude.{◌≡◌, ◌+◌, [], ◌∷◌, ◌++◌, IfOk, IsTrue, OnOk, None};
+ghost use Rattle.std.specs.Prelude.{◌≡◌, ◌≤◌, ◌^◌, ◌+◌, [], ◌∷◌, ◌++◌, IfErr, IfOk, IsTrue, OnOk, None, length};
 ghost use Rattle.items.specs.Gives.{Gives};
 ghost use Rattle.typing.specs.Elaborated.{checks_in, globals_of, main_from, procs_of};
 ghost use Rattle.syntax_tree.specs.WellFormed.{IsWellFormed};
@@ -15,6 +15,7 @@ use crate::error::TypeError;
 use crate::least::note_if;
 use crate::scopes::Scopes;
 use crate::special::is_main;
+use crate::sums::sum;
 use items::Items;
 use std::alloc::{AllocError, Global};
 use syntax_tree::{GlobalVar, Item, Proc, Program, Tree};
@@ -143,7 +144,8 @@ fn push_global(globals: &mut Items<GlobalVar>, item: &Item) -> Result<(), AllocE
 
 // The number of the first procedure `main`.
 fn main_of(items: &[Item]) -> Result<Option<u32>, AllocError>
-    ensures { IfOk result (λ main. main ≡ main_from 0 items.now) }
+    ensures place { IfOk result (λ main. main ≡ main_from 0 items.now) }
+    ensures past { IfErr result (λ _. 2 ^ 32 ≤ length items.now) }
 {
     let mut procs = 0u32;
     for item in items {
@@ -151,7 +153,7 @@ fn main_of(items: &[Item]) -> Result<Option<u32>, AllocError>
             if is_main(name.as_slice()) {
                 return Ok(Some(procs));
             }
-            procs = procs.checked_add(1).ok_or(AllocError)?;
+            procs = sum(procs, 1)?;
         }
     }
     Ok(None)

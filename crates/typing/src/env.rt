@@ -1,7 +1,7 @@
-#![tactic(auto, unfolding(crate::specs::Env::taken, crate::specs::Env::declared, crate::specs::Env::numbered, crate::specs::Env::opened, crate::specs::Env::closed, crate::specs::Env::placed, crate::specs::Scopes::variable_of, crate::specs::Scopes::callee_of))]
+#![tactic(auto, unfolding(crate::specs::Env::with_columns_taken, crate::specs::Env::with_variable, crate::specs::Env::with_assertions, crate::specs::Env::with_scope, crate::specs::Env::without_scope, crate::specs::Env::with_place, crate::specs::Scopes::variable_of, crate::specs::Scopes::callee_of))]
 
-ghost use Rattle.std.specs.Prelude.{◌≡◌, ◌+◌, IfOk, OnOk};
-ghost use Rattle.typing.specs.Env.{body_place, closed, declared, numbered, opened, placed, taken};
+ghost use Rattle.std.specs.Prelude.{◌≡◌, ◌≤◌, ◌^◌, ◌+◌, IfOk, OnErr, OnOk};
+ghost use Rattle.typing.specs.Env.{body_place, without_scope, with_variable, with_assertions, with_scope, with_place, with_columns_taken};
 ghost use Rattle.typing.specs.LineFaults.{may_leave};
 ghost use Rattle.typing.specs.Scopes.{callee_of, variable_of};
 
@@ -9,6 +9,7 @@ use crate::callee::Callee;
 use crate::meaning::Meaning;
 use crate::scopes::Scopes;
 use crate::special::special_of;
+use crate::sums::sum;
 use std::alloc::{AllocError, Global};
 use syntax_tree::Name;
 
@@ -62,49 +63,51 @@ impl Env {
     /// Takes the next column.
     pub(crate) fn take(&mut self) -> Result<u32, AllocError>
         ensures col { IfOk result (λ col. col ≡ self.old.next) }
-        ensures env { OnOk result (self.new ≡ taken 1 self.old) }
+        ensures env { OnOk result (self.new ≡ with_columns_taken 1 self.old) }
+        ensures past { OnErr result (2 ^ 32 ≤ self.old.next + 1) }
     {
         let col = self.next;
-        self.next = col.checked_add(1).ok_or(AllocError)?;
+        self.next = sum(col, 1)?;
         Ok(col)
     }
 
     /// Declares a variable, which takes the next column.
     pub(crate) fn declare(&mut self, alloc: Global, name: &Name) -> Result<u32, AllocError>
         ensures col { IfOk result (λ col. col ≡ self.old.next) }
-        ensures env { OnOk result (self.new ≡ declared name.now self.old) }
+        ensures env { OnOk result (self.new ≡ with_variable name.now self.old) }
     {
         let col = self.next;
         self.scopes
             .declare(alloc, name.clone()?, Meaning::Variable(col))?;
-        self.next = col.checked_add(1).ok_or(AllocError)?;
+        self.next = sum(col, 1)?;
         Ok(col)
     }
 
     /// Takes the next number of an assertion.
     pub(crate) fn number_next(&mut self) -> Result<u32, AllocError>
         ensures number { IfOk result (λ number. number ≡ self.old.number + 1) }
-        ensures env { OnOk result (self.new ≡ numbered 1 self.old) }
+        ensures env { OnOk result (self.new ≡ with_assertions 1 self.old) }
+        ensures past { OnErr result (2 ^ 32 ≤ self.old.number + 1) }
     {
-        let number = self.number.checked_add(1).ok_or(AllocError)?;
+        let number = sum(self.number, 1)?;
         self.number = number;
         Ok(number)
     }
 
     pub(crate) fn open(&mut self, alloc: Global) -> Result<(), AllocError>
-        ensures { OnOk result (self.new ≡ opened self.old) }
+        ensures { OnOk result (self.new ≡ with_scope self.old) }
     {
         self.scopes.open(alloc)
     }
 
     pub(crate) fn close(&mut self)
-        ensures { self.new ≡ closed self.old }
+        ensures { self.new ≡ without_scope self.old }
     {
         self.scopes.close();
     }
 
     pub(crate) fn set_place(&mut self, place: Place)
-        ensures { self.new ≡ placed place self.old }
+        ensures { self.new ≡ with_place place self.old }
     {
         self.place = place;
     }

@@ -3,8 +3,8 @@
 ghost use Rattle.std.specs.Prelude.{◌≡◌, ◌+◌, [], ◌∷◌, ◌++◌, IfOk, OnOk, length, map};
 ghost use Rattle.syntax_tree.specs.SourceExpr.{source_expr_of, source_exprs_of};
 ghost use Rattle.typing.specs.CallFaults.{all_expression_faults, expression_faults, is_logical, joint_faults, many_together, slot_faults, value_call_faults, variable_faults};
-ghost use Rattle.typing.specs.Calls.{all_calls_in, call_made, calls_in};
-ghost use Rattle.typing.specs.Env.{taken};
+ghost use Rattle.typing.specs.Calls.{all_calls_in, call_statement, calls_in};
+ghost use Rattle.typing.specs.Env.{with_columns_taken};
 ghost use Rattle.typing.specs.Faults.{least_of};
 ghost use Rattle.typing.specs.Scopes.{callee_of, column_of};
 ghost use Rattle.typing.specs.Terms.{all_temporaries, place_of, temporaries, term_in, terms_in};
@@ -41,8 +41,8 @@ fn is_logical(op: Op) -> bool
 }
 
 /// The statement of a call whose value goes into a column.
-pub(crate) fn call_made(callee: Callee, args: Items<Core>, col: u32) -> Stmt
-    ensures { result ≡ call_made callee args col }
+pub(crate) fn call_statement(callee: Callee, args: Items<Core>, col: u32) -> Stmt
+    ensures { result ≡ call_statement callee args col }
 {
     match callee {
         Callee::Special(_) => Stmt::Any { col },
@@ -120,7 +120,7 @@ impl Elaborator {
     /// A new temporary, which may be one too many.
     fn temporary(&mut self, at: u32) -> Result<u32, AllocError>
         ensures col { IfOk result (λ col. col ≡ self.old.env.next) }
-        ensures env { OnOk result (self.new.env ≡ taken 1 self.old.env) }
+        ensures env { OnOk result (self.new.env ≡ with_columns_taken 1 self.old.env) }
         ensures least { OnOk result (self.new.least ≡ least_of self.old.least (slot_faults self.old.env at)) }
     {
         let is_full = self.env.next == self.env.full;
@@ -143,7 +143,7 @@ impl Elaborator {
     ) -> Result<Core, AllocError>
         ensures term { IfOk result (λ term. term ≡ term_in self.old.env (source_expr_of e.now)) }
         ensures calls { OnOk result (out.new ≡ out.old ++ calls_in self.old.env (source_expr_of e.now)) }
-        ensures env { OnOk result (self.new.env ≡ taken (temporaries (source_expr_of e.now)) self.old.env) }
+        ensures env { OnOk result (self.new.env ≡ with_columns_taken (temporaries (source_expr_of e.now)) self.old.env) }
         ensures least { OnOk result (self.new.least ≡ least_of self.old.least (expression_faults self.old.env right (source_expr_of e.now))) }
     {
         match e {
@@ -153,7 +153,7 @@ impl Elaborator {
                 let callee = self.value_callee(*at, name, args.len(), right);
                 let terms = self.arguments(args.as_slice(), right, out)?;
                 let col = self.temporary(*at)?;
-                out.push(call_made(callee, terms, col))?;
+                out.push(call_statement(callee, terms, col))?;
                 Ok(Core::Col(col))
             }
             Expr::Unary(_, sign, inner) => {
@@ -182,7 +182,7 @@ impl Elaborator {
     ) -> Result<Items<Core>, AllocError>
         ensures terms { IfOk result (λ terms. terms ≡ terms_in self.old.env (source_exprs_of args.now)) }
         ensures calls { OnOk result (out.new ≡ out.old ++ all_calls_in self.old.env (source_exprs_of args.now)) }
-        ensures env { OnOk result (self.new.env ≡ taken (all_temporaries (source_exprs_of args.now)) self.old.env) }
+        ensures env { OnOk result (self.new.env ≡ with_columns_taken (all_temporaries (source_exprs_of args.now)) self.old.env) }
         ensures least { OnOk result (self.new.least ≡ least_of self.old.least (all_expression_faults self.old.env right (source_exprs_of args.now) ++ joint_faults self.old.env (source_exprs_of args.now))) }
     {
         let terms = self.expressions(args, right, out)?;
@@ -200,7 +200,7 @@ impl Elaborator {
     ) -> Result<Items<Core>, AllocError>
         ensures terms { IfOk result (λ terms. terms ≡ terms_in self.old.env (source_exprs_of args.now)) }
         ensures calls { OnOk result (out.new ≡ out.old ++ all_calls_in self.old.env (source_exprs_of args.now)) }
-        ensures env { OnOk result (self.new.env ≡ taken (all_temporaries (source_exprs_of args.now)) self.old.env) }
+        ensures env { OnOk result (self.new.env ≡ with_columns_taken (all_temporaries (source_exprs_of args.now)) self.old.env) }
         ensures least { OnOk result (self.new.least ≡ least_of self.old.least (all_expression_faults self.old.env right (source_exprs_of args.now))) }
     {
         let mut terms = Items::new(self.alloc);

@@ -17,16 +17,11 @@ mod laws;
 mod least;
 mod line;
 mod meaning;
-#[cfg(test)]
-mod parts;
 mod procedure;
 mod put;
 mod scopes;
 mod special;
-#[cfg(test)]
-mod tables;
-#[cfg(test)]
-mod tests;
+mod sums;
 
 pub use elaboration::elaborate;
 pub use error::{Limited, TypeError};

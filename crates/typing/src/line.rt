@@ -6,12 +6,12 @@ ghost use Rattle.syntax_tree.specs.SourceExpr.{source_expr_of};
 ghost use Rattle.syntax_tree.specs.SourceLine.{source_line_of, source_lines_of};
 ghost use Rattle.typing.specs.CallFaults.{condition_faults, put_faults, variable_faults};
 ghost use Rattle.typing.specs.Calls.{calls_in, put_in, put_temporaries};
-ghost use Rattle.typing.specs.Env.{closed, declared, opened, placed, taken};
+ghost use Rattle.typing.specs.Env.{without_scope, with_variable, with_scope, with_place, with_columns_taken};
 ghost use Rattle.typing.specs.Faults.{least_of};
 ghost use Rattle.typing.specs.LineFaults.{all_faults_in, declare_faults, faults_in, init_faults, leave_faults, return_faults};
 ghost use Rattle.typing.specs.Scopes.{column_of};
 ghost use Rattle.typing.specs.Terms.{temporaries, term_in};
-ghost use Rattle.typing.specs.Lines.{after, after_all, all_statements_of, behind_body, in_body, in_step, local_put, statements_of, value_put, with_value};
+ghost use Rattle.typing.specs.Lines.{after, after_all, all_statements_of, behind_body, in_body, in_step, local_statements, statements_of, value_statements, with_value};
 
 use crate::elaborator::Elaborator;
 use crate::env::Place;
@@ -22,7 +22,7 @@ use items::Items;
 use std::alloc::AllocError;
 use syntax_tree::{Core, Expr, Line, Name, Stmt};
 
-fn loop_made(
+fn loop_statement(
     pre: Items<Stmt>,
     cond: Core,
     body: Items<Stmt>,
@@ -85,12 +85,12 @@ impl Elaborator {
                     let body = self.body(body.as_slice(), place)?;
                     let (pre, cond) = self.test(cond)?;
                     let step = self.step(step.as_slice(), place)?;
-                    self.end_loop(loop_made(pre, cond, body, step, true), out)
+                    self.end_loop(loop_statement(pre, cond, body, step, true), out)
                 } else {
                     let (pre, cond) = self.test(cond)?;
                     let step = self.step(step.as_slice(), place)?;
                     let body = self.body(body.as_slice(), place)?;
-                    self.end_loop(loop_made(pre, cond, body, step, false), out)
+                    self.end_loop(loop_statement(pre, cond, body, step, false), out)
                 }
             }
             Line::Break(at) => self.leave(*at, Stmt::Break, out),
@@ -101,9 +101,9 @@ impl Elaborator {
 
     #[cycle(line)]
     fn block(&mut self, lines: &[Line], out: &mut Items<Stmt>) -> Result<(), AllocError>
-        ensures statements { OnOk result (out.new ≡ out.old ++ all_statements_of (opened self.old.env) (source_lines_of lines.now)) }
-        ensures env { OnOk result (self.new.env ≡ closed (after_all (opened self.old.env) (source_lines_of lines.now))) }
-        ensures least { OnOk result (self.new.least ≡ least_of self.old.least (all_faults_in (opened self.old.env) (source_lines_of lines.now))) }
+        ensures statements { OnOk result (out.new ≡ out.old ++ all_statements_of (with_scope self.old.env) (source_lines_of lines.now)) }
+        ensures env { OnOk result (self.new.env ≡ without_scope (after_all (with_scope self.old.env) (source_lines_of lines.now))) }
+        ensures least { OnOk result (self.new.least ≡ least_of self.old.least (all_faults_in (with_scope self.old.env) (source_lines_of lines.now))) }
     {
         self.env.open(self.alloc)?;
         self.lines(lines, out)?;
@@ -114,9 +114,9 @@ impl Elaborator {
     /// The statements of lines in a scope of their own.
     #[cycle(line)]
     fn scoped(&mut self, lines: &[Line]) -> Result<Items<Stmt>, AllocError>
-        ensures statements { IfOk result (λ made. made ≡ all_statements_of (opened self.old.env) (source_lines_of lines.now)) }
-        ensures env { OnOk result (self.new.env ≡ closed (after_all (opened self.old.env) (source_lines_of lines.now))) }
-        ensures least { OnOk result (self.new.least ≡ least_of self.old.least (all_faults_in (opened self.old.env) (source_lines_of lines.now))) }
+        ensures statements { IfOk result (λ made. made ≡ all_statements_of (with_scope self.old.env) (source_lines_of lines.now)) }
+        ensures env { OnOk result (self.new.env ≡ without_scope (after_all (with_scope self.old.env) (source_lines_of lines.now))) }
+        ensures least { OnOk result (self.new.least ≡ least_of self.old.least (all_faults_in (with_scope self.old.env) (source_lines_of lines.now))) }
     {
         let mut out = Items::new(self.alloc);
         self.env.open(self.alloc)?;
@@ -143,7 +143,7 @@ impl Elaborator {
     #[cycle(line)]
     fn step(&mut self, lines: &[Line], behind: Place) -> Result<Items<Stmt>, AllocError>
         ensures statements { IfOk result (λ made. made ≡ all_statements_of (in_step self.old.env) (source_lines_of lines.now)) }
-        ensures env { OnOk result (self.new.env ≡ placed behind (after_all (in_step self.old.env) (source_lines_of lines.now))) }
+        ensures env { OnOk result (self.new.env ≡ with_place behind (after_all (in_step self.old.env) (source_lines_of lines.now))) }
         ensures least { OnOk result (self.new.least ≡ least_of self.old.least (all_faults_in (in_step self.old.env) (source_lines_of lines.now))) }
     {
         let mut made = Items::new(self.alloc);
@@ -156,9 +156,9 @@ impl Elaborator {
     // A loop with its initialiser is a scope.
     #[cycle(line)]
     fn begin_loop(&mut self, init: &[Line], out: &mut Items<Stmt>) -> Result<(), AllocError>
-        ensures statements { OnOk result (out.new ≡ out.old ++ all_statements_of (opened self.old.env) (source_lines_of init.now)) }
-        ensures env { OnOk result (self.new.env ≡ after_all (opened self.old.env) (source_lines_of init.now)) }
-        ensures least { OnOk result (self.new.least ≡ least_of self.old.least (all_faults_in (opened self.old.env) (source_lines_of init.now))) }
+        ensures statements { OnOk result (out.new ≡ out.old ++ all_statements_of (with_scope self.old.env) (source_lines_of init.now)) }
+        ensures env { OnOk result (self.new.env ≡ after_all (with_scope self.old.env) (source_lines_of init.now)) }
+        ensures least { OnOk result (self.new.least ≡ least_of self.old.least (all_faults_in (with_scope self.old.env) (source_lines_of init.now))) }
     {
         self.env.open(self.alloc)?;
         self.lines(init, out)
@@ -166,7 +166,7 @@ impl Elaborator {
 
     fn end_loop(&mut self, made: Stmt, out: &mut Items<Stmt>) -> Result<(), AllocError>
         ensures statements { OnOk result (out.new ≡ out.old ++ made ∷ []) }
-        ensures env { self.new.env ≡ closed self.old.env }
+        ensures env { self.new.env ≡ without_scope self.old.env }
         ensures least { self.new.least ≡ self.old.least }
     {
         self.env.close();
@@ -178,7 +178,7 @@ impl Elaborator {
     fn test(&mut self, cond: &Expr) -> Result<(Items<Stmt>, Core), AllocError>
         ensures calls { IfOk result (λ test. test.0 ≡ calls_in self.old.env (source_expr_of cond.now)) }
         ensures term { IfOk result (λ test. test.1 ≡ term_in self.old.env (source_expr_of cond.now)) }
-        ensures env { OnOk result (self.new.env ≡ taken (temporaries (source_expr_of cond.now)) self.old.env) }
+        ensures env { OnOk result (self.new.env ≡ with_columns_taken (temporaries (source_expr_of cond.now)) self.old.env) }
         ensures least { OnOk result (self.new.least ≡ least_of self.old.least (condition_faults self.old.env (source_expr_of cond.now))) }
     {
         let mut pre = Items::new(self.alloc);
@@ -194,7 +194,7 @@ impl Elaborator {
         out: &mut Items<Stmt>,
     ) -> Result<(), AllocError>
         ensures statements { OnOk result (out.new ≡ out.old ++ put_in self.old.env (column_of self.old.env.scopes name.now) (source_expr_of value.now)) }
-        ensures env { OnOk result (self.new.env ≡ taken (put_temporaries (source_expr_of value.now)) self.old.env) }
+        ensures env { OnOk result (self.new.env ≡ with_columns_taken (put_temporaries (source_expr_of value.now)) self.old.env) }
         ensures least { OnOk result (self.new.least ≡ least_of self.old.least (variable_faults self.old.env at name.now ++ put_faults self.old.env (source_expr_of value.now))) }
     {
         let col = self.variable(at, name);
@@ -208,9 +208,9 @@ impl Elaborator {
         init: &Option<Expr>,
         out: &mut Items<Stmt>,
     ) -> Result<(), AllocError>
-        ensures statements { OnOk result (out.new ≡ out.old ++ local_put (declared name.now self.old.env) self.old.env.next (option_map source_expr_of init.now)) }
-        ensures env { OnOk result (self.new.env ≡ with_value (option_map source_expr_of init.now) (declared name.now self.old.env)) }
-        ensures least { OnOk result (self.new.least ≡ least_of self.old.least (declare_faults self.old.env at name.now ++ init_faults (declared name.now self.old.env) (option_map source_expr_of init.now))) }
+        ensures statements { OnOk result (out.new ≡ out.old ++ local_statements (with_variable name.now self.old.env) self.old.env.next (option_map source_expr_of init.now)) }
+        ensures env { OnOk result (self.new.env ≡ with_value (option_map source_expr_of init.now) (with_variable name.now self.old.env)) }
+        ensures least { OnOk result (self.new.least ≡ least_of self.old.least (declare_faults self.old.env at name.now ++ init_faults (with_variable name.now self.old.env) (option_map source_expr_of init.now))) }
     {
         let col = self.declare(at, name)?;
         match init {
@@ -225,7 +225,7 @@ impl Elaborator {
     /// Declares a parameter or local, which may be declared already or be one too many.
     pub(crate) fn declare(&mut self, at: u32, name: &Name) -> Result<u32, AllocError>
         ensures col { IfOk result (λ col. col ≡ self.old.env.next) }
-        ensures env { OnOk result (self.new.env ≡ declared name.now self.old.env) }
+        ensures env { OnOk result (self.new.env ≡ with_variable name.now self.old.env) }
         ensures least { OnOk result (self.new.least ≡ least_of self.old.least (declare_faults self.old.env at name.now)) }
     {
         let is_twice = special_of(name.as_slice()).is_some()
@@ -258,7 +258,7 @@ impl Elaborator {
         value: &Option<Expr>,
         out: &mut Items<Stmt>,
     ) -> Result<(), AllocError>
-        ensures statements { OnOk result (out.new ≡ out.old ++ (value_put self.old.env self.old.env.ret (option_map source_expr_of value.now) ++ Stmt.Return ∷ [])) }
+        ensures statements { OnOk result (out.new ≡ out.old ++ (value_statements self.old.env self.old.env.ret (option_map source_expr_of value.now) ++ Stmt.Return ∷ [])) }
         ensures env { OnOk result (self.new.env ≡ with_value (option_map source_expr_of value.now) self.old.env) }
         ensures least { OnOk result (self.new.least ≡ least_of self.old.least (return_faults self.old.env at (option_map source_expr_of value.now))) }
     {

@@ -12,20 +12,10 @@ use crate::elaborator::Elaborator;
 use crate::env::Place;
 use crate::error::{Limited, TypeError};
 use crate::least::note_if;
+use crate::sums::{small, sum};
 use items::Items;
 use std::alloc::AllocError;
 use syntax_tree::{Item, Line, MOST_NODES, MOST_SLOTS, Name, Param, Proc, count_nodes};
-
-/// The number, where it has 32 bits.
-pub(crate) fn small(number: usize) -> Result<u32, AllocError>
-    ensures { IfOk result (λ small. small ≡ number) }
-{
-    if number <= u32::MAX as usize {
-        Ok(number as u32)
-    } else {
-        Err(AllocError)
-    }
-}
 
 impl Elaborator {
     /// The procedures of a text with so many globals; the places of its assertions are added.
@@ -137,8 +127,8 @@ impl Elaborator {
         self.env.place = Place::Outside;
         self.env.returns = returns;
         let columns = small(columns)?;
-        self.env.ret = globals.checked_add(columns).ok_or(AllocError)?;
-        self.env.full = globals.checked_add(MOST_SLOTS as u32).ok_or(AllocError)?;
+        self.env.ret = sum(globals, columns)?;
+        self.env.full = sum(globals, MOST_SLOTS as u32)?;
         Ok(())
     }
 

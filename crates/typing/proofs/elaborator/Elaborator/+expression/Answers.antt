@@ -3,10 +3,10 @@ use Rattle.syntax_tree.specs.declared.expr.Expr.{Expr}
 use Rattle.syntax_tree.specs.SourceExpr.{source_exprs_of}
 use Rattle.typing.specs.CallFaults.{all_expression_faults}
 use Rattle.typing.specs.Calls.{all_calls_in}
-use Rattle.typing.specs.Env.{taken}
+use Rattle.typing.specs.Env.{with_columns_taken}
 use Rattle.typing.specs.Faults.{least_of}
 use Rattle.typing.specs.Terms.{all_temporaries, terms_in}
-use Rattle.typing.proofs.Steps.{least_of-append, next_left, none_left, taken-taken, taken-zero}
+use Rattle.typing.proofs.Steps.{least_of-append, next_left, none_left, with_columns_taken-taken, with_columns_taken-zero}
 use Rattle.typing.proofs.elaborator.Elaborator.+expression.Goals as goal
 
 pub expressions-loop-arg-preserved : goal.expressions-loop-arg-preserved
@@ -17,8 +17,8 @@ expressions-loop-arg-preserved t c =
           (subst (λ (es : List Expr). c.loop-arg.terms ++ terms_in c.loop-arg.self.env (source_exprs_of es) ≡ terms_in c.args.self.now.env (source_exprs_of c.args.args.now)) left c.loop-arg.invariant.terms);
       calls = rw (c.in_ok-term.ensures.calls, c.in_ok-term.ensures.env, append_assoc)
           (subst (λ (es : List Expr). c.loop-arg.out ++ all_calls_in c.loop-arg.self.env (source_exprs_of es) ≡ c.args.out.now ++ all_calls_in c.args.self.now.env (source_exprs_of c.args.args.now)) left c.loop-arg.invariant.calls);
-      env = rw (c.in_ok-term.ensures.env, taken-taken)
-          (subst (λ (es : List Expr). taken (all_temporaries (source_exprs_of es)) c.loop-arg.self.env ≡ taken (all_temporaries (source_exprs_of c.args.args.now)) c.args.self.now.env) left c.loop-arg.invariant.env);
+      env = rw (c.in_ok-term.ensures.env, with_columns_taken-taken)
+          (subst (λ (es : List Expr). with_columns_taken (all_temporaries (source_exprs_of es)) c.loop-arg.self.env ≡ with_columns_taken (all_temporaries (source_exprs_of c.args.args.now)) c.args.self.now.env) left c.loop-arg.invariant.env);
       least = rw (c.in_ok-term.ensures.least, c.in_ok-term.ensures.env, ← least_of-append)
           (subst (λ (es : List Expr). least_of c.loop-arg.self.least (all_expression_faults c.loop-arg.self.env c.args.right (source_exprs_of es)) ≡ least_of c.args.self.now.least (all_expression_faults c.args.self.now.env c.args.right (source_exprs_of c.args.args.now))) left c.loop-arg.invariant.least);
     }
@@ -26,4 +26,4 @@ expressions-loop-arg-preserved t c =
 pub expressions-returns-clause-env : goal.expressions-returns-clause-env
 expressions-returns-clause-env t c =
     let none = none_left c.args.args.now c.loop-arg.arg-index c.loop-arg-test.false in
-    sym (taken-zero _) ∙ subst (λ (es : List Expr). taken (all_temporaries (source_exprs_of es)) c.loop-arg.self.env ≡ taken (all_temporaries (source_exprs_of c.args.args.now)) c.args.self.now.env) none c.loop-arg.invariant.env
+    sym (with_columns_taken-zero _) ∙ subst (λ (es : List Expr). with_columns_taken (all_temporaries (source_exprs_of es)) c.loop-arg.self.env ≡ with_columns_taken (all_temporaries (source_exprs_of c.args.args.now)) c.args.self.now.env) none c.loop-arg.invariant.env
