@@ -15,11 +15,11 @@ use Rattle.syntax_tree.specs.Term.{Term, Lit, Col as Column, Unary, Binary}
 use Rattle.cra.specs.declared.early.Early.TheVariants.{NotYet}
 use Rattle.cra.specs.declared.known.Known.{Known}
 use Rattle.cra.specs.declared.known.Goal.{Goal}
-use Rattle.cra.specs.Analysis.{after_all, after_statement, difference, early, goal_of, joined, nothing_known, poly_of}
+use Rattle.cra.specs.Analysis.{after_all, after_statement, difference, early, goal_of, sum_or_difference, nothing_known, poly_of}
 use Rattle.cra.specs.FirstForm.{is_additive}
 use Rattle.cra.proofs.Sound.{body_of}
 use Rattle.cra.proofs.Steps.{none-set, on_step, set-get}
-use Rattle.cra.proofs.Values.{found-ok, lifted-ok}
+use Rattle.cra.proofs.Values.{set_polynomial-ok, lifted-ok}
 
 pub sum-canonical : (a b p : Polynomial) → sum_of_polys a b ≡ Ok p → IsCanonical a.terms → IsCanonical p.terms
 sum-canonical a b p e h =
@@ -34,32 +34,32 @@ difference-canonical a b p e h = on_ok (multiple_of b (negsuc 0)) (λ c. sum_of_
 abbrev EachCanonical : List (Option Polynomial) → Type 0
 EachCanonical columns = (c : ℕ) (p : Polynomial) → slice_get columns c ≡ Some (Some p) → IsCanonical p.terms
 
-joined-canonical : (op : Op) (a b p : Polynomial) → is_additive op ≡ true → joined op a b ≡ Ok p → IsCanonical a.terms → IsCanonical p.terms
-joined-canonical Add a b p additive e h = sum-canonical a b p e h
-joined-canonical Sub a b p additive e h = difference-canonical a b p e h
-joined-canonical Mul a b p additive e h = cc
-joined-canonical Div a b p additive e h = cc
-joined-canonical Rem a b p additive e h = cc
-joined-canonical Lt a b p additive e h = cc
-joined-canonical Le a b p additive e h = cc
-joined-canonical Gt a b p additive e h = cc
-joined-canonical Ge a b p additive e h = cc
-joined-canonical Eq a b p additive e h = cc
-joined-canonical Ne a b p additive e h = cc
-joined-canonical And a b p additive e h = cc
-joined-canonical Or a b p additive e h = cc
+sum_or_difference-canonical : (op : Op) (a b p : Polynomial) → is_additive op ≡ true → sum_or_difference op a b ≡ Ok p → IsCanonical a.terms → IsCanonical p.terms
+sum_or_difference-canonical Add a b p additive e h = sum-canonical a b p e h
+sum_or_difference-canonical Sub a b p additive e h = difference-canonical a b p e h
+sum_or_difference-canonical Mul a b p additive e h = cc
+sum_or_difference-canonical Div a b p additive e h = cc
+sum_or_difference-canonical Rem a b p additive e h = cc
+sum_or_difference-canonical Lt a b p additive e h = cc
+sum_or_difference-canonical Le a b p additive e h = cc
+sum_or_difference-canonical Gt a b p additive e h = cc
+sum_or_difference-canonical Ge a b p additive e h = cc
+sum_or_difference-canonical Eq a b p additive e h = cc
+sum_or_difference-canonical Ne a b p additive e h = cc
+sum_or_difference-canonical And a b p additive e h = cc
+sum_or_difference-canonical Or a b p additive e h = cc
 
 poly_of-canonical : (columns : List (Option Polynomial)) → EachCanonical columns → (e : Term) (p : Polynomial) → poly_of columns e ≡ Ok p → IsCanonical p.terms
 poly_of-canonical columns each (Lit n) p e = let same : constant_of n ≡ p = cc in subst (λ q. IsCanonical q.terms) same IsCanonical-nil
-poly_of-canonical columns each (Column c) p e = each c p (found-ok (slice_get columns c) p e)
+poly_of-canonical columns each (Column c) p e = each c p (set_polynomial-ok (slice_get columns c) p e)
 poly_of-canonical columns each (Unary sign inner) p e = cc
 poly_of-canonical columns each (Binary op l r) p e = go (is_additive op) refl e (poly_of-canonical columns each l)
   where
-    go : (b : Bool) → is_additive op ≡ b → cond b (poly_of columns l >>= λ a. poly_of columns r >>= λ b. lifted early (joined op a b)) (Err NotYet) ≡ Ok p
+    go : (b : Bool) → is_additive op ≡ b → cond b (poly_of columns l >>= λ a. poly_of columns r >>= λ b. lifted early (sum_or_difference op a b)) (Err NotYet) ≡ Ok p
         → ((q : Polynomial) → poly_of columns l ≡ Ok q → IsCanonical q.terms) → IsCanonical p.terms
     go true additive f left =
-        on_ok (poly_of columns l) (λ a. poly_of columns r >>= λ b. lifted early (joined op a b)) p f (λ a g h.
-        on_ok (poly_of columns r) (λ b. lifted early (joined op a b)) p h (λ b k n. joined-canonical op a b p additive (lifted-ok early (joined op a b) p n) (left a g)))
+        on_ok (poly_of columns l) (λ a. poly_of columns r >>= λ b. lifted early (sum_or_difference op a b)) p f (λ a g h.
+        on_ok (poly_of columns r) (λ b. lifted early (sum_or_difference op a b)) p h (λ b k n. sum_or_difference-canonical op a b p additive (lifted-ok early (sum_or_difference op a b) p n) (left a g)))
     go false additive f left = cc
 
 -- what is kept of statements: the columns are in print order, and there are no more choices than statements

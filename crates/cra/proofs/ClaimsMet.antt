@@ -19,8 +19,8 @@ use Rattle.execution.specs.Execution.{Fails}
 use Rattle.transition_formula.specs.Meaning.{Holds, HoldsCase, HoldsSome}
 use Rattle.transition_formula.specs.Rounds.{in_order}
 use Rattle.cra.specs.declared.known.Goal.{Goal}
-use Rattle.cra.specs.declared.report.Verdict.{Verdict}
-use Rattle.cra.specs.declared.report.Verdict.TheVariants.{Proved, Unproved}
+use Rattle.cra.specs.declared.verdict.Verdict.{Verdict}
+use Rattle.cra.specs.declared.verdict.Verdict.TheVariants.{Proved, Unproved}
 use Rattle.cra.specs.declared.report.ProcBlock.{ProcBlock}
 use Rattle.cra.specs.declared.report.Report.{Report}
 use Rattle.cra.specs.Analysis.{failing, goal_of, holding, named_onto, named_posts, one_row, returned_case}

@@ -13,9 +13,9 @@ use Rattle.syntax_tree.specs.declared.op.Op.{Op}
 use Rattle.syntax_tree.specs.declared.op.Op.TheVariants.{Add, Sub, Mul, Div, Rem, Lt, Le, Gt, Ge, Eq, Ne, And, Or}
 use Rattle.syntax_tree.specs.Term.{Term, Lit, Col as Column, Unary, Binary}
 use Rattle.cra.specs.declared.early.Early.TheVariants.{NotYet}
-use Rattle.cra.specs.Analysis.{difference, early, joined, poly_of}
+use Rattle.cra.specs.Analysis.{difference, early, sum_or_difference, poly_of}
 use Rattle.cra.specs.FirstForm.{is_additive}
-use Rattle.cra.proofs.Values.{found-ok, lifted-ok}
+use Rattle.cra.proofs.Values.{set_polynomial-ok, lifted-ok}
 
 -- ---- the value looks at the columns that stand in a polynomial alone
 
@@ -41,34 +41,34 @@ module _ (P : Col → Type 0) where
   difference-each a b p e h k =
       on_ok (multiple_of b (negsuc 0)) (λ c. sum_of_polys a c) p e (λ c f g. sum_of_polys-each P a c p g h (multiple_of-each P b (negsuc 0) c f k))
 
-  joined-each : (op : Op) (a b p : Polynomial) → is_additive op ≡ true → joined op a b ≡ Ok p → EachColumn P a.terms → EachColumn P b.terms → EachColumn P p.terms
-  joined-each Add a b p additive e h k = sum_of_polys-each P a b p e h k
-  joined-each Sub a b p additive e h k = difference-each a b p e h k
-  joined-each Mul a b p additive e h k = cc
-  joined-each Div a b p additive e h k = cc
-  joined-each Rem a b p additive e h k = cc
-  joined-each Lt a b p additive e h k = cc
-  joined-each Le a b p additive e h k = cc
-  joined-each Gt a b p additive e h k = cc
-  joined-each Ge a b p additive e h k = cc
-  joined-each Eq a b p additive e h k = cc
-  joined-each Ne a b p additive e h k = cc
-  joined-each And a b p additive e h k = cc
-  joined-each Or a b p additive e h k = cc
+  sum_or_difference-each : (op : Op) (a b p : Polynomial) → is_additive op ≡ true → sum_or_difference op a b ≡ Ok p → EachColumn P a.terms → EachColumn P b.terms → EachColumn P p.terms
+  sum_or_difference-each Add a b p additive e h k = sum_of_polys-each P a b p e h k
+  sum_or_difference-each Sub a b p additive e h k = difference-each a b p e h k
+  sum_or_difference-each Mul a b p additive e h k = cc
+  sum_or_difference-each Div a b p additive e h k = cc
+  sum_or_difference-each Rem a b p additive e h k = cc
+  sum_or_difference-each Lt a b p additive e h k = cc
+  sum_or_difference-each Le a b p additive e h k = cc
+  sum_or_difference-each Gt a b p additive e h k = cc
+  sum_or_difference-each Ge a b p additive e h k = cc
+  sum_or_difference-each Eq a b p additive e h k = cc
+  sum_or_difference-each Ne a b p additive e h k = cc
+  sum_or_difference-each And a b p additive e h k = cc
+  sum_or_difference-each Or a b p additive e h k = cc
 
   pub poly_of-each : (columns : List (Option Polynomial)) → EachKnown P columns → (e : Term) (p : Polynomial) → poly_of columns e ≡ Ok p → EachColumn P p.terms
   poly_of-each columns each (Lit n) p e = let same : constant_of n ≡ p = cc in subst (λ q. EachColumn P q.terms) same tt
-  poly_of-each columns each (Column c) p e = each c p (found-ok (slice_get columns c) p e)
+  poly_of-each columns each (Column c) p e = each c p (set_polynomial-ok (slice_get columns c) p e)
   poly_of-each columns each (Unary sign inner) p e = cc
   poly_of-each columns each (Binary op l r) p e = go (is_additive op) refl e (poly_of-each columns each l) (poly_of-each columns each r)
     where
       IsOf : Term → Type 0
       IsOf t = (q : Polynomial) → poly_of columns t ≡ Ok q → EachColumn P q.terms
 
-      go : (b : Bool) → is_additive op ≡ b → cond b (poly_of columns l >>= λ a. poly_of columns r >>= λ b. lifted early (joined op a b)) (Err NotYet) ≡ Ok p
+      go : (b : Bool) → is_additive op ≡ b → cond b (poly_of columns l >>= λ a. poly_of columns r >>= λ b. lifted early (sum_or_difference op a b)) (Err NotYet) ≡ Ok p
           → IsOf l → IsOf r → EachColumn P p.terms
       go true additive f left right =
-          on_ok (poly_of columns l) (λ a. poly_of columns r >>= λ b. lifted early (joined op a b)) p f
-          (λ a g h. on_ok (poly_of columns r) (λ b. lifted early (joined op a b)) p h
-          (λ b k n. joined-each op a b p additive (lifted-ok early (joined op a b) p n) (left a g) (right b k)))
+          on_ok (poly_of columns l) (λ a. poly_of columns r >>= λ b. lifted early (sum_or_difference op a b)) p f
+          (λ a g h. on_ok (poly_of columns r) (λ b. lifted early (sum_or_difference op a b)) p h
+          (λ b k n. sum_or_difference-each op a b p additive (lifted-ok early (sum_or_difference op a b) p n) (left a g) (right b k)))
       go false additive f left right = cc

@@ -31,9 +31,3 @@ IsInput-all limit (Some all) (Some rest) bytes p end h =
     let whole : all ≡ bytes ++ rest = cc in
     let same : all ≡ bytes = whole ∙ ap (λ more. bytes ++ more) end ∙ append-nil bytes in
     sym (ap (take (limit + 1)) same ∙ take_all (limit + 1) bytes h)
-
--- some bytes are read of whatever the source has
-pub some_input : (limit : ℕ) (all : Option (List ℕ)) → (bytes : List ℕ) × IsInput limit all bytes
-unfolding IsInput
-some_input limit None = ([], omega arith)
-some_input limit (Some all) = (take (limit + 1) all, refl)

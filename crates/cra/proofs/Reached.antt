@@ -17,7 +17,7 @@ use Rattle.syntax_tree.specs.Term.{Term, Lit, Col, Unary, Binary}
 use Rattle.cra.specs.declared.early.Early.TheVariants.{NotYet}
 use Rattle.cra.specs.declared.known.Known.{Known}
 use Rattle.cra.specs.declared.known.Goal.{Goal}
-use Rattle.cra.specs.Analysis.{after_all, after_statement, asserted_by, compared, difference, early, found, goal_after, goal_of, nothing_known, poly_of, with_column}
+use Rattle.cra.specs.Analysis.{after_all, after_statement, asserted_by, compared, difference, early, set_polynomial, goal_after, goal_of, nothing_known, poly_of, with_column}
 use Rattle.cra.specs.FirstForm.{and_then, asserts, compares, ends_well, is_additive, is_first_body, is_short, is_short_sum, is_sum, leaves, set_behind, set_by}
 use Rattle.cra.proofs.Bounds.{difference-small, size, sum-small}
 use Rattle.cra.proofs.Sound.{all-set}
@@ -48,9 +48,9 @@ pub record IsBounded (columns : List (Option Polynomial)) (set : List Bool) (mos
 short-abs : (z : ℤ) → is_short z ≡ true → unsigned_abs z ≤ 2 ^ 63
 short-abs z e = let l = below (unsigned_abs z) (2 ^ 63) e in omega (arith, l)
 
-joined-known : (columns : List (Option Polynomial)) (op : Op) (e t : Term) (a b : ℕ) → is_additive op ≡ true → IsKnownAs columns e a → IsKnownAs columns t b → a + b < 2 ^ 127
+sum_or_difference-known : (columns : List (Option Polynomial)) (op : Op) (e t : Term) (a b : ℕ) → is_additive op ≡ true → IsKnownAs columns e a → IsKnownAs columns t b → a + b < 2 ^ 127
     → IsKnownAs columns (Binary op e t) (a + b)
-joined-known columns Add e t a b additive left right low =
+sum_or_difference-known columns Add e t a b additive left right low =
     let first = left.small in
     let second = right.small in
     let made = sum-small left.poly right.poly (omega (arith, first, second, low)) in
@@ -60,7 +60,7 @@ joined-known columns Add e t a b additive left right low =
       is = ap (λ r. r >>= λ p. poly_of columns t >>= λ q. lifted early (sum_of_polys p q)) left.is ∙ ap (λ r. r >>= λ q. lifted early (sum_of_polys left.poly q)) right.is ∙ ap (lifted early) made.is;
       small = omega (arith, few, first, second);
     }
-joined-known columns Sub e t a b additive left right low =
+sum_or_difference-known columns Sub e t a b additive left right low =
     let first = left.small in
     let second = right.small in
     let made = difference-small left.poly right.poly (omega (arith, first, second, low)) in
@@ -70,17 +70,17 @@ joined-known columns Sub e t a b additive left right low =
       is = ap (λ r. r >>= λ p. poly_of columns t >>= λ q. lifted early (difference p q)) left.is ∙ ap (λ r. r >>= λ q. lifted early (difference left.poly q)) right.is ∙ ap (lifted early) made.is;
       small = omega (arith, few, first, second);
     }
-joined-known columns Mul e t a b additive left right low = absurd (cc additive)
-joined-known columns Div e t a b additive left right low = absurd (cc additive)
-joined-known columns Rem e t a b additive left right low = absurd (cc additive)
-joined-known columns Lt e t a b additive left right low = absurd (cc additive)
-joined-known columns Le e t a b additive left right low = absurd (cc additive)
-joined-known columns Gt e t a b additive left right low = absurd (cc additive)
-joined-known columns Ge e t a b additive left right low = absurd (cc additive)
-joined-known columns Eq e t a b additive left right low = absurd (cc additive)
-joined-known columns Ne e t a b additive left right low = absurd (cc additive)
-joined-known columns And e t a b additive left right low = absurd (cc additive)
-joined-known columns Or e t a b additive left right low = absurd (cc additive)
+sum_or_difference-known columns Mul e t a b additive left right low = absurd (cc additive)
+sum_or_difference-known columns Div e t a b additive left right low = absurd (cc additive)
+sum_or_difference-known columns Rem e t a b additive left right low = absurd (cc additive)
+sum_or_difference-known columns Lt e t a b additive left right low = absurd (cc additive)
+sum_or_difference-known columns Le e t a b additive left right low = absurd (cc additive)
+sum_or_difference-known columns Gt e t a b additive left right low = absurd (cc additive)
+sum_or_difference-known columns Ge e t a b additive left right low = absurd (cc additive)
+sum_or_difference-known columns Eq e t a b additive left right low = absurd (cc additive)
+sum_or_difference-known columns Ne e t a b additive left right low = absurd (cc additive)
+sum_or_difference-known columns And e t a b additive left right low = absurd (cc additive)
+sum_or_difference-known columns Or e t a b additive left right low = absurd (cc additive)
 
 -- so many times a number
 abbrev pub times_of : ℕ → ℕ → ℕ
@@ -99,7 +99,7 @@ pub sum-known : (columns : List (Option Polynomial)) (set : List Bool) (most : �
 sum-known columns set most bounded large (Lit value) sum low =
     let small = short-abs value sum in record { poly = constant_of value; is = refl; small = omega (arith, small, large) }
 sum-known columns set most bounded large (Col col) sum low =
-    let (p, there, small) = bounded.known col sum in record { poly = p; is = ap found there; small = omega (arith, small) }
+    let (p, there, small) = bounded.known col sum in record { poly = p; is = ap set_polynomial there; small = omega (arith, small) }
 sum-known columns set most bounded large (Unary sign inner) sum low = absurd (cc sum)
 sum-known columns set most bounded large (Binary op left right) sum low =
     let parts = both-true (is_additive op) (is_sum set left && is_sum set right) sum in
@@ -107,7 +107,7 @@ sum-known columns set most bounded large (Binary op left right) sum low =
     let whole = times-sum (leaves left) (leaves right) most in
     let one = sum-known columns set most bounded large left sides.0 (omega (arith, whole, low)) in
     let two = sum-known columns set most bounded large right sides.1 (omega (arith, whole, low)) in
-    let made = joined-known columns op left right (times_of (leaves left) most) (times_of (leaves right) most) parts.0 one two (omega (arith, whole, low)) in
+    let made = sum_or_difference-known columns op left right (times_of (leaves left) most) (times_of (leaves right) most) parts.0 one two (omega (arith, whole, low)) in
     let small = made.small in
     record { poly = made.poly; is = made.is; small = omega (arith, small, whole) }
 

@@ -11,25 +11,25 @@ use Rattle.c_parser.specs.Reads.{ReadsWithinLimits}
 use Rattle.c_parser.specs.SourceItem.{SourceItem}
 use Rattle.cra.specs.declared.refusal.Refusal.{Refusal}
 use Rattle.cra.specs.declared.refusal.Refusal.TheVariants.{Lexing, Parsing, Memory}
-use Rattle.cra.specs.Accepted.{IsRefusedBy}
+use Rattle.cra.specs.Accepted.{IsRefusalOf, IsRefusedBy}
 
 pub cut-refused : (text : List ℕ) (fault : LexError) (told : Refusal) → (fault ≡ lexing.Memory → told ≡ Memory) → (fault ≢ lexing.Memory → told ≡ Lexing fault)
-    → (fault ≢ lexing.Memory → IsRefused text fault) → IsRefusedBy text told
-cut-refused text (lexing.Byte at) told memory other refused = let ne : lexing.Byte at ≢ lexing.Memory = λ e. cc e in subst (IsRefusedBy text) (sym (other ne)) (refused ne)
-cut-refused text (lexing.Comment at) told memory other refused = let ne : lexing.Comment at ≢ lexing.Memory = λ e. cc e in subst (IsRefusedBy text) (sym (other ne)) (refused ne)
-cut-refused text (lexing.Literal at) told memory other refused = let ne : lexing.Literal at ≢ lexing.Memory = λ e. cc e in subst (IsRefusedBy text) (sym (other ne)) (refused ne)
-cut-refused text (lexing.TooManyTokens at) told memory other refused = let ne : lexing.TooManyTokens at ≢ lexing.Memory = λ e. cc e in subst (IsRefusedBy text) (sym (other ne)) (refused ne)
-cut-refused text lexing.Memory told memory other refused = subst (IsRefusedBy text) (sym (memory refl)) tt
+    → (fault ≢ lexing.Memory → IsRefused text fault) → IsRefusalOf text told
+cut-refused text (lexing.Byte at) told memory other refused = let ne : lexing.Byte at ≢ lexing.Memory = λ e. cc e in λ some. subst (IsRefusedBy text) (sym (other ne)) (refused ne)
+cut-refused text (lexing.Comment at) told memory other refused = let ne : lexing.Comment at ≢ lexing.Memory = λ e. cc e in λ some. subst (IsRefusedBy text) (sym (other ne)) (refused ne)
+cut-refused text (lexing.Literal at) told memory other refused = let ne : lexing.Literal at ≢ lexing.Memory = λ e. cc e in λ some. subst (IsRefusedBy text) (sym (other ne)) (refused ne)
+cut-refused text (lexing.TooManyTokens at) told memory other refused = let ne : lexing.TooManyTokens at ≢ lexing.Memory = λ e. cc e in λ some. subst (IsRefusedBy text) (sym (other ne)) (refused ne)
+cut-refused text lexing.Memory told memory other refused = λ some. absurd (some (memory refl))
 
 pub grammar-refused : (text : List ℕ) (tokens : List Token) (fault : ParseError) (told : Refusal) → (fault ≡ parsing.Memory → told ≡ Memory)
-    → (fault ≢ parsing.Memory → told ≡ Parsing fault) → Tokenizes text tokens → ((items : List SourceItem) → ReadsWithinLimits tokens items → fault ≡ parsing.Memory) → IsRefusedBy text told
+    → (fault ≢ parsing.Memory → told ≡ Parsing fault) → Tokenizes text tokens → ((items : List SourceItem) → ReadsWithinLimits tokens items → fault ≡ parsing.Memory) → IsRefusalOf text told
 grammar-refused text tokens (parsing.Syntax at) told memory other tokenizes none =
     let ne : parsing.Syntax at ≢ parsing.Memory = λ e. cc e in
-    subst (IsRefusedBy text) (sym (other ne)) (record { tokens = tokens; tokenizes = tokenizes; none = λ items reads. ne (none items reads) })
+    λ some. subst (IsRefusedBy text) (sym (other ne)) (record { tokens = tokens; tokenizes = tokenizes; none = λ items reads. ne (none items reads) }, ne)
 grammar-refused text tokens (parsing.Unsupported at) told memory other tokenizes none =
     let ne : parsing.Unsupported at ≢ parsing.Memory = λ e. cc e in
-    subst (IsRefusedBy text) (sym (other ne)) (record { tokens = tokens; tokenizes = tokenizes; none = λ items reads. ne (none items reads) })
+    λ some. subst (IsRefusedBy text) (sym (other ne)) (record { tokens = tokens; tokenizes = tokenizes; none = λ items reads. ne (none items reads) }, ne)
 grammar-refused text tokens (parsing.Deep at) told memory other tokenizes none =
     let ne : parsing.Deep at ≢ parsing.Memory = λ e. cc e in
-    subst (IsRefusedBy text) (sym (other ne)) (record { tokens = tokens; tokenizes = tokenizes; none = λ items reads. ne (none items reads) })
-grammar-refused text tokens parsing.Memory told memory other tokenizes none = subst (IsRefusedBy text) (sym (memory refl)) tt
+    λ some. subst (IsRefusedBy text) (sym (other ne)) (record { tokens = tokens; tokenizes = tokenizes; none = λ items reads. ne (none items reads) }, ne)
+grammar-refused text tokens parsing.Memory told memory other tokenizes none = λ some. absurd (some (memory refl))

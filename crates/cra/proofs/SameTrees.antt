@@ -1,7 +1,7 @@
 -- Elaboration looks at the plain form of a tree alone: trees that read alike have the same program and the same faults.
 use Rattle.std.proofs.Common.{◌≡◌, ℕ, ℤ, ◌+◌, Bool, Option, None, Some, List, [], ◌∷◌, ◌++◌, length, map, refl, ap, subst}
 use Rattle.std.specs.Prelude.{◌==◌, not, is_none, unwrap_or, if◌then◌else◌}
-use Rattle.syntax_tree.specs.declared.limits.TheConstants.{MOST_GLOBALS, MOST_PROCEDURES}
+use Rattle.syntax_tree.specs.Limits.{most_globals, most_procedures}
 use Rattle.syntax_tree.specs.declared.line.Line.{Line}
 use Rattle.syntax_tree.specs.declared.program.Proc.{Proc}
 use Rattle.syntax_tree.specs.declared.tree.Item.{Item}
@@ -17,7 +17,7 @@ use Rattle.typing.specs.Elaborated.{checks_in, elaborated, globals_of, main_from
 use Rattle.typing.specs.Faults.{agrees, declaration_faults, elaboration_of, faults_of, least_of, main_faults, node_faults, parameter_faults, params_faults, procs_faults, prototype_faults, unless_fault}
 use Rattle.typing.specs.LineFaults.{all_faults_in, twice_faults}
 use Rattle.typing.specs.Lines.{all_checks_of, all_columns_of, all_statements_of}
-use Rattle.typing.specs.Scopes.{Scope, found}
+use Rattle.typing.specs.Scopes.{Scope, meaning_in}
 use Rattle.typing.specs.Specials.{is_main}
 use Rattle.typing.specs.Texts.{beginning, bodies, count_globals, declarations, param_column, procedure, with_params}
 
@@ -122,7 +122,7 @@ are-one = alike AreOne
       scope = λ g p i. declarations g p (Global name at init ∷ []) ++ h.scope (g + 1) p i;
       named = h.named;
       procs = h.procs;
-      twice = λ above g p i. twice_faults (above ∷ []) at name ++ when (g == MOST_GLOBALS) (Many limited.Globals at) ++ h.twice (above ++ declarations g p (Global name at init ∷ [])) (g + 1) p i;
+      twice = λ above g p i. twice_faults (above ∷ []) at name ++ when (g == most_globals) (Many limited.Globals at) ++ h.twice (above ++ declarations g p (Global name at init ∷ [])) (g + 1) p i;
       agree = h.agree;
       faults = h.faults;
     })
@@ -135,7 +135,7 @@ are-one = alike AreOne
       named = h.named;
       procs = h.procs;
       twice = h.twice;
-      agree = λ procs i. when (not (agrees returns params (found procs name))) (Arity at) ++ h.agree procs i;
+      agree = λ procs i. when (not (agrees returns params (meaning_in procs name))) (Arity at) ++ h.agree procs i;
       faults = h.faults;
     })
     (λ name at returns params lines others end xs ys s h. record {
@@ -146,7 +146,7 @@ are-one = alike AreOne
       scope = λ g p i. (name, procedure p returns params) ∷ h.scope g (p + 1) i;
       named = λ p i. (name, procedure p returns params) ∷ h.named (p + 1) i;
       procs = λ text g n i. proc_by text g n name returns params (s i) ∷ h.procs text g (n + length (all_checks_of (s i))) i;
-      twice = λ above g p i. twice_faults (above ∷ []) at name ++ when (p == MOST_PROCEDURES) (Many limited.Procedures at) ++ main_faults at name params ++ parameter_faults 0 params
+      twice = λ above g p i. twice_faults (above ∷ []) at name ++ when (p == most_procedures) (Many limited.Procedures at) ++ main_faults at name params ++ parameter_faults 0 params
           ++ h.twice (above ++ (name, procedure p returns params) ∷ []) g (p + 1) i;
       agree = h.agree;
       faults = λ text g n i. faults_by text g n returns params end (s i) ++ h.faults text g (n + length (all_checks_of (s i))) i;

@@ -1,8 +1,9 @@
 -- Which texts are accepted, as which program, and why the others are refused.
-use Rattle.std.specs.Prelude.{◌≡◌, ℕ, List, length, Result, Ok, Err}
+use Rattle.std.specs.Prelude.{◌≡◌, ◌≢◌, ℕ, List, length, Result, Ok, Err}
 use Rattle.c_lexer.specs.declared.token.Token.{Token}
 use Rattle.c_lexer.specs.Refusals.{IsRefused}
 use Rattle.c_lexer.specs.Tokens.{Tokenizes}
+use Rattle.c_parser.specs.declared.error.ParseError.TheVariants as parsing
 use Rattle.c_parser.specs.Reads.{ReadsWithinLimits}
 use Rattle.c_parser.specs.SourceItem.{SourceItem, source_items_of}
 use Rattle.syntax_tree.specs.declared.program.Program.{Program}
@@ -37,22 +38,26 @@ pub record IsFaulty (text : List ℕ) (fault : TypeError) : Type 0 where
   pub least : elaboration_of tree.items (length text) ≡ Err fault
 
 -- Why a text is refused: what the cut into tokens refuses comes first, then what the grammar refuses, then the first
--- fault of the tree. Want of memory says nothing of the text.
+-- fault of the tree. Want of memory refuses no text.
 abbrev pub IsRefusedBy : List ℕ → Refusal → Type 0
 IsRefusedBy text (Lexing fault) = IsRefused text fault
-IsRefusedBy text (Parsing fault) = IsUnread text
+IsRefusedBy text (Parsing fault) = IsUnread text × (fault ≢ parsing.Memory)
 IsRefusedBy text (Typing fault) = IsFaulty text fault
-IsRefusedBy text Memory = Unit {0}
+IsRefusedBy text Memory = ⊥
+
+-- what an error of reading says of a text: its refusal, where memory is not wanting
+abbrev pub IsRefusalOf : List ℕ → Refusal → Type 0
+IsRefusalOf text refusal = refusal ≢ Memory → IsRefusedBy text refusal
 
 -- what reading a text comes to
 abbrev pub IsOutcome : List ℕ → Result Program Refusal → Type 0
 IsOutcome text (Ok program) = Accepts text program
-IsOutcome text (Err refusal) = IsRefusedBy text refusal
+IsOutcome text (Err refusal) = IsRefusalOf text refusal
 
 abbrev pub TokensOrRefusal : List ℕ → Result (List Token) Refusal → Type 0
 TokensOrRefusal text (Ok tokens) = Tokenizes text tokens
-TokensOrRefusal text (Err refusal) = IsRefusedBy text refusal
+TokensOrRefusal text (Err refusal) = IsRefusalOf text refusal
 
 abbrev pub TreeOrRefusal : List ℕ → Result Tree Refusal → Type 0
 TreeOrRefusal text (Ok tree) = Spells text tree
-TreeOrRefusal text (Err refusal) = IsRefusedBy text refusal
+TreeOrRefusal text (Err refusal) = IsRefusalOf text refusal

@@ -36,24 +36,24 @@ abbrev pub difference : Polynomial → Polynomial → Result Polynomial TermErro
 difference a b = multiple_of b (negsuc 0) >>= λ c. sum_of_polys a c
 
 -- the polynomial of a column, if there is such a column and it is set
-abbrev pub found : Option (Option Polynomial) → Result Polynomial Early
-found None = Err NotYet
-found (Some None) = Err NotYet
-found (Some (Some p)) = Ok p
+abbrev pub set_polynomial : Option (Option Polynomial) → Result Polynomial Early
+set_polynomial None = Err NotYet
+set_polynomial (Some None) = Err NotYet
+set_polynomial (Some (Some p)) = Ok p
 
 -- the sum, and for `-` the difference
-abbrev pub joined : Op → Polynomial → Polynomial → Result Polynomial TermError
-joined Add a b = sum_of_polys a b
-joined _ a b = difference a b
+abbrev pub sum_or_difference : Op → Polynomial → Polynomial → Result Polynomial TermError
+sum_or_difference Add a b = sum_of_polys a b
+sum_or_difference _ a b = difference a b
 
 -- the value of an expression of sums and differences, where the columns are these polynomials
 abbrev pub poly_of : List (Option Polynomial) → Term → Result Polynomial Early
 poly_of columns (Lit value) = Ok (constant_of value)
-poly_of columns (Col col) = found (slice_get columns col)
+poly_of columns (Col col) = set_polynomial (slice_get columns col)
 poly_of columns (Unary sign inner) = Err NotYet
 poly_of columns (Binary op left right) =
     if is_additive op
-    then (poly_of columns left >>= λ a. poly_of columns right >>= λ b. lifted early (joined op a b))
+    then (poly_of columns left >>= λ a. poly_of columns right >>= λ b. lifted early (sum_or_difference op a b))
     else Err NotYet
 
 -- what is known behind a column that is set to a polynomial

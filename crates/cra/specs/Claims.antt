@@ -5,7 +5,7 @@ use Rattle.syntax_tree.specs.declared.program.Program.{Program}
 use Rattle.execution.specs.Execution.{Returns, Fails}
 use Rattle.transition_formula.specs.Transition.{Transition}
 use Rattle.transition_formula.specs.Meaning.{Holds}
-use Rattle.cra.specs.declared.report.Verdict.TheVariants.{Proved}
+use Rattle.cra.specs.declared.verdict.Verdict.TheVariants.{Proved}
 use Rattle.cra.specs.declared.report.ProcBlock.{ProcBlock}
 use Rattle.cra.specs.declared.report.Judged.{Judged}
 use Rattle.cra.specs.declared.report.Report.{Report}

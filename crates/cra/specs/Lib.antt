@@ -1,11 +1,16 @@
-pub mod Accepted
-pub mod Analysis
-pub mod Claims
-pub mod FirstForm
+-- What must be believed: the words of the clauses of `run`.
+pub mod Limits
+pub mod Words
 pub mod Input
 pub mod Output
+pub mod Status
+pub mod Place
+pub mod Accepted
 pub mod Refused
-pub mod Replies
+pub mod FirstForm
+pub mod Claims
+pub mod Analysis
 pub mod Stated
 pub mod Text
-pub mod Words
+pub mod Replies
+pub mod Laws

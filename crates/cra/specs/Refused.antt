@@ -10,25 +10,25 @@ use Rattle.typing.specs.declared.error.TypeError.{TypeError}
 use Rattle.typing.specs.declared.error.TypeError.TheVariants as typing
 use Rattle.cra.specs.declared.refusal.Refusal.{Refusal}
 use Rattle.cra.specs.declared.refusal.Refusal.TheVariants.{Lexing, Parsing, Typing, Memory}
-use Rattle.cra.specs.Stated.{column_of, line_of}
+use Rattle.cra.specs.Place.{column_at, line_at}
 
 -- a word and a place
-pub record Told : Type 0 where
+pub record Line : Type 0 where
   pub word : List ℕ
   pub at : ℕ
 
-abbrev pub lexing_told : LexError → Told
-lexing_told (lexing.Byte at) = record { word = codes "byte"; at = at }
-lexing_told (lexing.Comment at) = record { word = codes "comment"; at = at }
-lexing_told (lexing.Literal at) = record { word = codes "literal"; at = at }
-lexing_told (lexing.TooManyTokens at) = record { word = codes "tokens"; at = at }
-lexing_told lexing.Memory = record { word = []; at = 0 }
+abbrev pub lexing_line : LexError → Line
+lexing_line (lexing.Byte at) = record { word = codes "byte"; at = at }
+lexing_line (lexing.Comment at) = record { word = codes "comment"; at = at }
+lexing_line (lexing.Literal at) = record { word = codes "literal"; at = at }
+lexing_line (lexing.TooManyTokens at) = record { word = codes "tokens"; at = at }
+lexing_line lexing.Memory = record { word = []; at = 0 }
 
-abbrev pub parsing_told : ParseError → Told
-parsing_told (parsing.Syntax at) = record { word = codes "syntax"; at = at }
-parsing_told (parsing.Unsupported at) = record { word = codes "unsupported"; at = at }
-parsing_told (parsing.Deep at) = record { word = codes "deep"; at = at }
-parsing_told parsing.Memory = record { word = []; at = 0 }
+abbrev pub parsing_line : ParseError → Line
+parsing_line (parsing.Syntax at) = record { word = codes "syntax"; at = at }
+parsing_line (parsing.Unsupported at) = record { word = codes "unsupported"; at = at }
+parsing_line (parsing.Deep at) = record { word = codes "deep"; at = at }
+parsing_line parsing.Memory = record { word = []; at = 0 }
 
 -- what there is too much of
 abbrev pub limited_word : Limited → List ℕ
@@ -40,23 +40,23 @@ limited_word limited.Nodes = codes "many nodes"
 limited_word limited.Assertions = codes "many assertions"
 limited_word limited.Cases = codes "many cases"
 
-abbrev pub typing_told : TypeError → Told
-typing_told (typing.Unknown at) = record { word = codes "unknown"; at = at }
-typing_told (typing.Twice at) = record { word = codes "twice"; at = at }
-typing_told (typing.Arity at) = record { word = codes "arity"; at = at }
-typing_told (typing.VoidValue at) = record { word = codes "void"; at = at }
-typing_told (typing.CallPlace at) = record { word = codes "place"; at = at }
-typing_told (typing.Many what at) = record { word = limited_word what; at = at }
-typing_told (typing.NoMain at) = record { word = codes "main"; at = at }
-typing_told typing.Memory = record { word = []; at = 0 }
+abbrev pub typing_line : TypeError → Line
+typing_line (typing.Unknown at) = record { word = codes "unknown"; at = at }
+typing_line (typing.Twice at) = record { word = codes "twice"; at = at }
+typing_line (typing.Arity at) = record { word = codes "arity"; at = at }
+typing_line (typing.VoidValue at) = record { word = codes "void"; at = at }
+typing_line (typing.CallPlace at) = record { word = codes "place"; at = at }
+typing_line (typing.Many what at) = record { word = limited_word what; at = at }
+typing_line (typing.NoMain at) = record { word = codes "main"; at = at }
+typing_line typing.Memory = record { word = []; at = 0 }
 
-abbrev pub told : Refusal → Told
-told (Lexing fault) = lexing_told fault
-told (Parsing fault) = parsing_told fault
-told (Typing fault) = typing_told fault
-told Memory = record { word = []; at = 0 }
+abbrev pub refusal_line : Refusal → Line
+refusal_line (Lexing fault) = lexing_line fault
+refusal_line (Parsing fault) = parsing_line fault
+refusal_line (Typing fault) = typing_line fault
+refusal_line Memory = record { word = []; at = 0 }
 
 -- the word, and the line and column of the place
-abbrev pub refusal_text : List ℕ → Told → List ℕ
-refusal_text text t =
-    codes "refused " ++ t.word ++ codes " at " ++ decimal (line_of text t.at) ++ codes ":" ++ decimal (column_of text t.at) ++ codes "\n"
+abbrev pub refusal_text : List ℕ → Line → List ℕ
+refusal_text text line =
+    codes "refused " ++ line.word ++ codes " at " ++ decimal (line_at text line.at) ++ codes ":" ++ decimal (column_at text line.at) ++ codes "\n"

@@ -1,44 +1,42 @@
 -- What a run answers to its words and its input.
-use Rattle.std.specs.Prelude.{◌≡◌, ◌≢◌, ℕ, ◌<◌, ◌≤◌, ◌⊎◌, ◌==◌, true, false, List, length, Option, None, Some, codes, if◌then◌else◌}
+use Rattle.std.specs.Prelude.{◌≡◌, ℕ, ◌<◌, ◌≤◌, ◌⊎◌, ◌==◌, true, false, List, length, Option, None, Some, codes, if◌then◌else◌}
+use Rattle.std.specs.Io.KnownBytes.{prepend_known}
 use Rattle.std.specs.List.{count_by}
 use Rattle.syntax_tree.specs.declared.program.Program.{Program}
 use Rattle.cra.specs.declared.reply.Reply.{Reply}
 use Rattle.cra.specs.declared.report.Report.{Report}
-use Rattle.cra.specs.declared.run.TheConstants.{TEXT_LIMIT}
+use Rattle.cra.specs.declared.status.Status.TheVariants as ended
 use Rattle.cra.specs.declared.words.Work.{Work}
 use Rattle.cra.specs.declared.words.Work.TheVariants.{Analyse}
 use Rattle.cra.specs.declared.refusal.Refusal.{Refusal}
-use Rattle.cra.specs.declared.refusal.Refusal.TheVariants.{Memory}
 use Rattle.cra.specs.Accepted.{Accepts, IsRefusedBy}
 use Rattle.cra.specs.FirstForm.{is_first_form}
-use Rattle.cra.specs.Refused.{refusal_text, told}
+use Rattle.cra.specs.Refused.{refusal_line, refusal_text}
 use Rattle.cra.specs.Claims.{ClaimsAreMet}
+use Rattle.cra.specs.Input.{IsInput}
+use Rattle.cra.specs.Limits.{most_bytes}
 use Rattle.cra.specs.Stated.{IsReportOf}
 use Rattle.cra.specs.Text.{is_proved, text_of}
 use Rattle.cra.specs.Words.{work_of}
 
--- a status that answers the words and the input, and tells no fault of the source, the sink or memory
-abbrev pub IsAnswer : ℕ → Type 0
-IsAnswer status = (status ≢ 4) × (status ≢ 5) × (status ≢ 6)
-
 abbrev pub wrong_words : Reply
-wrong_words = record { status = 2; text = codes "usage: cra analyse | certify | check | edit | sample N\n" }
+wrong_words = record { status = ended.WrongWords; text = codes "usage: cra analyse | certify | check | edit | sample N\n" }
 
 abbrev pub too_long : Reply
-too_long = record { status = 9; text = codes "input is too long\n" }
+too_long = record { status = ended.TooLong; text = codes "input is too long\n" }
 
 -- the answer to a text that the analysis does not reach yet
 abbrev pub not_yet : Reply
-not_yet = record { status = 3; text = codes "refused notyet\n" }
+not_yet = record { status = ended.Refused; text = codes "refused notyet\n" }
 
 -- the answer to a text that is refused
 abbrev pub refused_reply : List ℕ → Refusal → Reply
-refused_reply text refusal = record { status = 3; text = refusal_text text (told refusal) }
+refused_reply text refusal = record { status = ended.Refused; text = refusal_text text (refusal_line refusal) }
 
--- the text of a report; the status is 0 where every assertion is proved, else 1
+-- the text of a report; the status tells whether every assertion is proved
 abbrev pub reply_of : Report → Reply
 reply_of report = record {
-  status = if count_by is_proved report.judged == length report.judged then 0 else 1;
+  status = if count_by is_proved report.judged == length report.judged then ended.AllProved else ended.SomeUnproved;
   text = text_of report;
 }
 
@@ -57,29 +55,32 @@ pub record IsLeftOut (text : List ℕ) : Type 0 where
   pub accepted : Accepts text program
   pub other : is_first_form program ≡ false
 
--- the text is refused for a reason, and not for want of memory
-pub record IsRefusedFor (text : List ℕ) (refusal : Refusal) : Type 0 where
-  pub refused : IsRefusedBy text refusal
-  pub told : refusal ≢ Memory
-
 -- a text that is accepted is answered with the text of its report, and every other text with the reason of its refusal
 abbrev pub IsReplyToShort : List ℕ → Reply → Type 0
 IsReplyToShort text reply =
     ((report : Report) × IsAnalysed text report × (reply ≡ reply_of report))
     ⊎ (IsLeftOut text × (reply ≡ not_yet))
-    ⊎ ((refusal : Refusal) × IsRefusedFor text refusal × (reply ≡ refused_reply text refusal))
+    ⊎ ((refusal : Refusal) × IsRefusedBy text refusal × (reply ≡ refused_reply text refusal))
 
 abbrev pub IsReplyToText : List ℕ → Reply → Type 0
 IsReplyToText input reply =
-    ((TEXT_LIMIT < length input) × (reply ≡ too_long)) ⊎ ((length input ≤ TEXT_LIMIT) × IsReplyToShort input reply)
+    ((most_bytes < length input) × (reply ≡ too_long)) ⊎ ((length input ≤ most_bytes) × IsReplyToShort input reply)
 
-abbrev pub IsReplyToWork : Option Work → List ℕ → Reply → Type 0
-IsReplyToWork None input reply = reply ≡ wrong_words
-IsReplyToWork (Some Analyse) input reply = IsReplyToText input reply
+-- The input is read, and is a front of what the source had before; the reply is the answer to it.
+pub record IsReplyToRead (before after : Option (List ℕ)) (reply : Reply) : Type 0 where
+  pub input : List ℕ
+  pub is_input : IsInput most_bytes before input
+  pub is_front : before ≡ prepend_known input after
+  pub is_reply : IsReplyToText input reply
 
--- words that ask for nothing are refused before anything is read
-abbrev pub IsReply : List (List ℕ) → List ℕ → Reply → Type 0
-IsReply words input reply = IsReplyToWork (work_of words) input reply
+abbrev pub IsReplyToWork : Option Work → Option (List ℕ) → Option (List ℕ) → Reply → Type 0
+IsReplyToWork None before after reply = (reply ≡ wrong_words) × (after ≡ before)
+IsReplyToWork (Some Analyse) before after reply = IsReplyToRead before after reply
+
+-- What a run replies, where its source has some bytes left before it and others after it. Words that ask for nothing are
+-- refused before anything is read.
+abbrev pub IsReply : List (List ℕ) → Option (List ℕ) → Option (List ℕ) → Reply → Type 0
+IsReply words before after reply = IsReplyToWork (work_of words) before after reply
 
 -- The words ask for the analysis of all that the source has: a text within the limit that is accepted, and whose program
 -- is of the form that is analysed so far.
@@ -87,7 +88,7 @@ pub record IsToAnalyse (words : List (List ℕ)) (left : Option (List ℕ)) : Ty
   pub asked : work_of words ≡ Some Analyse
   pub input : List ℕ
   pub whole : left ≡ Some input
-  pub short : length input ≤ TEXT_LIMIT
+  pub short : length input ≤ most_bytes
   pub program : Program
   pub accepted : Accepts input program
   pub first : is_first_form program ≡ true

@@ -15,28 +15,13 @@ use Rattle.linear_terms.specs.Auxiliaries.{is_numbered}
 use Rattle.transition_formula.specs.Rounds.{in_order}
 use Rattle.transition_formula.specs.Transition.{every_column_of, fits}
 use Rattle.cra.specs.declared.known.Goal.{Goal}
-use Rattle.cra.specs.declared.report.Verdict.{Verdict}
-use Rattle.cra.specs.declared.report.Verdict.TheVariants.{Proved, Unproved}
+use Rattle.cra.specs.declared.verdict.Verdict.{Verdict}
+use Rattle.cra.specs.declared.verdict.Verdict.TheVariants.{Proved, Unproved}
 use Rattle.cra.specs.declared.report.ProcBlock.{ProcBlock}
 use Rattle.cra.specs.declared.report.Judged.{Judged}
 use Rattle.cra.specs.declared.report.Report.{Report}
 use Rattle.cra.specs.Analysis.{failing, goal_of, holding}
-
--- ---- places: the line is one more than the newlines before, the column one more than the bytes since the last one
-
-abbrev pub is_newline : ℕ → Bool
-is_newline b = b == 10
-
-abbrev pub line_of : List ℕ → ℕ → ℕ
-line_of text at = count_by is_newline (take at text) + 1
-
--- the column behind these bytes, where the first of them stands in a column
-abbrev pub column_behind : ℕ → List ℕ → ℕ
-column_behind column [] = column
-column_behind column (b ∷ bytes) = column_behind (if is_newline b then 1 else column + 1) bytes
-
-abbrev pub column_of : List ℕ → ℕ → ℕ
-column_of text at = column_behind 1 (take at text)
+use Rattle.cra.specs.Place.{column_at, line_at}
 
 -- ---- names
 
@@ -98,8 +83,8 @@ IsVerdict (Some case) verdict = (point : List ℤ) × (verdict ≡ Unproved case
 abbrev pub judged_of : List ℕ → ℕ → Proc → Verdict → Judged
 judged_of text at main verdict = record {
   at = at;
-  line = line_of text at;
-  column = column_of text at;
+  line = line_at text at;
+  column = column_at text at;
   named = named_columns main.columns;
   shown = shown_from 0 main.columns;
   verdict = verdict;

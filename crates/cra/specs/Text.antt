@@ -11,8 +11,8 @@ use Rattle.linear_terms.specs.declared.row.Kind.TheVariants.{AtMost, Equal}
 use Rattle.linear_terms.specs.declared.row.Row.{Row}
 use Rattle.linear_terms.specs.declared.row.Case.{Case}
 use Rattle.linear_terms.specs.Polynomial.{Terms, Polynomial}
-use Rattle.cra.specs.declared.report.Verdict.{Verdict}
-use Rattle.cra.specs.declared.report.Verdict.TheVariants.{Proved, Unproved}
+use Rattle.cra.specs.declared.verdict.Verdict.{Verdict}
+use Rattle.cra.specs.declared.verdict.Verdict.TheVariants.{Proved, Unproved}
 use Rattle.cra.specs.declared.report.ProcBlock.{ProcBlock}
 use Rattle.cra.specs.declared.report.Judged.{Judged}
 use Rattle.cra.specs.declared.report.Report.{Report}

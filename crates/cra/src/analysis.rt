@@ -1,4 +1,4 @@
-ghost use Rattle.std.specs.Prelude.{◌≡◌, ◌≢◌, ◌+◌, ◌≤◌, ◌^◌, ◌∷◌, [], length, map, take, Ok, Err, IfOk, IfSome, IsTrue, slice_get};
+ghost use Rattle.std.specs.Prelude.{◌≡◌, ◌≢◌, ◌≤◌, ◌∷◌, [], length, map, Ok, Err, IfOk, IfSome, IsTrue, slice_get};
 ghost use Rattle.std.specs.List.{count_by};
 ghost use Rattle.transition_formula.specs.Transition.{fits};
 ghost use Rattle.cra.specs.FirstForm.{is_first_form};
@@ -7,59 +7,20 @@ ghost use Rattle.linear_terms.specs.declared.row.Case.{Case};
 ghost use Rattle.syntax_tree.specs.Code.{statement_of};
 ghost use Rattle.cra.specs.declared.known.Goal.{Goal};
 ghost use Rattle.cra.specs.Analysis.{goal_of};
-ghost use Rattle.cra.specs.Stated.{IsPlain, IsReportOf, exits_of, IsReportOn, Settles, IsVerdict, block_of, cases_of, column_of, judged_of, line_of, named_columns, shown_from};
+ghost use Rattle.cra.specs.Stated.{IsPlain, IsReportOf, exits_of, IsReportOn, Settles, block_of, cases_of, judged_of, named_columns, shown_from};
+ghost use Rattle.cra.specs.Limits.{most_bytes};
 
 use crate::early::Early;
 use crate::findings::both_cases;
 use crate::known::goal_of;
-use crate::report::{Judged, ProcBlock, Report, Verdict, copy_name};
-use crate::verdict::point_of;
+use crate::place::{column_at, line_at};
+use crate::report::{Judged, ProcBlock, Report, copy_name};
+use crate::verdict::{Verdict, verdict_of};
 use items::Items;
 use linear_terms::Case;
 use std::alloc::{AllocError, Global};
 use syntax_tree::{Column, Name, Proc, Program};
 use transition_formula::Formula;
-
-/// What stands before a place.
-fn before(text: &[u8], at: u32) -> &[u8]
-    ensures { result.now ≡ take at text.now }
-{
-    if (at as usize) < text.len() {
-        &text[..at as usize]
-    } else {
-        text
-    }
-}
-
-/// The line of a place: one more than the newlines before it.
-pub fn line_of(text: &[u8], at: u32) -> u32
-    requires { length text.now ≤ 2 ^ 20 }
-    ensures { result ≡ line_of text.now at }
-{
-    let mut line = 1;
-    for byte in before(text, at) {
-        if *byte == b'\n' {
-            line += 1;
-        }
-    }
-    line
-}
-
-/// The column of a place: one more than the bytes since the last newline.
-pub fn column_of(text: &[u8], at: u32) -> u32
-    requires { length text.now ≤ 2 ^ 20 }
-    ensures { result ≡ column_of text.now at }
-{
-    let mut column = 1;
-    for byte in before(text, at) {
-        if *byte == b'\n' {
-            column = 1;
-        } else {
-            column += 1;
-        }
-    }
-    column
-}
 
 /// The names of the columns that have one.
 fn named_columns(alloc: Global, columns: &[Column]) -> Result<Items<Name>, AllocError>
@@ -86,19 +47,6 @@ fn shown_columns(alloc: Global, columns: &[Column]) -> Result<Items<u32>, AllocE
         }
     }
     Ok(shown)
-}
-
-fn verdict_of(alloc: Global, refuting: Option<Case>) -> Result<Verdict, AllocError>
-    requires { IfSome refuting (λ case. IsPlain case.rows) }
-    ensures { IfOk result (IsVerdict refuting) }
-{
-    match refuting {
-        None => Ok(Verdict::Proved),
-        Some(case) => {
-            let point = point_of(alloc, case.rows.as_slice())?;
-            Ok(Verdict::Unproved { case, point })
-        }
-    }
 }
 
 fn cases_of(alloc: Global, case: Option<Case>) -> Result<Items<Case>, AllocError>
@@ -138,14 +86,14 @@ fn judged_of(
     main: &Proc,
     verdict: Verdict,
 ) -> Result<Judged, AllocError>
-    requires short { length text.now ≤ 2 ^ 20 }
+    requires short { length text.now ≤ most_bytes }
     requires few { length main.now.columns ≤ 8 }
     ensures { IfOk result (λ judged. judged ≡ judged_of text.now at main.now verdict) }
 {
     Ok(Judged {
         at,
-        line: line_of(text, at),
-        column: column_of(text, at),
+        line: line_at(text, at),
+        column: column_at(text, at),
         named: named_columns(alloc, main.columns.as_slice())?,
         shown: shown_columns(alloc, main.columns.as_slice())?,
         verdict,
@@ -166,7 +114,7 @@ fn report_of(alloc: Global, block: ProcBlock, judged: Judged) -> Result<Report, 
 fn analyse_main(alloc: Global, text: &[u8], at: u32, main: &Proc) -> Result<Report, Early>
     requires settled { (goal : Goal) × (holds : Case) × (fails : Case) × (goal_of (length main.now.columns) (map statement_of main.now.body) ≡ Ok goal) × Settles main.now goal holds fails }
     requires short_body { length main.now.body ≤ 9 }
-    requires short { length text.now ≤ 2 ^ 20 }
+    requires short { length text.now ≤ most_bytes }
     requires few { length main.now.columns ≤ 8 }
     ensures stated { IfOk result (IsReportOn text.now main.now at) }
     ensures memory { result ≢ Err Early.NotYet }
@@ -182,7 +130,7 @@ fn analyse_main(alloc: Global, text: &[u8], at: u32, main: &Proc) -> Result<Repo
 /// The report of a program of the first form, which a text spells, and whose claims are met.
 pub fn analyse(alloc: Global, text: &[u8], program: &Program) -> Result<Report, Early>
     requires first { IsTrue (is_first_form program.now) }
-    requires short { length text.now ≤ 2 ^ 20 }
+    requires short { length text.now ≤ most_bytes }
     ensures stated { IfOk result (IsReportOf text.now program.now) }
     ensures met { IfOk result (ClaimsAreMet program.now) }
     ensures memory { result ≢ Err Early.NotYet }

@@ -3,7 +3,7 @@ ghost use Rattle.items.specs.Gives.{Gives, lifted};
 ghost use Rattle.syntax_tree.specs.Term.{term_of};
 ghost use Rattle.syntax_tree.specs.Code.{statement_of};
 ghost use Rattle.linear_terms.specs.TermError.{cause};
-ghost use Rattle.cra.specs.Analysis.{after_all, after_statement, asserted_by, compared, difference, early, early_cause, found, goal_of, joined, nothing_known, poly_of};
+ghost use Rattle.cra.specs.Analysis.{after_all, after_statement, asserted_by, compared, difference, early, early_cause, goal_of, nothing_known, poly_of, set_polynomial, sum_or_difference};
 
 use crate::early::Early;
 use crate::first_form::is_additive;
@@ -37,8 +37,8 @@ pub fn difference(alloc: Global, a: &Poly, b: &Poly) -> Result<Poly, TermError>
 }
 
 /// The sum, and for `-` the difference.
-fn joined(alloc: Global, op: Op, a: &Poly, b: &Poly) -> Result<Poly, TermError>
-    ensures { Gives cause (λ p. p) result (joined op a.now b.now) }
+fn sum_or_difference(alloc: Global, op: Op, a: &Poly, b: &Poly) -> Result<Poly, TermError>
+    ensures { Gives cause (λ p. p) result (sum_or_difference op a.now b.now) }
 {
     match op {
         Op::Add => add(alloc, a, b),
@@ -48,7 +48,7 @@ fn joined(alloc: Global, op: Op, a: &Poly, b: &Poly) -> Result<Poly, TermError>
 
 /// The polynomial of a column that is set.
 fn column(columns: &[Option<Poly>], col: u32) -> Result<Poly, Early>
-    ensures { Gives early_cause (λ p. p) result (found (slice_get columns.now col)) }
+    ensures { Gives early_cause (λ p. p) result (set_polynomial (slice_get columns.now col)) }
 {
     match columns.get(col as usize) {
         Some(column) => match column {
@@ -73,7 +73,7 @@ fn poly_of(alloc: Global, columns: &[Option<Poly>], e: &Core) -> Result<Poly, Ea
             }
             let left = poly_of(alloc, columns, left)?;
             let right = poly_of(alloc, columns, right)?;
-            Ok(joined(alloc, *op, &left, &right)?)
+            Ok(sum_or_difference(alloc, *op, &left, &right)?)
         }
     }
 }

@@ -3,6 +3,7 @@
 #![tactic(auto)]
 
 use cra_io::{ReadSource, WriteSink};
+use status::Status;
 use std::alloc::AllocError;
 use std::io::ErrorKind;
 use std::process::ExitCode;
@@ -14,12 +15,16 @@ mod findings;
 mod first_form;
 mod input;
 mod known;
+mod laws;
+mod limits;
 mod output;
+mod place;
 mod reading;
 mod refusal;
 mod reply;
 mod report;
 mod run;
+mod status;
 #[cfg(test)]
 mod tables;
 #[cfg(test)]
@@ -43,7 +48,7 @@ fn main(rt: HostRuntime) -> ExitCode {
     let mut source = ReadSource::new(rt.stdin());
     let mut sink = WriteSink::new(io::writer(&rt));
     match words_given(&rt) {
-        Ok(words) => ExitCode::from(run::run(rt.alloc(), &words, &mut source, &mut sink)),
-        Err(_) => ExitCode::from(run::WANT_OF_MEMORY),
+        Ok(words) => ExitCode::from(run::run(rt.alloc(), &words, &mut source, &mut sink).code()),
+        Err(_) => ExitCode::from(Status::WantOfMemory.code()),
     }
 }

@@ -1,5 +1,6 @@
-ghost use Rattle.std.specs.Prelude.{◌≡◌, ◌≢◌, ◌≤◌, ◌^◌, length};
+ghost use Rattle.std.specs.Prelude.{◌≡◌, ◌≢◌, ◌≤◌, length};
 ghost use Rattle.cra.specs.Accepted.{IsOutcome, TokensOrRefusal, TreeOrRefusal};
+ghost use Rattle.cra.specs.Limits.{most_bytes};
 
 use crate::refusal::Refusal;
 use c_lexer::{LexError, Token, lex};
@@ -33,7 +34,7 @@ fn parsing(fault: ParseError) -> Refusal
 
 /// The tokens of a text.
 fn tokens_of(alloc: Global, text: &[u8]) -> Result<Items<Token>, Refusal>
-    requires { length text.now ≤ 2 ^ 20 }
+    requires { length text.now ≤ most_bytes }
     ensures { TokensOrRefusal text.now result }
 {
     match lex(alloc, text) {
@@ -44,7 +45,7 @@ fn tokens_of(alloc: Global, text: &[u8]) -> Result<Items<Token>, Refusal>
 
 /// The tree that a text spells.
 fn tree_of(alloc: Global, text: &[u8]) -> Result<Tree, Refusal>
-    requires { length text.now ≤ 2 ^ 20 }
+    requires { length text.now ≤ most_bytes }
     ensures { TreeOrRefusal text.now result }
 {
     let tokens = tokens_of(alloc, text)?;
@@ -57,7 +58,7 @@ fn tree_of(alloc: Global, text: &[u8]) -> Result<Tree, Refusal>
 
 /// The program of a text, or why it has none.
 pub fn read(alloc: Global, text: &[u8]) -> Result<Program, Refusal>
-    requires { length text.now ≤ 2 ^ 20 }
+    requires { length text.now ≤ most_bytes }
     ensures { IsOutcome text.now result }
 {
     let tree = tree_of(alloc, text)?;

@@ -1,9 +1,12 @@
-ghost use Rattle.std.specs.Prelude.{◌≡◌};
-ghost use Rattle.cra.specs.Refused.{lexing_told, limited_word, parsing_told, told, typing_told};
+ghost use Rattle.std.specs.Prelude.{◌≡◌, ◌≤◌, IfOk, length};
+ghost use Rattle.cra.specs.Limits.{most_bytes};
+ghost use Rattle.cra.specs.Refused.{lexing_line, limited_word, parsing_line, refusal_line, refusal_text, typing_line};
 
+use crate::place::{column_at, line_at};
+use crate::text::Text;
 use c_lexer::LexError;
 use c_parser::ParseError;
-use std::alloc::{AllocError, AllocFailed};
+use std::alloc::{AllocError, AllocFailed, Global};
 use typing::{Limited, TypeError};
 
 /// Why a text has no program: its cut into tokens, the grammar or the first fault of its tree, each with its place. No
@@ -38,9 +41,9 @@ impl<T: Drop> From<AllocFailed<T>> for Refusal {
     }
 }
 
-fn lexing_told(fault: LexError) -> (&'static [u8], u32)
-    ensures word { result.0.now ≡ (lexing_told fault).word }
-    ensures place { result.1 ≡ (lexing_told fault).at }
+fn lexing_line(fault: LexError) -> (&'static [u8], u32)
+    ensures word { result.0.now ≡ (lexing_line fault).word }
+    ensures place { result.1 ≡ (lexing_line fault).at }
 {
     match fault {
         LexError::Byte(at) => (b"byte", at),
@@ -51,9 +54,9 @@ fn lexing_told(fault: LexError) -> (&'static [u8], u32)
     }
 }
 
-fn parsing_told(fault: ParseError) -> (&'static [u8], u32)
-    ensures word { result.0.now ≡ (parsing_told fault).word }
-    ensures place { result.1 ≡ (parsing_told fault).at }
+fn parsing_line(fault: ParseError) -> (&'static [u8], u32)
+    ensures word { result.0.now ≡ (parsing_line fault).word }
+    ensures place { result.1 ≡ (parsing_line fault).at }
 {
     match fault {
         ParseError::Syntax(at) => (b"syntax", at),
@@ -77,9 +80,9 @@ fn limited_word(what: Limited) -> &'static [u8]
     }
 }
 
-fn typing_told(fault: TypeError) -> (&'static [u8], u32)
-    ensures word { result.0.now ≡ (typing_told fault).word }
-    ensures place { result.1 ≡ (typing_told fault).at }
+fn typing_line(fault: TypeError) -> (&'static [u8], u32)
+    ensures word { result.0.now ≡ (typing_line fault).word }
+    ensures place { result.1 ≡ (typing_line fault).at }
 {
     match fault {
         TypeError::Unknown(at) => (b"unknown", at),
@@ -95,15 +98,35 @@ fn typing_told(fault: TypeError) -> (&'static [u8], u32)
 
 impl Refusal {
     /// The word that tells it, and its place in the text.
-    pub fn told(self) -> (&'static [u8], u32)
-        ensures word { result.0.now ≡ (told self).word }
-        ensures place { result.1 ≡ (told self).at }
+    pub fn line(self) -> (&'static [u8], u32)
+        ensures word { result.0.now ≡ (refusal_line self).word }
+        ensures place { result.1 ≡ (refusal_line self).at }
     {
         match self {
-            Refusal::Lexing(fault) => lexing_told(fault),
-            Refusal::Parsing(fault) => parsing_told(fault),
-            Refusal::Typing(fault) => typing_told(fault),
+            Refusal::Lexing(fault) => lexing_line(fault),
+            Refusal::Parsing(fault) => parsing_line(fault),
+            Refusal::Typing(fault) => typing_line(fault),
             Refusal::Memory => (b"", 0),
         }
     }
+}
+
+/// The line that tells why a text is refused.
+pub fn refusal_text(alloc: Global, text: &[u8], refusal: Refusal) -> Result<Vec<u8>, AllocError>
+    requires { length text.now ≤ most_bytes }
+    ensures { IfOk result (λ line. line.items ≡ refusal_text text.now (refusal_line refusal)) }
+{
+    let (word, at) = refusal.line();
+    let mut line = Text {
+        bytes: Vec::new(alloc),
+    };
+    line.put(b"refused ")?;
+    line.put(word)?;
+    line.put(b" at ")?;
+    line.put_count(line_at(text, at) as u128)?;
+    line.put(b":")?;
+    line.put_count(column_at(text, at) as u128)?;
+    line.put(b"\n")?;
+    let Text { bytes } = line;
+    Ok(bytes)
 }

@@ -1,14 +1,17 @@
-ghost use Rattle.std.specs.Prelude.{◌≡◌, ◌≤◌, ◌^◌, length, IfOk};
+ghost use Rattle.std.specs.Prelude.{◌≡◌, ◌≤◌, length, IfOk};
 ghost use Rattle.cra.specs.Accepted.{Accepts};
-ghost use Rattle.cra.specs.Replies.{IsAnswer, IsReplyToShort, IsReplyToText, refused_reply, reply_of, wrong_words};
+ghost use Rattle.cra.specs.Limits.{most_bytes};
+ghost use Rattle.cra.specs.Replies.{IsReplyToShort, IsReplyToText, refused_reply, reply_of, wrong_words};
+ghost use Rattle.cra.specs.Status.{IsAnswer};
 
 use crate::analysis::analyse;
 use crate::first_form::is_first_form;
+use crate::limits::MOST_BYTES;
 use crate::reading::read;
-use crate::refusal::Refusal;
+use crate::refusal::{Refusal, refusal_text};
 use crate::report::Report;
-use crate::run::TEXT_LIMIT;
-use crate::text::{count_proved, refusal_text, text_of};
+use crate::status::Status;
+use crate::text::{count_proved, text_of};
 use items::Items;
 use std::alloc::{AllocError, Global};
 use syntax_tree::Program;
@@ -16,11 +19,11 @@ use syntax_tree::Program;
 /// What a run answers: its status, and the text that it writes.
 #[derive(Debug, Drop)]
 pub struct Reply {
-    pub status: u8,
+    pub status: Status,
     pub text: Items<u8>,
 }
 
-fn line(alloc: Global, status: u8, text: &[u8]) -> Result<Reply, AllocError>
+fn line(alloc: Global, status: Status, text: &[u8]) -> Result<Reply, AllocError>
     ensures { IfOk result (λ reply. reply ≡ record { status = status; text = text.now }) }
 {
     let text = Items::from_slice(alloc, text)?;
@@ -34,7 +37,7 @@ pub fn wrong_words(alloc: Global) -> Result<Reply, AllocError>
 {
     line(
         alloc,
-        2,
+        Status::WrongWords,
         b"usage: cra analyse | certify | check | edit | sample N\n",
     )
 }
@@ -47,33 +50,37 @@ fn reply_of(alloc: Global, report: &Report) -> Result<Reply, AllocError>
     let text = text_of(alloc, report)?;
     let all_proved = count_proved(&report.judged) == report.judged.len();
     Ok(Reply {
-        status: if all_proved { 0 } else { 1 },
+        status: if all_proved {
+            Status::AllProved
+        } else {
+            Status::SomeUnproved
+        },
         text: Items::from_vec(text),
     })
 }
 
 /// The answer that tells why a text is refused.
 fn refused_reply(alloc: Global, text: &[u8], refusal: Refusal) -> Result<Reply, AllocError>
-    requires { length text.now ≤ 2 ^ 20 }
+    requires { length text.now ≤ most_bytes }
     ensures reply { IfOk result (λ reply. reply ≡ refused_reply text.now refusal) }
     ensures status { IfOk result (λ reply. IsAnswer reply.status) }
 {
     let line = refusal_text(alloc, text, refusal)?;
     Ok(Reply {
-        status: 3,
+        status: Status::Refused,
         text: Items::from_vec(line),
     })
 }
 
 /// The answer to a program that a text spells.
 fn reply_to_program(alloc: Global, text: &[u8], program: &Program) -> Result<Reply, AllocError>
-    requires short { length text.now ≤ 2 ^ 20 }
+    requires short { length text.now ≤ most_bytes }
     requires accepted { Accepts text.now program.now }
     ensures reply { IfOk result (IsReplyToShort text.now) }
     ensures status { IfOk result (λ reply. IsAnswer reply.status) }
 {
     if !is_first_form(alloc, program)? {
-        return line(alloc, 3, b"refused notyet\n");
+        return line(alloc, Status::Refused, b"refused notyet\n");
     }
     match analyse(alloc, text, program) {
         Ok(report) => reply_of(alloc, &report),
@@ -83,7 +90,7 @@ fn reply_to_program(alloc: Global, text: &[u8], program: &Program) -> Result<Rep
 
 /// The answer to a text.
 fn reply_to_short(alloc: Global, text: &[u8]) -> Result<Reply, AllocError>
-    requires { length text.now ≤ 2 ^ 20 }
+    requires { length text.now ≤ most_bytes }
     ensures reply { IfOk result (IsReplyToShort text.now) }
     ensures status { IfOk result (λ reply. IsAnswer reply.status) }
 {
@@ -99,8 +106,8 @@ pub fn reply_to_text(alloc: Global, input: &[u8]) -> Result<Reply, AllocError>
     ensures reply { IfOk result (IsReplyToText input.now) }
     ensures status { IfOk result (λ reply. IsAnswer reply.status) }
 {
-    if input.len() > TEXT_LIMIT {
-        return line(alloc, 9, b"input is too long\n");
+    if input.len() > MOST_BYTES {
+        return line(alloc, Status::TooLong, b"input is too long\n");
     }
     reply_to_short(alloc, input)
 }

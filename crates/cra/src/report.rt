@@ -1,18 +1,10 @@
 ghost use Rattle.std.specs.Prelude.{◌≡◌, IfOk};
 
+use crate::verdict::Verdict;
 use items::Items;
-use linear_terms::Case;
 use std::alloc::AllocError;
 use syntax_tree::Name;
 use transition_formula::Formula;
-
-/// What is found of an assertion.
-#[derive(Debug, Drop)]
-pub enum Verdict {
-    Proved,
-    /// A case in which it would fail, and a number for each monomial of its rows, in print order.
-    Unproved { case: Case, point: Items<i128> },
-}
 
 /// The summary of a procedure: `before` names its columns at entry, and `after` those at exit but for the
 /// returned value.

@@ -1,4 +1,8 @@
-use crate::run::{TEXT_LIMIT, run};
+use crate::laws::{
+    accepted_is_not_refused, accepted_is_well_formed, accepted_once, assertions_ascend,
+};
+use crate::limits::MOST_BYTES;
+use crate::run::run;
 use crate::tables;
 use cra_io::{MemorySink, MemorySource};
 use std::alloc::Global;
@@ -93,7 +97,7 @@ fn run_on(alloc: Global, words: &[&str], input: &[u8], outside: Outside) -> Resu
         [outside.failing_read].to_vec(alloc)?,
     );
     let mut sink = MemorySink::new(alloc, 1000, most, [outside.failing_write].to_vec(alloc)?)?;
-    let status = run(alloc, &given, &mut source, &mut sink);
+    let status = run(alloc, &given, &mut source, &mut sink).code();
     Ok(Ended {
         status,
         text: sink.bytes().to_vec(alloc)?,
@@ -241,8 +245,8 @@ fn other_words(rt: HostRuntime) -> Result<(), Fail> {
 #[test]
 fn lengths(rt: HostRuntime) -> Result<(), Fail> {
     let alloc = rt.alloc();
-    let full = vec![in alloc; b' '; TEXT_LIMIT]?;
-    let past = vec![in alloc; b' '; TEXT_LIMIT + 1]?;
+    let full = vec![in alloc; b' '; MOST_BYTES]?;
+    let past = vec![in alloc; b' '; MOST_BYTES + 1]?;
     refused(alloc, &rt, &full, b"refused main at 1:1048577\n")?;
     let ended = run_on(alloc, &["cra", "analyse"], &past, GOOD)?;
     assert_eq!(rt; ended.status, 9);
@@ -287,4 +291,12 @@ fn each_write_fails_in_turn(rt: HostRuntime) -> Result<(), Fail> {
         assert_eq!(rt; Some(ended.text.as_slice()), FALSE_REPORT.get(..taken));
     }
     Ok(())
+}
+
+#[test]
+fn laws(_rt: HostRuntime) {
+    accepted_once();
+    accepted_is_not_refused();
+    accepted_is_well_formed();
+    assertions_ascend();
 }

@@ -1,13 +1,11 @@
-ghost use Rattle.std.specs.Prelude.{◌≡◌, ◌∷◌, ◌++◌, ◌+◌, ◌<◌, ◌^◌, ◌≤◌, [], IfOk, OnOk, codes, decimal, length, slice_index_or};
+ghost use Rattle.std.specs.Prelude.{◌≡◌, ◌∷◌, ◌++◌, ◌+◌, ◌<◌, ◌≤◌, [], IfOk, OnOk, codes, decimal, length, slice_index_or};
 ghost use Rattle.std.specs.List.{count_by, flat_map, list_any};
 ghost use Rattle.std.specs.Fmt.{signed_decimal};
 ghost use Rattle.std.specs.Str.{bytes_eq};
-ghost use Rattle.cra.specs.Refused.{refusal_text, told};
 ghost use Rattle.cra.specs.Text.{shown_name, stands_before, case_text, cases_from, cases_text, column_text, exit_name, factor_text, is_proved, judged_from, judged_text, mono_at, mono_text, name_at, point_text, poly_text, post_line, post_lines, proc_text, relation_text, rest_text, row_line, sign_text, term_text, terms_text, text_of, total_text, value_text, values_text, verdict_text};
 
-use crate::analysis::{column_of, line_of};
-use crate::refusal::Refusal;
-use crate::report::{Judged, ProcBlock, Report, Verdict};
+use crate::report::{Judged, ProcBlock, Report};
+use crate::verdict::Verdict;
 use items::Items;
 use itoa::Buffer;
 use linear_terms::{Case, Col, Kind, Mono, Poly, Row};
@@ -16,18 +14,18 @@ use syntax_tree::Name;
 
 /// A text that is being made.
 #[derive(Debug, Drop)]
-struct Text {
-    bytes: Vec<u8>,
+pub(crate) struct Text {
+    pub(crate) bytes: Vec<u8>,
 }
 
 impl Text {
-    fn put(&mut self, bytes: &[u8]) -> Result<(), AllocError>
+    pub(crate) fn put(&mut self, bytes: &[u8]) -> Result<(), AllocError>
         ensures { OnOk result (self.new.bytes.items ≡ self.old.bytes.items ++ bytes.now) }
     {
         self.bytes.extend_from_slice(bytes)
     }
 
-    fn put_count(&mut self, n: u128) -> Result<(), AllocError>
+    pub(crate) fn put_count(&mut self, n: u128) -> Result<(), AllocError>
         ensures { OnOk result (self.new.bytes.items ≡ self.old.bytes.items ++ decimal n) }
     {
         self.put(Buffer::new().format(n).as_bytes())
@@ -380,26 +378,6 @@ fn number_at(shown: &[u32], i: usize) -> u32
         Some(number) => *number,
         None => 0,
     }
-}
-
-/// The line that tells why a text is refused.
-pub fn refusal_text(alloc: Global, text: &[u8], refusal: Refusal) -> Result<Vec<u8>, AllocError>
-    requires { length text.now ≤ 2 ^ 20 }
-    ensures { IfOk result (λ line. line.items ≡ refusal_text text.now (told refusal)) }
-{
-    let (word, at) = refusal.told();
-    let mut line = Text {
-        bytes: Vec::new(alloc),
-    };
-    line.put(b"refused ")?;
-    line.put(word)?;
-    line.put(b" at ")?;
-    line.put_count(line_of(text, at) as u128)?;
-    line.put(b":")?;
-    line.put_count(column_of(text, at) as u128)?;
-    line.put(b"\n")?;
-    let Text { bytes } = line;
-    Ok(bytes)
 }
 
 /// How many assertions are proved.

@@ -1,11 +1,19 @@
-ghost use Rattle.std.specs.Prelude.{◌≡◌, ◌≢◌, ◌<ℤ◌, ◌≤ℤ◌, ◌*ℤ◌, ◌+ℤ◌, neg_ℤ, ◌<◌, ◌∷◌, [], pos, length, replicate, IfOk};
+ghost use Rattle.std.specs.Prelude.{◌≡◌, ◌≢◌, ◌<ℤ◌, ◌≤ℤ◌, ◌*ℤ◌, ◌+ℤ◌, neg_ℤ, ◌<◌, ◌∷◌, [], pos, length, replicate, IfOk, IfSome};
 ghost use Rattle.linear_terms.specs.declared.row.Kind.TheVariants.{AtMost};
-ghost use Rattle.cra.specs.Stated.{IsPlain, MakesTrue};
+ghost use Rattle.cra.specs.Stated.{IsPlain, IsVerdict, MakesTrue};
 
 use items::Items;
-use linear_terms::Row;
+use linear_terms::{Case, Row};
 use std::alloc::{AllocError, Global};
 use whole_numbers::quotient_up;
+
+/// What is found of an assertion.
+#[derive(Debug, Drop)]
+pub enum Verdict {
+    Proved,
+    /// A case in which it would fail, and a number for each monomial of its rows, in print order.
+    Unproved { case: Case, point: Items<i128> },
+}
 
 fn negated(count: i128) -> i128
     requires { pos 0 <ℤ count }
@@ -56,12 +64,26 @@ fn point_of_row(alloc: Global, row: &Row) -> Result<Items<i128>, AllocError>
 }
 
 /// Numbers that make the rows true, of which there is one at most.
-pub fn point_of(alloc: Global, rows: &[Row]) -> Result<Items<i128>, AllocError>
+fn point_of(alloc: Global, rows: &[Row]) -> Result<Items<i128>, AllocError>
     requires { IsPlain rows.now }
     ensures { IfOk result (λ point. MakesTrue point rows.now) }
 {
     match rows {
         [row] => point_of_row(alloc, row),
         _ => Ok(Items::new(alloc)),
+    }
+}
+
+/// The verdict on an assertion, of which the case is known in which it fails.
+pub fn verdict_of(alloc: Global, refuting: Option<Case>) -> Result<Verdict, AllocError>
+    requires { IfSome refuting (λ case. IsPlain case.rows) }
+    ensures { IfOk result (IsVerdict refuting) }
+{
+    match refuting {
+        None => Ok(Verdict::Proved),
+        Some(case) => {
+            let point = point_of(alloc, case.rows.as_slice())?;
+            Ok(Verdict::Unproved { case, point })
+        }
     }
 }

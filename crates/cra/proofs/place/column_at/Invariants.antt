@@ -1,6 +1,6 @@
 use Rattle.std.proofs.Common.{◌≡◌, ◌+◌, ◌≤◌, drop}
-use Rattle.cra.specs.Stated.{column_behind}
-use Rattle.cra.proofs.analysis.column_of.Given as goal
+use Rattle.cra.specs.Place.{column_behind}
+use Rattle.cra.proofs.place.column_at.Given as goal
 
 abbrev pub invariant-loop-byte : goal.invariant-loop-byte
 invariant-loop-byte l = record {

@@ -1,7 +1,7 @@
 use Rattle.std.proofs.Common.{◌≡◌, ◌+◌, ◌≤◌, drop}
 use Rattle.std.specs.List.{count_by}
-use Rattle.cra.specs.Stated.{is_newline}
-use Rattle.cra.proofs.analysis.line_of.Given as goal
+use Rattle.cra.specs.Place.{is_newline}
+use Rattle.cra.proofs.place.line_at.Given as goal
 
 abbrev pub invariant-loop-byte : goal.invariant-loop-byte
 invariant-loop-byte l = record {

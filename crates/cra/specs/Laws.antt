@@ -1,0 +1,23 @@
+-- What holds of the program of a text.
+use Rattle.std.specs.Prelude.{◌≡◌, ℕ, List, IsTrue}
+use Rattle.c_lexer.specs.Laws.{ascends_from}
+use Rattle.syntax_tree.specs.declared.program.Program.{Program}
+use Rattle.syntax_tree.specs.WellFormed.{IsWellFormed}
+use Rattle.cra.specs.declared.refusal.Refusal.{Refusal}
+use Rattle.cra.specs.Accepted.{Accepts, IsRefusedBy}
+
+-- a text is accepted as one program at most
+abbrev pub AcceptedOnce : Type 0
+AcceptedOnce = (text : List ℕ) (one other : Program) → Accepts text one → Accepts text other → one ≡ other
+
+-- a text that is accepted is not refused
+abbrev pub AcceptedIsNotRefused : Type 0
+AcceptedIsNotRefused = (text : List ℕ) (program : Program) (refusal : Refusal) → Accepts text program → IsRefusedBy text refusal → ⊥
+
+-- the program of a text is well formed
+abbrev pub AcceptedIsWellFormed : Type 0
+AcceptedIsWellFormed = (text : List ℕ) (program : Program) → Accepts text program → IsWellFormed program
+
+-- the assertions of a program are numbered in the order of their places
+abbrev pub AssertionsAscend : Type 0
+AssertionsAscend = (text : List ℕ) (program : Program) → Accepts text program → IsTrue (ascends_from 0 program.checks)

@@ -1,0 +1,21 @@
+ghost use Rattle.cra.specs.Laws.{AcceptedIsNotRefused, AcceptedIsWellFormed, AcceptedOnce, AssertionsAscend};
+
+/// A text is accepted as one program at most.
+pub fn accepted_once()
+    ensures { AcceptedOnce }
+{}
+
+/// A text that is accepted is not refused.
+pub fn accepted_is_not_refused()
+    ensures { AcceptedIsNotRefused }
+{}
+
+/// The program of a text is well formed.
+pub fn accepted_is_well_formed()
+    ensures { AcceptedIsWellFormed }
+{}
+
+/// The assertions of a program are numbered in the order of their places.
+pub fn assertions_ascend()
+    ensures { AssertionsAscend }
+{}

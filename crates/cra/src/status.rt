@@ -1,0 +1,40 @@
+ghost use Rattle.std.specs.Prelude.{◌≡◌};
+ghost use Rattle.cra.specs.Status.{code_of};
+
+/// How a run ends.
+#[derive(Clone, Copy, Debug, PartialEq, Eq)]
+pub enum Status {
+    /// Every assertion is proved.
+    AllProved,
+    /// Some assertion is not proved.
+    SomeUnproved,
+    /// The words ask for nothing.
+    WrongWords,
+    /// The text is refused.
+    Refused,
+    /// The source failed.
+    SourceFailed,
+    /// The sink failed.
+    SinkFailed,
+    WantOfMemory,
+    /// The input is too long.
+    TooLong,
+}
+
+impl Status {
+    /// The number with which the process ends.
+    pub fn code(self) -> u8
+        ensures { result ≡ code_of self }
+    {
+        match self {
+            Status::AllProved => 0,
+            Status::SomeUnproved => 1,
+            Status::WrongWords => 2,
+            Status::Refused => 3,
+            Status::SourceFailed => 4,
+            Status::SinkFailed => 5,
+            Status::WantOfMemory => 6,
+            Status::TooLong => 9,
+        }
+    }
+}
