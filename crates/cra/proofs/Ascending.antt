@@ -3,15 +3,15 @@ use Rattle.std.proofs.Common.{◌≡◌, ℕ, ◌+◌, ◌≤◌, Bool, true, fa
 use Rattle.std.specs.Prelude.{◌&&◌, nat_le}
 use Rattle.std.proofs.lemmas.Bool.Decides.{nat_tests}
 use Rattle.c_lexer.specs.declared.keyword.Keyword.TheVariants as keywords
-use Rattle.c_lexer.specs.declared.mark.Mark.TheVariants.{OpenRound, CloseRound, OpenBrace, CloseBrace, Comma, Semi, Assign}
+use Rattle.c_lexer.specs.declared.mark.Mark.TheVariants.{OpenRound, CloseRound, OpenBrace, CloseBrace, Semi}
 use Rattle.c_lexer.specs.declared.token.Token.{Token}
 use Rattle.c_lexer.specs.Laws.{ascends_from}
 use Rattle.c_lexer.proofs.Places.{tokens_ascend}
-use Rattle.c_parser.specs.Declarations.{Declaration, Globals, Prototype, Procedure, Shared, Zero, Positive, Negative, SharedList, LastShared, AlsoShared, shared_item, declaration_items, declaration_spots, outside_spots, parameters_spots, returned_spots, shared_list_items, shared_list_spots, text_items, text_spots}
-use Rattle.c_parser.specs.Expressions.{Call, Applied, argument_spots, call_spots, call_tree, expression_spots}
-use Rattle.c_parser.specs.Lines.{Variable, Bare, Initialised, Variables, Last, Also, Local, Declared, Simple, Assigned, Changed, CountedAfter, CountedBefore, Acted, Init, InitLocal, InitSimple, Line, Block, Empty, Plain, If, IfElse, While, DoWhile, For, Break, Continue, Return, Lines, NoLines, ThenLocal, ThenLine, bracketed_spots, if_expression, if_simple, if_simple_lines, init_lines, init_spots, line_lines, line_spots, lines_lines, lines_spots, local_lines, local_spots, simple_line, simple_spots, variable_line, variable_spots, variables_lines, variables_spots}
+use Rattle.c_parser.specs.Declarations.{Declaration, Globals, Prototype, Procedure, Zero, Positive, Negative, SharedList, LastShared, AlsoShared, declaration_items, declaration_spots, parameters_spots, returned_spots, shared_list_items, text_items, text_spots}
+use Rattle.c_parser.specs.Expressions.{Call, Applied, call_spots, call_tree}
+use Rattle.c_parser.specs.Lines.{Bare, Initialised, Variables, Last, Also, Local, Declared, Simple, Assigned, Changed, CountedAfter, CountedBefore, Acted, Init, InitLocal, InitSimple, Line, Block, Empty, Plain, If, IfElse, While, DoWhile, For, Break, Continue, Return, Lines, NoLines, ThenLocal, ThenLine, bracketed_spots, if_expression, if_simple, if_simple_lines, init_lines, init_spots, line_lines, line_spots, lines_lines, lines_spots, local_lines, local_spots, simple_line, simple_spots, variables_lines}
 use Rattle.c_parser.specs.SourceItem.{SourceItem, Global, Proto, Body, source_item_of}
-use Rattle.c_parser.specs.Spots.{Spot, end, keyword, mark, spot_of, spots_of, word}
+use Rattle.c_parser.specs.Spots.{Spot, end, keyword, mark, spots_of, word}
 use Rattle.syntax_tree.specs.declared.program.Program.{Program}
 use Rattle.syntax_tree.specs.declared.tree.Item.{Item}
 use Rattle.syntax_tree.specs.declared.tree.Item.TheVariants as item

@@ -5,10 +5,11 @@ use Rattle.std.specs.List.{AllByRecursion}
 use mathlib.Core.Logic.{inl}
 use Rattle.std.proofs.lemmas.Grind.{common_steps}
 use Rattle.std.proofs.lemmas.List.{length-map}
+use Rattle.std.proofs.lemmas.List.Elements.{All-from_recursion}
 use Rattle.linear_terms.specs.declared.row.Case.{Case}
-use Rattle.linear_terms.specs.declared.row.Normal.{Normal}
-use Rattle.linear_terms.specs.declared.col.Col.TheVariants.{Aux}
-use Rattle.linear_terms.specs.Polynomial.{IsCanonical, Polynomial, column_of}
+use Rattle.linear_terms.specs.declared.row.Row.{Row}
+use Rattle.linear_terms.specs.Row.{AreCanonical}
+use Rattle.linear_terms.specs.Polynomial.{IsCanonical, Polynomial}
 use Rattle.linear_terms.proofs.Columns.{EachColumn}
 use Rattle.syntax_tree.specs.declared.program.Column.{Column}
 use Rattle.syntax_tree.specs.declared.program.GlobalVar.{GlobalVar}
@@ -16,24 +17,23 @@ use Rattle.syntax_tree.specs.declared.program.Proc.{Proc}
 use Rattle.syntax_tree.specs.declared.program.Program.{Program}
 use Rattle.syntax_tree.specs.Code.{statement_of}
 use Rattle.execution.specs.Execution.{Fails}
-use Rattle.transition_formula.specs.Meaning.{Holds, HoldsCase, HoldsSome}
+use Rattle.transition_formula.specs.Meaning.{Holds, HoldsCase, HoldsLeft, HoldsSome}
 use Rattle.transition_formula.specs.Rounds.{in_order}
+use Rattle.transition_formula.proofs.Ordering.{in_order-holds}
 use Rattle.cra.specs.declared.known.Goal.{Goal}
 use Rattle.cra.specs.declared.verdict.Verdict.{Verdict}
 use Rattle.cra.specs.declared.verdict.Verdict.TheVariants.{Proved, Unproved}
 use Rattle.cra.specs.declared.report.ProcBlock.{ProcBlock}
 use Rattle.cra.specs.declared.report.Report.{Report}
-use Rattle.cra.specs.Analysis.{failing, goal_of, holding, named_onto, named_posts, one_row, returned_case}
+use Rattle.cra.specs.Analysis.{at_most, failing, goal_of, holding, named_onto, named_posts, one_row, returned_case}
 use Rattle.cra.specs.Claims.{ClaimsAreMet, SummaryIsMet, exit_values}
 use Rattle.cra.specs.FirstForm.{are_first, ends_well, is_first_body, is_first_form, set_by}
 use Rattle.cra.specs.Stated.{IsReportOf, IsReportOn, IsVerdict, Settles, block_of, cases_of, judged_of}
 use Rattle.cra.proofs.Columns.{EachKnown}
 use Rattle.cra.proofs.Covered.{goal-covered}
 use Rattle.cra.proofs.Executions.{IsAlone, fails-hold, no-inputs, returns-hold}
-use Rattle.cra.proofs.Ordered.{IsInequality, LeftHolds, left-holds, normal-of, ordered-left}
 use Rattle.cra.proofs.Reached.{GoalKnown, first-goal}
-use Rattle.cra.proofs.Ready.{Cases, aux-one, cases-known, last-covered, settles}
-use Rattle.cra.proofs.Renumbered.{Numbered}
+use Rattle.cra.proofs.Ready.{Cases, cases-known, one_row-numbered, returned-numbered, settles}
 use Rattle.cra.proofs.Standing.{IsAux}
 
 -- what a program of the first form is to the analysis
@@ -114,7 +114,7 @@ ready program e =
 
 -- ---- the claims
 
-left-some : (left : Option Case) (before after : List ℤ) → LeftHolds left before after → HoldsSome (cases_of left) before after
+left-some : (left : Option Case) (before after : List ℤ) → HoldsLeft left before after → HoldsSome (cases_of left) before after
 left-some None before after h = absurd h
 left-some (Some case) before after h = inl h
 
@@ -122,19 +122,18 @@ first-only : {X : Type 0} (x y : X) (n : ℕ) → slice_get (x ∷ []) n ≡ Som
 first-only x y zero e = let same : x ≡ y = cc in (refl, same)
 first-only x y (suc n) e = cc
 
-returned-numbered : (returns : Bool) (choices : ℕ) (p : Polynomial) → EachColumn (IsAux choices) p.terms → Numbered (returned_case returns choices p)
-returned-numbered true choices p covered = record { rows = (aux-one choices p covered, tt); post = (last-covered choices, tt) }
-returned-numbered false choices p covered = record { rows = (covered, tt); post = tt }
+canonical-row : (p : Polynomial) → IsCanonical p.terms → AreCanonical (at_most p ∷ [])
+canonical-row p canonical = All-from_recursion (λ (row : Row). IsCanonical row.poly.terms) (at_most p ∷ []) (canonical, tt)
+
+returned-rows : (returns : Bool) (choices : ℕ) (p : Polynomial) → IsCanonical p.terms → AreCanonical (returned_case returns choices p).rows
+returned-rows true choices p canonical = canonical-row p canonical
+returned-rows false choices p canonical = canonical-row p canonical
 
 -- the case that is returned, put in order, holds of what it held of
-returned-holds : (returns : Bool) (choices : ℕ) (p : Polynomial) (n : Normal) → IsInequality p n → IsCanonical p.terms → EachColumn (IsAux choices) p.terms → (before after : List ℤ)
-    → HoldsCase (returned_case returns choices p) before after → LeftHolds (in_order (returned_case returns choices p)).left before after
-returned-holds true choices p n normal canonical covered before after held =
-    subst (λ l. LeftHolds l before after) (sym (ordered-left (choices + 1) p (column_of (Aux choices) ∷ []) n normal))
-    (left-holds (choices + 1) p (column_of (Aux choices) ∷ []) n normal canonical (returned-numbered true choices p covered) before after held)
-returned-holds false choices p n normal canonical covered before after held =
-    subst (λ l. LeftHolds l before after) (sym (ordered-left choices p [] n normal))
-    (left-holds choices p [] n normal canonical (returned-numbered false choices p covered) before after held)
+returned-holds : (returns : Bool) (choices : ℕ) (p : Polynomial) → IsCanonical p.terms → EachColumn (IsAux choices) p.terms → (before after : List ℤ)
+    → HoldsCase (returned_case returns choices p) before after → HoldsLeft (in_order (returned_case returns choices p)).left before after
+returned-holds returns choices p canonical covered before after held =
+    in_order-holds (returned_case returns choices p) (returned-rows returns choices p canonical) (returned-numbered returns choices p covered) before after held
 
 same-proc : (program : Program) (main callee : Proc) → program.procs ≡ main ∷ [] → slice_get program.procs 0 ≡ Some callee → main ≡ callee
 same-proc program main callee only found = let same : Some main ≡ Some callee = sym (λ i. slice_get (only i) 0) ∙ found in cc
@@ -143,9 +142,8 @@ summary-met : (program : Program) (main : Proc) (goal : Goal) (cases : Cases goa
     → block_of main (in_order (returned_case main.returns goal.known.choices cases.p)).left ≡ block → SummaryIsMet program 0 block.formula
 summary-met program main goal cases block alone same callee found globals args after value returns =
     let held = returns-hold program main goal cases.p alone cases.p_is globals args after value returns in
-    let normal = normal-of cases.p in
     let left = (in_order (returned_case main.returns goal.known.choices cases.p)).left in
-    let kept = returned-holds main.returns goal.known.choices cases.p normal.0 normal.1 cases.p_canonical cases.p_covered (globals ++ args) (exit_values main after value) held in
+    let kept = returned-holds main.returns goal.known.choices cases.p cases.p_canonical cases.p_covered (globals ++ args) (exit_values main after value) held in
     let some = left-some left (globals ++ args) (exit_values main after value) kept in
     let whole : Holds (block_of main left).formula (globals ++ args) (exit_values main after value) =
     record { enters = no-inputs program main goal alone globals args after value returns; some = some } in
@@ -160,11 +158,10 @@ verdict-met program main goal cases posts (Some case) verdict number alone is (p
     clash : Proved ≡ Unproved case point → ⊥
     clash e = cc
 verdict-met program main goal cases posts None verdict number alone is told covered proved = λ there.
-    let normal = normal-of cases.q in
     let held = fails-hold program main goal cases.r cases.q posts number alone cases.r_is cases.q_is there in
-    let numbered : Numbered (one_row goal.known.choices cases.q posts) = record { rows = (cases.q_covered, tt); post = covered } in
-    let kept = left-holds goal.known.choices cases.q posts normal.0 normal.1 cases.q_canonical numbered [] held.0 held.1 in
-    subst (λ l. LeftHolds l [] held.0) (sym (is ∙ ordered-left goal.known.choices cases.q posts normal.0 normal.1)) kept
+    let kept = in_order-holds (one_row goal.known.choices cases.q posts) (canonical-row cases.q cases.q_canonical)
+    (one_row-numbered goal.known.choices cases.q posts cases.q_covered covered) [] held.0 held.1 in
+    subst (λ l. HoldsLeft l [] held.0) (sym is) kept
 
 each-post : (n : ℕ) (columns : List Column) (polys : List (Option Polynomial)) → EachKnown (IsAux n) polys → AllByRecursion (λ p. EachColumn (IsAux n) p.terms) (named_posts columns polys)
 each-post n [] polys each = tt

@@ -26,6 +26,5 @@ pub mod Covered
 pub mod Ready
 -- Cases that are put in order, and points that refute.
 pub mod Points
-pub mod Renumbered
 pub mod Ordered
 pub mod Canonical

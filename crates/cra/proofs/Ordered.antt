@@ -1,10 +1,6 @@
--- A case of one inequality, put in order: it is left out, or it keeps its row in normal form, or it has no row; and what is left
--- holds of whatever the case held of.
-use Rattle.std.proofs.Common.{◌≡◌, true, false, ℕ, zero, ℤ, ◌<◌, ◌≤◌, Option, None, Some, Result, Ok, List, [], ◌∷◌, length, refl, sym, ap, subst, ◌∙◌, arith}
-use Rattle.std.specs.Prelude.{IsTrue}
+-- A case of one inequality, put in order: it is left out, or it keeps its row in normal form, or it has no row.
+use Rattle.std.proofs.Common.{◌≡◌, true, false, ℕ, zero, ◌<◌, Option, None, Some, Result, Ok, List, [], ◌∷◌, length, refl, sym, ap, subst, ◌∙◌, arith}
 use Rattle.std.specs.Map.{values_of}
-use mathlib.Core.Logic.{◌⊎◌, inl, inr}
-use Rattle.std.proofs.lemmas.Bool.{cases_lt}
 use Rattle.whole_numbers.specs.Divisors.{gcd_of_all, ceiling_of}
 use Rattle.linear_terms.specs.declared.row.Row.{Row}
 use Rattle.linear_terms.specs.declared.row.Kind.{Kind}
@@ -13,12 +9,8 @@ use Rattle.linear_terms.specs.declared.row.Case.{Case}
 use Rattle.linear_terms.specs.declared.row.Normal.{Normal}
 use Rattle.linear_terms.specs.declared.row.Normal.TheVariants.{Constant, Kept}
 use Rattle.linear_terms.specs.declared.error.TermError.{TermError}
-use Rattle.linear_terms.specs.Polynomial.{IsCanonical, Polynomial, Terms}
-use Rattle.linear_terms.specs.Row.{SaysAsMuch, divided, is_within, normal_form}
-use Rattle.linear_terms.specs.Value.{Valuation}
-use Rattle.linear_terms.proofs.Columns.{EachColumn}
-use Rattle.linear_terms.proofs.Normals.{SaysAsMuch-none, normal_form-none, normal_form-some, reduced-SaysAsMuch}
-use Rattle.transition_formula.specs.Meaning.{HoldsCase, numbers}
+use Rattle.linear_terms.specs.Polynomial.{Polynomial, Terms}
+use Rattle.linear_terms.specs.Row.{divided, is_within, normal_form}
 use Rattle.std.specs.Option.{option_map}
 use Rattle.linear_terms.specs.Auxiliaries.{renumbered}
 use Rattle.transition_formula.specs.Order.{place_from, solved_by}
@@ -27,8 +19,6 @@ use Rattle.transition_formula.specs.Rounds.{in_order, round, rounds, solved_firs
 use Rattle.transition_formula.specs.Rows.{each_once, normal_rows, opposites_met, with_normal}
 use Rattle.cra.specs.Analysis.{at_most, one_row}
 use Rattle.cra.specs.Stated.{IsPlain}
-use Rattle.cra.proofs.Renumbered.{Numbered, renumbered-holds}
-use Rattle.cra.proofs.Standing.{IsAux}
 
 -- what is left of it, by the normal form of its row
 abbrev pub left_of : ℕ → List Polynomial → Normal → Option Case
@@ -40,11 +30,6 @@ left_of aux post (Kept row) = Some (renumbered_case (record { aux = aux; rows = 
 pub record IsInequality (p : Polynomial) (n : Normal) : Type 0 where
   pub is : normal_form (at_most p) ≡ Ok n
   pub shape : (row : Row) → n ≡ Kept row → (row.kind ≡ AtMost) × (0 < length row.poly.terms)
-  pub covered : (aux : ℕ) → EachColumn (IsAux aux) p.terms → (row : Row) → n ≡ Kept row → EachColumn (IsAux aux) row.poly.terms
-
-divided-covered : (aux d : ℕ) (ts : Terms) → EachColumn (IsAux aux) ts → EachColumn (IsAux aux) (divided d ts)
-divided-covered aux d [] each = tt
-divided-covered aux d (t ∷ ts) each = (each.0, divided-covered aux d ts each.1)
 
 divided-long : (d : ℕ) (ts : Terms) → length (divided d ts) ≡ length ts
 divided-long d [] = refl
@@ -59,7 +44,6 @@ normal-of p = go p.terms refl
       record {
         is = ap (λ ts. normal_form (at_most (record { terms = ts; rest = p.rest }))) e;
         shape = λ row f. cc;
-        covered = λ aux each row f. cc;
       },
     )
     go (t ∷ ts) e =
@@ -70,8 +54,6 @@ normal-of p = go p.terms refl
             is = ap (λ us. normal_form (at_most (record { terms = us; rest = p.rest }))) e ∙ sym (ap (λ us. kept us) e);
             shape = λ other f. let same : row ≡ other = kept-one row other f in
                 subst (λ r. (r.kind ≡ AtMost) × (0 < length r.poly.terms)) same (refl, some-terms g e);
-            covered = λ aux each other f. let same : row ≡ other = kept-one row other f in
-                subst (λ r. EachColumn (IsAux aux) r.poly.terms) same (divided-covered aux g p.terms each);
           },
         )
       where
@@ -98,41 +80,6 @@ ordered-left aux p post n normal = ap (settled aux p post) normal.is ∙ go n (n
     go (Constant false) shape = refl
     go (Kept row) shape =
         ap (λ f. (solved_first (rounds zero) (record { aux = aux; rows = row ∷ []; post = post }) f).left) (found row row.kind (shape row refl).0)
-
--- ---- what is left says as much
-
-says : (p : Polynomial) (n : Normal) → IsInequality p n → IsCanonical p.terms → (at : Valuation) → SaysAsMuch at (at_most p) n
-says p n normal canonical at = go (cases_lt 0 (gcd_of_all (values_of p.terms)))
-  where
-    constant-one : (a b : Normal) → (let r : Result Normal TermError = Ok a in r) ≡ Ok b → a ≡ b
-    constant-one a b e = cc
-
-    go : (0 < gcd_of_all (values_of p.terms)) ⊎ (gcd_of_all (values_of p.terms) ≤ 0) → SaysAsMuch at (at_most p) n
-    go (inl some) = reduced-SaysAsMuch at AtMost (gcd_of_all (values_of p.terms)) p n some refl (sym (normal_form-some (at_most p) some) ∙ normal.is)
-    go (inr none) =
-        let zeroed : gcd_of_all (values_of p.terms) ≡ 0 = omega (arith, none) in
-        let same = constant-one (Constant (is_within AtMost p.rest)) n (sym (normal_form-none (at_most p) canonical zeroed) ∙ normal.is) in
-        subst (SaysAsMuch at (at_most p)) same (SaysAsMuch-none at (at_most p) canonical zeroed)
-
--- nothing is left only where nothing holds
-abbrev pub LeftHolds : Option Case → List ℤ → List ℤ → Type 0
-LeftHolds None before after = ⊥
-LeftHolds (Some case) before after = HoldsCase case before after
-
-pub left-holds : (aux : ℕ) (p : Polynomial) (post : List Polynomial) (n : Normal) → IsInequality p n → IsCanonical p.terms → Numbered (one_row aux p post)
-    → (before after : List ℤ) → HoldsCase (one_row aux p post) before after → LeftHolds (left_of aux post n) before after
-left-holds aux p post n normal canonical numbered before after (values, holds) = go n (says p n normal canonical (numbers before values)) (normal.covered aux numbered.rows.0)
-  where
-    go : (n : Normal) → SaysAsMuch (numbers before values) (at_most p) n → ((row : Row) → n ≡ Kept row → EachColumn (IsAux aux) row.poly.terms) → LeftHolds (left_of aux post n) before after
-    go (Constant true) same covered =
-        renumbered-holds (record { aux = aux; rows = []; post = post }) before after (record { rows = tt; post = numbered.post }) (values, record { rows = tt; posts = holds.posts })
-    go (Constant false) same covered = absurd (no (same.1 holds.rows.0))
-      where
-        no : IsTrue false → ⊥
-        no e = cc
-    go (Kept row) same covered =
-        renumbered-holds (record { aux = aux; rows = row ∷ []; post = post }) before after (record { rows = (covered row refl, tt); post = numbered.post })
-        (values, record { rows = (same.1 holds.rows.0, tt); posts = holds.posts })
 
 -- what is left has no row, or one inequality with a column
 pub left-plain : (aux : ℕ) (p : Polynomial) (post : List Polynomial) (n : Normal) (case : Case) → IsInequality p n → left_of aux post n ≡ Some case → IsPlain case.rows

@@ -1,7 +1,7 @@
 -- What a program of the first form gives to the analysis.
 use Rattle.std.proofs.Common.{◌≡◌, Bool, true, false, ℕ, zero, suc, pos, ◌+◌, ◌<◌, ◌≤◌, ◌^◌, Option, None, Some, Ok, List, [], ◌∷◌, length, map, refl, sym, ap, subst, ◌∙◌, slice_get, arith}
 use Rattle.std.specs.Prelude.{IsTrue, ◌&&◌, if◌then◌else◌}
-use Rattle.std.specs.List.{list_all}
+use Rattle.std.specs.List.{AllByRecursion, list_all}
 use Rattle.std.proofs.lemmas.Bool.{lt-ltb}
 use Rattle.std.proofs.lemmas.List.{length-append, length-map}
 use Rattle.items.specs.Gives.{◌>>=◌, lifted}
@@ -143,12 +143,21 @@ returned-fits true choices p covered =
     && one-test (every_column (is_below 0 (choices + 1))) (column_of (Aux choices)) (below-test (choices + 1) (column_of (Aux choices)) (last-covered choices)) i
 returned-fits false choices p covered = λ i. one-test (every_column (is_below 0 choices)) p (below-test choices p covered) i && true
 
-returned-numbered : (returns : Bool) (choices : ℕ) (p : Polynomial) → EachColumn (IsAux choices) p.terms
+pub returned-numbered : (returns : Bool) (choices : ℕ) (p : Polynomial) → EachColumn (IsAux choices) p.terms
     → IsTrue (every_column_of (is_numbered (returned_case returns choices p).aux) (returned_case returns choices p))
 returned-numbered true choices p covered =
     λ i. one-test (every_column (is_numbered (choices + 1))) p (numbered-test (choices + 1) p (aux-one choices p covered)) i
     && one-test (every_column (is_numbered (choices + 1))) (column_of (Aux choices)) (numbered-test (choices + 1) (column_of (Aux choices)) (last-covered choices)) i
 returned-numbered false choices p covered = λ i. one-test (every_column (is_numbered choices)) p (numbered-test choices p covered) i && true
+
+-- the columns of a case of one inequality are its auxiliaries
+pub one_row-numbered : (aux : ℕ) (q : Polynomial) (posts : List Polynomial) → EachColumn (IsAux aux) q.terms → AllByRecursion (λ p. EachColumn (IsAux aux) p.terms) posts
+    → IsTrue (every_column_of (is_numbered aux) (one_row aux q posts))
+one_row-numbered aux q posts covered each = λ i. one-test (every_column (is_numbered aux)) q (numbered-test aux q covered) i && all-posts posts each i
+  where
+    all-posts : (posts : List Polynomial) → AllByRecursion (λ p. EachColumn (IsAux aux) p.terms) posts → list_all (every_column (is_numbered aux)) posts ≡ true
+    all-posts [] each = refl
+    all-posts (p ∷ rest) each = λ i. numbered-test aux p each.0 i && all-posts rest each.1 i
 
 returned-few : (returns : Bool) (choices : ℕ) (p : Polynomial) → choices ≤ 8 → (returned_case returns choices p).aux + length (returned_case returns choices p).post < 2 ^ 32
 returned-few true choices p few = omega (arith, few)

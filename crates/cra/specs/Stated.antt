@@ -1,7 +1,6 @@
 -- The report of a program, stated: its summary is the case in which the assertion holds, put in order, and its verdict is told by
 -- the case in which the assertion fails, put in order.
-use Rattle.std.specs.Prelude.{◌≡◌, ℕ, ℤ, pos, ◌<◌, ◌≤◌, ◌^◌, ◌+◌, ◌==◌, ◌*ℤ◌, ◌+ℤ◌, Bool, IsTrue, Option, None, Some, is_some, Ok, List, [], ◌∷◌, length, take, map, if◌then◌else◌}
-use Rattle.std.specs.List.{count_by}
+use Rattle.std.specs.Prelude.{◌≡◌, ℕ, ℤ, pos, ◌<◌, ◌≤◌, ◌^◌, ◌+◌, ◌*ℤ◌, ◌+ℤ◌, IsTrue, Option, None, Some, is_some, Ok, List, [], ◌∷◌, length, map, if◌then◌else◌}
 use Rattle.linear_terms.specs.declared.row.Row.{Row}
 use Rattle.linear_terms.specs.declared.row.Kind.TheVariants.{AtMost}
 use Rattle.linear_terms.specs.declared.row.Case.{Case}
