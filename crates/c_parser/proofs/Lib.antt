@@ -2,20 +2,17 @@
 pub mod Readings
 pub mod Lexed
 pub mod FewOperators
-
 -- Texts: what is read is derived, and what is derived is read.
 pub mod SoundTexts
 pub mod CompleteTexts
 pub mod TextLoops
 pub mod LastToken
-
 -- The same of lines.
 pub mod SoundLines
 pub mod CompleteLines
 pub mod FoundLines
 pub mod LineLoops
 pub mod Lines
-
 -- The same of expressions.
 pub mod Sound
 pub mod Complete
@@ -23,8 +20,6 @@ pub mod Found
 pub mod FirstTokens
 pub mod Loops
 pub mod Equations
-
 -- Steps that repeat.
 pub mod Repeats
-
 mod Examples
