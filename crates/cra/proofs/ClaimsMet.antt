@@ -26,7 +26,8 @@ use Rattle.cra.specs.declared.verdict.Verdict.TheVariants.{Proved, Unproved}
 use Rattle.cra.specs.declared.report.ProcBlock.{ProcBlock}
 use Rattle.cra.specs.declared.report.Report.{Report}
 use Rattle.cra.specs.Analysis.{at_most, failing, goal_of, holding, named_onto, named_posts, one_row, returned_case}
-use Rattle.cra.specs.Claims.{ClaimsAreMet, SummaryIsMet, exit_values}
+use Rattle.leaf_cases.specs.Summaries.{SummaryIsMet, exit_values}
+use Rattle.cra.specs.Claims.{ClaimsAreMet}
 use Rattle.cra.specs.FirstForm.{are_first, ends_well, is_first_body, is_first_form, set_by}
 use Rattle.cra.specs.Stated.{IsReportOf, IsReportOn, IsVerdict, Settles, block_of, cases_of, judged_of}
 use Rattle.cra.proofs.Columns.{EachKnown}

@@ -17,7 +17,7 @@ use Rattle.execution.specs.Laws.{is_simple, top_items, top_own}
 use Rattle.execution.proofs.Straight.{state_of-changed}
 use Rattle.cra.specs.declared.known.Goal.{Goal}
 use Rattle.cra.specs.Analysis.{difference, goal_of, nothing_known, one_row, returned_case}
-use Rattle.cra.specs.Claims.{exit_values, if_returned}
+use Rattle.leaf_cases.specs.Summaries.{exit_values, if_returned}
 use Rattle.transition_formula.specs.Meaning.{HoldsCase}
 use Rattle.cra.proofs.Runs.{ChangesAll, SoFar, both_true, pending-code_of, straight_runs}
 use Rattle.cra.proofs.Sound.{Body, all-set, and_true, body_of, fails, first_other, holds, is_setting, returned_value}

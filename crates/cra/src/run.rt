@@ -1,6 +1,6 @@
 ghost use Rattle.std.specs.Prelude.{◌≡◌, ◌≢◌, ◌⊎◌, None, Err, IfOk, map, string_bytes};
 ghost use Rattle.std.specs.Io.KnownBytes.{append_known};
-ghost use Rattle.cra_io.specs.Faults.{Rose};
+ghost use Rattle.whole_numbers.specs.Counters.{Rose};
 ghost use Rattle.cra.specs.Output.{TookPart};
 ghost use Rattle.cra.specs.declared.reply.Reply.{Reply as Answer};
 ghost use Rattle.cra.specs.Replies.{IsReply, IsToAnalyse};

@@ -1,7 +1,7 @@
 -- What a source and a sink over memory are, and when a call of theirs fails.
 use Rattle.std.specs.Prelude.{ℕ, Bool, List, ◌==◌, ◌&&◌, ◌||◌, nat_lt, ◌-◌, min, length, take, drop, ◌++◌}
 use Rattle.std.specs.List.{list_any}
-use Rattle.cra_io.specs.Faults.{next_count}
+use Rattle.whole_numbers.specs.Counters.{next_count}
 
 -- a source over memory: the bytes left, the most that one read gives, the numbers (from 0) of the reads that fail,
 -- how many reads there were, and how many of them failed
