@@ -1,6 +1,6 @@
 ghost use Rattle.std.specs.Prelude.{◌≡◌, [], ◌∷◌, pos};
-ghost use Rattle.farkas_check.specs.declared.question.Question.TheVariants.{Sup};
-ghost use Rattle.farkas_check.specs.Calm.{corner, choices};
+ghost use Rattle.farkas_check.specs.declared.question.Question.TheVariants.{Infeasible, Sup};
+ghost use Rattle.farkas_check.specs.Calm.{corner, choices, IsCalm, IsTame};
 ghost use Rattle.farkas_check.specs.Frames.{frame_of, IsTableau};
 ghost use Rattle.farkas_check.specs.Sizes.{row_polys, HasRationalPoint, IsDead, IsSlim, IsNarrow};
 ghost use Rattle.searcher_rows.specs.Examples.{x0, exclusive, half_line, half_line_frame, half_line_multiple};
@@ -24,4 +24,10 @@ pub fn corner_and_choices()
     ensures tableau { IsTableau half_line_frame (0 ∷ []) (pos 2) half_line_multiple }
     ensures corner { corner 1 (0 ∷ []) half_line_multiple 0 ≡ pos 5 }
     ensures choices { choices exclusive ≡ 35 ∷ [] }
+{}
+
+/// No rows are a calm question, and the narrow one is tame.
+pub fn calm_and_tame_questions()
+    ensures calm { IsCalm (Infeasible []) }
+    ensures tame { IsTame exclusive }
 {}

@@ -18,5 +18,5 @@ mod ratios;
 mod texts;
 
 pub use calls::{exclusion, exclusions, first_excluded};
-pub use examples::{corner_and_choices, dead_question, narrow_question};
+pub use examples::{calm_and_tame_questions, corner_and_choices, dead_question, narrow_question};
 pub use listed::Listed;
