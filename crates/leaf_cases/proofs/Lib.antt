@@ -17,7 +17,6 @@ pub mod Quotients
 pub mod Counts
 pub mod Ready
 pub mod Sitting
-pub mod Products
 pub mod Moved
 pub mod Shapes
 pub mod Stated

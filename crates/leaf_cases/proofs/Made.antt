@@ -12,6 +12,7 @@ use Rattle.linear_terms.specs.Value.{Valuation, value_of}
 use Rattle.transition_formula.specs.Loss.{losses_of}
 use Rattle.transition_formula.specs.Meaning.{numbers, HoldsAt, HoldsCase, HoldsSome}
 use Rattle.transition_formula.proofs.Values.{column-value, noted-some, none-of}
+use Rattle.transition_formula.proofs.Meanings.{some-either, some-left, some-right}
 use Rattle.leaf_cases.specs.declared.division.Part.{Part}
 use Rattle.leaf_cases.specs.declared.division.Part.TheVariants.{Quotient, Remainder}
 use Rattle.leaf_cases.specs.declared.division.Signs.{Signs}
@@ -26,7 +27,7 @@ use Rattle.leaf_cases.specs.Steps.{operand, value_at, test_at, test_claim, divis
 use Rattle.leaf_cases.proofs.Quotients.{IsDivision, Falls, division_falls, splits-divide}
 use Rattle.leaf_cases.proofs.Sitting.{Sits}
 use Rattle.leaf_cases.proofs.Stepped.{AllSay, AllWithin, claims-hold, claims-held, first_of, second_of, operand-value, calculated_number, tested_number, part_number, StepGives, value-says, test-says, division_numbers, division-says, splits-within, within-splits}
-use Rattle.leaf_cases.proofs.Together.{some-left, some-right, some-either, extended, extended-more, extended-holds}
+use Rattle.leaf_cases.proofs.Together.{extended, extended-more, extended-holds}
 
 -- ---- a case with more rows and other posts
 

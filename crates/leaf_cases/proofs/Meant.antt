@@ -6,13 +6,14 @@ use Rattle.linear_terms.specs.Polynomial.{Polynomial}
 use Rattle.linear_terms.specs.Value.{value_of}
 use Rattle.transition_formula.specs.Meaning.{numbers, HoldsSome}
 use Rattle.transition_formula.proofs.Values.{none-of}
+use Rattle.transition_formula.proofs.Meanings.{some-either, some-left, some-right}
 use Rattle.leaf_cases.specs.declared.step.Step.{Step}
 use Rattle.leaf_cases.specs.Expression.{by, known, numbered}
 use Rattle.leaf_cases.specs.Listed.{Listed, together, either}
 use Rattle.leaf_cases.specs.Steps.{lost_by, with_number}
 use Rattle.leaf_cases.proofs.Made.{Stepped, Numbered, steps-hold, steps-held, numbered-hold, numbered-held}
 use Rattle.leaf_cases.proofs.Sitting.{Sits, sits-more, sits-both, sits-cases_by, sits-numbered}
-use Rattle.leaf_cases.proofs.Together.{Both, both-hold, both-held, some-left, some-right, some-either}
+use Rattle.leaf_cases.proofs.Together.{Both, both-hold, both-held}
 use Rattle.leaf_cases.specs.Listed as listed
 
 -- the list holds of the values in P, and where nothing is lost of no others

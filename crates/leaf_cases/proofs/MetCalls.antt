@@ -1,19 +1,16 @@
 -- Calls that return are known calls, where the known formulas are met.
-use Rattle.std.proofs.Common.{◌≡◌, ℕ, ℤ, ◌+◌, Bool, true, false, Option, Some, List, [], ◌∷◌, ◌++◌, refl, sym, ap, subst, ◌∙◌, arith, length, take, length-append}
-use Rattle.std.specs.Prelude.{slice_get, if◌then◌else◌}
+use Rattle.std.proofs.Common.{◌≡◌, ℕ, ℤ, ◌+◌, Bool, true, false, List, [], ◌∷◌, ◌++◌, sym, ap, subst, ◌∙◌, arith, length, take, length-append}
+use Rattle.std.specs.Prelude.{if◌then◌else◌}
 use Rattle.std.proofs.lemmas.List.{take_all}
 use Rattle.std.proofs.Math.Seq.{take-append_seam}
-use Rattle.syntax_tree.specs.declared.program.Proc.{Proc}
 use Rattle.syntax_tree.specs.declared.program.Program.{Program}
-use Rattle.syntax_tree.specs.Code.{Statement, Set, Any, Call, Guard, Check, If, Loop, Break, Continue, Return}
+use Rattle.syntax_tree.specs.Code.{Set, Any, Call, Guard, Check, If, Loop, Break, Continue, Return}
 use Rattle.syntax_tree.specs.Value.{State}
 use Rattle.execution.specs.Execution.{Returns}
 use Rattle.execution.proofs.Widths.{globals_stay}
-use Rattle.flow_graph.specs.Walks.{CallRelates, EdgeRelates}
-use Rattle.transition_formula.specs.Transition.{Transition}
 use Rattle.transition_formula.specs.Meaning.{Holds}
-use Rattle.leaf_cases.specs.Conditions.{AreKnown, KnownCalls, exits_of}
-use Rattle.leaf_cases.specs.Summaries.{AreMet, KnowsCallee, MetCallsAreKnown, MetEdgesAreKnown, exit_values, if_returned}
+use Rattle.leaf_cases.specs.Conditions.{exits_of}
+use Rattle.leaf_cases.specs.Summaries.{MetCallsAreKnown, MetEdgesAreKnown, if_returned}
 
 -- a return keeps the number of globals
 returns-globals : (program : Program) (proc : ℕ) (globals args after : State) (value : ℤ) → Returns program proc globals args after value → length after ≡ length globals

@@ -1,39 +1,14 @@
 -- Auxiliaries moved up: the code's list of new numbers is the definition.
-use Rattle.std.proofs.Common.{◌≡◌, ℕ, zero, suc, ◌+◌, ◌-◌, ◌<◌, ◌≤◌, true, false, length, map, List, [], ◌∷◌, ◌++◌, refl, sym, ap, subst, ◌∙◌, arith}
+use Rattle.std.proofs.Common.{◌≡◌, ℕ, zero, suc, ◌+◌, ◌-◌, ◌<◌, ◌≤◌, true, false, length, List, [], ◌∷◌, ◌++◌, refl, sym, ap, subst, ◌∙◌, arith}
 use Rattle.std.specs.Prelude.{IsTrue, slice_index}
 use Rattle.std.specs.List.{list_all, range_with_len}
 use Rattle.std.proofs.lemmas.List.FromFn.{get_or-range_with_len}
-use Rattle.linear_terms.specs.declared.col.Col.{Col}
-use Rattle.linear_terms.specs.declared.col.Col.TheVariants.{At, Aux}
-use Rattle.linear_terms.specs.Polynomial.{Terms, Polynomial}
-use Rattle.linear_terms.specs.Auxiliaries.{occurs, renumbered_column, renumbered, is_numbered, KeepsOrder}
+use Rattle.linear_terms.specs.Polynomial.{Polynomial}
+use Rattle.linear_terms.specs.Auxiliaries.{occurs, renumbered, is_numbered, KeepsOrder}
 use Rattle.transition_formula.specs.Transition.{every_column}
-use Rattle.transition_formula.proofs.Covered.{both, both_true}
-use Rattle.transition_formula.proofs.Fitting.{true-below}
+use Rattle.transition_formula.proofs.Covered.{both_true}
 use Rattle.transition_formula.proofs.Loops.{or_left}
-use Rattle.transition_formula.proofs.Numbers.{post_occurs-below}
-
--- ---- two numberings that agree
-
-abbrev numbered_terms : (ℕ → ℕ) → Terms → Terms
-numbered_terms f ts = map (λ t. (map (renumbered_column f) t.0, t.1)) ts
-
-module _ (f g : ℕ → ℕ) (end : ℕ) (agree : (n : ℕ) → n < end → f n ≡ g n) where
-  column_agrees : (c : Col) → IsTrue (is_numbered end c) → renumbered_column f c ≡ renumbered_column g c
-  column_agrees (At n) h = refl
-  column_agrees (Aux n) h = ap Aux (agree n (true-below n end h))
-
-  columns_agree : (m : List Col) → IsTrue (list_all (is_numbered end) m) → map (renumbered_column f) m ≡ map (renumbered_column g) m
-  columns_agree [] h = refl
-  columns_agree (c ∷ m) h = let parts = both (is_numbered end c) (list_all (is_numbered end) m) h in λ i. column_agrees c parts.0 i ∷ columns_agree m parts.1 i
-
-  terms_agree : (ts : Terms) → IsTrue (list_all (λ t. list_all (is_numbered end) t.0) ts) → numbered_terms f ts ≡ numbered_terms g ts
-  terms_agree [] h = refl
-  terms_agree (t ∷ ts) h =
-      let parts = both (list_all (is_numbered end) t.0) (list_all (λ u. list_all (is_numbered end) u.0) ts) h in λ i. (columns_agree t.0 parts.0 i, t.1) ∷ terms_agree ts parts.1 i
-
-  polynomial_agrees : (p : Polynomial) → IsTrue (every_column (is_numbered end) p) → renumbered f p ≡ renumbered g p
-  polynomial_agrees p h = λ i. record { terms = terms_agree p.terms h i; rest = p.rest }
+use Rattle.transition_formula.proofs.Numbers.{polynomial_agrees, post_occurs-below}
 
 -- ---- the numbers from one on
 

@@ -12,8 +12,7 @@ use Rattle.linear_terms.specs.declared.row.Case.{Case}
 use Rattle.linear_terms.specs.Auxiliaries.{renumbered, renumbered_column}
 use Rattle.linear_terms.specs.Polynomial.{Polynomial, column_of, constant_of}
 use Rattle.linear_terms.specs.Operations.{multiple_of, sum_of_polys, product_of_polys, difference_of_polys}
-use Rattle.linear_terms.proofs.Columns.{multiple_of-each, sum_of_polys-each}
-use Rattle.leaf_cases.proofs.Products.{product_of_polys-each}
+use Rattle.linear_terms.proofs.Columns.{multiple_of-each, product_of_polys-each, sum_of_polys-each}
 use Rattle.transition_formula.specs.Composition.{row_of}
 use Rattle.transition_formula.specs.Renumbering.{renumbered_row}
 use Rattle.transition_formula.specs.Transition.{every_column, is_below}

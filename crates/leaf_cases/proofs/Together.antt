@@ -1,47 +1,26 @@
 -- Two cases of one state hold together where each holds.
-use Rattle.std.proofs.Common.{◌≡◌, ◌⊎◌, inl, inr, ℕ, ◌+◌, ◌-◌, ◌<◌, cond, ℤ, ◌+ℤ◌, ◌*ℤ◌, map, List, [], ◌∷◌, ◌++◌, refl, sym, ap, subst, ◌∙◌, arith}
+use Rattle.std.proofs.Common.{◌≡◌, ◌⊎◌, inl, inr, ℕ, ◌+◌, ◌-◌, ◌<◌, cond, ℤ, map, List, [], ◌∷◌, ◌++◌, refl, sym, ap, ◌∙◌, arith}
 use Rattle.std.specs.Prelude.{IsTrue, nat_lt}
 use Rattle.std.specs.List.{AllByRecursion, flat_map}
 use Rattle.std.proofs.lemmas.List.{map-append}
 use Rattle.items.proofs.Each.{each-append, each-front, each-back}
 use Rattle.linear_terms.specs.declared.col.Col.{Col}
 use Rattle.linear_terms.specs.declared.col.Col.TheVariants.{At, Aux}
-use Rattle.linear_terms.specs.declared.row.Row.{Row}
 use Rattle.linear_terms.specs.declared.row.Case.{Case}
 use Rattle.linear_terms.specs.Auxiliaries.{renumbered, renumbered_column}
-use Rattle.linear_terms.specs.Polynomial.{Terms, Polynomial}
-use Rattle.linear_terms.specs.Row.{RowHolds, IsWithin, RowsHold}
-use Rattle.linear_terms.specs.Value.{Valuation, mono_value, terms_value, value_of}
+use Rattle.linear_terms.specs.Row.{RowHolds}
+use Rattle.linear_terms.specs.Value.{value_of}
 use Rattle.transition_formula.specs.Meaning.{numbers, HoldsAt, HoldsCase, HoldsSome}
 use Rattle.transition_formula.specs.Renumbering.{renumbered_row}
 use Rattle.transition_formula.specs.Transition.{is_below}
 use Rattle.transition_formula.proofs.Fitting.{below-true, true-below}
-use Rattle.transition_formula.proofs.Meanings.{not-below}
+use Rattle.transition_formula.proofs.Meanings.{not-below, some-either, some-left, some-right}
+use Rattle.transition_formula.proofs.Renumbered.{moved-rows, posts-moved, rows-moved}
 use Rattle.transition_formula.proofs.Values.{rows-agree, posts-agree}
 use Rattle.syntax_tree.specs.Value.{State}
 use Rattle.leaf_cases.specs.Listed.{beside}
 use Rattle.leaf_cases.specs.Listed as listed
 use Rattle.leaf_cases.proofs.Sitting.{Sits}
-
--- ---- one of several lists
-
-pub some-left : (xs ys : List Case) (s z : List ℤ) → HoldsSome xs s z → HoldsSome (xs ++ ys) s z
-some-left [] ys s z h = absurd h
-some-left (x ∷ xs) ys s z (inl h) = inl h
-some-left (x ∷ xs) ys s z (inr h) = inr (some-left xs ys s z h)
-
-pub some-right : (xs ys : List Case) (s z : List ℤ) → HoldsSome ys s z → HoldsSome (xs ++ ys) s z
-some-right [] ys s z h = h
-some-right (x ∷ xs) ys s z h = inr (some-right xs ys s z h)
-
-pub some-either : (xs ys : List Case) (s z : List ℤ) → HoldsSome (xs ++ ys) s z → HoldsSome xs s z ⊎ HoldsSome ys s z
-some-either [] ys s z h = inr h
-some-either (x ∷ xs) ys s z (inl h) = inl (inl h)
-some-either (x ∷ xs) ys s z (inr h) = go (some-either xs ys s z h)
-  where
-    go : HoldsSome xs s z ⊎ HoldsSome ys s z → HoldsSome (x ∷ xs) s z ⊎ HoldsSome ys s z
-    go (inl k) = inl (inr k)
-    go (inr k) = inr k
 
 -- ---- numbers for more auxiliaries
 
@@ -72,32 +51,6 @@ extended-holds columns most case sits s z old more h =
       posts = sym (posts-agree v w (is_below columns case.aux) agree case.post sits.posts_are) ∙ h.posts;
     }
 
--- ---- auxiliaries with other numbers
-
-module _ (number : ℕ → ℕ) (at bt : Valuation) (tells : (c : Col) → bt (renumbered_column number c) ≡ at c) where
-  mono-told : (m : List Col) → mono_value bt (map (renumbered_column number) m) ≡ mono_value at m
-  mono-told [] = refl
-  mono-told (c ∷ m) = λ i. tells c i *ℤ mono-told m i
-
-  terms-told : (ts : Terms) → terms_value bt (map (λ t. (map (renumbered_column number) t.0, t.1)) ts) ≡ terms_value at ts
-  terms-told [] = refl
-  terms-told (t ∷ ts) = λ i. t.1 *ℤ mono-told t.0 i +ℤ terms-told ts i
-
-  value-told : (p : Polynomial) → value_of bt (renumbered number p) ≡ value_of at p
-  value-told p = ap (λ v. v +ℤ p.rest) (terms-told p.terms)
-
-  rows-told : (rows : List Row) → RowsHold at rows → RowsHold bt (map (renumbered_row number) rows)
-  rows-told [] k = tt
-  rows-told (row ∷ rows) k = (subst (IsWithin row.kind) (sym (value-told row.poly)) k.0, rows-told rows k.1)
-
-  told-rows : (rows : List Row) → RowsHold bt (map (renumbered_row number) rows) → RowsHold at rows
-  told-rows [] k = tt
-  told-rows (row ∷ rows) k = (subst (IsWithin row.kind) (value-told row.poly) k.0, told-rows rows k.1)
-
-  posts-told : (posts : List Polynomial) → map (value_of bt) (map (renumbered number) posts) ≡ map (value_of at) posts
-  posts-told [] = refl
-  posts-told (p ∷ posts) = λ i. value-told p i ∷ posts-told posts i
-
 -- ---- two cases
 
 -- two lists of values, one behind the other
@@ -117,10 +70,10 @@ module _ (columns most : ℕ) (a b : Case) (sits : Sits columns most a) (s x y :
       let told = tells h.0 k.0 in (
         aux,
         record {
-          rows = each-append (RowHolds w) a.rows (map (renumbered_row (λ n. a.aux + n)) b.rows) left.rows (rows-told (λ n. a.aux + n) (numbers s k.0) w told b.rows k.1.rows);
+          rows = each-append (RowHolds w) a.rows (map (renumbered_row (λ n. a.aux + n)) b.rows) left.rows (rows-moved (λ n. a.aux + n) (numbers s k.0) w told b.rows k.1.rows);
           posts =
               map-append (value_of w) a.post (map (renumbered (λ n. a.aux + n)) b.post)
-              ∙ (λ i. left.posts i ++ (posts-told (λ n. a.aux + n) (numbers s k.0) w told b.post ∙ k.1.posts) i);
+              ∙ (λ i. left.posts i ++ (posts-moved (λ n. a.aux + n) (numbers s k.0) w told b.post ∙ k.1.posts) i);
         },
       )
     where
@@ -143,12 +96,12 @@ beside-held a b s z (aux, h) =
       left = (aux, record { rows = each-front (RowHolds w) a.rows (map (renumbered_row (λ n. a.aux + n)) b.rows) h.rows; posts = refl });
       right = (
         λ n. aux (a.aux + n),
-        record { rows = told-rows (λ n. a.aux + n) at w told b.rows (each-back (RowHolds w) a.rows (map (renumbered_row (λ n. a.aux + n)) b.rows) h.rows); posts = refl },
+        record { rows = moved-rows (λ n. a.aux + n) at w told b.rows (each-back (RowHolds w) a.rows (map (renumbered_row (λ n. a.aux + n)) b.rows) h.rows); posts = refl },
       );
       joined =
           sym h.posts
           ∙ map-append (value_of w) a.post (map (renumbered (λ n. a.aux + n)) b.post)
-          ∙ ap (λ l. map (value_of w) a.post ++ l) (posts-told (λ n. a.aux + n) at w told b.post);
+          ∙ ap (λ l. map (value_of w) a.post ++ l) (posts-moved (λ n. a.aux + n) at w told b.post);
     }
 
 -- ---- two lists

@@ -1,7 +1,6 @@
 -- Rows and values that are added to a case, where they have an answer.
-use Rattle.std.specs.Prelude.{ℕ, ◌+◌, negsuc, List, [], ◌∷◌, ◌++◌, Option, None, Some, Result, Ok, Err}
+use Rattle.std.specs.Prelude.{ℕ, ◌+◌, List, [], ◌∷◌, ◌++◌, Option, None, Some, Result, Ok, Err}
 use Rattle.std.specs.List.{filter_map, flat_map}
-use Rattle.items.specs.Gives.{◌>>=◌}
 use Rattle.linear_terms.specs.declared.col.Col.TheVariants.{Aux}
 use Rattle.linear_terms.specs.declared.error.TermError.{TermError}
 use Rattle.linear_terms.specs.declared.error.TermError.TheVariants.{Wide, Degree, Memory}
@@ -9,7 +8,6 @@ use Rattle.linear_terms.specs.declared.row.Kind.{Kind}
 use Rattle.linear_terms.specs.declared.row.Row.{Row}
 use Rattle.linear_terms.specs.declared.row.Case.{Case}
 use Rattle.linear_terms.specs.Polynomial.{Polynomial, column_of}
-use Rattle.linear_terms.specs.Operations.{multiple_of, sum_of_polys}
 use Rattle.transition_formula.specs.declared.loss.Loss.{Loss}
 use Rattle.transition_formula.specs.declared.loss.Loss.TheVariants as lost
 use Rattle.transition_formula.specs.Loss.{losses_of}

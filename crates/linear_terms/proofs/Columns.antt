@@ -108,7 +108,7 @@ module _ (P : Col → Type 0) where
   add_rows-each (t ∷ ts) others a p e h k l =
       on_ok (add_row t.0 t.1 others a) (λ next. add_rows ts others next) p e (λ next f g. add_rows-each ts others next p g h.1 k (add_row-each t.0 t.1 others a next f h.0 k l))
 
-  product_of_polys-each : (a b p : Polynomial) → product_of_polys a b ≡ Ok p → EachColumn P a.terms → EachColumn P b.terms → EachColumn P p.terms
+  pub product_of_polys-each : (a b p : Polynomial) → product_of_polys a b ≡ Ok p → EachColumn P a.terms → EachColumn P b.terms → EachColumn P p.terms
   product_of_polys-each a b p e h k = add_rows-each (parts a) (parts b) (constant_of (pos 0)) p e (parts-each a h) (parts-each b k) tt
 
 -- ---- substitution: each column that is replaced has the one property, and each column put in for such a one the other

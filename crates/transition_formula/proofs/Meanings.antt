@@ -25,16 +25,16 @@ use Rattle.transition_formula.proofs.Values.{Keeps, lost_values, column-value, v
 
 -- ---- choice
 
-some-left : (xs ys : List Case) (before after : List ℤ) → HoldsSome xs before after → HoldsSome (xs ++ ys) before after
+pub some-left : (xs ys : List Case) (before after : List ℤ) → HoldsSome xs before after → HoldsSome (xs ++ ys) before after
 some-left [] ys before after h = absurd h
 some-left (x ∷ xs) ys before after (inl h) = inl h
 some-left (x ∷ xs) ys before after (inr h) = inr (some-left xs ys before after h)
 
-some-right : (xs ys : List Case) (before after : List ℤ) → HoldsSome ys before after → HoldsSome (xs ++ ys) before after
+pub some-right : (xs ys : List Case) (before after : List ℤ) → HoldsSome ys before after → HoldsSome (xs ++ ys) before after
 some-right [] ys before after h = h
 some-right (x ∷ xs) ys before after h = inr (some-right xs ys before after h)
 
-some-either : (xs ys : List Case) (before after : List ℤ) → HoldsSome (xs ++ ys) before after → HoldsSome xs before after ⊎ HoldsSome ys before after
+pub some-either : (xs ys : List Case) (before after : List ℤ) → HoldsSome (xs ++ ys) before after → HoldsSome xs before after ⊎ HoldsSome ys before after
 some-either [] ys before after h = inr h
 some-either (x ∷ xs) ys before after (inl h) = inl (inl h)
 some-either (x ∷ xs) ys before after (inr h) = go (some-either xs ys before after h)

@@ -139,7 +139,7 @@ module _ (f g : ℕ → ℕ) (end : ℕ) (agree : (n : ℕ) → n < end → f n 
   terms_agree (t ∷ ts) h =
       let parts = both (list_all (is_numbered end) t.0) (list_all (λ u. list_all (is_numbered end) u.0) ts) h in λ i. (columns_agree t.0 parts.0 i, t.1) ∷ terms_agree ts parts.1 i
 
-  polynomial_agrees : (p : Polynomial) → IsTrue (every_column (is_numbered end) p) → renumbered f p ≡ renumbered g p
+  pub polynomial_agrees : (p : Polynomial) → IsTrue (every_column (is_numbered end) p) → renumbered f p ≡ renumbered g p
   polynomial_agrees p h = λ i. record { terms = terms_agree p.terms h i; rest = p.rest }
 
   rows_agree : (rows : List Row) → IsTrue (list_all (λ row. every_column (is_numbered end) row.poly) rows) → map (renumbered_row f) rows ≡ map (renumbered_row g) rows

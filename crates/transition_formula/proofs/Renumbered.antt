@@ -4,6 +4,7 @@ use Rattle.std.specs.Prelude.{IsTrue, ◌&&◌}
 use Rattle.std.specs.List.{AllByRecursion, list_any, list_all}
 use Rattle.std.proofs.lemmas.Bool.{cases_lt}
 use Rattle.std.proofs.lemmas.Bool.Decides.{Decides-eqb}
+use Rattle.items.proofs.Each.{each-any, each-both}
 use Rattle.linear_terms.specs.declared.col.Col.{Col}
 use Rattle.linear_terms.specs.declared.col.Col.TheVariants.{At, Aux}
 use Rattle.linear_terms.specs.declared.row.Row.{Row}
@@ -82,13 +83,9 @@ module _ (case : Case) where
   abbrev Known : Col → Type 0
   Known c = IsTrue (is_numbered case.aux c) × Occurring (λ n. IsTrue (occurs_in case n)) c
 
-  all_both : {X : Type 0} (P Q : X → Type 0) (xs : List X) → AllByRecursion P xs → AllByRecursion Q xs → AllByRecursion (λ x. P x × Q x) xs
-  all_both P Q [] h k = tt
-  all_both P Q (x ∷ xs) h k = ((h.0, k.0), all_both P Q xs h.1 k.1)
-
   known-terms : (ts : Terms) → EachColumn (λ c. IsTrue (is_numbered case.aux c)) ts → EachColumn (Occurring (λ n. IsTrue (occurs_in case n))) ts → EachColumn Known ts
   known-terms [] h k = tt
-  known-terms (t ∷ ts) h k = (all_both (λ c. IsTrue (is_numbered case.aux c)) (Occurring (λ n. IsTrue (occurs_in case n))) t.0 h.0 k.0, known-terms ts h.1 k.1)
+  known-terms (t ∷ ts) h k = (each-both (λ c. IsTrue (is_numbered case.aux c)) (Occurring (λ n. IsTrue (occurs_in case n))) t.0 h.0 k.0, known-terms ts h.1 k.1)
 
   known : (p : Polynomial) → IsTrue (every_column (is_numbered case.aux) p) → ((n : ℕ) → IsTrue (occurs n p) → IsTrue (occurs_in case n)) → EachColumn Known p.terms
   known p h there = known-terms p.terms (columns_from_test (is_numbered case.aux) p h) (terms_occur (λ n. IsTrue (occurs_in case n)) p.terms there)
@@ -138,12 +135,25 @@ tells-any : (number : ℕ → ℕ) (before : List ℤ) (aux : ℕ → ℤ) (c : 
 tells-any number before aux (At m) h = refl
 tells-any number before aux (Aux m) h = refl
 
-any_each : {X : Type 0} (P : X → Type 0) → ((x : X) → P x) → (xs : List X) → AllByRecursion P xs
-any_each P tells [] = tt
-any_each P tells (x ∷ xs) = (tells x, any_each P tells xs)
-
 any_terms : (ts : Terms) → EachColumn (λ c. Unit {0}) ts
-any_terms ts = any_each (λ t. AllByRecursion (λ c. Unit {0}) t.0) (λ t. any_each (λ c. Unit {0}) (λ c. tt) t.0) ts
+any_terms ts = each-any (λ t. AllByRecursion (λ c. Unit {0}) t.0) (λ t. each-any (λ c. Unit {0}) (λ c. tt) t.0) ts
+
+any_rows : (rows : List Row) → AllByRecursion (λ row. EachColumn (λ c. Unit {0}) row.poly.terms) rows
+any_rows rows = each-any (λ row. EachColumn (λ c. Unit {0}) row.poly.terms) (λ row. any_terms row.poly.terms) rows
+
+any_posts : (posts : List Polynomial) → AllByRecursion (λ p. EachColumn (λ c. Unit {0}) p.terms) posts
+any_posts posts = each-any (λ p. EachColumn (λ c. Unit {0}) p.terms) (λ p. any_terms p.terms) posts
+
+-- each new column tells its old one, whichever the columns are
+module _ (number : ℕ → ℕ) (at bt : Valuation) (tells : (c : Col) → bt (renumbered_column number c) ≡ at c) where
+  pub rows-moved : (rows : List Row) → RowsHold at rows → RowsHold bt (map (renumbered_row number) rows)
+  rows-moved rows = rows-told number at bt (λ c. Unit {0}) (λ c any. tells c) rows (any_rows rows)
+
+  pub moved-rows : (rows : List Row) → RowsHold bt (map (renumbered_row number) rows) → RowsHold at rows
+  moved-rows rows = told-rows number at bt (λ c. Unit {0}) (λ c any. tells c) rows (any_rows rows)
+
+  pub posts-moved : (posts : List Polynomial) → map (value_of bt) (map (renumbered number) posts) ≡ map (value_of at) posts
+  posts-moved posts = posts-told number at bt (λ c. Unit {0}) (λ c any. tells c) posts (any_posts posts)
 
 pub renumbered-held : (case : Case) (before after : List ℤ) → HoldsCase (renumbered_case case) before after → HoldsCase case before after
 renumbered-held case before after (aux, h) =
@@ -152,7 +162,7 @@ renumbered-held case before after (aux, h) =
     let bt = numbers before aux in (
       λ n. aux (number n),
       record {
-        rows = told-rows number at bt (λ c. Unit {0}) (tells-any number before aux) case.rows (any_each (λ row. EachColumn (λ c. Unit {0}) row.poly.terms) (λ row. any_terms row.poly.terms) case.rows) h.rows;
-        posts = sym (posts-told number at bt (λ c. Unit {0}) (tells-any number before aux) case.post (any_each (λ p. EachColumn (λ c. Unit {0}) p.terms) (λ p. any_terms p.terms) case.post)) ∙ h.posts;
+        rows = told-rows number at bt (λ c. Unit {0}) (tells-any number before aux) case.rows (any_rows case.rows) h.rows;
+        posts = sym (posts-told number at bt (λ c. Unit {0}) (tells-any number before aux) case.post (any_posts case.post)) ∙ h.posts;
       },
     )
