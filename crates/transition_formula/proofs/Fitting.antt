@@ -28,12 +28,12 @@ is_below-more at aux more le (Aux n) h = let lt = true-below n aux h in below-tr
 column_passes : (t : Col → Bool) (c : Col) → IsTrue (t c) → IsTrue (every_column t (column_of c))
 column_passes t c h = test_from_columns t (column_of c) ((h, tt), tt)
 
-test_of_get : {A : Type 0} (test : A → Bool) (d : A) (xs : List A) (n : ℕ) → IsTrue (list_all test xs) → n < length xs → IsTrue (test (unwrap_or (slice_get xs n) d))
+pub test_of_get : {A : Type 0} (test : A → Bool) (d : A) (xs : List A) (n : ℕ) → IsTrue (list_all test xs) → n < length xs → IsTrue (test (unwrap_or (slice_get xs n) d))
 test_of_get test d [] n h lt = absurd (omega arith)
 test_of_get test d (x ∷ xs) zero h lt = (both (test x) (list_all test xs) h).0
 test_of_get test d (x ∷ xs) (suc n) h lt = test_of_get test d xs n (both (test x) (list_all test xs) h).1 (omega arith)
 
-columns_pass : (t : Col → Bool) (col : ℕ → Col) (a k : ℕ) → ((j : ℕ) → a ≤ j → j < a + k → IsTrue (t (col j))) → IsTrue (list_all (every_column t) (map (λ n. column_of (col n)) (range_with_len a k)))
+pub columns_pass : (t : Col → Bool) (col : ℕ → Col) (a k : ℕ) → ((j : ℕ) → a ≤ j → j < a + k → IsTrue (t (col j))) → IsTrue (list_all (every_column t) (map (λ n. column_of (col n)) (range_with_len a k)))
 columns_pass t col a zero each = refl
 columns_pass t col a (suc k) each =
     both_true (every_column t (column_of (col a))) (list_all (every_column t) (map (λ n. column_of (col n)) (range_with_len (a + 1) k)))

@@ -5,6 +5,7 @@ pub mod Solutions
 pub mod Renumbered
 pub mod Truths
 -- ---- sequence, choice and some of the posts
+pub mod HiddenColumns
 pub mod Meanings
 pub mod Meeting
 pub mod Sequences

@@ -104,7 +104,7 @@ module _ (from between to : ℕ) (first second : Case) (f : Fitting from between
       }
 
 -- numbers for the auxiliaries of both, and of the posts that are lost
-abbrev both_aux : ℕ → ℕ → (ℕ → ℤ) → (ℕ → ℤ) → List ℤ → ℕ → ℤ
+abbrev pub both_aux : ℕ → ℕ → (ℕ → ℤ) → (ℕ → ℤ) → List ℤ → ℕ → ℤ
 both_aux a b aux1 aux2 values n = cond (nat_lt n a) (aux1 n) (cond (nat_lt n (a + b)) (aux2 (n - a)) (get_or values (n - (a + b)) (pos 0)))
 
 pub not-below : (n a : ℕ) → a ≤ n → nat_lt n a ≡ false
@@ -114,17 +114,17 @@ not-below n a le = go (nat_lt n a) refl
     go true e = let lt = true-below n a e in absurd (omega arith)
     go false e = refl
 
-first_aux : (a b : ℕ) (aux1 aux2 : ℕ → ℤ) (values : List ℤ) (n : ℕ) → n < a → aux1 n ≡ both_aux a b aux1 aux2 values n
+pub first_aux : (a b : ℕ) (aux1 aux2 : ℕ → ℤ) (values : List ℤ) (n : ℕ) → n < a → aux1 n ≡ both_aux a b aux1 aux2 values n
 first_aux a b aux1 aux2 values n lt = sym (ap (λ z. cond z (aux1 n) (cond (nat_lt n (a + b)) (aux2 (n - a)) (get_or values (n - (a + b)) (pos 0)))) (below-true n a lt))
 
-second_aux : (a b : ℕ) (aux1 aux2 : ℕ → ℤ) (values : List ℤ) (n : ℕ) → n < b → both_aux a b aux1 aux2 values (a + n) ≡ aux2 n
+pub second_aux : (a b : ℕ) (aux1 aux2 : ℕ → ℤ) (values : List ℤ) (n : ℕ) → n < b → both_aux a b aux1 aux2 values (a + n) ≡ aux2 n
 second_aux a b aux1 aux2 values n lt =
     let back : a + n - a ≡ n = omega arith in
     ap (λ z. cond z (aux1 (a + n)) (cond (nat_lt (a + n) (a + b)) (aux2 (a + n - a)) (get_or values (a + n - (a + b)) (pos 0)))) (not-below (a + n) a (omega arith))
     ∙ ap (λ z. cond z (aux2 (a + n - a)) (get_or values (a + n - (a + b)) (pos 0))) (below-true (a + n) (a + b) (omega arith))
     ∙ ap aux2 back
 
-lost_aux : (a b : ℕ) (aux1 aux2 : ℕ → ℤ) (values : List ℤ) (k : ℕ) → both_aux a b aux1 aux2 values (a + b + k) ≡ get_or values k (pos 0)
+pub lost_aux : (a b : ℕ) (aux1 aux2 : ℕ → ℤ) (values : List ℤ) (k : ℕ) → both_aux a b aux1 aux2 values (a + b + k) ≡ get_or values k (pos 0)
 lost_aux a b aux1 aux2 values k =
     let back : a + b + k - (a + b) ≡ k = omega arith in
     ap (λ z. cond z (aux1 (a + b + k)) (cond (nat_lt (a + b + k) (a + b)) (aux2 (a + b + k - a)) (get_or values (a + b + k - (a + b)) (pos 0)))) (not-below (a + b + k) a (omega arith))

@@ -29,7 +29,7 @@ pub fn identity(alloc: Global, columns: u32) -> Result<Formula, FormulaError>
     })
 }
 
-fn columns_below(alloc: Global, columns: u32) -> Result<Items<Poly>, FormulaError>
+pub(crate) fn columns_below(alloc: Global, columns: u32) -> Result<Items<Poly>, FormulaError>
     ensures { IfOk result (λ made. made ≡ map (λ n. column_of (At n)) (range_with_len 0 columns)) }
 {
     let mut made = Items::new(alloc);

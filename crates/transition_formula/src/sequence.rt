@@ -98,7 +98,11 @@ fn sequence(
 }
 
 /// Auxiliaries from a number on.
-fn auxiliaries_from(alloc: Global, first: u32, count: u32) -> Result<Items<Poly>, FormulaError>
+pub(crate) fn auxiliaries_from(
+    alloc: Global,
+    first: u32,
+    count: u32,
+) -> Result<Items<Poly>, FormulaError>
     requires { first + count < 2 ^ 32 }
     ensures { IfOk result (λ made. made ≡ map (λ n. column_of (Aux n)) (range_with_len first count)) }
 {
@@ -111,14 +115,14 @@ fn auxiliaries_from(alloc: Global, first: u32, count: u32) -> Result<Items<Poly>
 
 /// What is put in for the columns.
 #[derive(Clone, Copy)]
-struct PutIn<'a> {
-    at: &'a [Poly],
-    aux: &'a [Poly],
+pub(crate) struct PutIn<'a> {
+    pub(crate) at: &'a [Poly],
+    pub(crate) aux: &'a [Poly],
 }
 
 impl PutIn<'_> {
     /// The rows in which it is put in, behind others. Those that are lost are noted.
-    fn rows(
+    pub(crate) fn rows(
         &self,
         alloc: Global,
         rows: &[Row],
@@ -141,7 +145,7 @@ impl PutIn<'_> {
     }
 
     /// The posts in which it is put in, and how many auxiliaries there are then: one that is lost is the next.
-    fn posts(
+    pub(crate) fn posts(
         &self,
         alloc: Global,
         posts: &[Poly],
