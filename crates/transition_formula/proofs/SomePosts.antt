@@ -5,14 +5,16 @@ use Rattle.std.specs.List.{AllByRecursion, list_all}
 use Rattle.std.proofs.lemmas.List.{length-map}
 use Rattle.std.proofs.lemmas.List.Elements.{recursion_from_All}
 use Rattle.linear_terms.specs.declared.col.Col.{Col}
+use Rattle.linear_terms.specs.declared.col.Col.TheVariants.{At}
 use Rattle.linear_terms.specs.declared.row.Case.{Case}
-use Rattle.linear_terms.specs.Polynomial.{Polynomial, constant_of}
+use Rattle.linear_terms.specs.Polynomial.{Polynomial, column_of, constant_of}
 use Rattle.linear_terms.specs.Value.{Valuation, value_of}
 use Rattle.transition_formula.specs.Meaning.{numbers, HoldsCase, HoldsSome, Holds}
-use Rattle.transition_formula.specs.Posts.{posts_at, numbers_at, case_with_posts, with_posts}
+use Rattle.transition_formula.specs.Posts.{posts_at, numbers_at, case_with_posts, with_posts, entries_at, case_with_entries, with_entries}
 use Rattle.transition_formula.specs.Transition.{Transition, every_column, is_below, fits, IsTransition}
-use Rattle.transition_formula.proofs.Covered.{both, both_true}
-use Rattle.transition_formula.proofs.Fitting.{fitting, from_fitting}
+use Rattle.transition_formula.proofs.Covered.{both, both_true, test_from_columns}
+use Rattle.transition_formula.proofs.Fitting.{fitting, from_fitting, below-true}
+use Rattle.transition_formula.proofs.Values.{column-value}
 
 -- ---- values
 
@@ -86,6 +88,54 @@ cases-fit from to places (case ∷ cases) lt h =
 
 pub with_posts-fits : (places : List ℕ) (f : Transition) → All (λ place. place < f.to) places → IsTransition f.from f.to f.cases → IsTransition f.from (length places) (map (case_with_posts places) f.cases)
 with_posts-fits places f lt h = cases-fit f.from f.to places f.cases (recursion_from_All (λ place. place < f.to) places lt) h
+
+-- ---- entry columns as posts
+
+entries_there : (before : List ℤ) (aux : ℕ → ℤ) (places : List ℕ) → map (value_of (numbers before aux)) (entries_at places) ≡ numbers_at places before
+entries_there before aux [] = refl
+entries_there before aux (place ∷ places) = λ i. column-value (numbers before aux) (At place) i ∷ entries_there before aux places i
+
+some-entries : (places : List ℕ) (cases : List Case) (before after : List ℤ) → HoldsSome cases before after → HoldsSome (map (case_with_entries places) cases) before (numbers_at places before)
+some-entries places [] before after h = absurd h
+some-entries places (case ∷ cases) before after (inl (aux, h)) = inl (aux, record { rows = h.rows; posts = entries_there before aux places })
+some-entries places (case ∷ cases) before after (inr h) = inr (some-entries places cases before after h)
+
+some-entries-held : (places : List ℕ) (cases : List Case) (before told : List ℤ) → HoldsSome (map (case_with_entries places) cases) before told → (after : List ℤ) × (HoldsSome cases before after × (told ≡ numbers_at places before))
+some-entries-held places [] before told h = absurd h
+some-entries-held places (case ∷ cases) before told (inl (aux, h)) =
+    (map (value_of (numbers before aux)) case.post, (inl (aux, record { rows = h.rows; posts = refl }), sym h.posts ∙ entries_there before aux places))
+some-entries-held places (case ∷ cases) before told (inr h) = let held = some-entries-held places cases before told h in (held.0, (inr held.1.0, held.1.1))
+
+pub with_entries-least : (places : List ℕ) (f g : Transition) → g ≡ with_entries places f → (before after : List ℤ) → Holds f before after → Holds g before (numbers_at places before)
+with_entries-least places f g e before after h = subst (λ (t : Transition). Holds t before (numbers_at places before)) (sym e) (record { enters = h.enters; some = some-entries places f.cases before after h.some })
+
+pub with_entries-most : (places : List ℕ) (f g : Transition) → g ≡ with_entries places f → (before told : List ℤ) → Holds g before told → (after : List ℤ) × (Holds f before after × (told ≡ numbers_at places before))
+with_entries-most places f g e before told h =
+    let k : Holds (with_entries places f) before told = subst (λ (t : Transition). Holds t before told) e h in
+    let held = some-entries-held places f.cases before told k.some in
+    (held.0, (record { enters = k.enters; some = held.1.0 }, held.1.1))
+
+entries-pass : (from aux : ℕ) (places : List ℕ) → AllByRecursion (λ place. place < from) places → IsTrue (list_all (every_column (is_below from aux)) (entries_at places))
+entries-pass from aux [] lt = refl
+entries-pass from aux (place ∷ places) lt =
+    both_true (every_column (is_below from aux) (column_of (At place))) (list_all (every_column (is_below from aux)) (entries_at places))
+    (test_from_columns (is_below from aux) (column_of (At place)) ((below-true place from lt.0, tt), tt)) (entries-pass from aux places lt.1)
+
+entry_cases-fit : (from to : ℕ) (places : List ℕ) (cases : List Case) → AllByRecursion (λ place. place < from) places → IsTransition from to cases → IsTransition from (length places) (map (case_with_entries places) cases)
+entry_cases-fit from to places [] lt h = refl
+entry_cases-fit from to places (case ∷ cases) lt h =
+    let parts = both (fits from to case) (list_all (fits from to) cases) h in
+    let f = fitting from to case parts.0 in
+    both_true (fits from (length places) (case_with_entries places case)) (list_all (fits from (length places)) (map (case_with_entries places) cases))
+    (from_fitting from (length places) (case_with_entries places case) (record {
+      length_is = length-map places (λ place. column_of (At place));
+      rows_are = f.rows_are;
+      posts_are = entries-pass from case.aux places lt;
+    }))
+    (entry_cases-fit from to places cases lt parts.1)
+
+pub with_entries-fits : (places : List ℕ) (f : Transition) → All (λ place. place < f.from) places → IsTransition f.from f.to f.cases → IsTransition f.from (length places) (map (case_with_entries places) f.cases)
+with_entries-fits places f lt h = entry_cases-fit f.from f.to places f.cases (recursion_from_All (λ place. place < f.from) places lt) h
 
 -- ---- for the code
 

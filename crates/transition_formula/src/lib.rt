@@ -21,6 +21,6 @@ pub use error::FormulaError;
 pub use formula::Formula;
 pub use hiding::hidden;
 pub use loss::Loss;
-pub use posts::with_posts;
+pub use posts::{with_entries, with_posts};
 pub use sequence::seq;
 pub use solving::{Solved, solve};
