@@ -1,10 +1,10 @@
 -- A number's shortest decimal text reads as that number, and no other text does.
-use Rattle.std.proofs.Common.{arith, rules, ◌≡◌, ℕ, ◌<◌, ◌^◌, Bool, true, false, List, [], ◌∷◌, length, ℤ, pos, negsuc, FitsSigned, get_or, suc, ap, sym, subst, ◌∙◌, refl}
+use Rattle.std.proofs.Common.{arith, ◌≡◌, ℕ, ◌<◌, ◌^◌, Bool, true, false, List, ℤ, pos, negsuc, FitsSigned, get_or, suc, ap, subst, ◌∙◌, refl}
 use Rattle.std.specs.Int.{w128}
-use Rattle.std.specs.Prelude.{Option, None, Some, ◌&&◌, ◌==◌, if◌then◌else◌}
+use Rattle.std.specs.Prelude.{None, Some, ◌&&◌, ◌==◌, if◌then◌else◌}
 use Rattle.std.specs.Fmt.{decimal, signed_decimal}
 use Rattle.std.specs.Str.{bytes_eq}
-use Rattle.std.specs.Str.Parse.{AllDigits, IsNumeral, digits_value, signed_digits_value, starts_with_minus, without_leading_plus, without_leading_sign}
+use Rattle.std.specs.Str.Parse.{IsNumeral, digits_value, signed_digits_value, starts_with_minus, without_leading_plus, without_leading_sign}
 use Rattle.std.proofs.lemmas.Bool.{and_parts, lt-ltb, ne_eqb, ltb-true}
 use Rattle.std.proofs.lemmas.Fmt.{decimal_is_IsNumeral_wide}
 use Rattle.std.proofs.lemmas.Slice.Eq.{bytes_eq-Decides}

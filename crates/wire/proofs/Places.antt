@@ -1,11 +1,11 @@
 -- Places in a list of answers, read from numbers.
-use Rattle.std.proofs.Common.{◌≡◌, ℕ, ◌+◌, ◌<◌, Bool, true, false, List, [], ◌∷◌, ap, sym, subst, ◌∙◌, refl}
-use Rattle.std.specs.Prelude.{Option, None, Some, Result, Ok, Err, is_ok, if◌then◌else◌}
+use Rattle.std.proofs.Common.{◌≡◌, ℕ, ◌+◌, ◌<◌, List, [], ◌∷◌, ap, sym, subst, ◌∙◌, refl}
+use Rattle.std.specs.Prelude.{None, Some, Result, Ok, Err, is_ok, if◌then◌else◌}
 use Rattle.std.specs.List.{AllByRecursion}
 use Rattle.std.proofs.lemmas.Bool.{false≢true, lt-ltb}
+use Rattle.items.proofs.Each.{each-append}
 use Rattle.items.specs.Gives.{◌>>=◌}
 use Rattle.serde_json.specs.Data.{Data, null, boolean, number, string, array, object, Items, no_items, item}
-use Rattle.serde_json.specs.Find.{as_array}
 use Rattle.wire.specs.Files.{if_below, place}
 use Rattle.wire.specs.Shapes.{item_path, items_from, list, natural, or_wrong, under}
 
@@ -42,3 +42,5 @@ list-place count (array ds) ns e small = items_from-place count 0 ds ns e small
 list-place count (object ms) ns e small = e
 
 pub ruleset places = (list-place)
+
+pub ruleset appended = (each-append)

@@ -1,6 +1,6 @@
 -- What is written nests at most ten deep, and has no fractions.
-use Rattle.std.proofs.Common.{arith, ◌≡◌, ℕ, suc, ◌+◌, ◌≤◌, Bool, false, List, [], ◌∷◌, map, refl, ap, ◌∙◌}
-use Rattle.std.specs.Prelude.{ℤ, max, codes, ◌||◌}
+use Rattle.std.proofs.Common.{arith, ◌≡◌, ℕ, suc, ◌≤◌, Bool, false, List, [], ◌∷◌, map, refl, ap, ◌∙◌}
+use Rattle.std.specs.Prelude.{max, ◌||◌}
 use Rattle.std.proofs.Math.Nat.{max-le}
 use Rattle.farkas_check.specs.declared.answer.Answer.{Answer}
 use Rattle.farkas_check.specs.declared.answer.Answer.TheVariants.{Yes, No, Bound, Unbounded, Basis, Limit}
@@ -10,11 +10,10 @@ use Rattle.farkas_check.specs.declared.answer.Limit.TheVariants.{Wide, Pivots}
 use Rattle.farkas_check.specs.declared.stratum.Relation.{Relation}
 use Rattle.farkas_check.specs.declared.stratum.Spot.{Spot}
 use Rattle.farkas_check.specs.declared.stratum.Tie.{Tie}
-use Rattle.farkas_check.specs.Ratios.{Fraction}
-use Rattle.serde_json.specs.Data.{Data, number, unsigned, string, boolean, array, object, Items, Members, no_members, member, depth, items_depth, members_depth}
+use Rattle.serde_json.specs.Data.{Data, number, unsigned, string, boolean, object, Members, no_members, member, depth, items_depth, members_depth}
 use Rattle.serde_json.specs.View.{items_of}
 use Rattle.serde_json.specs.Written.{has_float, items_have_float, members_have_float}
-use Rattle.wire.specs.Written.{list_data, whole_data, ratio_data, small_data, cert_data, tie_data, relation_data, spot_data, limit_data, bound_data, unbounded_data, basis_data, answer_data, certificate_data, data_in}
+use Rattle.wire.specs.Written.{list_data, cert_data, tie_data, relation_data, spot_data, limit_data, answer_data, certificate_data, data_in}
 use Rattle.wire.specs.declared.certificate.Certificate.{Certificate}
 use Rattle.wire.specs.declared.certificate.Version.{Version}
 use Rattle.wire.specs.declared.certificate.Version.TheVariants.{First, Second}

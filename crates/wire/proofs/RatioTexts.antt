@@ -1,9 +1,9 @@
 -- The text of a ratio reads as it.
-use Rattle.std.proofs.Common.{arith, ◌≡◌, ℕ, ◌+◌, ◌<◌, ◌≤◌, ◌^◌, ◌<ℤ◌, Bool, true, false, List, [], ◌∷◌, ◌++◌, length, take, drop, ℤ, pos, negsuc, FitsSigned, get_or, zero, suc, ap, sym, subst, ◌∙◌, refl, length-append}
+use Rattle.std.proofs.Common.{arith, ◌≡◌, ℕ, ◌+◌, ◌<◌, ◌^◌, ◌<ℤ◌, Bool, true, false, List, [], ◌∷◌, ◌++◌, length, take, drop, ℤ, pos, negsuc, FitsSigned, get_or, zero, suc, ap, sym, ◌∙◌, refl, length-append}
 use Rattle.std.specs.Int.{w128}
-use Rattle.std.specs.Prelude.{Option, None, Some, ◌&&◌, ◌==◌, not, if◌then◌else◌, int_lt, nat_lt, position, option_map, option_and_then, Result, Ok, Err, IfOk}
+use Rattle.std.specs.Prelude.{None, Some, ◌&&◌, not, if◌then◌else◌, int_lt, nat_lt, position, option_map, option_and_then, Result, Ok, Err, IfOk}
 use Rattle.std.specs.Fmt.{decimal, signed_decimal}
-use Rattle.std.specs.List.{after_first, before_first, position_or_len}
+use Rattle.std.specs.List.{position_or_len}
 use Rattle.std.specs.Ordering.{int_eq}
 use Rattle.std.specs.Str.Parse.{AllDigits}
 use Rattle.std.proofs.lemmas.Bool.{and_from, eq-eqb, le-ltb, lt-ltb, ne_eqb}

@@ -1,6 +1,6 @@
 -- Answers as JSON: an object of one key, which is the name of its kind, beside keys that mean nothing. What stands under the key is
 -- read key by key, in the order of the alphabet.
-use Rattle.std.specs.Prelude.{ℕ, Bool, false, Option, None, Some, is_some, option_and_then, Result, Ok, Err, List, [], ◌∷◌, codes, find, ◌==◌, if◌then◌else◌}
+use Rattle.std.specs.Prelude.{ℕ, Bool, false, Option, None, Some, is_some, Ok, Err, List, [], ◌∷◌, codes, find, ◌==◌, if◌then◌else◌}
 use Rattle.std.specs.List.{count_by}
 use Rattle.std.specs.Str.{bytes_eq}
 use Rattle.farkas_check.specs.declared.answer.Answer.{Answer}
@@ -17,7 +17,7 @@ use Rattle.serde_json.specs.Find.{as_str, get}
 use Rattle.wire.specs.declared.answers.Kind.{Kind}
 use Rattle.wire.specs.declared.answers.Kind.TheVariants.{Infeasible, Point, Bound as BoundKind, Unbounded as UnboundedKind, Basis as BasisKind, Limit as LimitKind}
 use Rattle.wire.specs.Numbers.{ratio, whole}
-use Rattle.wire.specs.Shapes.{Path, Reading, boolean, field, list, small}
+use Rattle.wire.specs.Shapes.{Reading, boolean, field, list, small}
 
 abbrev pub cert : Reading Cert
 cert d = field (codes "by") (list whole) d >>= λ by. field (codes "scale") whole d >>= λ scale. field (codes "sum") whole d

@@ -1,12 +1,11 @@
 -- Certificate files and edit scripts, read from JSON.
-use Rattle.std.specs.Prelude.{ℕ, ◌+◌, ◌≤◌, Bool, Option, None, Some, Result, Ok, Err, List, [], ◌∷◌, codes, length, nat_le, nat_lt, ◌==◌, if◌then◌else◌}
+use Rattle.std.specs.Prelude.{ℕ, Option, None, Some, Result, Ok, Err, List, codes, length, nat_le, nat_lt, ◌==◌, if◌then◌else◌}
 use Rattle.std.specs.List.{range_with_len}
 use Rattle.std.specs.Str.{is_utf8}
 use Rattle.items.specs.Gives.{◌>>=◌, lifted}
-use Rattle.farkas_check.specs.declared.answer.Answer.{Answer}
-use Rattle.serde_json.specs.Data.{Data, Num, Items, no_items, item, Members}
+use Rattle.serde_json.specs.Data.{Data, Items}
 use Rattle.serde_json.specs.Events.{items_len}
-use Rattle.serde_json.specs.Find.{get, as_array, as_number, as_object, as_u64}
+use Rattle.serde_json.specs.Find.{get, as_array, as_object}
 use Rattle.serde_json.specs.Read.{read}
 use Rattle.wire.specs.declared.certificate.Certificate.{Certificate}
 use Rattle.wire.specs.declared.certificate.Version.{Version}

@@ -1,8 +1,8 @@
 -- How a part of a JSON value is read. A part has a value, or a first wrong part in it, which is told by its path from there: a
 -- JSON pointer (RFC 6901). An object is looked at before its members, a list before its items, and each in order.
-use Rattle.std.specs.Prelude.{ℕ, ◌+◌, Bool, Option, None, Some, is_some, Result, Ok, Err, List, [], ◌∷◌, ◌++◌, codes, decimal, nat_lt, ◌^◌, if◌then◌else◌}
+use Rattle.std.specs.Prelude.{ℕ, ◌+◌, Bool, Option, None, Some, Result, Ok, Err, List, [], ◌∷◌, ◌++◌, decimal, nat_lt, ◌^◌, if◌then◌else◌}
 use Rattle.items.specs.Gives.{◌>>=◌, lifted}
-use Rattle.serde_json.specs.Data.{Data, Num, Items, no_items, item, Members}
+use Rattle.serde_json.specs.Data.{Data, Items, no_items, item}
 use Rattle.serde_json.specs.Find.{get_member, as_array, as_bool, as_number, as_object, as_str, as_u64}
 
 abbrev pub Path : Type 0

@@ -1,5 +1,5 @@
 -- What is written: each value as a part of JSON, its members in the order of their keys, each once.
-use Rattle.std.specs.Prelude.{◌≡◌, ℕ, ℤ, ◌<◌, ◌≤◌, Bool, Result, Ok, List, [], ◌∷◌, ◌++◌, codes, length, map}
+use Rattle.std.specs.Prelude.{◌≡◌, ℕ, ℤ, ◌<◌, ◌≤◌, Bool, Result, Ok, List, ◌++◌, codes, length, map}
 use Rattle.std.specs.List.{AllByRecursion, range_with_len}
 use Rattle.wire.specs.Files.{most_text}
 use Rattle.std.specs.Fmt.{signed_decimal}
@@ -12,7 +12,7 @@ use Rattle.farkas_check.specs.declared.stratum.Relation.{Relation}
 use Rattle.farkas_check.specs.declared.stratum.Spot.{Spot}
 use Rattle.farkas_check.specs.declared.stratum.Tie.{Tie}
 use Rattle.farkas_check.specs.Ratios.{Fraction}
-use Rattle.serde_json.specs.Data.{Data, number, unsigned, string, boolean, array, object, Members, no_members, member}
+use Rattle.serde_json.specs.Data.{Data, number, unsigned, string, boolean, array, object, no_members, member}
 use Rattle.serde_json.specs.View.{items_of}
 use Rattle.items.specs.Gives.{◌>>=◌}
 use Rattle.wire.specs.Numbers.{ratio_text}

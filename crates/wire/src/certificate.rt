@@ -1,7 +1,7 @@
 ghost use Rattle.std.specs.Prelude.{◌≡◌, ◌<◌, Ok, IfOk};
 ghost use Rattle.serde_json.specs.Written.{compact_text};
 ghost use Rattle.wire.specs.declared.certificate.Version.TheVariants.{First, Second};
-ghost use Rattle.wire.specs.Written.{IsWritable, certificate_data, first_data, list_data, second_data, small_data};
+ghost use Rattle.wire.specs.Written.{IsOrder, IsWritable, certificate_data, first_data, list_data, second_data, small_data};
 ghost use Rattle.std.specs.List.{AllByRecursion, range_with_len};
 ghost use Rattle.items.specs.Gives.{Gives};
 ghost use Rattle.serde_json.specs.View.{items_view, view};
@@ -92,7 +92,8 @@ fn turns(alloc: Global, count: usize) -> Result<Items<usize>, AllocError>
 
 /// A place below the number of answers.
 fn place(alloc: Global, part: &Value, count: usize) -> Result<usize, Wrong>
-    ensures { Gives wrong_path (λ x. x) result (place count (view part.now)) }
+    ensures exact { Gives wrong_path (λ x. x) result (place count (view part.now)) }
+    ensures below { IfOk result (λ place. place < count) }
 {
     let place = usize::read(alloc, part)?;
     if place < count {
@@ -102,8 +103,10 @@ fn place(alloc: Global, part: &Value, count: usize) -> Result<usize, Wrong>
     }
 }
 
+#[tactic(auto, using(crate::proofs::Places::appended))]
 fn places(alloc: Global, parts: &[Value], count: usize) -> Result<Items<usize>, Wrong>
-    ensures { Gives wrong_path (λ x. x) result (items_from (place count) 0 (items_view parts.now)) }
+    ensures exact { Gives wrong_path (λ x. x) result (items_from (place count) 0 (items_view parts.now)) }
+    ensures below { IfOk result (λ places. AllByRecursion (λ place. place < count) places) }
 {
     let mut made = Items::new(alloc);
     for (number, part) in parts.iter().enumerate() {
@@ -113,7 +116,8 @@ fn places(alloc: Global, parts: &[Value], count: usize) -> Result<Items<usize>, 
 }
 
 fn place_list(alloc: Global, part: &Value, count: usize) -> Result<Items<usize>, Wrong>
-    ensures { Gives wrong_path (λ x. x) result (list (place count) (view part.now)) }
+    ensures exact { Gives wrong_path (λ x. x) result (list (place count) (view part.now)) }
+    ensures below { IfOk result (λ places. AllByRecursion (λ place. place < count) places) }
 {
     match part.as_array() {
         Some(parts) => places(alloc, parts.as_slice(), count),
@@ -121,22 +125,30 @@ fn place_list(alloc: Global, part: &Value, count: usize) -> Result<Items<usize>,
     }
 }
 
+/// The places that a file of the second version lists.
+fn listed_order(alloc: Global, count: usize, file: &Value) -> Result<Items<usize>, Wrong>
+    ensures exact { Gives wrong_path (λ x. x) result (order_of Second count (view file.now)) }
+    ensures below { IfOk result (λ places. AllByRecursion (λ place. place < count) places) }
+{
+    let part = member(alloc, file, "order")?;
+    under_key(alloc, "order", place_list(alloc, part, count))
+}
+
 /// Which answer each question has.
 fn order(alloc: Global, version: Version, count: usize, file: &Value) -> Result<Items<usize>, Wrong>
-    ensures { Gives wrong_path (λ x. x) result (order_of version count (view file.now)) }
+    ensures exact { Gives wrong_path (λ x. x) result (order_of version count (view file.now)) }
+    ensures is_order { IfOk result (IsOrder version count) }
 {
     match version {
         Version::First => Ok(turns(alloc, count)?),
-        Version::Second => {
-            let part = member(alloc, file, "order")?;
-            under_key(alloc, "order", place_list(alloc, part, count))
-        }
+        Version::Second => listed_order(alloc, count, file),
     }
 }
 
 /// A file of a version.
 fn certificate_parts(alloc: Global, version: Version, file: &Value) -> Result<Certificate, Wrong>
-    ensures { Gives wrong_path (λ x. x) result (certificate_from version (view file.now)) }
+    ensures exact { Gives wrong_path (λ x. x) result (certificate_from version (view file.now)) }
+    ensures writable { IfOk result IsWritable }
 {
     let text = source(alloc, file)?;
     let report = field(alloc, file, "report")?;
@@ -154,7 +166,8 @@ fn certificate_parts(alloc: Global, version: Version, file: &Value) -> Result<Ce
 /// Reads a certificate file of either version. `Json` where the bytes are no JSON text, `Version` where the file's
 /// version is not known, `Shape` with the first wrong part.
 pub fn read_certificate(alloc: Global, bytes: &[u8]) -> Result<Certificate, WireError>
-    ensures { Gives fault (λ x. x) result (certificate_of bytes.now) }
+    ensures exact { Gives fault (λ x. x) result (certificate_of bytes.now) }
+    ensures writable { IfOk result IsWritable }
 {
     let file = json(alloc, bytes)?;
     let version = file_version(alloc, &file)?;

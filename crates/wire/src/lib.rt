@@ -11,8 +11,8 @@ mod script;
 mod shape;
 mod text;
 
-pub use certificate::{Certificate, Version, read_certificate};
+pub use certificate::{Certificate, Version, read_certificate, write_certificate};
 pub use error::WireError;
 pub use replay::Replay;
-pub use script::{Edit, Script};
+pub use script::{Edit, Script, read_script, texts};
 pub use text::Text;

@@ -1,9 +1,9 @@
-ghost use Rattle.std.specs.Prelude.{◌≡◌, ◌<◌, ◌^◌, length, IsTrue, IfOk};
+ghost use Rattle.std.specs.Prelude.{◌≡◌, ◌<◌, ◌≤◌, ◌^◌, length, IsTrue, IfOk};
 ghost use Rattle.items.specs.Gives.{Gives};
 ghost use Rattle.serde_json.specs.View.{items_view, view};
 ghost use Rattle.wire.specs.Edits.{is_inside, text_after, texts_from, texts_of, with_edit};
 ghost use Rattle.wire.specs.Errors.{fault, wrong_path};
-ghost use Rattle.wire.specs.Files.{edits, few_edits, script, script_of};
+ghost use Rattle.wire.specs.Files.{edits, few_edits, most_edits, script, script_of};
 
 use crate::Text;
 use crate::certificate::json;
@@ -47,7 +47,8 @@ pub const MOST_EDITS: usize = 1000;
 
 #[tactic(auto, using(crate::proofs::JsonTexts::lengths))]
 fn few_edits(alloc: Global, parts: &[Value]) -> Result<Items<Edit>, Wrong>
-    ensures { Gives wrong_path (λ x. x) result (few_edits (items_view parts.now)) }
+    ensures exact { Gives wrong_path (λ x. x) result (few_edits (items_view parts.now)) }
+    ensures few { IfOk result (λ edits. length edits ≤ most_edits) }
 {
     if parts.len() <= MOST_EDITS {
         items(alloc, parts)
@@ -57,7 +58,8 @@ fn few_edits(alloc: Global, parts: &[Value]) -> Result<Items<Edit>, Wrong>
 }
 
 fn edits(alloc: Global, part: &Value) -> Result<Items<Edit>, Wrong>
-    ensures { Gives wrong_path (λ x. x) result (edits (view part.now)) }
+    ensures exact { Gives wrong_path (λ x. x) result (edits (view part.now)) }
+    ensures few { IfOk result (λ edits. length edits ≤ most_edits) }
 {
     match part.as_array() {
         Some(parts) => few_edits(alloc, parts.as_slice()),
@@ -66,7 +68,8 @@ fn edits(alloc: Global, part: &Value) -> Result<Items<Edit>, Wrong>
 }
 
 fn script_parts(alloc: Global, file: &Value) -> Result<Script, Wrong>
-    ensures { Gives wrong_path (λ x. x) result (script (view file.now)) }
+    ensures exact { Gives wrong_path (λ x. x) result (script (view file.now)) }
+    ensures few { IfOk result (λ script. length script.edits ≤ most_edits) }
 {
     let text = source(alloc, file)?;
     let part = member(alloc, file, "edits")?;
@@ -76,7 +79,8 @@ fn script_parts(alloc: Global, file: &Value) -> Result<Script, Wrong>
 
 /// Reads an edit script. `Json` where the bytes are no JSON text, `Shape` with the first wrong part.
 pub fn read_script(alloc: Global, bytes: &[u8]) -> Result<Script, WireError>
-    ensures { Gives fault (λ x. x) result (script_of bytes.now) }
+    ensures exact { Gives fault (λ x. x) result (script_of bytes.now) }
+    ensures few { IfOk result (λ script. length script.edits ≤ most_edits) }
 {
     let file = json(alloc, bytes)?;
     Ok(script_parts(alloc, &file)?)

@@ -1,4 +1,4 @@
-ghost use Rattle.std.specs.Prelude.{◌≡◌, ℕ, List, [], ◌∷◌, ◌++◌, Result, Ok, IfOk, OnOk, map};
+ghost use Rattle.std.specs.Prelude.{◌≡◌, ℕ, List, [], ◌∷◌, ◌++◌, Result, Ok, IfOk, OnOk, length, map};
 ghost use Rattle.items.specs.Gives.{Gives, lifted};
 ghost use Rattle.serde_json.specs.Data.{Data};
 ghost use Rattle.serde_json.specs.View.{items_of, items_view, view};
@@ -50,7 +50,8 @@ fn joined_path(alloc: Global, step: &[u8], path: &[u8]) -> Result<Items<u8>, All
 
 /// What was read of a part, told from what the part stands in.
 fn under<T: Drop>(alloc: Global, step: &[u8], read: Result<T, Wrong>) -> Result<T, Wrong>
-    ensures { (stated : Result T Path) → Gives wrong_path (λ x. x) read stated → Gives wrong_path (λ x. x) result (under step.now stated) }
+    ensures exact { (stated : Result T Path) → Gives wrong_path (λ x. x) read stated → Gives wrong_path (λ x. x) result (under step.now stated) }
+    ensures kept { IfOk result (λ value. read ≡ Ok value) }
 {
     match read {
         Ok(value) => Ok(value),
@@ -65,7 +66,8 @@ pub(crate) fn under_key<T: Drop>(
     key: &str,
     read: Result<T, Wrong>,
 ) -> Result<T, Wrong>
-    ensures { (stated : Result T Path) → Gives wrong_path (λ x. x) read stated → Gives wrong_path (λ x. x) result (under (member_path key.now) stated) }
+    ensures exact { (stated : Result T Path) → Gives wrong_path (λ x. x) read stated → Gives wrong_path (λ x. x) result (under (member_path key.now) stated) }
+    ensures kept { IfOk result (λ value. read ≡ Ok value) }
 {
     let step = member_path(alloc, key)?;
     under(alloc, step.as_slice(), read)
@@ -104,7 +106,8 @@ pub(crate) fn item_under<T: Drop>(
     place: usize,
     read: Result<T, Wrong>,
 ) -> Result<T, Wrong>
-    ensures { (stated : Result T Path) → Gives wrong_path (λ x. x) read stated → Gives wrong_path (λ x. x) result (under (item_path place) stated) }
+    ensures exact { (stated : Result T Path) → Gives wrong_path (λ x. x) read stated → Gives wrong_path (λ x. x) result (under (item_path place) stated) }
+    ensures kept { IfOk result (λ value. read ≡ Ok value) }
 {
     let mut digits = Buffer::new();
     let step = joined_path(alloc, b"/", digits.format(place).as_bytes())?;
@@ -158,7 +161,8 @@ fn values<T: Written>(alloc: Global, list: &[T]) -> Result<Vec<Value>, AllocErro
 }
 
 pub(crate) fn items<T: Shape + Drop>(alloc: Global, parts: &[Value]) -> Result<Items<T>, Wrong>
-    ensures { Gives wrong_path (λ x. x) result (items_from T.reads 0 (items_view parts.now)) }
+    ensures exact { Gives wrong_path (λ x. x) result (items_from T.reads 0 (items_view parts.now)) }
+    ensures all { IfOk result (λ made. length made ≡ length parts.now) }
 {
     let mut made = Items::new(alloc);
     for (place, part) in parts.iter().enumerate() {

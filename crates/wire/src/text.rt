@@ -1,8 +1,8 @@
-ghost use Rattle.std.specs.Prelude.{◌≡◌, IsUtf8, codes, string_bytes};
+ghost use Rattle.std.specs.Prelude.{◌≡◌, ◌≤◌, IfOk, IsUtf8, codes, length, string_bytes};
 ghost use Rattle.items.specs.Gives.{Gives};
 ghost use Rattle.serde_json.specs.View.{view};
 ghost use Rattle.wire.specs.Errors.{wrong_path};
-ghost use Rattle.wire.specs.Files.{source};
+ghost use Rattle.wire.specs.Files.{most_text, source};
 ghost use Rattle.wire.specs.Shapes.{field};
 
 use crate::error::Wrong;
@@ -80,7 +80,8 @@ pub const MOST_TEXT: usize = 1_048_576;
 
 /// A text of at most 1,048,576 bytes.
 fn short_text(alloc: Global, part: &Value) -> Result<Text, Wrong>
-    ensures { Gives wrong_path (λ x. x) result (source (view part.now)) }
+    ensures exact { Gives wrong_path (λ x. x) result (source (view part.now)) }
+    ensures short { IfOk result (λ text. length text ≤ most_text) }
 {
     let text = Text::read(alloc, part)?;
     if text.as_str().len() <= MOST_TEXT {
@@ -92,7 +93,8 @@ fn short_text(alloc: Global, part: &Value) -> Result<Text, Wrong>
 
 /// The text of the program in a file.
 pub(crate) fn source(alloc: Global, file: &Value) -> Result<Text, Wrong>
-    ensures { Gives wrong_path (λ x. x) result (field (codes "text") source (view file.now)) }
+    ensures exact { Gives wrong_path (λ x. x) result (field (codes "text") source (view file.now)) }
+    ensures short { IfOk result (λ text. length text ≤ most_text) }
 {
     let part = member(alloc, file, "text")?;
     under_key(alloc, "text", short_text(alloc, part))
