@@ -18,7 +18,8 @@ pub fn canonicity(question: &Question)
     }
 }
 
-fn canonical_goals(goals: &[Goal])
+/// The same of the goals of a question Sup.
+pub fn canonical_goals(goals: &[Goal])
     ensures { All IsCanonicalGoal goals.now }
 {
     for goal in goals {
@@ -33,7 +34,8 @@ fn canonical_goal(goal: &Goal)
     let _terms = goal.objective.terms();
 }
 
-fn canonical_rows(rows: &[Row])
+/// The same of the rows of a question Infeasible.
+pub fn canonical_rows(rows: &[Row])
     ensures { AreCanonical rows.now }
 {
     for row in rows {
@@ -42,7 +44,7 @@ fn canonical_rows(rows: &[Row])
 }
 
 /// Goes over an answer. Afterwards it is known that its denominators are positive.
-pub(crate) fn positivity(answer: &Answer)
+pub fn positivity(answer: &Answer)
     ensures { HasPositive answer.now }
 {
     match answer {

@@ -21,9 +21,9 @@ mod ties;
 
 pub use answer::{Answer, Cert, Limit};
 pub use columns::{case_columns, stratum_columns};
-pub use kept::canonicity;
+pub use kept::{canonical_goals, canonical_rows, canonicity, positivity};
 pub use oracle::{AskError, Oracle};
-pub use passing::{test, test_width, truth_of_passing};
+pub use passing::{goals_outcome, rows_outcome, test, test_width, truth_of_passing};
 pub use question::{Goal, Question};
 pub use ratio::{Ratio, exactness_of_ratios};
 pub use stratum::{Change, Relation, Spot, Stratum, Tie};

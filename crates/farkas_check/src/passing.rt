@@ -1,6 +1,7 @@
 ghost use Rattle.std.specs.Prelude.{◌≡◌, ◌↔◌, Ok, true, length, IsTrue};
 ghost use Rattle.farkas_check.specs.Laws.{PassingIsTrue};
 ghost use Rattle.farkas_check.specs.Meaning.{IsLimit, IsTight, IsTrueAnswer};
+ghost use Rattle.farkas_check.specs.declared.question.Question.TheVariants as question;
 ghost use Rattle.farkas_check.specs.Listing.{columns_in};
 ghost use Rattle.farkas_check.specs.Stratum.{tested_basis};
 ghost use Rattle.farkas_check.specs.Tested.{goal_columns, tested_yes, tested_no, tested_below, tested_cert, tested_certs, tested_point, tested_reached, tested_ray, tested_bound, tested_unbounded, is_limit, outcome, passes, width_of, Passes};
@@ -58,52 +59,68 @@ fn outcome(question: &Question, answer: &Answer) -> Result<bool, Wide>
     ensures { result ≡ outcome question.now answer.now }
 {
     match question {
-        Question::Infeasible(rows) => match answer {
-            Answer::Yes(by) => tested_yes(rows.as_slice(), by.as_slice()),
-            Answer::No(point) => tested_no(rows.as_slice(), point.as_slice()),
-            Answer::Bound { .. } => Ok(false),
-            Answer::Unbounded { .. } => Ok(false),
-            Answer::Basis { .. } => Ok(false),
-            Answer::Limit(limit) => Ok(is_limit(limit)),
-        },
-        Question::Sup(goals) => match answer {
-            Answer::Yes(_by) => Ok(false),
-            Answer::No(_point) => Ok(false),
-            Answer::Bound {
-                at,
-                certs,
-                case,
-                point,
-            } => tested_bound(
-                at,
-                goals.as_slice(),
-                certs.as_slice(),
-                *case,
-                point.as_slice(),
-            ),
-            Answer::Unbounded { case, point, ray } => {
-                tested_unbounded(goals.as_slice(), *case, point.as_slice(), ray.as_slice())
-            }
-            Answer::Basis { .. } => Ok(false),
-            Answer::Limit(limit) => Ok(is_limit(limit)),
-        },
-        Question::Stratum(stratum) => match answer {
-            Answer::Yes(_by) => Ok(false),
-            Answer::No(_point) => Ok(false),
-            Answer::Bound { .. } => Ok(false),
-            Answer::Unbounded { .. } => Ok(false),
-            Answer::Basis {
-                relations,
-                spots,
-                free,
-            } => tested_basis(
-                stratum,
-                relations.as_slice(),
-                spots.as_slice(),
-                free.as_slice(),
-            ),
-            Answer::Limit(limit) => Ok(is_limit(limit)),
-        },
+        Question::Infeasible(rows) => rows_outcome(rows.as_slice(), answer),
+        Question::Sup(goals) => goals_outcome(goals.as_slice(), answer),
+        Question::Stratum(stratum) => stratum_outcome(stratum, answer),
+    }
+}
+
+/// What the test of an answer to the question Infeasible of these rows comes to: whether it passes, or the first sum
+/// or product that leaves 128 bits.
+pub fn rows_outcome(rows: &[Row], answer: &Answer) -> Result<bool, Wide>
+    ensures { result ≡ outcome (question.Infeasible rows.now) answer.now }
+{
+    match answer {
+        Answer::Yes(by) => tested_yes(rows, by.as_slice()),
+        Answer::No(point) => tested_no(rows, point.as_slice()),
+        Answer::Bound { .. } => Ok(false),
+        Answer::Unbounded { .. } => Ok(false),
+        Answer::Basis { .. } => Ok(false),
+        Answer::Limit(limit) => Ok(is_limit(limit)),
+    }
+}
+
+/// The same of an answer to the question Sup of these goals.
+pub fn goals_outcome(goals: &[Goal], answer: &Answer) -> Result<bool, Wide>
+    ensures { result ≡ outcome (question.Sup goals.now) answer.now }
+{
+    match answer {
+        Answer::Yes(_by) => Ok(false),
+        Answer::No(_point) => Ok(false),
+        Answer::Bound {
+            at,
+            certs,
+            case,
+            point,
+        } => tested_bound(at, goals, certs.as_slice(), *case, point.as_slice()),
+        Answer::Unbounded { case, point, ray } => {
+            tested_unbounded(goals, *case, point.as_slice(), ray.as_slice())
+        }
+        Answer::Basis { .. } => Ok(false),
+        Answer::Limit(limit) => Ok(is_limit(limit)),
+    }
+}
+
+/// The same of an answer to the question Stratum.
+fn stratum_outcome(stratum: &Stratum, answer: &Answer) -> Result<bool, Wide>
+    ensures { result ≡ outcome (question.Stratum stratum.now) answer.now }
+{
+    match answer {
+        Answer::Yes(_by) => Ok(false),
+        Answer::No(_point) => Ok(false),
+        Answer::Bound { .. } => Ok(false),
+        Answer::Unbounded { .. } => Ok(false),
+        Answer::Basis {
+            relations,
+            spots,
+            free,
+        } => tested_basis(
+            stratum,
+            relations.as_slice(),
+            spots.as_slice(),
+            free.as_slice(),
+        ),
+        Answer::Limit(limit) => Ok(is_limit(limit)),
     }
 }
 
