@@ -12,6 +12,7 @@ mod Differences
 -- Points: ratios in lowest terms, the values that they give, and polynomials as sums over columns.
 pub mod Lowest
 pub mod PointValues
+pub mod Equal
 mod RatioLaws
 mod RationalPoints
 pub mod Spreads

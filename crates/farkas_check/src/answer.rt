@@ -1,4 +1,4 @@
-ghost use Rattle.std.specs.Prelude.{◌≡◌, IfOk};
+ghost use Rattle.std.specs.Prelude.{◌≡◌, ◌↔◌, IsTrue, IfOk};
 
 use crate::{Ratio, Relation, Spot};
 use items::Items;
@@ -55,6 +55,15 @@ pub enum Answer {
         free: Items<Items<Ratio>>,
     },
     Limit(Limit),
+}
+
+impl Answer {
+    /// Whether two answers are equal.
+    pub fn same(&self, other: &Answer) -> bool
+        ensures { IsTrue result ↔ (self.now ≡ other.now) }
+    {
+        self == other
+    }
 }
 
 impl Clone for Cert {
