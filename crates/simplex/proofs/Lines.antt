@@ -1,0 +1,51 @@
+-- What the code makes of lines: their lengths and their numbers.
+use Rattle.std.proofs.Common.{◌≡◌, ℕ, ◌+◌, ◌<◌, ◌≤◌, Bool, true, false, cond, List, [], ◌∷◌, length, drop, get_or, sym, ap, ◌∙◌, arith, Ok, ℤ, pos, negsuc}
+use Rattle.std.specs.Prelude.{unsigned_abs, int_lt, Result}
+use Rattle.std.proofs.lemmas.List.{drop_more, drop_all, get_or_read}
+use Rattle.items.specs.Gives.{◌>>=◌}
+use Rattle.items.proofs.Gives.{on_ok}
+use Rattle.whole_numbers.specs.Fits.{product_of}
+use Rattle.whole_numbers.specs.Divisors.{gcd_of, gcd_of_all}
+use Rattle.whole_numbers.specs.declared.wide.Wide as Step
+use Rattle.whole_numbers.proofs.CommonDivisors.{gcd_of_assoc, gcd_of-zero, zero-gcd_of}
+use Rattle.simplex.specs.Exchange.{multiplied, turned}
+use Rattle.farkas_check.specs.Relations.{entry}
+
+-- ---- the greatest common divisor
+
+pub divisor-next : (d : ℕ) (line : List ℤ) (i : ℕ) (z : ℤ) → i < length line → z ≡ get_or line i z → gcd_of (gcd_of d (unsigned_abs z)) (gcd_of_all (drop (i + 1) line)) ≡ gcd_of d (gcd_of_all (drop i line))
+divisor-next d line i z h e =
+    gcd_of_assoc d (unsigned_abs z) (gcd_of_all (drop (i + 1) line))
+    ∙ ap (λ zs. gcd_of d (gcd_of_all zs)) (sym (drop_more line i z h ∙ ap (λ y. y ∷ drop (i + 1) line) (sym e)))
+
+pub divisor-end : (d : ℕ) (line : List ℤ) (i : ℕ) → length line ≤ i → gcd_of d (gcd_of_all (drop i line)) ≡ d
+divisor-end d line i h = let e : drop i line ≡ [] = drop_all i line h in ap (λ zs. gcd_of d (gcd_of_all zs)) e ∙ gcd_of-zero d
+
+pub ruleset divisors = (zero-gcd_of)
+
+-- ---- lengths
+
+lines_ok : List ℤ → Result (List ℤ) Step.Wide
+lines_ok zs = Ok zs
+
+multiplied-length : (line : List ℤ) (by : ℤ) (made : List ℤ) → multiplied line by ≡ Ok made → length made ≡ length line
+multiplied-length [] by made e = let same : [] ≡ made = cc in ap length (sym same)
+multiplied-length (a ∷ line) by made e =
+    on_ok (product_of a by) (λ z. multiplied line by >>= λ more. Ok (z ∷ more)) made e
+    (λ z f g. on_ok (multiplied line by) (λ more. Ok (z ∷ more)) made g
+    (λ more h k. let is = chain z more (cc) (multiplied-length line by more h) in omega (arith, is)))
+  where
+    chain : (z : ℤ) (more : List ℤ) → z ∷ more ≡ made → length more ≡ length line → length made ≡ length line + 1
+    chain z more e f = let h : length (z ∷ more) ≡ length made = ap length e in omega (arith, h, f)
+
+pub turned-length : (column : ℕ) (line made : List ℤ) → turned column line ≡ Ok made → length made ≡ length line
+turned-length column line made e = go (int_lt (entry line column) (pos 0)) e
+  where
+    go : (b : Bool) → cond b (multiplied line (negsuc 0)) (Ok line) ≡ Ok made → length made ≡ length line
+    go true f = multiplied-length line (negsuc 0) made f
+    go false f = let same : line ≡ made = cc in ap length (sym same)
+
+-- the pivot has a number for each column
+pub pivot-length : (columns : ℕ) (lines : List (List ℤ)) (line column : ℕ) (own pivot : List ℤ) → ((i : ℕ) → i < length lines → length (get_or lines i []) ≡ columns) → line < length lines → own ≡ get_or lines line own → turned column own ≡ Ok pivot → length pivot ≡ columns
+pivot-length columns lines line column own pivot wide h e f =
+    turned-length column own pivot f ∙ ap length (get_or_read lines line own h e []) ∙ wide line h

@@ -1,0 +1,52 @@
+-- A step that leaves 128 bits shows that the tableau at hand has a great number, and so its frame is not small.
+use Rattle.std.proofs.Common.{◌≡◌, ◌<◌, ℕ, Bool, true, false, ◌&&◌, List, [], length, get_or, sym, subst, arith, Result, Ok, Err, ℤ, pos, ◌*ℤ◌, ◌<ℤ◌}
+use Rattle.std.specs.Prelude.{IfErr, IfOk, int_le}
+use Rattle.std.proofs.lemmas.Int.{ints}
+use Rattle.farkas_check.specs.Relations.{entry}
+use Rattle.simplex.specs.History.{CameTo, MovedTo, IsUnmet}
+use Rattle.simplex.specs.declared.raise.Turn.{Turn}
+use Rattle.simplex.specs.declared.raise.Turn.TheVariants as turn
+use Rattle.whole_numbers.specs.declared.wide.Wide as Step
+use Rattle.simplex.specs.Calm.{HasSquares, HasSmallLines, IsMemory}
+use Rattle.simplex.specs.Exchange.{IsTableauOf, ArePrimitive}
+use Rattle.simplex.specs.Raise.{Framed, enters_at, Improves, IsOpen}
+use Rattle.simplex.specs.Refusal.{LeavesBits, IsRefusal, IsOverrun, IsRefusalIn}
+use Rattle.simplex.specs.declared.stop.Stop.{Stop}
+use Rattle.simplex.specs.declared.stop.Stop.TheVariants.{Wide, Memory}
+use Rattle.simplex.specs.declared.tableau.Tableau.{Tableau}
+
+pub overrun : (over : Framed) (count : ℕ) (t : Tableau) (step : Step.Wide) → IsTableauOf over.units over.frame t → ArePrimitive t → length t.lines ≡ count → LeavesBits step → ((n : ℕ) → HasSquares n → HasSmallLines n t → ⊥) → IsOverrun over count step
+overrun over count t step tableau primitive many leaves never =
+    record { leaves = leaves; great = λ n room small. never n room (small t many tableau primitive) }
+
+pub refused : {X : Type 0} (over : Framed) (count : ℕ) (t : Tableau) (r : Result X Stop) → IsTableauOf over.units over.frame t → ArePrimitive t → length t.lines ≡ count → IfErr r IsRefusal → ((n : ℕ) → HasSquares n → HasSmallLines n t → IfErr r IsMemory) → IfErr r (IsRefusalIn over count)
+refused over count t (Ok x) tableau primitive many leaves never = tt
+refused over count t (Err (Wide step)) tableau primitive many leaves never = overrun over count t step tableau primitive many leaves never
+refused over count t (Err Memory) tableau primitive many leaves never = tt
+
+pub refused_step : {X : Type 0} (over : Framed) (count : ℕ) (t : Tableau) (r : Result X Step.Wide) → IsTableauOf over.units over.frame t → ArePrimitive t → length t.lines ≡ count → IfErr r LeavesBits → ((n : ℕ) → HasSquares n → HasSmallLines n t → IfErr r (λ _. ⊥)) → IfErr r (IsOverrun over count)
+refused_step over count t (Ok x) tableau primitive many leaves never = tt
+refused_step over count t (Err step) tableau primitive many leaves never = overrun over count t step tableau primitive many leaves never
+
+-- ---- a turn of a raise
+
+unmet_of : (until : Bool) (z : ℤ) → until && int_le z (pos 0) ≡ false → until ≡ true → pos 0 <ℤ z
+unmet_of true z e f = omega (arith, ints, e)
+unmet_of false z e f = cc
+
+came_moved_at : (enters : List Bool) (constants : ℕ) (keys : List ℕ) (sign : ℤ) (until : Bool) (goal column : ℕ) (before after : Tableau) (came : Turn) → IsUnmet until constants goal before → Improves enters sign goal column before → MovedTo enters constants keys column before after came → CameTo enters constants keys sign until goal before after came
+came_moved_at enters constants keys sign until goal column before after turn.Met u i m = absurd m
+came_moved_at enters constants keys sign until goal column before after turn.Best u i m = absurd m
+came_moved_at enters constants keys sign until goal column before after (turn.Open entered) u i m =
+    (m.0, u, subst (λ (j : ℕ). IsOpen enters sign goal j before) (sym m.1) (i, m.2))
+came_moved_at enters constants keys sign until goal column before after turn.Moved u i m = (column, (m.0, (i, m.1.0, m.1.1)))
+
+pub came_moved : (enters : List Bool) (constants : ℕ) (keys : List ℕ) (sign : ℤ) (until : Bool) (goal column : ℕ) (before : Tableau) (line other : List ℤ) (r : Result (Tableau × Turn) Stop)
+    → line ≡ get_or before.lines goal [] → other ≡ get_or before.lines goal [] → until && int_le (entry line constants) (pos 0) ≡ false
+    → (column < length other) × (enters_at enters column ≡ true) × ((sign *ℤ entry other column) <ℤ pos 0) → length enters ≡ length other
+    → IfOk r (λ x. MovedTo enters constants keys column before x.0 x.1) → IfOk r (λ x. CameTo enters constants keys sign until goal before x.0 x.1)
+came_moved enters constants keys sign until goal column before line other (Err s) e f u i w m = tt
+came_moved enters constants keys sign until goal column before line other (Ok x) e f u i w m =
+    came_moved_at enters constants keys sign until goal column before x.0 x.1
+    (λ g. subst (λ (zs : List ℤ). pos 0 <ℤ entry zs constants) e (unmet_of until (entry line constants) u g))
+    (record { within = subst (λ (n : ℕ). column < n) (sym w) i.0; may = i.1; better = subst (λ (zs : List ℤ). (sign *ℤ entry zs column) <ℤ pos 0) f i.2 }) m

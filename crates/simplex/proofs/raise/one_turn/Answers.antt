@@ -1,0 +1,14 @@
+use Rattle.std.proofs.Common.{rules, ◌≡◌, ◌<◌, length, get_or, [], false, sym, ◌∙◌}
+use Rattle.std.proofs.lemmas.List.{get_or_read}
+use Rattle.simplex.specs.Raise.{sign_of}
+use Rattle.simplex.proofs.Refusing.{came_moved}
+use Rattle.simplex.proofs.raise.one_turn.Goals as goal
+
+pub returns-clause-came : goal.returns-clause-came
+returns-clause-came g c =
+    let inside : c.args.goal < length c.args.t.lines = search rules in
+    let first : c.as_slice.result.now ≡ get_or c.args.t.lines c.args.goal [] = get_or_read c.args.t.lines c.args.goal c.as_slice.result.now inside (search rules) [] in
+    let second : c.as_slice-2.result.now ≡ get_or c.args.t.lines c.args.goal [] = get_or_read c.args.t.lines c.args.goal c.as_slice-2.result.now inside (search rules) [] in
+    let unmet : c.is_met.result ≡ false = search rules in
+    came_moved c.args.enters.now c.args.constants c.args.keys.now (sign_of c.args.up) c.args.until c.args.goal c.in-Some.column c.args.t c.as_slice.result.now c.as_slice-2.result.now c.moved.result first second
+    (sym c.is_met.ensures ∙ unmet) c.in-Some.ensures (search rules) c.moved.ensures.came

@@ -1,0 +1,95 @@
+-- An exchange of a chosen column, in 128 bits.
+use Rattle.std.specs.Prelude.{◌≡◌, ℕ, ◌+◌, nat_eq, ℤ, pos, negsuc, List, [], ◌∷◌, ◌++◌, map, get_or, slice_set, length, Option, None, Some, Result, Ok, int_div, int_lt, if◌then◌else◌, ◌<◌}
+use Rattle.std.specs.Ordering.{int_eq}
+use Rattle.items.specs.Gives.{◌>>=◌}
+use Rattle.whole_numbers.specs.Fits.{sum_of, product_of}
+use Rattle.whole_numbers.specs.Divisors.{gcd_of_all}
+use Rattle.whole_numbers.specs.declared.wide.Wide as Step
+use Rattle.simplex.specs.Frames.{IsWholeTableau}
+use Rattle.simplex.specs.declared.stop.Stop.{Stop}
+use Rattle.simplex.specs.declared.stop.Stop.TheVariants.{Wide, Memory}
+use Rattle.simplex.specs.declared.tableau.Tableau.{Tableau}
+
+-- what a stop tells: want of memory tells nothing
+abbrev pub cause : Stop → Option Step.Wide
+cause (Wide step) = Some step
+cause Memory = None
+
+-- ---- lines
+
+-- the number at a column; 0 past the end
+abbrev pub entry : List ℤ → ℕ → ℤ
+entry line j = get_or line j (pos 0)
+
+-- p times a number and q times another
+abbrev pub sum_of_products : ℤ → ℤ → ℤ → ℤ → Result ℤ Step.Wide
+sum_of_products p a q b = product_of p a >>= λ x. product_of q b >>= λ y. sum_of x y
+
+-- p times one line and q times another
+abbrev pub combined : ℤ → List ℤ → ℤ → List ℤ → Result (List ℤ) Step.Wide
+combined p [] q bs = Ok []
+combined p (a ∷ more) q [] = Ok []
+combined p (a ∷ more) q (b ∷ bs) = sum_of_products p a q b >>= λ z. combined p more q bs >>= λ made. Ok (z ∷ made)
+
+abbrev pub multiplied : List ℤ → ℤ → Result (List ℤ) Step.Wide
+multiplied [] by = Ok []
+multiplied (a ∷ more) by = product_of a by >>= λ z. multiplied more by >>= λ made. Ok (z ∷ made)
+
+-- the numbers divided by their greatest common divisor
+abbrev pub reduced : List ℤ → List ℤ
+reduced line = if nat_eq (gcd_of_all line) 0 then line else map (λ z. int_div z (pos (gcd_of_all line))) line
+
+-- the line with its signs turned where it is negative at the column
+abbrev pub turned : ℕ → List ℤ → Result (List ℤ) Step.Wide
+turned column line = if int_lt (entry line column) (pos 0) then multiplied line (negsuc 0) else Ok line
+
+-- a line cleared at the column by one that is positive there
+abbrev pub cleared : ℕ → List ℤ → List ℤ → Result (List ℤ) Step.Wide
+cleared column pivot line =
+    if int_eq (entry line column) (pos 0) then Ok line
+    else (product_of (entry line column) (negsuc 0) >>= λ q. combined (entry pivot column) line q pivot >>= λ made. Ok (reduced made))
+
+-- ---- all lines
+
+-- a line at a place: the pivot's own, or one that is cleared
+abbrev pub cleared_at : ℕ → List ℤ → ℕ → ℕ → List ℤ → Result (List ℤ) Step.Wide
+cleared_at column pivot place i line = if nat_eq i place then Ok pivot else cleared column pivot line
+
+-- the lines from the i-th on
+abbrev pub cleared_from : ℕ → List ℤ → ℕ → ℕ → List (List ℤ) → Result (List (List ℤ)) Step.Wide
+cleared_from column pivot place i [] = Ok []
+cleared_from column pivot place i (line ∷ lines) = cleared_at column pivot place i line >>= λ made. cleared_from column pivot place (i + 1) lines >>= λ more. Ok (made ∷ more)
+
+-- the column is chosen in the line
+abbrev pub exchanged : Tableau → ℕ → ℕ → Result Tableau Step.Wide
+exchanged t line column =
+    turned column (get_or t.lines line []) >>= λ pivot. cleared_from column pivot line 0 t.lines >>= λ lines. Ok record { lines = lines; chosen = slice_set t.chosen line column }
+
+-- ---- what is put behind what is made
+
+abbrev pub behind : {X : Type 0} → List X → Result (List X) Step.Wide → Result (List X) Step.Wide
+behind front rest = rest >>= λ made. Ok (front ++ made)
+
+-- ---- the shape of a tableau
+
+-- each line has a number for each column, and each line chooses a column
+pub record HasShape (columns : ℕ) (t : Tableau) : Type 0 where
+  pub wide : (i : ℕ) → i < length t.lines → length (get_or t.lines i []) ≡ columns
+  pub choices : length t.chosen ≡ length t.lines
+
+-- the numbers of a tableau's lines, and its choices
+abbrev pub numbers_of : Tableau → ℕ → ℕ → ℤ
+numbers_of t i j = entry (get_or t.lines i []) j
+
+abbrev pub choices_of : Tableau → ℕ → ℕ
+choices_of t i = get_or t.chosen i 0
+
+-- a tableau of a frame whose unit columns begin at `units`
+pub record IsTableauOf (units : ℕ) (frame : ℕ → ℕ → ℤ) (t : Tableau) : Type 0 where
+  pub shape : HasShape (units + length t.lines) t
+  pub is : IsWholeTableau (length t.lines) units (units + length t.lines) frame (numbers_of t) (choices_of t)
+  pub within : (i : ℕ) → i < length t.lines → choices_of t i < units + length t.lines
+
+-- the numbers of a line have no common divisor but 1
+abbrev pub ArePrimitive : Tableau → Type 0
+ArePrimitive t = (i : ℕ) → i < length t.lines → gcd_of_all (get_or t.lines i []) ≡ 1

@@ -1,0 +1,80 @@
+ghost use Rattle.std.specs.Prelude.{◌≡◌, ◌≢◌, ◌<◌, ◌<ℤ◌, pos, ℕ, length, get_or, MatchOption, IfOk, IfErr};
+ghost use Rattle.simplex.specs.Exchange.{IsTableauOf};
+ghost use Rattle.farkas_check.specs.Relations.{entry};
+ghost use Rattle.simplex.specs.Raise.{Framed};
+ghost use Rattle.simplex.specs.Calm.{HasSquares, IsSmallLine, HasSmallLines, IsMemory};
+ghost use Rattle.simplex.specs.Refusal.{LeavesBits, IsRefusal};
+ghost use Rattle.simplex.specs.Search.{CornerAt, IsCornerOf, chosen_number};
+
+use crate::{Stop, Tableau};
+use farkas_check::Ratio;
+use items::Items;
+use std::alloc::Global;
+use whole_numbers::{Wide, product};
+
+/// The corner of a tableau: a number for each column of the question.
+pub(crate) fn corner(alloc: Global, t: &Tableau, constants: usize) -> Result<Items<Ratio>, Stop>
+    ghost over: { Framed }
+    requires tableau { IsTableauOf over.units over.frame t.now }
+    requires units { constants < over.units }
+    ensures corner { IfOk result (λ point. IsCornerOf t.now constants constants point) }
+    ensures refusal { IfErr result IsRefusal }
+    ensures calm { (n : ℕ) → HasSquares n → HasSmallLines n t.now → IfErr result IsMemory }
+{
+    let mut point = Items::new(alloc);
+    for column in 0..constants {
+        point.push(number_of(t, constants, column)?)?;
+    }
+    Ok(point)
+}
+
+/// What the corner has at a column.
+fn number_of(t: &Tableau, constants: usize, column: usize) -> Result<Ratio, Wide>
+    ghost over: { Framed }
+    requires tableau { IsTableauOf over.units over.frame t.now }
+    requires units { constants < over.units }
+    requires column { column < constants }
+    ensures corner { IfOk result (λ r. CornerAt t.now constants column r) }
+    ensures width { IfErr result LeavesBits }
+    ensures calm { (n : ℕ) → HasSquares n → HasSmallLines n t.now → IfErr result (λ _. ⊥) }
+{
+    match line_choosing(t.chosen.as_slice(), column) {
+        Some(line) => chosen_number(t.lines[line].as_slice(), constants, column),
+        None => Ok(Ratio::whole(0)),
+    }
+}
+
+/// What the corner has at the column that a line chooses: minus its constant over its number there.
+fn chosen_number(line: &[i128], constants: usize, column: usize) -> Result<Ratio, Wide>
+    requires constants { constants < length line.now }
+    requires column { column < length line.now }
+    requires positive { pos 0 <ℤ entry line.now column }
+    ensures exact { result ≡ chosen_number line.now constants column }
+    ensures width { IfErr result LeavesBits }
+    ensures calm { (n : ℕ) → HasSquares n → IsSmallLine n line.now → IfErr result (λ _. ⊥) }
+{
+    lowest_number(line, constants, column)
+}
+
+fn lowest_number(line: &[i128], constants: usize, column: usize) -> Result<Ratio, Wide>
+    requires constants { constants < length line.now }
+    requires column { column < length line.now }
+    requires positive { pos 0 <ℤ entry line.now column }
+    ensures exact { result ≡ chosen_number line.now constants column }
+    ensures width { IfErr result LeavesBits }
+{
+    let turned = product(line[constants], -1)?;
+    Ok(Ratio::lowest(turned, line[column]))
+}
+
+/// The first line that chooses a column.
+fn line_choosing(chosen: &[usize], column: usize) -> Option<usize>
+    ensures { MatchOption result ((k : ℕ) → k < length chosen.now → get_or chosen.now k 0 ≢ column) (λ k. (k < length chosen.now) × (get_or chosen.now k 0 ≡ column)) }
+{
+    for (line, own) in chosen.iter().enumerate() {
+        if *own == column {
+            return Some(line);
+        }
+    }
+    None
+}

@@ -1,0 +1,91 @@
+ghost use Rattle.std.specs.Prelude.{◌≡◌, ◌++◌, ◌+◌, ◌<◌, ◌^◌, ℕ, [], ◌∷◌, length, map, IfOk};
+ghost use Rattle.linear_terms.specs.Polynomial.{coefficient_in};
+ghost use Rattle.simplex.specs.Rows.{kinds_of, coefficients, units_to, whole_line, lines_from, units_from, framed};
+
+use crate::Tableau;
+use items::Items;
+use linear_terms::{Kind, Mono, Row};
+use std::alloc::{AllocError, Global};
+
+/// The kinds of the rows.
+pub(crate) fn kinds_of(alloc: Global, rows: &[Row]) -> Result<Items<Kind>, AllocError>
+    ensures { IfOk result (λ kinds. kinds ≡ kinds_of rows.now) }
+{
+    let mut kinds = Items::new(alloc);
+    for row in rows {
+        kinds.push(row.kind)?;
+    }
+    Ok(kinds)
+}
+
+/// The tableau of the rows that chooses the unit columns: a line has the row's numbers at the columns, its
+/// constant, and 1 at the row's own unit column.
+pub(crate) fn framed(alloc: Global, rows: &[Row], columns: &[Mono]) -> Result<Tableau, AllocError>
+    requires { length columns.now + 1 + length rows.now < 2 ^ 64 }
+    ensures { IfOk result (λ t. t ≡ framed columns.now rows.now) }
+{
+    let lines = lines_from(alloc, rows, columns)?;
+    let chosen = units_from(alloc, columns.len() + 1, rows.len())?;
+    Ok(Tableau { lines, chosen })
+}
+
+fn lines_from(
+    alloc: Global,
+    rows: &[Row],
+    columns: &[Mono],
+) -> Result<Items<Items<i128>>, AllocError>
+    ensures { IfOk result (λ lines. lines ≡ lines_from columns.now (length rows.now) 0 rows.now) }
+{
+    let mut lines = Items::new(alloc);
+    for (place, row) in rows.iter().enumerate() {
+        lines.push(whole_line(alloc, row, columns, place, rows.len())?)?;
+    }
+    Ok(lines)
+}
+
+fn whole_line(
+    alloc: Global,
+    row: &Row,
+    columns: &[Mono],
+    place: usize,
+    count: usize,
+) -> Result<Items<i128>, AllocError>
+    ensures { IfOk result (λ line. line ≡ whole_line columns.now count place row.now) }
+{
+    let mut line = coefficients(alloc, row, columns)?;
+    line.push(row.poly.rest())?;
+    with_units(line, place, count)
+}
+
+fn coefficients(alloc: Global, row: &Row, columns: &[Mono]) -> Result<Items<i128>, AllocError>
+    ensures { IfOk result (λ line. line ≡ coefficients row.now columns.now) }
+{
+    let mut line = Items::new(alloc);
+    for column in columns {
+        line.push(row.poly.coefficient(column))?;
+    }
+    Ok(line)
+}
+
+/// A line with its numbers at the unit columns.
+fn with_units(line: Items<i128>, place: usize, count: usize) -> Result<Items<i128>, AllocError>
+    ensures { IfOk result (λ made. made ≡ line ++ units_to count place) }
+{
+    let mut made = line;
+    for i in 0..count {
+        made.push(if i == place { 1 } else { 0 })?;
+    }
+    Ok(made)
+}
+
+/// The unit columns.
+fn units_from(alloc: Global, first: usize, count: usize) -> Result<Items<usize>, AllocError>
+    requires { first + count < 2 ^ 64 }
+    ensures { IfOk result (λ made. made ≡ units_from first count) }
+{
+    let mut made = Items::new(alloc);
+    for i in 0..count {
+        made.push(first + i)?;
+    }
+    Ok(made)
+}

@@ -1,0 +1,269 @@
+ghost use Rattle.std.specs.Prelude.{◌≡◌, ◌+◌, ◌<◌, ◌≤◌, ℕ, pos, ◌*ℤ◌, ◌≤ℤ◌, ◌<ℤ◌, [], length, get_or, true, int_lt, int_le, ◌&&◌, IfOk, IfErr, MatchOption};
+ghost use Rattle.std.specs.List.{AllByRecursion};
+ghost use Rattle.simplex.specs.Exchange.{HasShape, IsTableauOf, ArePrimitive};
+ghost use Rattle.farkas_check.specs.Relations.{entry};
+ghost use Rattle.simplex.specs.Calm.{HasSquares, IsSmallLine, HasSmallLines};
+ghost use Rattle.simplex.specs.Refusal.{LeavesBits, IsRefusalIn};
+ghost use Rattle.simplex.specs.Raise.{sign_of, enters_at, order_at, comes_before, LeavingOf, Framed, Begins};
+ghost use Rattle.simplex.specs.History.{Raises, CameTo, MovedTo, EndsAt};
+
+use crate::{Stop, Tableau};
+use std::alloc::Global;
+use std::cmp::Ordering;
+use whole_numbers::{Wide, product};
+
+/// The first column that may enter and at which the goal's line lets it grow.
+pub(crate) fn entering(line: &[i128], up: bool, enters: &[bool]) -> Option<usize>
+    requires { length enters.now ≡ length line.now }
+    ensures { MatchOption result ((j : ℕ) → j < length line.now → enters_at enters.now j ≡ true → pos 0 ≤ℤ (sign_of up *ℤ entry line.now j)) (λ j. (j < length line.now) × (enters_at enters.now j ≡ true) × ((sign_of up *ℤ entry line.now j) <ℤ pos 0)) }
+{
+    for (j, number) in line.iter().enumerate() {
+        if enters[j] && grows(number, up) {
+            return Some(j);
+        }
+    }
+    None
+}
+
+/// Whether a column with this number in the goal's line lets the goal grow.
+fn grows(number: &i128, up: bool) -> bool
+    ensures { result ≡ int_lt (sign_of up *ℤ number.now) (pos 0) }
+{
+    if up { *number < 0 } else { 0 < *number }
+}
+
+/// How two lines stand at a key, each over the other's number at the column; at the constants the other way
+/// round.
+fn order_at(turned: bool, a: &i128, p: &i128, b: &i128, q: &i128) -> Result<Ordering, Wide>
+    ensures exact { result ≡ order_at turned a.now p.now b.now q.now }
+    ensures width { IfErr result LeavesBits }
+{
+    let left = product(*a, *p)?;
+    let right = product(*b, *q)?;
+    if turned {
+        Ok(right.cmp(&left))
+    } else {
+        Ok(left.cmp(&right))
+    }
+}
+
+/// Whether a line comes before another one, both over their numbers at the column.
+fn comes_before(
+    constants: usize,
+    column: usize,
+    line: &[i128],
+    other: &[i128],
+    keys: &[usize],
+) -> Result<bool, Wide>
+    requires same { length other.now ≡ length line.now }
+    requires column { column < length line.now }
+    requires keys { AllByRecursion (λ c. c < length line.now) keys.now }
+    ensures exact { result ≡ comes_before constants column line.now other.now keys.now }
+    ensures width { IfErr result LeavesBits }
+    ensures calm { (n : ℕ) → HasSquares n → IsSmallLine n line.now → IsSmallLine n other.now → IfErr result (λ _. ⊥) }
+{
+    compared(constants, column, line, other, keys)
+}
+
+/// The same by the first key at which they differ.
+fn compared(
+    constants: usize,
+    column: usize,
+    line: &[i128],
+    other: &[i128],
+    keys: &[usize],
+) -> Result<bool, Wide>
+    requires same { length other.now ≡ length line.now }
+    requires column { column < length line.now }
+    requires keys { AllByRecursion (λ c. c < length line.now) keys.now }
+    ensures exact { result ≡ comes_before constants column line.now other.now keys.now }
+    ensures width { IfErr result LeavesBits }
+{
+    for c in keys {
+        let turned = *c == constants;
+        match order_at(turned, &line[*c], &other[column], &other[*c], &line[column])? {
+            Ordering::Less => return Ok(true),
+            Ordering::Greater => return Ok(false),
+            Ordering::Equal => {}
+        }
+    }
+    Ok(false)
+}
+
+/// How a raise ends: its goal is met, no column lets the goal grow, or one does so without end, or the turns are used up.
+#[derive(Clone, Copy, Debug, PartialEq, Eq)]
+pub enum Raised {
+    Met,
+    Best,
+    Open(usize),
+    Pivots,
+}
+
+/// What a turn of a raise comes to.
+#[derive(Clone, Copy, Debug, PartialEq, Eq)]
+pub enum Turn {
+    Met,
+    Best,
+    Open(usize),
+    Moved,
+}
+
+/// Raises the goal of a line, or lowers it, by exchanges of columns that may enter for lines that may leave,
+/// or `until` its constant is not positive.
+/// The turns are used up only where there are as many choices of columns.
+pub(crate) fn raised_to(
+    alloc: Global,
+    t: Tableau,
+    constants: usize,
+    goal: usize,
+    up: bool,
+    until: bool,
+    enters: &[bool],
+    keys: &[usize],
+    budget: u128,
+) -> Result<(Tableau, Raised), Stop>
+    ghost over: { Framed }
+    requires begins { Begins over enters.now constants keys.now goal t }
+    requires primitive { ArePrimitive t }
+    ensures tableau { IfOk result (λ r. (turns : ℕ) × Raises over enters.now constants keys.now goal (sign_of up) t r.0 turns) }
+    ensures ends { IfOk result (λ r. EndsAt over enters.now constants (sign_of up) until goal budget r.0 r.1) }
+    ensures refusal { IfErr result (IsRefusalIn over (length t.lines)) }
+{
+    let mut now = t;
+    for _turn in 0..budget {
+        let (next, came) = one_turn(alloc, now, constants, goal, up, until, enters, keys)?;
+        now = next;
+        match came {
+            Turn::Met => return Ok((now, Raised::Met)),
+            Turn::Best => return Ok((now, Raised::Best)),
+            Turn::Open(column) => return Ok((now, Raised::Open(column))),
+            Turn::Moved => {}
+        }
+    }
+    Ok((now, Raised::Pivots))
+}
+
+/// Whether a goal that is to be met has a constant that is not positive.
+fn is_met(line: &[i128], constants: usize, until: bool) -> bool
+    requires { constants < length line.now }
+    ensures { result ≡ (until && int_le (entry line.now constants) (pos 0)) }
+{
+    until && line[constants] <= 0
+}
+
+fn one_turn(
+    alloc: Global,
+    t: Tableau,
+    constants: usize,
+    goal: usize,
+    up: bool,
+    until: bool,
+    enters: &[bool],
+    keys: &[usize],
+) -> Result<(Tableau, Turn), Stop>
+    ghost over: { Framed }
+    requires tableau { IsTableauOf over.units over.frame t }
+    requires primitive { ArePrimitive t }
+    requires wide { length enters.now ≡ over.units + length t.lines }
+    requires goal { goal < length t.lines }
+    requires constants { constants < length enters.now }
+    requires keys { AllByRecursion (λ c. c < length enters.now) keys.now }
+    ensures came { IfOk result (λ r. CameTo enters.now constants keys.now (sign_of up) until goal t r.0 r.1) }
+    ensures refusal { IfErr result (IsRefusalIn over (length t.lines)) }
+{
+    if is_met(t.lines[goal].as_slice(), constants, until) {
+        return Ok((t, Turn::Met));
+    }
+    let Some(column) = entering(t.lines[goal].as_slice(), up, enters) else {
+        return Ok((t, Turn::Best));
+    };
+    moved(alloc, t, constants, column, enters, keys)
+}
+
+/// Exchanges the column for the line that leaves where it enters, if one does.
+fn moved(
+    alloc: Global,
+    t: Tableau,
+    constants: usize,
+    column: usize,
+    enters: &[bool],
+    keys: &[usize],
+) -> Result<(Tableau, Turn), Stop>
+    ghost over: { Framed }
+    requires tableau { IsTableauOf over.units over.frame t }
+    requires primitive { ArePrimitive t }
+    requires wide { length enters.now ≡ over.units + length t.lines }
+    requires column { column < length enters.now }
+    requires keys { AllByRecursion (λ c. c < length enters.now) keys.now }
+    ensures came { IfOk result (λ r. MovedTo enters.now constants keys.now column t r.0 r.1) }
+    ensures refusal { IfErr result (IsRefusalIn over (length t.lines)) }
+{
+    match leaving(&t, constants, column, enters, keys)? {
+        None => Ok((t, Turn::Open(column))),
+        Some(line) => {
+            let next = t.exchange(alloc, line, column)?;
+            Ok((next, Turn::Moved))
+        }
+    }
+}
+
+/// The line that leaves where a column enters: of those that may leave and are positive there, the least by
+/// the keys.
+pub(crate) fn leaving(
+    t: &Tableau,
+    constants: usize,
+    column: usize,
+    enters: &[bool],
+    keys: &[usize],
+) -> Result<Option<usize>, Wide>
+    requires shape { HasShape (length enters.now) t.now }
+    requires choices { (i : ℕ) → i < length t.now.lines → get_or t.now.chosen i 0 < length enters.now }
+    requires column { column < length enters.now }
+    requires keys { AllByRecursion (λ c. c < length enters.now) keys.now }
+    ensures least { IfOk result (λ line. LeavingOf (length t.now.lines) enters.now constants keys.now column t.now line) }
+    ensures width { IfErr result LeavesBits }
+    ensures calm { (n : ℕ) → HasSquares n → HasSmallLines n t.now → IfErr result (λ _. ⊥) }
+{
+    let mut found = None;
+    for i in 0..t.lines.len() {
+        found = least_with(t, constants, column, enters, keys, found, i)?;
+    }
+    Ok(found)
+}
+
+/// The least of the lines before one, and of that one.
+#[tactic(auto, using(crate::proofs::Leaving::running_least))]
+fn least_with(
+    t: &Tableau,
+    constants: usize,
+    column: usize,
+    enters: &[bool],
+    keys: &[usize],
+    found: Option<usize>,
+    i: usize,
+) -> Result<Option<usize>, Wide>
+    requires shape { HasShape (length enters.now) t.now }
+    requires choices { (i : ℕ) → i < length t.now.lines → get_or t.now.chosen i 0 < length enters.now }
+    requires column { column < length enters.now }
+    requires keys { AllByRecursion (λ c. c < length enters.now) keys.now }
+    requires line { i < length t.now.lines }
+    requires before { LeavingOf i enters.now constants keys.now column t.now found }
+    ensures least { IfOk result (λ line. LeavingOf (i + 1) enters.now constants keys.now column t.now line) }
+    ensures width { IfErr result LeavesBits }
+    ensures calm { (n : ℕ) → HasSquares n → HasSmallLines n t.now → IfErr result (λ _. ⊥) }
+{
+    let line = t.lines[i].as_slice();
+    if !enters[t.chosen[i]] || line[column] <= 0 {
+        return Ok(found);
+    }
+    match found {
+        None => Ok(Some(i)),
+        Some(k) => {
+            if comes_before(constants, column, line, t.lines[k].as_slice(), keys)? {
+                Ok(Some(i))
+            } else {
+                Ok(Some(k))
+            }
+        }
+    }
+}

@@ -1,0 +1,215 @@
+ghost use Rattle.std.specs.Prelude.{◌≡◌, ◌+◌, ◌<◌, ◌^◌, ◌∷◌, ℕ, pos, length, get_or, slice_set, false, true, IfOk, IfErr};
+ghost use Rattle.std.specs.List.{AllByRecursion, filter};
+ghost use Rattle.linear_terms.specs.declared.row.Kind.TheVariants.{AtMost};
+ghost use Rattle.simplex.specs.Raise.{Framed, enters_at};
+ghost use Rattle.simplex.specs.Refusal.{IsRefusalIn};
+ghost use Rattle.simplex.specs.Rows.{kind_at, framed_by, kinds_of};
+ghost use Rattle.simplex.specs.Search.{IsPlaced, TurnedAt, IsMet, IsSolving, FoundAt};
+
+use crate::frame::{framed, kinds_of};
+use crate::gauss::{Stage, equations, inequalities, with_entry};
+use crate::raise::raised_to;
+use crate::{Raised, Stop, Tableau};
+use items::Items;
+use linear_terms::{Kind, Mono, Row};
+use std::alloc::{AllocError, Global};
+
+/// What the turn of a row comes to: the row is true at the corner and is kept so, or its line refutes the rows,
+/// or the turns are used up.
+#[derive(Clone, Copy, Debug, PartialEq, Eq)]
+pub enum Turned {
+    Kept,
+    Refuted,
+    Pivots,
+}
+
+/// What a search comes to: the tableau's corner makes the rows true, or a line refutes them, or the turns are
+/// used up.
+#[derive(Clone, Copy, Debug, PartialEq, Eq)]
+pub enum Found {
+    Corner,
+    Refuted(usize),
+    Pivots,
+}
+
+/// The keys of a raise that begins at a corner: the constants, and the chosen columns that may leave.
+fn keys_of(
+    alloc: Global,
+    chosen: &[usize],
+    enters: &[bool],
+    constants: usize,
+) -> Result<Items<usize>, AllocError>
+    requires { AllByRecursion (λ c. c < length enters.now) chosen.now }
+    ensures { IfOk result (λ keys. keys ≡ constants ∷ filter (enters_at enters.now) chosen.now) }
+{
+    let mut keys = Items::new(alloc);
+    keys.push(constants)?;
+    for column in chosen {
+        if enters[*column] {
+            keys.push(*column)?;
+        }
+    }
+    Ok(keys)
+}
+
+/// Raises the slack of a row that is not met yet, until it is not negative.
+fn turn_of(
+    alloc: Global,
+    stage: Stage,
+    constants: usize,
+    kinds: &[Kind],
+    i: usize,
+    budget: u128,
+) -> Result<(Stage, Turned), Stop>
+    ghost over: { Framed }
+    requires placed { IsPlaced over constants kinds.now stage.enters stage.tableau }
+    requires here { i < length kinds.now }
+    requires kind { kind_at kinds.now i ≡ AtMost }
+    requires waits { enters_at stage.enters (constants + 1 + i) ≡ false }
+    ensures came { IfOk result (λ r. TurnedAt over constants kinds.now budget i stage.enters r.0.enters r.0.tableau r.1) }
+    ensures refusal { IfErr result (IsRefusalIn over (length kinds.now)) }
+{
+    let Stage { tableau, enters } = stage;
+    let keys = keys_of(
+        alloc,
+        tableau.chosen.as_slice(),
+        enters.as_slice(),
+        constants,
+    )?;
+    let (raised, came) = raised_to(
+        alloc,
+        tableau,
+        constants,
+        i,
+        true,
+        true,
+        enters.as_slice(),
+        keys.as_slice(),
+        budget,
+    )?;
+    match came {
+        Raised::Met => Ok((kept(raised, enters, constants + 1 + i), Turned::Kept)),
+        Raised::Open(column) => {
+            let next = raised.exchange(alloc, i, column)?;
+            Ok((kept(next, enters, constants + 1 + i), Turned::Kept))
+        }
+        Raised::Best => Ok((
+            Stage {
+                tableau: raised,
+                enters,
+            },
+            Turned::Refuted,
+        )),
+        Raised::Pivots => Ok((
+            Stage {
+                tableau: raised,
+                enters,
+            },
+            Turned::Pivots,
+        )),
+    }
+}
+
+/// The row's unit column may enter from now on.
+fn kept(tableau: Tableau, enters: Items<bool>, column: usize) -> Stage
+    requires { column < length enters }
+    ensures { result ≡ record { tableau = tableau; enters = slice_set enters column true } }
+{
+    Stage {
+        tableau,
+        enters: with_entry(enters, column),
+    }
+}
+
+/// The turn of a row, where it is not kept yet.
+fn passed(
+    alloc: Global,
+    stage: Stage,
+    constants: usize,
+    kinds: &[Kind],
+    i: usize,
+    budget: u128,
+) -> Result<(Stage, Turned), Stop>
+    ghost over: { Framed }
+    requires placed { IsPlaced over constants kinds.now stage.enters stage.tableau }
+    requires here { i < length kinds.now }
+    ensures came { IfOk result (λ r. TurnedAt over constants kinds.now budget i stage.enters r.0.enters r.0.tableau r.1) }
+    ensures refusal { IfErr result (IsRefusalIn over (length kinds.now)) }
+{
+    if kinds[i] != Kind::AtMost {
+        return Ok((stage, Turned::Kept));
+    }
+    if stage.enters[constants + 1 + i] {
+        return Ok((stage, Turned::Kept));
+    }
+    turn_of(alloc, stage, constants, kinds, i, budget)
+}
+
+/// A turn for each row that is not met yet.
+fn turns(
+    alloc: Global,
+    stage: Stage,
+    constants: usize,
+    kinds: &[Kind],
+    budget: u128,
+) -> Result<(Tableau, Found), Stop>
+    ghost over: { Framed }
+    requires { IsPlaced over constants kinds.now stage.enters stage.tableau }
+    ensures found { IfOk result (λ r. FoundAt over constants kinds.now budget r.0 r.1) }
+    ensures refusal { IfErr result (IsRefusalIn over (length kinds.now)) }
+{
+    let mut now = stage;
+    for i in 0..kinds.len() {
+        let (next, came) = passed(alloc, now, constants, kinds, i, budget)?;
+        now = next;
+        match came {
+            Turned::Kept => {}
+            Turned::Refuted => return Ok((now.tableau, Found::Refuted(i))),
+            Turned::Pivots => return Ok((now.tableau, Found::Pivots)),
+        }
+    }
+    Ok((now.tableau, Found::Corner))
+}
+
+/// Searches for a corner of the rows, or for a line that refutes them.
+pub(crate) fn searched(
+    alloc: Global,
+    t: Tableau,
+    constants: usize,
+    kinds: &[Kind],
+    budget: u128,
+) -> Result<(Tableau, Found), Stop>
+    ghost over: { Framed }
+    requires solving { IsSolving over constants kinds.now 0 t }
+    requires wide { constants + 1 + length kinds.now < 2 ^ 64 }
+    ensures found { IfOk result (λ r. FoundAt over constants kinds.now budget r.0 r.1) }
+    ensures refusal { IfErr result (IsRefusalIn over (length kinds.now)) }
+{
+    let (solved, refuted) = equations(alloc, t, constants, kinds)?;
+    if let Some(i) = refuted {
+        return Ok((solved, Found::Refuted(i)));
+    }
+    let enters = none_of(alloc, constants + 1 + kinds.len())?;
+    let stage = inequalities(
+        alloc,
+        Stage {
+            tableau: solved,
+            enters,
+        },
+        constants,
+        kinds,
+    )?;
+    turns(alloc, stage, constants, kinds, budget)
+}
+
+/// No column may enter.
+fn none_of(alloc: Global, count: usize) -> Result<Items<bool>, AllocError>
+    ensures length { IfOk result (λ made. length made ≡ count) }
+    ensures none { IfOk result (λ made. (j : ℕ) → enters_at made j ≡ false) }
+{
+    let mut made = Items::new(alloc);
+    for _at in 0..count {
+        made.push(false)?;
+    }
+    Ok(made)
+}

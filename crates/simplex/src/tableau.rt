@@ -1,0 +1,195 @@
+ghost use Rattle.std.specs.Prelude.{◌≡◌, ◌+◌, ◌<◌, ℕ, ℤ, [], if◌then◌else◌, pos, int_div, length, map, get_or, IfOk, IfErr};
+ghost use Rattle.items.specs.Gives.{Gives};
+ghost use Rattle.whole_numbers.specs.Divisors.{gcd_of_all};
+ghost use Rattle.simplex.specs.Calm.{HasSquares, HasSmallLines, IsMemory};
+ghost use Rattle.simplex.specs.Refusal.{LeavesBits, IsRefusal};
+ghost use Rattle.simplex.specs.Exchange.{cause, combined, sum_of_products, multiplied, reduced, turned, cleared, cleared_at, cleared_from, exchanged, numbers_of, HasShape, IsTableauOf};
+
+use crate::Stop;
+use items::Items;
+use std::alloc::{AllocError, Global};
+use whole_numbers::{Wide, gcd, product, quotient, sum};
+
+/// A chosen column for each line. A line's numbers are whole and have no common divisor but 1; the one at its
+/// own chosen column is positive and stands for its denominator.
+#[derive(Debug, Drop)]
+pub struct Tableau {
+    pub lines: Items<Items<i128>>,
+    pub chosen: Items<usize>,
+}
+
+impl Tableau {
+    /// Chooses the column in the line in place of the one that is chosen there: a tableau of a frame becomes
+    /// one of the same frame. A step that leaves 128 bits stops it.
+    pub fn exchange(self, alloc: Global, line: usize, column: usize) -> Result<Tableau, Stop>
+        ghost columns: { ℕ }
+        requires shape { HasShape columns self }
+        requires line { line < length self.lines }
+        requires column { column < columns }
+        requires pivot { numbers_of self line column ≡ pos 0 → ⊥ }
+        ensures exact { Gives cause (λ t. t) result (exchanged self line column) }
+        ensures kept { (units : ℕ) (frame : ℕ → ℕ → ℤ) → columns ≡ units + length self.lines → IsTableauOf units frame self → IfOk result (λ t. IsTableauOf units frame t) }
+        ensures refusal { IfErr result IsRefusal }
+        ensures calm { (n : ℕ) → HasSquares n → HasSmallLines n self → IfErr result IsMemory }
+    {
+        let made = self.exchanged(alloc, line, column)?;
+        Ok(made)
+    }
+
+    fn exchanged(self, alloc: Global, line: usize, column: usize) -> Result<Tableau, Stop>
+        ghost columns: { ℕ }
+        requires shape { HasShape columns self }
+        requires line { line < length self.lines }
+        requires column { column < columns }
+        ensures exact { Gives cause (λ t. t) result (exchanged self line column) }
+        ensures refusal { IfErr result IsRefusal }
+    {
+        let pivot = turned(alloc, self.lines[line].as_slice(), column)?;
+        let lines = others_cleared(alloc, self.lines.as_slice(), line, column, pivot.as_slice())?;
+        let mut chosen = self.chosen.into_vec();
+        chosen[line] = column;
+        Ok(Tableau {
+            lines,
+            chosen: Items::from_vec(chosen),
+        })
+    }
+}
+
+/// Each line but the pivot's is cleared at the column.
+fn others_cleared(
+    alloc: Global,
+    lines: &[Items<i128>],
+    line: usize,
+    column: usize,
+    pivot: &[i128],
+) -> Result<Items<Items<i128>>, Stop>
+    requires column { column < length pivot.now }
+    requires wide { (i : ℕ) → i < length lines.now → length (get_or lines.now i []) ≡ length pivot.now }
+    ensures exact { Gives cause (λ made. made) result (cleared_from column pivot.now line 0 lines.now) }
+    ensures refusal { IfErr result IsRefusal }
+{
+    let mut made = Items::new(alloc);
+    for (i, own) in lines.iter().enumerate() {
+        made.push(cleared_at(alloc, own.as_slice(), i == line, column, pivot)?)?;
+    }
+    Ok(made)
+}
+
+/// The pivot itself at its own place, and elsewhere the line cleared.
+fn cleared_at(
+    alloc: Global,
+    own: &[i128],
+    here: bool,
+    column: usize,
+    pivot: &[i128],
+) -> Result<Items<i128>, Stop>
+    requires column { column < length own.now }
+    requires same { length pivot.now ≡ length own.now }
+    ensures exact { Gives cause (λ made. made) result (if here then Ok pivot.now else cleared column pivot.now own.now) }
+    ensures refusal { IfErr result IsRefusal }
+{
+    if here {
+        return Ok(Items::from_slice(alloc, pivot)?);
+    }
+    cleared(alloc, own, column, pivot)
+}
+
+/// The signs turned where the number at the column is negative.
+pub(crate) fn turned(alloc: Global, line: &[i128], column: usize) -> Result<Items<i128>, Stop>
+    requires { column < length line.now }
+    ensures exact { Gives cause (λ made. made) result (turned column line.now) }
+    ensures refusal { IfErr result IsRefusal }
+{
+    if line[column] < 0 {
+        multiplied(alloc, line, -1)
+    } else {
+        Ok(Items::from_slice(alloc, line)?)
+    }
+}
+
+fn multiplied(alloc: Global, line: &[i128], by: i128) -> Result<Items<i128>, Stop>
+    ensures exact { Gives cause (λ made. made) result (multiplied line.now by) }
+    ensures refusal { IfErr result IsRefusal }
+{
+    let mut made = Items::new(alloc);
+    for number in line {
+        made.push(product(*number, by)?)?;
+    }
+    Ok(made)
+}
+
+/// A line cleared at the column by one that is positive there.
+fn cleared(alloc: Global, line: &[i128], column: usize, pivot: &[i128]) -> Result<Items<i128>, Stop>
+    requires column { column < length line.now }
+    requires same { length pivot.now ≡ length line.now }
+    ensures exact { Gives cause (λ made. made) result (cleared column pivot.now line.now) }
+    ensures refusal { IfErr result IsRefusal }
+{
+    if line[column] == 0 {
+        return Ok(Items::from_slice(alloc, line)?);
+    }
+    let by = product(line[column], -1)?;
+    let made = combined(alloc, &pivot[column], line, &by, pivot)?;
+    Ok(reduced(alloc, made.as_slice())?)
+}
+
+/// A multiple of a line and a multiple of another.
+fn combined(
+    alloc: Global,
+    p: &i128,
+    line: &[i128],
+    q: &i128,
+    pivot: &[i128],
+) -> Result<Items<i128>, Stop>
+    requires { length pivot.now ≡ length line.now }
+    ensures exact { Gives cause (λ made. made) result (combined p.now line.now q.now pivot.now) }
+    ensures refusal { IfErr result IsRefusal }
+{
+    let mut made = Items::new(alloc);
+    for (i, number) in line.iter().enumerate() {
+        made.push(sum_of_products(p, number, q, &pivot[i])?)?;
+    }
+    Ok(made)
+}
+
+fn sum_of_products(p: &i128, a: &i128, q: &i128, b: &i128) -> Result<i128, Wide>
+    ensures exact { result ≡ sum_of_products p.now a.now q.now b.now }
+    ensures width { IfErr result LeavesBits }
+{
+    let left = product(*p, *a)?;
+    let right = product(*q, *b)?;
+    sum(left, right)
+}
+
+/// The numbers divided by their greatest common divisor.
+fn reduced(alloc: Global, line: &[i128]) -> Result<Items<i128>, AllocError>
+    ensures { IfOk result (λ made. made ≡ reduced line.now) }
+{
+    let divisor = divisor(line);
+    if divisor == 0 {
+        return Items::from_slice(alloc, line);
+    }
+    quotients(alloc, line, divisor)
+}
+
+fn quotients(alloc: Global, line: &[i128], divisor: u128) -> Result<Items<i128>, AllocError>
+    requires { 0 < divisor }
+    ensures { IfOk result (λ made. made ≡ map (λ z. int_div z (pos divisor)) line.now) }
+{
+    let mut made = Items::new(alloc);
+    for number in line {
+        made.push(quotient(*number, divisor))?;
+    }
+    Ok(made)
+}
+
+/// The greatest common divisor of the numbers.
+fn divisor(line: &[i128]) -> u128
+    ensures { result ≡ gcd_of_all line.now }
+{
+    let mut divisor = 0;
+    for number in line {
+        divisor = gcd(divisor, number.unsigned_abs());
+    }
+    divisor
+}
