@@ -1,10 +1,10 @@
 //! The oracle that hands out listed answers.
 
-use farkas_check::{Answer, AskError, Limit, Oracle, Question};
+use farkas_check::{Answer, AskError, Limit, Oracle, Question, Ratio};
 use items::Items;
 use std::alloc::Global;
 use std::test::Fail;
-use wire::Replay;
+use wire::{Replay, share};
 
 /// A question without rows, which every limit of no further step passes, and no multipliers.
 fn question(alloc: Global) -> Question {
@@ -52,4 +52,34 @@ fn an_answer_twice(rt: HostRuntime) -> Result<(), Fail> {
     let third = replay.ask(alloc, &question(alloc));
     assert_eq!(rt; third == Err(AskError::Refused), true);
     Ok(())
+}
+
+/// The first and the last of three answers are equal.
+#[test]
+fn an_answer_is_shared(rt: HostRuntime) -> Result<(), Fail> {
+    let alloc = rt.alloc();
+    let mut answers = Items::new(alloc);
+    answers.push(multiplier(alloc)?)?;
+    answers.push(origin(alloc)?)?;
+    answers.push(multiplier(alloc)?)?;
+    let (distinct, order) = share(alloc, answers)?;
+    let [first, second] = distinct.as_slice() else {
+        return Err("not two answers".into());
+    };
+    assert_eq!(rt; first.same(&multiplier(alloc)?), true);
+    assert_eq!(rt; second.same(&origin(alloc)?), true);
+    assert_eq!(rt; order.as_slice() == [0, 1, 0].as_slice(), true);
+    Ok(())
+}
+
+fn multiplier(alloc: Global) -> Result<Answer, Fail> {
+    let mut by = Items::new(alloc);
+    by.push(1)?;
+    Ok(Answer::Yes(by))
+}
+
+fn origin(alloc: Global) -> Result<Answer, Fail> {
+    let mut point = Items::new(alloc);
+    point.push(Ratio::whole(0))?;
+    Ok(Answer::No(point))
 }

@@ -5,3 +5,4 @@ pub mod RatioTexts
 pub mod Places
 pub mod PlainData
 pub mod Replaying
+pub mod DistinctAnswers

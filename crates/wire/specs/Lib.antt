@@ -7,3 +7,4 @@ pub mod Files
 pub mod Edits
 pub mod Written
 pub mod Replays
+pub mod Sharing

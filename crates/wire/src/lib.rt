@@ -9,10 +9,12 @@ mod numbers;
 mod replay;
 mod script;
 mod shape;
+mod sharing;
 mod text;
 
 pub use certificate::{Certificate, Version, read_certificate, write_certificate};
 pub use error::WireError;
 pub use replay::Replay;
 pub use script::{Edit, Script, read_script, texts};
+pub use sharing::share;
 pub use text::Text;
