@@ -6,5 +6,9 @@ pub mod Straight
 pub mod Widths
 -- ---- executions by hand
 pub mod Examples
+-- ---- the chosen execution
+pub mod Stops
+pub mod Chosen
 -- ---- the interpreter
 pub mod Tasks
+pub mod Numbers

@@ -36,7 +36,7 @@ with_state-same top =
     let own = drop-append_seam top.globals top.frame.own in
     λ i. record { globals = globals i; frames = record top.frame { own = own i } ∷ top.below }
 
-length-Changes : (statement : Statement) (before after : State) → Changes statement before after → length after ≡ length before
+pub length-Changes : (statement : Statement) (before after : State) → Changes statement before after → length after ≡ length before
 length-Changes (Set col value) before after (v, is, set) = ap length set ∙ length-set before col v
 length-Changes (Any col) before after (v, set) = ap length set ∙ length-set before col v
 length-Changes (Guard cond) before after (true_there, same) = ap length same

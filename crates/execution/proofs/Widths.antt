@@ -1,14 +1,13 @@
 -- The number of globals stays the same.
-use Rattle.std.proofs.Common.{◌≡◌, ◌≤◌, ℕ, ℤ, Option, Some, None, List, [], ◌∷◌, ◌++◌, length, take, refl, sym, ap, subst, ◌∙◌, arith, ⊎_elim, length-append}
+use Rattle.std.proofs.Common.{◌≡◌, ℕ, ℤ, Option, Some, None, List, [], ◌∷◌, length, refl, sym, ap, ◌∙◌, arith, ⊎_elim, length-append}
 use Rattle.std.specs.Prelude.{slice_set}
 use Rattle.std.proofs.lemmas.List.{length-set, length-take-le}
 use Rattle.syntax_tree.specs.declared.program.Program.{Program}
 use Rattle.syntax_tree.specs.Term.{Term}
 use Rattle.syntax_tree.specs.Code.{Statement, Set, Any, Call, Guard, Check, If, Loop, Break, Continue, Return}
 use Rattle.syntax_tree.specs.Value.{State}
-use Rattle.execution.specs.Machine.{Item, Do, Head, Test, Tail, Frame, Config, Top, returned, state_of, with_items}
-use Rattle.execution.specs.Step.{Chooses, DoesSimple, Resumes, Steps, StepsBy, StepsFrom, resumed}
-use Rattle.execution.specs.Execution.{Runs}
+use Rattle.execution.specs.Machine.{Item, Do, Head, Test, Tail, Frame, Config, Top, returned, state_of}
+use Rattle.execution.specs.Step.{Chooses, DoesSimple, Resumes, StepsBy, StepsFrom, resumed}
 use Rattle.execution.specs.Laws.{GlobalsStay}
 use Rattle.execution.proofs.Straight.{globals_fit}
 

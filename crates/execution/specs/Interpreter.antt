@@ -1,19 +1,29 @@
 -- The interpreter's configurations as those of the machine. Its lists have the top call and the next task last.
-use Rattle.std.specs.Prelude.{List, [], ◌∷◌}
+use Rattle.std.specs.Prelude.{◌≡◌, Option, Result, Ok, Err, List, [], ◌∷◌}
+use Rattle.items.specs.Gives.{FailsBy}
 use Rattle.syntax_tree.specs.Term.{term_of}
 use Rattle.syntax_tree.specs.Code.{code_of, statement_of}
+use Rattle.execution.specs.declared.outcome.Event.{Event}
+use Rattle.execution.specs.declared.outcome.Stop.{Stop}
 use Rattle.execution.specs.declared.interpreter.Repeat.{Repeat}
 use Rattle.execution.specs.declared.interpreter.Task.{Task}
 use Rattle.execution.specs.declared.interpreter.Task.TheVariants as task
 use Rattle.execution.specs.declared.interpreter.Activation.{Activation}
 use Rattle.execution.specs.declared.interpreter.Machine.{Machine}
+use Rattle.execution.specs.Chosen.{Stepped, cause}
 use Rattle.execution.specs.Machine.{Item, Do, Head, Test, Tail, LoopParts, Frame, Config, Top}
 
 abbrev pub parts_of : Repeat → LoopParts
-parts_of r = record { pre = code_of r.pre; cond = term_of r.cond; body = code_of r.body; step = code_of r.step; first = r.first }
+parts_of r = record {
+  pre = code_of r.pre.now;
+  cond = term_of r.cond.now;
+  body = code_of r.body.now;
+  step = code_of r.step.now;
+  first = r.first;
+}
 
 abbrev pub item_of : Task → Item
-item_of (task.Do stmt) = Do (statement_of stmt)
+item_of (task.Do stmt) = Do (statement_of stmt.now)
 item_of (task.Head r) = Head (parts_of r)
 item_of (task.Test r) = Test (parts_of r)
 item_of (task.Tail r) = Tail (parts_of r)
@@ -43,3 +53,8 @@ machine_config machine = record { globals = machine.globals; frames = frames_of 
 -- a call on top of the others
 abbrev pub machine_top : Machine → Activation → Top
 machine_top machine call = record { globals = machine.globals; frame = frame_of call; below = frames_of machine.calls }
+
+-- A step came to what is stated: the machine goes on from there, or there is none. Want of memory is free.
+abbrev pub Takes : Machine → Result (Option Event) Stop → Result Stepped Stop → Type 0
+Takes after (Ok event) stated = stated ≡ Ok (record { event = event; next = machine_config after })
+Takes after (Err stop) stated = FailsBy (cause stop) stated

@@ -1,12 +1,18 @@
 -- Laws of the machine, which show that its steps mean what was meant.
-use Rattle.std.specs.Prelude.{◌≡◌, ℕ, ◌+◌, ◌<◌, ◌&&◌, Bool, true, false, List, [], ◌∷◌, ◌++◌, All, length}
+use Rattle.std.specs.Prelude.{◌≡◌, ℕ, ◌+◌, ◌<◌, ◌&&◌, ◌↔◌, ℤ, Bool, true, false, Option, Ok, Err, List, [], ◌∷◌, ◌++◌, All, length}
 use Rattle.syntax_tree.specs.declared.program.Program.{Program}
 use Rattle.syntax_tree.specs.Term.{Term}
 use Rattle.syntax_tree.specs.Code.{Statement, Set, Any, Call, Guard, Check, Code, End, Then}
 use Rattle.syntax_tree.specs.Value.{State}
 use Rattle.execution.specs.Machine.{Item, Do, Frame, Config, Top, config_of, pending, state_of, with_state}
+use Rattle.syntax_tree.specs.WellFormed.{IsWellFormed}
+use Rattle.execution.specs.declared.outcome.Stop.{Stop}
+use Rattle.execution.specs.declared.outcome.Stop.TheVariants as stop
 use Rattle.execution.specs.Step.{Changes, IsFalseIn, Steps}
-use Rattle.execution.specs.Execution.{Runs}
+use Rattle.execution.specs.Execution.{Begins, Runs, initial_globals}
+use Rattle.execution.specs.Chosen.{Stepped, chosen_start, chosen_step}
+use Rattle.execution.specs.Runnable.{ConfigCanRun}
+use Rattle.execution.specs.Stops.{StopsAt}
 
 -- executions join
 abbrev pub RunsJoin : Type 0
@@ -95,3 +101,33 @@ RunsChange = (program : Program) (top : Top) (code : Code) (rest : List Item) (s
 abbrev pub GlobalsStay : Type 0
 GlobalsStay = (program : Program) (first last : Config) (steps : List Config)
     → Runs program first steps last → length last.globals ≡ length first.globals
+
+-- the chosen execution begins as executions from `main` do
+abbrev pub ChosenBegins : Type 0
+ChosenBegins = (program : Program) → IsWellFormed program
+    → Begins program program.main (initial_globals program) [] (chosen_start program) × ConfigCanRun program (chosen_start program)
+
+-- each chosen step is a step
+abbrev pub ChosenSteps : Type 0
+ChosenSteps = (program : Program) (number : Option ℤ) (config : Config) (stepped : Stepped) → ConfigCanRun program config
+    → chosen_step program number config ≡ Ok stepped → Steps program config stepped.next
+
+-- a well-formed program comes only to configurations whose steps have all that they need
+abbrev pub StepsCanRun : Type 0
+StepsCanRun = (program : Program) (config next : Config) → IsWellFormed program → ConfigCanRun program config
+    → Steps program config next → ConfigCanRun program next
+
+-- the chosen execution has no step exactly for these causes
+abbrev pub ChosenStops : Type 0
+ChosenStops = (program : Program) (number : Option ℤ) (config : Config) (why : Stop) → ConfigCanRun program config
+    → (chosen_step program number config ≡ Err why) ↔ StopsAt number config why
+
+-- where it has none there is no step at all, unless a number is past 128 bits or none is handed in
+abbrev pub ends_all : Stop → Bool
+ends_all (stop.Wide wide) = false
+ends_all stop.Dry = false
+ends_all _ = true
+
+abbrev pub StopsHaveNoStep : Type 0
+StopsHaveNoStep = (program : Program) (number : Option ℤ) (config next : Config) (why : Stop)
+    → StopsAt number config why → ends_all why ≡ true → Steps program config next → ⊥

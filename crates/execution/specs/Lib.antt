@@ -3,6 +3,10 @@
 pub mod Machine
 pub mod Step
 pub mod Execution
+-- the chosen execution, and the configurations that it comes to
+pub mod Chosen
+pub mod Runnable
+pub mod Stops
 -- laws that show what was meant, and executions by hand
 pub mod Laws
 pub mod Examples

@@ -1,68 +1,72 @@
-ghost use Rattle.std.specs.Prelude.{◌≡◌, None, Some, [], ◌∷◌, ◌++◌, IfOk, List, OnOk, MatchOption, length, map, slice_set};
+ghost use Rattle.std.specs.Prelude.{◌≡◌, ◌+◌, ◌≤◌, None, Some, [], ◌∷◌, ◌++◌, IfOk, IsTrue, MatchOption, OnOk, length, map, slice_index_or, slice_set, ◌-◌, pos};
+ghost use Rattle.items.specs.Gives.{Gives};
 ghost use Rattle.syntax_tree.specs.Term.{term_of};
-ghost use Rattle.syntax_tree.specs.Value.{value_of};
 ghost use Rattle.syntax_tree.specs.Code.{code_of, statement_of};
-ghost use Rattle.execution.specs.Machine.{Config, Do, pending, Tail, Top, to_tail, after_loop, with_items, with_state, config_of};
-ghost use Rattle.execution.specs.Step.{at_begin, at_head, at_tail, Changes, Chooses, DoesCall, DoesSimple, IsEntered, IsTrueIn, Resumes, Steps, StepsBy, values_of};
-ghost use Rattle.execution.specs.Execution.{Begins, initial_globals, Runs};
-ghost use Rattle.execution.specs.Interpreter.{frame_of, frames_of, item_of, items_of, machine_config, machine_top, parts_of};
+ghost use Rattle.syntax_tree.specs.WellFormed.{IsWellFormed, all_columns_below, columns_below};
+ghost use Rattle.execution.specs.Machine.{Do, Tail, Top, after_loop, config_of, pending, state_of, to_tail, with_items, with_state};
+ghost use Rattle.execution.specs.Step.{at_begin, at_head, at_tail};
+ghost use Rattle.execution.specs.Chosen.{assigned, cause, chosen_any, chosen_branch, chosen_by, chosen_call, chosen_pass, chosen_return, chosen_set, chosen_start, chosen_step, new_frame, number_in, numbers_in, quietly};
+ghost use Rattle.execution.specs.Runnable.{ConfigCanRun, IsCallable, ItemCanRun, StatementCanRun};
+ghost use Rattle.execution.specs.Interpreter.{Takes, frame_of, frames_of, item_of, items_of, machine_config, machine_top, parts_of};
 
+use crate::outcome::{Event, Stop};
 use items::Items;
-use std::alloc::{AllocError, AllocFailed, Global};
-use syntax_tree::{Core, EvalWide, Program, Stmt, copy_stmts, eval, has_columns_below};
+use std::alloc::{AllocError, Global};
+use syntax_tree::{Core, Program, Stmt, eval};
 
 /// A loop that was begun.
-#[derive(Debug, Drop)]
-pub struct Repeat {
-    pub pre: Items<Stmt>,
-    pub cond: Core,
-    pub body: Items<Stmt>,
-    pub step: Items<Stmt>,
+#[derive(Debug, Clone, Copy)]
+pub struct Repeat<'p> {
+    pub pre: &'p [Stmt],
+    pub cond: &'p Core,
+    pub body: &'p [Stmt],
+    pub step: &'p [Stmt],
     pub first: bool,
 }
 
 /// What a call has still to do.
-#[derive(Debug, Drop)]
-pub enum Task {
-    Do(Stmt),
-    Head(Repeat),
-    Test(Repeat),
-    Tail(Repeat),
+#[derive(Debug, Clone, Copy)]
+pub enum Task<'p> {
+    Do(&'p Stmt),
+    Head(Repeat<'p>),
+    Test(Repeat<'p>),
+    Tail(Repeat<'p>),
 }
 
 /// A call that has not returned. The next of its tasks is the last.
 #[derive(Debug, Drop)]
-pub struct Activation {
+pub struct Activation<'p> {
     pub proc: u32,
     pub own: Items<i128>,
-    pub tasks: Items<Task>,
+    pub tasks: Items<Task<'p>>,
     pub into: Option<u32>,
 }
 
 /// A program as it runs. The call on top is the last.
 #[derive(Debug, Drop)]
-pub struct Machine {
+pub struct Machine<'p> {
     pub globals: Items<i128>,
-    pub calls: Items<Activation>,
+    pub calls: Items<Activation<'p>>,
 }
 
 // The statements are done before what is left.
 #[tactic(auto, using(crate::proofs::Tasks::tasks))]
-fn push_code(alloc: Global, tasks: &mut Items<Task>, code: &[Stmt]) -> Result<(), AllocError>
+fn push_code<'p>(tasks: &mut Items<Task<'p>>, code: &'p [Stmt]) -> Result<(), AllocError>
     ensures { OnOk result (items_of tasks.new ≡ pending (code_of code.now) (items_of tasks.old)) }
 {
     let mut left = code.len();
     while left > 0 {
         left -= 1;
-        tasks.push(Task::Do(code[left].copy(alloc)?))?;
+        tasks.push(Task::Do(&code[left]))?;
     }
     Ok(())
 }
 
-// Takes what is left of a body away, and the end of the loop too.
+// Takes what is left of a body away, and the end of the loop too. Where there is no loop, nothing is left.
 #[tactic(auto, using(crate::proofs::Tasks::tasks))]
-fn pop_to_tail(tasks: &mut Items<Task>) -> Option<Repeat>
-    ensures { MatchOption result (to_tail (items_of tasks.old) ≡ [])
+fn pop_to_tail<'p>(tasks: &mut Items<Task<'p>>) -> Option<Repeat<'p>>
+    ensures left { items_of tasks.new ≡ after_loop (items_of tasks.old) }
+    ensures tail { MatchOption result ((to_tail (items_of tasks.old) ≡ []) × (items_of tasks.new ≡ []))
         (λ r. to_tail (items_of tasks.old) ≡ Tail (parts_of r) ∷ items_of tasks.new) }
 {
     while let Some(task) = tasks.pop() {
@@ -71,43 +75,6 @@ fn pop_to_tail(tasks: &mut Items<Task>) -> Option<Repeat>
         }
     }
     None
-}
-
-/// Why a run stops.
-#[derive(Debug, Clone, Copy, PartialEq, Eq)]
-pub enum Stop {
-    /// The one call that is left has returned this value.
-    Done(i128),
-    /// The assertion with this number failed.
-    Failed(u32),
-    Guard,
-    DividesByZero,
-    Wide(EvalWide),
-    /// No number is left where one is chosen.
-    Dry,
-    /// The program is not well formed.
-    IllFormed,
-    Memory,
-}
-
-impl From<AllocError> for Stop {
-    ghost use Rattle.execution.specs.declared.interpreter.Stop.TheVariants.{Memory};
-
-    ghost from_gives = { λ _ e. e ≡ Memory };
-
-    fn from(_error: AllocError) -> Stop {
-        Stop::Memory
-    }
-}
-
-impl<T: Drop> From<AllocFailed<T>> for Stop {
-    ghost use Rattle.execution.specs.declared.interpreter.Stop.TheVariants.{Memory};
-
-    ghost from_gives = { λ _ e. e ≡ Memory };
-
-    fn from(_error: AllocFailed<T>) -> Stop {
-        Stop::Memory
-    }
 }
 
 fn columns(alloc: Global, globals: &Items<i128>, own: &Items<i128>) -> Result<Vec<i128>, AllocError>
@@ -119,22 +86,20 @@ fn columns(alloc: Global, globals: &Items<i128>, own: &Items<i128>) -> Result<Ve
 }
 
 fn value(e: &Core, state: &[i128]) -> Result<i128, Stop>
-    ensures ok { IfOk result (λ v. value_of (term_of e.now) state.now ≡ Some v) }
-    ensures zero { result ≡ Err Stop.DividesByZero → value_of (term_of e.now) state.now ≡ None }
+    requires { IsTrue (columns_below (length state.now) (term_of e.now)) }
+    ensures { result ≡ number_in (term_of e.now) state.now }
 {
-    if !has_columns_below(e, state.len()) {
-        return Err(Stop::IllFormed);
-    }
     match eval(e, state) {
         Ok(Some(value)) => Ok(value),
-        Ok(None) => Err(Stop::DividesByZero),
+        Ok(None) => Err(Stop::Zero),
         Err(wide) => Err(Stop::Wide(wide)),
     }
 }
 
-#[tactic(auto, using(crate::proofs::Tasks::tasks))]
+#[tactic(auto, using(crate::proofs::Numbers::values, crate::proofs::Numbers::stops))]
 fn values(alloc: Global, args: &[Core], state: &[i128]) -> Result<Items<i128>, Stop>
-    ensures { IfOk result (λ vs. values_of (map term_of args.now) state.now ≡ Some vs) }
+    requires { IsTrue (all_columns_below (length state.now) (map term_of args.now)) }
+    ensures { Gives cause (λ vs. vs) result (numbers_in (map term_of args.now) state.now) }
 {
     let mut all = Items::new(alloc);
     for e in args {
@@ -145,21 +110,20 @@ fn values(alloc: Global, args: &[Core], state: &[i128]) -> Result<Items<i128>, S
 
 // Puts a call with these tasks on top.
 #[tactic(auto, using(crate::proofs::Tasks::tasks))]
-fn resume(machine: &mut Machine, call: Activation) -> Result<(), AllocError>
-    ensures { OnOk result (machine_config machine.new ≡ config_of (machine_top machine.old call)) }
+fn resume<'p>(machine: &mut Machine<'p>, call: Activation<'p>) -> Result<(), AllocError>
+    ensures { OnOk result (machine_config machine.new ≡ config_of (machine_top machine.old call.entry)) }
 {
     machine.calls.push(call)?;
     Ok(())
 }
 
 #[tactic(auto, using(crate::proofs::Tasks::tasks))]
-fn begin_loop(alloc: Global, tasks: &mut Items<Task>, repeat: Repeat) -> Result<(), AllocError>
-    ensures { OnOk result (items_of tasks.new ≡ at_begin (parts_of repeat) (items_of tasks.old)) }
+fn begin_loop<'p>(tasks: &mut Items<Task<'p>>, repeat: Repeat<'p>) -> Result<(), AllocError>
+    ensures { OnOk result (items_of tasks.new ≡ at_begin (parts_of repeat.entry) (items_of tasks.old)) }
 {
     if repeat.first {
-        let body = copy_stmts(alloc, &repeat.body)?;
         tasks.push(Task::Tail(repeat))?;
-        push_code(alloc, tasks, body.as_slice())
+        push_code(tasks, repeat.body)
     } else {
         tasks.push(Task::Head(repeat))?;
         Ok(())
@@ -167,112 +131,53 @@ fn begin_loop(alloc: Global, tasks: &mut Items<Task>, repeat: Repeat) -> Result<
 }
 
 #[tactic(auto, using(crate::proofs::Tasks::tasks))]
-fn head_loop(alloc: Global, tasks: &mut Items<Task>, repeat: Repeat) -> Result<(), AllocError>
-    ensures { OnOk result (items_of tasks.new ≡ at_head (parts_of repeat) (items_of tasks.old)) }
+fn head_loop<'p>(tasks: &mut Items<Task<'p>>, repeat: Repeat<'p>) -> Result<(), AllocError>
+    ensures { OnOk result (items_of tasks.new ≡ at_head (parts_of repeat.entry) (items_of tasks.old)) }
 {
-    let pre = copy_stmts(alloc, &repeat.pre)?;
     tasks.push(Task::Test(repeat))?;
-    push_code(alloc, tasks, pre.as_slice())
+    push_code(tasks, repeat.pre)
 }
 
 #[tactic(auto, using(crate::proofs::Tasks::tasks))]
-fn enter_body(alloc: Global, tasks: &mut Items<Task>, repeat: Repeat) -> Result<(), AllocError>
+fn enter_body<'p>(tasks: &mut Items<Task<'p>>, repeat: Repeat<'p>) -> Result<(), AllocError>
     ensures { OnOk result (items_of tasks.new ≡
-        pending (parts_of repeat).body (Tail (parts_of repeat) ∷ items_of tasks.old)) }
+        pending (parts_of repeat.entry).body (Tail (parts_of repeat.entry) ∷ items_of tasks.old)) }
 {
-    let body = copy_stmts(alloc, &repeat.body)?;
     tasks.push(Task::Tail(repeat))?;
-    push_code(alloc, tasks, body.as_slice())
+    push_code(tasks, repeat.body)
 }
 
 #[tactic(auto, using(crate::proofs::Tasks::tasks))]
-fn tail_loop(alloc: Global, tasks: &mut Items<Task>, repeat: Repeat) -> Result<(), AllocError>
-    ensures { OnOk result (items_of tasks.new ≡ at_tail (parts_of repeat) (items_of tasks.old)) }
+fn tail_loop<'p>(tasks: &mut Items<Task<'p>>, repeat: Repeat<'p>) -> Result<(), AllocError>
+    ensures { OnOk result (items_of tasks.new ≡ at_tail (parts_of repeat.entry) (items_of tasks.old)) }
 {
     if repeat.first {
-        return head_loop(alloc, tasks, repeat);
+        return head_loop(tasks, repeat);
     }
-    let step = copy_stmts(alloc, &repeat.step)?;
     tasks.push(Task::Head(repeat))?;
-    push_code(alloc, tasks, step.as_slice())
+    push_code(tasks, repeat.step)
 }
 
-// The numbers that are chosen for a run, and how many were taken.
-#[derive(Debug, Drop)]
-pub struct Feed {
-    pub numbers: Items<i128>,
-    pub taken: usize,
-}
-
-impl Feed {
-    fn next(&mut self) -> Result<i128, Stop> {
-        match self.numbers.as_slice().get(self.taken) {
-            Some(number) => {
-                let number = *number;
-                if self.taken < usize::MAX {
-                    self.taken += 1;
-                }
-                Ok(number)
-            }
-            None => Err(Stop::Dry),
-        }
-    }
-}
-
-fn assign(state: &mut Vec<i128>, col: u32, value: i128) -> Result<(), Stop>
-    ensures { OnOk result (state.new.items ≡ slice_set state.old.items col value) }
+fn assign(state: &mut Vec<i128>, col: u32, value: i128)
+    ensures { state.new.items ≡ slice_set state.old.items col value }
 {
-    if col as usize >= state.len() {
-        return Err(Stop::IllFormed);
-    }
-    state[col as usize] = value;
-    Ok(())
-}
-
-fn holds(cond: &Core, state: &[i128], otherwise: Stop) -> Result<(), Stop>
-    ensures { OnOk result (IsTrueIn (term_of cond.now) state.now) }
-{
-    if value(cond, state)? == 0 {
-        Err(otherwise)
-    } else {
-        Ok(())
-    }
-}
-
-// What a simple statement does to the values of the columns. Another statement is refused.
-#[tactic(auto, using(syntax_tree::proofs::Codes::statements))]
-fn change(stmt: &Stmt, state: &mut Vec<i128>, feed: &mut Feed) -> Result<(), Stop>
-    ensures { OnOk result (Changes (statement_of stmt.now) state.old.items state.new.items) }
-{
-    match stmt {
-        Stmt::Set { col, value: e } => {
-            let number = value(e, state)?;
-            assign(state, *col, number)
-        }
-        Stmt::Any { col } => {
-            let number = feed.next()?;
-            assign(state, *col, number)
-        }
-        Stmt::Guard { cond } => holds(cond, state, Stop::Guard),
-        Stmt::Check { number, cond } => holds(cond, state, Stop::Failed(*number)),
-        _ => Err(Stop::IllFormed),
+    if (col as usize) < state.len() {
+        state[col as usize] = value;
     }
 }
 
 // The values of all columns go back to the globals and to the call, which is put on top.
-fn spread(
+fn spread<'p>(
     alloc: Global,
-    machine: &mut Machine,
-    call: Activation,
+    machine: &mut Machine<'p>,
+    call: Activation<'p>,
     state: &[i128],
-) -> Result<(), Stop>
+) -> Result<(), AllocError>
+    requires { length machine.old.globals ≤ length state.now }
     ensures { OnOk result (machine_config machine.new ≡
-        with_state (machine_top machine.old call) state.now (items_of call.tasks)) }
+        with_state (machine_top machine.old call.entry) state.now (items_of call.entry.tasks)) }
 {
     let width = machine.globals.len();
-    if width > state.len() {
-        return Err(Stop::IllFormed);
-    }
     let Activation {
         proc,
         own: _,
@@ -289,60 +194,100 @@ fn spread(
             tasks,
             into,
         },
-    )?;
-    Ok(())
+    )
 }
 
-fn simple(
+// The column has another number.
+fn store<'p>(
     alloc: Global,
-    machine: &mut Machine,
-    call: Activation,
-    stmt: &Stmt,
-    feed: &mut Feed,
-) -> Result<(), Stop>
-    ensures { OnOk result (DoesSimple (statement_of stmt.now)
-        (machine_top machine.old call) (items_of call.tasks)
-        (machine_config machine.new)) }
+    machine: &mut Machine<'p>,
+    call: Activation<'p>,
+    col: u32,
+    value: i128,
+) -> Result<(), AllocError>
+    ensures { OnOk result (machine_config machine.new ≡
+        assigned (machine_top machine.old call.entry) (items_of call.entry.tasks) col value) }
 {
     let mut state = columns(alloc, &machine.globals, &call.own)?;
-    change(stmt, &mut state, feed)?;
+    assign(&mut state, col, value);
     spread(alloc, machine, call, state.as_slice())
 }
 
-fn chosen(alloc: Global, count: usize, feed: &mut Feed) -> Result<Items<i128>, Stop>
-    ensures { IfOk result (λ numbers. length numbers ≡ count) }
+fn set_column<'p>(
+    alloc: Global,
+    machine: &mut Machine<'p>,
+    call: Activation<'p>,
+    col: u32,
+    e: &Core,
+) -> Result<Option<Event>, Stop>
+    requires { IsTrue (columns_below (length machine.old.globals + length call.own) (term_of e.now)) }
+    ensures { Takes machine.new result
+        (chosen_set (machine_top machine.old call.entry) (items_of call.entry.tasks) col (term_of e.now)) }
 {
-    let mut numbers = Items::new(alloc);
-    while numbers.len() < count {
-        numbers.push(feed.next()?)?;
-    }
-    Ok(numbers)
+    let state = columns(alloc, &machine.globals, &call.own)?;
+    let number = value(e, state.as_slice())?;
+    store(alloc, machine, call, col, number)?;
+    Ok(None)
 }
 
-fn enter(
+fn any_column<'p>(
     alloc: Global,
-    program: &Program,
+    machine: &mut Machine<'p>,
+    call: Activation<'p>,
+    col: u32,
+    number: Option<i128>,
+) -> Result<Option<Event>, Stop>
+    ensures { Takes machine.new result (chosen_any number (machine_top machine.old call.entry) (items_of call.entry.tasks) col) }
+{
+    match number {
+        Some(number) => {
+            store(alloc, machine, call, col, number)?;
+            Ok(Some(Event::Any(number)))
+        }
+        None => Err(Stop::Dry),
+    }
+}
+
+// Goes on where the condition is true, and shows an event.
+fn pass<'p>(
+    alloc: Global,
+    machine: &mut Machine<'p>,
+    call: Activation<'p>,
+    cond: &Core,
+    shown: Option<Event>,
+    otherwise: Stop,
+) -> Result<Option<Event>, Stop>
+    requires { IsTrue (columns_below (length machine.old.globals + length call.own) (term_of cond.now)) }
+    ensures { Takes machine.new result
+        (chosen_pass shown otherwise (machine_top machine.old call.entry) (items_of call.entry.tasks) (term_of cond.now)) }
+{
+    let state = columns(alloc, &machine.globals, &call.own)?;
+    if value(cond, state.as_slice())? == 0 {
+        return Err(otherwise);
+    }
+    resume(machine, call)?;
+    Ok(shown)
+}
+
+// A new frame of a procedure.
+fn enter<'p>(
+    alloc: Global,
+    program: &'p Program,
     proc: u32,
     args: Items<i128>,
     into: Option<u32>,
-    feed: &mut Feed,
-) -> Result<Activation, Stop>
-    ensures { IfOk result (λ call. IsEntered program.now proc args into (frame_of call)) }
+) -> Result<Activation<'p>, AllocError>
+    requires { IsCallable program.now proc (length args) }
+    ensures { IfOk result (λ call. frame_of call ≡ new_frame program.now proc args into) }
 {
-    let Some(callee) = program.procs.as_slice().get(proc as usize) else {
-        return Err(Stop::IllFormed);
-    };
-    let Some(width) = callee.columns.len().checked_add(1) else {
-        return Err(Stop::IllFormed);
-    };
-    if args.len() != callee.params as usize || width < args.len() {
-        return Err(Stop::IllFormed);
-    }
-    let others = chosen(alloc, width - args.len(), feed)?;
+    let callee = &program.procs.as_slice()[proc as usize];
+    let width = callee.columns.len() + 1;
     let mut own = args;
-    own.append(others)?;
+    while own.len() < width {
+        own.push(0)?;
+    }
     let mut tasks = Items::new(alloc);
-    push_code(alloc, &mut tasks, callee.body.as_slice())?;
+    push_code(&mut tasks, callee.body.as_slice())?;
     Ok(Activation {
         proc,
         own,
@@ -351,198 +296,210 @@ fn enter(
     })
 }
 
-fn enter_call(
+fn enter_call<'p>(
     alloc: Global,
-    program: &Program,
-    machine: &mut Machine,
-    call: Activation,
+    program: &'p Program,
+    machine: &mut Machine<'p>,
+    call: Activation<'p>,
     proc: u32,
     args: &[Core],
     into: Option<u32>,
-    feed: &mut Feed,
-) -> Result<(), Stop>
-    ensures { OnOk result (DoesCall program.now proc (map term_of args.now) into
-        (machine_top machine.old call) (items_of call.tasks)
-        (machine_config machine.new)) }
+) -> Result<Option<Event>, Stop>
+    requires below { IsTrue (all_columns_below (length machine.old.globals + length call.own) (map term_of args.now)) }
+    requires callee { IsCallable program.now proc (length args.now) }
+    ensures { Takes machine.new result
+        (chosen_call program.now (machine_top machine.old call.entry) (items_of call.entry.tasks) proc (map term_of args.now) into) }
 {
     let state = columns(alloc, &machine.globals, &call.own)?;
     let values = values(alloc, args, state.as_slice())?;
-    let entered = enter(alloc, program, proc, values, into, feed)?;
+    let shown = Items::from_slice(alloc, values.as_slice())?;
+    let entered = enter(alloc, program, proc, values, into)?;
     resume(machine, call)?;
     resume(machine, entered)?;
-    Ok(())
+    Ok(Some(Event::Call { proc, args: shown }))
 }
 
 // The call goes on with one list of statements or the other before its tasks.
-fn branch(
+fn branch<'p>(
     alloc: Global,
-    machine: &mut Machine,
-    call: Activation,
+    machine: &mut Machine<'p>,
+    call: Activation<'p>,
     cond: &Core,
-    yes: &[Stmt],
-    no: &[Stmt],
-) -> Result<(), Stop>
-    ensures { OnOk result (Chooses (term_of cond.now) (machine_top machine.old call)
-        (pending (code_of yes.now) (items_of call.tasks))
-        (pending (code_of no.now) (items_of call.tasks))
-        (machine_config machine.new)) }
+    yes: &'p [Stmt],
+    no: &'p [Stmt],
+) -> Result<Option<Event>, Stop>
+    requires { IsTrue (columns_below (length machine.old.globals + length call.own) (term_of cond.now)) }
+    ensures { Takes machine.new result (chosen_branch (machine_top machine.old call.entry)
+        (pending (code_of yes.now) (items_of call.entry.tasks)) (pending (code_of no.now) (items_of call.entry.tasks)) (term_of cond.now)) }
 {
     let mut call = call;
     let state = columns(alloc, &machine.globals, &call.own)?;
     if value(cond, state.as_slice())? != 0 {
-        push_code(alloc, &mut call.tasks, yes)?;
+        push_code(&mut call.tasks, yes)?;
     } else {
-        push_code(alloc, &mut call.tasks, no)?;
+        push_code(&mut call.tasks, no)?;
     }
     resume(machine, call)?;
-    Ok(())
+    Ok(None)
 }
 
-fn test_loop(
+fn test_loop<'p>(
     alloc: Global,
-    machine: &mut Machine,
-    call: Activation,
-    repeat: Repeat,
-) -> Result<(), Stop>
-    ensures { OnOk result (Chooses (parts_of repeat).cond (machine_top machine.old call)
-        (pending (parts_of repeat).body (Tail (parts_of repeat) ∷ items_of call.tasks))
-        (items_of call.tasks) (machine_config machine.new)) }
+    machine: &mut Machine<'p>,
+    call: Activation<'p>,
+    repeat: Repeat<'p>,
+) -> Result<Option<Event>, Stop>
+    requires { IsTrue (columns_below (length machine.old.globals + length call.own) (parts_of repeat).cond) }
+    ensures { Takes machine.new result (chosen_branch (machine_top machine.old call.entry)
+        (pending (parts_of repeat.entry).body (Tail (parts_of repeat.entry) ∷ items_of call.entry.tasks)) (items_of call.entry.tasks)
+        (parts_of repeat.entry).cond) }
 {
     let mut call = call;
     let state = columns(alloc, &machine.globals, &call.own)?;
-    if value(&repeat.cond, state.as_slice())? != 0 {
-        enter_body(alloc, &mut call.tasks, repeat)?;
+    if value(repeat.cond, state.as_slice())? != 0 {
+        enter_body(&mut call.tasks, repeat)?;
     }
     resume(machine, call)?;
-    Ok(())
+    Ok(None)
 }
 
 #[tactic(auto, using(crate::proofs::Tasks::leaves))]
-fn leave_loop(machine: &mut Machine, call: Activation) -> Result<(), Stop>
-    ensures { OnOk result (machine_config machine.new ≡
-        with_items (machine_top machine.old call) (after_loop (items_of call.tasks))) }
+fn leave_loop<'p>(machine: &mut Machine<'p>, call: Activation<'p>) -> Result<Option<Event>, Stop>
+    ensures { Takes machine.new result (quietly (with_items (machine_top machine.old call.entry) (after_loop (items_of call.entry.tasks)))) }
 {
     let mut call = call;
-    match pop_to_tail(&mut call.tasks) {
-        Some(_repeat) => {
-            resume(machine, call)?;
-            Ok(())
-        }
-        None => Err(Stop::IllFormed),
-    }
+    let _left = pop_to_tail(&mut call.tasks);
+    resume(machine, call)?;
+    Ok(None)
 }
 
 #[tactic(auto, using(crate::proofs::Tasks::leaves))]
-fn next_turn(machine: &mut Machine, call: Activation) -> Result<(), Stop>
-    ensures { OnOk result (machine_config machine.new ≡
-        with_items (machine_top machine.old call) (to_tail (items_of call.tasks))) }
+fn next_turn<'p>(machine: &mut Machine<'p>, call: Activation<'p>) -> Result<Option<Event>, Stop>
+    ensures { Takes machine.new result (quietly (with_items (machine_top machine.old call.entry) (to_tail (items_of call.entry.tasks)))) }
 {
     let mut call = call;
-    match pop_to_tail(&mut call.tasks) {
-        Some(repeat) => {
-            call.tasks.push(Task::Tail(repeat))?;
-            resume(machine, call)?;
-            Ok(())
-        }
-        None => Err(Stop::IllFormed),
+    if let Some(repeat) = pop_to_tail(&mut call.tasks) {
+        call.tasks.push(Task::Tail(repeat))?;
     }
-}
-
-fn leave_call(alloc: Global, machine: &mut Machine, call: Activation) -> Result<(), Stop>
-    ensures { OnOk result (machine_config machine.new ≡ with_items (machine_top machine.old call) []) }
-{
-    let mut call = call;
-    call.tasks = Items::new(alloc);
     resume(machine, call)?;
-    Ok(())
+    Ok(None)
 }
 
-fn start_loop(
+fn leave_call<'p>(
     alloc: Global,
-    machine: &mut Machine,
-    call: Activation,
-    repeat: Repeat,
-) -> Result<(), Stop>
-    ensures { OnOk result (machine_config machine.new ≡
-        with_items (machine_top machine.old call) (at_begin (parts_of repeat) (items_of call.tasks))) }
+    machine: &mut Machine<'p>,
+    call: Activation<'p>,
+) -> Result<Option<Event>, Stop>
+    ensures { Takes machine.new result (quietly (with_items (machine_top machine.old call.entry) [])) }
+{
+    let Activation {
+        proc,
+        own,
+        tasks: _,
+        into,
+    } = call;
+    let tasks = Items::new(alloc);
+    resume(
+        machine,
+        Activation {
+            proc,
+            own,
+            tasks,
+            into,
+        },
+    )?;
+    Ok(None)
+}
+
+fn start_loop<'p>(
+    machine: &mut Machine<'p>,
+    call: Activation<'p>,
+    repeat: Repeat<'p>,
+) -> Result<Option<Event>, Stop>
+    ensures { Takes machine.new result (quietly
+        (with_items (machine_top machine.old call.entry) (at_begin (parts_of repeat.entry) (items_of call.entry.tasks)))) }
 {
     let mut call = call;
-    begin_loop(alloc, &mut call.tasks, repeat)?;
+    begin_loop(&mut call.tasks, repeat)?;
     resume(machine, call)?;
-    Ok(())
+    Ok(None)
 }
 
 // The call has nothing left to do, and its value goes back to its caller.
 #[tactic(auto, using(crate::proofs::Tasks::tasks))]
-fn go_back(
+fn go_back<'p>(
     alloc: Global,
-    machine: &mut Machine,
-    own: &[i128],
-    into: Option<u32>,
-) -> Result<(), Stop>
-    ensures { OnOk result ((top : Top) → top.globals ≡ machine.old.globals →
-        top.frame.own ≡ own.now → top.frame.into ≡ into →
-        Resumes top (frames_of machine.old.calls) (machine_config machine.new)) }
+    machine: &mut Machine<'p>,
+    call: Activation<'p>,
+) -> Result<Option<Event>, Stop>
+    ensures { Takes machine.new result (chosen_return (machine_top machine.old call.entry) (frames_of machine.old.calls)) }
 {
-    if own.is_empty() {
-        return Err(Stop::IllFormed);
-    }
-    let value = own[own.len() - 1];
+    let Activation {
+        proc,
+        own,
+        tasks: _,
+        into,
+    } = call;
+    let value = last_or_zero(own.as_slice());
     let Some(caller) = machine.calls.pop() else {
         return Err(Stop::Done(value));
     };
     match into {
-        None => {
-            resume(machine, caller)?;
-            Ok(())
-        }
-        Some(col) => {
-            let mut state = columns(alloc, &machine.globals, &caller.own)?;
-            assign(&mut state, col, value)?;
-            spread(alloc, machine, caller, state.as_slice())
-        }
+        None => resume(machine, caller)?,
+        Some(col) => store(alloc, machine, caller, col, value)?,
+    }
+    Ok(Some(Event::Return { proc, value }))
+}
+
+fn last_or_zero(numbers: &[i128]) -> i128
+    ensures { result ≡ slice_index_or numbers.now (length numbers.now - 1) (pos 0) }
+{
+    match numbers {
+        [.., last] => *last,
+        [] => 0,
     }
 }
 
 // One statement of a call, which is not among its tasks any more.
 #[tactic(auto, using(syntax_tree::proofs::Codes::statements))]
-fn do_stmt(
+fn do_stmt<'p>(
     alloc: Global,
-    program: &Program,
-    machine: &mut Machine,
-    call: Activation,
-    stmt: Stmt,
-    feed: &mut Feed,
-) -> Result<(), Stop>
-    ensures { OnOk result (StepsBy program.now (machine_top machine.old call)
-        (Do (statement_of stmt) ∷ items_of call.tasks) (machine_config machine.new)) }
+    program: &'p Program,
+    machine: &mut Machine<'p>,
+    call: Activation<'p>,
+    stmt: &'p Stmt,
+    number: Option<i128>,
+) -> Result<Option<Event>, Stop>
+    requires { StatementCanRun program.now (length machine.old.globals + length call.own) (statement_of stmt.now) }
+    ensures { Takes machine.new result (chosen_by program.now number (machine_top machine.old call.entry)
+        (Do (statement_of stmt.now) ∷ items_of call.entry.tasks)) }
 {
     match stmt {
-        Stmt::Set { col, value } => simple(alloc, machine, call, &Stmt::Set { col, value }, feed),
-        Stmt::Any { col } => simple(alloc, machine, call, &Stmt::Any { col }, feed),
-        Stmt::Guard { cond } => simple(alloc, machine, call, &Stmt::Guard { cond }, feed),
-        Stmt::Check { number, cond } => simple(
+        Stmt::Set { col, value } => set_column(alloc, machine, call, *col, value),
+        Stmt::Any { col } => any_column(alloc, machine, call, *col, number),
+        Stmt::Guard { cond } => pass(alloc, machine, call, cond, None, Stop::Guard),
+        Stmt::Check { number, cond } => pass(
             alloc,
             machine,
             call,
-            &Stmt::Check { number, cond },
-            feed,
+            cond,
+            Some(Event::Holds(*number)),
+            Stop::Failed(*number),
         ),
         Stmt::Call { proc, args, into } => enter_call(
             alloc,
             program,
             machine,
             call,
-            proc,
+            *proc,
             args.as_slice(),
-            into,
-            feed,
+            *into,
         ),
         Stmt::If { cond, yes, no } => branch(
             alloc,
             machine,
             call,
-            &cond,
+            cond,
             yes.as_slice(),
             no.as_slice(),
         ),
@@ -553,15 +510,14 @@ fn do_stmt(
             step,
             first,
         } => start_loop(
-            alloc,
             machine,
             call,
             Repeat {
-                pre,
+                pre: pre.as_slice(),
                 cond,
-                body,
-                step,
-                first,
+                body: body.as_slice(),
+                step: step.as_slice(),
+                first: *first,
             },
         ),
         Stmt::Break => leave_loop(machine, call),
@@ -570,45 +526,46 @@ fn do_stmt(
     }
 }
 
-fn do_task(
+fn do_task<'p>(
     alloc: Global,
-    program: &Program,
-    machine: &mut Machine,
-    call: Activation,
-    task: Task,
-    feed: &mut Feed,
-) -> Result<(), Stop>
-    ensures { OnOk result (StepsBy program.now (machine_top machine.old call)
-        (item_of task ∷ items_of call.tasks) (machine_config machine.new)) }
+    program: &'p Program,
+    machine: &mut Machine<'p>,
+    call: Activation<'p>,
+    task: Task<'p>,
+    number: Option<i128>,
+) -> Result<Option<Event>, Stop>
+    requires { ItemCanRun program.now (length machine.old.globals + length call.own) (item_of task) }
+    ensures { Takes machine.new result (chosen_by program.now number (machine_top machine.old call.entry)
+        (item_of task.entry ∷ items_of call.entry.tasks)) }
 {
     let mut call = call;
     match task {
-        Task::Do(stmt) => do_stmt(alloc, program, machine, call, stmt, feed),
+        Task::Do(stmt) => do_stmt(alloc, program, machine, call, stmt, number),
         Task::Head(repeat) => {
-            head_loop(alloc, &mut call.tasks, repeat)?;
+            head_loop(&mut call.tasks, repeat)?;
             resume(machine, call)?;
-            Ok(())
+            Ok(None)
         }
         Task::Test(repeat) => test_loop(alloc, machine, call, repeat),
         Task::Tail(repeat) => {
-            tail_loop(alloc, &mut call.tasks, repeat)?;
+            tail_loop(&mut call.tasks, repeat)?;
             resume(machine, call)?;
-            Ok(())
+            Ok(None)
         }
     }
 }
 
-impl Machine {
-    /// A program as `main` begins: its globals have their initial values, and its columns the first numbers.
-    pub fn start(alloc: Global, program: &Program, feed: &mut Feed) -> Result<Machine, Stop>
-        ensures { IfOk result (λ machine.
-            Begins program.now program.now.main (initial_globals program.now) [] (machine_config machine)) }
+impl<'p> Machine<'p> {
+    /// A program as `main` begins: its globals have their initial values, and its columns are 0.
+    pub fn start(alloc: Global, program: &'p Program) -> Result<Machine<'p>, AllocError>
+        requires { IsWellFormed program.now }
+        ensures { IfOk result (λ machine. machine_config machine ≡ chosen_start program.now) }
     {
         let mut globals = Items::new(alloc);
         for global in program.globals.as_slice() {
             globals.push(global.init)?;
         }
-        let call = enter(alloc, program, program.main, Items::new(alloc), None, feed)?;
+        let call = enter(alloc, program, program.main, Items::new(alloc), None)?;
         let mut machine = Machine {
             globals,
             calls: Items::new(alloc),
@@ -617,34 +574,24 @@ impl Machine {
         Ok(machine)
     }
 
-    /// One step. An error says why there is none, and the machine is of no more use then.
+    /// The chosen step, and what it shows. An error says why there is none, and the machine is of no more use then.
     #[tactic(auto, using(crate::proofs::Tasks::stepping))]
-    pub fn step(&mut self, alloc: Global, program: &Program, feed: &mut Feed) -> Result<(), Stop>
-        ensures { OnOk result (Steps program.now (machine_config self.old) (machine_config self.new)) }
-    {
-        let Some(mut call) = self.calls.pop() else {
-            return Err(Stop::IllFormed);
-        };
-        match call.tasks.pop() {
-            Some(task) => do_task(alloc, program, self, call, task, feed),
-            None => go_back(alloc, self, call.own.as_slice(), call.into),
-        }
-    }
-
-    /// So many steps. An error says why there are no more, and the machine is of no more use then.
-    pub fn run(
+    pub fn step(
         &mut self,
         alloc: Global,
-        program: &Program,
-        feed: &mut Feed,
-        turns: u64,
-    ) -> Result<(), Stop>
-        ensures { OnOk result ((steps : List Config) ×
-            Runs program.now (machine_config self.old) steps (machine_config self.new)) }
+        program: &'p Program,
+        number: Option<i128>,
+    ) -> Result<Option<Event>, Stop>
+        requires well_formed { IsWellFormed program.now }
+        requires fits { ConfigCanRun program.now (machine_config self.old) }
+        ensures { Takes self.new result (chosen_step program.now number (machine_config self.old)) }
     {
-        for _ in 0..turns {
-            self.step(alloc, program, feed)?;
+        let Some(mut call) = self.calls.pop() else {
+            return Err(Stop::Done(0));
+        };
+        match call.tasks.pop() {
+            Some(task) => do_task(alloc, program, self, call, task, number),
+            None => go_back(alloc, self, call),
         }
-        Ok(())
     }
 }

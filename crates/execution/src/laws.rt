@@ -1,5 +1,5 @@
 //! The laws of the machine. Each is the contract of a function that does nothing.
-ghost use Rattle.execution.specs.Laws.{ChangesRun, ColumnsDetermineStep, FailedCheckStops, FramesBelowStay, GlobalsStay, RunsChange, RunsJoin, StepIsDetermined};
+ghost use Rattle.execution.specs.Laws.{ChangesRun, ChosenBegins, ChosenSteps, ChosenStops, ColumnsDetermineStep, FailedCheckStops, FramesBelowStay, GlobalsStay, RunsChange, RunsJoin, StepIsDetermined, StepsCanRun, StopsHaveNoStep};
 ghost use Rattle.execution.specs.Examples.{BreakInNestedLoop, CallThatNeverReturns, ContinueInDo};
 
 /// An execution that begins where another ends continues it.
@@ -36,6 +36,19 @@ pub fn globals_stay()
 pub fn straight_line()
     ensures forwards { ChangesRun }
     ensures backwards { RunsChange }
+{}
+
+/// The chosen execution of a well-formed program is one of its executions.
+pub fn chosen_steps()
+    ensures begins { ChosenBegins }
+    ensures steps { ChosenSteps }
+    ensures goes_on { StepsCanRun }
+{}
+
+/// Where the chosen execution has no step, and that there is none at all unless a number is missing or too wide.
+pub fn chosen_stops()
+    ensures causes { ChosenStops }
+    ensures no_step { StopsHaveNoStep }
 {}
 
 /// `continue` in a `do` loop, a `break` in a nested loop, and a call that never returns, step by step.

@@ -5,9 +5,11 @@
 
 mod interpreter;
 mod laws;
+mod outcome;
 
-pub use interpreter::{Activation, Feed, Machine, Repeat, Stop, Task};
+pub use interpreter::{Activation, Machine, Repeat, Task};
 pub use laws::{
-    columns_determine_step, executions_join, failed_check_stops, frames_below_stay, globals_stay,
-    step_is_determined, straight_line, worked_examples,
+    chosen_steps, chosen_stops, columns_determine_step, executions_join, failed_check_stops,
+    frames_below_stay, globals_stay, step_is_determined, straight_line, worked_examples,
 };
+pub use outcome::{Event, Stop};
