@@ -1,7 +1,7 @@
 -- What an activation does, with each call as one step: a tree, whose executions on the machine stand at any place of
 -- a stack.
 use Rattle.std.proofs.Common.{◌≡◌, ◌≤◌, ℕ, ℤ, ◌+◌, Option, Some, None, List, [], ◌∷◌, ◌++◌, refl, sym, subst, arith, length, take, drop, length-append}
-use Rattle.std.specs.Prelude.{slice_get}
+use Rattle.std.specs.Prelude.{max, slice_get}
 use Rattle.std.proofs.lemmas.List.{take-append-drop, length-take-le}
 use Rattle.syntax_tree.specs.declared.program.Proc.{Proc}
 use Rattle.syntax_tree.specs.declared.program.Program.{Program}
@@ -21,6 +21,12 @@ pub data Shape : Type 0 where
   Still : Shape
   Onward : (more : Shape) → Shape
   Through : (inner more : Shape) → Shape
+
+-- how deep its calls go
+abbrev pub height : Shape → ℕ
+height Still = 0
+height (Onward more) = height more
+height (Through inner more) = max (1 + height inner) (height more)
 
 pub record Calling : Type 0 where
   pub proc : ℕ

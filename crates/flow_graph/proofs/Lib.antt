@@ -13,6 +13,8 @@ pub mod Explained
 pub mod Live
 pub mod Activations
 pub mod Walking
+-- ---- what returns has a tree of calls: `returns_have_heights`, and induction on it: `returns-by_height`
+pub mod Heights
 -- ---- the stack of an execution is a chain of activations: `stacks_are_chains`, `failures_are_in_chains`
 pub mod StackChain
 -- ---- a program has one list of groups: `groups_are_determined`

@@ -14,12 +14,12 @@ use Rattle.flow_graph.specs.Walks.{Stands, Stride, WalksTo}
 use Rattle.flow_graph.specs.Laws.{CallsAreWalks, ChecksAreWalks, ReturnsAreWalks, last_of}
 use Rattle.flow_graph.proofs.Each.{Each, each_get}
 use Rattle.flow_graph.proofs.Moves.{Move, Near, move, moves_of}
-use Rattle.flow_graph.proofs.Does.{Does, Shape, value_in}
+use Rattle.flow_graph.proofs.Does.{Does, Shape, height, value_in}
 use Rattle.flow_graph.proofs.Places.{At, at_one, body_placed, start}
 use Rattle.flow_graph.proofs.Explained.{Checked, Explained, Taken, body_checked, body_explained}
 use Rattle.flow_graph.proofs.Live.{LivesIn, body_lives, skips_walk}
 use Rattle.flow_graph.proofs.Activations.{Entry, active, does_length, does_returns, entry_wide, executed, first_items, first_state, last_value, width_in}
-use Rattle.flow_graph.proofs.Walking.{DoesTo, Walk, does_walk, walk_does, walk_join}
+use Rattle.flow_graph.proofs.Walking.{DoesTo, MeanTrees, Walk, does_walk, walk_does, walk_join}
 
 -- an edge that is a call begins where the call is the first item
 abbrev CallFirst : List Item → Move → Type 0
@@ -50,7 +50,7 @@ only_call items act to proc args into (inl (k, is)) e = each_get (CallFirst item
 only_call items act to proc args into (inr (nothing, same)) e = no_call items to _ proc args into (sym nothing ∙ e)
 
 module _ (program : Program) (proc : ℕ) (globals args : State) where
-  entry_place : (entry : Entry program proc globals args) → At (code_of entry.callee.body) 0 (first_items entry)
+  pub entry_place : (entry : Entry program proc globals args) → At (code_of entry.callee.body) 0 (first_items entry)
   entry_place entry =
       start (At (code_of entry.callee.body)) 0 (code_of entry.callee.body) [] (body_placed (code_of entry.callee.body)).0
 
@@ -94,11 +94,14 @@ module _ (program : Program) (proc : ℕ) (globals args : State) where
     pub at : At (code_of entry.callee.body) node left
     pub near : Near items left
 
+  trees_return : {n : ℕ} → MeanTrees program (Returns program) n
+  trees_return inner lower proc globals args entry end does = does_returns program proc globals args entry inner end does
+
   arrived : (entry : Entry program proc globals args) (shape : Shape) (items : List Item) (final : State)
       → Does program (width_in program) shape (first_items entry) (first_state entry) items final → Arrived items final
   arrived entry shape items final does =
-      let walks = does_walk program (code_of entry.callee.body) shape (first_items entry) (first_state entry) items final 0 (first_items entry)
-      (entry_wide program proc globals args entry).0 does (entry_place entry) (inl refl) in
+      let walks = does_walk program (Returns program) (height shape) trees_return (code_of entry.callee.body) shape (first_items entry) (first_state entry) items final
+      0 (first_items entry) (entry_wide program proc globals args entry).0 does (omega arith) (entry_place entry) (inl refl) in
       record { entry = entry; node = walks.end; path = walks.path; walk = walks.walk; left = walks.left; at = walks.at; near = walks.near }
 
   -- on to the node where the first item is done
@@ -119,7 +122,7 @@ module _ (program : Program) (proc : ℕ) (globals args : State) where
         node = here.node;
         live = live;
         path = here.path ++ on.0;
-        walk = walk_join program body 0 (first_state here.entry) here.path here.node final on.0 live.at final here.walk on.1;
+        walk = walk_join program (Returns program) body 0 (first_state here.entry) here.path here.node final on.0 live.at final here.walk on.1;
       }
 
   -- ---- an activation stands where it has come to
@@ -164,7 +167,7 @@ module _ (program : Program) (proc : ℕ) (globals args : State) where
   first_do statement rest to (inl same) = same
   first_do statement rest to (inr silent) = absurd silent
 
-  no_items : (to : List Item) → Near [] to → [] ≡ to
+  pub no_items : (to : List Item) → Near [] to → [] ≡ to
   no_items to (inl same) = same
   no_items to (inr silent) = absurd silent
 
@@ -173,10 +176,10 @@ module _ (program : Program) (proc : ℕ) (globals args : State) where
 
   -- ---- returns
 
-  exit_is : (callee : Proc) → slice_get program.procs proc ≡ Some callee → exit_of (code_of callee.body) ≡ exit_of (body_of (slice_get program.procs proc))
+  pub exit_is : (callee : Proc) → slice_get program.procs proc ≡ Some callee → exit_of (code_of callee.body) ≡ exit_of (body_of (slice_get program.procs proc))
   exit_is callee is = ap (λ (found : Option Proc). exit_of (body_of found)) (sym is)
 
-  wide_at_end : (entry : Entry program proc globals args) (shape : Shape) (items : List Item) (final : State)
+  pub wide_at_end : (entry : Entry program proc globals args) (shape : Shape) (items : List Item) (final : State)
       → Does program (width_in program) shape (first_items entry) (first_state entry) items final → width_in program < length final
   wide_at_end entry shape items final does =
       let wide = entry_wide program proc globals args entry in

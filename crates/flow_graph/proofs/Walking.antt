@@ -1,5 +1,5 @@
 -- What an activation does is a walk, and the other way.
-use Rattle.std.proofs.Common.{◌≡◌, ◌≤◌, ℕ, pos, ◌-◌, Bool, true, false, Option, List, [], ◌∷◌, ◌++◌, inl, inr, refl, sym, ap, subst, ◌∙◌, arith, length, take, drop}
+use Rattle.std.proofs.Common.{◌≡◌, ◌≤◌, ◌<◌, ℕ, pos, ◌-◌, Bool, true, false, Option, List, [], ◌∷◌, ◌++◌, inl, inr, refl, sym, ap, subst, ◌∙◌, arith, length, take, drop}
 use Rattle.std.specs.Prelude.{slice_index_or}
 use Rattle.std.proofs.lemmas.List.{length-take-le}
 use Rattle.syntax_tree.specs.declared.program.Program.{Program}
@@ -10,14 +10,14 @@ use Rattle.execution.specs.Machine.{Item, Do, Head, Test, Tail, LoopParts, after
 use Rattle.execution.specs.Step.{Changes, at_head, at_tail}
 use Rattle.execution.specs.Execution.{Returns}
 use Rattle.flow_graph.specs.FlowGraph.{arc, flow_of, skip}
-use Rattle.flow_graph.specs.Walks.{CallRelates, EdgeRelates, Stride, Walks, received}
+use Rattle.flow_graph.specs.Walks.{CallMeaning, CallRelates, EdgeRelates, Stride, Walks, received}
 use Rattle.flow_graph.proofs.Each.{Each, Has, each_get}
 use Rattle.flow_graph.proofs.Moves.{Move, Near, Plain, Silent, begun, edged, move, moves_of, next_turn, passes_false, plain_length, silent_step}
-use Rattle.flow_graph.proofs.Does.{Calling, Does, IsCalling, Onward, Shape, Still, Through, does_fits, does_join, entry_fits, entry_of, exit_fits, exit_state, value_in}
+use Rattle.flow_graph.proofs.Does.{Calling, Does, IsCalling, Onward, Shape, Still, Through, does_fits, does_join, entry_fits, entry_of, exit_fits, exit_state, height, value_in}
 use Rattle.flow_graph.proofs.Places.{At, at_one}
 use Rattle.flow_graph.proofs.Explained.{Explained, Taken, body_explained}
 use Rattle.flow_graph.proofs.Live.{Skips, body_lives, skips_walk}
-use Rattle.flow_graph.proofs.Activations.{Entry, active, does_returns, first_items, first_state, width_in}
+use Rattle.flow_graph.proofs.Activations.{Entry, active, first_items, first_state, width_in}
 
 module _ (program : Program) where
   abbrev pub DoesTo : List Item → State → List Item → State → Type 0
@@ -115,9 +115,22 @@ module _ (program : Program) where
       let joined = does_join program (width_in program) first.0 items before why.to stride.state onward.2.0 onward.0 final first_here onward.2.1 in
       (onward.0, onward.1, joined)
 
-  -- ---- what an activation does is a walk
+-- ---- what an activation does is a walk, where calls mean what their trees do
 
-  relates_change : (act : Statement) (before after : State) → Changes act before after → Relates act before after
+module _ (program : Program) (calls : CallMeaning) where
+  abbrev pub RelatesBy : Statement → State → State → Type 0
+  RelatesBy act before after = EdgeRelates calls (width_in program) act before after
+
+  abbrev pub WalkBy : Code → ℕ → State → List Stride → ℕ → State → Type 0
+  WalkBy body node state path last final = Walks calls (width_in program) (flow_of body).arcs node state path last final
+
+  -- calls mean what the trees that are lower do
+  abbrev pub MeanTrees : ℕ → Type 0
+  MeanTrees n = (inner : Shape) → height inner < n → (proc : ℕ) (globals args : State) (entry : Entry program proc globals args) (end : State)
+      → Does program (width_in program) inner (first_items entry) (first_state entry) [] end
+      → calls proc globals args (take (width_in program) end) (value_in (width_in program) end)
+
+  relates_change : (act : Statement) (before after : State) → Changes act before after → RelatesBy act before after
   relates_change (Set col value) before after changes = changes
   relates_change (Any col) before after changes = changes
   relates_change (Call proc args into) before after changes = absurd changes
@@ -130,9 +143,9 @@ module _ (program : Program) where
   relates_change Return before after changes = changes
 
   pub walk_join : (body : Code) (node : ℕ) (before : State) (path : List Stride) (between : ℕ) (middle : State) (second : List Stride) (last : ℕ) (final : State)
-      → Walk body node before path between middle → Walk body between middle second last final → Walk body node before (path ++ second) last final
+      → WalkBy body node before path between middle → WalkBy body between middle second last final → WalkBy body node before (path ++ second) last final
   walk_join body node before [] between middle second last final one other =
-      subst (λ n. Walk body n before second last final) (sym one.0) (subst (λ s. Walk body between s second last final) (sym one.1) other)
+      subst (λ n. WalkBy body n before second last final) (sym one.0) (subst (λ s. WalkBy body between s second last final) (sym one.1) other)
   walk_join body node before (stride ∷ path) between middle second last final (way, is, from, relates, later) other =
       (way, is, from, relates, walk_join body way.to stride.state path between middle second last final later other)
 
@@ -140,18 +153,18 @@ module _ (program : Program) where
   pub record WalksNear (body : Code) (node : ℕ) (before : State) (last : List Item) (final : State) : Type 0 where
     pub end : ℕ
     pub path : List Stride
-    pub walk : Walk body node before path end final
+    pub walk : WalkBy body node before path end final
     pub left : List Item
     pub at : At body end left
     pub near : Near last left
 
   -- along the edges that do nothing, one edge, and on
   stride_on : (body : Code) (node at to : ℕ) (skipped : List ℕ) (act : Statement) (before after : State) (last : List Item) (final : State)
-      → Skips (flow_of body).arcs node skipped at → Has (flow_of body).arcs (arc at to act) → Relates act before after
+      → Skips (flow_of body).arcs node skipped at → Has (flow_of body).arcs (arc at to act) → RelatesBy act before after
       → WalksNear body to after last final → WalksNear body node before last final
   stride_on body node at to skipped act before after last final skips (k, is) relates onward =
-      let start = skips_walk (Returns program) (width_in program) (flow_of body).arcs node skipped at before skips in
-      let step : Walk body at before (record { edge = k; state = after } ∷ onward.path) onward.end final = (arc at to act, is, refl, relates, onward.walk) in
+      let start = skips_walk calls (width_in program) (flow_of body).arcs node skipped at before skips in
+      let step : WalkBy body at before (record { edge = k; state = after } ∷ onward.path) onward.end final = (arc at to act, is, refl, relates, onward.walk) in
       record {
         end = onward.end;
         path = start.0 ++ record { edge = k; state = after } ∷ onward.path;
@@ -170,17 +183,17 @@ module _ (program : Program) where
   calling_near call items to are (inl same) = sym are ∙ same
   calling_near call items to are (inr silent) = absurd (subst (λ l. Silent l to) are silent)
 
-  pub does_walk : (body : Code) (shape : Shape) (items : List Item) (before : State) (last : List Item) (final : State) (node : ℕ) (to : List Item)
+  pub does_walk : (n : ℕ) → MeanTrees n → (body : Code) (shape : Shape) (items : List Item) (before : State) (last : List Item) (final : State) (node : ℕ) (to : List Item)
       → width_in program ≤ length before → Does program (width_in program) shape items before last final
-      → At body node to → Near items to → WalksNear body node before last final
-  does_walk body Still items before last final node to fits does at near =
+      → height shape ≤ n → At body node to → Near items to → WalksNear body node before last final
+  does_walk n mean body Still items before last final node to fits does low at near =
       record { end = node; path = []; walk = (refl, does.1); left = to; at = at; near = subst (λ l. Near l to) does.0 near }
-  does_walk body (Onward more) items before last final node to fits (next, after, step, later) at (inr silent) =
+  does_walk n mean body (Onward more) items before last final node to fits (next, after, step, later) low at (inr silent) =
       let same = silent_step items to before next after silent step in
       let length_same = plain_length items before next after step in
       let there : width_in program ≤ length after = omega arith in
-      from_state body node before after last final same.1 (does_walk body more next after last final node to there later at (inl same.0))
-  does_walk body (Onward more) items before last final node to fits (next, after, step, later) at (inl here) =
+      from_state body node before after last final same.1 (does_walk n mean body more next after last final node to there later low at (inl same.0))
+  does_walk n mean body (Onward more) items before last final node to fits (next, after, step, later) low at (inl here) =
       let taken = edged items before next after step in
       let live = body_lives body node items (subst (λ l. At body node l) (sym here) at) in
       let leads = each_get _ (moves_of items) taken.place taken.taken live.leads taken.is in
@@ -188,9 +201,11 @@ module _ (program : Program) where
       let there : width_in program ≤ length after = omega arith in
       stride_on body node live.at leads.0 live.path taken.taken.act before after last final live.skips leads.1
       (relates_change taken.taken.act before after taken.changes)
-      (does_walk body more next after last final leads.0 taken.taken.to there later leads.2 taken.near)
-  does_walk body (Through inner more) items before last final node to fits (call, is, end, inside, later) at near =
+      (does_walk n mean body more next after last final leads.0 taken.taken.to there later low leads.2 taken.near)
+  does_walk n mean body (Through inner more) items before last final node to fits (call, is, end, inside, later) low at near =
       let w = width_in program in
+      let lower : height inner < n = omega arith in
+      let others : height more ≤ n = omega arith in
       let here = calling_near call items to is.items_are near in
       let live = body_lives body node (Do (Call call.proc call.args call.awaits) ∷ call.rest) (subst (λ l. At body node l) (sym here) at) in
       let leads = live.leads.0 in
@@ -198,13 +213,13 @@ module _ (program : Program) where
       record { width = length-take-le w before fits; callee = call.callee; is = is.is; params = is.params; others = call.others; columns = is.width } in
       let ended = does_fits program w inner (pending (code_of call.callee.body) []) (entry_of w call before) [] end inside (entry_fits program w call before fits) in
       let after = exit_state w call before end in
-      let relates : CallRelates (Returns program) w call.proc call.args call.awaits before after = record {
+      let relates : CallRelates calls w call.proc call.args call.awaits before after = record {
         values = call.values;
         are = is.values_are;
         left = take w end;
         value = value_in w end;
-        returns = does_returns program call.proc (take w before) call.values entry inner end inside;
+        returns = mean inner lower call.proc (take w before) call.values entry end inside;
         after_is = refl;
       } in
       stride_on body node live.at leads.0 live.path (Call call.proc call.args call.awaits) before after last final live.skips leads.1 relates
-      (does_walk body more call.rest after last final leads.0 call.rest (exit_fits program w call before end ended) later leads.2 (inl refl))
+      (does_walk n mean body more call.rest after last final leads.0 call.rest (exit_fits program w call before end ended) later others leads.2 (inl refl))

@@ -5,6 +5,7 @@ pub mod Plain
 pub mod Walks
 pub mod Laws
 pub mod Stack
+pub mod Heights
 -- the groups of a program's procedures
 pub mod Groups
 -- ---- words of proofs

@@ -1,12 +1,19 @@
 //! The walks of a graph are the executions, and a program has one list of groups. Each law is the contract of a function that
 //! does nothing.
 ghost use Rattle.flow_graph.specs.Groups.{GroupsAreDetermined};
+ghost use Rattle.flow_graph.specs.Heights.{HeightsGrow, ReturnsHaveHeights};
 ghost use Rattle.flow_graph.specs.Stack.{FailuresAreInChains, StacksAreChains};
 ghost use Rattle.flow_graph.specs.Laws.{CallsAreWalks, ChecksAreWalks, ReturnsAreWalks};
 
 /// A procedure returns exactly as walks lead from the entry of its graph to the exit.
 pub fn returns_are_walks()
     ensures { ReturnsAreWalks }
+{}
+
+/// A procedure returns exactly with a tree of calls, in which those of each call are lower.
+pub fn returns_have_heights()
+    ensures heights { ReturnsHaveHeights }
+    ensures grow { HeightsGrow }
 {}
 
 /// An activation stands at an assertion exactly as walks lead to its node.

@@ -15,7 +15,8 @@ mod turns;
 pub use error::GraphError;
 pub use grouping::{Group, groups};
 pub use laws::{
-    calls_are_walks, checks_are_walks, groups_are_determined, returns_are_walks, stacks_are_chains,
+    calls_are_walks, checks_are_walks, groups_are_determined, returns_are_walks,
+    returns_have_heights, stacks_are_chains,
 };
 pub use making::graph;
 pub use parts::{Act, CheckNode, Edge, Graph};

@@ -2,7 +2,7 @@
 use crate::programs::program_of;
 use flow_graph::{
     Act, Graph, calls_are_walks, checks_are_walks, graph, groups, groups_are_determined,
-    returns_are_walks, stacks_are_chains,
+    returns_are_walks, returns_have_heights, stacks_are_chains,
 };
 use std::alloc::Global;
 use std::fmt::Write;
@@ -153,6 +153,7 @@ fn groups_of_procedures(rt: HostRuntime) -> Result<(), Fail> {
 #[test]
 fn laws(_rt: HostRuntime) {
     returns_are_walks();
+    returns_have_heights();
     calls_are_walks();
     checks_are_walks();
     groups_are_determined();
