@@ -1,0 +1,5 @@
+use Rattle.polyhedra.proofs.Thinned.{thinned-covers}
+use Rattle.polyhedra.proofs.thinning.coverage_of_thinning.Goals as goal
+
+pub returns : goal.returns
+returns c = thinned-covers

@@ -1,0 +1,41 @@
+ghost use Rattle.std.specs.Prelude.{◌≡◌, IfOk};
+ghost use Rattle.posing.specs.Follows.{Follows};
+ghost use Rattle.polyhedra.specs.Infeasibility.{assent, is_yes, limits_of};
+
+use crate::{Log, Note, WorkError};
+use farkas_check::{Answer, Oracle, Question};
+use items::Items;
+use posing::ask;
+use std::alloc::{AllocError, Global};
+
+/// Whether the answer to a question is yes. A limit is noted.
+#[tactic(auto, using(posing::proofs::Following::following), unfolding(crate::specs::Infeasibility::assent))]
+pub(crate) fn assent<O: Oracle>(
+    alloc: Global,
+    question: &Question,
+    oracle: &mut O,
+    log: &mut Log,
+) -> Result<bool, WorkError>
+    ensures { Follows O.asking oracle.old oracle.new log.old log.new result (assent question.now) }
+{
+    let answer = ask(alloc, question, oracle, log)?;
+    log.add_notes(limits_of(alloc, &answer)?)?;
+    Ok(is_yes(&answer))
+}
+
+/// The note of a limit.
+pub(crate) fn limits_of(alloc: Global, answer: &Answer) -> Result<Items<Note>, AllocError>
+    ensures { IfOk result (λ notes. notes ≡ limits_of answer.now) }
+{
+    let mut notes = Items::new(alloc);
+    if let Answer::Limit(limit) = answer {
+        notes.push(Note::Limit(*limit))?;
+    }
+    Ok(notes)
+}
+
+fn is_yes(answer: &Answer) -> bool
+    ensures { result ≡ is_yes answer.now }
+{
+    matches!(answer, Answer::Yes(_))
+}

@@ -1,0 +1,18 @@
+//! Formulas made small with the help of an oracle: cases that hold of nothing are dropped, rows that follow from others
+//! are left out, and many cases are made one that holds of all that they hold of.
+#![tactic(auto)]
+
+mod candidates;
+mod finishing;
+mod infeasible;
+mod losses;
+mod settling;
+mod thinning;
+mod vocabulary;
+
+pub use candidates::directions;
+pub use finishing::finish;
+pub use posing::{Log, Note, Witness, WorkError};
+pub use settling::{coverage_of_settling, settle};
+pub use thinning::{coverage_of_thinning, thin};
+pub use vocabulary::Vocabulary;
