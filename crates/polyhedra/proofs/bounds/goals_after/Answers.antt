@@ -1,0 +1,27 @@
+use Rattle.std.proofs.Common.{◌≡◌, List, Ok, length, sym, ap, subst, refl, ◌∙◌}
+use Rattle.std.proofs.lemmas.Result.{err_from_is_err_and}
+use Rattle.linear_terms.specs.declared.row.Case.{Case}
+use Rattle.linear_terms.specs.Polynomial.{Polynomial}
+use Rattle.linear_terms.specs.TermError.{cause}
+use Rattle.items.specs.Gives.{FailsBy}
+use Rattle.polyhedra.specs.Bounds.{IsCovered, put_in_for, goals_of, goals_behind}
+use Rattle.polyhedra.proofs.Objectives.{goals_of-next, goals_of-fails}
+use Rattle.polyhedra.proofs.bounds.goals_after.Goals as goal
+
+pub put_in_for-requires : goal.put_in_for-requires
+put_in_for-requires c =
+    subst (λ (posts : List Polynomial). IsCovered (length posts) c.args.d.now) (sym c.as_slice.ensures)
+    (subst (λ (case : Case). IsCovered (length case.post) c.args.d.now) (sym c.case-item.is) (c.requires c.loop-case.case-index c.case-item.result c.loop-case-test.true))
+
+pub returns-in_err-objective : goal.returns-in_err-objective
+returns-in_err-objective c =
+    let p = err_from_is_err_and c.from_residual.result c.from_residual.ensures.1 in
+    rw (p.1, p.2)
+    (goals_of-fails (λ case. put_in_for case.post c.args.d.now) c.args.cases.now c.loop-case.case-index c.case-item.result c.loop-case.goals (goals_of (λ case. put_in_for case.post c.args.d.now) c.args.cases.now)
+    c.loop-case-test.true c.case-item.is c.loop-case.invariant (cause c.in_err-objective.field-0.0) (rw c.as_slice.ensures at c.in_err-objective.ensures))
+
+pub loop-case-preserved : goal.loop-case-preserved
+loop-case-preserved c =
+    let next = goals_of-next (λ case. put_in_for case.post c.args.d.now) c.args.cases.now c.loop-case.case-index c.case-item.result c.loop-case.goals (goals_of (λ case. put_in_for case.post c.args.d.now) c.args.cases.now)
+    c.loop-case-test.true c.case-item.is c.loop-case.invariant c.in_ok-objective.objective (rw c.as_slice.ensures at c.in_ok-objective.ensures) in
+    rw (c.in_ok-push.ensures.ok, c.in_ok-goal_of.ensures) next

@@ -1,0 +1,252 @@
+ghost use Rattle.std.specs.Prelude.{◌≡◌, ◌++◌, ℤ, List, All, Ok, Result, IfOk, length, option_to_list};
+ghost use Rattle.items.specs.Gives.{Gives};
+ghost use Rattle.linear_terms.specs.declared.row.Row.{Row};
+ghost use Rattle.linear_terms.specs.declared.error.TermError.{TermError};
+ghost use Rattle.linear_terms.specs.Expressions.{◌⊟◌, at_most};
+ghost use Rattle.linear_terms.specs.TermError.{cause};
+ghost use Rattle.transition_formula.specs.Loss.{answered, losses_of};
+ghost use Rattle.farkas_check.specs.declared.question.Goal.{Goal};
+ghost use Rattle.posing.specs.Follows.{Follows};
+ghost use Rattle.posing.specs.Logs.{Adds, loss_notes};
+ghost use Rattle.posing.specs.Posing.{each};
+ghost use Rattle.polyhedra.specs.Bounds.{put_in_for, goals_of, bound_by, bound_in, before_row, after_row, bounded_before, bounded_after, IsCovered, IsCoveredByPosts};
+
+use crate::infeasible::limits_of;
+use crate::losses::note;
+use crate::{Log, WorkError};
+use farkas_check::{Answer, Goal, Oracle, Question};
+use items::Items;
+use linear_terms::{Case, Kind, Poly, Row, TermError, difference, subst};
+use posing::ask;
+use std::alloc::{AllocError, Global};
+
+// ---- the greatest value of an objective
+
+/// The greatest value of the objective of goals, if it is known. A limit is noted.
+#[tactic(auto, using(posing::proofs::Following::following), unfolding(crate::specs::Bounds::bound_by))]
+fn ask_bound<O: Oracle>(
+    alloc: Global,
+    goals: Items<Goal>,
+    oracle: &mut O,
+    log: &mut Log,
+) -> Result<Option<i128>, WorkError>
+    ensures { Follows O.asking oracle.old oracle.new log.old log.new result (bound_by (Ok goals)) }
+{
+    let question = Question::Sup(goals);
+    let answer = ask(alloc, &question, oracle, log)?;
+    log.add_notes(limits_of(alloc, &answer)?)?;
+    Ok(bound_in(&answer))
+}
+
+fn bound_in(answer: &Answer) -> Option<i128>
+    ensures { result ≡ bound_in answer.now }
+{
+    match answer {
+        Answer::Bound { at, .. } => Some(*at),
+        _ => None,
+    }
+}
+
+/// The same where the objective may be lost: then its loss is noted, and nothing is asked.
+pub(crate) fn bound_by<O: Oracle>(
+    alloc: Global,
+    goals: Result<Items<Goal>, TermError>,
+    oracle: &mut O,
+    log: &mut Log,
+) -> Result<Option<i128>, WorkError>
+    ensures { (stated : Result (List Goal) TermError) → Gives cause (λ g. g) goals stated →
+        Follows O.asking oracle.old oracle.new log.old log.new result (bound_by stated) }
+{
+    match goals {
+        Ok(goals) => ask_bound(alloc, goals, oracle, log),
+        Err(error) => {
+            note(alloc, error, log)?;
+            Ok(None)
+        }
+    }
+}
+
+// ---- rows
+
+/// The rows with one more, where it could be made; else its loss is noted.
+pub fn with_row(
+    alloc: Global,
+    rows: Items<Row>,
+    made: Result<Row, TermError>,
+    log: &mut Log,
+) -> Result<Items<Row>, AllocError>
+    ensures noted { (stated : Result Row TermError) → Gives cause (λ r. r) made stated →
+        Adds (loss_notes (losses_of stated)) log.old log.new result }
+    ensures exact { (stated : Result Row TermError) → Gives cause (λ r. r) made stated →
+        IfOk result (λ all. all ≡ rows ++ option_to_list (answered stated)) }
+{
+    let mut all = rows;
+    match made {
+        Ok(row) => {
+            all.push(row)?;
+        }
+        Err(error) => {
+            note(alloc, error, log)?;
+        }
+    }
+    Ok(all)
+}
+
+/// That a polynomial is at most another.
+fn at_most(alloc: Global, left: &Poly, most: &Poly) -> Result<Row, TermError>
+    ensures { Gives cause (λ r. r) result (at_most (Ok left.now ⊟ Ok most.now)) }
+{
+    let poly = difference(alloc, left, most)?;
+    Ok(Row {
+        poly,
+        kind: Kind::AtMost,
+    })
+}
+
+/// A direction with polynomials put in for its columns.
+fn put_in_for(alloc: Global, polys: &[Poly], d: &Poly) -> Result<Poly, TermError>
+    requires { IsCovered (length polys.now) d.now }
+    ensures { Gives cause (λ p. p) result (put_in_for polys.now d.now) }
+{
+    subst(alloc, d, polys, &[])
+}
+
+/// An objective over the rows of a case.
+fn goal_of(case: &Case, objective: Poly) -> Result<Goal, AllocError>
+    ensures { IfOk result (λ goal. goal ≡ record { rows = case.now.rows; objective = objective }) }
+{
+    let rows = case.rows.clone()?;
+    Ok(Goal { rows, objective })
+}
+
+// ---- bounds before
+
+/// Each direction's greatest value on the entry columns is asked; where there is one, it gives a row behind the others.
+pub fn bounds_before<O: Oracle>(
+    alloc: Global,
+    rows: Items<Row>,
+    cases: &[Case],
+    directions: &[Poly],
+    oracle: &mut O,
+    log: &mut Log,
+) -> Result<Items<Row>, WorkError>
+    ensures { Follows O.asking oracle.old oracle.new log.old log.new result (each (bounded_before cases.now) rows directions.now) }
+{
+    let mut made = rows;
+    for d in directions {
+        made = bound_before(alloc, made, cases, d, oracle, log)?;
+    }
+    Ok(made)
+}
+
+fn bound_before<O: Oracle>(
+    alloc: Global,
+    rows: Items<Row>,
+    cases: &[Case],
+    d: &Poly,
+    oracle: &mut O,
+    log: &mut Log,
+) -> Result<Items<Row>, WorkError>
+    ensures { Follows O.asking oracle.old oracle.new log.old log.new result (bounded_before cases.now rows d.now) }
+{
+    let goals = goals_before(alloc, cases, d);
+    let bound = bound_by(alloc, goals, oracle, log)?;
+    match &bound {
+        None => Ok(rows),
+        Some(most) => {
+            let row = before_row(alloc, d, most);
+            Ok(with_row(alloc, rows, row, log)?)
+        }
+    }
+}
+
+fn goals_before(alloc: Global, cases: &[Case], d: &Poly) -> Result<Items<Goal>, TermError>
+    ensures { Gives cause (λ g. g) result (goals_of (λ case. Ok d.now) cases.now) }
+{
+    let mut goals = Items::new(alloc);
+    for case in cases {
+        goals.push(goal_before(case, d)?)?;
+    }
+    Ok(goals)
+}
+
+fn goal_before(case: &Case, d: &Poly) -> Result<Goal, AllocError>
+    ensures { IfOk result (λ goal. goal ≡ record { rows = case.now.rows; objective = d.now }) }
+{
+    let objective = d.clone()?;
+    goal_of(case, objective)
+}
+
+fn before_row(alloc: Global, d: &Poly, most: &i128) -> Result<Row, TermError>
+    ensures { Gives cause (λ r. r) result (before_row d.now most.now) }
+{
+    at_most(alloc, d, &Poly::constant(alloc, *most))
+}
+
+// ---- bounds after
+
+/// Each direction's greatest value on the posts is asked; where there is one, it gives a row behind the others, in which
+/// `after` has what stands for each post.
+pub fn bounds_after<O: Oracle>(
+    alloc: Global,
+    rows: Items<Row>,
+    cases: &[Case],
+    after: &[Poly],
+    directions: &[Poly],
+    oracle: &mut O,
+    log: &mut Log,
+) -> Result<Items<Row>, WorkError>
+    requires posts { All (IsCoveredByPosts cases.now) directions.now }
+    requires rows { All (IsCovered (length after.now)) directions.now }
+    ensures { Follows O.asking oracle.old oracle.new log.old log.new result (each (bounded_after cases.now after.now) rows directions.now) }
+{
+    let mut made = rows;
+    for d in directions {
+        made = bound_after(alloc, made, cases, after, d, oracle, log)?;
+    }
+    Ok(made)
+}
+
+fn bound_after<O: Oracle>(
+    alloc: Global,
+    rows: Items<Row>,
+    cases: &[Case],
+    after: &[Poly],
+    d: &Poly,
+    oracle: &mut O,
+    log: &mut Log,
+) -> Result<Items<Row>, WorkError>
+    requires posts { IsCoveredByPosts cases.now d.now }
+    requires rows { IsCovered (length after.now) d.now }
+    ensures { Follows O.asking oracle.old oracle.new log.old log.new result (bounded_after cases.now after.now rows d.now) }
+{
+    let goals = goals_after(alloc, cases, d);
+    let bound = bound_by(alloc, goals, oracle, log)?;
+    match &bound {
+        None => Ok(rows),
+        Some(most) => {
+            let row = after_row(alloc, after, d, most);
+            Ok(with_row(alloc, rows, row, log)?)
+        }
+    }
+}
+
+fn goals_after(alloc: Global, cases: &[Case], d: &Poly) -> Result<Items<Goal>, TermError>
+    requires { IsCoveredByPosts cases.now d.now }
+    ensures { Gives cause (λ g. g) result (goals_of (λ case. put_in_for case.post d.now) cases.now) }
+{
+    let mut goals = Items::new(alloc);
+    for case in cases {
+        let objective = put_in_for(alloc, case.post.as_slice(), d)?;
+        goals.push(goal_of(case, objective)?)?;
+    }
+    Ok(goals)
+}
+
+fn after_row(alloc: Global, after: &[Poly], d: &Poly, most: &i128) -> Result<Row, TermError>
+    requires { IsCovered (length after.now) d.now }
+    ensures { Gives cause (λ r. r) result (after_row after.now d.now most.now) }
+{
+    let left = put_in_for(alloc, after, d)?;
+    at_most(alloc, &left, &Poly::constant(alloc, *most))
+}
