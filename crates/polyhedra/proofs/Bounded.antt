@@ -1,5 +1,5 @@
 -- Bounds along a run, and the rows that they give.
-use Rattle.std.proofs.Common.{◌≡◌, ◌⊎◌, inl, inr, ℕ, zero, suc, ◌+◌, ◌-◌, ◌<◌, ◌≤◌, List, [], ◌∷◌, ◌++◌, Bool, true, false, Ok, Err, map, refl, sym, ap, subst, ◌∙◌, arith, ℤ, pos, ◌+ℤ◌, ◌-ℤ◌, ◌*ℤ◌, ◌≤ℤ◌}
+use Rattle.std.proofs.Common.{◌≡◌, ℕ, zero, suc, ◌+◌, ◌-◌, ◌<◌, ◌≤◌, List, [], ◌∷◌, true, Ok, Err, refl, sym, ap, subst, ◌∙◌, arith, ℤ, pos, ◌+ℤ◌, ◌-ℤ◌, ◌*ℤ◌, ◌≤ℤ◌}
 use Rattle.std.specs.Prelude.{Result, Option, None, Some, option_to_list}
 use Rattle.std.specs.List.{AllByRecursion}
 use Rattle.std.proofs.lemmas.Int.{ints}
@@ -14,23 +14,23 @@ use Rattle.linear_terms.specs.declared.row.Case.{Case}
 use Rattle.linear_terms.specs.Polynomial.{Terms, Polynomial}
 use Rattle.linear_terms.specs.Row.{RowHolds, RowsHold}
 use Rattle.linear_terms.specs.Value.{Valuation, mono_value, terms_value, value_of}
-use Rattle.transition_formula.specs.Meaning.{numbers, HoldsCase, HoldsAt}
+use Rattle.transition_formula.specs.Meaning.{numbers, HoldsAt}
 use Rattle.transition_formula.specs.Transition.{Transition}
-use Rattle.transition_formula.specs.Loss.{answered, losses_of}
+use Rattle.transition_formula.specs.Loss.{answered}
 use Rattle.farkas_check.specs.declared.answer.Answer.{Answer}
 use Rattle.farkas_check.specs.declared.answer.Answer.TheVariants as answer
 use Rattle.farkas_check.specs.declared.question.Goal.{Goal}
 use Rattle.farkas_check.specs.declared.question.Question.TheVariants.{Sup}
 use Rattle.farkas_check.specs.Meaning.{IsAtMost, IsTrueAnswer}
-use Rattle.posing.specs.Posing.{Posing, Done, Noted, ◌>>=◌, each, Always}
+use Rattle.posing.specs.Posing.{Posing, ◌>>=◌, each, Always}
 use Rattle.posing.proofs.Paths.{always_bind, always_each, always_weaker}
-use Rattle.linear_terms.specs.Expressions.{Made, ◌⊟◌, ◌⊠◌, whole, column, at_most, put_into}
+use Rattle.linear_terms.specs.Expressions.{Made, whole, put_into}
 use Rattle.polyhedra.specs.Vocabulary.{IsDirection}
 use Rattle.polyhedra.specs.Changes.{poly_at, change}
 use Rattle.polyhedra.specs.Bounds.{for_entries, goals_of, bound_in, bound_by, bound_of, with_row, with_row_for, bounded, before_row, put_in_for, after_row, so_often, change_row, bounded_before, bounded_after, bounded_change}
 use Rattle.items.proofs.Each.{each-append}
-use Rattle.linear_terms.proofs.Worth.{IsWorth, IsTrueIfMade, IsWorth-Ok, IsWorth-same, IsWorth-whole, IsWorth-column, IsWorth-product, IsWorth-difference, IsTrueIfMade-at_most, ReadsThrough, IsWorth-put_into}
-use Rattle.polyhedra.proofs.Turns.{number_in, Reads, reads-numbers, post-worth, change-worth, by_some, IsRunOf}
+use Rattle.linear_terms.proofs.Worth.{IsWorth, IsTrueIfMade, IsWorth-Ok, IsWorth-same, IsWorth-whole, IsWorth-difference, IsTrueIfMade-at_most, IsWorth-put_into}
+use Rattle.polyhedra.proofs.Turns.{number_in, Reads, post-worth, change-worth, by_some, IsRunOf}
 
 -- ---- directions
 

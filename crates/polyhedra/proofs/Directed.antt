@@ -14,7 +14,8 @@ use Rattle.linear_terms.specs.declared.col.Col.TheVariants.{At}
 use Rattle.linear_terms.specs.Equality.{poly_eq}
 use Rattle.linear_terms.specs.Expressions.{Made, ◌⊟◌, column, turned}
 use Rattle.linear_terms.specs.Mono.{mono_cmp}
-use Rattle.linear_terms.specs.Polynomial.{Terms, Polynomial, column_of}
+use Rattle.linear_terms.specs.Polynomial.{Terms, Polynomial, IsCanonical, column_of}
+use Rattle.linear_terms.proofs.Canonical.{IsCanonical-column, IsCanonical-put_all, IsCanonical-times_each}
 use Rattle.linear_terms.specs.Operations.{kept, put, put_all, sum_of_polys, times_each, multiple_of}
 use Rattle.linear_terms.specs.TermError.{plus, times}
 use Rattle.linear_terms.proofs.Values.{plus-value, times-value}
@@ -22,17 +23,10 @@ use Rattle.transition_formula.specs.Loss.{answered}
 use Rattle.transition_formula.specs.Transition.{is_below}
 use Rattle.transition_formula.proofs.Fitting.{below-true, true-below}
 use Rattle.polyhedra.specs.Vocabulary.{Vocabulary, IsDirection, IsDirectionOver, IsVocabulary}
+use Rattle.polyhedra.proofs.Lists.{each-filter}
 use Rattle.polyhedra.specs.Directions.{with_new, distinct, both_signs, less_others, candidates, directions}
 
 -- ---- lists without repetitions have elements of the list
-
-pub each-filter : {A : Type 0} (P : A → Type 0) (test : A → Bool) (xs : List A) → AllByRecursion P xs → AllByRecursion P (filter test xs)
-each-filter P test [] h = tt
-each-filter P test (x ∷ xs) h = go (test x) (each-filter P test xs h.1)
-  where
-    go : (b : Bool) → AllByRecursion P (filter test xs) → AllByRecursion P (if b then x ∷ filter test xs else filter test xs)
-    go true rest = (h.0, rest)
-    go false rest = rest
 
 new_each : {A : Type 0} (P : A → Type 0) (same : A → A → Bool) (made xs : List A) → AllByRecursion P made → AllByRecursion P xs → AllByRecursion P (fold (with_new same) made xs)
 new_each P same made [] h k = h
@@ -88,6 +82,7 @@ module _ (columns : ℕ) where
   record IsPlain (d : Polynomial) : Type 0 where
     single : AllByRecursion (λ t. IsColumn t.0) d.terms
     plain : d.rest ≡ pos 0
+    canonical : IsCanonical d.terms
 
   sum-plain : (a b p : Polynomial) → sum_of_polys a b ≡ Ok p → IsPlain a → IsPlain b → IsPlain p
   sum-plain a b p e of_a of_b =
@@ -97,6 +92,7 @@ module _ (columns : ℕ) where
       subst IsPlain same (record {
         single = put_all-each IsColumn b.terms a.terms ts f of_a.single of_b.single;
         plain = none r a.rest b.rest (plus-value a.rest b.rest r h) of_a.plain of_b.plain;
+        canonical = IsCanonical-put_all b.terms a.terms ts of_a.canonical f;
       })))
     where
       none : (r x y : ℤ) → r ≡ x +ℤ y → x ≡ pos 0 → y ≡ pos 0 → r ≡ pos 0
@@ -110,6 +106,7 @@ module _ (columns : ℕ) where
       subst IsPlain same (record {
         single = times_each-each IsColumn a.terms by ts f of_a.single;
         plain = times-value a.rest by r h ∙ ap (λ x. x *ℤ by) of_a.plain ∙ none by;
+        canonical = IsCanonical-times_each by a.terms ts of_a.canonical f;
       })))
     where
       none : (x : ℤ) → pos 0 *ℤ x ≡ pos 0
@@ -122,7 +119,7 @@ module _ (columns : ℕ) where
   given d h = record { as_made = λ p e. let same : d ≡ p = cc in subst IsPlain same h }
 
   column-made : (v : ℕ) → v < columns → IsPlainIfMade (column (At v))
-  column-made v lt = given (column_of (At v)) (record { single = ((v, (refl, lt)), tt); plain = refl })
+  column-made v lt = given (column_of (At v)) (record { single = ((v, (refl, lt)), tt); plain = refl; canonical = IsCanonical-column (At v ∷ []) })
 
   turned-made : (m : Made) → IsPlainIfMade m → IsPlainIfMade (turned m)
   turned-made m h = record { as_made = λ p e. on_ok m (λ a. multiple_of a (negsuc 0)) p e (λ a f g. multiple-plain a (negsuc 0) p g (h.as_made a f)) }
@@ -170,6 +167,7 @@ module _ (columns : ℕ) where
         single = each-more (λ t. ((v : ℕ) × (t.0 ≡ At v ∷ [])) × AllByRecursion (λ c. IsTrue (is_below columns 0 c)) t.0) (λ t. IsColumn t.0) (λ t k. direction-column t.0 k.0 k.1) d.terms
             (each-both (λ t. (v : ℕ) × (t.0 ≡ At v ∷ [])) (λ t. AllByRecursion (λ c. IsTrue (is_below columns 0 c)) t.0) d.terms h.straight.single h.within);
         plain = h.straight.plain;
+        canonical = h.canonical;
       }
 
 candidates-plain : (voc : Vocabulary) → IsVocabulary voc → AllByRecursion (IsPlainIfMade voc.columns) (candidates voc)
@@ -186,11 +184,10 @@ unfolding directions
 all-plain voc is =
     each-distinct (IsPlain voc.columns) poly_eq (filter_map answered (candidates voc)) (answered-plain voc.columns (candidates voc) (candidates-plain voc is))
 
--- ---- the laws
+-- ---- the law
 
-pub directions-straight : (voc : Vocabulary) → IsVocabulary voc → AllByRecursion IsDirection (directions voc)
-directions-straight voc is = each-more (IsPlain voc.columns) IsDirection (plain-direction voc.columns) (directions voc) (all-plain voc is)
+plain-over : (columns : ℕ) (d : Polynomial) → IsPlain columns d → IsDirectionOver columns d
+plain-over columns d h = record { straight = plain-direction columns d h; canonical = h.canonical; within = plain-within columns d h }
 
-pub directions-within : (voc : Vocabulary) → IsVocabulary voc → AllByRecursion (λ (d : Polynomial). AllByRecursion (λ t. AllByRecursion (λ c. IsTrue (is_below voc.columns 0 c)) t.0) d.terms) (directions voc)
-directions-within voc is =
-    each-more (IsPlain voc.columns) (λ (d : Polynomial). AllByRecursion (λ t. AllByRecursion (λ c. IsTrue (is_below voc.columns 0 c)) t.0) d.terms) (plain-within voc.columns) (directions voc) (all-plain voc is)
+pub directions-over : (voc : Vocabulary) → IsVocabulary voc → AllByRecursion (IsDirectionOver voc.columns) (directions voc)
+directions-over voc is = each-more (IsPlain voc.columns) (IsDirectionOver voc.columns) (plain-over voc.columns) (directions voc) (all-plain voc is)

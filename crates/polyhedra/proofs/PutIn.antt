@@ -1,5 +1,5 @@
 -- Polynomials put in for the columns of a direction.
-use Rattle.std.proofs.Common.{◌≡◌, ℕ, List, [], ◌∷◌, Ok, refl, ◌∙◌}
+use Rattle.std.proofs.Common.{◌≡◌, List, [], ◌∷◌, Ok, refl, ◌∙◌}
 use Rattle.linear_terms.specs.declared.col.Col.{Col}
 use Rattle.linear_terms.specs.declared.col.Col.TheVariants.{At, Aux}
 use Rattle.linear_terms.specs.Expressions.{Made, or_zero, when_made, when_all_made}

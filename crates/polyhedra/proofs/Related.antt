@@ -1,5 +1,5 @@
 -- The relations of a true answer: the terms are the lower terms and a constant.
-use Rattle.std.proofs.Common.{◌≡◌, ℕ, zero, suc, List, [], ◌∷◌, ◌++◌, length, Bool, true, false, map, refl, sym, ap, subst, ◌∙◌, arith, ℤ, pos, ◌+ℤ◌, ◌-ℤ◌, ◌*ℤ◌}
+use Rattle.std.proofs.Common.{◌≡◌, List, [], ◌∷◌, ◌++◌, length, Bool, true, false, map, refl, sym, ◌∙◌, arith, ℤ, pos, ◌+ℤ◌, ◌-ℤ◌, ◌*ℤ◌}
 use Rattle.std.specs.Prelude.{Option, None, Some, neg_ℤ, ◌==◌, ◌&&◌}
 use Rattle.std.specs.List.{AllByRecursion, filter}
 use Rattle.std.proofs.lemmas.Int.{ints}
@@ -14,9 +14,9 @@ use Rattle.farkas_check.specs.declared.question.Question.TheVariants.{Stratum}
 use Rattle.farkas_check.specs.declared.stratum.Change.{Change}
 use Rattle.farkas_check.specs.declared.stratum.Relation.{Relation}
 use Rattle.farkas_check.specs.Meaning.{IsTrueAnswer}
-use Rattle.farkas_check.specs.Relations.{Side, Term, Lower, One, sides, numbers_of, term_count, difference}
-use Rattle.farkas_check.specs.Stratum.{has_unknowns, IsZeroUnder, IsTrueBasis}
-use Rattle.posing.specs.Posing.{Posing, Done, Noted, ◌>>=◌, Always}
+use Rattle.farkas_check.specs.Relations.{Term, Lower, One, numbers_of, term_count, difference}
+use Rattle.farkas_check.specs.Stratum.{has_unknowns, IsZeroUnder}
+use Rattle.posing.specs.Posing.{◌>>=◌, Always}
 use Rattle.polyhedra.specs.Relations.{relations_in, relations_of}
 use Rattle.polyhedra.proofs.Lists.{same_number, each-filter, filter-passes}
 

@@ -1,23 +1,22 @@
 -- One turn of a body, and a run of turns.
-use Rattle.std.proofs.Common.{◌≡◌, ◌⊎◌, inl, inr, ℕ, zero, suc, ◌+◌, ◌<◌, ◌≤◌, List, [], ◌∷◌, Bool, true, false, Ok, Err, map, length, refl, sym, ap, subst, ◌∙◌, arith, ℤ, pos, ◌+ℤ◌, ◌-ℤ◌, ◌*ℤ◌, ◌≤ℤ◌}
-use Rattle.std.specs.Prelude.{IsTrue, not, slice_get, unwrap_or, Option, None, Some, ◌&&◌}
-use Rattle.std.specs.List.{AllByRecursion, list_any, list_all}
+use Rattle.std.proofs.Common.{◌≡◌, inl, inr, ℕ, zero, suc, ◌+◌, ◌<◌, ◌≤◌, List, [], ◌∷◌, Bool, true, false, Ok, Err, map, refl, sym, ap, subst, ◌∙◌, arith, ℤ, pos, ◌+ℤ◌, ◌-ℤ◌}
+use Rattle.std.specs.Prelude.{not, slice_get, unwrap_or, ◌&&◌}
+use Rattle.std.specs.List.{AllByRecursion}
 use Rattle.std.specs.Ordering.{int_eq}
 use Rattle.std.specs.Result.{is_ok}
 use Rattle.std.specs.Cmp.Lexicographic.{pointwise}
 use Rattle.std.proofs.lemmas.Int.{ints}
-use Rattle.linear_terms.specs.declared.col.Col.{Col}
-use Rattle.linear_terms.specs.declared.col.Col.TheVariants.{At, Aux}
+use Rattle.linear_terms.specs.declared.col.Col.TheVariants.{At}
 use Rattle.linear_terms.specs.declared.row.Case.{Case}
-use Rattle.linear_terms.specs.Equality.{poly_eq, term_eq}
+use Rattle.linear_terms.specs.Equality.{term_eq}
 use Rattle.linear_terms.specs.Polynomial.{Terms, Polynomial, constant_of}
 use Rattle.linear_terms.specs.Value.{Valuation, terms_value, value_of}
 use Rattle.linear_terms.proofs.Values.{int_eq-zero}
 use Rattle.transition_formula.specs.Meaning.{numbers, HoldsAt, HoldsCase, HoldsSome, Holds}
 use Rattle.transition_formula.specs.Transition.{Transition}
 use Rattle.linear_terms.specs.Expressions.{Made, or_zero}
-use Rattle.polyhedra.specs.Changes.{poly_at, change, is_zero, is_modified, is_exact}
-use Rattle.polyhedra.proofs.Lists.{none-passes, each-tested}
+use Rattle.polyhedra.specs.Changes.{poly_at, change, is_zero, is_modified}
+use Rattle.polyhedra.proofs.Lists.{none-passes}
 use Rattle.linear_terms.proofs.Worth.{IsWorth, IsWorth-Ok, IsWorth-same, IsWorth-column, IsWorth-difference}
 
 -- the number of a variable in a state

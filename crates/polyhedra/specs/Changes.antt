@@ -1,5 +1,5 @@
 -- By how much a formula changes each variable.
-use Rattle.std.specs.Prelude.{ℕ, ℤ, pos, List, [], ◌∷◌, ◌++◌, map, take, Bool, true, false, not, ◌||◌, Ok, Err, slice_get, unwrap_or}
+use Rattle.std.specs.Prelude.{ℕ, pos, List, map, take, Bool, true, false, not, ◌||◌, Ok, Err, slice_get, unwrap_or}
 use Rattle.std.specs.List.{list_any, list_all, filter, flat_map, range_with_len}
 use Rattle.std.specs.Result.{is_ok}
 use Rattle.linear_terms.specs.declared.col.Col.TheVariants.{At}

@@ -15,6 +15,11 @@ pub mod Infeasibility
 pub mod Settle
 pub mod Thin
 pub mod Finish
+-- by how much variables change; rows that bounds and relations give; one case in place of many
+pub mod Changes
+pub mod Bounds
+pub mod Relations
+pub mod Squash
 -- what is kept
 pub mod Laws
 -- ---- words of proofs

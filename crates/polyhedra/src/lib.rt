@@ -2,6 +2,7 @@
 //! are left out, and many cases are made one that holds of all that they hold of.
 #![tactic(auto)]
 
+mod bounds;
 mod candidates;
 mod finishing;
 mod infeasible;
@@ -10,6 +11,7 @@ mod settling;
 mod thinning;
 mod vocabulary;
 
+pub use bounds::{bounds_after, bounds_before, with_row};
 pub use candidates::directions;
 pub use finishing::finish;
 pub use posing::{Log, Note, Witness, WorkError};

@@ -1,10 +1,9 @@
-use Rattle.std.proofs.Common.{◌≡◌, List, Ok, length, sym, ap, subst, refl, ◌∙◌}
+use Rattle.std.proofs.Common.{List, length, sym, subst}
 use Rattle.std.proofs.lemmas.Result.{err_from_is_err_and}
 use Rattle.linear_terms.specs.declared.row.Case.{Case}
 use Rattle.linear_terms.specs.Polynomial.{Polynomial}
 use Rattle.linear_terms.specs.TermError.{cause}
-use Rattle.items.specs.Gives.{FailsBy}
-use Rattle.polyhedra.specs.Bounds.{IsCovered, put_in_for, goals_of, goals_behind}
+use Rattle.polyhedra.specs.Bounds.{IsCovered, put_in_for, goals_of}
 use Rattle.polyhedra.proofs.Objectives.{goals_of-next, goals_of-fails}
 use Rattle.polyhedra.proofs.bounds.goals_after.Goals as goal
 

@@ -1,5 +1,5 @@
-use Rattle.std.proofs.Common.{◌≡◌, Ok, sym, ap, subst, refl, ◌∙◌}
-use Rattle.polyhedra.specs.Bounds.{goals_of, goals_behind}
+use Rattle.std.proofs.Common.{Ok, refl}
+use Rattle.polyhedra.specs.Bounds.{goals_of}
 use Rattle.polyhedra.proofs.Objectives.{goals_of-next}
 use Rattle.polyhedra.proofs.bounds.goals_before.Goals as goal
 
