@@ -94,6 +94,27 @@ at_one n w c v h =
     single n (λ j. w j *ℤ cond (nat_eq c j) v (pos 0)) c h (λ j k other. ap (λ b. w j *ℤ cond b v (pos 0)) (ne_eqb c j (λ e. other (sym e))) ∙ times_zero (w j))
     ∙ ap (λ b. w c *ℤ cond b v (pos 0)) (eq-eqb c c refl)
 
+-- what a line is worth where a column has moved
+pub moved-sum : (lines columns : ℕ) (numbers : ℕ → ℕ → ℤ) (chosen : ℕ → ℕ) (column : ℕ) (w : ℕ → ℤ) → column < columns → ((k : ℕ) → k < lines → chosen k < columns)
+    → sum_below columns (λ j. w j *ℤ moved lines numbers chosen column j) ≡ w column *ℤ over lines (λ k. numbers k (chosen k)) -ℤ sum_below lines (λ k. w (chosen k) *ℤ (numbers k column *ℤ share lines (λ k. numbers k (chosen k)) k))
+moved-sum lines columns numbers chosen column w h ranges =
+    sum_below-same columns (λ j. w j *ℤ moved lines numbers chosen column j) (λ j. w j *ℤ cond (nat_eq column j) (over lines d) (pos 0) -ℤ sum_below lines (λ k. w j *ℤ part chosen value j k))
+    (λ j _. apart (w j) (cond (nat_eq column j) (over lines d) (pos 0)) (sum_below lines (λ k. part chosen value j k)) ∙ ap (λ z. w j *ℤ cond (nat_eq column j) (over lines d) (pos 0) -ℤ z) (factored lines (w j) (λ k. part chosen value j k)))
+    ∙ minus columns (λ j. w j *ℤ cond (nat_eq column j) (over lines d) (pos 0)) (λ j. sum_below lines (λ k. w j *ℤ part chosen value j k))
+    ∙ ap (λ z. z -ℤ sum_below columns (λ j. sum_below lines (λ k. w j *ℤ part chosen value j k))) (at_one columns w column (over lines d) h)
+    ∙ ap (λ z. w column *ℤ over lines d -ℤ z)
+    (swapped columns lines (λ j k. w j *ℤ part chosen value j k)
+    ∙ sum_below-same lines (λ k. sum_below columns (λ j. w j *ℤ part chosen value j k)) (λ k. w (chosen k) *ℤ value k) (λ k kh. at_one columns w (chosen k) (value k) (ranges k kh)))
+  where
+    d : ℕ → ℤ
+    d k = numbers k (chosen k)
+
+    value : ℕ → ℤ
+    value k = numbers k column *ℤ share lines (λ k. numbers k (chosen k)) k
+
+    apart : (a b c : ℤ) → a *ℤ (b -ℤ c) ≡ a *ℤ b -ℤ a *ℤ c
+    apart a b c = simp ring (omega (arith, ints))
+
 pub moved-solves : (lines units columns : ℕ) (frame numbers : ℕ → ℕ → ℤ) (chosen : ℕ → ℕ) (column : ℕ) → IsWholeTableau lines units columns frame numbers chosen → column < columns → ((k : ℕ) → k < lines → chosen k < columns)
     → (l : ℕ) → l < lines → sum_below columns (λ j. frame l j *ℤ moved lines numbers chosen column j) ≡ pos 0
 moved-solves lines units columns frame numbers chosen column t h ranges = t.solutions (moved lines numbers chosen column) zero_at

@@ -21,7 +21,7 @@ use Rattle.simplex.proofs.Corners.{none, single}
 
 -- ---- lists by places
 
-at_front : {X : Type 0} (xs ys : List X) (d : X) (k : ℕ) → k < length xs → get_or (xs ++ ys) k d ≡ get_or xs k d
+pub at_front : {X : Type 0} (xs ys : List X) (d : X) (k : ℕ) → k < length xs → get_or (xs ++ ys) k d ≡ get_or xs k d
 at_front [] ys d k h = absurd (omega arith)
 at_front (x ∷ xs) ys d zero h = refl
 at_front (x ∷ xs) ys d (suc k) h = at_front xs ys d k (omega arith)
@@ -80,7 +80,7 @@ coefficients-at row (c ∷ cs) (suc j) h = coefficients-at row cs j (omega arith
 front : List (List Col) → Row → List ℤ
 front cs row = coefficients row cs ++ row.poly.rest ∷ []
 
-front-length : (cs : List (List Col)) (row : Row) → length (coefficients row cs ++ row.poly.rest ∷ []) ≡ length cs + 1
+pub front-length : (cs : List (List Col)) (row : Row) → length (coefficients row cs ++ row.poly.rest ∷ []) ≡ length cs + 1
 front-length cs row = long (coefficients row cs) (row.poly.rest ∷ []) ∙ (let e : length (coefficients row cs) ≡ length cs = coefficients-length row cs in omega (arith, e))
 
 pub whole_line-length : (cs : List (List Col)) (count place : ℕ) (row : Row) → length (whole_line cs count place row) ≡ length cs + 1 + count
@@ -158,7 +158,7 @@ framed-is cs rows = record {
 pub kinds-length : (rows : List Row) → length (kinds_of rows) ≡ length rows
 kinds-length rows = length-map rows (λ (row : Row). row.kind)
 
-framed-primitive : (cs : List (List Col)) (rows : List Row) → ArePrimitive (framed cs rows)
+pub framed-primitive : (cs : List (List Col)) (rows : List Row) → ArePrimitive (framed cs rows)
 framed-primitive cs rows i h = one-primitive (get_or (lines_from cs (length rows) 0 rows) i []) (length cs + 1 + i) (numbers-unit cs rows i i inside inside ∙ ap (λ (b : Bool). cond b (pos 1) (pos 0)) (eq-eqb i i refl))
   where
     inside : i < length rows

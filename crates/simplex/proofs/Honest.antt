@@ -1,6 +1,6 @@
 -- The answer before its test, read off from what the search found.
-use Rattle.std.proofs.Common.{◌≡◌, ◌+◌, ◌∙◌, ℕ, List, [], length, Bool, Result, Ok, Err, ap, subst}
-use Rattle.std.specs.Prelude.{IfOk, IfErr, ◌-◌, ◌^◌, ◌<◌}
+use Rattle.std.proofs.Common.{arith, ◌≡◌, ◌+◌, ◌∙◌, ℕ, List, [], length, Bool, Result, Ok, Err, ap, subst}
+use Rattle.std.specs.Prelude.{IfOk, IfErr, ◌≤◌, ◌-◌, ◌^◌, ◌<◌}
 use Rattle.linear_terms.specs.declared.row.Kind.{Kind}
 use Rattle.linear_terms.specs.declared.row.Row.{Row}
 use Rattle.linear_terms.specs.declared.col.Col.{Col}
@@ -10,7 +10,9 @@ use Rattle.farkas_check.specs.declared.answer.Answer.{Answer}
 use Rattle.farkas_check.specs.declared.answer.Answer.TheVariants as answer
 use Rattle.farkas_check.specs.declared.answer.Limit.TheVariants as limit
 use Rattle.whole_numbers.specs.declared.wide.Wide as Step
-use Rattle.farkas_check.specs.Frames.{choose}
+use Rattle.farkas_check.specs.Calm.{IsLiveAndCalm}
+use Rattle.farkas_check.specs.Meaning.{IsLimit}
+use Rattle.farkas_check.specs.Frames.{choose, choice_count}
 use Rattle.farkas_check.specs.Kept.{HasPositive}
 use Rattle.farkas_check.specs.Tested.{outcome, Passes}
 use Rattle.farkas_check.specs.declared.question.Question.TheVariants.{Infeasible}
@@ -19,6 +21,8 @@ use Rattle.simplex.specs.Answers.{AnswerOf, IsHonestOf, IsFoundFor, IsRefusalFor
 use Rattle.simplex.specs.Refusal.{LeavesBits, IsRefusalIn}
 use Rattle.simplex.specs.declared.stop.Stop.TheVariants as stop
 use Rattle.simplex.proofs.Framing.{kinds-length}
+use Rattle.simplex.proofs.Calmness.{small_frame}
+use Rattle.simplex.proofs.Tame.{fits_twice, calm_found, more_choices}
 use Rattle.simplex.proofs.Leaves.{outcome-leaves, limit_of}
 use Rattle.simplex.specs.Exchange.{numbers_of}
 use Rattle.simplex.specs.Rows.{kinds_of, framed, framed_by}
@@ -68,15 +72,16 @@ no_pivots : (rows : List Row) (step : Step.Wide) → PivotsOf (2 ^ 127 - 1) rows
 no_pivots rows step e = cc
 
 pub overrun_answer : (rows : List Row) (step : Step.Wide) → AreCanonical rows → IsRefusalFor rows (stop.Wide step) → IsRowsAnswer rows (answer.Limit (limit.Wide step.left step.right step.times))
-overrun_answer rows step k h = record { passes = limit_passes rows step k h.leaves; pivots = no_pivots rows step }
+overrun_answer rows step k h = record { passes = limit_passes rows step k h.leaves; pivots = no_pivots rows step; calm = λ live is. h.great 1099511627776 fits_twice (small_frame 1099511627776 (columns rows []) rows live.calm.cases.calm) }
 
 pub step_answer : (rows : List Row) (a : Answer) (step : Step.Wide) → AreCanonical rows → IsFoundFor (2 ^ 127 - 1) rows a → outcome (Infeasible rows) a ≡ Err step → IsRowsAnswer rows (answer.Limit (limit.Wide step.left step.right step.times))
-step_answer rows a step k h e = record { passes = limit_passes rows step k (outcome-leaves rows a step e); pivots = no_pivots rows step }
+step_answer rows a step k h e = record { passes = limit_passes rows step k (outcome-leaves rows a step e); pivots = no_pivots rows step; calm = λ live is. calm_found rows (2 ^ 127 - 1) a step k live.calm.cases h e }
 
 pub found_answer : (rows : List Row) (a : Answer) (b : Bool) → AreCanonical rows → HasPositive a → IsFoundFor (2 ^ 127 - 1) rows a → outcome (Infeasible rows) a ≡ Ok b → IsRowsAnswer rows a
 found_answer rows a b k p h e = record {
   passes = record { canonical = k; positive = p; passed = e ∙ ap (λ (x : Bool). bool_ok x) (honest rows (2 ^ 127 - 1) a k h b e) };
   pivots = pivots_of rows a h;
+  calm = calm_of rows a h;
 }
   where
     pivots_of : (rows : List Row) (a : Answer) → IsFoundFor (2 ^ 127 - 1) rows a → PivotsOf (2 ^ 127 - 1) rows a
@@ -86,3 +91,14 @@ found_answer rows a b k p h e = record {
     pivots_of rows (answer.Unbounded case point ray) h e = absurd h
     pivots_of rows (answer.Basis relations spots free) h e = absurd h
     pivots_of rows (answer.Limit l) h e = subst (λ (n : ℕ). (2 ^ 127 - 1) < choose (length (columns rows []) + 1 + n) n) (kinds-length rows) h.1
+
+    calm_of : (rows : List Row) (a : Answer) → IsFoundFor (2 ^ 127 - 1) rows a → IsLiveAndCalm (Infeasible rows) → IsLimit a → ⊥
+    calm_of rows (answer.Yes by) h live is = is
+    calm_of rows (answer.No point) h live is = is
+    calm_of rows (answer.Bound at certs case point) h live is = h
+    calm_of rows (answer.Unbounded case point ray) h live is = h
+    calm_of rows (answer.Basis relations spots free) h live is = h
+    calm_of rows (answer.Limit l) h live is =
+        let great : (2 ^ 127 - 1) < choose (length (columns rows []) + 1 + length rows) (length rows) = subst (λ (n : ℕ). (2 ^ 127 - 1) < choose (length (columns rows []) + 1 + n) n) (kinds-length rows) h.1 in
+        let more : choose (length (columns rows []) + 1 + length rows) (length rows) ≤ choice_count (length (columns rows [])) (length rows + 1) = more_choices (length (columns rows [])) (length rows) in
+        let few : choice_count (length (columns rows [])) (length rows + 1) ≤ 170141183460469231731687303715884105727 = live.few.0 in omega (arith, great, more, few)

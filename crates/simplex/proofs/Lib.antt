@@ -27,3 +27,6 @@ pub mod Divisors
 pub mod Comparisons
 pub mod Memory
 pub mod Refusing
+pub mod Calmness
+pub mod Widths
+pub mod Tame

@@ -1,6 +1,6 @@
 -- The numbers of what the code makes: an exchange of tableaux is an exchange of their numbers.
 use Rattle.std.proofs.Common.{◌≡◌, ◌≢◌, ℕ, zero, suc, ◌+◌, ◌<◌, Bool, true, false, cond, List, [], ◌∷◌, Err, length, map, get_or, refl, sym, ap, subst, ◌∙◌, arith, ⊎_elim, Ok, ℤ, pos, negsuc, ◌+ℤ◌, ◌-ℤ◌, ◌*ℤ◌, ◌<ℤ◌}
-use Rattle.std.specs.Prelude.{int_lt, int_div, nat_eq, neg_ℤ, Result, slice_set}
+use Rattle.std.specs.Prelude.{unsigned_abs, int_lt, int_div, nat_eq, neg_ℤ, Result, slice_set}
 use Rattle.std.specs.Ordering.{int_eq}
 use Rattle.std.proofs.lemmas.Int.{ints}
 use Rattle.std.proofs.lemmas.Bool.{cases_eq, eq-eqb, ne_eqb, false≢true}
@@ -131,6 +131,7 @@ cleared-is column pivot line made l p e = go (int_eq (entry line column) (pos 0)
 -- a line turned so that it is positive at a column
 pub record IsTurned (line made : ℕ → ℤ) (column : ℕ) : Type 0 where
   pub sign : ℤ
+  pub one : unsigned_abs sign ≡ 1
   pub turned : (j : ℕ) → made j ≡ sign *ℤ line j
   pub back : (j : ℕ) → line j ≡ sign *ℤ made j
   pub positive : pos 0 <ℤ made column
@@ -155,6 +156,7 @@ turned-is column line made n e = go (int_lt (entry line column) (pos 0)) refl e
         let is : (j : ℕ) → entry made j ≡ entry line j *ℤ negsuc 0 = multiplied-number line (negsuc 0) made g in
         record {
           sign = negsuc 0;
+          one = refl;
           turned = λ j. is j ∙ *ℤ_comm (entry line j) (negsuc 0);
           back = λ j. back (entry line j) ∙ ap (λ z. negsuc 0 *ℤ z) (sym (is j));
           positive = subst (λ (z : ℤ). pos 0 <ℤ z) (sym (is column)) (negative (entry line column) f);
@@ -162,7 +164,7 @@ turned-is column line made n e = go (int_lt (entry line column) (pos 0)) refl e
     go false f g =
         let same : line ≡ made = cc in
         subst (λ zs. IsTurned (entry line) (entry zs) column) same
-        (record { sign = pos 1; turned = λ j. sym (one-*ℤ (entry line j)); back = λ j. sym (one-*ℤ (entry line j)); positive = not_negative (entry line column) n f })
+        (record { sign = pos 1; one = refl; turned = λ j. sym (one-*ℤ (entry line j)); back = λ j. sym (one-*ℤ (entry line j)); positive = not_negative (entry line column) n f })
 
 -- ---- all lines
 

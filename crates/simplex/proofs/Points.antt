@@ -6,7 +6,7 @@ use Rattle.items.proofs.Gives.{on_ok}
 use Rattle.whole_numbers.specs.Fits.{product_of}
 use Rattle.whole_numbers.specs.declared.wide.Wide as Step
 use Rattle.farkas_check.specs.Ratios.{Fraction, lowest_terms}
-use Rattle.farkas_check.proofs.Lowest.{positive-lowest_terms}
+use Rattle.farkas_check.proofs.Lowest.{IsLowest-lowest_terms, positive-lowest_terms}
 use Rattle.farkas_check.proofs.PointValues.{Stands-lowest}
 use Rattle.simplex.specs.declared.tableau.Tableau.{Tableau}
 use Rattle.simplex.specs.Answers.{multipliers_of, IsMultipliers}
@@ -34,6 +34,7 @@ corner-chosen over t constants column line r s here chosen e =
       positive = positive-lowest_terms n (numbers_of t line column) own;
       chosen = λ k h is. ⊎_elim (λ (same : k ≡ line). at_line k same) (λ other. absurd (choose_apart over t k line s h here other (is ∙ sym chosen))) (cases_eq k line);
       free = λ none. absurd (none line here chosen);
+      lowest = IsLowest-lowest_terms n (numbers_of t line column) own;
     }
       where
         at_line : (k : ℕ) → k ≡ line → (lowest_terms n (numbers_of t line column)).num *ℤ numbers_of t k column ≡ numbers_of t k constants *ℤ negsuc 0 *ℤ (lowest_terms n (numbers_of t line column)).den
@@ -71,6 +72,7 @@ multipliers-are t constants line by shape here some e =
     made own long x = record {
       each = ⊎_elim (λ (e : length (drop (constants + 1) own) + (constants + 1) ≡ length own). omega (arith, e, long)) (λ (h : length own < constants + 1). absurd (omega (arith, h, long))) (drop-length own (constants + 1));
       sign = x.sign;
+      one = x.one;
       turned = λ l h. at_drop own (constants + 1) l ∙ x.turned (constants + 1 + l);
       positive = subst (λ (z : ℤ). pos 0 <ℤ z) (x.turned constants) x.positive;
     }

@@ -9,7 +9,7 @@ use Rattle.whole_numbers.proofs.CommonDivisors.{IsGcd-gcd_of, gcd_of-times}
 use Rattle.farkas_check.specs.Relations.{entry}
 
 -- what divides each multiple divides the multiple of the greatest common divisor
-divides_all : (d c : ℕ) (line : List ℤ) → 0 < c → ((j : ℕ) → d ∣ (unsigned_abs (entry line j) * c)) → d ∣ (gcd_of_all line * c)
+pub divides_all : (d c : ℕ) (line : List ℤ) → 0 < c → ((j : ℕ) → d ∣ (unsigned_abs (entry line j) * c)) → d ∣ (gcd_of_all line * c)
 divides_all d c [] p h = subst (λ n. d ∣ n) (sym (zero-mul c)) (dvd-zero d)
 divides_all d c (z ∷ line) p h =
     subst (λ n. d ∣ n) (gcd_of-times (unsigned_abs z) (gcd_of_all line) c p)

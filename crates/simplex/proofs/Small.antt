@@ -41,7 +41,7 @@ sum-small a b = omega (arith, ints)
 pub product_of-fits : (a b : ℤ) → unsigned_abs (a *ℤ b) < 2 ^ 127 → product_of a b ≡ Ok (a *ℤ b)
 product_of-fits a b h = rw (fits-below (a *ℤ b) h) refl
 
-sum_of-fits : (a b : ℤ) → unsigned_abs (a +ℤ b) < 2 ^ 127 → sum_of a b ≡ Ok (a +ℤ b)
+pub sum_of-fits : (a b : ℤ) → unsigned_abs (a +ℤ b) < 2 ^ 127 → sum_of a b ≡ Ok (a +ℤ b)
 sum_of-fits a b h = rw (fits-below (a +ℤ b) h) refl
 
 -- sizes whose two products together are below 2 ^ 127

@@ -46,37 +46,37 @@ use Rattle.simplex.proofs.Sums.{sum_below-same}
 
 -- ---- rows by places
 
-at_row : (number : Row → ℤ) (rows : List Row) (l : ℕ) (row : Row) → slice_get rows l ≡ Some row → each_of number rows l ≡ number row
+pub at_row : (number : Row → ℤ) (rows : List Row) (l : ℕ) (row : Row) → slice_get rows l ≡ Some row → each_of number rows l ≡ number row
 at_row number [] l row e = cc
 at_row number (r ∷ rows) zero row e = let same : r ≡ row = cc in ap number same
 at_row number (r ∷ rows) (suc l) row e = at_row number rows l row e
 
-kind_row : (rows : List Row) (l : ℕ) (row : Row) → slice_get rows l ≡ Some row → kind_at (kinds_of rows) l ≡ row.kind
+pub kind_row : (rows : List Row) (l : ℕ) (row : Row) → slice_get rows l ≡ Some row → kind_at (kinds_of rows) l ≡ row.kind
 kind_row [] l row e = cc
 kind_row (r ∷ rows) zero row e = let same : r ≡ row = cc in ap (λ (x : Row). x.kind) same
 kind_row (r ∷ rows) (suc l) row e = kind_row rows l row e
 
-row_within : (rows : List Row) (l : ℕ) (row : Row) → slice_get rows l ≡ Some row → l < length rows
+pub row_within : (rows : List Row) (l : ℕ) (row : Row) → slice_get rows l ≡ Some row → l < length rows
 row_within [] l row e = cc
 row_within (r ∷ rows) zero row e = omega arith
 row_within (r ∷ rows) (suc l) row e = let h : l < length rows = row_within rows l row e in omega (arith, h)
 
-all_at : (P : Row → Type 0) (rows : List Row) (l : ℕ) (row : Row) → AllByRecursion P rows → slice_get rows l ≡ Some row → P row
+pub all_at : (P : Row → Type 0) (rows : List Row) (l : ℕ) (row : Row) → AllByRecursion P rows → slice_get rows l ≡ Some row → P row
 all_at P [] l row h e = cc
 all_at P (r ∷ rows) zero row h e = let same : r ≡ row = cc in subst P same h.0
 all_at P (r ∷ rows) (suc l) row h e = all_at P rows l row h.1 e
 
-each_row : (P : Row → Type 0) (rows : List Row) → ((l : ℕ) (row : Row) → slice_get rows l ≡ Some row → P row) → AllByRecursion P rows
+pub each_row : (P : Row → Type 0) (rows : List Row) → ((l : ℕ) (row : Row) → slice_get rows l ≡ Some row → P row) → AllByRecursion P rows
 each_row P [] f = tt
 each_row P (row ∷ rows) f = (f 0 row refl, each_row P rows (λ l r e. f (suc l) r e))
 
 -- ---- denominators
 
-over-positive : (n : ℕ) (d : ℕ → ℤ) → ((k : ℕ) → k < n → pos 0 <ℤ d k) → pos 0 <ℤ over n d
+pub over-positive : (n : ℕ) (d : ℕ → ℤ) → ((k : ℕ) → k < n → pos 0 <ℤ d k) → pos 0 <ℤ over n d
 over-positive zero d h = omega (arith, ints)
 over-positive (suc n) d h = product (over n d) (d n) (over-positive n d (λ k g. h k (omega arith))) (h n (omega arith))
 
-share-positive : (n : ℕ) (d : ℕ → ℤ) (i : ℕ) → ((k : ℕ) → k < n → pos 0 <ℤ d k) → pos 0 <ℤ share n d i
+pub share-positive : (n : ℕ) (d : ℕ → ℤ) (i : ℕ) → ((k : ℕ) → k < n → pos 0 <ℤ d k) → pos 0 <ℤ share n d i
 share-positive zero d i h = omega (arith, ints)
 share-positive (suc n) d i h = go (nat_eq i n) (share-positive n d i (λ k g. h k (omega arith)))
   where
@@ -86,22 +86,22 @@ share-positive (suc n) d i h = go (nat_eq i n) (share-positive n d i (λ k g. h 
 
 -- ---- who chooses a column
 
-find_choice : (n : ℕ) (chosen : ℕ → ℕ) (j : ℕ) → ((k : ℕ) × ((k < n) × (chosen k ≡ j))) ⊎ ((k : ℕ) → k < n → chosen k ≢ j)
+pub find_choice : (n : ℕ) (chosen : ℕ → ℕ) (j : ℕ) → ((k : ℕ) × ((k < n) × (chosen k ≡ j))) ⊎ ((k : ℕ) → k < n → chosen k ≢ j)
 find_choice zero chosen j = inr (λ k h. absurd (omega (arith, h)))
 find_choice (suc n) chosen j = ⊎_elim (λ (e : chosen n ≡ j). inl (n, (omega arith, e))) (λ other. ⊎_elim (λ (found : (k : ℕ) × ((k < n) × (chosen k ≡ j))). inl (found.0, (let h : found.0 < n = found.1.0 in omega (arith, h), found.1.1)))
     (λ no_one. inr (λ k h e. ⊎_elim (λ (same : k ≡ n). other (ap chosen (sym same) ∙ e)) (λ apart. no_one k (omega (arith, h, apart)) e) (cases_eq k n))) (find_choice n chosen j)) (cases_eq (chosen n) j)
 
-part-none : (n : ℕ) (chosen : ℕ → ℕ) (value : ℕ → ℤ) (j : ℕ) → ((k : ℕ) → k < n → chosen k ≢ j) → sum_below n (λ k. part chosen value j k) ≡ pos 0
+pub part-none : (n : ℕ) (chosen : ℕ → ℕ) (value : ℕ → ℤ) (j : ℕ) → ((k : ℕ) → k < n → chosen k ≢ j) → sum_below n (λ k. part chosen value j k) ≡ pos 0
 part-none n chosen value j h = none n (λ k. part chosen value j k) (λ k g. ap (λ (b : Bool). cond b (value k) (pos 0)) (ne_eqb (chosen k) j (h k g)))
 
-part-one : (n : ℕ) (chosen : ℕ → ℕ) (value : ℕ → ℤ) (j k : ℕ) → k < n → chosen k ≡ j → ((i : ℕ) → i < n → i ≢ k → chosen i ≢ j) → sum_below n (λ k. part chosen value j k) ≡ value k
+pub part-one : (n : ℕ) (chosen : ℕ → ℕ) (value : ℕ → ℤ) (j k : ℕ) → k < n → chosen k ≡ j → ((i : ℕ) → i < n → i ≢ k → chosen i ≢ j) → sum_below n (λ k. part chosen value j k) ≡ value k
 part-one n chosen value j k h is others =
     single n (λ k. part chosen value j k) k h (λ i g other. ap (λ (b : Bool). cond b (value i) (pos 0)) (ne_eqb (chosen i) j (others i g other)))
     ∙ ap (λ (b : Bool). cond b (value k) (pos 0)) (eq-eqb (chosen k) j is)
 
 -- ---- the number at a column
 
-stands-at : (frame : Framed) (t : Tableau) (constants j : ℕ) (r : Fraction) → IsTableauOf frame.units frame.frame t → j ≢ constants → CornerAt t constants j r
+pub stands-at : (frame : Framed) (t : Tableau) (constants j : ℕ) (r : Fraction) → IsTableauOf frame.units frame.frame t → j ≢ constants → CornerAt t constants j r
     → Stands r (moved (length t.lines) (numbers_of t) (choices_of t) constants j) (over (length t.lines) (λ k. numbers_of t k (choices_of t k)))
 stands-at frame t constants j r s apart c = ⊎_elim (λ found. one found.0 found.1.0 found.1.1) free (find_choice m (choices_of t) j)
   where
@@ -152,11 +152,11 @@ stands-at frame t constants j r s apart c = ⊎_elim (λ found. one found.0 foun
 
 -- ---- numbers of monomials
 
-abbrev numbered : List (List Col) → (ℕ → ℤ) → List Col → ℤ
+abbrev pub numbered : List (List Col) → (ℕ → ℤ) → List Col → ℤ
 numbered [] f m = pos 0
 numbered (c ∷ cs) f m = cond (eq_by_cmp mono_cmp c m) (f 0) (numbered cs (λ j. f (suc j)) m)
 
-stands_each : (cs : List (List Col)) (point : List Fraction) (f : ℕ → ℤ) (d : ℤ) (m : List Col) → length point ≡ length cs → ((j : ℕ) → j < length cs → Stands (get_or point j (whole (pos 0))) (f j) d) → Stands (ratio_at cs point m) (numbered cs f m) d
+pub stands_each : (cs : List (List Col)) (point : List Fraction) (f : ℕ → ℤ) (d : ℤ) (m : List Col) → length point ≡ length cs → ((j : ℕ) → j < length cs → Stands (get_or point j (whole (pos 0))) (f j) d) → Stands (ratio_at cs point m) (numbered cs f m) d
 stands_each [] point f d m h s = subst (λ z. Stands (whole (pos 0)) z d) (zero-*ℤ d) (Stands-whole (pos 0) d)
 stands_each (c ∷ cs) [] f d m h s = absurd (omega (arith, h))
 stands_each (c ∷ cs) (r ∷ rs) f d m h s = go (eq_by_cmp mono_cmp c m) (s 0 (omega arith)) (stands_each cs rs (λ j. f (suc j)) d m (omega (arith, h)) (λ j g. s (suc j) (omega (arith, g))))
@@ -173,7 +173,7 @@ later_ones : (c : List Col) (ds : List (List Col)) (a : ℤ) (f : List Col → �
 later_ones c [] a f h = tt
 later_ones c (e ∷ ds) a f h = (ap (λ (o : _). cond (is_eq o) a (f e)) h.0, later_ones c ds a f h.1)
 
-spread-numbered : (g : List Col → ℤ) (cs : List (List Col)) (f : ℕ → ℤ) → IsOrdered cs → spread g (numbered cs f) cs ≡ sum_below (length cs) (λ j. g (get_or cs j []) *ℤ f j)
+pub spread-numbered : (g : List Col → ℤ) (cs : List (List Col)) (f : ℕ → ℤ) → IsOrdered cs → spread g (numbered cs f) cs ≡ sum_below (length cs) (λ j. g (get_or cs j []) *ℤ f j)
 spread-numbered g [] f h = refl
 spread-numbered g (c ∷ cs) f h =
     ap (λ (b : Bool). g c *ℤ cond b (f 0) (numbered cs (λ j. f (suc j)) c) +ℤ spread g (numbered (c ∷ cs) f) cs) (itself c)

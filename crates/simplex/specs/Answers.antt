@@ -1,7 +1,9 @@
 -- What an answer owes before its test is made.
-use Rattle.std.specs.Prelude.{◌≡◌, ℕ, ◌+◌, ◌-◌, ◌^◌, ◌<◌, ℤ, pos, ◌*ℤ◌, ◌<ℤ◌, List, [], drop, length, Bool, true, Result, Ok}
+use Rattle.std.specs.Prelude.{unsigned_abs, ◌≡◌, ℕ, ◌+◌, ◌-◌, ◌^◌, ◌<◌, ℤ, pos, ◌*ℤ◌, ◌<ℤ◌, List, [], drop, length, Bool, true, Result, Ok}
 use Rattle.linear_terms.specs.declared.row.Row.{Row}
 use Rattle.whole_numbers.specs.declared.wide.Wide as Step
+use Rattle.farkas_check.specs.Calm.{IsLiveAndCalm}
+use Rattle.farkas_check.specs.Meaning.{IsLimit}
 use Rattle.farkas_check.specs.Columns.{columns}
 use Rattle.farkas_check.specs.Tested.{outcome, Passes}
 use Rattle.farkas_check.specs.declared.answer.Answer.{Answer}
@@ -36,6 +38,7 @@ PivotsOf budget rows a = a ≡ answer.Limit limit.Pivots → budget < choose (le
 pub record IsRowsAnswer (rows : List Row) (a : Answer) : Type 0 where
   pub passes : Passes (Infeasible rows) a
   pub pivots : PivotsOf (2 ^ 127 - 1) rows a
+  pub calm : IsLiveAndCalm (Infeasible rows) → IsLimit a → ⊥
 
 -- a stop of the search over the frame of the rows
 abbrev pub IsRefusalFor : List Row → Stop → Type 0
@@ -49,6 +52,7 @@ multipliers_of constants line = turned constants line >>= λ own. Ok (drop (cons
 pub record IsMultipliers (constants : ℕ) (t : Tableau) (line : ℕ) (by : List ℤ) : Type 0 where
   pub each : length by ≡ length t.lines
   pub sign : ℤ
+  pub one : unsigned_abs sign ≡ 1
   pub turned : (l : ℕ) → l < length t.lines → entry by l ≡ sign *ℤ numbers_of t line (constants + 1 + l)
   pub positive : pos 0 <ℤ (sign *ℤ numbers_of t line constants)
 

@@ -2,7 +2,7 @@
 use Rattle.std.specs.Prelude.{◌≡◌, ◌≢◌, ◌⊎◌, ℕ, ◌+◌, ◌<◌, ◌≤◌, ℤ, pos, negsuc, ◌*ℤ◌, ◌≤ℤ◌, ◌<ℤ◌, List, length, get_or, Bool, true, false, Option, None, Some, Result, Ok}
 use Rattle.linear_terms.specs.declared.row.Kind.{Kind}
 use Rattle.linear_terms.specs.declared.row.Kind.TheVariants.{AtMost, Equal}
-use Rattle.farkas_check.specs.Ratios.{Fraction, whole, lowest_terms}
+use Rattle.farkas_check.specs.Ratios.{Fraction, IsLowest, whole, lowest_terms}
 use Rattle.items.specs.Gives.{◌>>=◌}
 use Rattle.whole_numbers.specs.Fits.{product_of}
 use Rattle.whole_numbers.specs.declared.wide.Wide as Step
@@ -120,6 +120,7 @@ pub record CornerAt (t : Tableau) (constants column : ℕ) (r : Fraction) : Type
   pub positive : pos 0 <ℤ r.den
   pub chosen : (k : ℕ) → k < length t.lines → choices_of t k ≡ column → r.num *ℤ numbers_of t k column ≡ numbers_of t k constants *ℤ negsuc 0 *ℤ r.den
   pub free : ((k : ℕ) → k < length t.lines → choices_of t k ≢ column) → r.num ≡ pos 0
+  pub lowest : IsLowest r
 
 pub record IsCornerOf (t : Tableau) (constants count : ℕ) (point : List Fraction) : Type 0 where
   pub each : length point ≡ count

@@ -1,6 +1,7 @@
 ghost use Rattle.std.specs.Prelude.{◌≡◌, ◌+◌, ◌-◌, ◌^◌, ◌<◌, ◌≤◌, ℕ, pos, length, drop, IfOk, IfErr};
 ghost use Rattle.items.specs.Gives.{Gives};
 ghost use Rattle.linear_terms.specs.Row.{AreCanonical};
+ghost use Rattle.farkas_check.specs.Calm.{IsLiveAndCalm};
 ghost use Rattle.farkas_check.specs.Meaning.{IsLimit, IsTight};
 ghost use Rattle.farkas_check.specs.Tested.{Passes};
 ghost use Rattle.farkas_check.specs.declared.answer.Answer.TheVariants as answer;
@@ -34,6 +35,7 @@ pub fn infeasible(alloc: Global, rows: &[Row]) -> Result<Answer, AllocError>
     ensures passes { IfOk result (λ a. Passes (question.Infeasible rows.now) a) }
     ensures tight { IfOk result (λ a. (IsLimit a → ⊥) → IsTight (question.Infeasible rows.now) a) }
     ensures pivots { IfOk result (λ a. PivotsOf (2 ^ 127 - 1) rows.now a) }
+    ensures calm { IsLiveAndCalm (question.Infeasible rows.now) → IfOk result (λ a. IsLimit a → ⊥) }
 {
     truth_of_passing();
     let found = answer_of_rows(alloc, rows)?;
