@@ -1,0 +1,12 @@
+//! One execution of a program on given values, step by step: what it shows, how many steps it makes, and why it stops.
+#![tactic(auto)]
+
+mod laws;
+mod trace;
+mod turns;
+
+pub use laws::{
+    choices_take_values, chosen_is_an_execution, failed_stop_fails, traces_are_determined,
+};
+pub use trace::{Stop, Trace};
+pub use turns::follow;
