@@ -1,0 +1,12 @@
+-- ---- the laws of star
+pub mod Whole
+-- ---- it holds of every run
+pub mod Starred
+-- terms and progressions along a run
+pub mod Along
+pub mod Stratified
+pub mod Progressed
+-- ---- the second case can be put in order
+pub mod Shaped
+pub mod Within
+pub mod Numbered

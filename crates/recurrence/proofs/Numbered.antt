@@ -1,0 +1,282 @@
+-- The second case fits, and can be put in order.
+use Rattle.std.proofs.Common.{◌≡◌, ℕ, zero, suc, ◌+◌, ◌<◌, ◌≤◌, ◌^◌, List, [], ◌∷◌, ◌++◌, length, Bool, true, false, Ok, Err, map, refl, sym, ap, subst, ◌∙◌, arith, ℤ, pos, negsuc}
+use Rattle.std.specs.Prelude.{Result, Option, None, Some, IsTrue, nat_lt, not, ◌==◌, ◌&&◌, option_to_list, unwrap_or, if◌then◌else◌}
+use Rattle.std.specs.Option.{option_map}
+use Rattle.std.specs.List.{AllByRecursion, list_all, filter, range_with_len}
+use Rattle.std.proofs.lemmas.List.FromFn.{length-map-range_with_len}
+use Rattle.std.proofs.lemmas.Bool.Decides.{Decides-eqb}
+use Rattle.items.specs.Gives.{◌>>=◌}
+use Rattle.items.proofs.Gives.{on_ok}
+use Rattle.items.proofs.Each.{each-append, each-map, each-any, each-more, test_from_each}
+use Rattle.linear_terms.specs.declared.col.Col.{Col}
+use Rattle.linear_terms.specs.declared.col.Col.TheVariants.{At, Aux}
+use Rattle.linear_terms.specs.declared.error.TermError.{TermError}
+use Rattle.linear_terms.specs.declared.row.Row.{Row}
+use Rattle.linear_terms.specs.declared.row.Case.{Case}
+use Rattle.linear_terms.specs.Auxiliaries.{is_numbered}
+use Rattle.linear_terms.specs.Expressions.{Made, ◌⊠◌, ◌⊟◌, whole, column, at_most, or_zero, linear, put_into}
+use Rattle.linear_terms.specs.Polynomial.{Polynomial, column_of}
+use Rattle.linear_terms.specs.TermError.{times}
+use Rattle.linear_terms.proofs.Columns.{EachColumn}
+use Rattle.transition_formula.specs.Loss.{answered}
+use Rattle.transition_formula.specs.Transition.{Transition, every_column, every_column_of, is_below, fits, IsSolvable}
+use Rattle.transition_formula.proofs.Covered.{both_true, test_from_columns}
+use Rattle.transition_formula.proofs.Fitting.{is_below-more, below-true}
+use Rattle.posing.specs.Posing.{Posing, Done, Noted, ◌>>=◌ as ◌>>>◌, each, Always}
+use Rattle.posing.proofs.Paths.{always_bind, always_each, always_weaker, always_any}
+use Rattle.closed_form.specs.ClosedRow.{closed_row, sum_row}
+use Rattle.farkas_check.specs.declared.stratum.Relation.{Relation}
+use Rattle.polyhedra.specs.Vocabulary.{Vocabulary}
+use Rattle.polyhedra.specs.Directions.{directions}
+use Rattle.polyhedra.specs.Changes.{change, is_modified, is_exact, modified, moving, occurs_in, changes_of, occurring}
+use Rattle.polyhedra.specs.Bounds.{for_entries, put_in_for, bound_of, with_row, with_row_for, bounded, before_row, after_row, change_row, bounded_before, bounded_after, bounded_change}
+use Rattle.polyhedra.specs.Relations.{relations_of}
+use Rattle.polyhedra.proofs.Lists.{each-filter}
+use Rattle.polyhedra.proofs.Directed.{each-distinct}
+use Rattle.recurrence.specs.Strata.{Recurrence, Term, steady, recurrence_of, term_of, has_terms, stratum, steady_columns, over, stratum_if, is_short, has_grown, Strata, strata, all_terms}
+use Rattle.recurrence.specs.Progressions.{Progression, open_variables, progressions, excess, progression_row, bounded_progression}
+use Rattle.recurrence.specs.Star.{after_from, after, count, moved, posts, moves, same_term, term_row, terms_once, some_turn, rows_of, turns}
+use Rattle.recurrence.proofs.Progressed.{each-progression}
+use Rattle.recurrence.proofs.Within.{IsWithin, within-Ok, within-whole, within-column, within-product, within-difference, within-or_zero, within-put_in_for, within-coefficients, IsRowWithin, within-at_most, within-closed_row, within-sum_row, IsRecurrenceWithin, steady-within, recurrence-within}
+
+range-below : (b a n : ℕ) → a + n ≤ b → AllByRecursion (λ v. v < b) (range_with_len a n)
+range-below b a zero h = tt
+range-below b a (suc n) h = (omega arith, range-below b (a + 1) n (omega arith))
+
+length-filter : {A : Type 0} (test : A → Bool) (xs : List A) → length (filter test xs) ≤ length xs
+length-filter test [] = omega arith
+length-filter test (x ∷ xs) = go (test x) (length-filter test xs)
+  where
+    go : (b : Bool) → length (filter test xs) ≤ length xs → length (if b then x ∷ filter test xs else filter test xs) ≤ suc (length xs)
+    go true h = omega arith
+    go false h = omega arith
+
+range-length : (a n : ℕ) → length (range_with_len a n) ≡ n
+range-length a zero = refl
+range-length a (suc n) = ap (λ m. suc m) (range-length (a + 1) n)
+
+-- a number of an auxiliary among those from n on, or a column
+after_from-below : (to m n : ℕ) (us : List ℕ) (v : ℕ) → v < to → n + length us ≤ m → IsTrue (is_below to m (after_from n us v))
+after_from-below to m n [] v low few = below-true v to low
+after_from-below to m n (u ∷ us) v low few = go (u == v) (after_from-below to m (n + 1) us v low (omega arith))
+  where
+    go : (b : Bool) → IsTrue (is_below to m (after_from (n + 1) us v)) → IsTrue (is_below to m (if b then Aux n else after_from (n + 1) us v))
+    go true rest = below-true n m (omega arith)
+    go false rest = rest
+
+module _ (body : Transition) where
+  aux : ℕ
+  aux = length (modified true body) + 1
+
+  abbrev pub Below : Col → Type 0
+  Below c = IsTrue (is_below body.to (length (modified true body) + 1) c)
+
+  -- an entry column
+  abbrev pub Entry : Col → Type 0
+  Entry c = IsTrue (is_below body.to 0 c)
+
+  -- the case fits, and can be put in order
+  pub record IsFit (case : Case) : Type 0 where
+    pub fits : IsTrue (fits body.to body.to case)
+    pub numbered : IsTrue (every_column_of (is_numbered case.aux) case)
+
+  entry-below : (c : Col) → Entry c → Below c
+  entry-below c h = is_below-more body.to 0 (length (modified true body) + 1) (omega arith) c h
+
+  modified-below : AllByRecursion (λ v. v < body.to) (modified true body)
+  modified-below = each-filter (λ v. v < body.to) (is_modified true body.cases) (range_with_len 0 body.to) (range-below body.to 0 body.to (omega arith))
+
+  moving-below : AllByRecursion (λ v. v < body.to) (moving true body)
+  moving-below = each-filter (λ v. v < body.to) (is_exact true body.cases) (modified true body) modified-below
+
+  steady-below : body.from ≡ body.to → AllByRecursion (λ v. v < body.to) (steady_columns body)
+  steady-below same =
+      each-filter (λ v. v < body.to) (λ v. not (is_modified true body.cases v)) (occurring true body)
+      (each-filter (λ v. v < body.to) (occurs_in (changes_of true body)) (range_with_len 0 body.from) (subst (λ n. AllByRecursion (λ v. v < body.to) (range_with_len 0 n)) (sym same) (range-below body.to 0 body.to (omega arith))))
+
+  column-below : (v : ℕ) → v < body.to → Below (At v)
+  column-below v h = below-true v body.to h
+
+  after-below : (v : ℕ) → v < body.to → Below (after body v)
+  after-below v h = after_from-below body.to (length (modified true body) + 1) 0 (modified true body) v h (omega arith)
+
+  count-below : Below (count body)
+  count-below = below-true (length (modified true body)) (length (modified true body) + 1) (omega arith)
+
+  moved-within : (v : ℕ) → v < body.to → IsWithin Below (moved body v)
+  moved-within v h = within-difference Below (column (after body v)) (column (At v)) (within-column Below (after body v) (after-below v h)) (within-column Below (At v) (column-below v h))
+
+  -- ---- strata
+
+  abbrev TermWithin : Term → Type 0
+  TermWithin t = IsRecurrenceWithin Below t.recurrence
+
+  abbrev OfSome : Option (List Term) → Type 0
+  OfSome None = Unit {0}
+  OfSome (Some terms) = AllByRecursion TermWithin terms
+
+  of_unwrapped : (v : Option (List Term)) → OfSome v → AllByRecursion TermWithin (unwrap_or v [])
+  of_unwrapped None h = tt
+  of_unwrapped (Some terms) h = h
+
+  module _ (same_ends : body.from ≡ body.to) where
+    over-within : (v : Option (List Term)) → OfSome v → AllByRecursion (IsRecurrenceWithin Below) (over body v)
+    over-within v h =
+        each-append (IsRecurrenceWithin Below) (map steady (steady_columns body)) (map (λ (t : Term). t.recurrence) (unwrap_or v []))
+        (each-map (λ v. v < body.to) (IsRecurrenceWithin Below) steady (λ v k. steady-within Below v (column-below v k)) (steady_columns body) (steady-below same_ends))
+        (each-map TermWithin (IsRecurrenceWithin Below) (λ (t : Term). t.recurrence) (λ t k. k) (unwrap_or v []) (of_unwrapped v h))
+
+    stratum-within : (lower : List Recurrence) → AllByRecursion (IsRecurrenceWithin Below) lower → Always OfSome (stratum body lower)
+    unfolding stratum
+    stratum-within lower h =
+        always_bind (λ found. Unit {0}) OfSome (relations_of (changes_of true body) (map (λ (l : Recurrence). l.start) lower)) (λ found. Done (option_map (λ rs. map (term_of (moving true body) lower) (filter has_terms rs)) found))
+        (always_any (λ found. Unit {0}) (relations_of (changes_of true body) (map (λ (l : Recurrence). l.start) lower)) (λ found. tt)) go
+      where
+        go : (found : Option (List Relation)) → Unit {0} → OfSome (option_map (λ rs. map (term_of (moving true body) lower) (filter has_terms rs)) found)
+        go None any = tt
+        go (Some rs) any =
+            each-map (λ r. Unit {0}) TermWithin (term_of (moving true body) lower)
+            (λ r any. recurrence-within Below (moving true body) lower r (each-more (λ v. v < body.to) (λ v. Below (At v)) column-below (moving true body) moving-below) h)
+            (filter has_terms rs) (each-any (λ r. Unit {0}) (λ r. tt) (filter has_terms rs))
+
+    stratum_if-within : (asked : Bool) (lower : List Recurrence) → AllByRecursion (IsRecurrenceWithin Below) lower → Always OfSome (stratum_if asked body lower)
+    stratum_if-within true lower h = stratum-within lower h
+    stratum_if-within false lower h = tt
+
+    pub record AreWithin (s : Strata) : Type 0 where
+      pub first : AllByRecursion TermWithin s.first
+      pub second : AllByRecursion TermWithin s.second
+      pub third : AllByRecursion TermWithin s.third
+
+    strata-within : Always AreWithin (strata body)
+    unfolding strata
+    strata-within =
+        always_bind OfSome AreWithin (stratum body []) _ (stratum-within [] tt) (λ v1 h1.
+        always_bind OfSome AreWithin (stratum_if (is_short (length (modified true body)) v1) body (over body v1)) _ (stratum_if-within (is_short (length (modified true body)) v1) (over body v1) (over-within v1 h1)) (λ v2 h2.
+        always_bind OfSome AreWithin (stratum_if (has_grown v1 v2 && is_short (length (modified true body)) v2) body (over body v2)) _
+        (stratum_if-within (has_grown v1 v2 && is_short (length (modified true body)) v2) (over body v2) (over-within v2 h2)) (λ v3 h3.
+        record { first = of_unwrapped v1 h1; second = of_unwrapped v2 h2; third = of_unwrapped v3 h3 })))
+
+    -- ---- rows
+
+    abbrev pub RowsWithin : List Row → Type 0
+    RowsWithin rows = AllByRecursion (λ row. EachColumn Below row.poly.terms) rows
+
+    with_row-within : (rows : List Row) (made : Result Row TermError) → IsRowWithin Below made → RowsWithin rows → Always RowsWithin (with_row rows made)
+    unfolding with_row
+    with_row-within rows made row h = each-append (λ r. EachColumn Below r.poly.terms) rows (option_to_list (answered made)) h (go made row.as_made)
+      where
+        go : (m : Result Row TermError) → ((r : Row) → m ≡ Ok r → EachColumn Below r.poly.terms) → AllByRecursion (λ r. EachColumn Below r.poly.terms) (option_to_list (answered m))
+        go (Ok r) holds = (holds r refl, tt)
+        go (Err e) holds = tt
+
+    bounded-within : (objective : Case → Made) (row : ℤ → Result Row TermError) (rows : List Row) → ((most : ℤ) → IsRowWithin Below (row most)) → RowsWithin rows → Always RowsWithin (bounded body.cases objective row rows)
+    unfolding bounded
+    bounded-within objective row rows tells h =
+        always_bind (λ most. Unit {0}) RowsWithin (bound_of body.cases objective) (λ most. with_row_for rows row most) (always_any (λ most. Unit {0}) (bound_of body.cases objective) (λ most. tt)) go
+      where
+        go : (most : Option ℤ) → Unit {0} → Always RowsWithin (with_row_for rows row most)
+        go None any = h
+        go (Some most) any = with_row-within rows (row most) (tells most) h
+
+    each-within : {A : Type 0} (Q : A → Type 0) (step : List Row → A → Posing (List Row)) (rows : List Row) (xs : List A)
+        → ((rows : List Row) (x : A) → Q x → RowsWithin rows → Always RowsWithin (step rows x)) → AllByRecursion Q xs → RowsWithin rows → Always RowsWithin (each step rows xs)
+    each-within {A = A} Q step rows xs kept all h =
+        always_weaker (Keeps []) RowsWithin (each step rows xs) (λ made both. both.1)
+        (always_each Keeps step rows xs (λ x rest made both. always_weaker RowsWithin (Keeps rest) (step made x) (λ next fine. (both.0.1, fine)) (kept made x both.0.0 both.1)) (all, h))
+      where
+        Keeps : List A → List Row → Type 0
+        Keeps rest made = AllByRecursion Q rest × RowsWithin made
+
+    term_row-within : (t : Term) → TermWithin t → IsRowWithin Below (term_row body t)
+    term_row-within t h = record {
+      as_made = λ r e.
+          on_ok t.recurrence.first (λ d1. t.recurrence.second >>= λ d2. t.recurrence.third >>= λ d3. closed_row (linear t.relation.a (map (after body) (moving true body))) t.recurrence.start d1 d2 d3 (count body)) r e (λ d1 e1 f.
+          on_ok t.recurrence.second (λ d2. t.recurrence.third >>= λ d3. closed_row (linear t.relation.a (map (after body) (moving true body))) t.recurrence.start d1 d2 d3 (count body)) r f (λ d2 e2 g.
+          on_ok t.recurrence.third (λ d3. closed_row (linear t.relation.a (map (after body) (moving true body))) t.recurrence.start d1 d2 d3 (count body)) r g (λ d3 e3 k.
+          (within-closed_row Below (linear t.relation.a (map (after body) (moving true body))) t.recurrence.start d1 d2 d3 (count body)
+          (within-coefficients Below t.relation.a (map (after body) (moving true body)) (each-map (λ v. v < body.to) Below (after body) after-below (moving true body) moving-below))
+          h.start (h.first.as_made d1 e1) (h.second.as_made d2 e2) (h.third.as_made d3 e3) count-below).as_made r k)));
+    }
+
+    abbrev ProgressionWithin : Progression → Type 0
+    ProgressionWithin p = (p.variable < body.to) × TermWithin p.term
+
+    progression_row-within : (p : Progression) (most : ℤ) → ProgressionWithin p → IsRowWithin Below (progression_row (moved body) (count body) p most)
+    progression_row-within p most h = record {
+      as_made = λ r e.
+          on_ok (whole p.up ⊠ moved body p.variable) (λ d. times p.by p.term.relation.c >>= λ g. (whole p.by ⊠ Ok p.term.recurrence.start) >>= λ s. sum_row d s g most (count body)) r e (λ d e1 f.
+          on_ok (times p.by p.term.relation.c) (λ g. (whole p.by ⊠ Ok p.term.recurrence.start) >>= λ s. sum_row d s g most (count body)) r f (λ g e2 k.
+          on_ok (whole p.by ⊠ Ok p.term.recurrence.start) (λ s. sum_row d s g most (count body)) r k (λ s e3 l.
+          (within-sum_row Below d s g most (count body)
+          ((within-product Below (whole p.up) (moved body p.variable) (within-whole Below p.up) (moved-within p.variable h.0)).as_made d e1)
+          ((within-product Below (whole p.by) (Ok p.term.recurrence.start) (within-whole Below p.by) (within-Ok Below p.term.recurrence.start h.1.start)).as_made s e3) count-below).as_made r l)));
+    }
+
+    progressions-within : (voc : Vocabulary) (s : Strata) → AreWithin s → AllByRecursion ProgressionWithin (progressions body voc s)
+    progressions-within voc s are = each-progression body voc s TermWithin (λ v. v < body.to) are.first (each-filter (λ v. v < body.to) _ (modified true body) modified-below)
+
+    posts-within : AllByRecursion (λ (p : Polynomial). EachColumn Below p.terms) (posts body)
+    posts-within =
+        each-map (λ v. v < body.to) (λ (p : Polynomial). EachColumn Below p.terms) (λ v. column_of (after body v)) (λ v low. ((after-below v low, tt), tt)) (range_with_len 0 body.to) (range-below body.to 0 body.to (omega arith))
+
+    moves-within : AllByRecursion (λ (p : Polynomial). EachColumn Below p.terms) (moves body)
+    moves-within =
+        each-map (λ v. v < body.to) (λ (p : Polynomial). EachColumn Below p.terms) (λ v. or_zero (moved body v)) (λ v low. within-or_zero Below (moved body v) (moved-within v low)) (range_with_len 0 body.to) (range-below body.to 0 body.to (omega arith))
+
+    module _ (voc : Vocabulary) (within : AllByRecursion (λ (d : Polynomial). EachColumn Entry d.terms) (directions voc)) where
+      each-below : (d : Polynomial) → EachColumn Entry d.terms → EachColumn Below d.terms
+      each-below d h = each-more (λ t. AllByRecursion Entry t.0) (λ t. AllByRecursion Below t.0) (λ t k. each-more Entry Below entry-below t.0 k) d.terms h
+
+      rows-within : (s : Strata) → AreWithin s → Always RowsWithin (rows_of body voc s)
+      unfolding rows_of
+      rows-within s are =
+          always_bind RowsWithin RowsWithin (each (λ rows t. with_row rows (term_row body t)) [] (terms_once s)) _
+          (each-within TermWithin (λ rows t. with_row rows (term_row body t)) [] (terms_once s) (λ rows t k fine. with_row-within rows (term_row body t) (term_row-within t k) fine)
+          (each-distinct TermWithin same_term (all_terms s)
+          (each-append TermWithin (s.first ++ s.second) s.third (each-append TermWithin s.first s.second are.first are.second) are.third)) tt) (λ equations h1.
+          always_bind RowsWithin RowsWithin (each (bounded_before body.cases) (equations ++ some_turn body ∷ []) (directions voc)) _
+          (each-within (λ (d : Polynomial). EachColumn Entry d.terms) (bounded_before body.cases) (equations ++ some_turn body ∷ []) (directions voc)
+          (λ rows d k fine. bounded-within (λ case. Ok d) (before_row d) rows (λ most. within-at_most Below (Ok d ⊟ whole most) (within-difference Below (Ok d) (whole most) (within-Ok Below d (each-below d k)) (within-whole Below most))) fine)
+          within (each-append (λ r. EachColumn Below r.poly.terms) equations (some_turn body ∷ []) h1 (((count-below, tt), tt), tt))) (λ before h2.
+          always_bind RowsWithin RowsWithin (each (bounded_after body.cases (posts body)) before (directions voc)) _
+          (each-within (λ d. Unit {0}) (bounded_after body.cases (posts body)) before (directions voc)
+          (λ rows d k fine. bounded-within (λ case. put_in_for case.post d) (after_row (posts body) d) rows
+          (λ most. within-at_most Below (put_in_for (posts body) d ⊟ whole most) (within-difference Below (put_in_for (posts body) d) (whole most) (within-put_in_for Below (posts body) d posts-within) (within-whole Below most))) fine)
+          (each-any (λ d. Unit {0}) (λ d. tt) (directions voc)) h2) (λ after_too h3.
+          always_bind RowsWithin RowsWithin (each (bounded_change body.cases (moves body) (Some (count body))) after_too (directions voc ++ voc.extra)) _
+          (each-within (λ d. Unit {0}) (bounded_change body.cases (moves body) (Some (count body))) after_too (directions voc ++ voc.extra)
+          (λ rows d k fine. bounded-within (λ case. put_into (for_entries (change true case)) d) (change_row (moves body) (Some (count body)) d) rows
+          (λ most. within-at_most Below (put_in_for (moves body) d ⊟ whole most ⊠ column (count body)) (within-difference Below (put_in_for (moves body) d) (whole most ⊠ column (count body))
+          (within-put_in_for Below (moves body) d moves-within) (within-product Below (whole most) (column (count body)) (within-whole Below most) (within-column Below (count body) count-below)))) fine)
+          (each-any (λ d. Unit {0}) (λ d. tt) (directions voc ++ voc.extra)) h3) (λ changes h4.
+          each-within ProgressionWithin (bounded_progression body.cases (moved body) (count body)) changes (progressions body voc s)
+          (λ rows p k fine. bounded-within (excess p) (progression_row (moved body) (count body) p) rows (λ most. progression_row-within p most k) fine)
+          (progressions-within voc s are) h4))))
+
+      rows-tested : (test : Col → Bool) → ((c : Col) → Below c → IsTrue (test c)) → (rows : List Row) → RowsWithin rows → IsTrue (list_all (λ row. every_column test row.poly) rows)
+      rows-tested test more rows h = test_from_each (λ row. every_column test row.poly) (λ row. EachColumn Below row.poly.terms) (λ row k. polys-tested test more row.poly k) rows h
+        where
+          polys-tested : (test : Col → Bool) → ((c : Col) → Below c → IsTrue (test c)) → (p : Polynomial) → EachColumn Below p.terms → IsTrue (every_column test p)
+          polys-tested test more p k = test_from_columns test p (each-more (λ t. AllByRecursion Below t.0) (λ t. AllByRecursion (λ c. IsTrue (test c)) t.0) (λ t l. each-more Below (λ c. IsTrue (test c)) more t.0 l) p.terms k)
+
+      posts-tested : (test : Col → Bool) → ((c : Col) → Below c → IsTrue (test c)) → IsTrue (list_all (every_column test) (posts body))
+      posts-tested test more = test_from_each (every_column test) (λ (p : Polynomial). EachColumn Below p.terms)
+          (λ p k. test_from_columns test p (each-more (λ t. AllByRecursion Below t.0) (λ t. AllByRecursion (λ c. IsTrue (test c)) t.0) (λ t l. each-more Below (λ c. IsTrue (test c)) more t.0 l) p.terms k)) (posts body) posts-within
+
+      numbered : (c : Col) → Below c → IsTrue (is_numbered (length (modified true body) + 1) c)
+      numbered (At v) h = refl
+      numbered (Aux n) h = h
+
+      pub turns-fit : Always IsFit (turns body voc)
+      unfolding turns ◌>>>◌
+      turns-fit =
+          always_bind AreWithin IsFit (strata body) _ strata-within (λ s are.
+          always_bind RowsWithin IsFit (rows_of body voc s) _ (rows-within s are) (λ rows h.
+          record {
+            fits = both_true (length (posts body) == body.to) _ ((Decides-eqb _ body.to).1 (length-map-range_with_len (λ v. column_of (after body v)) 0 body.to))
+                (both_true (list_all (λ row. every_column (is_below body.to (length (modified true body) + 1)) row.poly) rows) _ (rows-tested (is_below body.to (length (modified true body) + 1)) (λ c k. k) rows h)
+                (posts-tested (is_below body.to (length (modified true body) + 1)) (λ c k. k)));
+            numbered = both_true (list_all (λ row. every_column (is_numbered (length (modified true body) + 1)) row.poly) rows) _ (rows-tested (is_numbered (length (modified true body) + 1)) numbered rows h)
+                (posts-tested (is_numbered (length (modified true body) + 1)) numbered);
+          }))

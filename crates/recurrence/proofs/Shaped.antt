@@ -1,0 +1,212 @@
+-- The rows of the second case have their monomials in print order, each once.
+use Rattle.std.proofs.Common.{◌≡◌, ℕ, List, [], ◌∷◌, ◌++◌, Bool, true, false, Ok, Err, map, refl, sym, ap, subst, ◌∙◌, arith, ℤ, pos, negsuc}
+use Rattle.std.specs.Prelude.{Result, Option, None, Some, option_to_list, not, ◌==◌}
+use Rattle.std.specs.List.{AllByRecursion, filter, filter_map, flat_map}
+use Rattle.items.specs.Gives.{◌>>=◌}
+use Rattle.items.proofs.Gives.{on_ok}
+use Rattle.items.proofs.Each.{each-append, each-map, each-any, each-flat_map}
+use Rattle.linear_terms.specs.declared.col.Col.{Col}
+use Rattle.linear_terms.specs.declared.col.Col.TheVariants.{At}
+use Rattle.linear_terms.specs.declared.error.TermError.{TermError}
+use Rattle.linear_terms.specs.declared.row.Kind.{Kind}
+use Rattle.linear_terms.specs.declared.row.Kind.TheVariants.{AtMost, Equal}
+use Rattle.linear_terms.specs.declared.row.Row.{Row}
+use Rattle.linear_terms.specs.declared.row.Case.{Case}
+use Rattle.linear_terms.specs.Equality.{poly_eq}
+use Rattle.linear_terms.specs.Expressions.{Made, ◌⊠◌, ◌⊟◌, whole, column, turned, at_most, or_zero, when_made, when_all_made, put_into, linear}
+use Rattle.linear_terms.specs.Operations.{product_of_polys, multiple_of, difference_of_polys, substituted}
+use Rattle.linear_terms.specs.Polynomial.{Terms, Polynomial, IsCanonical, constant_of, column_of}
+use Rattle.linear_terms.specs.TermError.{times}
+use Rattle.linear_terms.proofs.Canonical.{IsCanonical-nil, IsCanonical-cons, IsCanonical-column, IsCanonical-multiple_of, IsCanonical-difference_of_polys, IsCanonical-product_of_polys, IsCanonical-substituted}
+use Rattle.transition_formula.specs.Loss.{answered}
+use Rattle.transition_formula.specs.Transition.{Transition}
+use Rattle.posing.specs.Posing.{Posing, Done, Noted, ◌>>=◌ as ◌>>>◌, each, Always}
+use Rattle.posing.proofs.Paths.{always_bind, always_each, always_weaker, always_any}
+use Rattle.closed_form.specs.ClosedRow.{closed_poly, closed_row, sum_poly, sum_row}
+use Rattle.polyhedra.specs.Vocabulary.{Vocabulary}
+use Rattle.polyhedra.specs.Directions.{both_signs, less_others, candidates, directions}
+use Rattle.polyhedra.specs.Changes.{poly_at, change, moving}
+use Rattle.polyhedra.specs.Bounds.{for_entries, put_in_for, bound_of, with_row, with_row_for, bounded, before_row, after_row, so_often, change_row, bounded_before, bounded_after, bounded_change}
+use Rattle.polyhedra.proofs.Directed.{each-distinct}
+use Rattle.recurrence.specs.Strata.{Strata, strata, Term}
+use Rattle.recurrence.specs.Progressions.{Progression, excess, progression_row, progressions, bounded_progression}
+use Rattle.recurrence.specs.Star.{after, count, moved, posts, moves, term_row, terms_once, some_turn, rows_of, turns}
+
+-- ---- expressions
+
+pub record IsCanonicalIfMade (m : Made) : Type 0 where
+  pub as_made : (p : Polynomial) → m ≡ Ok p → IsCanonical p.terms
+
+pub canonical-Ok : (d : Polynomial) → IsCanonical d.terms → IsCanonicalIfMade (Ok d)
+canonical-Ok d h = record { as_made = λ p e. let same : d ≡ p = cc in subst (λ q. IsCanonical q.terms) same h }
+
+pub canonical-column : (c : Col) → IsCanonicalIfMade (column c)
+canonical-column c = canonical-Ok (column_of c) (IsCanonical-column (c ∷ []))
+
+pub canonical-turned : (m : Made) → IsCanonicalIfMade m → IsCanonicalIfMade (turned m)
+canonical-turned m h = record { as_made = λ p e. on_ok m (λ a. multiple_of a (negsuc 0)) p e (λ a f g. IsCanonical-multiple_of a (negsuc 0) p g (h.as_made a f)) }
+
+pub canonical-product : (a b : Made) → IsCanonicalIfMade (a ⊠ b)
+canonical-product a b = record {
+  as_made = λ r e.
+      on_ok a (λ p. b >>= λ q. product_of_polys p q) r e (λ p f g.
+      on_ok b (λ q. product_of_polys p q) r g (λ q h l. IsCanonical-product_of_polys p q r l));
+}
+
+pub canonical-difference : (a b : Made) → IsCanonicalIfMade a → IsCanonicalIfMade (a ⊟ b)
+canonical-difference a b of_a = record {
+  as_made = λ r e.
+      on_ok a (λ p. b >>= λ q. difference_of_polys p q) r e (λ p f g.
+      on_ok b (λ q. difference_of_polys p q) r g (λ q h l. IsCanonical-difference_of_polys p q r l (of_a.as_made p f)));
+}
+
+when-next : (values : Col → Made) (m : List Col) (next : Made) (p : Polynomial) → when_made values m next ≡ Ok p → next ≡ Ok p
+when-next values [] next p e = e
+when-next values (c ∷ m) next p e = on_ok (values c) (λ q. when_made values m next) p e (λ q f g. when-next values m next p g)
+
+when_all-next : (values : Col → Made) (ts : Terms) (next : Made) (p : Polynomial) → when_all_made values ts next ≡ Ok p → next ≡ Ok p
+when_all-next values [] next p e = e
+when_all-next values (t ∷ ts) next p e = when_all-next values ts next p (when-next values t.0 (when_all_made values ts next) p e)
+
+pub canonical-put_into : (values : Col → Made) (d : Polynomial) → IsCanonicalIfMade (put_into values d)
+canonical-put_into values d = record { as_made = λ p e. IsCanonical-substituted (λ c. or_zero (values c)) d p (when_all-next values d.terms (substituted (λ c. or_zero (values c)) d) p e) }
+
+pub canonical-put_in_for : (polys : List Polynomial) (d : Polynomial) → IsCanonicalIfMade (put_in_for polys d)
+canonical-put_in_for polys d = canonical-put_into (for_entries (λ v. Ok (poly_at polys v))) d
+
+-- ---- rows
+
+pub record IsCanonicalRow (m : Result Row TermError) : Type 0 where
+  pub as_made : (r : Row) → m ≡ Ok r → IsCanonical r.poly.terms
+
+pub canonical-at_most : (m : Made) → IsCanonicalIfMade m → IsCanonicalRow (at_most m)
+canonical-at_most m h = record {
+  as_made = λ r e. on_ok m (λ p. Ok record { poly = p; kind = AtMost }) r e
+      (λ p f g. let same : record { poly = p; kind = AtMost } ≡ r = cc in subst (λ (row : Row). IsCanonical row.poly.terms) same (h.as_made p f));
+}
+
+pub canonical-closed_row : (after before d1 d2 d3 : Polynomial) (k : Col) → IsCanonicalRow (closed_row after before d1 d2 d3 k)
+canonical-closed_row after before d1 d2 d3 k = record {
+  as_made = λ r e. on_ok made (λ p. Ok record { poly = p; kind = Equal }) r e
+      (λ p f g. let same : record { poly = p; kind = Equal } ≡ r = cc in subst (λ (row : Row). IsCanonical row.poly.terms) same (is_made.as_made p f));
+}
+  where
+    made : Made
+    made = closed_poly (Ok after) (Ok before) (Ok d1) (Ok d2) (Ok d3) (Ok (column_of k))
+
+    is_made : IsCanonicalIfMade (closed_poly (Ok after) (Ok before) (Ok d1) (Ok d2) (Ok d3) (Ok (column_of k)))
+    is_made =
+        canonical-difference
+        (whole (pos 6) ⊠ Ok after ⊟ whole (pos 6) ⊠ Ok before ⊟ whole (pos 6) ⊠ Ok (column_of k) ⊠ Ok d1 ⊟ whole (pos 3) ⊠ Ok (column_of k) ⊠ (Ok (column_of k) ⊟ whole (pos 1)) ⊠ Ok d2)
+        (Ok (column_of k) ⊠ (Ok (column_of k) ⊟ whole (pos 1)) ⊠ (Ok (column_of k) ⊟ whole (pos 2)) ⊠ Ok d3)
+        (canonical-difference
+        (whole (pos 6) ⊠ Ok after ⊟ whole (pos 6) ⊠ Ok before ⊟ whole (pos 6) ⊠ Ok (column_of k) ⊠ Ok d1)
+        (whole (pos 3) ⊠ Ok (column_of k) ⊠ (Ok (column_of k) ⊟ whole (pos 1)) ⊠ Ok d2)
+        (canonical-difference (whole (pos 6) ⊠ Ok after ⊟ whole (pos 6) ⊠ Ok before) (whole (pos 6) ⊠ Ok (column_of k) ⊠ Ok d1)
+        (canonical-difference (whole (pos 6) ⊠ Ok after) (whole (pos 6) ⊠ Ok before) (canonical-product (whole (pos 6)) (Ok after)))))
+
+-- ---- the second case
+
+abbrev pub RowsAreCanonical : List Row → Type 0
+RowsAreCanonical rows = AllByRecursion (λ row. IsCanonical row.poly.terms) rows
+
+with_row-canonical : (rows : List Row) (made : Result Row TermError) → IsCanonicalRow made → RowsAreCanonical rows → Always RowsAreCanonical (with_row rows made)
+unfolding with_row
+with_row-canonical rows made row h = each-append (λ r. IsCanonical r.poly.terms) rows (option_to_list (answered made)) h (go made row.as_made)
+  where
+    go : (m : Result Row TermError) → ((r : Row) → m ≡ Ok r → IsCanonical r.poly.terms) → AllByRecursion (λ r. IsCanonical r.poly.terms) (option_to_list (answered m))
+    go (Ok r) holds = (holds r refl, tt)
+    go (Err e) holds = tt
+
+bounded-canonical : (cases : List Case) (objective : Case → Made) (row : ℤ → Result Row TermError) (rows : List Row) → ((most : ℤ) → IsCanonicalRow (row most)) → RowsAreCanonical rows → Always RowsAreCanonical (bounded cases objective row rows)
+unfolding bounded
+bounded-canonical cases objective row rows tells h =
+    always_bind (λ most. Unit {0}) RowsAreCanonical (bound_of cases objective) (λ most. with_row_for rows row most) (always_any (λ most. Unit {0}) (bound_of cases objective) (λ most. tt)) go
+  where
+    go : (most : Option ℤ) → Unit {0} → Always RowsAreCanonical (with_row_for rows row most)
+    go None any = h
+    go (Some most) any = with_row-canonical rows (row most) (tells most) h
+
+each-canonical : {A : Type 0} (P : A → Type 0) (step : List Row → A → Posing (List Row)) (rows : List Row) (xs : List A)
+    → ((rows : List Row) (x : A) → P x → RowsAreCanonical rows → Always RowsAreCanonical (step rows x)) → AllByRecursion P xs → RowsAreCanonical rows → Always RowsAreCanonical (each step rows xs)
+each-canonical {A = A} P step rows xs kept all h =
+    always_weaker (Keeps []) RowsAreCanonical (each step rows xs) (λ made both. both.1)
+    (always_each Keeps step rows xs (λ x rest made both. always_weaker RowsAreCanonical (Keeps rest) (step made x) (λ next fine. (both.0.1, fine)) (kept made x both.0.0 both.1)) (all, h))
+  where
+    Keeps : List A → List Row → Type 0
+    Keeps rest made = AllByRecursion P rest × RowsAreCanonical made
+
+term_row-canonical : (body : Transition) (t : Term) → IsCanonicalRow (term_row body t)
+term_row-canonical body t = record {
+  as_made = λ r e.
+      on_ok t.recurrence.first (λ d1. t.recurrence.second >>= λ d2. t.recurrence.third >>= λ d3. closed_row (linear t.relation.a (map (after body) (moving true body))) t.recurrence.start d1 d2 d3 (count body)) r e (λ d1 e1 f.
+      on_ok t.recurrence.second (λ d2. t.recurrence.third >>= λ d3. closed_row (linear t.relation.a (map (after body) (moving true body))) t.recurrence.start d1 d2 d3 (count body)) r f (λ d2 e2 g.
+      on_ok t.recurrence.third (λ d3. closed_row (linear t.relation.a (map (after body) (moving true body))) t.recurrence.start d1 d2 d3 (count body)) r g (λ d3 e3 k.
+      (canonical-closed_row (linear t.relation.a (map (after body) (moving true body))) t.recurrence.start d1 d2 d3 (count body)).as_made r k)));
+}
+
+sum_row-canonical : (d s : Polynomial) (g most : ℤ) (k : Col) → IsCanonicalRow (sum_row d s g most k)
+sum_row-canonical d s g most k =
+    canonical-at_most (sum_poly (Ok d) (Ok s) g most (column k))
+    (canonical-difference (whole (pos 2) ⊠ Ok d ⊟ whole (pos 2) ⊠ column k ⊠ Ok s ⊟ whole g ⊠ column k ⊠ (column k ⊟ whole (pos 1))) (whole (pos 2) ⊠ whole most ⊠ column k)
+    (canonical-difference (whole (pos 2) ⊠ Ok d ⊟ whole (pos 2) ⊠ column k ⊠ Ok s) (whole g ⊠ column k ⊠ (column k ⊟ whole (pos 1)))
+    (canonical-difference (whole (pos 2) ⊠ Ok d) (whole (pos 2) ⊠ column k ⊠ Ok s) (canonical-product (whole (pos 2)) (Ok d)))))
+
+progression_row-canonical : (moved : ℕ → Made) (k : Col) (p : Progression) (most : ℤ) → IsCanonicalRow (progression_row moved k p most)
+progression_row-canonical moved k p most = record {
+  as_made = λ r e.
+      on_ok (whole p.up ⊠ moved p.variable) (λ d. times p.by p.term.relation.c >>= λ g. (whole p.by ⊠ Ok p.term.recurrence.start) >>= λ s. sum_row d s g most k) r e (λ d e1 f.
+      on_ok (times p.by p.term.relation.c) (λ g. (whole p.by ⊠ Ok p.term.recurrence.start) >>= λ s. sum_row d s g most k) r f (λ g e2 h.
+      on_ok (whole p.by ⊠ Ok p.term.recurrence.start) (λ s. sum_row d s g most k) r h (λ s e3 l. (sum_row-canonical d s g most k).as_made r l)));
+}
+
+some_turn-canonical : (body : Transition) → IsCanonical (some_turn body).poly.terms
+some_turn-canonical body = IsCanonical-cons (count body ∷ [], negsuc 0) [] tt (λ e. cc) IsCanonical-nil
+
+pub directions-canonical : (voc : Vocabulary) → AllByRecursion (λ d. IsCanonical d.terms) voc.harvested → AllByRecursion (λ d. IsCanonical d.terms) (directions voc)
+unfolding directions
+directions-canonical voc harvested =
+    each-distinct (λ d. IsCanonical d.terms) poly_eq (filter_map answered (candidates voc)) (answered-canonical (candidates voc)
+    (each-append IsCanonicalIfMade (flat_map (λ v. both_signs (column (At v))) voc.named ++ flat_map (less_others voc.named) voc.named) (flat_map (λ h. both_signs (Ok h)) voc.harvested)
+    (each-append IsCanonicalIfMade (flat_map (λ v. both_signs (column (At v))) voc.named) (flat_map (less_others voc.named) voc.named)
+    (each-flat_map (λ v. Unit {0}) IsCanonicalIfMade (λ v. both_signs (column (At v))) (λ v any. signs_made (column (At v)) (canonical-column (At v))) voc.named (each-any (λ v. Unit {0}) (λ v. tt) voc.named))
+    (each-flat_map (λ v. Unit {0}) IsCanonicalIfMade (less_others voc.named)
+    (λ u any. each-map (λ v. Unit {0}) IsCanonicalIfMade (λ v. column (At u) ⊟ column (At v)) (λ v any. canonical-difference (column (At u)) (column (At v)) (canonical-column (At u))) (filter (λ v. not (u == v)) voc.named)
+    (each-any (λ v. Unit {0}) (λ v. tt) (filter (λ v. not (u == v)) voc.named)))
+    voc.named (each-any (λ v. Unit {0}) (λ v. tt) voc.named)))
+    (each-flat_map (λ d. IsCanonical d.terms) IsCanonicalIfMade (λ h. both_signs (Ok h)) (λ h k. signs_made (Ok h) (canonical-Ok h k)) voc.harvested harvested)))
+  where
+    signs_made : (m : Made) → IsCanonicalIfMade m → AllByRecursion IsCanonicalIfMade (both_signs m)
+    signs_made m h = (h, (canonical-turned m h, tt))
+
+    answered-canonical : (ms : List Made) → AllByRecursion IsCanonicalIfMade ms → AllByRecursion (λ d. IsCanonical d.terms) (filter_map answered ms)
+    answered-canonical [] h = tt
+    answered-canonical (Ok p ∷ ms) h = (h.0.as_made p refl, answered-canonical ms h.1)
+    answered-canonical (Err e ∷ ms) h = answered-canonical ms h.1
+
+-- the rows of the second case are canonical, whatever the answers
+pub turns-canonical : (body : Transition) (voc : Vocabulary) → AllByRecursion (λ d. IsCanonical d.terms) voc.harvested → Always (λ case. RowsAreCanonical case.rows) (turns body voc)
+unfolding turns rows_of ◌>>>◌
+turns-canonical body voc harvested =
+    always_bind (λ s. Unit {0}) (λ case. RowsAreCanonical case.rows) (strata body) _ (always_any (λ s. Unit {0}) (strata body) (λ s. tt)) (λ s any.
+    always_bind RowsAreCanonical (λ case. RowsAreCanonical case.rows) (rows_of body voc s) _
+    (always_bind RowsAreCanonical RowsAreCanonical (each (λ rows t. with_row rows (term_row body t)) [] (terms_once s)) _
+    (each-canonical (λ t. Unit {0}) (λ rows t. with_row rows (term_row body t)) [] (terms_once s) (λ rows t k fine. with_row-canonical rows (term_row body t) (term_row-canonical body t) fine) (each-any (λ t. Unit {0}) (λ t. tt) (terms_once s)) tt) (λ equations h1.
+    always_bind RowsAreCanonical RowsAreCanonical (each (bounded_before body.cases) (equations ++ some_turn body ∷ []) (directions voc)) _
+    (each-canonical (λ d. IsCanonical d.terms) (bounded_before body.cases) (equations ++ some_turn body ∷ []) (directions voc)
+    (λ rows d k fine. bounded-canonical body.cases (λ case. Ok d) (before_row d) rows (λ most. canonical-at_most (Ok d ⊟ whole most) (canonical-difference (Ok d) (whole most) (canonical-Ok d k))) fine)
+    (directions-canonical voc harvested) (each-append (λ r. IsCanonical r.poly.terms) equations (some_turn body ∷ []) h1 (some_turn-canonical body, tt))) (λ before h2.
+    always_bind RowsAreCanonical RowsAreCanonical (each (bounded_after body.cases (posts body)) before (directions voc)) _
+    (each-canonical (λ d. Unit {0}) (bounded_after body.cases (posts body)) before (directions voc)
+    (λ rows d k fine. bounded-canonical body.cases (λ case. put_in_for case.post d) (after_row (posts body) d) rows
+    (λ most. canonical-at_most (put_in_for (posts body) d ⊟ whole most) (canonical-difference (put_in_for (posts body) d) (whole most) (canonical-put_in_for (posts body) d))) fine)
+    (each-any (λ d. Unit {0}) (λ d. tt) (directions voc)) h2) (λ after_too h3.
+    always_bind RowsAreCanonical RowsAreCanonical (each (bounded_change body.cases (moves body) (Some (count body))) after_too (directions voc ++ voc.extra)) _
+    (each-canonical (λ d. Unit {0}) (bounded_change body.cases (moves body) (Some (count body))) after_too (directions voc ++ voc.extra)
+    (λ rows d k fine. bounded-canonical body.cases (λ case. put_into (for_entries (change true case)) d) (change_row (moves body) (Some (count body)) d) rows
+    (λ most. canonical-at_most (put_in_for (moves body) d ⊟ whole most ⊠ column (count body)) (canonical-difference (put_in_for (moves body) d) (whole most ⊠ column (count body)) (canonical-put_in_for (moves body) d))) fine)
+    (each-any (λ d. Unit {0}) (λ d. tt) (directions voc ++ voc.extra)) h3) (λ changes h4.
+    each-canonical (λ p. Unit {0}) (bounded_progression body.cases (moved body) (count body)) changes (progressions body voc s)
+    (λ rows p k fine. bounded-canonical body.cases (excess p) (progression_row (moved body) (count body) p) rows (progression_row-canonical (moved body) (count body) p) fine)
+    (each-any (λ p. Unit {0}) (λ p. tt) (progressions body voc s)) h4)))))
+    (λ rows h. h))

@@ -1,0 +1,91 @@
+-- The laws of star, whole.
+use Rattle.std.proofs.Common.{◌≡◌, ℕ, ◌≤◌, List, [], ◌∷◌, Bool, true, false, map, length, refl, sym, subst, arith}
+use Rattle.std.specs.Prelude.{IsTrue, Option, None, Some, option_to_list}
+use Rattle.std.specs.List.{AllByRecursion, list_all, range_with_len}
+use Rattle.std.proofs.lemmas.List.Elements.{All-from_recursion}
+use Rattle.items.proofs.Each.{each-more}
+use Rattle.linear_terms.specs.declared.col.Col.TheVariants.{At}
+use Rattle.linear_terms.specs.declared.row.Row.{Row}
+use Rattle.linear_terms.specs.declared.row.Case.{Case}
+use Rattle.linear_terms.specs.Polynomial.{Polynomial, IsCanonical, column_of}
+use Rattle.linear_terms.proofs.Columns.{EachColumn}
+use Rattle.transition_formula.specs.Composition.{identity_of, joined}
+use Rattle.transition_formula.specs.Rounds.{in_order, solved, Stays}
+use Rattle.transition_formula.specs.Transition.{Transition, IsTransition, is_below, fits}
+use Rattle.transition_formula.proofs.Covered.{both, both_true}
+use Rattle.transition_formula.proofs.Fitting.{identity-fits}
+use Rattle.posing.specs.Posing.{Always, Done, ◌>>=◌}
+use Rattle.posing.proofs.Paths.{always_weaker, always_bind}
+use Rattle.polyhedra.specs.Vocabulary.{Vocabulary, IsDirection, IsDirectionOver}
+use Rattle.polyhedra.specs.Directions.{directions}
+use Rattle.polyhedra.specs.Finish.{finished}
+use Rattle.polyhedra.proofs.Directed.{directions-straight, directions-within}
+use Rattle.polyhedra.proofs.Finished.{IsFinished, FinishedLeft, finished-fits}
+use Rattle.recurrence.specs.Star.{turns, star_by, star_of}
+use Rattle.recurrence.specs.Law.{IsStarred, IsStar, StarHolds, StarFits}
+use Rattle.recurrence.proofs.Shaped.{RowsAreCanonical, turns-canonical}
+use Rattle.recurrence.proofs.Numbered.{Entry, IsFit, turns-fit}
+use Rattle.recurrence.proofs.Starred.{IsReady, always_both, star-holds}
+
+module _ (body : Transition) (voc : Vocabulary) (starred : IsStarred body voc) where
+  -- the second case fits and can be put in order
+  turns-are-fit : Always (IsFit body) (turns body voc)
+  turns-are-fit =
+      turns-fit body starred.same_ends voc (subst (λ n. AllByRecursion (λ (d : Polynomial). AllByRecursion (λ t. AllByRecursion (λ c. IsTrue (is_below n 0 c)) t.0) d.terms) (directions voc)) starred.same_columns (directions-within voc starred.vocabulary))
+
+  ready : Always IsReady (turns body voc)
+  ready =
+      always_weaker (λ case. IsFit body case × RowsAreCanonical case.rows) IsReady (turns body voc)
+      (λ case made. record { canonical = All-from_recursion (λ (row : Row). IsCanonical row.poly.terms) case.rows made.1; numbered = made.0.numbered })
+      (always_both (IsFit body) (λ case. RowsAreCanonical case.rows) (turns body voc) turns-are-fit
+      (turns-canonical body voc (each-more (IsDirectionOver voc.columns) (λ d. IsCanonical d.terms) (λ d k. k.canonical) voc.harvested starred.vocabulary.harvested)))
+
+pub star-holds-of-chains : StarHolds
+star-holds-of-chains body voc starred =
+    star-holds body voc starred.body_fits starred.same_ends (directions-straight voc starred.vocabulary)
+    (each-more (IsDirectionOver voc.columns) IsDirection (λ d k. k.straight) voc.extra starred.vocabulary.extra) (ready body voc starred)
+
+-- ---- what star fits
+
+aux_of : Option Case → ℕ
+aux_of None = 0
+aux_of (Some case) = case.aux
+
+aux_stays : (o : Option Case) → Stays (λ left. left.aux ≤ aux_of o) (solved o)
+unfolding aux_of
+aux_stays None = tt
+aux_stays (Some case) = omega arith
+
+abbrev SmallLeft : ℕ → Option Case → Type 0
+SmallLeft n None = Unit {0}
+SmallLeft n (Some case) = IsTrue (fits n n case) × (length case.rows ≤ 64)
+
+finished-small : (n : ℕ) (case : Case) → IsTrue (fits n n case) → Always (SmallLeft n) (finished case)
+finished-small n case fit =
+    always_weaker (FinishedLeft n n (aux_of (in_order case).left)) (SmallLeft n) (finished case) small (finished-fits n n (aux_of (in_order case).left) case fit (aux_stays (in_order case).left))
+  where
+    small : (o : Option Case) → FinishedLeft n n (aux_of (in_order case).left) o → SmallLeft n o
+    small None h = tt
+    small (Some left) h = (h.fit, h.rows)
+
+pub star-fits : StarFits
+unfolding star_of
+star-fits body voc starred = go body.cases
+  where
+    same_here : IsTransition body.to body.to (identity_of body.from).cases
+    same_here = subst (λ m. IsTransition m m (identity_of body.from).cases) starred.same_ends (identity-fits body.from)
+
+    with_left : (o : Option Case) → SmallLeft body.to o → IsStar body.to (joined (identity_of body.from) record { from = body.from; to = body.to; cases = option_to_list o })
+    with_left None h = record { fits = same_here; two = omega arith; rows = (omega arith, tt) }
+    with_left (Some case) h = record {
+      fits = let parts = both (fits body.to body.to record { aux = 0; rows = []; post = map (λ n. column_of (At n)) (range_with_len 0 body.from) }) true same_here in
+          both_true (fits body.to body.to record { aux = 0; rows = []; post = map (λ n. column_of (At n)) (range_with_len 0 body.from) }) _ parts.0 (both_true (fits body.to body.to case) true h.0 refl);
+      two = omega arith;
+      rows = (omega arith, (h.1, tt));
+    }
+
+    go : (cases : List Case) → Always (IsStar body.to) (star_by body voc cases)
+    go [] = record { fits = same_here; two = omega arith; rows = (omega arith, tt) }
+    go (case ∷ cases) =
+        always_bind (SmallLeft body.to) (IsStar body.to) (turns body voc >>= finished) _
+        (always_bind (IsFit body) (SmallLeft body.to) (turns body voc) finished (turns-are-fit body voc starred) (λ c k. finished-small body.to c k.fits)) with_left

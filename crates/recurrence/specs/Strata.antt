@@ -1,0 +1,96 @@
+-- Strata of a body: terms over the entry columns whose change in each turn the body determines, by terms of the strata below.
+--
+-- Source: Farzan and Kincaid, Compositional Recurrence Analysis, FMCAD 2015.
+use Rattle.std.specs.Prelude.{ℕ, ℤ, pos, List, [], ◌++◌, length, map, Option, None, Some, Bool, true, false, not, ◌&&◌, nat_lt, unwrap_or, Ok}
+use Rattle.std.specs.List.{list_any, filter}
+use Rattle.std.specs.Option.{option_map}
+use Rattle.std.specs.Ordering.{int_eq}
+use Rattle.linear_terms.specs.declared.col.Col.TheVariants.{At}
+use Rattle.linear_terms.specs.Expressions.{Made, ◌⊞◌, whole, linear, combination}
+use Rattle.linear_terms.specs.Polynomial.{Polynomial, column_of}
+use Rattle.transition_formula.specs.Transition.{Transition}
+use Rattle.farkas_check.specs.declared.stratum.Relation.{Relation}
+use Rattle.posing.specs.Posing.{Posing, Done, ◌>>=◌}
+use Rattle.polyhedra.specs.Changes.{is_modified, modified, moving, changes_of, occurring}
+use Rattle.polyhedra.specs.Relations.{relations_of}
+
+-- ---- difference equations
+
+-- a sequence along the turns: polynomials over the state in which they start, for its number there and its first three differences
+pub record Recurrence : Type 0 where
+  pub start : Polynomial
+  pub first : Made
+  pub second : Made
+  pub third : Made
+
+-- a term, by the relation that determines its change
+pub record Term : Type 0 where
+  pub relation : Relation
+  pub recurrence : Recurrence
+
+-- a column that is not modified
+abbrev pub steady : ℕ → Recurrence
+steady v = record { start = column_of (At v); first = whole (pos 0); second = whole (pos 0); third = whole (pos 0) }
+
+-- a term changes by a combination of the lower terms and a constant, its change by the same combination of their changes, and so on
+abbrev pub recurrence_of : List ℕ → List Recurrence → Relation → Recurrence
+recurrence_of variables lower r = record {
+  start = linear r.a (map (λ v. At v) variables);
+  first = combination r.b (map (λ l. Ok l.start) lower) ⊞ whole r.c;
+  second = combination r.b (map (λ l. l.first) lower);
+  third = combination r.b (map (λ l. l.second) lower);
+}
+
+abbrev pub term_of : List ℕ → List Recurrence → Relation → Term
+term_of variables lower r = record { relation = r; recurrence = recurrence_of variables lower r }
+
+-- some term has a number
+abbrev pub has_terms : Relation → Bool
+has_terms r = list_any (λ n. not (int_eq n (pos 0))) r.a
+
+-- ---- strata
+
+-- the relations between the changes of a body and lower terms, but for those between lower terms alone; none where they are not known
+unfoldable pub stratum : Transition → List Recurrence → Posing (Option (List Term))
+stratum body lower =
+    relations_of (changes_of true body) (map (λ l. l.start) lower) >>= λ found.
+    Done (option_map (λ rs. map (term_of (moving true body) lower) (filter has_terms rs)) found)
+
+-- the columns that are not modified and occur in a row or a change
+abbrev pub steady_columns : Transition → List ℕ
+steady_columns body = filter (λ v. not (is_modified true body.cases v)) (occurring true body)
+
+-- these columns, and then the terms of a stratum
+abbrev pub over : Transition → Option (List Term) → List Recurrence
+over body below = map steady (steady_columns body) ++ map (λ t. t.recurrence) (unwrap_or below [])
+
+-- a stratum, where it is asked
+abbrev pub stratum_if : Bool → Transition → List Recurrence → Posing (Option (List Term))
+stratum_if true body lower = stratum body lower
+stratum_if false body lower = Done None
+
+-- the terms are known, and are fewer than so many
+abbrev pub is_short : ℕ → Option (List Term) → Bool
+is_short most None = false
+is_short most (Some terms) = nat_lt (length terms) most
+
+-- the second has more terms than the first
+abbrev pub has_grown : Option (List Term) → Option (List Term) → Bool
+has_grown first second = nat_lt (length (unwrap_or first [])) (length (unwrap_or second []))
+
+pub record Strata : Type 0 where
+  pub first : List Term
+  pub second : List Term
+  pub third : List Term
+
+-- The first has no lower terms. The second is asked where the first has fewer terms than there are modified variables, and the
+-- third where the second has fewer too, and more than the first.
+unfoldable pub strata : Transition → Posing Strata
+strata body =
+    stratum body [] >>= λ v1.
+    stratum_if (is_short (length (modified true body)) v1) body (over body v1) >>= λ v2.
+    stratum_if (has_grown v1 v2 && is_short (length (modified true body)) v2) body (over body v2) >>= λ v3.
+    Done record { first = unwrap_or v1 []; second = unwrap_or v2 []; third = unwrap_or v3 [] }
+
+abbrev pub all_terms : Strata → List Term
+all_terms s = s.first ++ s.second ++ s.third
