@@ -2,19 +2,16 @@
 --
 -- A recurrence is true along a run where there is a ladder of sequences: the first has its numbers at each state, each grows by the
 -- next, and the polynomials of its differences have the first numbers of the next three.
-use Rattle.std.proofs.Common.{◌≡◌, ◌⊎◌, inl, inr, ℕ, zero, suc, ◌+◌, ◌<◌, ◌≤◌, List, [], ◌∷◌, ◌++◌, Bool, true, false, Ok, Err, map, length, refl, sym, ap, subst, ◌∙◌, arith, ℤ, pos, ◌+ℤ◌, ◌-ℤ◌, ◌*ℤ◌, ◌≤ℤ◌}
-use Rattle.std.specs.Prelude.{Option, None, Some, unwrap_or}
-use Rattle.std.specs.List.{AllByRecursion, filter, list_all, range_with_len}
+use Rattle.std.proofs.Common.{◌≡◌, ℕ, zero, suc, ◌+◌, ◌<◌, ◌≤◌, List, [], ◌∷◌, ◌++◌, true, false, Ok, map, refl, sym, ap, ◌∙◌, arith, ℤ, pos, ◌+ℤ◌, ◌-ℤ◌}
+use Rattle.std.specs.List.{AllByRecursion}
 use Rattle.std.specs.Result.{is_ok}
 use Rattle.std.proofs.lemmas.Int.{ints}
-use Rattle.linear_terms.specs.declared.col.Col.{Col}
-use Rattle.linear_terms.specs.declared.col.Col.TheVariants.{At, Aux}
+use Rattle.linear_terms.specs.declared.col.Col.TheVariants.{At}
 use Rattle.linear_terms.specs.declared.row.Case.{Case}
-use Rattle.linear_terms.specs.Polynomial.{Polynomial}
 use Rattle.linear_terms.specs.Value.{Valuation, value_of, dot}
-use Rattle.transition_formula.specs.Meaning.{numbers, HoldsCase, HoldsAt}
+use Rattle.transition_formula.specs.Meaning.{numbers, HoldsAt}
 use Rattle.transition_formula.specs.Transition.{Transition}
-use Rattle.linear_terms.specs.Expressions.{whole, or_zero, linear}
+use Rattle.linear_terms.specs.Expressions.{or_zero}
 use Rattle.farkas_check.specs.declared.stratum.Relation.{Relation}
 use Rattle.polyhedra.specs.Changes.{change, is_modified, is_exact, modified, moving, changes_in, changes_of}
 use Rattle.polyhedra.proofs.Lists.{each-unmap, filter-passes, each-tested}

@@ -1,6 +1,6 @@
 -- The second case fits, and can be put in order.
-use Rattle.std.proofs.Common.{◌≡◌, ℕ, zero, suc, ◌+◌, ◌<◌, ◌≤◌, ◌^◌, List, [], ◌∷◌, ◌++◌, length, Bool, true, false, Ok, Err, map, refl, sym, ap, subst, ◌∙◌, arith, ℤ, pos, negsuc}
-use Rattle.std.specs.Prelude.{Result, Option, None, Some, IsTrue, nat_lt, not, ◌==◌, ◌&&◌, option_to_list, unwrap_or, if◌then◌else◌}
+use Rattle.std.proofs.Common.{◌≡◌, ℕ, zero, suc, ◌+◌, ◌<◌, ◌≤◌, List, [], ◌∷◌, ◌++◌, length, Bool, true, false, Ok, Err, map, refl, sym, ap, subst, arith, ℤ}
+use Rattle.std.specs.Prelude.{Result, Option, None, Some, IsTrue, not, ◌==◌, ◌&&◌, option_to_list, unwrap_or, if◌then◌else◌}
 use Rattle.std.specs.Option.{option_map}
 use Rattle.std.specs.List.{AllByRecursion, list_all, filter, range_with_len}
 use Rattle.std.proofs.lemmas.List.FromFn.{length-map-range_with_len}
@@ -14,15 +14,15 @@ use Rattle.linear_terms.specs.declared.error.TermError.{TermError}
 use Rattle.linear_terms.specs.declared.row.Row.{Row}
 use Rattle.linear_terms.specs.declared.row.Case.{Case}
 use Rattle.linear_terms.specs.Auxiliaries.{is_numbered}
-use Rattle.linear_terms.specs.Expressions.{Made, ◌⊠◌, ◌⊟◌, whole, column, at_most, or_zero, linear, put_into}
+use Rattle.linear_terms.specs.Expressions.{Made, ◌⊠◌, ◌⊟◌, whole, column, or_zero, linear, put_into}
 use Rattle.linear_terms.specs.Polynomial.{Polynomial, column_of}
 use Rattle.linear_terms.specs.TermError.{times}
 use Rattle.linear_terms.proofs.Columns.{EachColumn}
 use Rattle.transition_formula.specs.Loss.{answered}
-use Rattle.transition_formula.specs.Transition.{Transition, every_column, every_column_of, is_below, fits, IsSolvable}
+use Rattle.transition_formula.specs.Transition.{Transition, every_column, every_column_of, is_below, fits}
 use Rattle.transition_formula.proofs.Covered.{both_true, test_from_columns}
 use Rattle.transition_formula.proofs.Fitting.{is_below-more, below-true}
-use Rattle.posing.specs.Posing.{Posing, Done, Noted, ◌>>=◌ as ◌>>>◌, each, Always}
+use Rattle.posing.specs.Posing.{Posing, Done, ◌>>=◌ as ◌>>>◌, each, Always}
 use Rattle.posing.proofs.Paths.{always_bind, always_each, always_weaker, always_any}
 use Rattle.closed_form.specs.ClosedRow.{closed_row, sum_row}
 use Rattle.farkas_check.specs.declared.stratum.Relation.{Relation}
@@ -33,8 +33,8 @@ use Rattle.polyhedra.specs.Bounds.{for_entries, put_in_for, bound_of, with_row, 
 use Rattle.polyhedra.specs.Relations.{relations_of}
 use Rattle.polyhedra.proofs.Lists.{each-filter}
 use Rattle.polyhedra.proofs.Directed.{each-distinct}
-use Rattle.recurrence.specs.Strata.{Recurrence, Term, steady, recurrence_of, term_of, has_terms, stratum, steady_columns, over, stratum_if, is_short, has_grown, Strata, strata, all_terms}
-use Rattle.recurrence.specs.Progressions.{Progression, open_variables, progressions, excess, progression_row, bounded_progression}
+use Rattle.recurrence.specs.Strata.{Recurrence, Term, steady, term_of, has_terms, stratum, steady_columns, over, stratum_if, is_short, has_grown, Strata, strata, all_terms}
+use Rattle.recurrence.specs.Progressions.{Progression, progressions, excess, progression_row, bounded_progression}
 use Rattle.recurrence.specs.Star.{after_from, after, count, moved, posts, moves, same_term, term_row, terms_once, some_turn, rows_of, turns}
 use Rattle.recurrence.proofs.Progressed.{each-progression}
 use Rattle.recurrence.proofs.Within.{IsWithin, within-Ok, within-whole, within-column, within-product, within-difference, within-or_zero, within-put_in_for, within-coefficients, IsRowWithin, within-at_most, within-closed_row, within-sum_row, IsRecurrenceWithin, steady-within, recurrence-within}

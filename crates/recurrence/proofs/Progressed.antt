@@ -1,5 +1,5 @@
 -- Progressions along a run.
-use Rattle.std.proofs.Common.{◌≡◌, ℕ, ◌+◌, ◌<◌, ◌≤◌, List, [], ◌∷◌, Bool, true, false, Ok, map, refl, sym, ap, subst, ◌∙◌, arith, ℤ, pos, ◌+ℤ◌, ◌-ℤ◌, ◌*ℤ◌, ◌≤ℤ◌}
+use Rattle.std.proofs.Common.{◌≡◌, ℕ, ◌+◌, List, [], Bool, true, false, Ok, map, refl, sym, ap, ◌∙◌, arith, ℤ, ◌+ℤ◌, ◌-ℤ◌, ◌*ℤ◌, ◌≤ℤ◌}
 use Rattle.std.specs.Prelude.{nat_lt, if◌then◌else◌}
 use Rattle.std.specs.List.{AllByRecursion, flat_map}
 use Rattle.std.proofs.lemmas.Int.{ints}
@@ -9,11 +9,10 @@ use Rattle.items.proofs.Gives.{on_ok}
 use Rattle.items.proofs.Each.{each-any, each-map, each-flat_map}
 use Rattle.linear_terms.specs.declared.col.Col.TheVariants.{At}
 use Rattle.linear_terms.specs.declared.row.Row.{Row}
-use Rattle.linear_terms.specs.declared.row.Case.{Case}
-use Rattle.linear_terms.specs.Expressions.{Made, ◌⊠◌, ◌⊟◌, whole, column}
+use Rattle.linear_terms.specs.Expressions.{◌⊠◌, whole}
 use Rattle.linear_terms.specs.Row.{RowsHold}
 use Rattle.linear_terms.specs.TermError.{times}
-use Rattle.linear_terms.specs.Value.{Valuation, value_of}
+use Rattle.linear_terms.specs.Value.{Valuation}
 use Rattle.linear_terms.proofs.Values.{times-value}
 use Rattle.linear_terms.proofs.Worth.{IsWorth, IsTrueIfMade, IsWorth-Ok, IsWorth-same, IsWorth-whole, IsWorth-column, IsWorth-product, IsWorth-difference}
 use Rattle.transition_formula.specs.Meaning.{numbers}

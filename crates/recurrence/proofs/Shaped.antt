@@ -1,34 +1,30 @@
 -- The rows of the second case have their monomials in print order, each once.
-use Rattle.std.proofs.Common.{◌≡◌, ℕ, List, [], ◌∷◌, ◌++◌, Bool, true, false, Ok, Err, map, refl, sym, ap, subst, ◌∙◌, arith, ℤ, pos, negsuc}
-use Rattle.std.specs.Prelude.{Result, Option, None, Some, option_to_list, not, ◌==◌}
-use Rattle.std.specs.List.{AllByRecursion, filter, filter_map, flat_map}
+use Rattle.std.proofs.Common.{◌≡◌, ℕ, List, [], ◌∷◌, ◌++◌, true, Ok, Err, map, refl, subst, ℤ, pos, negsuc}
+use Rattle.std.specs.Prelude.{Result, Option, None, Some, option_to_list}
+use Rattle.std.specs.List.{AllByRecursion}
 use Rattle.items.specs.Gives.{◌>>=◌}
 use Rattle.items.proofs.Gives.{on_ok}
-use Rattle.items.proofs.Each.{each-append, each-map, each-any, each-flat_map}
+use Rattle.items.proofs.Each.{each-append, each-any}
 use Rattle.linear_terms.specs.declared.col.Col.{Col}
-use Rattle.linear_terms.specs.declared.col.Col.TheVariants.{At}
 use Rattle.linear_terms.specs.declared.error.TermError.{TermError}
-use Rattle.linear_terms.specs.declared.row.Kind.{Kind}
 use Rattle.linear_terms.specs.declared.row.Kind.TheVariants.{AtMost, Equal}
 use Rattle.linear_terms.specs.declared.row.Row.{Row}
 use Rattle.linear_terms.specs.declared.row.Case.{Case}
-use Rattle.linear_terms.specs.Equality.{poly_eq}
-use Rattle.linear_terms.specs.Expressions.{Made, ◌⊠◌, ◌⊟◌, whole, column, turned, at_most, or_zero, when_made, when_all_made, put_into, linear}
-use Rattle.linear_terms.specs.Operations.{product_of_polys, multiple_of, difference_of_polys, substituted}
-use Rattle.linear_terms.specs.Polynomial.{Terms, Polynomial, IsCanonical, constant_of, column_of}
+use Rattle.linear_terms.specs.Expressions.{Made, ◌⊠◌, ◌⊟◌, whole, column, at_most, or_zero, when_made, when_all_made, put_into, linear}
+use Rattle.linear_terms.specs.Operations.{product_of_polys, difference_of_polys, substituted}
+use Rattle.linear_terms.specs.Polynomial.{Terms, Polynomial, IsCanonical, column_of}
 use Rattle.linear_terms.specs.TermError.{times}
-use Rattle.linear_terms.proofs.Canonical.{IsCanonical-nil, IsCanonical-cons, IsCanonical-column, IsCanonical-multiple_of, IsCanonical-difference_of_polys, IsCanonical-product_of_polys, IsCanonical-substituted}
+use Rattle.linear_terms.proofs.Canonical.{IsCanonical-nil, IsCanonical-cons, IsCanonical-column, IsCanonical-difference_of_polys, IsCanonical-product_of_polys, IsCanonical-substituted}
 use Rattle.transition_formula.specs.Loss.{answered}
 use Rattle.transition_formula.specs.Transition.{Transition}
-use Rattle.posing.specs.Posing.{Posing, Done, Noted, ◌>>=◌ as ◌>>>◌, each, Always}
+use Rattle.posing.specs.Posing.{Posing, ◌>>=◌ as ◌>>>◌, each, Always}
 use Rattle.posing.proofs.Paths.{always_bind, always_each, always_weaker, always_any}
 use Rattle.closed_form.specs.ClosedRow.{closed_poly, closed_row, sum_poly, sum_row}
 use Rattle.polyhedra.specs.Vocabulary.{Vocabulary}
-use Rattle.polyhedra.specs.Directions.{both_signs, less_others, candidates, directions}
+use Rattle.polyhedra.specs.Directions.{directions}
 use Rattle.polyhedra.specs.Changes.{poly_at, change, moving}
-use Rattle.polyhedra.specs.Bounds.{for_entries, put_in_for, bound_of, with_row, with_row_for, bounded, before_row, after_row, so_often, change_row, bounded_before, bounded_after, bounded_change}
-use Rattle.polyhedra.proofs.Directed.{each-distinct}
-use Rattle.recurrence.specs.Strata.{Strata, strata, Term}
+use Rattle.polyhedra.specs.Bounds.{for_entries, put_in_for, bound_of, with_row, with_row_for, bounded, before_row, after_row, change_row, bounded_before, bounded_after, bounded_change}
+use Rattle.recurrence.specs.Strata.{strata, Term}
 use Rattle.recurrence.specs.Progressions.{Progression, excess, progression_row, progressions, bounded_progression}
 use Rattle.recurrence.specs.Star.{after, count, moved, posts, moves, term_row, terms_once, some_turn, rows_of, turns}
 
@@ -42,9 +38,6 @@ canonical-Ok d h = record { as_made = λ p e. let same : d ≡ p = cc in subst (
 
 pub canonical-column : (c : Col) → IsCanonicalIfMade (column c)
 canonical-column c = canonical-Ok (column_of c) (IsCanonical-column (c ∷ []))
-
-pub canonical-turned : (m : Made) → IsCanonicalIfMade m → IsCanonicalIfMade (turned m)
-canonical-turned m h = record { as_made = λ p e. on_ok m (λ a. multiple_of a (negsuc 0)) p e (λ a f g. IsCanonical-multiple_of a (negsuc 0) p g (h.as_made a f)) }
 
 pub canonical-product : (a b : Made) → IsCanonicalIfMade (a ⊠ b)
 canonical-product a b = record {
@@ -163,31 +156,10 @@ progression_row-canonical moved k p most = record {
 some_turn-canonical : (body : Transition) → IsCanonical (some_turn body).poly.terms
 some_turn-canonical body = IsCanonical-cons (count body ∷ [], negsuc 0) [] tt (λ e. cc) IsCanonical-nil
 
-pub directions-canonical : (voc : Vocabulary) → AllByRecursion (λ d. IsCanonical d.terms) voc.harvested → AllByRecursion (λ d. IsCanonical d.terms) (directions voc)
-unfolding directions
-directions-canonical voc harvested =
-    each-distinct (λ d. IsCanonical d.terms) poly_eq (filter_map answered (candidates voc)) (answered-canonical (candidates voc)
-    (each-append IsCanonicalIfMade (flat_map (λ v. both_signs (column (At v))) voc.named ++ flat_map (less_others voc.named) voc.named) (flat_map (λ h. both_signs (Ok h)) voc.harvested)
-    (each-append IsCanonicalIfMade (flat_map (λ v. both_signs (column (At v))) voc.named) (flat_map (less_others voc.named) voc.named)
-    (each-flat_map (λ v. Unit {0}) IsCanonicalIfMade (λ v. both_signs (column (At v))) (λ v any. signs_made (column (At v)) (canonical-column (At v))) voc.named (each-any (λ v. Unit {0}) (λ v. tt) voc.named))
-    (each-flat_map (λ v. Unit {0}) IsCanonicalIfMade (less_others voc.named)
-    (λ u any. each-map (λ v. Unit {0}) IsCanonicalIfMade (λ v. column (At u) ⊟ column (At v)) (λ v any. canonical-difference (column (At u)) (column (At v)) (canonical-column (At u))) (filter (λ v. not (u == v)) voc.named)
-    (each-any (λ v. Unit {0}) (λ v. tt) (filter (λ v. not (u == v)) voc.named)))
-    voc.named (each-any (λ v. Unit {0}) (λ v. tt) voc.named)))
-    (each-flat_map (λ d. IsCanonical d.terms) IsCanonicalIfMade (λ h. both_signs (Ok h)) (λ h k. signs_made (Ok h) (canonical-Ok h k)) voc.harvested harvested)))
-  where
-    signs_made : (m : Made) → IsCanonicalIfMade m → AllByRecursion IsCanonicalIfMade (both_signs m)
-    signs_made m h = (h, (canonical-turned m h, tt))
-
-    answered-canonical : (ms : List Made) → AllByRecursion IsCanonicalIfMade ms → AllByRecursion (λ d. IsCanonical d.terms) (filter_map answered ms)
-    answered-canonical [] h = tt
-    answered-canonical (Ok p ∷ ms) h = (h.0.as_made p refl, answered-canonical ms h.1)
-    answered-canonical (Err e ∷ ms) h = answered-canonical ms h.1
-
 -- the rows of the second case are canonical, whatever the answers
-pub turns-canonical : (body : Transition) (voc : Vocabulary) → AllByRecursion (λ d. IsCanonical d.terms) voc.harvested → Always (λ case. RowsAreCanonical case.rows) (turns body voc)
+pub turns-canonical : (body : Transition) (voc : Vocabulary) → AllByRecursion (λ d. IsCanonical d.terms) (directions voc) → Always (λ case. RowsAreCanonical case.rows) (turns body voc)
 unfolding turns rows_of ◌>>>◌
-turns-canonical body voc harvested =
+turns-canonical body voc canonical =
     always_bind (λ s. Unit {0}) (λ case. RowsAreCanonical case.rows) (strata body) _ (always_any (λ s. Unit {0}) (strata body) (λ s. tt)) (λ s any.
     always_bind RowsAreCanonical (λ case. RowsAreCanonical case.rows) (rows_of body voc s) _
     (always_bind RowsAreCanonical RowsAreCanonical (each (λ rows t. with_row rows (term_row body t)) [] (terms_once s)) _
@@ -195,7 +167,7 @@ turns-canonical body voc harvested =
     always_bind RowsAreCanonical RowsAreCanonical (each (bounded_before body.cases) (equations ++ some_turn body ∷ []) (directions voc)) _
     (each-canonical (λ d. IsCanonical d.terms) (bounded_before body.cases) (equations ++ some_turn body ∷ []) (directions voc)
     (λ rows d k fine. bounded-canonical body.cases (λ case. Ok d) (before_row d) rows (λ most. canonical-at_most (Ok d ⊟ whole most) (canonical-difference (Ok d) (whole most) (canonical-Ok d k))) fine)
-    (directions-canonical voc harvested) (each-append (λ r. IsCanonical r.poly.terms) equations (some_turn body ∷ []) h1 (some_turn-canonical body, tt))) (λ before h2.
+    canonical (each-append (λ r. IsCanonical r.poly.terms) equations (some_turn body ∷ []) h1 (some_turn-canonical body, tt))) (λ before h2.
     always_bind RowsAreCanonical RowsAreCanonical (each (bounded_after body.cases (posts body)) before (directions voc)) _
     (each-canonical (λ d. Unit {0}) (bounded_after body.cases (posts body)) before (directions voc)
     (λ rows d k fine. bounded-canonical body.cases (λ case. put_in_for case.post d) (after_row (posts body) d) rows

@@ -1,7 +1,7 @@
 -- Star holds of the first and the last state of every run.
-use Rattle.std.proofs.Common.{◌≡◌, ◌⊎◌, inl, inr, ℕ, zero, suc, ◌+◌, ◌<◌, ◌≤◌, List, [], ◌∷◌, ◌++◌, Bool, true, false, Ok, Err, map, length, get_or, refl, sym, ap, subst, ◌∙◌, arith, ℤ, pos, negsuc, ◌+ℤ◌, ◌-ℤ◌, ◌*ℤ◌, ◌≤ℤ◌}
-use Rattle.std.specs.Prelude.{Option, None, Some, IsTrue, not, slice_get, unwrap_or, option_to_list, if◌then◌else◌, ◌==◌, nat_lt, ◌||◌}
-use Rattle.std.specs.List.{AllByRecursion, list_any, list_all, filter, range_with_len}
+use Rattle.std.proofs.Common.{◌≡◌, inl, ℕ, zero, suc, ◌+◌, ◌<◌, ◌≤◌, List, [], ◌∷◌, ◌++◌, Bool, true, false, Ok, map, length, get_or, refl, sym, ap, subst, ◌∙◌, arith, ℤ, pos, negsuc, ◌+ℤ◌, ◌-ℤ◌, ◌*ℤ◌, ◌≤ℤ◌}
+use Rattle.std.specs.Prelude.{Option, None, Some, IsTrue, unwrap_or, option_to_list, if◌then◌else◌, ◌==◌, nat_lt, ◌||◌}
+use Rattle.std.specs.List.{AllByRecursion, list_any, range_with_len}
 use Rattle.std.specs.Ordering.{match_ordering}
 use Rattle.std.specs.declared.cmp.Ordering.{Ordering}
 use Rattle.std.specs.declared.cmp.Ordering.TheVariants.{Less, Equal, Greater}
@@ -13,7 +13,6 @@ use Rattle.items.specs.Gives as gives
 use Rattle.items.proofs.Each.{each-append}
 use Rattle.linear_terms.specs.declared.col.Col.{Col}
 use Rattle.linear_terms.specs.declared.col.Col.TheVariants.{At, Aux}
-use Rattle.linear_terms.specs.declared.row.Row.{Row}
 use Rattle.linear_terms.specs.declared.row.Case.{Case}
 use Rattle.linear_terms.specs.Auxiliaries.{is_numbered}
 use Rattle.linear_terms.specs.Expressions.{Made, ◌⊟◌, column, or_zero}
@@ -23,28 +22,26 @@ use Rattle.linear_terms.specs.Polynomial.{Polynomial, constant_of, column_of}
 use Rattle.linear_terms.specs.TermError.{plus}
 use Rattle.linear_terms.specs.Row.{RowHolds, RowsHold, AreCanonical}
 use Rattle.linear_terms.specs.Value.{Valuation, value_of}
-use Rattle.linear_terms.proofs.Worth.{IsWorth, IsWorth-same, IsWorth-whole, IsWorth-column, IsWorth-product, IsWorth-difference, column_of-value}
-use Rattle.transition_formula.specs.Composition.{identity_of, joined}
-use Rattle.transition_formula.specs.Meaning.{numbers, HoldsAt, HoldsCase, HoldsLeft, HoldsSome, Holds, IsChain, last_of, HoldsOfChains}
+use Rattle.linear_terms.proofs.Worth.{IsWorth-same, IsWorth-whole, IsWorth-column, IsWorth-product, IsWorth-difference, column_of-value}
+use Rattle.transition_formula.specs.Composition.{identity_of}
+use Rattle.transition_formula.specs.Meaning.{numbers, HoldsCase, HoldsLeft, HoldsSome, Holds, IsChain, last_of, HoldsOfChains}
 use Rattle.transition_formula.specs.Transition.{Transition, fits, IsTransition, every_column_of, is_below}
 use Rattle.transition_formula.proofs.Covered.{both, each_from_test}
 use Rattle.transition_formula.proofs.Meanings.{joined-left, joined-right, identity-holds}
 use Rattle.posing.specs.Posing.{Posing, Done, Noted, Asked, ◌>>=◌, each, Always}
 use Rattle.posing.proofs.Paths.{always_bind, always_weaker, always_any}
-use Rattle.farkas_check.specs.declared.answer.Answer.{Answer}
-use Rattle.farkas_check.specs.declared.question.Question.{Question}
 use Rattle.polyhedra.specs.Vocabulary.{Vocabulary, IsDirection}
-use Rattle.polyhedra.specs.Directions.{distinct, directions}
-use Rattle.polyhedra.specs.Changes.{poly_at, is_modified, modified, moving}
-use Rattle.polyhedra.specs.Bounds.{with_row, so_often, bounded_before, bounded_after, bounded_change}
+use Rattle.polyhedra.specs.Directions.{directions}
+use Rattle.polyhedra.specs.Changes.{poly_at, is_modified, modified}
+use Rattle.polyhedra.specs.Bounds.{with_row, bounded_before, bounded_after, bounded_change}
 use Rattle.polyhedra.specs.Finish.{finished}
 use Rattle.polyhedra.proofs.Lists.{same_number, unfound}
 use Rattle.polyhedra.proofs.Directed.{each-distinct}
 use Rattle.polyhedra.proofs.Settled.{KeepsLeft}
 use Rattle.polyhedra.proofs.Finished.{finished-covers}
-use Rattle.polyhedra.proofs.Turns.{number_in, Reads, by_some, IsRunOf, unmodified-along}
+use Rattle.polyhedra.proofs.Turns.{number_in, by_some, IsRunOf, unmodified-along}
 use Rattle.polyhedra.proofs.Bounded.{IsOver, each-true, with_row-true, before-true, after-true, change-true}
-use Rattle.recurrence.specs.Strata.{Term, Strata, strata, all_terms}
+use Rattle.recurrence.specs.Strata.{Strata, strata, all_terms}
 use Rattle.recurrence.specs.Progressions.{open_variables, progressions, bounded_progression}
 use Rattle.recurrence.specs.Star.{after_from, after, count, moved, posts, moves, term_row, same_term, terms_once, some_turn, rows_of, turns, star_by, star_of}
 use Rattle.recurrence.proofs.Stratified.{IsTermAlong, IsFirstTerm, AreStrata, strata-along, all-along, IsAfter, term_row-true}

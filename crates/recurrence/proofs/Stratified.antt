@@ -1,21 +1,19 @@
 -- The strata of a body along a run of it.
-use Rattle.std.proofs.Common.{◌≡◌, ℕ, zero, suc, ◌+◌, ◌<◌, ◌≤◌, List, [], ◌∷◌, ◌++◌, Bool, true, false, Ok, Err, map, length, refl, sym, ap, subst, ◌∙◌, arith, ℤ, pos, ◌+ℤ◌, ◌-ℤ◌, ◌*ℤ◌, ◌≤ℤ◌}
+use Rattle.std.proofs.Common.{◌≡◌, ℕ, suc, ◌<◌, ◌≤◌, List, [], ◌∷◌, ◌++◌, Bool, true, false, map, length, refl, sym, ap, ◌∙◌, arith, ℤ, pos}
 use Rattle.std.specs.Prelude.{Option, None, Some, unwrap_or, not, ◌&&◌, Result}
 use Rattle.std.specs.Option.{option_map}
-use Rattle.std.specs.List.{AllByRecursion, filter, range_with_len}
-use Rattle.linear_terms.specs.declared.col.Col.{Col}
+use Rattle.std.specs.List.{AllByRecursion, filter}
 use Rattle.linear_terms.specs.declared.error.TermError.{TermError}
 use Rattle.linear_terms.specs.declared.row.Row.{Row}
 use Rattle.linear_terms.specs.Polynomial.{Polynomial}
-use Rattle.linear_terms.specs.Row.{RowHolds}
-use Rattle.linear_terms.specs.Value.{Valuation, value_of, dot}
+use Rattle.linear_terms.specs.Value.{Valuation, dot}
 use Rattle.transition_formula.specs.Transition.{Transition}
 use Rattle.items.specs.Gives as gives
 use Rattle.items.proofs.Gives.{on_ok}
-use Rattle.posing.specs.Posing.{Posing, Done, Noted, ◌>>=◌, Always}
-use Rattle.posing.proofs.Paths.{always_bind, always_weaker}
+use Rattle.posing.specs.Posing.{Done, Always}
+use Rattle.posing.proofs.Paths.{always_bind}
 use Rattle.closed_form.specs.ClosedRow.{closed_row}
-use Rattle.closed_form.specs.Differences.{Run, IsRun, ReadsAs}
+use Rattle.closed_form.specs.Differences.{Run, IsRun}
 use Rattle.closed_form.proofs.Values.{closed_row-run}
 use Rattle.std.proofs.lemmas.List.{length-map}
 use Rattle.linear_terms.specs.declared.row.Case.{Case}
@@ -29,10 +27,10 @@ use Rattle.polyhedra.proofs.Lists.{each-filter, filter-passes}
 use Rattle.polyhedra.proofs.Related.{IsTrueRelation, AreTrueRelations, relations-true}
 use Rattle.items.proofs.Each.{each-append, each-map, each-more}
 use Rattle.recurrence.specs.Strata.{Recurrence, Term, steady, term_of, has_terms, stratum, steady_columns, over, stratum_if, is_short, has_grown, Strata, strata, all_terms}
-use Rattle.recurrence.specs.Star.{after, count, term_row, posts, moves}
-use Rattle.linear_terms.proofs.Worth.{IsWorth, IsTrueIfMade, linear-value}
+use Rattle.recurrence.specs.Star.{after, count, term_row}
+use Rattle.linear_terms.proofs.Worth.{IsTrueIfMade, linear-value}
 use Rattle.polyhedra.proofs.Turns.{number_in, Reads, IsRunOf}
-use Rattle.recurrence.proofs.Along.{Ladder, maps-twice, IsAlong, AreAlong, more-constant, along-append, steady_ladder, steadies-along, term_ladder, term-along, term_ladder-start, term_ladder-first}
+use Rattle.recurrence.proofs.Along.{Ladder, maps-twice, IsAlong, AreAlong, along-append, steady_ladder, steadies-along, term_ladder, term-along, term_ladder-start, term_ladder-first}
 
 module _ (body : Transition) (steps : ℕ) (states : ℕ → List ℤ) (run : IsRunOf body steps states) where
   -- the term has a ladder that begins with its numbers

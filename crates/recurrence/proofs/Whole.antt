@@ -1,7 +1,7 @@
 -- The laws of star, whole.
-use Rattle.std.proofs.Common.{◌≡◌, ℕ, ◌≤◌, List, [], ◌∷◌, Bool, true, false, map, length, refl, sym, subst, arith}
+use Rattle.std.proofs.Common.{ℕ, ◌≤◌, List, [], ◌∷◌, true, map, length, refl, subst, arith}
 use Rattle.std.specs.Prelude.{IsTrue, Option, None, Some, option_to_list}
-use Rattle.std.specs.List.{AllByRecursion, list_all, range_with_len}
+use Rattle.std.specs.List.{AllByRecursion, range_with_len}
 use Rattle.std.proofs.lemmas.List.Elements.{All-from_recursion}
 use Rattle.items.proofs.Each.{each-more}
 use Rattle.linear_terms.specs.declared.col.Col.TheVariants.{At}
@@ -14,35 +14,36 @@ use Rattle.transition_formula.specs.Rounds.{in_order, solved, Stays}
 use Rattle.transition_formula.specs.Transition.{Transition, IsTransition, is_below, fits}
 use Rattle.transition_formula.proofs.Covered.{both, both_true}
 use Rattle.transition_formula.proofs.Fitting.{identity-fits}
-use Rattle.posing.specs.Posing.{Always, Done, ◌>>=◌}
+use Rattle.posing.specs.Posing.{Always, ◌>>=◌}
 use Rattle.posing.proofs.Paths.{always_weaker, always_bind}
 use Rattle.polyhedra.specs.Vocabulary.{Vocabulary, IsDirection, IsDirectionOver}
 use Rattle.polyhedra.specs.Directions.{directions}
 use Rattle.polyhedra.specs.Finish.{finished}
-use Rattle.polyhedra.proofs.Directed.{directions-straight, directions-within}
-use Rattle.polyhedra.proofs.Finished.{IsFinished, FinishedLeft, finished-fits}
+use Rattle.polyhedra.proofs.Directed.{directions-over}
+use Rattle.polyhedra.proofs.Finished.{FinishedLeft, finished-fits}
 use Rattle.recurrence.specs.Star.{turns, star_by, star_of}
 use Rattle.recurrence.specs.Law.{IsStarred, IsStar, StarHolds, StarFits}
 use Rattle.recurrence.proofs.Shaped.{RowsAreCanonical, turns-canonical}
-use Rattle.recurrence.proofs.Numbered.{Entry, IsFit, turns-fit}
+use Rattle.recurrence.proofs.Numbered.{IsFit, turns-fit}
 use Rattle.recurrence.proofs.Starred.{IsReady, always_both, star-holds}
 
 module _ (body : Transition) (voc : Vocabulary) (starred : IsStarred body voc) where
   -- the second case fits and can be put in order
   turns-are-fit : Always (IsFit body) (turns body voc)
   turns-are-fit =
-      turns-fit body starred.same_ends voc (subst (λ n. AllByRecursion (λ (d : Polynomial). AllByRecursion (λ t. AllByRecursion (λ c. IsTrue (is_below n 0 c)) t.0) d.terms) (directions voc)) starred.same_columns (directions-within voc starred.vocabulary))
+      turns-fit body starred.same_ends voc (each-more (IsDirectionOver body.to) (λ (d : Polynomial). EachColumn (λ c. IsTrue (is_below body.to 0 c)) d.terms) (λ d k. k.within) (directions voc)
+      (subst (λ n. AllByRecursion (IsDirectionOver n) (directions voc)) starred.same_columns (directions-over voc starred.vocabulary)))
 
   ready : Always IsReady (turns body voc)
   ready =
       always_weaker (λ case. IsFit body case × RowsAreCanonical case.rows) IsReady (turns body voc)
       (λ case made. record { canonical = All-from_recursion (λ (row : Row). IsCanonical row.poly.terms) case.rows made.1; numbered = made.0.numbered })
       (always_both (IsFit body) (λ case. RowsAreCanonical case.rows) (turns body voc) turns-are-fit
-      (turns-canonical body voc (each-more (IsDirectionOver voc.columns) (λ d. IsCanonical d.terms) (λ d k. k.canonical) voc.harvested starred.vocabulary.harvested)))
+      (turns-canonical body voc (each-more (IsDirectionOver voc.columns) (λ d. IsCanonical d.terms) (λ d k. k.canonical) (directions voc) (directions-over voc starred.vocabulary))))
 
 pub star-holds-of-chains : StarHolds
 star-holds-of-chains body voc starred =
-    star-holds body voc starred.body_fits starred.same_ends (directions-straight voc starred.vocabulary)
+    star-holds body voc starred.body_fits starred.same_ends (each-more (IsDirectionOver voc.columns) IsDirection (λ d k. k.straight) (directions voc) (directions-over voc starred.vocabulary))
     (each-more (IsDirectionOver voc.columns) IsDirection (λ d k. k.straight) voc.extra starred.vocabulary.extra) (ready body voc starred)
 
 -- ---- what star fits

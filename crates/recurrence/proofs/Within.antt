@@ -1,21 +1,21 @@
 -- The columns of expressions and rows.
-use Rattle.std.proofs.Common.{◌≡◌, ℕ, zero, suc, List, [], ◌∷◌, Bool, true, false, Ok, Err, map, refl, sym, ap, subst, ℤ, pos, negsuc}
-use Rattle.std.specs.Prelude.{Result, slice_get, unwrap_or, if◌then◌else◌}
+use Rattle.std.proofs.Common.{◌≡◌, ℕ, zero, suc, List, [], ◌∷◌, Bool, true, false, Ok, Err, map, refl, subst, ℤ, pos, negsuc}
+use Rattle.std.specs.Prelude.{Result, if◌then◌else◌}
 use Rattle.std.specs.List.{AllByRecursion}
 use Rattle.std.specs.Ordering.{int_eq}
 use Rattle.items.specs.Gives.{◌>>=◌}
 use Rattle.items.proofs.Gives.{on_ok}
-use Rattle.items.proofs.Each.{each-map, each-more}
+use Rattle.items.proofs.Each.{each-map}
 use Rattle.linear_terms.specs.declared.col.Col.{Col}
 use Rattle.linear_terms.specs.declared.col.Col.TheVariants.{At, Aux}
 use Rattle.linear_terms.specs.declared.error.TermError.{TermError}
 use Rattle.linear_terms.specs.declared.row.Kind.TheVariants.{AtMost, Equal}
 use Rattle.linear_terms.specs.declared.row.Row.{Row}
-use Rattle.linear_terms.specs.Expressions.{Made, ◌⊠◌, ◌⊞◌, ◌⊟◌, whole, column, turned, at_most, or_zero, all_of, coefficients, linear, sum_from, combination, when_made, when_all_made, put_into}
-use Rattle.linear_terms.specs.Operations.{kept, sum_of_polys, multiple_of, difference_of_polys, product_of_polys, substituted}
+use Rattle.linear_terms.specs.Expressions.{Made, ◌⊠◌, ◌⊞◌, ◌⊟◌, whole, column, turned, at_most, or_zero, all_of, coefficients, sum_from, combination, when_made, when_all_made, put_into}
+use Rattle.linear_terms.specs.Operations.{sum_of_polys, multiple_of, difference_of_polys, product_of_polys, substituted}
 use Rattle.linear_terms.specs.Polynomial.{Terms, Polynomial, constant_of, column_of}
 use Rattle.linear_terms.proofs.Columns.{EachColumn, sum_of_polys-each, multiple_of-each, product_of_polys-each, substituted-each}
-use Rattle.closed_form.specs.ClosedRow.{closed_poly, closed_row, sum_poly, sum_row}
+use Rattle.closed_form.specs.ClosedRow.{closed_poly, closed_row, sum_row}
 use Rattle.farkas_check.specs.declared.stratum.Relation.{Relation}
 use Rattle.polyhedra.specs.Changes.{poly_at}
 use Rattle.polyhedra.specs.Bounds.{for_entries, put_in_for}

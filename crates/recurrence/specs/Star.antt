@@ -1,5 +1,5 @@
 -- Star: the identity, and a case for one and more turns of a body.
-use Rattle.std.specs.Prelude.{ℕ, ◌+◌, ℤ, pos, negsuc, List, [], ◌∷◌, ◌++◌, length, map, Option, Some, true, Bool, ◌==◌, if◌then◌else◌, Result, option_to_list}
+use Rattle.std.specs.Prelude.{ℕ, ◌+◌, pos, negsuc, List, [], ◌∷◌, ◌++◌, length, map, Some, true, Bool, ◌==◌, if◌then◌else◌, Result, option_to_list}
 use Rattle.std.specs.List.{range_with_len}
 use Rattle.std.specs.Cmp.Lexicographic.{pointwise}
 use Rattle.std.specs.Ordering.{int_eq}

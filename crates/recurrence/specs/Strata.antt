@@ -1,7 +1,7 @@
 -- Strata of a body: terms over the entry columns whose change in each turn the body determines, by terms of the strata below.
 --
 -- Source: Farzan and Kincaid, Compositional Recurrence Analysis, FMCAD 2015.
-use Rattle.std.specs.Prelude.{ℕ, ℤ, pos, List, [], ◌++◌, length, map, Option, None, Some, Bool, true, false, not, ◌&&◌, nat_lt, unwrap_or, Ok}
+use Rattle.std.specs.Prelude.{ℕ, pos, List, [], ◌++◌, length, map, Option, None, Some, Bool, true, false, not, ◌&&◌, nat_lt, unwrap_or, Ok}
 use Rattle.std.specs.List.{list_any, filter}
 use Rattle.std.specs.Option.{option_map}
 use Rattle.std.specs.Ordering.{int_eq}
