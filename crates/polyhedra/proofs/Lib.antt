@@ -17,3 +17,4 @@ pub mod Lists
 pub mod Objectives
 pub mod PutIn
 pub mod Results
+pub mod Tabled

@@ -24,3 +24,4 @@ pub mod Squash
 pub mod Laws
 -- ---- words of proofs
 pub mod Keys
+pub mod Tables

@@ -1,22 +1,25 @@
-ghost use Rattle.std.specs.Prelude.{◌≡◌, ◌++◌, ℤ, List, All, Ok, Result, IfOk, length, option_to_list};
+ghost use Rattle.std.specs.Prelude.{◌≡◌, ◌++◌, true, List, All, Ok, Result, IfOk, length, option_to_list};
 ghost use Rattle.items.specs.Gives.{Gives};
 ghost use Rattle.linear_terms.specs.declared.row.Row.{Row};
 ghost use Rattle.linear_terms.specs.declared.error.TermError.{TermError};
-ghost use Rattle.linear_terms.specs.Expressions.{◌⊟◌, at_most};
+ghost use Rattle.linear_terms.specs.Expressions.{◌⊟◌, at_most, put_into};
 ghost use Rattle.linear_terms.specs.TermError.{cause};
 ghost use Rattle.transition_formula.specs.Loss.{answered, losses_of};
 ghost use Rattle.farkas_check.specs.declared.question.Goal.{Goal};
 ghost use Rattle.posing.specs.Follows.{Follows};
 ghost use Rattle.posing.specs.Logs.{Adds, loss_notes};
 ghost use Rattle.posing.specs.Posing.{each};
-ghost use Rattle.polyhedra.specs.Bounds.{put_in_for, goals_of, bound_by, bound_in, before_row, after_row, bounded_before, bounded_after, IsCovered, IsCoveredByPosts};
+ghost use Rattle.polyhedra.specs.Bounds.{put_in_for, goals_of, bound_by, bound_in, before_row, after_row, bounded_before, bounded_after, so_often, change_row, bounded_change, IsCovered, IsCoveredByPosts, for_entries};
+ghost use Rattle.polyhedra.specs.Changes.{change};
+ghost use Rattle.polyhedra.specs.Tables.{AreTables};
 
+use crate::changes::{Moves, objective, tables_of};
 use crate::infeasible::limits_of;
 use crate::losses::note;
 use crate::{Log, WorkError};
 use farkas_check::{Answer, Goal, Oracle, Question};
 use items::Items;
-use linear_terms::{Case, Kind, Poly, Row, TermError, difference, subst};
+use linear_terms::{Case, Col, Kind, Poly, Row, TermError, difference, mul, subst};
 use posing::ask;
 use std::alloc::{AllocError, Global};
 
@@ -249,4 +252,105 @@ fn after_row(alloc: Global, after: &[Poly], d: &Poly, most: &i128) -> Result<Row
 {
     let left = put_in_for(alloc, after, d)?;
     at_most(alloc, &left, &Poly::constant(alloc, *most))
+}
+
+// ---- bounds on changes
+
+/// Each direction's greatest value on the changes of the first `to` variables is asked, where both ends have one vocabulary;
+/// where there is one, it gives a row behind the others, in which `moved` has what stands for each change. The change is at
+/// most the bound, or so many times the bound as the column `turns` says.
+pub fn bounds_on_changes<O: Oracle>(
+    alloc: Global,
+    rows: Items<Row>,
+    cases: &[Case],
+    to: u32,
+    moved: &[Poly],
+    turns: Option<Col>,
+    directions: &[Poly],
+    oracle: &mut O,
+    log: &mut Log,
+) -> Result<Items<Row>, WorkError>
+    requires posts { All (λ case. length case.post ≡ to) cases.now }
+    requires columns { All (IsCovered to) directions.now }
+    requires rows { All (IsCovered (length moved.now)) directions.now }
+    ensures { Follows O.asking oracle.old oracle.new log.old log.new result (each (bounded_change cases.now moved.now turns) rows directions.now) }
+{
+    let tables = tables_of(alloc, true, cases, to)?;
+    let mut made = rows;
+    for d in directions {
+        let tables = tables.as_slice();
+        made = bound_on_changes(alloc, made, cases, tables, moved, turns, d, oracle, log)?;
+    }
+    Ok(made)
+}
+
+fn bound_on_changes<O: Oracle>(
+    alloc: Global,
+    rows: Items<Row>,
+    cases: &[Case],
+    tables: &[Moves],
+    moved: &[Poly],
+    turns: Option<Col>,
+    d: &Poly,
+    oracle: &mut O,
+    log: &mut Log,
+) -> Result<Items<Row>, WorkError>
+    requires tables { AreTables cases.now tables.now d.now }
+    requires rows { IsCovered (length moved.now) d.now }
+    ensures { Follows O.asking oracle.old oracle.new log.old log.new result (bounded_change cases.now moved.now turns rows d.now) }
+{
+    let goals = goals_on_changes(alloc, cases, tables, d);
+    let bound = bound_by(alloc, goals, oracle, log)?;
+    match &bound {
+        None => Ok(rows),
+        Some(most) => {
+            let row = change_row(alloc, moved, turns, d, most);
+            Ok(with_row(alloc, rows, row, log)?)
+        }
+    }
+}
+
+fn goals_on_changes(
+    alloc: Global,
+    cases: &[Case],
+    tables: &[Moves],
+    d: &Poly,
+) -> Result<Items<Goal>, TermError>
+    requires { AreTables cases.now tables.now d.now }
+    ensures { Gives cause (λ g. g) result (goals_of (λ case. put_into (for_entries (change true case)) d.now) cases.now) }
+{
+    let mut goals = Items::new(alloc);
+    for (place, case) in cases.iter().enumerate() {
+        let objective = objective(alloc, &tables[place], d)?;
+        goals.push(goal_of(case, objective)?)?;
+    }
+    Ok(goals)
+}
+
+fn change_row(
+    alloc: Global,
+    moved: &[Poly],
+    turns: Option<Col>,
+    d: &Poly,
+    most: &i128,
+) -> Result<Row, TermError>
+    requires { IsCovered (length moved.now) d.now }
+    ensures { Gives cause (λ r. r) result (change_row moved.now turns d.now most.now) }
+{
+    let left = put_in_for(alloc, moved, d)?;
+    let right = so_often(alloc, turns, Poly::constant(alloc, *most))?;
+    at_most(alloc, &left, &right)
+}
+
+/// A bound, or so many times a bound as a column says.
+fn so_often(alloc: Global, turns: Option<Col>, most: Poly) -> Result<Poly, TermError>
+    ensures { Gives cause (λ p. p) result (so_often turns (Ok most)) }
+{
+    match turns {
+        None => Ok(most),
+        Some(turns) => {
+            let turns = Poly::column(alloc, turns)?;
+            mul(alloc, &most, &turns)
+        }
+    }
 }

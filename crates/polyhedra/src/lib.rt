@@ -4,6 +4,7 @@
 
 mod bounds;
 mod candidates;
+mod changes;
 mod finishing;
 mod infeasible;
 mod losses;
@@ -11,7 +12,7 @@ mod settling;
 mod thinning;
 mod vocabulary;
 
-pub use bounds::{bounds_after, bounds_before, with_row};
+pub use bounds::{bounds_after, bounds_before, bounds_on_changes, with_row};
 pub use candidates::directions;
 pub use finishing::finish;
 pub use posing::{Log, Note, Witness, WorkError};

@@ -1,0 +1,24 @@
+use Rattle.std.proofs.Common.{refl, sym, subst, ◌∙◌}
+use Rattle.posing.proofs.Following.{leads_none, stops}
+use Rattle.posing.proofs.Steps.{each_next, each_fails}
+use Rattle.polyhedra.specs.Bounds.{IsCovered, bounded_change}
+use Rattle.polyhedra.proofs.bounds.bounds_on_changes.Goals as goal
+
+pub loop-d-init : goal.loop-d-init
+loop-d-init g c = leads_none _ _ _ _
+
+pub returns-in_err-made : goal.returns-in_err-made
+returns-in_err-made g c = each_fails (bounded_change c.args.cases.now c.args.moved.now c.args.turns) _ _ c.loop-d.invariant c.loop-d-test.true c.d-item.is c.in_err-made.ensures c.from_residual-in_err-made.ensures.1
+
+pub loop-d-preserved : goal.loop-d-preserved
+loop-d-preserved g c = each_next (bounded_change c.args.cases.now c.args.moved.now c.args.turns) _ _ c.loop-d.invariant c.loop-d-test.true c.d-item.is c.in_ok-made.ensures
+
+pub bound_on_changes-requires-clause-tables : goal.bound_on_changes-requires-clause-tables
+bound_on_changes-requires-clause-tables g c = record {
+  count = c.args.to;
+  same = c.as_slice-tables.ensures ∙ c.in_ok-tables.ensures;
+  covered = subst (IsCovered c.args.to) (sym c.d-item.is) (c.requires.columns c.loop-d.d-index c.d-item.result c.loop-d-test.true);
+}
+
+pub returns-in_err-tables : goal.returns-in_err-tables
+returns-in_err-tables g c = stops _ _ _ _ _ _ refl c.from_residual.ensures.1

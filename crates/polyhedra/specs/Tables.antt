@@ -1,0 +1,52 @@
+-- Tables of the changes of a case.
+use Rattle.std.specs.Prelude.{◌≡◌, ℕ, List, [], ◌∷◌, ◌++◌, map, true, Bool, Option, None, Some, Ok, Err, slice_get, unwrap_or}
+use Rattle.std.specs.List.{range_with_len}
+use Rattle.linear_terms.specs.declared.col.Col.{Col}
+use Rattle.linear_terms.specs.declared.col.Col.TheVariants.{At, Aux}
+use Rattle.linear_terms.specs.declared.error.TermError.{TermError}
+use Rattle.linear_terms.specs.declared.row.Case.{Case}
+use Rattle.linear_terms.specs.Expressions.{Made, or_zero}
+use Rattle.linear_terms.specs.Polynomial.{Terms, Polynomial}
+use Rattle.polyhedra.specs.declared.changes.Moves.{Moves}
+use Rattle.polyhedra.specs.Bounds.{IsCovered}
+use Rattle.polyhedra.specs.Changes.{change}
+
+-- why a polynomial cannot be made
+abbrev pub fault_of : Made → Option TermError
+fault_of (Ok p) = None
+fault_of (Err e) = Some e
+
+-- the changes of the first so many variables of a case, 0 where they cannot be made, and why they cannot
+abbrev pub table_of : Bool → ℕ → Case → Moves
+table_of one n case = record {
+  polys = map (λ v. or_zero (change one case v)) (range_with_len 0 n);
+  faults = map (λ v. fault_of (change one case v)) (range_with_len 0 n);
+}
+
+-- with one more change
+abbrev pub with_made : Moves → Made → Moves
+with_made moves made = record { polys = moves.polys ++ or_zero made ∷ []; faults = moves.faults ++ fault_of made ∷ [] }
+
+-- the tables of cases, and a direction over no other columns
+pub record AreTables (cases : List Case) (tables : List Moves) (d : Polynomial) : Type 0 where
+  pub count : ℕ
+  pub same : tables ≡ map (table_of true count) cases
+  pub covered : IsCovered count d
+
+-- ---- the first fault in print order
+
+abbrev pub fault_at : List (Option TermError) → Col → Option TermError
+fault_at faults (At v) = unwrap_or (slice_get faults v) None
+fault_at faults (Aux n) = None
+
+abbrev pub or_else : Option TermError → Option TermError → Option TermError
+or_else None rest = rest
+or_else (Some e) rest = Some e
+
+abbrev pub first_in : List (Option TermError) → List Col → Option TermError
+first_in faults [] = None
+first_in faults (c ∷ m) = or_else (fault_at faults c) (first_in faults m)
+
+abbrev pub first_fault : List (Option TermError) → Terms → Option TermError
+first_fault faults [] = None
+first_fault faults (t ∷ ts) = or_else (first_in faults t.0) (first_fault faults ts)
