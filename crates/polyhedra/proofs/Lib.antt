@@ -2,6 +2,8 @@
 pub mod Settled
 pub mod Thinned
 pub mod Finished
+pub mod Squashed
+pub mod Fitted
 -- how many auxiliaries are left of a case in order
 pub mod Owned
 -- ---- bounds and relations
@@ -9,6 +11,7 @@ pub mod Turns
 pub mod Bounded
 pub mod Related
 pub mod Shaped
+pub mod Rows
 -- ---- directions
 pub mod Directed
 pub mod Found
@@ -16,5 +19,6 @@ pub mod Found
 pub mod Lists
 pub mod Objectives
 pub mod PutIn
+pub mod Places
 pub mod Results
 pub mod Tabled

@@ -83,7 +83,7 @@ either : {P : Type 0} (a b : Bool) → IsTrue (a || b) → (IsTrue a → P) → 
 either true b h first second = first h
 either false b h first second = second h
 
-same_post : (p : Polynomial) → IsTrue (poly_eq p p)
+pub same_post : (p : Polynomial) → IsTrue (poly_eq p p)
 same_post p = poly_eq_equiv.refl p
 
 number_of : Terms → ℕ
@@ -157,7 +157,7 @@ module _ (test : Col → Bool) (n : ℕ) where
 
 -- ---- auxiliaries that are posts by themselves
 
-abbrev is_post : ℕ → Polynomial → Bool
+abbrev pub is_post : ℕ → Polynomial → Bool
 is_post n p = poly_eq (column_of (Aux n)) p
 
 one_post : (p : Polynomial) (m n : ℕ) → IsTrue (is_post m p) → IsTrue (is_post n p) → m ≡ n

@@ -78,7 +78,7 @@ some-right : (xs ys : List Case) (before after : List ℤ) → HoldsSome ys befo
 some-right [] ys before after h = h
 some-right (x ∷ xs) ys before after h = inr (some-right xs ys before after h)
 
-of_left : (o : Option Case) (before after : List ℤ) → HoldsLeft o before after → HoldsSome (option_to_list o) before after
+pub of_left : (o : Option Case) (before after : List ℤ) → HoldsLeft o before after → HoldsSome (option_to_list o) before after
 of_left None before after h = h
 of_left (Some case) before after h = inl h
 

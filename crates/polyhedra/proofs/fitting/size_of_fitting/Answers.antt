@@ -1,0 +1,5 @@
+use Rattle.polyhedra.proofs.Fitted.{fitted-small}
+use Rattle.polyhedra.proofs.fitting.size_of_fitting.Goals as goal
+
+pub returns : goal.returns
+returns c = fitted-small
