@@ -1,17 +1,14 @@
 -- The items that are left at each node of a code.
-use Rattle.std.proofs.Common.{◌≡◌, ℕ, suc, ◌+◌, Bool, true, false, Some, List, [], ◌∷◌, sym, subst, ◌∙◌, arith}
+use Rattle.std.proofs.Common.{◌≡◌, ℕ, suc, ◌+◌, true, false, Some, List, [], ◌∷◌, sym, subst, ◌∙◌, arith}
 use Rattle.std.specs.Prelude.{slice_get}
-use Rattle.syntax_tree.specs.Term.{Term}
 use Rattle.syntax_tree.specs.Code.{Statement, Set, Any, Call, Guard, Check, If, Loop, Break, Continue, Return, Code, End, Then}
 use Rattle.syntax_tree.specs.Nodes.{code_nodes, statement_nodes}
-use Rattle.execution.specs.Machine.{Item, Do, Head, Test, Tail, LoopParts, pending}
+use Rattle.execution.specs.Machine.{Item, Do, Head, Test, Tail, pending}
+pub use Rattle.flow_graph.specs.Pending.{At, all_items, items_at, items_in, parts}
 use Rattle.flow_graph.proofs.Each.{EachFrom, from_get, from_has}
 
 abbrev pub Holds : Type 1
 Holds = ℕ → List Item → Type 0
-
-abbrev pub parts : Code → Term → Code → Code → Bool → LoopParts
-parts pre cond body step first = record { pre = pre; cond = cond; body = body; step = step; first = first }
 
 -- What holds of each node of a code that begins at node `c`, and of the items that are left there: `rest` at its end.
 abbrev mutual
@@ -50,30 +47,6 @@ finish P c End rest placed = let same : c ≡ c + 0 = omega arith in subst (λ n
 finish P c (Then statement code) rest placed =
     let same : c + statement_nodes statement + code_nodes code ≡ c + (statement_nodes statement + code_nodes code) = omega arith in
     subst (λ n. P n rest) same (finish P (c + statement_nodes statement) code rest placed.2)
-
--- the items at the nodes as a list, in order, before those of the nodes after the code's end
-abbrev mutual
-  pub items_at : Code → List Item → List (List Item) → List (List Item)
-  items_at End rest after = rest ∷ after
-  items_at (Then statement code) rest after = (Do statement ∷ pending code rest) ∷ items_in statement (pending code rest) (items_at code rest after)
-
-  pub items_in : Statement → List Item → List (List Item) → List (List Item)
-  items_in (Set col value) rest after = after
-  items_in (Any col) rest after = after
-  items_in (Call proc args into) rest after = after
-  items_in (Guard cond) rest after = after
-  items_in (Check number cond) rest after = after
-  items_in (If cond on_true on_false) rest after = items_at on_true rest (items_at on_false rest after)
-  items_in (Loop pre cond body step false) rest after =
-      items_at pre (Test (parts pre cond body step false) ∷ rest)
-      (items_at body (Tail (parts pre cond body step false) ∷ rest)
-      (items_at step (Head (parts pre cond body step false) ∷ rest) after))
-  items_in (Loop pre cond body step true) rest after =
-      items_at body (Tail (parts pre cond body step true) ∷ rest)
-      (items_at pre (Test (parts pre cond body step true) ∷ rest) after)
-  items_in Break rest after = after
-  items_in Continue rest after = after
-  items_in Return rest after = after
 
 module _ (P : Holds) where
   moved : (n m : ℕ) (xs : List (List Item)) → n ≡ m → EachFrom P n xs → EachFrom P m xs
@@ -151,13 +124,6 @@ module _ (P : Holds) where
     closed_in c Return rest after placed each = moved (c + 1) (suc c) after (omega arith) each
 
 -- ---- all nodes of a body
-
-abbrev pub all_items : Code → List (List Item)
-all_items body = items_at body [] ([] ∷ [])
-
--- these items are left at a node
-abbrev pub At : Code → Holds
-At body node items = slice_get (all_items body) node ≡ Some items
 
 pub at_one : (body : Code) (node : ℕ) (one other : List Item) → At body node one → At body node other → one ≡ other
 at_one body node one other a b = let same : Some one ≡ Some other = sym a ∙ b in cc

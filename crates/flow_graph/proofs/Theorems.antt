@@ -12,6 +12,7 @@ use Rattle.execution.specs.Execution.{Returns}
 use Rattle.flow_graph.specs.FlowGraph.{Arc, CheckPlace, body_of, exit_of, flow_of, graph_of}
 use Rattle.flow_graph.specs.Walks.{Stands, Stride, WalksTo}
 use Rattle.flow_graph.specs.Laws.{CallsAreWalks, ChecksAreWalks, ReturnsAreWalks, last_of}
+use Rattle.flow_graph.specs.Pending.{CallsAreEdges}
 use Rattle.flow_graph.proofs.Each.{Each, each_get}
 use Rattle.flow_graph.proofs.Moves.{Move, Near, move, moves_of}
 use Rattle.flow_graph.proofs.Does.{Does, Shape, height, value_in}
@@ -301,6 +302,53 @@ module _ (program : Program) (proc : ℕ) (globals args : State) where
       let does = came_to way.from final walks items at in
       (why.to, stands_by entry does.0 items final does.1)
 
+  -- .. each by its edge
+  pub EdgeWalks : ℕ → List Term → Option ℕ → List Item → State → Type 0
+  EdgeWalks callee values into rest final = (way : Arc) × (k : ℕ)
+      × (slice_get (graph_of program proc).arcs k ≡ Some way) × (way.act ≡ Call callee values into)
+      × At (body_of (slice_get program.procs proc)) way.to rest × WalksTo program proc globals args way.from final
+
+  found_at : (callee : Proc) (node : ℕ) (items : List Item) → slice_get program.procs proc ≡ Some callee
+      → At (code_of callee.body) node items → At (body_of (slice_get program.procs proc)) node items
+  found_at callee node items is at = subst (λ (found : Option Proc). At (body_of found) node items) (sym is) at
+
+  at_found : (callee : Proc) (node : ℕ) (items : List Item) → slice_get program.procs proc ≡ Some callee
+      → At (body_of (slice_get program.procs proc)) node items → At (code_of callee.body) node items
+  at_found callee node items is at = subst (λ (found : Option Proc). At (body_of found) node items) is at
+
+  pub edge_walks : (callee : ℕ) (values : List Term) (into : Option ℕ) (rest : List Item) (final : State)
+      → Stands program proc globals args (Do (Call callee values into) ∷ rest) final → EdgeWalks callee values into rest final
+  unfolding EdgeWalks
+  edge_walks callee values into rest final stands =
+      let items : List Item = Do (Call callee values into) ∷ rest in
+      let done = done_by items final stands in
+      let here = arrived done.0 done.1 items final done.2 in
+      let there = lived items final here (first_do (Call callee values into) rest here.left here.near) in
+      let leads = there.live.leads.0 in
+      let way : Arc = record { from = there.live.at; to = leads.0; act = Call callee values into } in (
+        way,
+        leads.1.0,
+        subst (λ l. slice_get l leads.1.0 ≡ Some way) (found_arcs there.entry.callee there.entry.is) leads.1.1,
+        refl,
+        found_at there.entry.callee leads.0 rest there.entry.is leads.2,
+        walks_to_lived items final there,
+      )
+
+  pub walk_edges : (callee : ℕ) (values : List Term) (into : Option ℕ) (rest : List Item) (final : State)
+      → EdgeWalks callee values into rest final → Stands program proc globals args (Do (Call callee values into) ∷ rest) final
+  unfolding EdgeWalks
+  walk_edges callee values into rest final (way, k, is, act_is, left, walks_there) =
+      let walks = walk_of way.from final walks_there in
+      let entry = walks.entry in
+      let body = code_of entry.callee.body in
+      let there = subst (λ l. slice_get l k ≡ Some way) (sym (found_arcs entry.callee entry.is)) is in
+      let why = each_get (Explained (At body)) (flow_of body).arcs k way (body_explained body) there in
+      let same = at_one body way.to why.to rest why.comes (at_found entry.callee way.to rest entry.is left) in
+      let items : List Item = Do (Call callee values into) ∷ why.to in
+      let at = subst (λ l. At body way.from l) (only_call why.items way.act why.to callee values into why.taken act_is) why.there in
+      let does = came_to way.from final walks items at in
+      subst (λ l. Stands program proc globals args (Do (Call callee values into) ∷ l) final) same (stands_by entry does.0 items final does.1)
+
 pub returns_are_walks : ReturnsAreWalks
 unfolding WalksOut
 returns_are_walks program proc globals args after value =
@@ -315,3 +363,8 @@ pub calls_are_walks : CallsAreWalks
 unfolding CallWalks
 calls_are_walks program proc globals args callee values into final =
     (call_walks program proc globals args callee values into final, walk_calls program proc globals args callee values into final)
+
+pub calls_are_edges : CallsAreEdges
+unfolding EdgeWalks
+calls_are_edges program proc globals args callee values into rest final =
+    (edge_walks program proc globals args callee values into rest final, walk_edges program proc globals args callee values into rest final)

@@ -4,6 +4,7 @@ pub mod FlowGraph
 pub mod Plain
 pub mod Walks
 pub mod Laws
+pub mod Pending
 pub mod Stack
 pub mod Heights
 -- the groups of a program's procedures

@@ -2,6 +2,7 @@
 //! does nothing.
 ghost use Rattle.flow_graph.specs.Groups.{GroupsAreDetermined};
 ghost use Rattle.flow_graph.specs.Heights.{HeightsGrow, ReturnsHaveHeights};
+ghost use Rattle.flow_graph.specs.Pending.{CallsAreEdges};
 ghost use Rattle.flow_graph.specs.Stack.{FailuresAreInChains, StacksAreChains};
 ghost use Rattle.flow_graph.specs.Laws.{CallsAreWalks, ChecksAreWalks, ReturnsAreWalks};
 
@@ -21,9 +22,11 @@ pub fn checks_are_walks()
     ensures { ChecksAreWalks }
 {}
 
-/// An activation stands at a call exactly as walks lead to where its edge begins.
+/// An activation stands at a call exactly as walks lead to where its edge begins, and has still to do what is left where that
+/// edge ends.
 pub fn calls_are_walks()
-    ensures { CallsAreWalks }
+    ensures walks { CallsAreWalks }
+    ensures edges { CallsAreEdges }
 {}
 
 /// A program has one list of groups.
