@@ -15,6 +15,8 @@ mod oracles;
 #[cfg(test)]
 mod ratios;
 #[cfg(test)]
+mod simplex_rows;
+#[cfg(test)]
 mod texts;
 
 pub use calls::{exclusion, exclusions, first_excluded};
