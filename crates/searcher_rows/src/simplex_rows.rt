@@ -65,12 +65,10 @@ fn check_line(alloc: Global, rt: &impl Abort, line: &str) -> Result<(), Fail> {
 }
 
 fn check_table(alloc: Global, rt: &impl Abort, table: &str, count: usize) -> Result<(), Fail> {
-    let mut checked = 0;
+    assert_eq!(rt; table.lines().count(), count);
     for line in table.lines() {
         check_line(alloc, rt, line)?;
-        checked += 1;
     }
-    assert_eq!(rt; checked, count);
     Ok(())
 }
 
