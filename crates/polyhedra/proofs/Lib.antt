@@ -22,3 +22,4 @@ pub mod PutIn
 pub mod Places
 pub mod Results
 pub mod Tabled
+pub mod Varying

@@ -66,7 +66,7 @@ got f a (suc n) (suc v) low = got f (a + 1) n v (omega arith) ∙ ap (λ k. Some
     shifted : (a v : ℕ) → a + 1 + v ≡ a + suc v
     shifted a v = omega arith
 
-first_got : {X : Type 0} (f : ℕ → X) (n v : ℕ) → v < n → slice_get (map f (range_with_len 0 n)) v ≡ Some (f v)
+pub first_got : {X : Type 0} (f : ℕ → X) (n v : ℕ) → v < n → slice_get (map f (range_with_len 0 n)) v ≡ Some (f v)
 first_got f n v low = got f 0 n v low ∙ ap (λ k. Some (f k)) (none v)
   where
     none : (v : ℕ) → 0 + v ≡ v

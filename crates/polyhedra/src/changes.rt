@@ -113,7 +113,7 @@ fn first_in(faults: &[Option<TermError>], columns: &[Col]) -> Option<TermError>
     None
 }
 
-fn fault_at(faults: &[Option<TermError>], col: Col) -> Option<TermError>
+pub(crate) fn fault_at(faults: &[Option<TermError>], col: Col) -> Option<TermError>
     ensures { result ≡ fault_at faults.now col }
 {
     match col {

@@ -11,6 +11,7 @@ mod infeasible;
 mod losses;
 mod settling;
 mod thinning;
+mod variables;
 mod vocabulary;
 
 pub use bounds::{bounds_after, bounds_before, bounds_on_changes, with_row};
@@ -20,4 +21,5 @@ pub use fitting::{coverage_of_fitting, size_of_fitting};
 pub use posing::{Log, Note, Witness, WorkError};
 pub use settling::{coverage_of_settling, settle};
 pub use thinning::{coverage_of_thinning, thin};
+pub use variables::{Movement, movement_of};
 pub use vocabulary::Vocabulary;
