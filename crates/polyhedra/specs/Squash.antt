@@ -1,7 +1,7 @@
 -- Squashing: one case for all cases of a formula, from what they have in common.
 use Rattle.std.specs.Prelude.{ℕ, ◌+◌, pos, List, [], ◌∷◌, map, length, Option, None, Some, Bool, true, false, ◌&&◌, ◌==◌, Result, Ok, if◌then◌else◌, option_to_list}
 use Rattle.std.specs.Cmp.Lexicographic.{pointwise}
-use Rattle.std.specs.List.{range_with_len}
+use Rattle.std.specs.List.{range_with_len, filter_map, flat_map}
 use Rattle.linear_terms.specs.declared.col.Col.TheVariants.{At, Aux}
 use Rattle.linear_terms.specs.declared.error.TermError.{TermError}
 use Rattle.linear_terms.specs.declared.row.Row.{Row}
@@ -9,6 +9,8 @@ use Rattle.linear_terms.specs.declared.row.Case.{Case}
 use Rattle.linear_terms.specs.Equality.{poly_eq}
 use Rattle.linear_terms.specs.Expressions.{◌⊟◌, whole, column, equation, weighted, or_zero}
 use Rattle.linear_terms.specs.Polynomial.{Polynomial, constant_of, column_of}
+use Rattle.transition_formula.specs.declared.loss.Loss.{Loss}
+use Rattle.transition_formula.specs.Loss.{answered, losses_of}
 use Rattle.transition_formula.specs.Transition.{Transition, is_fitted}
 use Rattle.farkas_check.specs.declared.stratum.Relation.{Relation}
 use Rattle.posing.specs.declared.note.Note.TheVariants as note
@@ -58,6 +60,13 @@ with_relation terms lower rows r = with_row rows (relation_row terms lower r)
 abbrev pub with_relations : List Polynomial → List Polynomial → Option (List Relation) → Posing (List Row)
 with_relations terms lower None = Done []
 with_relations terms lower (Some relations) = each (with_relation terms lower) [] relations
+
+-- the rows of relations that can be made, and what is lost of the others
+abbrev pub relation_rows : List Polynomial → List Polynomial → List Relation → List Row
+relation_rows terms lower relations = filter_map (λ r. answered (relation_row terms lower r)) relations
+
+abbrev pub relation_losses : List Polynomial → List Polynomial → List Relation → List Loss
+relation_losses terms lower relations = flat_map (λ r. losses_of (relation_row terms lower r)) relations
 
 -- between the changes of variables that can be made and the entry columns that occur
 unfoldable pub related : Bool → Transition → Posing (List Row)

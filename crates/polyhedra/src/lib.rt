@@ -2,6 +2,7 @@
 //! are left out, and many cases are made one that holds of all that they hold of.
 #![tactic(auto)]
 
+mod after;
 mod bounds;
 mod candidates;
 mod changes;
@@ -9,6 +10,7 @@ mod finishing;
 mod fitting;
 mod infeasible;
 mod losses;
+mod relations;
 mod settling;
 mod thinning;
 mod variables;
@@ -19,6 +21,7 @@ pub use candidates::directions;
 pub use finishing::finish;
 pub use fitting::{coverage_of_fitting, size_of_fitting};
 pub use posing::{Log, Note, Witness, WorkError};
+pub use relations::{relation_rows, relations_of};
 pub use settling::{coverage_of_settling, settle};
 pub use thinning::{coverage_of_thinning, thin};
 pub use variables::{Movement, movement_of};

@@ -1,4 +1,4 @@
-ghost use Rattle.std.specs.Prelude.{◌≡◌, Some, IfOk};
+ghost use Rattle.std.specs.Prelude.{◌≡◌, [], ◌∷◌, Some, IfOk};
 ghost use Rattle.linear_terms.specs.TermError.{cause};
 ghost use Rattle.transition_formula.specs.Loss.{noted};
 ghost use Rattle.posing.specs.Logs.{Adds, loss_notes};
@@ -13,11 +13,18 @@ pub(crate) fn note(alloc: Global, error: TermError, log: &mut Log) -> Result<(),
     ensures noted { Adds (loss_notes (noted error)) log.old log.new result }
     ensures told { IfOk result (λ _. cause error ≡ Some error) }
 {
+    let loss = loss_of(error)?;
+    log.add_losses(alloc, &[loss])
+}
+
+/// What is lost where an operation has no answer; want of memory is an error here too.
+pub(crate) fn loss_of(error: TermError) -> Result<Loss, AllocError>
+    ensures is { IfOk result (λ loss. loss ∷ [] ≡ noted error) }
+    ensures told { IfOk result (λ _. cause error ≡ Some error) }
+{
     match error {
-        TermError::Wide { left, right, times } => {
-            log.add_losses(alloc, &[Loss::Wide { left, right, times }])
-        }
-        TermError::Degree => log.add_losses(alloc, &[Loss::Degree]),
+        TermError::Wide { left, right, times } => Ok(Loss::Wide { left, right, times }),
+        TermError::Degree => Ok(Loss::Degree),
         TermError::Memory => Err(AllocError),
     }
 }
