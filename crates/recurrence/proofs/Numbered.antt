@@ -1,8 +1,8 @@
 -- The second case fits, and can be put in order.
-use Rattle.std.proofs.Common.{◌≡◌, ℕ, zero, suc, ◌+◌, ◌<◌, ◌≤◌, List, [], ◌∷◌, ◌++◌, length, Bool, true, false, Ok, Err, map, refl, sym, ap, subst, arith, ℤ}
-use Rattle.std.specs.Prelude.{Result, Option, None, Some, IsTrue, not, ◌==◌, ◌&&◌, option_to_list, unwrap_or, if◌then◌else◌}
+use Rattle.std.proofs.Common.{◌≡◌, ℕ, zero, suc, ◌+◌, ◌<◌, ◌≤◌, List, [], ◌∷◌, ◌++◌, length, Bool, true, false, Ok, Err, map, refl, sym, ap, subst, arith, ℤ, ◌∙◌}
+use Rattle.std.specs.Prelude.{Result, Option, None, Some, IsTrue, not, ◌==◌, ◌&&◌, option_to_list, unwrap_or, if◌then◌else◌, ◌||◌}
 use Rattle.std.specs.Option.{option_map}
-use Rattle.std.specs.List.{AllByRecursion, list_all, filter, range_with_len}
+use Rattle.std.specs.List.{AllByRecursion, list_all, filter, range_with_len, list_any}
 use Rattle.std.proofs.lemmas.List.FromFn.{length-map-range_with_len}
 use Rattle.std.proofs.lemmas.Bool.Decides.{Decides-eqb}
 use Rattle.items.specs.Gives.{◌>>=◌}
@@ -21,7 +21,7 @@ use Rattle.linear_terms.proofs.Columns.{EachColumn}
 use Rattle.transition_formula.specs.Loss.{answered}
 use Rattle.transition_formula.specs.Transition.{Transition, every_column, every_column_of, is_below, fits}
 use Rattle.transition_formula.proofs.Covered.{both_true, test_from_columns}
-use Rattle.transition_formula.proofs.Fitting.{is_below-more, below-true}
+use Rattle.transition_formula.proofs.Fitting.{is_below-more, below-true, true-below}
 use Rattle.posing.specs.Posing.{Posing, Done, ◌>>=◌ as ◌>>>◌, each, Always}
 use Rattle.posing.proofs.Paths.{always_bind, always_each, always_weaker, always_any}
 use Rattle.closed_form.specs.ClosedRow.{closed_row, sum_row}
@@ -32,6 +32,8 @@ use Rattle.polyhedra.specs.Changes.{change, is_modified, is_exact, modified, mov
 use Rattle.polyhedra.specs.Bounds.{for_entries, put_in_for, bound_of, with_row, with_row_for, bounded, before_row, after_row, change_row, bounded_before, bounded_after, bounded_change}
 use Rattle.polyhedra.specs.Relations.{relations_of}
 use Rattle.polyhedra.proofs.Lists.{each-filter}
+use Rattle.polyhedra.proofs.Owned.{is_post, same_post, owns, IsOwned}
+use Rattle.polyhedra.proofs.Places.{any-range}
 use Rattle.polyhedra.proofs.Directed.{each-distinct}
 use Rattle.recurrence.specs.Strata.{Recurrence, Term, steady, term_of, has_terms, stratum, steady_columns, over, stratum_if, is_short, has_grown, Strata, strata, all_terms}
 use Rattle.recurrence.specs.Progressions.{Progression, progressions, excess, progression_row, bounded_progression}
@@ -64,6 +66,59 @@ after_from-below to m n (u ∷ us) v low few = go (u == v) (after_from-below to 
     go true rest = below-true n m (omega arith)
     go false rest = rest
 
+-- a number of a range that has the auxiliary for the one that comes so many places after the first
+record Stands (a k n j : ℕ) (us : List ℕ) : Type 0 where
+  at : ℕ
+  low : a ≤ at
+  high : at < a + k
+  is : after_from n us at ≡ Aux (n + j)
+
+-- each auxiliary stands for one of the numbers that pass
+stands : (test : ℕ → Bool) (a k n j : ℕ) → j < length (filter test (range_with_len a k)) → Stands a k n j (filter test (range_with_len a k))
+stands test a zero n j lt = absurd (omega arith)
+stands test a (suc k) n j lt = go (test a) j lt (stands test (a + 1) k)
+  where
+    rest : List ℕ
+    rest = filter test (range_with_len (a + 1) k)
+
+    itself : (v : ℕ) → (v == v) ≡ true
+    itself v = grind arith
+
+    none_added : (n : ℕ) → n ≡ n + 0
+    none_added n = omega arith
+
+    one_later : (n j : ℕ) → n + 1 + j ≡ n + suc j
+    one_later n j = omega arith
+
+    other : (v : ℕ) → a + 1 ≤ v → (a == v) ≡ false
+    other v more = grind arith
+
+    first : Stands a (suc k) n 0 (a ∷ rest)
+    first = record {
+      at = a;
+      low = omega arith;
+      high = omega arith;
+      is = ap (λ b. if b then Aux n else after_from (n + 1) rest a) (itself a) ∙ ap (λ m. Aux m) (none_added n);
+    }
+
+    later : (i : ℕ) → Stands (a + 1) k (n + 1) i rest → Stands a (suc k) n (suc i) (a ∷ rest)
+    later i s = record {
+      at = s.at;
+      low = let above = s.low in omega arith;
+      high = let under = s.high in omega arith;
+      is = ap (λ b. if b then Aux n else after_from (n + 1) rest s.at) (other s.at s.low) ∙ s.is ∙ ap (λ m. Aux m) (one_later n i);
+    }
+
+    stays : (i : ℕ) → Stands (a + 1) k n i rest → Stands a (suc k) n i rest
+    stays i s = record { at = s.at; low = let above = s.low in omega arith; high = let under = s.high in omega arith; is = s.is }
+
+    go : (b : Bool) (i : ℕ) → i < length (if b then a ∷ filter test (range_with_len (a + 1) k) else filter test (range_with_len (a + 1) k))
+        → ((m i : ℕ) → i < length (filter test (range_with_len (a + 1) k)) → Stands (a + 1) k m i (filter test (range_with_len (a + 1) k)))
+        → Stands a (suc k) n i (if b then a ∷ filter test (range_with_len (a + 1) k) else filter test (range_with_len (a + 1) k))
+    go true zero low ih = first
+    go true (suc i) low ih = later i (ih (n + 1) i (omega arith))
+    go false i low ih = stays i (ih n i low)
+
 module _ (body : Transition) where
   aux : ℕ
   aux = length (modified true body) + 1
@@ -79,6 +134,8 @@ module _ (body : Transition) where
   pub record IsFit (case : Case) : Type 0 where
     pub fits : IsTrue (fits body.to body.to case)
     pub numbered : IsTrue (every_column_of (is_numbered case.aux) case)
+    pub owned : IsOwned (length (modified true body) ∷ []) case
+    pub posts_are : length case.post ≡ body.to
 
   entry-below : (c : Col) → Entry c → Below c
   entry-below c h = is_below-more body.to 0 (length (modified true body) + 1) (omega arith) c h
@@ -268,6 +325,30 @@ module _ (body : Transition) where
       numbered (At v) h = refl
       numbered (Aux n) h = h
 
+      -- each auxiliary is the number of turns or a post by itself
+      is-owned : (c : Col) → Below c → IsTrue (owns (length (modified true body) ∷ []) (posts body) c)
+      is-owned (At v) h = refl
+      is-owned (Aux n) h = go (length (modified true body) == n) refl
+        where
+          alone : (n : ℕ) → 0 + n ≡ n
+          alone n = omega arith
+
+          posted : n < length (modified true body) → IsTrue (list_any (is_post n) (posts body))
+          posted low =
+              let s = stands (is_modified true body.cases) 0 body.to 0 n low in
+              any-range (is_post n) (λ v. column_of (after body v)) 0 body.to s.at s.low s.high
+              (subst (λ c. IsTrue (is_post n (column_of c))) (sym (s.is ∙ ap (λ m. Aux m) (alone n))) (same_post (column_of (Aux n))))
+
+          below : n < length (modified true body) + 1
+          below = true-below n (length (modified true body) + 1) h
+
+          apart : (k : ℕ) → n < k + 1 → (k == n) ≡ false → n < k
+          apart k low differs = grind arith
+
+          go : (b : Bool) → (length (modified true body) == n) ≡ b → IsTrue ((b || false) || list_any (is_post n) (posts body))
+          go true e = refl
+          go false e = posted (apart (length (modified true body)) below e)
+
       pub turns-fit : Always IsFit (turns body voc)
       unfolding turns ◌>>>◌
       turns-fit =
@@ -279,4 +360,7 @@ module _ (body : Transition) where
                 (posts-tested (is_below body.to (length (modified true body) + 1)) (λ c k. k)));
             numbered = both_true (list_all (λ row. every_column (is_numbered (length (modified true body) + 1)) row.poly) rows) _ (rows-tested (is_numbered (length (modified true body) + 1)) numbered rows h)
                 (posts-tested (is_numbered (length (modified true body) + 1)) numbered);
+            owned = both_true (list_all (λ row. every_column (owns (length (modified true body) ∷ []) (posts body)) row.poly) rows) _ (rows-tested (owns (length (modified true body) ∷ []) (posts body)) is-owned rows h)
+                (posts-tested (owns (length (modified true body) ∷ []) (posts body)) is-owned);
+            posts_are = length-map-range_with_len (λ v. column_of (after body v)) 0 body.to;
           }))

@@ -1,5 +1,5 @@
 -- The laws of star, whole.
-use Rattle.std.proofs.Common.{ℕ, ◌≤◌, List, [], ◌∷◌, true, map, length, refl, subst, arith}
+use Rattle.std.proofs.Common.{ℕ, ◌≤◌, List, [], ◌∷◌, true, map, length, refl, subst, arith, ◌≡◌, ◌+◌}
 use Rattle.std.specs.Prelude.{IsTrue, Option, None, Some, option_to_list}
 use Rattle.std.specs.List.{AllByRecursion, range_with_len}
 use Rattle.std.proofs.lemmas.List.Elements.{All-from_recursion}
@@ -20,6 +20,8 @@ use Rattle.polyhedra.specs.Vocabulary.{Vocabulary, IsDirection, IsDirectionOver}
 use Rattle.polyhedra.specs.Directions.{directions}
 use Rattle.polyhedra.specs.Finish.{finished}
 use Rattle.polyhedra.proofs.Directed.{directions-over}
+use Rattle.polyhedra.specs.Changes.{modified}
+use Rattle.polyhedra.proofs.Owned.{in_order-few}
 use Rattle.polyhedra.proofs.Finished.{FinishedLeft, finished-fits}
 use Rattle.recurrence.specs.Star.{turns, star_by, star_of}
 use Rattle.recurrence.specs.Law.{IsStarred, IsStar, StarHolds, StarFits}
@@ -48,26 +50,16 @@ star-holds-of-chains body voc starred =
 
 -- ---- what star fits
 
-aux_of : Option Case → ℕ
-aux_of None = 0
-aux_of (Some case) = case.aux
-
-aux_stays : (o : Option Case) → Stays (λ left. left.aux ≤ aux_of o) (solved o)
-unfolding aux_of
-aux_stays None = tt
-aux_stays (Some case) = omega arith
-
 abbrev SmallLeft : ℕ → Option Case → Type 0
-SmallLeft n None = Unit {0}
-SmallLeft n (Some case) = IsTrue (fits n n case) × (length case.rows ≤ 64)
+SmallLeft n left = FinishedLeft n n (n + 1) left
 
-finished-small : (n : ℕ) (case : Case) → IsTrue (fits n n case) → Always (SmallLeft n) (finished case)
-finished-small n case fit =
-    always_weaker (FinishedLeft n n (aux_of (in_order case).left)) (SmallLeft n) (finished case) small (finished-fits n n (aux_of (in_order case).left) case fit (aux_stays (in_order case).left))
+finished-small : (body : Transition) (case : Case) → IsFit body case → Always (SmallLeft body.to) (finished case)
+finished-small body case is =
+    finished-fits body.to body.to (body.to + 1) case is.fits
+    (subst (λ m. Stays (λ left. left.aux ≤ m) (solved (in_order case).left)) (next (length case.post) body.to is.posts_are) (in_order-few (length (modified true body) ∷ []) case is.owned))
   where
-    small : (o : Option Case) → FinishedLeft n n (aux_of (in_order case).left) o → SmallLeft n o
-    small None h = tt
-    small (Some left) h = (h.fit, h.rows)
+    next : (m n : ℕ) → m ≡ n → 1 + m ≡ n + 1
+    next m n e = omega arith
 
 pub star-fits : StarFits
 unfolding star_of
@@ -77,16 +69,17 @@ star-fits body voc starred = go body.cases
     same_here = subst (λ m. IsTransition m m (identity_of body.from).cases) starred.same_ends (identity-fits body.from)
 
     with_left : (o : Option Case) → SmallLeft body.to o → IsStar body.to (joined (identity_of body.from) record { from = body.from; to = body.to; cases = option_to_list o })
-    with_left None h = record { fits = same_here; two = omega arith; rows = (omega arith, tt) }
+    with_left None h = record { fits = same_here; two = omega arith; rows = (omega arith, tt); auxiliaries = (omega arith, tt) }
     with_left (Some case) h = record {
       fits = let parts = both (fits body.to body.to record { aux = 0; rows = []; post = map (λ n. column_of (At n)) (range_with_len 0 body.from) }) true same_here in
-          both_true (fits body.to body.to record { aux = 0; rows = []; post = map (λ n. column_of (At n)) (range_with_len 0 body.from) }) _ parts.0 (both_true (fits body.to body.to case) true h.0 refl);
+          both_true (fits body.to body.to record { aux = 0; rows = []; post = map (λ n. column_of (At n)) (range_with_len 0 body.from) }) _ parts.0 (both_true (fits body.to body.to case) true h.fit refl);
       two = omega arith;
-      rows = (omega arith, (h.1, tt));
+      rows = (omega arith, (h.rows, tt));
+      auxiliaries = (omega arith, (h.aux, tt));
     }
 
     go : (cases : List Case) → Always (IsStar body.to) (star_by body voc cases)
-    go [] = record { fits = same_here; two = omega arith; rows = (omega arith, tt) }
+    go [] = record { fits = same_here; two = omega arith; rows = (omega arith, tt); auxiliaries = (omega arith, tt) }
     go (case ∷ cases) =
         always_bind (SmallLeft body.to) (IsStar body.to) (turns body voc >>= finished) _
-        (always_bind (IsFit body) (SmallLeft body.to) (turns body voc) finished (turns-are-fit body voc starred) (λ c k. finished-small body.to c k.fits)) with_left
+        (always_bind (IsFit body) (SmallLeft body.to) (turns body voc) finished (turns-are-fit body voc starred) (λ c k. finished-small body c k)) with_left

@@ -1,5 +1,5 @@
 -- The law of star.
-use Rattle.std.specs.Prelude.{◌≡◌, ℕ, ◌<◌, ◌≤◌, ◌^◌, length}
+use Rattle.std.specs.Prelude.{◌≡◌, ℕ, ◌+◌, ◌<◌, ◌≤◌, ◌^◌, length}
 use Rattle.std.specs.List.{AllByRecursion}
 use Rattle.linear_terms.specs.declared.row.Case.{Case}
 use Rattle.transition_formula.specs.Meaning.{HoldsOfChains}
@@ -21,11 +21,12 @@ pub record IsStarred (body : Transition) (voc : Vocabulary) : Type 0 where
 abbrev pub StarHolds : Type 0
 StarHolds = (body : Transition) (voc : Vocabulary) → IsStarred body voc → Always (HoldsOfChains body) (star_of body voc)
 
--- a formula over so many columns, of at most two cases with at most 64 rows each
+-- a formula over so many columns, of at most two cases, each with at most 64 rows and at most one auxiliary more than there are columns
 pub record IsStar (columns : ℕ) (g : Transition) : Type 0 where
   pub fits : IsTransition columns columns g.cases
   pub two : length g.cases ≤ 2
   pub rows : AllByRecursion (λ (case : Case). length case.rows ≤ 64) g.cases
+  pub auxiliaries : AllByRecursion (λ (case : Case). case.aux ≤ columns + 1) g.cases
 
 abbrev pub StarFits : Type 0
 StarFits = (body : Transition) (voc : Vocabulary) → IsStarred body voc → Always (IsStar body.to) (star_of body voc)
