@@ -10,3 +10,5 @@ pub mod Progressed
 pub mod Shaped
 pub mod Within
 pub mod Numbered
+-- ---- a worked body
+pub mod Worked
