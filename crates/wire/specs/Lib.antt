@@ -5,6 +5,7 @@ pub mod Answers
 pub mod Errors
 pub mod Files
 pub mod Edits
+pub mod Inputs
 pub mod Written
 pub mod Replays
 pub mod Sharing

@@ -5,6 +5,7 @@
 mod answers;
 mod certificate;
 mod error;
+mod input;
 mod numbers;
 mod replay;
 mod script;
@@ -14,6 +15,7 @@ mod text;
 
 pub use certificate::{Certificate, Version, read_certificate, write_certificate};
 pub use error::WireError;
+pub use input::{Input, read_replay};
 pub use replay::Replay;
 pub use script::{Edit, Script, read_script, texts};
 pub use sharing::share;
