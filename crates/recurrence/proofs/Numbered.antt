@@ -1,6 +1,6 @@
 -- The second case fits, and can be put in order.
-use Rattle.std.proofs.Common.{◌≡◌, ℕ, zero, suc, ◌+◌, ◌<◌, ◌≤◌, List, [], ◌∷◌, ◌++◌, length, Bool, true, false, Ok, Err, map, refl, sym, ap, subst, arith, ℤ, ◌∙◌}
-use Rattle.std.specs.Prelude.{Result, Option, None, Some, IsTrue, not, ◌==◌, ◌&&◌, option_to_list, unwrap_or, if◌then◌else◌, ◌||◌}
+use Rattle.std.proofs.Common.{◌≡◌, ℕ, zero, suc, ◌+◌, ◌<◌, ◌≤◌, List, [], ◌∷◌, ◌++◌, length, Bool, true, false, Ok, map, refl, sym, ap, subst, arith, ℤ, ◌∙◌}
+use Rattle.std.specs.Prelude.{Option, None, Some, IsTrue, not, ◌==◌, ◌&&◌, unwrap_or, if◌then◌else◌, ◌||◌}
 use Rattle.std.specs.Option.{option_map}
 use Rattle.std.specs.List.{AllByRecursion, list_all, filter, range_with_len, list_any}
 use Rattle.std.proofs.lemmas.List.FromFn.{length-map-range_with_len}
@@ -10,30 +10,29 @@ use Rattle.items.proofs.Gives.{on_ok}
 use Rattle.items.proofs.Each.{each-append, each-map, each-any, each-more, test_from_each}
 use Rattle.linear_terms.specs.declared.col.Col.{Col}
 use Rattle.linear_terms.specs.declared.col.Col.TheVariants.{At, Aux}
-use Rattle.linear_terms.specs.declared.error.TermError.{TermError}
 use Rattle.linear_terms.specs.declared.row.Row.{Row}
 use Rattle.linear_terms.specs.declared.row.Case.{Case}
 use Rattle.linear_terms.specs.Auxiliaries.{is_numbered}
-use Rattle.linear_terms.specs.Expressions.{Made, ◌⊠◌, ◌⊟◌, whole, column, or_zero, linear, put_into}
+use Rattle.linear_terms.specs.Expressions.{◌⊠◌, ◌⊟◌, whole, column, or_zero, linear, put_into}
 use Rattle.linear_terms.specs.Polynomial.{Polynomial, column_of}
 use Rattle.linear_terms.specs.TermError.{times}
 use Rattle.linear_terms.proofs.Columns.{EachColumn}
-use Rattle.transition_formula.specs.Loss.{answered}
 use Rattle.transition_formula.specs.Transition.{Transition, every_column, every_column_of, is_below, fits}
 use Rattle.transition_formula.proofs.Covered.{both_true, test_from_columns}
 use Rattle.transition_formula.proofs.Fitting.{is_below-more, below-true, true-below}
-use Rattle.posing.specs.Posing.{Posing, Done, ◌>>=◌ as ◌>>>◌, each, Always}
-use Rattle.posing.proofs.Paths.{always_bind, always_each, always_weaker, always_any}
+use Rattle.posing.specs.Posing.{Done, ◌>>=◌ as ◌>>>◌, each, Always}
+use Rattle.posing.proofs.Paths.{always_bind, always_any}
 use Rattle.closed_form.specs.ClosedRow.{closed_row, sum_row}
 use Rattle.farkas_check.specs.declared.stratum.Relation.{Relation}
 use Rattle.polyhedra.specs.Vocabulary.{Vocabulary}
 use Rattle.polyhedra.specs.Directions.{directions}
 use Rattle.polyhedra.specs.Changes.{change, is_modified, is_exact, modified, moving, occurs_in, changes_of, occurring}
-use Rattle.polyhedra.specs.Bounds.{for_entries, put_in_for, bound_of, with_row, with_row_for, bounded, before_row, after_row, change_row, bounded_before, bounded_after, bounded_change}
+use Rattle.polyhedra.specs.Bounds.{for_entries, put_in_for, with_row, before_row, after_row, change_row, bounded_before, bounded_after, bounded_change}
 use Rattle.polyhedra.specs.Relations.{relations_of}
 use Rattle.polyhedra.proofs.Lists.{each-filter}
 use Rattle.polyhedra.proofs.Owned.{is_post, same_post, owns, IsOwned}
 use Rattle.polyhedra.proofs.Places.{any-range}
+use Rattle.polyhedra.proofs.Shaped.{with_row-keeps, bounded-keeps, each-keeps}
 use Rattle.polyhedra.proofs.Directed.{each-distinct}
 use Rattle.recurrence.specs.Strata.{Recurrence, Term, steady, term_of, has_terms, stratum, steady_columns, over, stratum_if, is_short, has_grown, Strata, strata, all_terms}
 use Rattle.recurrence.specs.Progressions.{Progression, progressions, excess, progression_row, bounded_progression}
@@ -216,34 +215,11 @@ module _ (body : Transition) where
 
     -- ---- rows
 
+    abbrev RowWithin : Row → Type 0
+    RowWithin row = EachColumn Below row.poly.terms
+
     abbrev pub RowsWithin : List Row → Type 0
     RowsWithin rows = AllByRecursion (λ row. EachColumn Below row.poly.terms) rows
-
-    with_row-within : (rows : List Row) (made : Result Row TermError) → IsRowWithin Below made → RowsWithin rows → Always RowsWithin (with_row rows made)
-    unfolding with_row
-    with_row-within rows made row h = each-append (λ r. EachColumn Below r.poly.terms) rows (option_to_list (answered made)) h (go made row.as_made)
-      where
-        go : (m : Result Row TermError) → ((r : Row) → m ≡ Ok r → EachColumn Below r.poly.terms) → AllByRecursion (λ r. EachColumn Below r.poly.terms) (option_to_list (answered m))
-        go (Ok r) holds = (holds r refl, tt)
-        go (Err e) holds = tt
-
-    bounded-within : (objective : Case → Made) (row : ℤ → Result Row TermError) (rows : List Row) → ((most : ℤ) → IsRowWithin Below (row most)) → RowsWithin rows → Always RowsWithin (bounded body.cases objective row rows)
-    unfolding bounded
-    bounded-within objective row rows tells h =
-        always_bind (λ most. Unit {0}) RowsWithin (bound_of body.cases objective) (λ most. with_row_for rows row most) (always_any (λ most. Unit {0}) (bound_of body.cases objective) (λ most. tt)) go
-      where
-        go : (most : Option ℤ) → Unit {0} → Always RowsWithin (with_row_for rows row most)
-        go None any = h
-        go (Some most) any = with_row-within rows (row most) (tells most) h
-
-    each-within : {A : Type 0} (Q : A → Type 0) (step : List Row → A → Posing (List Row)) (rows : List Row) (xs : List A)
-        → ((rows : List Row) (x : A) → Q x → RowsWithin rows → Always RowsWithin (step rows x)) → AllByRecursion Q xs → RowsWithin rows → Always RowsWithin (each step rows xs)
-    each-within {A = A} Q step rows xs kept all h =
-        always_weaker (Keeps []) RowsWithin (each step rows xs) (λ made both. both.1)
-        (always_each Keeps step rows xs (λ x rest made both. always_weaker RowsWithin (Keeps rest) (step made x) (λ next fine. (both.0.1, fine)) (kept made x both.0.0 both.1)) (all, h))
-      where
-        Keeps : List A → List Row → Type 0
-        Keeps rest made = AllByRecursion Q rest × RowsWithin made
 
     term_row-within : (t : Term) → TermWithin t → IsRowWithin Below (term_row body t)
     term_row-within t h = record {
@@ -289,26 +265,26 @@ module _ (body : Transition) where
       unfolding rows_of
       rows-within s are =
           always_bind RowsWithin RowsWithin (each (λ rows t. with_row rows (term_row body t)) [] (terms_once s)) _
-          (each-within TermWithin (λ rows t. with_row rows (term_row body t)) [] (terms_once s) (λ rows t k fine. with_row-within rows (term_row body t) (term_row-within t k) fine)
+          (each-keeps RowWithin TermWithin (λ rows t. with_row rows (term_row body t)) [] (terms_once s) (λ rows t k fine. with_row-keeps RowWithin rows (term_row body t) (term_row-within t k).as_made fine)
           (each-distinct TermWithin same_term (all_terms s)
           (each-append TermWithin (s.first ++ s.second) s.third (each-append TermWithin s.first s.second are.first are.second) are.third)) tt) (λ equations h1.
           always_bind RowsWithin RowsWithin (each (bounded_before body.cases) (equations ++ some_turn body ∷ []) (directions voc)) _
-          (each-within (λ (d : Polynomial). EachColumn Entry d.terms) (bounded_before body.cases) (equations ++ some_turn body ∷ []) (directions voc)
-          (λ rows d k fine. bounded-within (λ case. Ok d) (before_row d) rows (λ most. within-at_most Below (Ok d ⊟ whole most) (within-difference Below (Ok d) (whole most) (within-Ok Below d (each-below d k)) (within-whole Below most))) fine)
+          (each-keeps RowWithin (λ (d : Polynomial). EachColumn Entry d.terms) (bounded_before body.cases) (equations ++ some_turn body ∷ []) (directions voc)
+          (λ rows d k fine. bounded-keeps RowWithin body.cases (λ case. Ok d) (before_row d) rows (λ most. (within-at_most Below (Ok d ⊟ whole most) (within-difference Below (Ok d) (whole most) (within-Ok Below d (each-below d k)) (within-whole Below most))).as_made) fine)
           within (each-append (λ r. EachColumn Below r.poly.terms) equations (some_turn body ∷ []) h1 (((count-below, tt), tt), tt))) (λ before h2.
           always_bind RowsWithin RowsWithin (each (bounded_after body.cases (posts body)) before (directions voc)) _
-          (each-within (λ d. Unit {0}) (bounded_after body.cases (posts body)) before (directions voc)
-          (λ rows d k fine. bounded-within (λ case. put_in_for case.post d) (after_row (posts body) d) rows
-          (λ most. within-at_most Below (put_in_for (posts body) d ⊟ whole most) (within-difference Below (put_in_for (posts body) d) (whole most) (within-put_in_for Below (posts body) d posts-within) (within-whole Below most))) fine)
+          (each-keeps RowWithin (λ d. Unit {0}) (bounded_after body.cases (posts body)) before (directions voc)
+          (λ rows d k fine. bounded-keeps RowWithin body.cases (λ case. put_in_for case.post d) (after_row (posts body) d) rows
+          (λ most. (within-at_most Below (put_in_for (posts body) d ⊟ whole most) (within-difference Below (put_in_for (posts body) d) (whole most) (within-put_in_for Below (posts body) d posts-within) (within-whole Below most))).as_made) fine)
           (each-any (λ d. Unit {0}) (λ d. tt) (directions voc)) h2) (λ after_too h3.
           always_bind RowsWithin RowsWithin (each (bounded_change body.cases (moves body) (Some (count body))) after_too (directions voc ++ voc.extra)) _
-          (each-within (λ d. Unit {0}) (bounded_change body.cases (moves body) (Some (count body))) after_too (directions voc ++ voc.extra)
-          (λ rows d k fine. bounded-within (λ case. put_into (for_entries (change true case)) d) (change_row (moves body) (Some (count body)) d) rows
-          (λ most. within-at_most Below (put_in_for (moves body) d ⊟ whole most ⊠ column (count body)) (within-difference Below (put_in_for (moves body) d) (whole most ⊠ column (count body))
-          (within-put_in_for Below (moves body) d moves-within) (within-product Below (whole most) (column (count body)) (within-whole Below most) (within-column Below (count body) count-below)))) fine)
+          (each-keeps RowWithin (λ d. Unit {0}) (bounded_change body.cases (moves body) (Some (count body))) after_too (directions voc ++ voc.extra)
+          (λ rows d k fine. bounded-keeps RowWithin body.cases (λ case. put_into (for_entries (change true case)) d) (change_row (moves body) (Some (count body)) d) rows
+          (λ most. (within-at_most Below (put_in_for (moves body) d ⊟ whole most ⊠ column (count body)) (within-difference Below (put_in_for (moves body) d) (whole most ⊠ column (count body))
+          (within-put_in_for Below (moves body) d moves-within) (within-product Below (whole most) (column (count body)) (within-whole Below most) (within-column Below (count body) count-below)))).as_made) fine)
           (each-any (λ d. Unit {0}) (λ d. tt) (directions voc ++ voc.extra)) h3) (λ changes h4.
-          each-within ProgressionWithin (bounded_progression body.cases (moved body) (count body)) changes (progressions body voc s)
-          (λ rows p k fine. bounded-within (excess p) (progression_row (moved body) (count body) p) rows (λ most. progression_row-within p most k) fine)
+          each-keeps RowWithin ProgressionWithin (bounded_progression body.cases (moved body) (count body)) changes (progressions body voc s)
+          (λ rows p k fine. bounded-keeps RowWithin body.cases (excess p) (progression_row (moved body) (count body) p) rows (λ most. (progression_row-within p most k).as_made) fine)
           (progressions-within voc s are) h4))))
 
       rows-tested : (test : Col → Bool) → ((c : Col) → Below c → IsTrue (test c)) → (rows : List Row) → RowsWithin rows → IsTrue (list_all (λ row. every_column test row.poly) rows)

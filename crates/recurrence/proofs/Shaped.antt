@@ -1,6 +1,6 @@
 -- The rows of the second case have their monomials in print order, each once.
-use Rattle.std.proofs.Common.{◌≡◌, ℕ, List, [], ◌∷◌, ◌++◌, true, Ok, Err, map, refl, subst, ℤ, pos, negsuc}
-use Rattle.std.specs.Prelude.{Result, Option, None, Some, option_to_list}
+use Rattle.std.proofs.Common.{◌≡◌, ℕ, List, [], ◌∷◌, ◌++◌, true, Ok, map, subst, ℤ, pos, negsuc}
+use Rattle.std.specs.Prelude.{Result, Some}
 use Rattle.std.specs.List.{AllByRecursion}
 use Rattle.items.specs.Gives.{◌>>=◌}
 use Rattle.items.proofs.Gives.{on_ok}
@@ -9,21 +9,20 @@ use Rattle.linear_terms.specs.declared.col.Col.{Col}
 use Rattle.linear_terms.specs.declared.error.TermError.{TermError}
 use Rattle.linear_terms.specs.declared.row.Kind.TheVariants.{AtMost, Equal}
 use Rattle.linear_terms.specs.declared.row.Row.{Row}
-use Rattle.linear_terms.specs.declared.row.Case.{Case}
 use Rattle.linear_terms.specs.Expressions.{Made, ◌⊠◌, ◌⊟◌, whole, column, at_most, or_zero, when_made, when_all_made, put_into, linear}
 use Rattle.linear_terms.specs.Operations.{product_of_polys, difference_of_polys, substituted}
 use Rattle.linear_terms.specs.Polynomial.{Terms, Polynomial, IsCanonical, column_of}
 use Rattle.linear_terms.specs.TermError.{times}
 use Rattle.linear_terms.proofs.Canonical.{IsCanonical-nil, IsCanonical-cons, IsCanonical-column, IsCanonical-difference_of_polys, IsCanonical-product_of_polys, IsCanonical-substituted}
-use Rattle.transition_formula.specs.Loss.{answered}
 use Rattle.transition_formula.specs.Transition.{Transition}
-use Rattle.posing.specs.Posing.{Posing, ◌>>=◌ as ◌>>>◌, each, Always}
-use Rattle.posing.proofs.Paths.{always_bind, always_each, always_weaker, always_any}
+use Rattle.posing.specs.Posing.{◌>>=◌ as ◌>>>◌, each, Always}
+use Rattle.posing.proofs.Paths.{always_bind, always_any}
 use Rattle.closed_form.specs.ClosedRow.{closed_poly, closed_row, sum_poly, sum_row}
 use Rattle.polyhedra.specs.Vocabulary.{Vocabulary}
+use Rattle.polyhedra.proofs.Shaped.{with_row-keeps, bounded-keeps, each-keeps}
 use Rattle.polyhedra.specs.Directions.{directions}
 use Rattle.polyhedra.specs.Changes.{poly_at, change, moving}
-use Rattle.polyhedra.specs.Bounds.{for_entries, put_in_for, bound_of, with_row, with_row_for, bounded, before_row, after_row, change_row, bounded_before, bounded_after, bounded_change}
+use Rattle.polyhedra.specs.Bounds.{for_entries, put_in_for, with_row, before_row, after_row, change_row, bounded_before, bounded_after, bounded_change}
 use Rattle.recurrence.specs.Strata.{strata, Term}
 use Rattle.recurrence.specs.Progressions.{Progression, excess, progression_row, progressions, bounded_progression}
 use Rattle.recurrence.specs.Star.{after, count, moved, posts, moves, term_row, terms_once, some_turn, rows_of, turns}
@@ -100,34 +99,11 @@ canonical-closed_row after before d1 d2 d3 k = record {
 
 -- ---- the second case
 
+abbrev Canonical : Row → Type 0
+Canonical row = IsCanonical row.poly.terms
+
 abbrev pub RowsAreCanonical : List Row → Type 0
 RowsAreCanonical rows = AllByRecursion (λ row. IsCanonical row.poly.terms) rows
-
-with_row-canonical : (rows : List Row) (made : Result Row TermError) → IsCanonicalRow made → RowsAreCanonical rows → Always RowsAreCanonical (with_row rows made)
-unfolding with_row
-with_row-canonical rows made row h = each-append (λ r. IsCanonical r.poly.terms) rows (option_to_list (answered made)) h (go made row.as_made)
-  where
-    go : (m : Result Row TermError) → ((r : Row) → m ≡ Ok r → IsCanonical r.poly.terms) → AllByRecursion (λ r. IsCanonical r.poly.terms) (option_to_list (answered m))
-    go (Ok r) holds = (holds r refl, tt)
-    go (Err e) holds = tt
-
-bounded-canonical : (cases : List Case) (objective : Case → Made) (row : ℤ → Result Row TermError) (rows : List Row) → ((most : ℤ) → IsCanonicalRow (row most)) → RowsAreCanonical rows → Always RowsAreCanonical (bounded cases objective row rows)
-unfolding bounded
-bounded-canonical cases objective row rows tells h =
-    always_bind (λ most. Unit {0}) RowsAreCanonical (bound_of cases objective) (λ most. with_row_for rows row most) (always_any (λ most. Unit {0}) (bound_of cases objective) (λ most. tt)) go
-  where
-    go : (most : Option ℤ) → Unit {0} → Always RowsAreCanonical (with_row_for rows row most)
-    go None any = h
-    go (Some most) any = with_row-canonical rows (row most) (tells most) h
-
-each-canonical : {A : Type 0} (P : A → Type 0) (step : List Row → A → Posing (List Row)) (rows : List Row) (xs : List A)
-    → ((rows : List Row) (x : A) → P x → RowsAreCanonical rows → Always RowsAreCanonical (step rows x)) → AllByRecursion P xs → RowsAreCanonical rows → Always RowsAreCanonical (each step rows xs)
-each-canonical {A = A} P step rows xs kept all h =
-    always_weaker (Keeps []) RowsAreCanonical (each step rows xs) (λ made both. both.1)
-    (always_each Keeps step rows xs (λ x rest made both. always_weaker RowsAreCanonical (Keeps rest) (step made x) (λ next fine. (both.0.1, fine)) (kept made x both.0.0 both.1)) (all, h))
-  where
-    Keeps : List A → List Row → Type 0
-    Keeps rest made = AllByRecursion P rest × RowsAreCanonical made
 
 term_row-canonical : (body : Transition) (t : Term) → IsCanonicalRow (term_row body t)
 term_row-canonical body t = record {
@@ -163,22 +139,22 @@ turns-canonical body voc canonical =
     always_bind (λ s. Unit {0}) (λ case. RowsAreCanonical case.rows) (strata body) _ (always_any (λ s. Unit {0}) (strata body) (λ s. tt)) (λ s any.
     always_bind RowsAreCanonical (λ case. RowsAreCanonical case.rows) (rows_of body voc s) _
     (always_bind RowsAreCanonical RowsAreCanonical (each (λ rows t. with_row rows (term_row body t)) [] (terms_once s)) _
-    (each-canonical (λ t. Unit {0}) (λ rows t. with_row rows (term_row body t)) [] (terms_once s) (λ rows t k fine. with_row-canonical rows (term_row body t) (term_row-canonical body t) fine) (each-any (λ t. Unit {0}) (λ t. tt) (terms_once s)) tt) (λ equations h1.
+    (each-keeps Canonical (λ t. Unit {0}) (λ rows t. with_row rows (term_row body t)) [] (terms_once s) (λ rows t k fine. with_row-keeps Canonical rows (term_row body t) (term_row-canonical body t).as_made fine) (each-any (λ t. Unit {0}) (λ t. tt) (terms_once s)) tt) (λ equations h1.
     always_bind RowsAreCanonical RowsAreCanonical (each (bounded_before body.cases) (equations ++ some_turn body ∷ []) (directions voc)) _
-    (each-canonical (λ d. IsCanonical d.terms) (bounded_before body.cases) (equations ++ some_turn body ∷ []) (directions voc)
-    (λ rows d k fine. bounded-canonical body.cases (λ case. Ok d) (before_row d) rows (λ most. canonical-at_most (Ok d ⊟ whole most) (canonical-difference (Ok d) (whole most) (canonical-Ok d k))) fine)
+    (each-keeps Canonical (λ d. IsCanonical d.terms) (bounded_before body.cases) (equations ++ some_turn body ∷ []) (directions voc)
+    (λ rows d k fine. bounded-keeps Canonical body.cases (λ case. Ok d) (before_row d) rows (λ most. (canonical-at_most (Ok d ⊟ whole most) (canonical-difference (Ok d) (whole most) (canonical-Ok d k))).as_made) fine)
     canonical (each-append (λ r. IsCanonical r.poly.terms) equations (some_turn body ∷ []) h1 (some_turn-canonical body, tt))) (λ before h2.
     always_bind RowsAreCanonical RowsAreCanonical (each (bounded_after body.cases (posts body)) before (directions voc)) _
-    (each-canonical (λ d. Unit {0}) (bounded_after body.cases (posts body)) before (directions voc)
-    (λ rows d k fine. bounded-canonical body.cases (λ case. put_in_for case.post d) (after_row (posts body) d) rows
-    (λ most. canonical-at_most (put_in_for (posts body) d ⊟ whole most) (canonical-difference (put_in_for (posts body) d) (whole most) (canonical-put_in_for (posts body) d))) fine)
+    (each-keeps Canonical (λ d. Unit {0}) (bounded_after body.cases (posts body)) before (directions voc)
+    (λ rows d k fine. bounded-keeps Canonical body.cases (λ case. put_in_for case.post d) (after_row (posts body) d) rows
+    (λ most. (canonical-at_most (put_in_for (posts body) d ⊟ whole most) (canonical-difference (put_in_for (posts body) d) (whole most) (canonical-put_in_for (posts body) d))).as_made) fine)
     (each-any (λ d. Unit {0}) (λ d. tt) (directions voc)) h2) (λ after_too h3.
     always_bind RowsAreCanonical RowsAreCanonical (each (bounded_change body.cases (moves body) (Some (count body))) after_too (directions voc ++ voc.extra)) _
-    (each-canonical (λ d. Unit {0}) (bounded_change body.cases (moves body) (Some (count body))) after_too (directions voc ++ voc.extra)
-    (λ rows d k fine. bounded-canonical body.cases (λ case. put_into (for_entries (change true case)) d) (change_row (moves body) (Some (count body)) d) rows
-    (λ most. canonical-at_most (put_in_for (moves body) d ⊟ whole most ⊠ column (count body)) (canonical-difference (put_in_for (moves body) d) (whole most ⊠ column (count body)) (canonical-put_in_for (moves body) d))) fine)
+    (each-keeps Canonical (λ d. Unit {0}) (bounded_change body.cases (moves body) (Some (count body))) after_too (directions voc ++ voc.extra)
+    (λ rows d k fine. bounded-keeps Canonical body.cases (λ case. put_into (for_entries (change true case)) d) (change_row (moves body) (Some (count body)) d) rows
+    (λ most. (canonical-at_most (put_in_for (moves body) d ⊟ whole most ⊠ column (count body)) (canonical-difference (put_in_for (moves body) d) (whole most ⊠ column (count body)) (canonical-put_in_for (moves body) d))).as_made) fine)
     (each-any (λ d. Unit {0}) (λ d. tt) (directions voc ++ voc.extra)) h3) (λ changes h4.
-    each-canonical (λ p. Unit {0}) (bounded_progression body.cases (moved body) (count body)) changes (progressions body voc s)
-    (λ rows p k fine. bounded-canonical body.cases (excess p) (progression_row (moved body) (count body) p) rows (progression_row-canonical (moved body) (count body) p) fine)
+    each-keeps Canonical (λ p. Unit {0}) (bounded_progression body.cases (moved body) (count body)) changes (progressions body voc s)
+    (λ rows p k fine. bounded-keeps Canonical body.cases (excess p) (progression_row (moved body) (count body) p) rows (λ most. (progression_row-canonical (moved body) (count body) p most).as_made) fine)
     (each-any (λ p. Unit {0}) (λ p. tt) (progressions body voc s)) h4)))))
     (λ rows h. h))
