@@ -4,6 +4,8 @@
 #[cfg(test)]
 mod certificates;
 #[cfg(test)]
+mod inputs;
+#[cfg(test)]
 mod outcome;
 #[cfg(test)]
 mod replays;
