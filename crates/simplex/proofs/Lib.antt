@@ -1,32 +1,37 @@
-pub mod Sums
-pub mod Exchanges
-pub mod Ranks
-pub mod Growth
-pub mod Choosing
-pub mod Runs
-pub mod Raises
-pub mod Lines
-pub mod Numbers
-pub mod Leaving
-pub mod Turns
-pub mod Corners
-pub mod Small
-pub mod Beginnings
-pub mod Bounds
-pub mod Primitive
-pub mod Zeros
-pub mod Eliminations
-pub mod Settles
-pub mod Framing
-pub mod Points
-pub mod Leaves
+-- The answer: no part of its test is false, and on calm questions no step of it leaves 128 bits.
+pub mod Honest
 pub mod Certificates
 pub mod Standing
-pub mod Honest
-pub mod Divisors
+pub mod Points
+pub mod Leaves
+pub mod Tame
+pub mod Widths
+-- Calm: tableaux of a calm frame are small, and a step that leaves 128 bits shows that a frame is not small.
+pub mod Calmness
+pub mod Refusing
+pub mod Primitive
+pub mod Bounds
+pub mod Small
 pub mod Comparisons
 pub mod Memory
-pub mod Refusing
-pub mod Calmness
-pub mod Widths
-pub mod Tame
+-- The search: equations, inequalities and turns, from the frame of the rows on.
+pub mod Framing
+pub mod Eliminations
+pub mod Settles
+-- A raise: it begins at a corner, its goal grows, and no choice comes twice.
+pub mod Beginnings
+pub mod Raises
+pub mod Growth
+pub mod Leaving
+pub mod Turns
+pub mod Runs
+pub mod Choosing
+pub mod Ranks
+-- Exchanges: a tableau stays one of its frame.
+pub mod Exchanges
+pub mod Numbers
+pub mod Lines
+pub mod Divisors
+pub mod Zeros
+pub mod Corners
+pub mod Sums
