@@ -1,6 +1,6 @@
 -- Bounds along a run, and the rows that they give.
 use Rattle.std.proofs.Common.{◌≡◌, ℕ, zero, suc, ◌+◌, ◌-◌, ◌<◌, ◌≤◌, List, [], ◌∷◌, true, Ok, Err, refl, sym, ap, subst, ◌∙◌, arith, ℤ, pos, ◌+ℤ◌, ◌-ℤ◌, ◌*ℤ◌, ◌≤ℤ◌}
-use Rattle.std.specs.Prelude.{Result, Option, None, Some, option_to_list}
+use Rattle.std.specs.Prelude.{Result, Option, None, Some}
 use Rattle.std.specs.List.{AllByRecursion}
 use Rattle.std.proofs.lemmas.Int.{ints}
 use Rattle.whole_numbers.proofs.Ring.{ring}
@@ -16,20 +16,19 @@ use Rattle.linear_terms.specs.Row.{RowHolds, RowsHold}
 use Rattle.linear_terms.specs.Value.{Valuation, mono_value, terms_value, value_of}
 use Rattle.transition_formula.specs.Meaning.{numbers, HoldsAt}
 use Rattle.transition_formula.specs.Transition.{Transition}
-use Rattle.transition_formula.specs.Loss.{answered}
 use Rattle.farkas_check.specs.declared.answer.Answer.{Answer}
 use Rattle.farkas_check.specs.declared.answer.Answer.TheVariants as answer
 use Rattle.farkas_check.specs.declared.question.Goal.{Goal}
 use Rattle.farkas_check.specs.declared.question.Question.TheVariants.{Sup}
 use Rattle.farkas_check.specs.Meaning.{IsAtMost, IsTrueAnswer}
 use Rattle.posing.specs.Posing.{Posing, ◌>>=◌, each, Always}
-use Rattle.posing.proofs.Paths.{always_bind, always_each, always_weaker}
+use Rattle.posing.proofs.Paths.{always_bind}
 use Rattle.linear_terms.specs.Expressions.{Made, whole, put_into}
 use Rattle.polyhedra.specs.Vocabulary.{IsDirection}
 use Rattle.polyhedra.specs.Changes.{poly_at, change}
 use Rattle.polyhedra.specs.Bounds.{for_entries, goals_of, bound_in, bound_by, bound_of, with_row, with_row_for, bounded, before_row, put_in_for, after_row, so_often, change_row, bounded_before, bounded_after, bounded_change}
-use Rattle.items.proofs.Each.{each-append}
 use Rattle.linear_terms.proofs.Worth.{IsWorth, IsTrueIfMade, IsWorth-Ok, IsWorth-same, IsWorth-whole, IsWorth-difference, IsTrueIfMade-at_most, IsWorth-put_into}
+use Rattle.polyhedra.proofs.Shaped.{with_row-keeps, each-keeps}
 use Rattle.polyhedra.proofs.Turns.{number_in, Reads, post-worth, change-worth, by_some, IsRunOf}
 
 -- ---- directions
@@ -80,22 +79,12 @@ direction-minus u v w d direction differ = done _ _ _ d.rest (terms-minus u v w 
 -- ---- rows
 
 pub with_row-true : (at : Valuation) (rows : List Row) (made : Result Row TermError) → IsTrueIfMade at made → RowsHold at rows → Always (RowsHold at) (with_row rows made)
-unfolding with_row
-with_row-true at rows made row h = each-append (RowHolds at) rows (option_to_list (answered made)) h (go made row.holds)
-  where
-    go : (m : Result Row TermError) → ((r : Row) → m ≡ Ok r → RowHolds at r) → AllByRecursion (RowHolds at) (option_to_list (answered m))
-    go (Ok r) holds = (holds r refl, tt)
-    go (Err e) holds = tt
+with_row-true at rows made row h = with_row-keeps (RowHolds at) rows made row.holds h
 
 -- each adds a row that is true
 pub each-true : {A : Type 0} (P : A → Type 0) (at : Valuation) (step : List Row → A → Posing (List Row)) (rows : List Row) (xs : List A)
     → ((rows : List Row) (x : A) → P x → RowsHold at rows → Always (RowsHold at) (step rows x)) → AllByRecursion P xs → RowsHold at rows → Always (RowsHold at) (each step rows xs)
-each-true {A = A} P at step rows xs kept all h =
-    always_weaker (Keeps []) (RowsHold at) (each step rows xs) (λ made both. both.1)
-    (always_each Keeps step rows xs (λ x rest made both. always_weaker (RowsHold at) (Keeps rest) (step made x) (λ next true_here. (both.0.1, true_here)) (kept made x both.0.0 both.1)) (all, h))
-  where
-    Keeps : List A → List Row → Type 0
-    Keeps rest made = AllByRecursion P rest × RowsHold at made
+each-true P at step rows xs kept all h = each-keeps (RowHolds at) P step rows xs kept all h
 
 module _ (body : Transition) (steps : ℕ) (states : ℕ → List ℤ) (run : IsRunOf body steps states) where
   -- the objective has in each turn the value of a sequence
