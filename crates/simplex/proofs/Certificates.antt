@@ -73,7 +73,7 @@ sum_below-first (suc n) f = ap (λ z. z +ℤ f (suc n)) (sum_below-first n f) �
     group : (a b c : ℤ) → a +ℤ b +ℤ c ≡ a +ℤ (b +ℤ c)
     group a b c = omega (arith, ints)
 
-total-is : (number : Row → ℤ) (rows : List Row) (by : List ℤ) → length by ≡ length rows → total number rows by ≡ sum_below (length rows) (λ l. get_or by l (pos 0) *ℤ each_of number rows l)
+pub total-is : (number : Row → ℤ) (rows : List Row) (by : List ℤ) → length by ≡ length rows → total number rows by ≡ sum_below (length rows) (λ l. get_or by l (pos 0) *ℤ each_of number rows l)
 total-is number [] by h = refl
 total-is number (row ∷ rows) [] h = absurd (omega (arith, h))
 total-is number (row ∷ rows) (m ∷ by) h =
@@ -82,7 +82,7 @@ total-is number (row ∷ rows) (m ∷ by) h =
 
 -- ---- signs
 
-all_multipliers : (rows : List Row) (by : List ℤ) → ((l : ℕ) → l < length rows → kind_at (kinds_of rows) l ≡ AtMost → pos 0 ≤ℤ get_or by l (pos 0)) → list_all (λ (p : Row × ℤ). is_multiplier p.0.kind p.1) (zip rows by) ≡ true
+pub all_multipliers : (rows : List Row) (by : List ℤ) → ((l : ℕ) → l < length rows → kind_at (kinds_of rows) l ≡ AtMost → pos 0 ≤ℤ get_or by l (pos 0)) → list_all (λ (p : Row × ℤ). is_multiplier p.0.kind p.1) (zip rows by) ≡ true
 all_multipliers [] by h = refl
 all_multipliers (row ∷ rows) [] h = refl
 all_multipliers (row ∷ rows) (m ∷ by) h = both (is_multiplier row.kind m) (one row.kind (λ e. h 0 (omega arith) e)) (all_multipliers rows by (λ l g e. h (suc l) (omega arith) e))

@@ -27,7 +27,7 @@ step over constants kinds before after line column s here in_range other n e = w
   where
     with_is : Exchanged before after line column → Step over constants kinds before after line column
     with_is x = record {
-      sized = record { tableau = exchanged-keeps over.units over.frame before after line column s.tableau here in_range n e; units = s.units; many = s.many ∙ sym x.many; apart = apart; primitive = exchanged-primitive over.units over.frame before after line column s.tableau here in_range n s.primitive e };
+      sized = record { tableau = exchanged-keeps over.units over.frame before after line column s.tableau here in_range n e; units = s.units; many = s.many ∙ sym x.many; apart = apart; primitive = exchanged-primitive over.units over.frame before after line column s.tableau here in_range n s.primitive e; inside = subst (λ (n : ℕ). over.rows ≤ n) (sym x.many) s.inside; goals = λ l h k. s.goals l h (subst (λ (n : ℕ). l < n) x.many k) };
       is = x;
     }
       where

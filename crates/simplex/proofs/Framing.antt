@@ -1,5 +1,5 @@
 -- The tableau of a list of rows: it chooses the unit columns.
-use Rattle.std.proofs.Common.{◌≡◌, ℕ, zero, suc, ◌+◌, ◌<◌, Bool, true, false, cond, List, [], ◌∷◌, ◌++◌, length, get_or, refl, sym, ap, subst, ◌∙◌, arith, ⊎_elim, ℤ, pos, ◌*ℤ◌, ◌<ℤ◌}
+use Rattle.std.proofs.Common.{◌≡◌, ℕ, zero, suc, ◌+◌, ◌<◌, ◌≤◌, Bool, true, false, cond, List, [], ◌∷◌, ◌++◌, length, get_or, refl, sym, ap, subst, ◌∙◌, arith, ⊎_elim, ℤ, pos, ◌*ℤ◌, ◌<ℤ◌}
 use Rattle.std.specs.Prelude.{nat_eq}
 use Rattle.std.proofs.lemmas.Int.{ints}
 use Rattle.std.proofs.lemmas.Bool.{cases_eq, eq-eqb, ne_eqb}
@@ -30,7 +30,7 @@ after_front : {X : Type 0} (xs ys : List X) (d : X) (k : ℕ) → get_or (xs ++ 
 after_front [] ys d k = let e : 0 + k ≡ k = omega arith in ap (λ (n : ℕ). get_or ys n d) e
 after_front (x ∷ xs) ys d k = let e : length (x ∷ xs) + k ≡ suc (length xs + k) = omega arith in ap (λ (n : ℕ). get_or (x ∷ xs ++ ys) n d) e ∙ after_front xs ys d k
 
-long : {X : Type 0} (xs ys : List X) → length (xs ++ ys) ≡ length xs + length ys
+pub long : {X : Type 0} (xs ys : List X) → length (xs ++ ys) ≡ length xs + length ys
 long [] ys = omega arith
 long (x ∷ xs) ys = let e : length (xs ++ ys) ≡ length xs + length ys = long xs ys in omega (arith, e)
 
@@ -166,13 +166,14 @@ framed-primitive cs rows i h = one-primitive (get_or (lines_from cs (length rows
 
 pub solving : (cs : List (List Col)) (rows : List Row) → IsSolving (framed_by cs rows) (length cs) (kinds_of rows) 0 (framed cs rows)
 solving cs rows = record {
-  sized = record { tableau = framed-is cs rows; units = refl; many = kinds-length rows ∙ sym (lines_from-length cs (length rows) 0 rows); apart = λ i h same. let e : choices_of (framed cs rows) i ≡ length cs + 1 + i = units_from-at (length cs + 1) (length rows) i (subst (λ (n : ℕ). i < n) (lines_from-length cs (length rows) 0 rows) h) in absurd (omega (arith, e, same)); primitive = framed-primitive cs rows };
+  sized = record { tableau = framed-is cs rows; units = refl; many = kinds-length rows ∙ sym (lines_from-length cs (length rows) 0 rows); apart = λ i h same. let e : choices_of (framed cs rows) i ≡ length cs + 1 + i = units_from-at (length cs + 1) (length rows) i (subst (λ (n : ℕ). i < n) (lines_from-length cs (length rows) 0 rows) h) in absurd (omega (arith, e, same)); primitive = framed-primitive cs rows; inside = subst (λ (n : ℕ). length rows ≤ n) (sym (lines_from-length cs (length rows) 0 rows)) (omega arith); goals = λ l h k. let g : l < length rows = subst (λ (n : ℕ). l < n) (lines_from-length cs (length rows) 0 rows) k in absurd (omega (arith, h, g)) };
   own = λ l h k. units_from-at (length cs + 1) (length rows) l (subst (λ (n : ℕ). l < n) (lines_from-length cs (length rows) 0 rows) h);
   done = λ l h. absurd (omega (arith, h));
 }
 
-pub solving-at : (cs : List (List Col)) (rows : List Row) (constants : ℕ) (kinds : List Kind) (t : Tableau) → constants ≡ length cs → t ≡ framed cs rows → kinds ≡ kinds_of rows → IsSolving (record { units = constants + 1; frame = numbers_of t }) constants kinds 0 t
-solving-at cs rows constants kinds t e f g =
-    subst (λ (n : ℕ). IsSolving (record { units = n + 1; frame = numbers_of t }) n kinds 0 t) (sym e)
-    (subst (λ (u : Tableau). IsSolving (record { units = length cs + 1; frame = numbers_of u }) (length cs) kinds 0 u) (sym f)
-    (subst (λ (ks : List Kind). IsSolving (record { units = length cs + 1; frame = numbers_of (framed cs rows) }) (length cs) ks 0 (framed cs rows)) (sym g) (solving cs rows)))
+pub solving-at : (cs : List (List Col)) (rows : List Row) (constants count : ℕ) (kinds : List Kind) (t : Tableau) → constants ≡ length cs → count ≡ length rows → t ≡ framed cs rows → kinds ≡ kinds_of rows → IsSolving (record { units = constants + 1; rows = count; frame = numbers_of t }) constants kinds 0 t
+solving-at cs rows constants count kinds t e d f g =
+    subst (λ (n : ℕ). IsSolving (record { units = n + 1; rows = count; frame = numbers_of t }) n kinds 0 t) (sym e)
+    (subst (λ (n : ℕ). IsSolving (record { units = length cs + 1; rows = n; frame = numbers_of t }) (length cs) kinds 0 t) (sym d)
+    (subst (λ (u : Tableau). IsSolving (record { units = length cs + 1; rows = length rows; frame = numbers_of u }) (length cs) kinds 0 u) (sym f)
+    (subst (λ (ks : List Kind). IsSolving (record { units = length cs + 1; rows = length rows; frame = numbers_of (framed cs rows) }) (length cs) ks 0 (framed cs rows)) (sym g) (solving cs rows))))

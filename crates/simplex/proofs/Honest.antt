@@ -44,24 +44,26 @@ honest rows budget (answer.Limit (limit.Wide left right times)) k h b e = absurd
     not_pivots f = cc
 
 -- what a search says of its frame, said of the rows
-pub found_at : (rows : List Row) (budget constants : ℕ) (cs : List (List Col)) (kinds : List Kind) (t : Tableau) (r : Result Answer Stop) → cs ≡ columns rows [] → constants ≡ length cs → kinds ≡ kinds_of rows → t ≡ framed cs rows
-    → IfOk r (λ a. AnswerOf (record { units = constants + 1; frame = numbers_of t }) constants kinds budget a) → IfOk r (λ a. IsFoundFor budget rows a)
-found_at rows budget constants cs kinds t (Err s) e f g u h = tt
-found_at rows budget constants cs kinds t (Ok a) e f g u h =
+pub found_at : (rows : List Row) (budget constants count : ℕ) (cs : List (List Col)) (kinds : List Kind) (t : Tableau) (r : Result Answer Stop) → cs ≡ columns rows [] → constants ≡ length cs → count ≡ length rows → kinds ≡ kinds_of rows → t ≡ framed cs rows
+    → IfOk r (λ a. AnswerOf (record { units = constants + 1; rows = count; frame = numbers_of t }) constants kinds budget a) → IfOk r (λ a. IsFoundFor budget rows a)
+found_at rows budget constants count cs kinds t (Err s) e f d g u h = tt
+found_at rows budget constants count cs kinds t (Ok a) e f d g u h =
     subst (λ (ds : List (List Col)). AnswerOf (framed_by ds rows) (length ds) (kinds_of rows) budget a) e
     (subst (λ (ks : List Kind). AnswerOf (framed_by cs rows) (length cs) ks budget a) g
-    (subst (λ (v : Tableau). AnswerOf (record { units = length cs + 1; frame = numbers_of v }) (length cs) kinds budget a) u
-    (subst (λ (n : ℕ). AnswerOf (record { units = n + 1; frame = numbers_of t }) n kinds budget a) f h)))
+    (subst (λ (v : Tableau). AnswerOf (record { units = length cs + 1; rows = length rows; frame = numbers_of v }) (length cs) kinds budget a) u
+    (subst (λ (n : ℕ). AnswerOf (record { units = length cs + 1; rows = n; frame = numbers_of t }) (length cs) kinds budget a) d
+    (subst (λ (n : ℕ). AnswerOf (record { units = n + 1; rows = count; frame = numbers_of t }) n kinds budget a) f h))))
 
-pub refusal_at : (rows : List Row) (constants : ℕ) (cs : List (List Col)) (kinds : List Kind) (t : Tableau) (r : Result Answer Stop) → cs ≡ columns rows [] → constants ≡ length cs → kinds ≡ kinds_of rows → t ≡ framed cs rows
-    → IfErr r (IsRefusalIn (record { units = constants + 1; frame = numbers_of t }) (length kinds)) → IfErr r (λ s. IsRefusalFor rows s)
-refusal_at rows constants cs kinds t (Ok a) e f g u h = tt
-refusal_at rows constants cs kinds t (Err s) e f g u h =
+pub refusal_at : (rows : List Row) (constants count : ℕ) (cs : List (List Col)) (kinds : List Kind) (t : Tableau) (r : Result Answer Stop) → cs ≡ columns rows [] → constants ≡ length cs → count ≡ length rows → kinds ≡ kinds_of rows → t ≡ framed cs rows
+    → IfErr r (IsRefusalIn (record { units = constants + 1; rows = count; frame = numbers_of t }) (length kinds)) → IfErr r (λ s. IsRefusalFor rows s)
+refusal_at rows constants count cs kinds t (Ok a) e f d g u h = tt
+refusal_at rows constants count cs kinds t (Err s) e f d g u h =
     subst (λ (n : ℕ). IsRefusalIn (framed_by (columns rows []) rows) n s) (kinds-length rows)
     (subst (λ (ds : List (List Col)). IsRefusalIn (framed_by ds rows) (length (kinds_of rows)) s) e
     (subst (λ (ks : List Kind). IsRefusalIn (framed_by cs rows) (length ks) s) g
-    (subst (λ (v : Tableau). IsRefusalIn (record { units = length cs + 1; frame = numbers_of v }) (length kinds) s) u
-    (subst (λ (n : ℕ). IsRefusalIn (record { units = n + 1; frame = numbers_of t }) (length kinds) s) f h))))
+    (subst (λ (v : Tableau). IsRefusalIn (record { units = length cs + 1; rows = length rows; frame = numbers_of v }) (length kinds) s) u
+    (subst (λ (n : ℕ). IsRefusalIn (record { units = length cs + 1; rows = n; frame = numbers_of t }) (length kinds) s) d
+    (subst (λ (n : ℕ). IsRefusalIn (record { units = n + 1; rows = count; frame = numbers_of t }) (length kinds) s) f h)))))
 
 -- ---- answers
 

@@ -18,6 +18,11 @@ pub mod Memory
 pub mod Framing
 pub mod Eliminations
 pub mod Settles
+-- Suprema: what an objective comes to at the corners and along the rays of its rows.
+pub mod Objectives
+pub mod Bounded
+pub mod Reached
+pub mod Moves
 -- A raise: it begins at a corner, its goal grows, and no choice comes twice.
 pub mod Beginnings
 pub mod Raises

@@ -28,7 +28,7 @@ pub ruleset divisors = (zero-gcd_of)
 lines_ok : List ℤ → Result (List ℤ) Step.Wide
 lines_ok zs = Ok zs
 
-multiplied-length : (line : List ℤ) (by : ℤ) (made : List ℤ) → multiplied line by ≡ Ok made → length made ≡ length line
+pub multiplied-length : (line : List ℤ) (by : ℤ) (made : List ℤ) → multiplied line by ≡ Ok made → length made ≡ length line
 multiplied-length [] by made e = let same : [] ≡ made = cc in ap length (sym same)
 multiplied-length (a ∷ line) by made e =
     on_ok (product_of a by) (λ z. multiplied line by >>= λ more. Ok (z ∷ more)) made e

@@ -1,6 +1,6 @@
 -- The numbers of a corner, and a line's multipliers, as the code makes them.
-use Rattle.std.proofs.Common.{◌≡◌, ◌⊎◌, inl, inr, ℕ, zero, suc, ◌+◌, ◌<◌, List, [], ◌∷◌, length, drop, get_or, refl, sym, ap, subst, ◌∙◌, arith, ⊎_elim, Ok, Err, ℤ, pos, negsuc, ◌*ℤ◌, ◌<ℤ◌}
-use Rattle.std.specs.Prelude.{Result, IfOk}
+use Rattle.std.proofs.Common.{◌≡◌, ◌⊎◌, inl, inr, ℕ, zero, suc, ◌+◌, ◌<◌, List, [], ◌∷◌, length, drop, get_or, refl, sym, ap, subst, ◌∙◌, arith, ⊎_elim, Ok, Err, ℤ, pos, negsuc, ◌*ℤ◌, ◌<ℤ◌, Bool, ◌≢◌}
+use Rattle.std.specs.Prelude.{Result, IfOk, not}
 use Rattle.std.proofs.lemmas.Bool.{cases_eq}
 use Rattle.items.proofs.Gives.{on_ok}
 use Rattle.whole_numbers.specs.Fits.{product_of}
@@ -12,7 +12,8 @@ use Rattle.simplex.specs.declared.tableau.Tableau.{Tableau}
 use Rattle.simplex.specs.Answers.{multipliers_of, IsMultipliers}
 use Rattle.simplex.specs.Exchange.{numbers_of, choices_of, turned, HasShape, IsTableauOf}
 use Rattle.farkas_check.specs.Relations.{entry}
-use Rattle.simplex.specs.Raise.{Framed}
+use Rattle.simplex.specs.Raise.{Framed, sign_of}
+use Rattle.simplex.specs.Suprema.{SlopeAt, chosen_slope}
 use Rattle.simplex.specs.Search.{CornerAt, chosen_number}
 use Rattle.simplex.proofs.Eliminations.{choose_apart}
 use Rattle.simplex.proofs.Lines.{turned-length}
@@ -46,6 +47,34 @@ corner-chosen over t constants column line r s here chosen e =
 pub corner-chosen-ok : (over : Framed) (t : Tableau) (constants column line : ℕ) (r : Result Fraction Step.Wide) → IsTableauOf over.units over.frame t → line < length t.lines → choices_of t line ≡ column → r ≡ chosen_number (get_or t.lines line []) constants column → IfOk r (λ q. CornerAt t constants column q)
 corner-chosen-ok over t constants column line (Ok q) s here chosen e = corner-chosen over t constants column line q s here chosen (sym e)
 corner-chosen-ok over t constants column line (Err w) s here chosen e = tt
+
+-- ---- rays
+
+pub slope-chosen : (over : Framed) (t : Tableau) (column own line : ℕ) (up : Bool) (r : Fraction) → IsTableauOf over.units over.frame t → own ≢ column → line < length t.lines → choices_of t line ≡ own → chosen_slope (get_or t.lines line []) column up own ≡ Ok r → SlopeAt t column up own r
+slope-chosen over t column own line up r s apart here chosen e =
+    on_ok (product_of (numbers_of t line column) (sign_of (not up))) (λ n. ratio_ok (lowest_terms n (numbers_of t line own))) r e
+    (λ n f g. let same : lowest_terms n (numbers_of t line own) ≡ r = cc in subst (λ q. SlopeAt t column up own q) same (made n (product_of-value (numbers_of t line column) (sign_of (not up)) n f)))
+  where
+    own_above : pos 0 <ℤ numbers_of t line own
+    own_above = subst (λ (j : ℕ). pos 0 <ℤ numbers_of t line j) chosen (s.is.own line here)
+
+    made : (n : ℤ) → n ≡ numbers_of t line column *ℤ sign_of (not up) → SlopeAt t column up own (lowest_terms n (numbers_of t line own))
+    made n f = record {
+      lowest = IsLowest-lowest_terms n (numbers_of t line own) own_above;
+      here = λ same. absurd (apart same);
+      chosen = λ o k h is. ⊎_elim (λ (same : k ≡ line). at_line k same) (λ other. absurd (choose_apart over t k line s h here other (is ∙ sym chosen))) (cases_eq k line);
+      free = λ o none. absurd (none line here chosen);
+    }
+      where
+        at_line : (k : ℕ) → k ≡ line → (lowest_terms n (numbers_of t line own)).num *ℤ numbers_of t k own ≡ numbers_of t k column *ℤ sign_of (not up) *ℤ (lowest_terms n (numbers_of t line own)).den
+        at_line k same =
+            ap (λ (l : ℕ). (lowest_terms n (numbers_of t line own)).num *ℤ numbers_of t l own) same
+            ∙ (Stands-lowest n (numbers_of t line own) n (numbers_of t line own) own_above refl).same
+            ∙ ap (λ z. z *ℤ (lowest_terms n (numbers_of t line own)).den) (f ∙ ap (λ (l : ℕ). numbers_of t l column *ℤ sign_of (not up)) (sym same))
+
+pub slope-chosen-ok : (over : Framed) (t : Tableau) (column own line : ℕ) (up : Bool) (r : Result Fraction Step.Wide) → IsTableauOf over.units over.frame t → own ≢ column → line < length t.lines → choices_of t line ≡ own → r ≡ chosen_slope (get_or t.lines line []) column up own → IfOk r (λ q. SlopeAt t column up own q)
+slope-chosen-ok over t column own line up (Ok q) s apart here chosen e = slope-chosen over t column own line up q s apart here chosen (sym e)
+slope-chosen-ok over t column own line up (Err w) s apart here chosen e = tt
 
 -- ---- multipliers
 

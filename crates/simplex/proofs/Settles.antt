@@ -1,8 +1,8 @@
 -- Turns: a raise keeps what a search keeps, and each of its ends.
-use Rattle.std.proofs.Common.{◌≡◌, ◌≢◌, ◌⊎◌, inl, inr, ℕ, ◌+◌, ◌<◌, ◌≤◌, Bool, true, false, List, ◌∷◌, length, refl, sym, ap, subst, ◌∙◌, arith, ⊎_elim, Ok, ℤ, pos, ◌-ℤ◌, ◌*ℤ◌, ◌≤ℤ◌, ◌<ℤ◌}
+use Rattle.std.proofs.Common.{◌≡◌, ◌≢◌, ◌⊎◌, inl, inr, ℕ, ◌+◌, ◌<◌, ◌≤◌, Bool, true, false, List, ◌∷◌, length, refl, sym, ap, subst, ◌∙◌, arith, ⊎_elim, Ok, ℤ, pos, negsuc, ◌-ℤ◌, ◌*ℤ◌, ◌≤ℤ◌, ◌<ℤ◌}
 use Rattle.std.specs.Prelude.{slice_set, neg_ℤ, cond}
 use Rattle.std.proofs.lemmas.Int.{ints, by_lt_z}
-use Rattle.std.proofs.lemmas.Bool.{cases_eq, eq-eqb, false≢true}
+use Rattle.std.proofs.lemmas.Bool.{cases_eq, cases_lt, eq-eqb, false≢true}
 use Rattle.std.proofs.lemmas.List.{length-set}
 use Rattle.std.proofs.Math.IntN.{*ℤ_comm, zero-*ℤ}
 use Rattle.whole_numbers.proofs.Ring.{ring, ≤ℤ-*ℤ, *ℤ-≤ℤ, one-*ℤ}
@@ -14,17 +14,19 @@ use Rattle.simplex.specs.Frames.{IsCleared, seen, IsLexPositive}
 use Rattle.simplex.specs.History.{Raises, IsUnmet}
 use Rattle.simplex.specs.Raise.{Framed, enters_at, leaves_at, keys_of, Begins, IsBest, IsOpen}
 use Rattle.simplex.specs.Rows.{kind_at}
-use Rattle.simplex.specs.Search.{IsFlat, IsFixed, IsUnit, IsFreeing, IsPlaced, IsKept, IsRefuted, AreKept}
+use Rattle.simplex.specs.Search.{IsFlat, IsFixed, IsUnit, IsFreeing, IsPlaced, IsKept, IsMet, IsRefuted, AreKept}
+use Rattle.simplex.specs.Suprema.{IsTopped, IsOpened}
 use Rattle.simplex.proofs.Beginnings.{Begins-at}
 use Rattle.simplex.proofs.Eliminations.{Step, step, fixed-kept, set_same, set_other, not_before, choose_apart}
 use Rattle.simplex.proofs.Zeros.{stays_zero_under}
 
 -- ---- the beginning
 
-pub placed : (over : Framed) (constants : ℕ) (kinds : List Kind) (enters : List Bool) (t : Tableau) → IsFreeing over constants kinds (length kinds) enters t → IsPlaced over constants kinds enters t
+pub placed : (over : Framed) (constants : ℕ) (kinds : List Kind) (enters : List Bool) (t : Tableau) → IsFreeing over constants kinds over.rows enters t → IsPlaced over constants kinds enters t
 placed over constants kinds enters t f = record {
   marked = f.marked;
-  flat = λ i h c. f.flat i h c (inr (subst (λ (n : ℕ). i < n) (sym f.marked.sized.many) h));
+  out = λ l h k. f.later l h k;
+  flat = λ i r h c. f.flat i h c (inr r);
   corner = λ i h e. absurd (false≢true (sym (f.none i h) ∙ e));
 }
 
@@ -66,12 +68,13 @@ first_key constants w keys (inr p) = let q : neg_ℤ (w constants) ≡ pos 0 = s
 pub raised-placed : (over : Framed) (constants : ℕ) (kinds : List Kind) (enters : List Bool) (goal : ℕ) (sign : ℤ) (t now : Tableau) (turns : ℕ) → IsPlaced over constants kinds enters t → Raises over enters constants (keys_of enters constants t) goal sign t now turns → IsPlaced over constants kinds enters now
 raised-placed over constants kinds enters goal sign t now turns p r = record {
   marked = record {
-    sized = record { tableau = r.tableau; units = p.marked.sized.units; many = p.marked.sized.many ∙ sym r.many; apart = apart; primitive = r.primitive p.marked.sized.primitive };
+    sized = record { tableau = r.tableau; units = p.marked.sized.units; many = p.marked.sized.many ∙ sym r.many; apart = apart; primitive = r.primitive p.marked.sized.primitive; inside = subst (λ (n : ℕ). over.rows ≤ n) (sym r.many) p.marked.sized.inside; goals = λ l h k. p.marked.sized.goals l h (in_t l k) };
     wide = p.marked.wide ∙ ap (λ (n : ℕ). over.units + n) (sym r.many);
     fixed = fixed;
     entering = λ j e. subst (λ (n : ℕ). IsUnit over kinds n j) (sym r.many) (p.marked.entering j e);
     waiting = λ l h k e. stays l (in_t l h) (ap (enters_at enters) (p.marked.waiting l (in_t l h) k e) ∙ e) ∙ p.marked.waiting l (in_t l h) k e;
   };
+  out = λ l h k. p.out l h (in_t l k);
   flat = flat;
   corner = λ i h e. first_key constants (numbers_of now i) _ (r.raising.ahead i (in_t i h) (sym (r.same i (in_t i h)) ∙ e));
 }
@@ -112,8 +115,12 @@ raised-placed over constants kinds enters goal sign t now turns p r = record {
             keep : (j : ℕ) → numbers_of t i j ≡ pos 0 → numbers_of now i j ≡ pos 0
             keep j z = r.level i (in_t i h) out zero_in j z
 
-    flat : (i : ℕ) → i < length now.lines → over.units ≤ choices_of now i → IsFlat constants now i
-    flat i h c j m = r.zeros j (λ k kh e. p.flat k kh (above (choices_of t k) e) j m) i (in_t i h) (p.flat i (in_t i h) (unit (leaves_at enters t i) refl) j m)
+    -- a line that may leave is that of a row
+    row_of : (k : ℕ) → k < length t.lines → leaves_at enters t k ≡ true → k < over.rows
+    row_of k h e = ⊎_elim (λ (a : k < over.rows). a) (λ (b : over.rows ≤ k). absurd (false≢true (sym (ap (enters_at enters) (p.marked.waiting k h (p.marked.sized.goals k b h) (p.out k b h)) ∙ p.out k b h) ∙ e))) (cases_lt k over.rows)
+
+    flat : (i : ℕ) → i < over.rows → i < length now.lines → over.units ≤ choices_of now i → IsFlat constants now i
+    flat i row h c j m = r.zeros j (λ k kh e. p.flat k (row_of k kh e) kh (above (choices_of t k) e) j m) i (in_t i h) (p.flat i row (in_t i h) (unit (leaves_at enters t i) refl) j m)
       where
         unit : (b : Bool) → leaves_at enters t i ≡ b → over.units ≤ choices_of t i
         unit true e = above (choices_of t i) e
@@ -125,8 +132,8 @@ still_waits over constants kinds enters t i p h k e = p.marked.waiting i h k e
 
 -- ---- a row that is met
 
-kept_here : (over : Framed) (constants : ℕ) (kinds : List Kind) (enters : List Bool) (t : Tableau) (i : ℕ) → IsPlaced over constants kinds enters t → i < length t.lines → kind_at kinds i ≡ AtMost → enters_at enters (over.units + i) ≡ false → numbers_of t i constants ≤ℤ pos 0 → IsKept over constants kinds i enters (slice_set enters (over.units + i) true) t
-kept_here over constants kinds enters t i p here kind waits met = record {
+kept_here : (over : Framed) (constants : ℕ) (kinds : List Kind) (enters : List Bool) (t : Tableau) (i : ℕ) → IsPlaced over constants kinds enters t → i < over.rows → i < length t.lines → kind_at kinds i ≡ AtMost → enters_at enters (over.units + i) ≡ false → numbers_of t i constants ≤ℤ pos 0 → IsKept over constants kinds i enters (slice_set enters (over.units + i) true) t
+kept_here over constants kinds enters t i p row here kind waits met = record {
   placed = record {
     marked = record {
       sized = p.marked.sized;
@@ -135,6 +142,7 @@ kept_here over constants kinds enters t i p here kind waits met = record {
       entering = λ j h. ⊎_elim (λ (same : j ≡ over.units + i). record { row = i; here = here; is = same; kind = kind }) (λ other. p.marked.entering j (sym (set_other enters (over.units + i) j other) ∙ h)) (cases_eq j (over.units + i));
       waiting = λ l h k f. p.marked.waiting l h k (sym (set_other enters (over.units + i) (over.units + l) (λ same. not_own l f (omega (arith, same)))) ∙ f);
     };
+    out = λ l h k. set_other enters (over.units + i) (over.units + l) (λ same. absurd (omega (arith, same, row, h))) ∙ p.out l h k;
     flat = p.flat;
     corner = λ l h e. ⊎_elim (λ (same : l ≡ i). subst (λ (k : ℕ). numbers_of t k constants ≤ℤ pos 0) (sym same) met)
         (λ other. p.corner l h (sym (set_other enters (over.units + i) (choices_of t l) (λ is. choose_apart over t l i p.marked.sized.tableau h here other (is ∙ sym own))) ∙ e)) (cases_eq l i);
@@ -195,9 +203,9 @@ turned_down sign a b c d n p e q f =
     last : (x y z : ℤ) → x ≡ y → z ≡ pos 0 → y ≤ℤ z → x ≤ℤ pos 0
     last x y z g h k = omega (arith, ints)
 
-kept_open : (over : Framed) (constants : ℕ) (kinds : List Kind) (enters : List Bool) (t next : Tableau) (i column : ℕ) → IsPlaced over constants kinds enters t → i < length t.lines → kind_at kinds i ≡ AtMost → enters_at enters (over.units + i) ≡ false
+kept_open : (over : Framed) (constants : ℕ) (kinds : List Kind) (enters : List Bool) (t next : Tableau) (i column : ℕ) → IsPlaced over constants kinds enters t → i < over.rows → i < length t.lines → kind_at kinds i ≡ AtMost → enters_at enters (over.units + i) ≡ false
     → pos 0 <ℤ numbers_of t i constants → IsOpen enters (pos 1) i column t → exchanged t i column ≡ Ok next → IsKept over constants kinds i enters (slice_set enters (over.units + i) true) next
-kept_open over constants kinds enters t next i column p here kind waits unmet o e =
+kept_open over constants kinds enters t next i column p row here kind waits unmet o e =
     with_step (step over constants kinds t next i column p.marked.sized here (subst (λ (n : ℕ). column < n) p.marked.wide o.0.within) (λ same. let is : column ≡ over.units + unit.row = unit.is in let u : over.units ≡ constants + 1 = p.marked.sized.units in absurd (omega (arith, same, is, u))) (λ z. not_zero (numbers_of t i column) down z) e)
   where
     down : numbers_of t i column <ℤ pos 0
@@ -225,6 +233,7 @@ kept_open over constants kinds enters t next i column p here kind waits unmet o 
           entering = λ j h. subst (λ (n : ℕ). IsUnit over kinds n j) (sym x.is.many) (⊎_elim (λ (same : j ≡ over.units + i). record { row = i; here = here; is = same; kind = kind }) (λ other. p.marked.entering j (sym (set_other enters (over.units + i) j other) ∙ h)) (cases_eq j (over.units + i)));
           waiting = λ l h k f. x.is.choices.elsewhere l (in_t l h) (not_own l f) ∙ p.marked.waiting l (in_t l h) k (sym (set_other enters (over.units + i) (over.units + l) (λ same. not_own l f (omega (arith, same)))) ∙ f);
         };
+        out = λ l h k. set_other enters (over.units + i) (over.units + l) (λ same. absurd (omega (arith, same, row, h))) ∙ p.out l h (in_t l k);
         flat = flat;
         corner = corner;
       };
@@ -250,15 +259,15 @@ kept_open over constants kinds enters t next i column p here kind waits unmet o 
             with_fixed : IsFixed over constants kinds t l → IsFixed over constants kinds next l
             with_fixed f = fixed-kept over constants kinds t next i column l x.is (in_t l h) other (ap (numbers_of t l) unit.is ∙ f.apart unit.row unit.here unit.kind) f
 
-        flat : (l : ℕ) → l < length next.lines → over.units ≤ choices_of next l → IsFlat constants next l
-        flat l h c j m = stays_zero_under (length t.lines) (numbers_of t) (numbers_of next) i column l j x.is.numbers (in_t l h) (goal_flat j m) (before (cases_eq l i))
+        flat : (l : ℕ) → l < over.rows → l < length next.lines → over.units ≤ choices_of next l → IsFlat constants next l
+        flat l r h c j m = stays_zero_under (length t.lines) (numbers_of t) (numbers_of next) i column l j x.is.numbers (in_t l h) (goal_flat j m) (before (cases_eq l i))
           where
             goal_flat : IsFlat constants t i
-            goal_flat = p.flat i here (omega (arith, own))
+            goal_flat = p.flat i row here (omega (arith, own))
 
             before : (l ≡ i) ⊎ (l ≢ i) → numbers_of t l j ≡ pos 0
             before (inl same) = ap (λ (k : ℕ). numbers_of t k j) same ∙ goal_flat j m
-            before (inr other) = p.flat l (in_t l h) (subst (λ (n : ℕ). over.units ≤ n) (x.is.choices.elsewhere l (in_t l h) other) c) j m
+            before (inr other) = p.flat l r (in_t l h) (subst (λ (n : ℕ). over.units ≤ n) (x.is.choices.elsewhere l (in_t l h) other) c) j m
 
         constant_down : numbers_of next i constants ≤ℤ pos 0
         constant_down = turned_down x.is.numbers.sign (numbers_of t i column) (numbers_of next i column) (numbers_of t i constants) (numbers_of next i constants) down x.is.numbers.positive (x.is.numbers.turned column) unmet (x.is.numbers.turned constants)
@@ -283,29 +292,29 @@ in_units over constants kinds i enters t u k = subst (λ (n : ℕ). IsKept over 
 waits_there : (over : Framed) (constants i : ℕ) (enters : List Bool) → over.units ≡ constants + 1 → enters_at enters (constants + 1 + i) ≡ false → enters_at enters (over.units + i) ≡ false
 waits_there over constants i enters u e = ap (λ (n : ℕ). enters_at enters (n + i)) u ∙ e
 
-pub kept-met : (over : Framed) (constants : ℕ) (kinds : List Kind) (enters : List Bool) (sign : ℤ) (t now : Tableau) (i turns : ℕ) → IsPlaced over constants kinds enters t → Raises over enters constants (keys_of enters constants t) i sign t now turns → i < length kinds → kind_at kinds i ≡ AtMost → enters_at enters (constants + 1 + i) ≡ false
+pub kept-met : (over : Framed) (constants : ℕ) (kinds : List Kind) (enters : List Bool) (sign : ℤ) (t now : Tableau) (i turns : ℕ) → IsPlaced over constants kinds enters t → Raises over enters constants (keys_of enters constants t) i sign t now turns → i < over.rows → i < length kinds → kind_at kinds i ≡ AtMost → enters_at enters (constants + 1 + i) ≡ false
     → numbers_of now i constants ≤ℤ pos 0 → IsKept over constants kinds i enters (slice_set enters (constants + 1 + i) true) now
-kept-met over constants kinds enters sign t now i turns p r here kind waits met =
+kept-met over constants kinds enters sign t now i turns p r row here kind waits met =
     in_units over constants kinds i enters now p.marked.sized.units
-    (kept_here over constants kinds enters now i (raised-placed over constants kinds enters i sign t now turns p r) (subst (λ (n : ℕ). i < n) (p.marked.sized.many ∙ sym r.many) here) kind (waits_there over constants i enters p.marked.sized.units waits) met)
+    (kept_here over constants kinds enters now i (raised-placed over constants kinds enters i sign t now turns p r) row (subst (λ (n : ℕ). i < n) (p.marked.sized.many ∙ sym r.many) here) kind (waits_there over constants i enters p.marked.sized.units waits) met)
 
-pub kept-open : (over : Framed) (constants : ℕ) (kinds : List Kind) (enters : List Bool) (t now next : Tableau) (i column turns : ℕ) → IsPlaced over constants kinds enters t → Raises over enters constants (keys_of enters constants t) i (pos 1) t now turns → i < length kinds → kind_at kinds i ≡ AtMost → enters_at enters (constants + 1 + i) ≡ false
+pub kept-open : (over : Framed) (constants : ℕ) (kinds : List Kind) (enters : List Bool) (t now next : Tableau) (i column turns : ℕ) → IsPlaced over constants kinds enters t → Raises over enters constants (keys_of enters constants t) i (pos 1) t now turns → i < over.rows → i < length kinds → kind_at kinds i ≡ AtMost → enters_at enters (constants + 1 + i) ≡ false
     → IsUnmet true constants i now → IsOpen enters (pos 1) i column now → exchanged now i column ≡ Ok next → IsKept over constants kinds i enters (slice_set enters (constants + 1 + i) true) next
-kept-open over constants kinds enters t now next i column turns p r here kind waits unmet o e =
+kept-open over constants kinds enters t now next i column turns p r row here kind waits unmet o e =
     in_units over constants kinds i enters next p.marked.sized.units
-    (kept_open over constants kinds enters now next i column (raised-placed over constants kinds enters i (pos 1) t now turns p r) (subst (λ (n : ℕ). i < n) (p.marked.sized.many ∙ sym r.many) here) kind (waits_there over constants i enters p.marked.sized.units waits) (unmet refl) o e)
+    (kept_open over constants kinds enters now next i column (raised-placed over constants kinds enters i (pos 1) t now turns p r) row (subst (λ (n : ℕ). i < n) (p.marked.sized.many ∙ sym r.many) here) kind (waits_there over constants i enters p.marked.sized.units waits) (unmet refl) o e)
 
 -- ---- a row that can't be met
 
-pub refuted-best : (over : Framed) (constants : ℕ) (kinds : List Kind) (enters : List Bool) (t now : Tableau) (i turns : ℕ) → IsPlaced over constants kinds enters t → Raises over enters constants (keys_of enters constants t) i (pos 1) t now turns → i < length kinds → kind_at kinds i ≡ AtMost → enters_at enters (constants + 1 + i) ≡ false
+pub refuted-best : (over : Framed) (constants : ℕ) (kinds : List Kind) (enters : List Bool) (t now : Tableau) (i turns : ℕ) → IsPlaced over constants kinds enters t → Raises over enters constants (keys_of enters constants t) i (pos 1) t now turns → i < over.rows → i < length kinds → kind_at kinds i ≡ AtMost → enters_at enters (constants + 1 + i) ≡ false
     → IsUnmet true constants i now → IsBest enters (pos 1) i now → IsRefuted over constants kinds now i
-refuted-best over constants kinds enters t now i turns begin r here kind waits unmet best = with_placed (raised-placed over constants kinds enters i (pos 1) t now turns begin r)
+refuted-best over constants kinds enters t now i turns begin r row here kind waits unmet best = with_placed (raised-placed over constants kinds enters i (pos 1) t now turns begin r)
   where
     with_placed : IsPlaced over constants kinds enters now → IsRefuted over constants kinds now i
     with_placed p = record {
       sized = p.marked.sized;
       here = inside;
-      flat = p.flat i inside (omega (arith, own));
+      flat = p.flat i row inside (omega (arith, own));
       some = not_zero (numbers_of now i constants) (unmet refl);
       signs = inr (unmet refl, signs);
     }
@@ -341,3 +350,41 @@ kept-already over constants kinds enters t i p e = record { placed = p; own = λ
 
 pub all-kept : (over : Framed) (constants : ℕ) (kinds : List Kind) (before enters : List Bool) (t : Tableau) (i : ℕ) → AreKept over kinds i before → IsKept over constants kinds i before enters t → AreKept over kinds (i + 1) enters
 all-kept over constants kinds before enters t i a k l h kind = ⊎_elim (λ (same : l ≡ i). ap (λ (m : ℕ). enters_at enters (over.units + m)) same ∙ k.own (sym (ap (kind_at kinds) same) ∙ kind)) (λ other. k.others (over.units + l) (a l (omega (arith, h, other)) kind)) (cases_eq l i)
+
+-- ---- the raise of a goal
+
+-- a goal's line that is 0 at all columns of the question stays so
+pub flat_raised : (over : Framed) (constants : ℕ) (kinds : List Kind) (enters : List Bool) (goal : ℕ) (sign : ℤ) (t now : Tableau) (turns : ℕ) → IsPlaced over constants kinds enters t → Raises over enters constants (keys_of enters constants t) goal sign t now turns → goal < length t.lines → IsFlat constants t goal → IsFlat constants now goal
+flat_raised over constants kinds enters goal sign t now turns p r here f j m = r.zeros j (λ k kh e. p.flat k (row_of k kh e) kh (above (choices_of t k) e) j m) goal here (f j m)
+  where
+    above : (j : ℕ) → enters_at enters j ≡ true → over.units ≤ j
+    above j e = let u = p.marked.entering j e in let is : j ≡ over.units + u.row = u.is in omega arith
+
+    row_of : (k : ℕ) → k < length t.lines → leaves_at enters t k ≡ true → k < over.rows
+    row_of k h e = ⊎_elim (λ (a : k < over.rows). a) (λ (b : over.rows ≤ k). absurd (false≢true (sym (ap (enters_at enters) (p.marked.waiting k h (p.marked.sized.goals k b h) (p.out k b h)) ∙ p.out k b h) ∙ e))) (cases_lt k over.rows)
+
+pub met_raised : (over : Framed) (constants : ℕ) (kinds : List Kind) (enters : List Bool) (goal : ℕ) (sign : ℤ) (t now : Tableau) (turns : ℕ) → IsMet over constants kinds enters t → Raises over enters constants (keys_of enters constants t) goal sign t now turns → IsMet over constants kinds enters now
+met_raised over constants kinds enters goal sign t now turns k r = record { placed = raised-placed over constants kinds enters goal sign t now turns k.placed r; kept = k.kept }
+
+-- how the raise of an objective's slack downwards ended
+pub topped : (over : Framed) (constants : ℕ) (kinds : List Kind) (enters : List Bool) (budget : ℕ) (t now : Tableau) (turns : ℕ) → IsMet over constants kinds enters t → Raises over enters constants (keys_of enters constants t) over.rows (negsuc 0) t now turns → over.rows < length t.lines → IsFlat constants t over.rows → IsBest enters (negsuc 0) over.rows now → IsTopped over constants kinds enters now
+topped over constants kinds enters budget t now turns k r here f b = record {
+  met = met_raised over constants kinds enters over.rows (negsuc 0) t now turns k r;
+  flat = flat_raised over constants kinds enters over.rows (negsuc 0) t now turns k.placed r here f;
+  best = b;
+}
+
+pub opened : (over : Framed) (constants : ℕ) (kinds : List Kind) (enters : List Bool) (t now : Tableau) (column turns : ℕ) → IsMet over constants kinds enters t → Raises over enters constants (keys_of enters constants t) over.rows (negsuc 0) t now turns → IsOpen enters (negsuc 0) over.rows column now → IsOpened over constants kinds enters column true now
+opened over constants kinds enters t now column turns k r o = record {
+  met = met_raised over constants kinds enters over.rows (negsuc 0) t now turns k r;
+  grows = up (numbers_of now over.rows column) o.0.better;
+  way = inr (o.0.may, refl, o.1);
+}
+  where
+    up : (z : ℤ) → (negsuc 0 *ℤ z) <ℤ pos 0 → pos 0 <ℤ (pos 1 *ℤ z)
+    up z h = omega (arith, ints, h)
+
+pub begins_goal : (over : Framed) (constants : ℕ) (kinds : List Kind) (enters : List Bool) (t : Tableau) → IsPlaced over constants kinds enters t → over.rows < length t.lines → Begins over enters constants (keys_of enters constants t) over.rows t
+begins_goal over constants kinds enters t p here =
+    begins over constants kinds enters t over.rows p (subst (λ (n : ℕ). over.rows < n) (sym p.marked.sized.many) here) (p.marked.sized.goals over.rows (omega arith) here)
+    (ap (λ (u : ℕ). enters_at enters (u + over.rows)) (sym p.marked.sized.units) ∙ p.out over.rows (omega arith) here)

@@ -78,7 +78,7 @@ turned-fits n a room h = product_of-fits a (negsuc 0) (let x : unsigned_abs (a *
         at_least zero = omega arith
         at_least (suc n) = let m : suc n * 1 ≤ suc n * suc n = mul-le-mul (omega arith) (omega arith) in omega arith
 
-multiplied-fits : (n : ℕ) (line : List ℤ) → HasSquares n → AreSmall n line → HasValue (multiplied line (negsuc 0))
+pub multiplied-fits : (n : ℕ) (line : List ℤ) → HasSquares n → AreSmall n line → HasValue (multiplied line (negsuc 0))
 multiplied-fits n [] room h = ([], refl)
 multiplied-fits n (a ∷ line) room h =
     bind_value (product_of a (negsuc 0)) (λ z. multiplied line (negsuc 0) >>= λ made. Ok (z ∷ made)) (a *ℤ negsuc 0, turned-fits n a room (h 0))

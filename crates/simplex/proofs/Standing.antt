@@ -182,7 +182,7 @@ spread-numbered g (c ∷ cs) f h =
 
 -- ---- sums in two parts
 
-sum_below-plus : (a b : ℕ) (f : ℕ → ℤ) → sum_below (a + b) f ≡ sum_below a f +ℤ sum_below b (λ k. f (a + k))
+pub sum_below-plus : (a b : ℕ) (f : ℕ → ℤ) → sum_below (a + b) f ≡ sum_below a f +ℤ sum_below b (λ k. f (a + k))
 sum_below-plus a zero f = (let e : a + 0 ≡ a = omega arith in ap (λ n. sum_below n f) e) ∙ right (sum_below a f)
   where
     right : (z : ℤ) → z ≡ z +ℤ pos 0
@@ -194,7 +194,7 @@ sum_below-plus a (suc b) f = (let e : a + suc b ≡ suc (a + b) = omega arith in
 
 -- ---- signs
 
-within_back : (kind : Kind) (r : Fraction) (x d : ℤ) → pos 0 <ℤ d → Stands r x d → IsWithin kind x → is_within kind r.num ≡ true
+pub within_back : (kind : Kind) (r : Fraction) (x d : ℤ) → pos 0 <ℤ d → Stands r x d → IsWithin kind x → is_within kind r.num ≡ true
 within_back AtMost r x d p s h =
     le_true r.num (pos 0) (*ℤ-≤ℤ r.num (pos 0) d p (chain (r.num *ℤ d) (x *ℤ r.den) (pos 0 *ℤ r.den) (pos 0 *ℤ d) s.same (≤ℤ-*ℤ x (pos 0) r.den (weak r.den s.positive) h) (zero-*ℤ r.den) (zero-*ℤ d)))
   where
@@ -205,7 +205,7 @@ within_back AtMost r x d p s h =
     chain a b c e f g h k = omega (arith, ints)
 within_back Equal r x d p s h = (Decides-int_eq r.num (pos 0)).1 (vanishes d r.num p (*ℤ_comm d r.num ∙ s.same ∙ ap (λ z. z *ℤ r.den) h ∙ zero-*ℤ r.den))
 
-meets-honest : (value : Polynomial → Result Fraction Step.Wide) (rows : List Row) → AllByRecursion (λ (row : Row). (v : Fraction) → value row.poly ≡ Ok v → is_within row.kind v.num ≡ true) rows → (b : Bool) → meets value rows ≡ Ok b → b ≡ true
+pub meets-honest : (value : Polynomial → Result Fraction Step.Wide) (rows : List Row) → AllByRecursion (λ (row : Row). (v : Fraction) → value row.poly ≡ Ok v → is_within row.kind v.num ≡ true) rows → (b : Bool) → meets value rows ≡ Ok b → b ≡ true
 meets-honest value [] h b e = cc
 meets-honest value (row ∷ rows) h b e = after (value row.poly) refl e (λ g. meets-honest value rows h.1 b g)
   where
@@ -267,7 +267,7 @@ no-honest rows t enters point b canonical k c e = after_length (length point == 
             with_slack e AtMost is =
                 chain (slack l) (value i) (pos 0 *ℤ share (length t.lines) d i) e
                 (≤ℤ-*ℤ (numbers_of t i (length (columns rows []))) (pos 0) (share (length t.lines) d i) (weak (share (length t.lines) d i) (share-positive (length t.lines) d i (λ o p. s.is.own o p)))
-                (k.placed.corner i g (ap (enters_at enters) choice ∙ k.kept l (subst (λ (z : ℕ). l < z) (sym k.placed.marked.sized.many) h) is)))
+                (k.placed.corner i g (ap (enters_at enters) choice ∙ k.kept l (subst (λ (z : ℕ). l < z) many h) is)))
                 (zero-*ℤ (share (length t.lines) d i))
               where
                 weak : (z : ℤ) → pos 0 <ℤ z → pos 0 ≤ℤ z

@@ -53,7 +53,7 @@ IsUnmet until constants goal t = until ≡ true → pos 0 <ℤ numbers_of t goal
 
 -- what a turn came to, from a tableau to another one
 abbrev pub CameTo : List Bool → ℕ → List ℕ → ℤ → Bool → ℕ → Tableau → Tableau → Turn → Type 0
-CameTo enters constants keys sign until goal before after turn.Met = (after ≡ before) × (numbers_of before goal constants ≤ℤ pos 0)
+CameTo enters constants keys sign until goal before after turn.Met = (after ≡ before) × (until ≡ true) × (numbers_of before goal constants ≤ℤ pos 0)
 CameTo enters constants keys sign until goal before after turn.Best = (after ≡ before) × IsUnmet until constants goal before × IsBest enters sign goal before
 CameTo enters constants keys sign until goal before after (turn.Open column) = (after ≡ before) × IsUnmet until constants goal before × IsOpen enters sign goal column before
 CameTo enters constants keys sign until goal before after turn.Moved =
@@ -68,7 +68,7 @@ MovedTo enters constants keys column before after turn.Moved = (line : ℕ) × (
 
 -- how a raise ended
 abbrev pub EndsAt : Framed → List Bool → ℕ → ℤ → Bool → ℕ → ℕ → Tableau → Raised → Type 0
-EndsAt over enters constants sign until goal budget t raised.Met = numbers_of t goal constants ≤ℤ pos 0
+EndsAt over enters constants sign until goal budget t raised.Met = (until ≡ true) × (numbers_of t goal constants ≤ℤ pos 0)
 EndsAt over enters constants sign until goal budget t raised.Best = IsUnmet until constants goal t × IsBest enters sign goal t
 EndsAt over enters constants sign until goal budget t (raised.Open column) = IsUnmet until constants goal t × IsOpen enters sign goal column t
 EndsAt over enters constants sign until goal budget t raised.Pivots = budget < choose (over.units + length t.lines) (length t.lines)

@@ -11,9 +11,10 @@ use Rattle.simplex.specs.Exchange.{numbers_of, choices_of, IsTableauOf}
 use Rattle.farkas_check.specs.Relations.{entry}
 use Rattle.simplex.specs.declared.tableau.Tableau.{Tableau}
 
--- a frame whose unit columns begin at `units`
+-- a frame whose unit columns begin at `units`, and whose first lines are rows; what stands behind them are goals
 pub record Framed : Type 0 where
   pub units : ℕ
+  pub rows : ℕ
   pub frame : ℕ → ℕ → ℤ
 
 abbrev pub sign_of : Bool → ℤ

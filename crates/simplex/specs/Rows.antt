@@ -43,4 +43,4 @@ framed columns rows = record { lines = lines_from columns (length rows) 0 rows; 
 
 -- the frame of the rows is what this tableau says
 abbrev pub framed_by : List (List Col) → List Row → Framed
-framed_by columns rows = record { units = length columns + 1; frame = numbers_of (framed columns rows) }
+framed_by columns rows = record { units = length columns + 1; rows = length rows; frame = numbers_of (framed columns rows) }

@@ -41,6 +41,8 @@ pub record IsSized (over : Framed) (constants : ℕ) (kinds : List Kind) (t : Ta
   pub many : length kinds ≡ length t.lines
   pub apart : (i : ℕ) → i < length t.lines → choices_of t i ≢ constants
   pub primitive : ArePrimitive t
+  pub inside : over.rows ≤ length t.lines
+  pub goals : (l : ℕ) → over.rows ≤ l → l < length t.lines → kind_at kinds l ≡ AtMost
 
 -- equations before the i-th are solved: a column of the question is chosen, or the line is fixed
 pub record IsSolving (over : Framed) (constants : ℕ) (kinds : List Kind) (count : ℕ) (t : Tableau) : Type 0 where
@@ -81,10 +83,11 @@ pub record IsFreeing (over : Framed) (constants : ℕ) (kinds : List Kind) (coun
   pub later : (l : ℕ) → count ≤ l → l < length t.lines → enters_at enters (over.units + l) ≡ false
   pub none : (i : ℕ) → i < length t.lines → leaves_at enters t i ≡ false
 
--- a corner of the rows whose columns may enter
+-- a corner of the rows whose columns may enter; that of a goal never does
 pub record IsPlaced (over : Framed) (constants : ℕ) (kinds : List Kind) (enters : List Bool) (t : Tableau) : Type 0 where
   pub marked : IsMarked over constants kinds enters t
-  pub flat : (i : ℕ) → i < length t.lines → over.units ≤ choices_of t i → IsFlat constants t i
+  pub out : (l : ℕ) → over.rows ≤ l → l < length t.lines → enters_at enters (over.units + l) ≡ false
+  pub flat : (i : ℕ) → i < over.rows → i < length t.lines → over.units ≤ choices_of t i → IsFlat constants t i
   pub corner : (i : ℕ) → i < length t.lines → leaves_at enters t i ≡ true → numbers_of t i constants ≤ℤ pos 0
 
 -- the rows before the i-th are kept
@@ -105,13 +108,13 @@ TurnedAt over constants kinds budget i before enters t turned.Pivots = budget < 
 -- all rows are kept
 pub record IsMet (over : Framed) (constants : ℕ) (kinds : List Kind) (enters : List Bool) (t : Tableau) : Type 0 where
   pub placed : IsPlaced over constants kinds enters t
-  pub kept : AreKept over kinds (length kinds) enters
+  pub kept : AreKept over kinds over.rows enters
 
 -- what a search came to
-abbrev pub FoundAt : Framed → ℕ → List Kind → ℕ → Tableau → Found → Type 0
-FoundAt over constants kinds budget t found.Corner = (enters : List Bool) × IsMet over constants kinds enters t
-FoundAt over constants kinds budget t (found.Refuted i) = IsRefuted over constants kinds t i
-FoundAt over constants kinds budget t found.Pivots = budget < choose (over.units + length kinds) (length kinds)
+abbrev pub FoundAt : Framed → ℕ → List Kind → ℕ → List Bool → Tableau → Found → Type 0
+FoundAt over constants kinds budget enters t found.Corner = IsMet over constants kinds enters t
+FoundAt over constants kinds budget enters t (found.Refuted i) = IsRefuted over constants kinds t i
+FoundAt over constants kinds budget enters t found.Pivots = budget < choose (over.units + length kinds) (length kinds)
 
 -- ---- the corner
 

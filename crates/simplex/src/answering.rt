@@ -95,7 +95,14 @@ fn searched_rows(alloc: Global, rows: &[Row], budget: u128) -> Result<Answer, St
     let columns = case_columns(alloc, rows, &[])?;
     let kinds = kinds_of(alloc, rows)?;
     let t = framed(alloc, rows, columns.as_slice())?;
-    answered(alloc, t, columns.len(), kinds.as_slice(), budget)
+    answered(
+        alloc,
+        t,
+        columns.len(),
+        kinds.as_slice(),
+        rows.len(),
+        budget,
+    )
 }
 
 /// The answer that a search from the frame of the rows comes to.
@@ -104,19 +111,22 @@ fn answered(
     t: Tableau,
     constants: usize,
     kinds: &[Kind],
+    count: usize,
     budget: u128,
 ) -> Result<Answer, Stop>
     ghost over: { Framed }
     requires solving { IsSolving over constants kinds.now 0 t }
+    requires count { count ≡ over.rows }
+    requires within { count ≤ length kinds.now }
     requires wide { constants + 1 + length kinds.now < 2 ^ 64 }
     ensures of { IfOk result (λ a. AnswerOf over constants kinds.now budget a) }
     ensures refusal { IfErr result (IsRefusalIn over (length kinds.now)) }
 {
-    let (t, found) = searched(alloc, t, constants, kinds, budget)?;
+    let (stage, found) = searched(alloc, t, constants, kinds, count, budget)?;
     match found {
-        Found::Corner => Ok(Answer::No(corner(alloc, &t, constants)?)),
+        Found::Corner => Ok(Answer::No(corner(alloc, &stage.tableau, constants)?)),
         Found::Refuted(line) => {
-            let by = multipliers(alloc, t.lines[line].as_slice(), constants)?;
+            let by = multipliers(alloc, stage.tableau.lines[line].as_slice(), constants)?;
             Ok(Answer::Yes(by))
         }
         Found::Pivots => Ok(Answer::Limit(Limit::Pivots)),

@@ -1,9 +1,10 @@
-ghost use Rattle.std.specs.Prelude.{◌≡◌, ◌≢◌, ◌<◌, ◌<ℤ◌, pos, ℕ, length, get_or, MatchOption, IfOk, IfErr};
+ghost use Rattle.std.specs.Prelude.{◌≡◌, ◌≢◌, ◌+◌, ◌<◌, ◌<ℤ◌, pos, ℕ, length, get_or, MatchOption, IfOk, IfErr};
 ghost use Rattle.simplex.specs.Exchange.{IsTableauOf};
 ghost use Rattle.farkas_check.specs.Relations.{entry};
 ghost use Rattle.simplex.specs.Raise.{Framed};
 ghost use Rattle.simplex.specs.Calm.{HasSquares, IsSmallLine, HasSmallLines, IsMemory};
 ghost use Rattle.simplex.specs.Refusal.{LeavesBits, IsRefusal};
+ghost use Rattle.simplex.specs.Suprema.{SlopeAt, IsRayOf, chosen_slope};
 ghost use Rattle.simplex.specs.Search.{CornerAt, IsCornerOf, chosen_number};
 
 use crate::{Stop, Tableau};
@@ -77,4 +78,69 @@ fn line_choosing(chosen: &[usize], column: usize) -> Option<usize>
         }
     }
     None
+}
+
+/// The ray of a tableau along a column that is not chosen: it grows by 1, or falls by 1 where it is not `up`, and each
+/// chosen column of the question gives way.
+pub(crate) fn ray(
+    alloc: Global,
+    t: &Tableau,
+    constants: usize,
+    column: usize,
+    up: bool,
+) -> Result<Items<Ratio>, Stop>
+    ghost over: { Framed }
+    requires tableau { IsTableauOf over.units over.frame t.now }
+    requires units { constants < over.units }
+    requires column { column < over.units + length t.now.lines }
+    ensures ray { IfOk result (λ ray. IsRayOf t.now column up constants ray) }
+    ensures refusal { IfErr result IsRefusal }
+    ensures calm { (n : ℕ) → HasSquares n → HasSmallLines n t.now → IfErr result IsMemory }
+{
+    let mut made = Items::new(alloc);
+    for own in 0..constants {
+        made.push(slope_of(t, column, up, own)?)?;
+    }
+    Ok(made)
+}
+
+/// What the ray has at a column of the question.
+fn slope_of(t: &Tableau, column: usize, up: bool, own: usize) -> Result<Ratio, Wide>
+    ghost over: { Framed }
+    requires tableau { IsTableauOf over.units over.frame t.now }
+    requires column { column < over.units + length t.now.lines }
+    requires own { own < over.units }
+    ensures ray { IfOk result (λ r. SlopeAt t.now column up own r) }
+    ensures width { IfErr result LeavesBits }
+    ensures calm { (n : ℕ) → HasSquares n → HasSmallLines n t.now → IfErr result (λ _. ⊥) }
+{
+    if own == column {
+        return Ok(Ratio::whole(if up { 1 } else { -1 }));
+    }
+    match line_choosing(t.chosen.as_slice(), own) {
+        Some(line) => chosen_slope(t.lines[line].as_slice(), column, up, own),
+        None => Ok(Ratio::whole(0)),
+    }
+}
+
+fn chosen_slope(line: &[i128], column: usize, up: bool, own: usize) -> Result<Ratio, Wide>
+    requires column { column < length line.now }
+    requires own { own < length line.now }
+    requires positive { pos 0 <ℤ entry line.now own }
+    ensures exact { result ≡ chosen_slope line.now column up own }
+    ensures width { IfErr result LeavesBits }
+    ensures calm { (n : ℕ) → HasSquares n → IsSmallLine n line.now → IfErr result (λ _. ⊥) }
+{
+    lowest_slope(line, column, up, own)
+}
+
+fn lowest_slope(line: &[i128], column: usize, up: bool, own: usize) -> Result<Ratio, Wide>
+    requires column { column < length line.now }
+    requires own { own < length line.now }
+    requires positive { pos 0 <ℤ entry line.now own }
+    ensures exact { result ≡ chosen_slope line.now column up own }
+    ensures width { IfErr result LeavesBits }
+{
+    let turned = product(line[column], if up { -1 } else { 1 })?;
+    Ok(Ratio::lowest(turned, line[own]))
 }

@@ -1,4 +1,4 @@
-ghost use Rattle.std.specs.Prelude.{◌≡◌, ◌+◌, ◌<◌, ℕ, pos, length, slice_set, true, MatchOption, IfOk, IfErr};
+ghost use Rattle.std.specs.Prelude.{◌≡◌, ◌+◌, ◌<◌, ◌≤◌, ℕ, pos, length, slice_set, true, MatchOption, IfOk, IfErr};
 ghost use Rattle.linear_terms.specs.declared.row.Kind.TheVariants.{AtMost, Equal};
 ghost use Rattle.farkas_check.specs.Relations.{entry};
 ghost use Rattle.simplex.specs.Raise.{Framed};
@@ -84,20 +84,22 @@ pub(crate) struct Stage {
     pub(crate) enters: Items<bool>,
 }
 
-/// Solves the inequalities in order, as far as a column of the question is left in them.
+/// Solves the inequalities among the first so many lines in order, as far as a column of the question is left in them.
 pub(crate) fn inequalities(
     alloc: Global,
     stage: Stage,
     constants: usize,
     kinds: &[Kind],
+    count: usize,
 ) -> Result<Stage, Stop>
     ghost over: { Framed }
-    requires { IsFreeing over constants kinds.now 0 stage.enters stage.tableau }
-    ensures freed { IfOk result (λ s. IsFreeing over constants kinds.now (length kinds.now) s.enters s.tableau) }
+    requires freeing { IsFreeing over constants kinds.now 0 stage.enters stage.tableau }
+    requires within { count ≤ length kinds.now }
+    ensures freed { IfOk result (λ s. IsFreeing over constants kinds.now count s.enters s.tableau) }
     ensures refusal { IfErr result (IsRefusalIn over (length kinds.now)) }
 {
     let mut now = stage;
-    for i in 0..kinds.len() {
+    for i in 0..count {
         now = inequality(alloc, now, constants, kinds, i)?;
     }
     Ok(now)

@@ -1,4 +1,4 @@
-ghost use Rattle.std.specs.Prelude.{◌≡◌, ◌+◌, ◌<◌, ◌^◌, ◌∷◌, ℕ, pos, length, get_or, slice_set, false, true, IfOk, IfErr};
+ghost use Rattle.std.specs.Prelude.{◌≡◌, ◌+◌, ◌<◌, ◌≤◌, ◌^◌, ◌∷◌, ℕ, pos, length, get_or, slice_set, false, true, IfOk, IfErr};
 ghost use Rattle.std.specs.List.{AllByRecursion, filter};
 ghost use Rattle.linear_terms.specs.declared.row.Kind.TheVariants.{AtMost};
 ghost use Rattle.simplex.specs.Raise.{Framed, enters_at};
@@ -33,7 +33,7 @@ pub enum Found {
 }
 
 /// The keys of a raise that begins at a corner: the constants, and the chosen columns that may leave.
-fn keys_of(
+pub(crate) fn keys_of(
     alloc: Global,
     chosen: &[usize],
     enters: &[bool],
@@ -66,6 +66,7 @@ fn turn_of(
     requires here { i < length kinds.now }
     requires kind { kind_at kinds.now i ≡ AtMost }
     requires waits { enters_at stage.enters (constants + 1 + i) ≡ false }
+    requires row { i < over.rows }
     ensures came { IfOk result (λ r. TurnedAt over constants kinds.now budget i stage.enters r.0.enters r.0.tableau r.1) }
     ensures refusal { IfErr result (IsRefusalIn over (length kinds.now)) }
 {
@@ -133,6 +134,7 @@ fn passed(
     ghost over: { Framed }
     requires placed { IsPlaced over constants kinds.now stage.enters stage.tableau }
     requires here { i < length kinds.now }
+    requires row { i < over.rows }
     ensures came { IfOk result (λ r. TurnedAt over constants kinds.now budget i stage.enters r.0.enters r.0.tableau r.1) }
     ensures refusal { IfErr result (IsRefusalIn over (length kinds.now)) }
 {
@@ -145,30 +147,33 @@ fn passed(
     turn_of(alloc, stage, constants, kinds, i, budget)
 }
 
-/// A turn for each row that is not met yet.
+/// A turn for each row that is not met yet; the first so many lines are those of rows.
 fn turns(
     alloc: Global,
     stage: Stage,
     constants: usize,
     kinds: &[Kind],
+    count: usize,
     budget: u128,
-) -> Result<(Tableau, Found), Stop>
+) -> Result<(Stage, Found), Stop>
     ghost over: { Framed }
-    requires { IsPlaced over constants kinds.now stage.enters stage.tableau }
-    ensures found { IfOk result (λ r. FoundAt over constants kinds.now budget r.0 r.1) }
+    requires placed { IsPlaced over constants kinds.now stage.enters stage.tableau }
+    requires count { count ≡ over.rows }
+    requires within { count ≤ length kinds.now }
+    ensures found { IfOk result (λ r. FoundAt over constants kinds.now budget r.0.enters r.0.tableau r.1) }
     ensures refusal { IfErr result (IsRefusalIn over (length kinds.now)) }
 {
     let mut now = stage;
-    for i in 0..kinds.len() {
+    for i in 0..count {
         let (next, came) = passed(alloc, now, constants, kinds, i, budget)?;
         now = next;
         match came {
             Turned::Kept => {}
-            Turned::Refuted => return Ok((now.tableau, Found::Refuted(i))),
-            Turned::Pivots => return Ok((now.tableau, Found::Pivots)),
+            Turned::Refuted => return Ok((now, Found::Refuted(i))),
+            Turned::Pivots => return Ok((now, Found::Pivots)),
         }
     }
-    Ok((now.tableau, Found::Corner))
+    Ok((now, Found::Corner))
 }
 
 /// Searches for a corner of the rows, or for a line that refutes them.
@@ -177,29 +182,25 @@ pub(crate) fn searched(
     t: Tableau,
     constants: usize,
     kinds: &[Kind],
+    count: usize,
     budget: u128,
-) -> Result<(Tableau, Found), Stop>
+) -> Result<(Stage, Found), Stop>
     ghost over: { Framed }
     requires solving { IsSolving over constants kinds.now 0 t }
+    requires count { count ≡ over.rows }
+    requires within { count ≤ length kinds.now }
     requires wide { constants + 1 + length kinds.now < 2 ^ 64 }
-    ensures found { IfOk result (λ r. FoundAt over constants kinds.now budget r.0 r.1) }
+    ensures found { IfOk result (λ r. FoundAt over constants kinds.now budget r.0.enters r.0.tableau r.1) }
     ensures refusal { IfErr result (IsRefusalIn over (length kinds.now)) }
 {
-    let (solved, refuted) = equations(alloc, t, constants, kinds)?;
-    if let Some(i) = refuted {
-        return Ok((solved, Found::Refuted(i)));
-    }
     let enters = none_of(alloc, constants + 1 + kinds.len())?;
-    let stage = inequalities(
-        alloc,
-        Stage {
-            tableau: solved,
-            enters,
-        },
-        constants,
-        kinds,
-    )?;
-    turns(alloc, stage, constants, kinds, budget)
+    let (tableau, refuted) = equations(alloc, t, constants, kinds)?;
+    let stage = Stage { tableau, enters };
+    if let Some(i) = refuted {
+        return Ok((stage, Found::Refuted(i)));
+    }
+    let stage = inequalities(alloc, stage, constants, kinds, count)?;
+    turns(alloc, stage, constants, kinds, count, budget)
 }
 
 /// No column may enter.

@@ -107,7 +107,7 @@ pub(crate) fn turned(alloc: Global, line: &[i128], column: usize) -> Result<Item
     }
 }
 
-fn multiplied(alloc: Global, line: &[i128], by: i128) -> Result<Items<i128>, Stop>
+pub(crate) fn multiplied(alloc: Global, line: &[i128], by: i128) -> Result<Items<i128>, Stop>
     ensures exact { Gives cause (λ made. made) result (multiplied line.now by) }
     ensures refusal { IfErr result IsRefusal }
 {

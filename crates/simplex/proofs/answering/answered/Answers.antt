@@ -12,24 +12,24 @@ use Rattle.simplex.proofs.answering.answered.Goals as goal
 
 pub returns-in_err-corner-in-Corner-clause-refusal : goal.returns-in_err-corner-in-Corner-clause-refusal
 returns-in_err-corner-in-Corner-clause-refusal g c =
-    let m : FoundAt g.over c.args.constants c.args.kinds.now c.args.budget c.in_ok-t.t found.Corner =
-    subst (λ (f : Found). FoundAt g.over c.args.constants c.args.kinds.now c.args.budget c.in_ok-t.t f) c.in-Corner.is c.in_ok-t.ensures.found in
+    let m : FoundAt g.over c.args.constants c.args.kinds.now c.args.budget c.in_ok-stage.stage.enters c.in_ok-stage.stage.tableau found.Corner =
+    subst (λ (f : Found). FoundAt g.over c.args.constants c.args.kinds.now c.args.budget c.in_ok-stage.stage.enters c.in_ok-stage.stage.tableau f) c.in-Corner.is c.in_ok-stage.ensures.found in
     let known : IfErr c.corner.result (IsRefusalIn g.over (length c.args.kinds.now)) =
-    refused g.over (length c.args.kinds.now) c.in_ok-t.t c.corner.result m.1.placed.marked.sized.tableau m.1.placed.marked.sized.primitive (sym m.1.placed.marked.sized.many) c.corner.ensures.refusal c.corner.ensures.calm in search rules
+    refused g.over (length c.args.kinds.now) c.in_ok-stage.stage.tableau c.corner.result m.placed.marked.sized.tableau m.placed.marked.sized.primitive (sym m.placed.marked.sized.many) c.corner.ensures.refusal c.corner.ensures.calm in search rules
 
 pub returns-in-Refuted-clause-of : goal.returns-in-Refuted-clause-of
 returns-in-Refuted-clause-of g c =
-    let r : IsRefuted g.over c.args.constants c.args.kinds.now c.in_ok-t.t c.in-Refuted.line =
-    subst (λ (f : Found). FoundAt g.over c.args.constants c.args.kinds.now c.args.budget c.in_ok-t.t f) c.in-Refuted.is c.in_ok-t.ensures.found in
-    let own : c.as_slice.result.now ≡ get_or c.in_ok-t.t.lines c.in-Refuted.line [] = get_or_read c.in_ok-t.t.lines c.in-Refuted.line c.as_slice.result.now r.here (search rules) [] in
+    let r : IsRefuted g.over c.args.constants c.args.kinds.now c.in_ok-stage.stage.tableau c.in-Refuted.line =
+    subst (λ (f : Found). FoundAt g.over c.args.constants c.args.kinds.now c.args.budget c.in_ok-stage.stage.enters c.in_ok-stage.stage.tableau f) c.in-Refuted.is c.in_ok-stage.ensures.found in
+    let own : c.as_slice.result.now ≡ get_or c.in_ok-stage.stage.tableau.lines c.in-Refuted.line [] = get_or_read c.in_ok-stage.stage.tableau.lines c.in-Refuted.line c.as_slice.result.now r.here (search rules) [] in
     let exact : multipliers_of c.args.constants c.as_slice.result.now ≡ Ok c.in_ok-by-in-Refuted.by = search rules in (
-      c.in_ok-t.t,
+      c.in_ok-stage.stage.tableau,
       (
         c.in-Refuted.line,
         (
           r,
-          multipliers-are c.in_ok-t.t c.args.constants c.in-Refuted.line c.in_ok-by-in-Refuted.by
-              (subst (λ (n : ℕ). HasShape (n + length c.in_ok-t.t.lines) c.in_ok-t.t) r.sized.units r.sized.tableau.shape) r.here r.some
+          multipliers-are c.in_ok-stage.stage.tableau c.args.constants c.in-Refuted.line c.in_ok-by-in-Refuted.by
+              (subst (λ (n : ℕ). HasShape (n + length c.in_ok-stage.stage.tableau.lines) c.in_ok-stage.stage.tableau) r.sized.units r.sized.tableau.shape) r.here r.some
               (sym (ap (λ (line : List ℤ). multipliers_of c.args.constants line) own) ∙ exact),
         ),
       ),

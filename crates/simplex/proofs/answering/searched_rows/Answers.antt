@@ -1,7 +1,7 @@
-use Rattle.std.proofs.Common.{◌≡◌, [], length, rules}
+use Rattle.std.proofs.Common.{arith, refl, ap, ◌∙◌, ◌≡◌, [], length, rules}
 use Rattle.farkas_check.specs.Columns.{columns}
 use Rattle.simplex.specs.Rows.{framed, kinds_of}
-use Rattle.simplex.proofs.Framing.{solving-at}
+use Rattle.simplex.proofs.Framing.{kinds-length, solving-at}
 use Rattle.simplex.proofs.Honest.{found_at, refusal_at}
 use Rattle.simplex.proofs.answering.searched_rows.Goals as goal
 
@@ -10,7 +10,10 @@ answered-requires c =
     let cs : c.len.result ≡ length c.in_ok-columns.columns = search rules in
     let t : c.in_ok-t.t ≡ framed c.in_ok-columns.columns c.args.rows.now = search rules in
     let kinds : c.as_slice-2.result.now ≡ kinds_of c.args.rows.now = search rules in
-    (solving-at c.in_ok-columns.columns c.args.rows.now c.len.result c.as_slice-2.result.now c.in_ok-t.t cs t kinds, search rules)
+    let many : length c.as_slice-2.result.now ≡ length c.args.rows.now = ap length kinds ∙ kinds-length c.args.rows.now in (
+      solving-at c.in_ok-columns.columns c.args.rows.now c.len.result (length c.args.rows.now) c.as_slice-2.result.now c.in_ok-t.t cs refl t kinds,
+      (refl, (omega (arith, many), search rules)),
+    )
 
 pub returns-clause-found : goal.returns-clause-found
 returns-clause-found c =
@@ -18,7 +21,7 @@ returns-clause-found c =
     let cs : c.len.result ≡ length c.in_ok-columns.columns = search rules in
     let t : c.in_ok-t.t ≡ framed c.in_ok-columns.columns c.args.rows.now = search rules in
     let kinds : c.as_slice-2.result.now ≡ kinds_of c.args.rows.now = search rules in
-    found_at c.args.rows.now c.args.budget c.len.result c.in_ok-columns.columns c.as_slice-2.result.now c.in_ok-t.t c.answered.result columns_are cs kinds t c.answered.ensures.of
+    found_at c.args.rows.now c.args.budget c.len.result (length c.args.rows.now) c.in_ok-columns.columns c.as_slice-2.result.now c.in_ok-t.t c.answered.result columns_are cs refl kinds t c.answered.ensures.of
 
 pub returns-clause-refusal : goal.returns-clause-refusal
 returns-clause-refusal c =
@@ -26,4 +29,4 @@ returns-clause-refusal c =
     let cs : c.len.result ≡ length c.in_ok-columns.columns = search rules in
     let t : c.in_ok-t.t ≡ framed c.in_ok-columns.columns c.args.rows.now = search rules in
     let kinds : c.as_slice-2.result.now ≡ kinds_of c.args.rows.now = search rules in
-    refusal_at c.args.rows.now c.len.result c.in_ok-columns.columns c.as_slice-2.result.now c.in_ok-t.t c.answered.result columns_are cs kinds t c.answered.ensures.refusal
+    refusal_at c.args.rows.now c.len.result (length c.args.rows.now) c.in_ok-columns.columns c.as_slice-2.result.now c.in_ok-t.t c.answered.result columns_are cs refl kinds t c.answered.ensures.refusal

@@ -16,7 +16,7 @@ raised_to-requires g c =
     let ks : c.as_slice-4.result.now ≡ keys_of c.args.stage.enters c.args.constants c.args.stage.tableau = search rules in (
       subst (λ (enters : List Bool). Begins g.over enters c.args.constants c.as_slice-4.result.now c.args.i c.args.stage.tableau) (sym es)
           (subst (λ (keys : List ℕ). Begins g.over c.args.stage.enters c.args.constants keys c.args.i c.args.stage.tableau) (sym ks)
-          (begins g.over c.args.constants c.args.kinds.now c.args.stage.enters c.args.stage.tableau c.args.i c.requires.0 c.requires.1.0 c.requires.1.1.0 c.requires.1.1.1)),
+          (begins g.over c.args.constants c.args.kinds.now c.args.stage.enters c.args.stage.tableau c.args.i c.requires.0 c.requires.1.0 c.requires.1.1.0 c.requires.1.1.1.0)),
       c.requires.0.marked.sized.primitive,
     )
 
@@ -32,7 +32,7 @@ returns-in-Met-clause-came g c =
     (subst (λ (came : Raised). EndsAt g.over c.as_slice-3.result.now c.args.constants (pos 1) true c.args.i c.args.budget c.in_ok-raised.raised came) c.in-Met.is c.in_ok-raised.ensures.ends) in
     let made : c.kept.result ≡ record { tableau = c.in_ok-raised.raised; enters = slice_set c.args.stage.enters (c.args.constants + 1 + c.args.i) true } = search rules in
     subst (λ (s : Stage). IsKept g.over c.args.constants c.args.kinds.now c.args.i c.args.stage.enters s.enters s.tableau) (sym made)
-    (kept-met g.over c.args.constants c.args.kinds.now c.args.stage.enters (pos 1) c.args.stage.tableau c.in_ok-raised.raised c.args.i c.in_ok-raised.ensures.tableau.0 c.requires.0 r c.requires.1.0 c.requires.1.1.0 c.requires.1.1.1 ends)
+    (kept-met g.over c.args.constants c.args.kinds.now c.args.stage.enters (pos 1) c.args.stage.tableau c.in_ok-raised.raised c.args.i c.in_ok-raised.ensures.tableau.0 c.requires.0 r c.requires.1.1.1.1 c.requires.1.0 c.requires.1.1.0 c.requires.1.1.1.0 ends.1)
 
 pub returns-in-Open-clause-came : goal.returns-in-Open-clause-came
 returns-in-Open-clause-came g c =
@@ -47,7 +47,7 @@ returns-in-Open-clause-came g c =
     let exact : exchanged c.in_ok-raised.raised c.args.i c.in-Open.column ≡ Ok c.in_ok-next-in-Open.next = search rules in
     let made : c.kept-in-Open.result ≡ record { tableau = c.in_ok-next-in-Open.next; enters = slice_set c.args.stage.enters (c.args.constants + 1 + c.args.i) true } = search rules in
     subst (λ (s : Stage). IsKept g.over c.args.constants c.args.kinds.now c.args.i c.args.stage.enters s.enters s.tableau) (sym made)
-    (kept-open g.over c.args.constants c.args.kinds.now c.args.stage.enters c.args.stage.tableau c.in_ok-raised.raised c.in_ok-next-in-Open.next c.args.i c.in-Open.column c.in_ok-raised.ensures.tableau.0 c.requires.0 r c.requires.1.0 c.requires.1.1.0 c.requires.1.1.1 ends.0 ends.1 exact)
+    (kept-open g.over c.args.constants c.args.kinds.now c.args.stage.enters c.args.stage.tableau c.in_ok-raised.raised c.in_ok-next-in-Open.next c.args.i c.in-Open.column c.in_ok-raised.ensures.tableau.0 c.requires.0 r c.requires.1.1.1.1 c.requires.1.0 c.requires.1.1.0 c.requires.1.1.1.0 ends.0 ends.1 exact)
 
 pub returns-in-Best-clause-came : goal.returns-in-Best-clause-came
 returns-in-Best-clause-came g c =
@@ -59,4 +59,4 @@ returns-in-Best-clause-came g c =
     let ends : EndsAt g.over c.args.stage.enters c.args.constants (pos 1) true c.args.i c.args.budget c.in_ok-raised.raised raised.Best =
     subst (λ (enters : List Bool). EndsAt g.over enters c.args.constants (pos 1) true c.args.i c.args.budget c.in_ok-raised.raised raised.Best) es
     (subst (λ (came : Raised). EndsAt g.over c.as_slice-3.result.now c.args.constants (pos 1) true c.args.i c.args.budget c.in_ok-raised.raised came) c.in-Best.is c.in_ok-raised.ensures.ends) in
-    refuted-best g.over c.args.constants c.args.kinds.now c.args.stage.enters c.args.stage.tableau c.in_ok-raised.raised c.args.i c.in_ok-raised.ensures.tableau.0 c.requires.0 r c.requires.1.0 c.requires.1.1.0 c.requires.1.1.1 ends.0 ends.1
+    refuted-best g.over c.args.constants c.args.kinds.now c.args.stage.enters c.args.stage.tableau c.in_ok-raised.raised c.args.i c.in_ok-raised.ensures.tableau.0 c.requires.0 r c.requires.1.1.1.1 c.requires.1.0 c.requires.1.1.0 c.requires.1.1.1.0 ends.0 ends.1

@@ -1,0 +1,83 @@
+-- What the raise of an objective over the rows of a case comes to.
+use Rattle.std.specs.Prelude.{◌≡◌, ◌≢◌, ◌⊎◌, not, take, drop, get_or, Result, Ok, ℕ, ◌+◌, ◌<◌, ℤ, pos, negsuc, ◌*ℤ◌, ◌<ℤ◌, List, [], ◌∷◌, ◌++◌, length, Bool, true}
+use Rattle.linear_terms.specs.declared.row.Kind.{Kind}
+use Rattle.linear_terms.specs.declared.row.Kind.TheVariants.{AtMost}
+use Rattle.linear_terms.specs.declared.row.Row.{Row}
+use Rattle.linear_terms.specs.Polynomial.{Polynomial}
+use Rattle.items.specs.Gives.{◌>>=◌}
+use Rattle.whole_numbers.specs.Fits.{product_of}
+use Rattle.whole_numbers.specs.declared.wide.Wide as Step
+use Rattle.farkas_check.specs.Frames.{choose}
+use Rattle.farkas_check.specs.Ratios.{Fraction, IsLowest, whole, lowest_terms}
+use Rattle.farkas_check.specs.Relations.{entry}
+use Rattle.farkas_check.specs.declared.answer.Cert.{Cert}
+use Rattle.farkas_check.specs.Tested.{goal_columns}
+use Rattle.farkas_check.specs.declared.question.Goal.{Goal}
+use Rattle.simplex.specs.Exchange.{numbers_of, choices_of, multiplied}
+use Rattle.simplex.specs.Raise.{Framed, sign_of, enters_at, NoneLeaves, IsBest}
+use Rattle.simplex.specs.Rows.{kinds_of, framed}
+use Rattle.simplex.specs.Search.{IsFlat, IsMet, IsRefuted, IsCornerOf}
+use Rattle.simplex.specs.declared.supremum.Supremum.{Supremum}
+use Rattle.simplex.specs.declared.supremum.Supremum.TheVariants as supremum
+use Rattle.simplex.specs.declared.supremum.Top.{Top}
+use Rattle.simplex.specs.declared.supremum.Top.TheVariants as top
+use Rattle.simplex.specs.declared.tableau.Tableau.{Tableau}
+
+-- the rows, and behind them the objective as a row that takes no part
+abbrev pub with_goal : List Row → Polynomial → List Row
+with_goal rows p = rows ++ record { poly = p; kind = AtMost } ∷ []
+
+-- the frame of a case has one line more, that of its objective
+abbrev pub goal_frame : Goal → Framed
+goal_frame goal = record { units = length (goal_columns goal) + 1; rows = length goal.rows; frame = numbers_of (framed (goal_columns goal) (with_goal goal.rows goal.objective)) }
+
+-- the corner makes the rows true, and no column lets the objective grow
+pub record IsTopped (over : Framed) (constants : ℕ) (kinds : List Kind) (enters : List Bool) (t : Tableau) : Type 0 where
+  pub met : IsMet over constants kinds enters t
+  pub flat : IsFlat constants t over.rows
+  pub best : IsBest enters (negsuc 0) over.rows t
+
+-- the corner makes the rows true, and the objective grows along a column of the question, or along the slack of a row,
+-- without end
+pub record IsOpened (over : Framed) (constants : ℕ) (kinds : List Kind) (enters : List Bool) (column : ℕ) (up : Bool) (t : Tableau) : Type 0 where
+  pub met : IsMet over constants kinds enters t
+  pub grows : pos 0 <ℤ (sign_of up *ℤ numbers_of t over.rows column)
+  pub way : (column < constants) ⊎ ((enters_at enters column ≡ true) × (up ≡ true) × NoneLeaves (length t.lines) enters column t)
+
+abbrev pub TopAt : Framed → ℕ → List Kind → ℕ → List Bool → Tableau → Top → Type 0
+TopAt over constants kinds budget enters t top.Best = IsTopped over constants kinds enters t
+TopAt over constants kinds budget enters t (top.Open column up) = IsOpened over constants kinds enters column up t
+TopAt over constants kinds budget enters t top.Pivots = budget < choose (over.units + length kinds) (length kinds)
+
+-- ---- what is read off
+
+-- the number of a ray at a column of the question: 1 or -1 at the column that grows, at a chosen column minus its line's
+-- number there over its own, and else 0
+pub record SlopeAt (t : Tableau) (column : ℕ) (up : Bool) (own : ℕ) (r : Fraction) : Type 0 where
+  pub lowest : IsLowest r
+  pub here : own ≡ column → r ≡ whole (sign_of up)
+  pub chosen : own ≢ column → (k : ℕ) → k < length t.lines → choices_of t k ≡ own → r.num *ℤ numbers_of t k own ≡ numbers_of t k column *ℤ sign_of (not up) *ℤ r.den
+  pub free : own ≢ column → ((k : ℕ) → k < length t.lines → choices_of t k ≢ own) → r.num ≡ pos 0
+
+pub record IsRayOf (t : Tableau) (column : ℕ) (up : Bool) (count : ℕ) (ray : List Fraction) : Type 0 where
+  pub each : length ray ≡ count
+  pub same : (j : ℕ) → j < count → SlopeAt t column up j (get_or ray j (whole (pos 0)))
+
+abbrev pub chosen_slope : List ℤ → ℕ → Bool → ℕ → Result Fraction Step.Wide
+chosen_slope line column up own = product_of (entry line column) (sign_of (not up)) >>= λ n. Ok (lowest_terms n (entry line own))
+
+-- a line's numbers as a certificate: minus those at the slacks of the rows, over that at its own
+abbrev pub certificate_of : ℕ → ℕ → List ℤ → Result Cert Step.Wide
+certificate_of constants goal line = multiplied (take goal (drop (constants + 1) line)) (negsuc 0) >>= λ by. Ok record { scale = entry line (constants + 1 + goal); sum = entry line constants; by = by }
+
+-- what a case comes to
+abbrev pub SupremumAt : Framed → ℕ → List Kind → ℕ → Supremum → Type 0
+SupremumAt over constants kinds budget supremum.Empty = (t : Tableau) × ((line : ℕ) × IsRefuted over constants kinds t line)
+SupremumAt over constants kinds budget supremum.Pivots = budget < choose (over.units + length kinds) (length kinds)
+SupremumAt over constants kinds budget (supremum.Bound cert point) =
+    (t : Tableau) × ((enters : List Bool) × (IsTopped over constants kinds enters t × (certificate_of constants over.rows (get_or t.lines over.rows []) ≡ Ok cert) × IsCornerOf t constants constants point))
+SupremumAt over constants kinds budget (supremum.Unbounded point ray) =
+    (t : Tableau) × ((enters : List Bool) × ((column : ℕ) × ((up : Bool) × (IsOpened over constants kinds enters column up t × IsCornerOf t constants constants point × IsRayOf t column up constants ray))))
+
+abbrev pub IsSupremumOf : Goal → ℕ → Supremum → Type 0
+IsSupremumOf goal budget found = SupremumAt (goal_frame goal) (length (goal_columns goal)) (kinds_of (with_goal goal.rows goal.objective)) budget found
