@@ -21,13 +21,14 @@ use Rattle.transition_formula.specs.Meaning.{Holds, HoldsCase, HoldsLeft, HoldsS
 use Rattle.transition_formula.specs.Rounds.{in_order}
 use Rattle.transition_formula.proofs.Ordering.{in_order-holds}
 use Rattle.cra.specs.declared.known.Goal.{Goal}
-use Rattle.cra.specs.declared.verdict.Verdict.{Verdict}
-use Rattle.cra.specs.declared.verdict.Verdict.TheVariants.{Proved, Unproved}
-use Rattle.cra.specs.declared.report.ProcBlock.{ProcBlock}
-use Rattle.cra.specs.declared.report.Report.{Report}
+use Rattle.report.specs.declared.verdict.Verdict.{Verdict}
+use Rattle.report.specs.declared.verdict.Verdict.TheVariants.{Proved, Unproved}
+use Rattle.report.specs.declared.blocks.ProcBlock.{ProcBlock}
+use Rattle.report.specs.declared.blocks.Report.{Report}
 use Rattle.cra.specs.Analysis.{at_most, failing, goal_of, holding, named_onto, named_posts, one_row, returned_case}
 use Rattle.leaf_cases.specs.Summaries.{SummaryIsMet, exit_values}
-use Rattle.cra.specs.Claims.{ClaimsAreMet}
+use Rattle.farkas_check.specs.Ratios.{whole as ratio_of}
+use Rattle.report.specs.Claims.{ClaimsAreMet}
 use Rattle.cra.specs.FirstForm.{are_first, ends_well, is_first_body, is_first_form, set_by}
 use Rattle.cra.specs.Stated.{IsReportOf, IsReportOn, IsVerdict, Settles, block_of, cases_of, judged_of}
 use Rattle.cra.proofs.Columns.{EachKnown}
@@ -156,7 +157,7 @@ verdict-met : (program : Program) (main : Proc) (goal : Goal) (cases : Cases goa
     → verdict ≡ Proved → ¬ Fails program number
 verdict-met program main goal cases posts (Some case) verdict number alone is (point, unproved, refutes) covered proved = absurd (clash (sym proved ∙ unproved))
   where
-    clash : Proved ≡ Unproved case point → ⊥
+    clash : Proved ≡ Unproved case (map ratio_of point) → ⊥
     clash e = cc
 verdict-met program main goal cases posts None verdict number alone is told covered proved = λ there.
     let held = fails-hold program main goal cases.r cases.q posts number alone cases.r_is cases.q_is there in

@@ -8,9 +8,7 @@ pub mod Place
 pub mod Accepted
 pub mod Refused
 pub mod FirstForm
-pub mod Claims
 pub mod Analysis
 pub mod Stated
-pub mod Text
 pub mod Replies
 pub mod Laws

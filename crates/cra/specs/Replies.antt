@@ -1,10 +1,9 @@
 -- What a run answers to its words and its input.
-use Rattle.std.specs.Prelude.{◌≡◌, ℕ, ◌<◌, ◌≤◌, ◌⊎◌, ◌==◌, true, false, List, length, Option, None, Some, codes, if◌then◌else◌}
+use Rattle.std.specs.Prelude.{◌≡◌, ℕ, ◌<◌, ◌≤◌, ◌⊎◌, ◌==◌, ◌-◌, true, false, List, length, Option, None, Some, codes, if◌then◌else◌}
 use Rattle.std.specs.Io.KnownBytes.{prepend_known}
-use Rattle.std.specs.List.{count_by}
 use Rattle.syntax_tree.specs.declared.program.Program.{Program}
 use Rattle.cra.specs.declared.reply.Reply.{Reply}
-use Rattle.cra.specs.declared.report.Report.{Report}
+use Rattle.report.specs.declared.blocks.Report.{Report}
 use Rattle.cra.specs.declared.status.Status.TheVariants as ended
 use Rattle.cra.specs.declared.words.Work.{Work}
 use Rattle.cra.specs.declared.words.Work.TheVariants.{Analyse}
@@ -12,11 +11,11 @@ use Rattle.cra.specs.declared.refusal.Refusal.{Refusal}
 use Rattle.cra.specs.Accepted.{Accepts, IsRefusedBy}
 use Rattle.cra.specs.FirstForm.{is_first_form}
 use Rattle.cra.specs.Refused.{refusal_line, refusal_text}
-use Rattle.cra.specs.Claims.{ClaimsAreMet}
+use Rattle.report.specs.Claims.{ClaimsAreMet}
 use Rattle.cra.specs.Input.{IsInput}
 use Rattle.cra.specs.Limits.{most_bytes}
 use Rattle.cra.specs.Stated.{IsReportOf}
-use Rattle.cra.specs.Text.{is_proved, text_of}
+use Rattle.report.specs.Text.{proved_count, text_of}
 use Rattle.cra.specs.Words.{work_of}
 
 abbrev pub wrong_words : Reply
@@ -36,7 +35,7 @@ refused_reply text refusal = record { status = ended.Refused; text = refusal_tex
 -- the text of a report; the status tells whether every assertion is proved
 abbrev pub reply_of : Report → Reply
 reply_of report = record {
-  status = if count_by is_proved report.judged == length report.judged then ended.AllProved else ended.SomeUnproved;
+  status = if length report.judged - proved_count report.judged == 0 then ended.AllProved else ended.SomeUnproved;
   text = text_of report;
 }
 

@@ -13,12 +13,13 @@ use Rattle.syntax_tree.specs.Code.{statement_of}
 use Rattle.linear_terms.specs.Auxiliaries.{is_numbered}
 use Rattle.transition_formula.specs.Rounds.{in_order}
 use Rattle.transition_formula.specs.Transition.{every_column_of, fits}
+use Rattle.farkas_check.specs.Ratios.{whole}
 use Rattle.cra.specs.declared.known.Goal.{Goal}
-use Rattle.cra.specs.declared.verdict.Verdict.{Verdict}
-use Rattle.cra.specs.declared.verdict.Verdict.TheVariants.{Proved, Unproved}
-use Rattle.cra.specs.declared.report.ProcBlock.{ProcBlock}
-use Rattle.cra.specs.declared.report.Judged.{Judged}
-use Rattle.cra.specs.declared.report.Report.{Report}
+use Rattle.report.specs.declared.verdict.Verdict.{Verdict}
+use Rattle.report.specs.declared.verdict.Verdict.TheVariants.{Proved, Unproved}
+use Rattle.report.specs.declared.blocks.ProcBlock.{ProcBlock}
+use Rattle.report.specs.declared.blocks.Judged.{Judged}
+use Rattle.report.specs.declared.blocks.Report.{Report}
 use Rattle.cra.specs.Analysis.{failing, goal_of, holding}
 use Rattle.cra.specs.Place.{column_at, line_at}
 
@@ -72,12 +73,12 @@ abbrev pub exits_of : Proc → ℕ
 exits_of main = if main.returns then 1 else 0
 
 abbrev pub block_of : Proc → Option Case → ProcBlock
-block_of main case = record { name = main.name; before = []; after = []; formula = record { from = 0; to = exits_of main; cases = cases_of case } }
+block_of main case = record { name = main.name; before = []; after = []; formula = record { from = 0; to = exits_of main; cases = cases_of case }; notes = [] }
 
 -- An assertion is proved exactly where the case in which it fails is impossible. Else a point makes the rows of that case true.
 abbrev pub IsVerdict : Option Case → Verdict → Type 0
 IsVerdict None verdict = verdict ≡ Proved
-IsVerdict (Some case) verdict = (point : List ℤ) × (verdict ≡ Unproved case point) × Refutes point case
+IsVerdict (Some case) verdict = (point : List ℤ) × (verdict ≡ Unproved case (map whole point)) × Refutes point case
 
 abbrev pub judged_of : List ℕ → ℕ → Proc → Verdict → Judged
 judged_of text at main verdict = record {
@@ -87,6 +88,7 @@ judged_of text at main verdict = record {
   named = named_columns main.columns;
   shown = shown_from 0 main.columns;
   verdict = verdict;
+  notes = [];
 }
 
 -- both cases, where all is known of the body
@@ -112,7 +114,7 @@ pub record IsReportOn (text : List ℕ) (main : Proc) (place : ℕ) (report : Re
   pub fails_is : failing main.columns goal ≡ Ok fails
   pub verdict : Verdict
   pub verdict_is : IsVerdict (in_order fails).left verdict
-  pub report_is : report ≡ record { procs = block_of main (in_order holds).left ∷ []; judged = judged_of text place main verdict ∷ [] }
+  pub report_is : report ≡ record { procs = block_of main (in_order holds).left ∷ []; notes = []; judged = judged_of text place main verdict ∷ [] }
 
 -- the report of a program of one procedure
 pub record IsReportOf (text : List ℕ) (program : Program) (report : Report) : Type 0 where

@@ -2,7 +2,7 @@ ghost use Rattle.std.specs.Prelude.{◌≡◌, ◌≢◌, ◌≤◌, ◌∷◌, 
 ghost use Rattle.std.specs.List.{count_by};
 ghost use Rattle.transition_formula.specs.Transition.{fits};
 ghost use Rattle.cra.specs.FirstForm.{is_first_form};
-ghost use Rattle.cra.specs.Claims.{ClaimsAreMet};
+ghost use Rattle.report.specs.Claims.{ClaimsAreMet};
 ghost use Rattle.linear_terms.specs.declared.row.Case.{Case};
 ghost use Rattle.syntax_tree.specs.Code.{statement_of};
 ghost use Rattle.cra.specs.declared.known.Goal.{Goal};
@@ -14,13 +14,20 @@ use crate::early::Early;
 use crate::findings::both_cases;
 use crate::known::goal_of;
 use crate::place::{column_at, line_at};
-use crate::report::{Judged, ProcBlock, Report, copy_name};
-use crate::verdict::{Verdict, verdict_of};
+use crate::verdict::verdict_of;
 use items::Items;
 use linear_terms::Case;
+use report::{Judged, ProcBlock, Report, Verdict};
 use std::alloc::{AllocError, Global};
 use syntax_tree::{Column, Name, Proc, Program};
 use transition_formula::Formula;
+
+/// A copy of a name.
+fn copy_name(name: &Name) -> Result<Name, AllocError>
+    ensures { IfOk result (λ n. n ≡ name.now) }
+{
+    name.clone()
+}
 
 /// The names of the columns that have one.
 fn named_columns(alloc: Global, columns: &[Column]) -> Result<Items<Name>, AllocError>
@@ -73,6 +80,7 @@ fn block_of(alloc: Global, main: &Proc, summary: Option<Case>) -> Result<ProcBlo
             before: Items::new(alloc),
             after: Items::new(alloc),
             formula,
+            notes: Items::new(alloc),
         }),
         None => Err(Early::NotYet),
     }
@@ -97,17 +105,22 @@ fn judged_of(
         named: named_columns(alloc, main.columns.as_slice())?,
         shown: shown_columns(alloc, main.columns.as_slice())?,
         verdict,
+        notes: Items::new(alloc),
     })
 }
 
 fn report_of(alloc: Global, block: ProcBlock, judged: Judged) -> Result<Report, AllocError>
-    ensures { IfOk result (λ report. report ≡ record { procs = block ∷ []; judged = judged ∷ [] }) }
+    ensures { IfOk result (λ report. report ≡ record { procs = block ∷ []; notes = []; judged = judged ∷ [] }) }
 {
     let mut procs = Items::new(alloc);
     procs.push(block)?;
     let mut all = Items::new(alloc);
     all.push(judged)?;
-    Ok(Report { procs, judged: all })
+    Ok(Report {
+        procs,
+        notes: Items::new(alloc),
+        judged: all,
+    })
 }
 
 /// The report of a procedure that asserts one thing, at a place.

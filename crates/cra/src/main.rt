@@ -22,7 +22,6 @@ mod place;
 mod reading;
 mod refusal;
 mod reply;
-mod report;
 mod run;
 mod status;
 #[cfg(test)]

@@ -9,10 +9,9 @@ use crate::first_form::is_first_form;
 use crate::limits::MOST_BYTES;
 use crate::reading::read;
 use crate::refusal::{Refusal, refusal_text};
-use crate::report::Report;
 use crate::status::Status;
-use crate::text::{count_proved, text_of};
 use items::Items;
+use report::{Report, print, unproved};
 use std::alloc::{AllocError, Global};
 use syntax_tree::Program;
 
@@ -47,8 +46,8 @@ fn reply_of(alloc: Global, report: &Report) -> Result<Reply, AllocError>
     ensures reply { IfOk result (λ reply. reply ≡ reply_of report.now) }
     ensures status { IfOk result (λ reply. IsAnswer reply.status) }
 {
-    let text = text_of(alloc, report)?;
-    let all_proved = count_proved(&report.judged) == report.judged.len();
+    let text = print(alloc, report)?;
+    let all_proved = unproved(report) == 0;
     Ok(Reply {
         status: if all_proved {
             Status::AllProved

@@ -1,19 +1,14 @@
-ghost use Rattle.std.specs.Prelude.{◌≡◌, ◌≢◌, ◌<ℤ◌, ◌≤ℤ◌, ◌*ℤ◌, ◌+ℤ◌, neg_ℤ, ◌<◌, ◌∷◌, [], pos, length, replicate, IfOk, IfSome};
+ghost use Rattle.std.specs.Prelude.{◌≡◌, ◌≢◌, ◌<ℤ◌, ◌≤ℤ◌, ◌*ℤ◌, ◌+ℤ◌, neg_ℤ, ◌<◌, ◌∷◌, [], pos, length, map, replicate, IfOk, IfSome};
 ghost use Rattle.linear_terms.specs.declared.row.Kind.TheVariants.{AtMost};
+ghost use Rattle.farkas_check.specs.Ratios.{whole};
 ghost use Rattle.cra.specs.Stated.{IsPlain, IsVerdict, MakesTrue};
 
+use farkas_check::Ratio;
 use items::Items;
 use linear_terms::{Case, Row};
+use report::Verdict;
 use std::alloc::{AllocError, Global};
 use whole_numbers::quotient_up;
-
-/// What is found of an assertion.
-#[derive(Debug, Drop)]
-pub enum Verdict {
-    Proved,
-    /// A case in which it would fail, and a number for each monomial of its rows, in print order.
-    Unproved { case: Case, point: Items<i128> },
-}
 
 fn negated(count: i128) -> i128
     requires { pos 0 <ℤ count }
@@ -74,6 +69,17 @@ fn point_of(alloc: Global, rows: &[Row]) -> Result<Items<i128>, AllocError>
     }
 }
 
+/// Whole numbers as ratios.
+fn ratios(alloc: Global, numbers: &[i128]) -> Result<Items<Ratio>, AllocError>
+    ensures { IfOk result (λ ratios. ratios ≡ map whole numbers.now) }
+{
+    let mut ratios = Items::new(alloc);
+    for number in numbers {
+        ratios.push(Ratio::whole(*number))?;
+    }
+    Ok(ratios)
+}
+
 /// The verdict on an assertion, of which the case is known in which it fails.
 pub fn verdict_of(alloc: Global, refuting: Option<Case>) -> Result<Verdict, AllocError>
     requires { IfSome refuting (λ case. IsPlain case.rows) }
@@ -83,6 +89,7 @@ pub fn verdict_of(alloc: Global, refuting: Option<Case>) -> Result<Verdict, Allo
         None => Ok(Verdict::Proved),
         Some(case) => {
             let point = point_of(alloc, case.rows.as_slice())?;
+            let point = ratios(alloc, &point)?;
             Ok(Verdict::Unproved { case, point })
         }
     }

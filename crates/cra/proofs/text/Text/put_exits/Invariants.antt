@@ -1,8 +1,0 @@
-use Rattle.std.proofs.Common.{◌≡◌, ◌++◌, drop}
-use Rattle.cra.specs.Text.{exit_name, post_lines}
-use Rattle.cra.proofs.text.Text.put_exits.Given as goal
-
-abbrev pub invariant-loop-i : goal.invariant-loop-i
-invariant-loop-i l =
-    l.self.bytes.items ++ post_lines l.block.before (exit_name l.block.after) l.i (drop l.i l.posts)
-    ≡ l.fn.self.bytes.items ++ post_lines l.block.before (exit_name l.block.after) 0 l.posts

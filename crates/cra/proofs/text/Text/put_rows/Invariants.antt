@@ -1,7 +1,0 @@
-use Rattle.std.proofs.Common.{◌≡◌, ◌++◌, drop}
-use Rattle.std.specs.List.{flat_map}
-use Rattle.cra.specs.Text.{row_line}
-use Rattle.cra.proofs.text.Text.put_rows.Given as goal
-
-abbrev pub invariant-loop-row : goal.invariant-loop-row
-invariant-loop-row l = l.self.bytes.items ++ flat_map (row_line l.names) (drop l.row-index l.rows) ≡ l.fn.self.bytes.items ++ flat_map (row_line l.names) l.rows

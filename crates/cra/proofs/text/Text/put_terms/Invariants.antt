@@ -1,7 +1,0 @@
-use Rattle.std.proofs.Common.{◌≡◌, ◌++◌, drop, false}
-use Rattle.std.specs.List.{flat_map}
-use Rattle.cra.specs.Text.{term_text}
-use Rattle.cra.proofs.text.Text.put_terms.Given as goal
-
-abbrev pub invariant-loop-mono : goal.invariant-loop-mono
-invariant-loop-mono l = l.self.bytes.items ++ flat_map (term_text l.names false) (drop l.mono-index l.more) ≡ l.initial.self.bytes.items ++ flat_map (term_text l.names false) l.more

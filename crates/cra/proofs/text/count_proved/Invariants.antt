@@ -1,7 +1,0 @@
-use Rattle.std.proofs.Common.{◌≡◌, ◌+◌, drop}
-use Rattle.std.specs.List.{count_by}
-use Rattle.cra.specs.Text.{is_proved}
-use Rattle.cra.proofs.text.count_proved.Given as goal
-
-abbrev pub invariant-loop-judged : goal.invariant-loop-judged
-invariant-loop-judged l = l.count + count_by is_proved (drop l.judged-index l.judged) ≡ count_by is_proved l.judged
