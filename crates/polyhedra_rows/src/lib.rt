@@ -1,0 +1,5 @@
+//! The calls on polyhedra, tried on small formulas with listed answers.
+#![tactic(auto)]
+
+#[cfg(test)]
+mod calls;
