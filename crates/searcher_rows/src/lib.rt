@@ -17,6 +17,8 @@ mod ratios;
 #[cfg(test)]
 mod simplex_rows;
 #[cfg(test)]
+mod supremum_rows;
+#[cfg(test)]
 mod texts;
 
 pub use calls::{exclusion, exclusions, first_excluded};
