@@ -19,11 +19,11 @@ use Rattle.linear_terms.specs.Value.{value_of}
 use Rattle.linear_terms.proofs.Canonical.{IsCanonical-column}
 use Rattle.transition_formula.specs.Meaning.{numbers, HoldsCase, HoldsSome, Holds, Covers}
 use Rattle.transition_formula.specs.Rounds.{in_order, solved, Stays}
-use Rattle.transition_formula.specs.Transition.{Transition, every_column, every_column_of, is_below, fits, IsTransition, is_fitted}
+use Rattle.transition_formula.specs.Transition.{Transition, every_column, every_column_of, is_below, fits, IsTransition, is_fitted, IsSolvable}
+use Rattle.transition_formula.proofs.Fitted.{fits-solvable}
 use Rattle.transition_formula.proofs.Covered.{both, both_true, more_columns, test_from_columns}
 use Rattle.transition_formula.proofs.Fitting.{fitting, from_fitting, below-true, true-below}
 use Rattle.farkas_check.specs.declared.stratum.Relation.{Relation}
-use Rattle.posing.specs.declared.note.Note.TheVariants as note
 use Rattle.posing.specs.Posing.{Posing, Done, Noted, Asked, ◌>>=◌, each, Always}
 use Rattle.posing.proofs.Paths.{always_bind, always_any, always_weaker}
 use Rattle.polyhedra.specs.Bounds.{bounded_before, bounded_after, bounded_change, before_row, after_row, change_row, put_in_for, for_entries}
@@ -31,9 +31,10 @@ use Rattle.polyhedra.specs.Changes.{change, is_modified, is_exact, modified, mov
 use Rattle.polyhedra.specs.Directions.{directions}
 use Rattle.polyhedra.specs.Finish.{finished}
 use Rattle.polyhedra.specs.Relations.{relations_of}
-use Rattle.polyhedra.specs.Squash.{unmodified, after_from, change_after, posts_after, changes_after, entries_of, relation_row, with_relation, with_relations, related, with_differences, squash_rows, squash_case, squashed_case, are_same, squashed, fitted}
+use Rattle.polyhedra.specs.Squash.{unmodified, after_from, change_after, posts_after, changes_after, entries_of, relation_row, with_relation, with_relations, related, with_differences, with_bounds, squash_rows, squash_case, squashed_case, are_same, squashed, noted_squash, fitted}
 use Rattle.polyhedra.specs.Vocabulary.{Vocabulary, IsDirectionOver, IsVocabulary}
 use Rattle.polyhedra.specs.Laws.{IsBetween, FittingCovers, IsSmall, FittingFits}
+use Rattle.polyhedra.proofs.Covering.{modified-few}
 use Rattle.polyhedra.proofs.Directed.{directions-over}
 use Rattle.polyhedra.proofs.Finished.{FinishedLeft, finished-covers, finished-fits}
 use Rattle.polyhedra.proofs.Lists.{each-filter}
@@ -214,10 +215,10 @@ module _ (one : Bool) (f : Transition) (same : one ≡ true → f.from ≡ f.to)
             (directions-over from is_from) h
 
     rows-sound : Always AreSound (squash_rows one f from to)
-    unfolding squash_rows
+    unfolding squash_rows with_bounds
     rows-sound =
         always_bind AreSound AreSound (related one f)
-        (λ equations. each (bounded_before f.cases) equations (directions from) >>= λ rows. each (bounded_after f.cases (posts_after one f)) rows (directions to) >>= λ both. with_differences one f from both) related-sound
+        (with_bounds one f from to) related-sound
         (λ equations h. always_bind AreSound AreSound (each (bounded_before f.cases) equations (directions from))
         (λ rows. each (bounded_after f.cases (posts_after one f)) rows (directions to) >>= λ both. with_differences one f from both)
         (each-keeps (IsSoundRow test) (IsDirectionOver from.columns) (bounded_before f.cases) equations (directions from) (λ made d over k. before-sound made d over k) (directions-over from is_from) h)
@@ -305,7 +306,7 @@ module _ (f : Transition) (from to : Vocabulary) (is : IsBetween f from to) wher
   equal_ends e = sym is.starts ∙ same_columns from to e ∙ is.ends
 
   -- the case with its rows
-  record IsSquash (case : Case) : Type 0 where
+  pub record IsSquash (case : Case) : Type 0 where
     rows : List Row
     shape : case ≡ squash_case one f rows
     sound : AllByRecursion (IsSoundRow (is_below f.from (length (modified one f)))) rows
@@ -313,7 +314,7 @@ module _ (f : Transition) (from to : Vocabulary) (is : IsBetween f from to) wher
   abbrev Holding : List ℤ → List ℤ → Case → Type 0
   Holding before after case = IsSquash case × HoldsCase case before after
 
-  case-squash : Always IsSquash (squashed_case one f from to)
+  pub case-squash : Always IsSquash (squashed_case one f from to)
   unfolding squashed_case
   case-squash =
       always_bind (AllByRecursion (IsSoundRow (is_below f.from (length (modified one f))))) IsSquash (squash_rows one f from to) (λ rows. Done (squash_case one f rows))
@@ -352,7 +353,7 @@ module _ (f : Transition) (from to : Vocabulary) (is : IsBetween f from to) wher
   at_most_true : (a b : ℕ) → a ≤ b → IsTrue (nat_le a b)
   at_most_true a b le = grind arith
 
-  left-small : (left : Option Case) → FinishedLeft f.from f.to f.to left → IsSmall f (record { from = f.from; to = f.to; cases = option_to_list left })
+  pub left-small : (left : Option Case) → FinishedLeft f.from f.to f.to left → IsSmall f (record { from = f.from; to = f.to; cases = option_to_list left })
   left-small None h = record { from = refl; to = refl; fits = refl; fitted = refl }
   left-small (Some case) h = record {
     from = refl;
@@ -362,26 +363,36 @@ module _ (f : Transition) (from to : Vocabulary) (is : IsBetween f from to) wher
         (both_true (nat_le (length case.rows) 64) (nat_le case.aux 64) (at_most_true (length case.rows) 64 h.rows) (at_most_true case.aux 64 (let le = h.aux in let few = is.few_after in omega arith))) refl;
   }
 
+  -- the case can be put in order, and what is left of it fits
+  pub squash-solvable : (case : Case) → IsSquash case → IsSolvable case
+  squash-solvable case s =
+      subst IsSolvable (sym s.shape)
+      (fits-solvable f.from f.to (squash_case one f s.rows) (case-fits one f equal_ends s.rows s.sound) (let few = modified-few one f in let most = is.few_after in omega arith))
+
+  pub squash-left : (case : Case) → IsSquash case → Always (FinishedLeft f.from f.to f.to) (finished case)
+  squash-left case s =
+      subst (λ (c : Case). Always (FinishedLeft f.from f.to f.to) (finished c)) (sym s.shape)
+      (finished-fits f.from f.to f.to (squash_case one f s.rows) (case-fits one f equal_ends s.rows s.sound) (case-few one f equal_ends s.rows s.sound))
+
   squashed-small : Always (IsSmall f) (squashed f from to)
   unfolding squashed
   squashed-small =
       always_bind IsSquash (IsSmall f) (squashed_case one f from to) (λ case. finished case >>= λ left. Done record { from = f.from; to = f.to; cases = option_to_list left }) case-squash
       (λ case s. always_bind (FinishedLeft f.from f.to f.to) (IsSmall f) (finished case) (λ left. Done record { from = f.from; to = f.to; cases = option_to_list left })
-      (subst (λ (c : Case). Always (FinishedLeft f.from f.to f.to) (finished c)) (sym s.shape)
-      (finished-fits f.from f.to f.to (squash_case one f s.rows) (case-fits one f equal_ends s.rows s.sound) (case-few one f equal_ends s.rows s.sound))) left-small)
+      (squash-left case s) left-small)
 
 pub fitted-covers : FittingCovers
-unfolding fitted
+unfolding fitted noted_squash
 fitted-covers f from to is = go (is_fitted f.cases)
   where
-    go : (b : Bool) → Always (λ g. Covers g f) (if b then Done f else Noted (note.Squash (length f.cases) ∷ []) (squashed f from to))
+    go : (b : Bool) → Always (λ g. Covers g f) (if b then Done f else noted_squash f from to)
     go true = λ before after h. h
     go false = squashed-covers f from to is
 
 pub fitted-small : FittingFits
-unfolding fitted
+unfolding fitted noted_squash
 fitted-small f from to is = go (is_fitted f.cases) refl
   where
-    go : (b : Bool) → is_fitted f.cases ≡ b → Always (IsSmall f) (if b then Done f else Noted (note.Squash (length f.cases) ∷ []) (squashed f from to))
+    go : (b : Bool) → is_fitted f.cases ≡ b → Always (IsSmall f) (if b then Done f else noted_squash f from to)
     go true e = record { from = refl; to = refl; fits = is.fits; fitted = e }
     go false e = squashed-small f from to is

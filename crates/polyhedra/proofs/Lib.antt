@@ -12,13 +12,16 @@ pub mod Bounded
 pub mod Related
 pub mod Shaped
 pub mod Rows
+pub mod RelationRows
 -- ---- directions
 pub mod Directed
 pub mod Found
+pub mod Covering
 -- ---- steps of calls
 pub mod Lists
 pub mod Objectives
 pub mod PutIn
+pub mod Same
 pub mod Places
 pub mod Results
 pub mod Tabled

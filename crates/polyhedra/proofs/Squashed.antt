@@ -27,7 +27,7 @@ use Rattle.polyhedra.specs.Bounds.{bounded_before, bounded_after, bounded_change
 use Rattle.polyhedra.specs.Changes.{poly_at, change, is_modified, is_exact, modified, moving, changes_in, changes_of, occurring}
 use Rattle.polyhedra.specs.Directions.{directions}
 use Rattle.polyhedra.specs.Relations.{relations_of}
-use Rattle.polyhedra.specs.Squash.{unmodified, after_from, change_after, posts_after, changes_after, entries_of, relation_row, with_relation, with_relations, related, with_differences, squash_rows, squash_case}
+use Rattle.polyhedra.specs.Squash.{unmodified, after_from, change_after, posts_after, changes_after, entries_of, relation_row, with_relation, with_relations, related, with_differences, with_bounds, squash_rows, squash_case}
 use Rattle.polyhedra.specs.Vocabulary.{Vocabulary, IsDirection, IsDirectionOver, IsVocabulary}
 use Rattle.polyhedra.proofs.Bounded.{IsOver, before-true, after-true, change-true, with_row-true, each-true}
 use Rattle.polyhedra.proofs.Directed.{directions-over}
@@ -307,10 +307,10 @@ module _ (one : Bool) (f : Transition) (before after : List ℤ) (holds : Holds 
                     ap (value_of here) (poly_at-past (change_after true (modified true f)) 0 f.to v le) ∙ past-less v (omega (arith, same (sym e))) (omega (arith, long))
 
     rows-true : Always (RowsHold here) (squash_rows one f from to)
-    unfolding squash_rows
+    unfolding squash_rows with_bounds
     rows-true =
         always_bind (RowsHold here) (RowsHold here) (related one f)
-        (λ equations. each (bounded_before f.cases) equations (directions from) >>= λ rows. each (bounded_after f.cases (posts_after one f)) rows (directions to) >>= λ both. with_differences one f from both) related-true
+        (with_bounds one f from to) related-true
         (λ equations h. always_bind (RowsHold here) (RowsHold here) (each (bounded_before f.cases) equations (directions from))
         (λ rows. each (bounded_after f.cases (posts_after one f)) rows (directions to) >>= λ both. with_differences one f from both)
         (each-true IsDirection here (bounded_before f.cases) equations (directions from) (λ made d direction k. before-true f 1 states run here (posts_after one f) as_numbers None (over as_numbers numbers-value) made d direction k) (straight from is_from) h)

@@ -18,7 +18,7 @@ use Rattle.posing.specs.Posing.{Posing, Done, Noted, ◌>>=◌, each}
 use Rattle.polyhedra.specs.Bounds.{with_row, bounded_before, bounded_after, bounded_change}
 use Rattle.polyhedra.specs.Changes.{modified, moving, lost_changes, changes_of, occurring}
 use Rattle.polyhedra.specs.Directions.{directions}
-use Rattle.polyhedra.specs.Finish.{finished}
+use Rattle.polyhedra.specs.Finish.{told_count, finished}
 use Rattle.polyhedra.specs.Relations.{relations_of}
 use Rattle.polyhedra.specs.Vocabulary.{Vocabulary}
 
@@ -81,12 +81,16 @@ abbrev pub with_differences : Bool → Transition → Vocabulary → List Row �
 with_differences true f voc rows = each (bounded_change f.cases (changes_after true f) None) rows (directions voc)
 with_differences false f voc rows = Done rows
 
-unfoldable pub squash_rows : Bool → Transition → Vocabulary → Vocabulary → Posing (List Row)
-squash_rows one f from to =
-    related one f >>= λ equations.
-    each (bounded_before f.cases) equations (directions from) >>= λ before.
+-- bounds before, after and on differences, behind other rows
+unfoldable pub with_bounds : Bool → Transition → Vocabulary → Vocabulary → List Row → Posing (List Row)
+with_bounds one f from to rows =
+    each (bounded_before f.cases) rows (directions from) >>= λ before.
     each (bounded_after f.cases (posts_after one f)) before (directions to) >>= λ both.
     with_differences one f from both
+
+-- relations first
+unfoldable pub squash_rows : Bool → Transition → Vocabulary → Vocabulary → Posing (List Row)
+squash_rows one f from to = related one f >>= with_bounds one f from to
 
 -- an auxiliary for each modified variable
 abbrev pub squash_case : Bool → Transition → List Row → Case
@@ -108,6 +112,10 @@ squashed f from to =
     squashed_case (are_same from to) f from to >>= λ case. finished case >>= λ left.
     Done record { from = f.from; to = f.to; cases = option_to_list left }
 
--- a formula that is small enough stays as it is; another is squashed, and the number of its cases is noted first
+-- the number of cases is noted first
+unfoldable pub noted_squash : Transition → Vocabulary → Vocabulary → Posing Transition
+noted_squash f from to = Noted (note.Squash (told_count (length f.cases)) ∷ []) (squashed f from to)
+
+-- a formula that is small enough stays as it is; another is squashed
 unfoldable pub fitted : Transition → Vocabulary → Vocabulary → Posing Transition
-fitted f from to = if is_fitted f.cases then Done f else Noted (note.Squash (length f.cases) ∷ []) (squashed f from to)
+fitted f from to = if is_fitted f.cases then Done f else noted_squash f from to

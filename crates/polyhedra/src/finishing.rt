@@ -62,7 +62,7 @@ fn cut_notes(alloc: Global, rows: usize) -> Result<Items<Note>, AllocError>
     Ok(notes)
 }
 
-fn told_count(count: usize) -> u32
+pub(crate) fn told_count(count: usize) -> u32
     ensures { result ≡ told_count count }
 {
     if count <= 4294967295 {

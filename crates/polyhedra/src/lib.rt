@@ -19,7 +19,7 @@ mod vocabulary;
 pub use bounds::{bounds_after, bounds_before, bounds_on_changes, with_row};
 pub use candidates::directions;
 pub use finishing::finish;
-pub use fitting::{coverage_of_fitting, size_of_fitting};
+pub use fitting::{coverage_of_fitting, fit, size_of_fitting};
 pub use posing::{Log, Note, Witness, WorkError};
 pub use relations::{relation_rows, relations_of};
 pub use settling::{coverage_of_settling, settle};
