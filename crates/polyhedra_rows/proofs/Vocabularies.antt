@@ -14,3 +14,14 @@ two-named named harvested extra n h e =
     subst (λ xs. IsVocabulary (record { columns = 3; named = xs; harvested = harvested; rule = 1; extra = extra })) (sym n)
     (subst (λ xs. IsVocabulary (record { columns = 3; named = 0 ∷ 2 ∷ []; harvested = xs; rule = 1; extra = extra })) (sym h)
     (subst (λ xs. IsVocabulary (record { columns = 3; named = 0 ∷ 2 ∷ []; harvested = []; rule = 1; extra = xs })) (sym e) plain-named))
+
+first-named : IsVocabulary (record { columns = 1; named = 0 ∷ []; harvested = []; rule = 1; extra = [] })
+unfolding IsStrictlySortedBy
+first-named = record { ascending = search rules; named = (omega arith, tt); few = omega arith; harvested = tt; extra = tt }
+
+pub one-named : (named : List ℕ) (harvested extra : List Polynomial) → named ≡ 0 ∷ [] → harvested ≡ [] → extra ≡ []
+    → IsVocabulary (record { columns = 1; named = named; harvested = harvested; rule = 1; extra = extra })
+one-named named harvested extra n h e =
+    subst (λ xs. IsVocabulary (record { columns = 1; named = xs; harvested = harvested; rule = 1; extra = extra })) (sym n)
+    (subst (λ xs. IsVocabulary (record { columns = 1; named = 0 ∷ []; harvested = xs; rule = 1; extra = extra })) (sym h)
+    (subst (λ xs. IsVocabulary (record { columns = 1; named = 0 ∷ []; harvested = []; rule = 1; extra = xs })) (sym e) first-named))

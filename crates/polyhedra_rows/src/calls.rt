@@ -13,14 +13,14 @@ use std::test::Fail;
 use transition_formula::{Formula, Loss};
 
 /// The greatest number times itself.
-const WIDE: Limit = Limit::Wide {
+pub(crate) const WIDE: Limit = Limit::Wide {
     left: i128::MAX,
     right: i128::MAX,
     times: true,
 };
 
 /// The formula whose cases stand between slashes.
-fn formula(alloc: Global, from: u32, to: u32, text: &str) -> Result<Formula, Fail> {
+pub(crate) fn formula(alloc: Global, from: u32, to: u32, text: &str) -> Result<Formula, Fail> {
     let mut cases = Items::new(alloc);
     for part in text.split('/') {
         cases.push(case(alloc, part)?)?;
@@ -32,7 +32,7 @@ fn yes(alloc: Global, by: &[i128]) -> Result<Answer, Fail> {
     Ok(Answer::Yes(Items::from_slice(alloc, by)?))
 }
 
-fn no(alloc: Global, at: &[i128]) -> Result<Answer, Fail> {
+pub(crate) fn no(alloc: Global, at: &[i128]) -> Result<Answer, Fail> {
     let mut point = Items::new(alloc);
     for number in at {
         point.push(Ratio::whole(*number))?;
