@@ -60,7 +60,7 @@ certificate-is constants goal line cert e =
     }
 
 -- numbers of the rows, before the objective's
-each_before : (number : Row → ℤ) (rows : List Row) (p : Polynomial) (l : ℕ) → l < length rows → each_of number (with_goal rows p) l ≡ each_of number rows l
+pub each_before : (number : Row → ℤ) (rows : List Row) (p : Polynomial) (l : ℕ) → l < length rows → each_of number (with_goal rows p) l ≡ each_of number rows l
 each_before number [] p l h = absurd (omega (arith, h))
 each_before number (row ∷ rows) p zero h = refl
 each_before number (row ∷ rows) p (suc l) h = each_before number rows p l (omega (arith, h))
@@ -151,12 +151,14 @@ kind_before (row ∷ rows) p (suc l) h = kind_before rows p l (omega (arith, h))
 
 -- what the test of a certificate asks but for the bound
 pub record IsCertified (goal : Goal) (cert : Cert) : Type 0 where
+  pub each : length cert.by ≡ length goal.rows
   pub multipliers : are_multipliers goal.rows cert.by ≡ true
   pub scale : pos 0 <ℤ cert.scale
   pub sum : (b : Bool) → tested_sum goal cert ≡ Ok b → b ≡ true
 
 pub certified : (goal : Goal) (enters : List Bool) (t : Tableau) (cert : Cert) → IsTopped (goal_frame goal) (length (goal_columns goal)) (kinds_of (with_goal goal.rows goal.objective)) enters t → certificate_of (length (goal_columns goal)) (length goal.rows) (get_or t.lines (length goal.rows) []) ≡ Ok cert → IsCertified goal cert
 certified goal enters t cert top e = record {
+  each = each;
   multipliers = both (length cert.by == length goal.rows) (eq-eqb (length cert.by) (length goal.rows) each) (all_multipliers goal.rows cert.by signs);
   scale = subst (λ (z : ℤ). pos 0 <ℤ z) (sym c.scale) (subst (λ (j : ℕ). pos 0 <ℤ numbers_of t (length goal.rows) j) own (s.is.own (length goal.rows) inside));
   sum = λ b f. sum_honest goal cert b at_columns at_constant f;

@@ -10,7 +10,7 @@ use Rattle.simplex.specs.declared.tableau.Tableau.{Tableau}
 use Rattle.simplex.specs.Exchange.{numbers_of, choices_of, exchanged, IsTableauOf}
 use Rattle.simplex.specs.Raise.{Framed, enters_at, leaves_at}
 use Rattle.simplex.specs.Rows.{kind_at}
-use Rattle.simplex.specs.Search.{IsFlat, IsFixed, IsUnit, IsSized, IsSolving, IsMarked, IsFreeing}
+use Rattle.simplex.specs.Search.{IsFlat, IsFixed, IsUnit, IsSized, IsSolving, IsMarked, IsFreeing, IsRefuted}
 use Rattle.simplex.proofs.Lines.{turned-length}
 use Rattle.simplex.proofs.Numbers.{Exchanged, exchanged-is, exchanged-keeps}
 use Rattle.simplex.proofs.Divisors.{exchanged-primitive}
@@ -198,3 +198,24 @@ freed-more over constants kinds i column enters t next s here kind in_question n
                 ap (enters_at (slice_set enters (over.units + i) true)) (x.is.choices.elsewhere l (in_t l h) other)
                 ∙ set_other enters (over.units + i) (choices_of t l) (λ is. choose_apart over t l i s.marked.sized.tableau (in_t l h) inside other (is ∙ sym own))
                 ∙ s.none l (in_t l h)
+
+-- ---- an equation that refutes the rows
+
+pub refuted-equation : (over : Framed) (constants : ℕ) (kinds : List Kind) (i : ℕ) (t : Tableau) → IsSolving over constants kinds i t → i < length kinds → kind_at kinds i ≡ Equal → IsFlat constants t i → (numbers_of t i constants ≡ pos 0 → ⊥) → IsRefuted over constants kinds t i
+refuted-equation over constants kinds i t s here kind flat some = record {
+  sized = s.sized;
+  here = inside;
+  flat = flat;
+  some = some;
+  goals = λ l h k. own_zero l k (s.sized.goals l h k);
+  signs = inl (λ m h k. own_zero m h k);
+}
+  where
+    inside : i < length t.lines
+    inside = subst (λ (n : ℕ). i < n) s.sized.many here
+
+    clash : (k : Kind) → k ≡ Equal → k ≡ AtMost → ⊥
+    clash k e f = cc
+
+    own_zero : (l : ℕ) → l < length t.lines → kind_at kinds l ≡ AtMost → numbers_of t i (over.units + l) ≡ pos 0
+    own_zero l h k = ap (numbers_of t i) (sym (s.own l h (inl k))) ∙ s.sized.tableau.is.others i l inside h (λ same. clash (kind_at kinds l) (ap (kind_at kinds) (sym same) ∙ kind) k)

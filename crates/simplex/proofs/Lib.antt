@@ -5,6 +5,11 @@ pub mod Standing
 pub mod Points
 pub mod Leaves
 pub mod Tame
+pub mod Emptiness
+pub mod Rays
+pub mod Roundings
+pub mod CalmGoals
+pub mod Cases
 pub mod Widths
 -- Calm: tableaux of a calm frame are small, and a step that leaves 128 bits shows that a frame is not small.
 pub mod Calmness

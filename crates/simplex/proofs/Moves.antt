@@ -104,12 +104,12 @@ positive_weak z h = omega (arith, ints)
 back : (z : ℤ) → pos 0 -ℤ (pos 0 -ℤ z) ≡ z
 back z = omega (arith, ints)
 
-zero_within : (kind : Kind) (z : ℤ) → z ≡ pos 0 → IsWithin kind z
+pub zero_within : (kind : Kind) (z : ℤ) → z ≡ pos 0 → IsWithin kind z
 zero_within AtMost z e = omega (arith, ints, e)
 zero_within Equal z e = e
 
 -- a number that is not positive, times one that is positive
-not_above_times : (a s : ℤ) → a ≤ℤ pos 0 → pos 0 <ℤ s → (a *ℤ s) ≤ℤ pos 0
+pub not_above_times : (a s : ℤ) → a ≤ℤ pos 0 → pos 0 <ℤ s → (a *ℤ s) ≤ℤ pos 0
 not_above_times a s h p = chain (a *ℤ s) (pos 0 *ℤ s) (≤ℤ-*ℤ a (pos 0) s (positive_weak s p) h) (zero-*ℤ s)
   where
     chain : (x y : ℤ) → x ≤ℤ y → y ≡ pos 0 → x ≤ℤ pos 0

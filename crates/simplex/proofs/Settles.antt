@@ -316,6 +316,7 @@ refuted-best over constants kinds enters t now i turns begin r row here kind wai
       here = inside;
       flat = p.flat i row inside (omega (arith, own));
       some = not_zero (numbers_of now i constants) (unmet refl);
+      goals = λ l h k. goals l h k;
       signs = inr (unmet refl, signs);
     }
       where
@@ -327,6 +328,9 @@ refuted-best over constants kinds enters t now i turns begin r row here kind wai
 
         own : choices_of now i ≡ over.units + i
         own = p.marked.waiting i inside kind (waits_there over constants i enters p.marked.sized.units waits)
+
+        goals : (l : ℕ) → over.rows ≤ l → l < length now.lines → numbers_of now i (over.units + l) ≡ pos 0
+        goals l h k = ap (numbers_of now i) (sym (p.marked.waiting l k (p.marked.sized.goals l h k) (p.out l h k))) ∙ p.marked.sized.tableau.is.others i l inside k (λ same. absurd (omega (arith, h, row, same)))
 
         signs : (m : ℕ) → m < length now.lines → kind_at kinds m ≡ AtMost → pos 0 ≤ℤ numbers_of now i (over.units + m)
         signs m h k = go (enters_at enters (over.units + m)) refl

@@ -138,7 +138,7 @@ multiples-fit n rows by cs small m h =
     bind_value (sums_at rows by cs) (λ numbers. constant_sum rows by >>= λ rest. form_ok (record { numbers = numbers; rest = rest })) (sums_at-fits n rows by cs (λ j g. column_small n cs rows j small g) m h)
     (λ numbers e. bind_value (constant_sum rows by) (λ rest. form_ok (record { numbers = numbers; rest = rest })) (sum_from-fits n 0 constant_in (pos 0) rows by (constants_small n cs rows small) m (omega arith) (omega (arith, h))) (λ rest f. (record { numbers = numbers; rest = rest }, refl)))
 
-no_error : {X : Type 0} (r : Result X Step.Wide) (w : Step.Wide) → HasValue r → r ≡ Err w → ⊥
+pub no_error : {X : Type 0} (r : Result X Step.Wide) (w : Step.Wide) → HasValue r → r ≡ Err w → ⊥
 no_error {X = X} r w v e = clash v.0 (sym v.1 ∙ e)
   where
     ok : X → Result X Step.Wide
@@ -151,7 +151,7 @@ pub second_part : (b : Bool) (part : Result Bool Step.Wide) (w : Step.Wide) → 
 second_part true part w h e = h e
 second_part false part w h e = cc
 
-all_entries : (P : ℤ → Type 0) (zs : List ℤ) → ((j : ℕ) → j < length zs → P (entry zs j)) → AllByRecursion P zs
+pub all_entries : (P : ℤ → Type 0) (zs : List ℤ) → ((j : ℕ) → j < length zs → P (entry zs j)) → AllByRecursion P zs
 all_entries P [] f = tt
 all_entries P (z ∷ zs) f = (f 0 (omega arith), all_entries P zs (λ j h. f (suc j) (omega (arith, h))))
 
@@ -183,7 +183,7 @@ numbered_small n (c ∷ cs) f m h = go (eq_by_cmp mono_cmp c m) (numbered_small 
     go true k = h 0 (omega arith)
     go false k = k
 
-products_small : (n : ℕ) (x : List Col → ℤ) (ts : Terms) → ((m : List Col) → unsigned_abs (x m) ≤ n) → AllByRecursion (λ t. unsigned_abs t.1 ≤ n) ts → AllByRecursion (λ t. unsigned_abs (t.1 *ℤ x t.0) ≤ n * n) ts
+pub products_small : (n : ℕ) (x : List Col → ℤ) (ts : Terms) → ((m : List Col) → unsigned_abs (x m) ≤ n) → AllByRecursion (λ t. unsigned_abs t.1 ≤ n) ts → AllByRecursion (λ t. unsigned_abs (t.1 *ℤ x t.0) ≤ n * n) ts
 products_small n x [] f h = tt
 products_small n x (t ∷ ts) f h = (product-small n n t.1 (x t.0) h.0 (f t.0), products_small n x ts f h.1)
 
@@ -230,7 +230,7 @@ corner_ratio n frame t constants j r c s apart k = record {
     is : moved_part n t constants c j *ℤ c.common ≡ moved (length t.lines) (numbers_of t) (choices_of t) constants j
     is = (moved_parts n frame t constants j c s (λ e. apart (sym e))).is
 
-bottom_above : (n : ℕ) (t : Tableau) (constants : ℕ) (c : HasSmallColumn n t constants) → pos 0 <ℤ whole_over t → pos 0 <ℤ c.bottom
+pub bottom_above : (n : ℕ) (t : Tableau) (constants : ℕ) (c : HasSmallColumn n t constants) → pos 0 <ℤ whole_over t → pos 0 <ℤ c.bottom
 bottom_above n t constants c h = positive_left c.bottom c.common (whole_over t) c.above c.bottom_is h
   where
     positive_left : (z k w : ℤ) → pos 0 <ℤ k → z *ℤ k ≡ w → pos 0 <ℤ w → pos 0 <ℤ z

@@ -110,7 +110,7 @@ shared r x d p s = record { times = pos q; positive = q_above; num = num_is; den
     num_is = *ℤ_cancel (r.num *ℤ pos q) x r.den s.stands.positive (swap_last r.num (pos q) r.den ∙ ap (λ z. r.num *ℤ z) den_is ∙ s.stands.same)
 
 -- a factor is no greater than the product
-factor_small : (z s d : ℤ) → pos 0 <ℤ s → z *ℤ s ≡ d → unsigned_abs z ≤ unsigned_abs d
+pub factor_small : (z s d : ℤ) → pos 0 <ℤ s → z *ℤ s ≡ d → unsigned_abs z ≤ unsigned_abs d
 factor_small z s d p e =
     let size : 1 ≤ unsigned_abs s = size_above s p in
     let more : unsigned_abs z * 1 ≤ unsigned_abs z * unsigned_abs s = mul-le-mul_left (unsigned_abs z) size in

@@ -51,12 +51,13 @@ pub record IsSolving (over : Framed) (constants : ℕ) (kinds : List Kind) (coun
   pub done : (l : ℕ) → l < count → l < length t.lines → kind_at kinds l ≡ Equal → (choices_of t l < constants) ⊎ ((choices_of t l ≡ over.units + l) × IsFixed over constants kinds t l)
 
 -- the line refutes the rows: it is 0 at all columns of the question, and its constant is not 0; at the unit columns of
--- inequalities it is 0, or it is not negative there and its constant is positive
+-- inequalities it is 0, or it is not negative there and its constant is positive; no goal has a part in it
 pub record IsRefuted (over : Framed) (constants : ℕ) (kinds : List Kind) (t : Tableau) (i : ℕ) : Type 0 where
   pub sized : IsSized over constants kinds t
   pub here : i < length t.lines
   pub flat : IsFlat constants t i
   pub some : numbers_of t i constants ≢ pos 0
+  pub goals : (l : ℕ) → over.rows ≤ l → l < length t.lines → numbers_of t i (over.units + l) ≡ pos 0
   pub signs : ((m : ℕ) → m < length t.lines → kind_at kinds m ≡ AtMost → numbers_of t i (over.units + m) ≡ pos 0)
       ⊎ ((pos 0 <ℤ numbers_of t i constants) × ((m : ℕ) → m < length t.lines → kind_at kinds m ≡ AtMost → pos 0 ≤ℤ numbers_of t i (over.units + m)))
 

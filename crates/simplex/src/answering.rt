@@ -54,7 +54,7 @@ fn answer_of_rows(alloc: Global, rows: &[Row]) -> Result<Answer, AllocError>
 }
 
 /// The limit that a step names.
-fn limit_of(step: &Wide) -> Answer
+pub(crate) fn limit_of(step: &Wide) -> Answer
     ensures { result ≡ answer.Limit (limit.Wide step.now.left step.now.right step.now.times) }
 {
     Answer::Limit(Limit::Wide {

@@ -9,6 +9,7 @@ mod answering;
 mod corner;
 mod frame;
 mod gauss;
+mod goals;
 mod raise;
 mod search;
 mod stop;
@@ -16,6 +17,7 @@ mod supremum;
 mod tableau;
 
 pub use answering::infeasible;
+pub use goals::sup;
 pub use raise::{Raised, Turn};
 pub use search::{Found, Turned};
 pub use stop::Stop;
