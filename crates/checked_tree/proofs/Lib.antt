@@ -1,0 +1,13 @@
+-- ---- the laws of an evaluation
+pub mod Whole
+-- formulas between vocabularies, and runs along words
+pub mod Between
+pub mod Along
+-- formulas of paths
+pub mod Entries
+-- ---- the evaluation of a plan
+pub mod SameByNumber
+pub mod Numbered
+-- ---- each operation is ready where it stands
+pub mod Swept
+pub mod Stands

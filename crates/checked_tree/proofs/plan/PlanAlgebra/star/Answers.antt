@@ -1,0 +1,21 @@
+use Rattle.std.proofs.Common.{arith}
+use Rattle.path_expr.specs.PathExpr.{Star}
+use Rattle.checked_tree.specs.declared.key.Key.TheVariants as key
+use Rattle.checked_tree.proofs.Numbered.{path-kept, paths-made, star-path}
+use Rattle.checked_tree.proofs.plan.PlanAlgebra.star.Goals as goal
+
+pub returns-clause-keeps : goal.returns-clause-keeps
+returns-clause-keeps c = record {
+  paths = λ path item h. path-kept c.args.self.now.keys.keys c.note.new.self.keys.keys c.args.self.now.order c.note.new.self.order (key.Star c.args.turn.now) c.note.result c.note.ensures.noted c.note.ensures.keys path item h;
+  nodes = λ item from to h. h;
+  numbers = λ number from to h. h;
+  later = omega arith;
+}
+
+pub returns-clause-fits : goal.returns-clause-fits
+returns-clause-fits c p h = star-path c.args.self.now.keys.keys c.note.new.self.keys.keys c.args.self.now.order c.note.new.self.order c.args.turn.now c.note.result c.note.ensures.noted p h
+
+pub returns-clause-made : goal.returns-clause-made
+returns-clause-made c p done h before =
+    paths-made c.args.self.now.keys.keys c.note.new.self.keys.keys c.args.self.now.order c.note.new.self.order (key.Star c.args.turn.now) c.note.result c.note.ensures.noted (Star p)
+    (star-path c.args.self.now.keys.keys c.note.new.self.keys.keys c.args.self.now.order c.note.new.self.order c.args.turn.now c.note.result c.note.ensures.noted p h) done before

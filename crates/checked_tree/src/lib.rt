@@ -1,0 +1,13 @@
+//! Formulas of the walks of a graph: each link has a formula, and each node comes to one that holds of all walks from a source,
+//! by the stated elimination.
+#![tactic(auto)]
+
+mod entry;
+mod key;
+mod law;
+mod plan;
+
+pub use entry::Entry;
+pub use key::Key;
+pub use law::{law_of_evaluation, law_of_plans};
+pub use plan::{Plan, planned};
