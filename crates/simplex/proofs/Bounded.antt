@@ -25,14 +25,14 @@ use Rattle.farkas_check.specs.Tested.{goal_columns, tested_sum}
 use Rattle.farkas_check.specs.declared.question.Goal.{Goal}
 use Rattle.farkas_check.specs.declared.answer.Cert.{Cert}
 use Rattle.farkas_check.proofs.Farkas.{bool_ok, total, sums, form_of, on_sum}
-use Rattle.simplex.specs.Exchange.{numbers_of, choices_of, multiplied, IsTableauOf}
+use Rattle.simplex.specs.Exchange.{numbers_of, choices_of, line_multiple, IsTableauOf}
 use Rattle.simplex.specs.Rows.{kinds_of, kind_at, framed}
 use Rattle.simplex.specs.Suprema.{with_goal, goal_frame, certificate_of, IsTopped}
 use Rattle.simplex.specs.declared.tableau.Tableau.{Tableau}
 use Rattle.simplex.proofs.Certificates.{each_of, total-is, all_multipliers, framed-column, framed-constant}
 use Rattle.simplex.proofs.Framing.{kinds-length}
-use Rattle.simplex.proofs.Lines.{multiplied-length}
-use Rattle.simplex.proofs.Numbers.{multiplied-number}
+use Rattle.simplex.proofs.Lines.{line_multiple-length}
+use Rattle.simplex.proofs.Numbers.{line_multiple-number}
 use Rattle.simplex.proofs.Objectives.{more_rows}
 use Rattle.simplex.proofs.Sums.{sum_below-same, weighted_multiple}
 
@@ -48,13 +48,13 @@ cert_ok cert = Ok cert
 
 pub certificate-is : (constants goal : ℕ) (line : List ℤ) (cert : Cert) → certificate_of constants goal line ≡ Ok cert → IsCertificate constants goal line cert
 certificate-is constants goal line cert e =
-    on_ok (multiplied (take goal (drop (constants + 1) line)) (negsuc 0)) (λ by. cert_ok (record { scale = entry line (constants + 1 + goal); sum = entry line constants; by = by })) cert e
+    on_ok (line_multiple (take goal (drop (constants + 1) line)) (negsuc 0)) (λ by. cert_ok (record { scale = entry line (constants + 1 + goal); sum = entry line constants; by = by })) cert e
     (λ by f g. let same : record { scale = entry line (constants + 1 + goal); sum = entry line constants; by = by } ≡ cert = cc in subst (IsCertificate constants goal line) same (made by f))
   where
-    made : (by : List ℤ) → multiplied (take goal (drop (constants + 1) line)) (negsuc 0) ≡ Ok by → IsCertificate constants goal line (record { scale = entry line (constants + 1 + goal); sum = entry line constants; by = by })
+    made : (by : List ℤ) → line_multiple (take goal (drop (constants + 1) line)) (negsuc 0) ≡ Ok by → IsCertificate constants goal line (record { scale = entry line (constants + 1 + goal); sum = entry line constants; by = by })
     made by f = record {
-      by = λ l h. multiplied-number (take goal (drop (constants + 1) line)) (negsuc 0) by f l ∙ ap (λ z. z *ℤ negsuc 0) (get_or-take goal (drop (constants + 1) line) l (pos 0) h ∙ get_or-drop (constants + 1) line l (pos 0));
-      each = multiplied-length (take goal (drop (constants + 1) line)) (negsuc 0) by f;
+      by = λ l h. line_multiple-number (take goal (drop (constants + 1) line)) (negsuc 0) by f l ∙ ap (λ z. z *ℤ negsuc 0) (get_or-take goal (drop (constants + 1) line) l (pos 0) h ∙ get_or-drop (constants + 1) line l (pos 0));
+      each = line_multiple-length (take goal (drop (constants + 1) line)) (negsuc 0) by f;
       scale = refl;
       sum = refl;
     }

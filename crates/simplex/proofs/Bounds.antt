@@ -33,13 +33,13 @@ record HasSign (a : ℤ) : Type 0 where
 sign_of : (a : ℤ) → (a ≡ pos 0 → ⊥) → HasSign a
 sign_of a n =
     by_lt_z (pos 0) a (λ p. record { sign = pos 1; square = λ z. ap (λ y. pos 1 *ℤ y) (one-*ℤ z) ∙ one-*ℤ z; one = λ z. ap unsigned_abs (one-*ℤ z); positive = subst (λ (z : ℤ). pos 0 <ℤ z) (sym (one-*ℤ a)) p })
-    (λ p. record { sign = negsuc 0; square = λ z. twice z; one = λ z. turned z; positive = below a n p })
+    (λ p. record { sign = negsuc 0; square = λ z. twice z; one = λ z. upright_line z; positive = below a n p })
   where
     twice : (z : ℤ) → negsuc 0 *ℤ (negsuc 0 *ℤ z) ≡ z
     twice z = omega (arith, ints)
 
-    turned : (z : ℤ) → unsigned_abs (negsuc 0 *ℤ z) ≡ unsigned_abs z
-    turned z = omega (arith, ints)
+    upright_line : (z : ℤ) → unsigned_abs (negsuc 0 *ℤ z) ≡ unsigned_abs z
+    upright_line z = omega (arith, ints)
 
     below : (a : ℤ) → (a ≡ pos 0 → ⊥) → a ≤ℤ pos 0 → pos 0 <ℤ (negsuc 0 *ℤ a)
     below (pos zero) n p = absurd (n refl)
@@ -79,8 +79,8 @@ small_step n lines units columns frame numbers chosen other r t ranges ranges_to
         clash : (z : ℤ) → pos 0 <ℤ z → z ≡ pos 0 → ⊥
         clash z p e = omega (arith, ints)
 
-    signed : HasSign ((known r here).line (chosen r))
-    signed = sign_of ((known r here).line (chosen r)) not_zero
+    with_sign : HasSign ((known r here).line (chosen r))
+    with_sign = sign_of ((known r here).line (chosen r)) not_zero
 
     square : (m n : ℕ) → m ≤ n → m ≤ n * n + n * n
     square m zero k = k
@@ -88,18 +88,18 @@ small_step n lines units columns frame numbers chosen other r t ranges ranges_to
 
     at_r : HasSmall (n * n + n * n) lines units columns frame chosen r
     at_r = record {
-      line = λ j. signed.sign *ℤ (known r here).line j;
-      combination = IsCombination-times lines units columns frame signed.sign (known r here).line (known r here).combination;
-      own = signed.positive;
-      others = λ k kh apart. ap (λ z. signed.sign *ℤ z) (zero_at k kh apart) ∙ times_zero signed.sign;
-      small = λ j jh. square (unsigned_abs (signed.sign *ℤ (known r here).line j)) n (let e : unsigned_abs (signed.sign *ℤ (known r here).line j) ≡ unsigned_abs ((known r here).line j) = signed.one ((known r here).line j) in let g : unsigned_abs ((known r here).line j) ≤ n = (known r here).small j jh in omega arith);
+      line = λ j. with_sign.sign *ℤ (known r here).line j;
+      combination = IsCombination-times lines units columns frame with_sign.sign (known r here).line (known r here).combination;
+      own = with_sign.positive;
+      others = λ k kh apart. ap (λ z. with_sign.sign *ℤ z) (zero_at k kh apart) ∙ times_zero with_sign.sign;
+      small = λ j jh. square (unsigned_abs (with_sign.sign *ℤ (known r here).line j)) n (let e : unsigned_abs (with_sign.sign *ℤ (known r here).line j) ≡ unsigned_abs ((known r here).line j) = with_sign.one ((known r here).line j) in let g : unsigned_abs ((known r here).line j) ≤ n = (known r here).small j jh in omega arith);
     }
 
     elsewhere : i ≢ r → HasSmall (n * n + n * n) lines units columns frame chosen i
     elsewhere apart = record {
       line = difference p (known i h).line q (known r here).line;
       combination = IsCombination-difference lines units columns frame p q (known i h).line (known r here).line (known i h).combination (known r here).combination;
-      own = subst (λ (z : ℤ). pos 0 <ℤ z) (sym at_own) (product p ((known i h).line (other i)) signed.positive (known i h).own);
+      own = subst (λ (z : ℤ). pos 0 <ℤ z) (sym at_own) (product p ((known i h).line (other i)) with_sign.positive (known i h).own);
       others = λ k kh k_apart. ⊎_elim (λ (e : k ≡ r). ap (difference p (known i h).line q (known r here).line) (ap chosen e) ∙ cancels) (λ far. zero_difference p q ((known i h).line (chosen k)) ((known r here).line (chosen k)) (ap (known i h).line (sym (same k kh far)) ∙ (known i h).others k kh k_apart) (zero_at k kh far)) (cases_eq k r);
       small = λ j jh. difference-small n p ((known i h).line j) q ((known r here).line j) size_p ((known i h).small j jh) size_q ((known r here).small j jh);
     }
@@ -108,16 +108,16 @@ small_step n lines units columns frame numbers chosen other r t ranges ranges_to
         a = (known r here).line (chosen r)
 
         p : ℤ
-        p = signed.sign *ℤ (known r here).line (chosen r)
+        p = with_sign.sign *ℤ (known r here).line (chosen r)
 
         q : ℤ
-        q = signed.sign *ℤ (known i h).line (chosen r)
+        q = with_sign.sign *ℤ (known i h).line (chosen r)
 
-        size_p : unsigned_abs (signed.sign *ℤ (known r here).line (chosen r)) ≤ n
-        size_p = let e : unsigned_abs (signed.sign *ℤ (known r here).line (chosen r)) ≡ unsigned_abs ((known r here).line (chosen r)) = signed.one ((known r here).line (chosen r)) in let g : unsigned_abs ((known r here).line (chosen r)) ≤ n = (known r here).small (chosen r) (ranges r here) in omega arith
+        size_p : unsigned_abs (with_sign.sign *ℤ (known r here).line (chosen r)) ≤ n
+        size_p = let e : unsigned_abs (with_sign.sign *ℤ (known r here).line (chosen r)) ≡ unsigned_abs ((known r here).line (chosen r)) = with_sign.one ((known r here).line (chosen r)) in let g : unsigned_abs ((known r here).line (chosen r)) ≤ n = (known r here).small (chosen r) (ranges r here) in omega arith
 
-        size_q : unsigned_abs (signed.sign *ℤ (known i h).line (chosen r)) ≤ n
-        size_q = let e : unsigned_abs (signed.sign *ℤ (known i h).line (chosen r)) ≡ unsigned_abs ((known i h).line (chosen r)) = signed.one ((known i h).line (chosen r)) in let g : unsigned_abs ((known i h).line (chosen r)) ≤ n = (known i h).small (chosen r) (ranges r here) in omega arith
+        size_q : unsigned_abs (with_sign.sign *ℤ (known i h).line (chosen r)) ≤ n
+        size_q = let e : unsigned_abs (with_sign.sign *ℤ (known i h).line (chosen r)) ≡ unsigned_abs ((known i h).line (chosen r)) = with_sign.one ((known i h).line (chosen r)) in let g : unsigned_abs ((known i h).line (chosen r)) ≤ n = (known i h).small (chosen r) (ranges r here) in omega arith
 
         at_own : difference p (known i h).line q (known r here).line (chosen i) ≡ p *ℤ (known i h).line (other i)
         at_own = ap (λ z. p *ℤ (known i h).line (chosen i) -ℤ q *ℤ z) (zero_at i h apart) ∙ rw (times_zero q) (plain (p *ℤ (known i h).line (chosen i))) ∙ ap (λ c. p *ℤ (known i h).line c) (sym (same i h apart))
@@ -126,7 +126,7 @@ small_step n lines units columns frame numbers chosen other r t ranges ranges_to
             plain z = omega (arith, ints)
 
         cancels : difference p (known i h).line q (known r here).line (chosen r) ≡ pos 0
-        cancels = level signed.sign ((known r here).line (chosen r)) ((known i h).line (chosen r))
+        cancels = level with_sign.sign ((known r here).line (chosen r)) ((known i h).line (chosen r))
           where
             level : (s a b : ℤ) → s *ℤ a *ℤ b -ℤ s *ℤ b *ℤ a ≡ pos 0
             level s a b = simp ring (omega (arith, ints))
@@ -177,10 +177,10 @@ changed r v chosen i = cond (nat_eq i r) v (chosen i)
 plain_is : (lines r v : ℕ) (numbers : ℕ → ℕ → ℤ) (s : HasSign (numbers r v)) → IsExchange lines numbers (plain_exchange s.sign r v numbers) r v
 plain_is lines r v numbers s = record {
   sign = s.sign;
-  turned = λ j. at_r j;
+  upright = λ j. at_r j;
   back = λ j. sym (s.square (numbers r j)) ∙ ap (λ z. s.sign *ℤ z) (sym (at_r j));
   positive = subst (λ (z : ℤ). pos 0 <ℤ z) (sym (at_r v)) s.positive;
-  cleared = λ i h other. record { factor = pos 1; positive = omega (arith, ints); is = λ j. one-*ℤ (plain_exchange s.sign r v numbers i j) ∙ at_other i j other ∙ ap (λ z. z *ℤ numbers i j -ℤ numbers i v *ℤ (s.sign *ℤ numbers r j)) (sym (at_r v)) ∙ ap (λ z. plain_exchange s.sign r v numbers r v *ℤ numbers i j -ℤ numbers i v *ℤ z) (sym (at_r j)) };
+  line_without = λ i h other. record { factor = pos 1; positive = omega (arith, ints); is = λ j. one-*ℤ (plain_exchange s.sign r v numbers i j) ∙ at_other i j other ∙ ap (λ z. z *ℤ numbers i j -ℤ numbers i v *ℤ (s.sign *ℤ numbers r j)) (sym (at_r v)) ∙ ap (λ z. plain_exchange s.sign r v numbers r v *ℤ numbers i j -ℤ numbers i v *ℤ z) (sym (at_r j)) };
 }
   where
     at_r : (j : ℕ) → plain_exchange s.sign r v numbers r j ≡ s.sign *ℤ numbers r j

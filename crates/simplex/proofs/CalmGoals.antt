@@ -123,11 +123,11 @@ scaled_less-fits scale rest less s r l =
     added : (left right : ℤ) → unsigned_abs left ≤ 1099511627776 * 1099511627776 → unsigned_abs right ≤ 1099511627776 * 1 → HasValue (sum_of left right)
     added left right p q = (left +ℤ right, sum_of-fits left right (let g : unsigned_abs (left +ℤ right) ≤ unsigned_abs left + unsigned_abs right = unsigned_abs-+ℤ left right in omega (arith, g, p, q)))
 
-pub rounded-small : (z d : ℤ) → pos 0 <ℤ d → unsigned_abs (int_div_euclid z d) ≤ unsigned_abs z
-rounded-small (pos a) (pos b) h = div-le_self a b
-rounded-small (pos a) (negsuc b) h = absurd (omega (arith, ints, h))
-rounded-small (negsuc a) (pos b) h = let g = div-le_self a b in omega (arith, g)
-rounded-small (negsuc a) (negsuc b) h = absurd (omega (arith, ints, h))
+pub floor-small : (z d : ℤ) → pos 0 <ℤ d → unsigned_abs (int_div_euclid z d) ≤ unsigned_abs z
+floor-small (pos a) (pos b) h = div-le_self a b
+floor-small (pos a) (negsuc b) h = absurd (omega (arith, ints, h))
+floor-small (negsuc a) (pos b) h = let g = div-le_self a b in omega (arith, g)
+floor-small (negsuc a) (negsuc b) h = absurd (omega (arith, ints, h))
 
 below-fits : (at : ℤ) (cert : Cert) → unsigned_abs at ≤ 1099511627776 → unsigned_abs cert.scale ≤ 1099511627776 → HasValue (tested_below at cert)
 below-fits at cert a s =

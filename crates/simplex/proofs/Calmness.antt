@@ -290,15 +290,15 @@ moved_parts n frame t column j c s apart = ⊎_elim (λ found. one found.0 found
     less_zero : (z : ℤ) → pos 0 -ℤ z ≡ neg_ℤ z
     less_zero z = omega (arith, ints)
 
-    turned : (a b : ℤ) → (pos 0 -ℤ a) *ℤ b ≡ pos 0 -ℤ a *ℤ b
-    turned a b = ap (λ z. z *ℤ b) (less_zero a) ∙ neg_ℤ-*ℤ a b ∙ sym (less_zero (a *ℤ b))
+    flip : (a b : ℤ) → (pos 0 -ℤ a) *ℤ b ≡ pos 0 -ℤ a *ℤ b
+    flip a b = ap (λ z. z *ℤ b) (less_zero a) ∙ neg_ℤ-*ℤ a b ∙ sym (less_zero (a *ℤ b))
 
     same_size : (z : ℤ) → unsigned_abs (pos 0 -ℤ z) ≡ unsigned_abs z
     same_size z = omega (arith, ints)
 
     one : (k : ℕ) → k < length t.lines → choices_of t k ≡ j → IsMovedPart n t column j c
     one k h is = record {
-      is = turned (sum_below (length t.lines) (λ k. part (choices_of t) c.top j k)) c.common
+      is = flip (sum_below (length t.lines) (λ k. part (choices_of t) c.top j k)) c.common
           ∙ ap (λ z. pos 0 -ℤ z *ℤ c.common) (part-one (length t.lines) (choices_of t) c.top j k h is others)
           ∙ ap (λ z. pos 0 -ℤ z) (c.top_is k h)
           ∙ ap (λ z. pos 0 -ℤ z) (sym (part-one (length t.lines) (choices_of t) value j k h is others))

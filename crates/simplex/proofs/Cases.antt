@@ -24,7 +24,7 @@ use Rattle.farkas_check.specs.declared.question.Goal.{Goal}
 use Rattle.farkas_check.specs.declared.question.Question.TheVariants.{Sup}
 use Rattle.farkas_check.proofs.Farkas.{bool_ok}
 use Rattle.linear_terms.specs.declared.row.Row.{Row}
-use Rattle.simplex.specs.Goals.{rounded, higher, with_bound, bound_answer, AreBounds, IsReachOf, ReachAt, AreBoundsTo, HasNoBound, IsFoundAmong, IsRefusalAmong, IsSupremumAt, HasManyChoices, PivotsAmong, IsWide, IsGoalsAnswer}
+use Rattle.simplex.specs.Goals.{whole_bound, higher, with_bound, bound_answer, AreBounds, IsReachOf, ReachAt, AreBoundsTo, HasNoBound, IsFoundAmong, IsRefusalAmong, IsSupremumAt, HasManyChoices, PivotsAmong, IsWide, IsGoalsAnswer}
 use Rattle.simplex.specs.Refusal.{LeavesBits, IsRefusalIn}
 use Rattle.simplex.specs.Rows.{kinds_of}
 use Rattle.simplex.specs.Suprema.{with_goal, goal_frame, IsSupremumOf}
@@ -37,14 +37,14 @@ use Rattle.simplex.specs.declared.supremum.Supremum.{Supremum}
 use Rattle.simplex.specs.declared.supremum.Supremum.TheVariants as supremum
 use Rattle.simplex.proofs.Bounded.{IsCertified, certified, IsCertificate, certificate-is}
 use Rattle.simplex.proofs.Calmness.{small_frame}
-use Rattle.simplex.proofs.CalmGoals.{goal_small, cert_small, rounded-small, cert-calm, point-calm, reached-calm, ray-calm, IsSmallCert}
+use Rattle.simplex.proofs.CalmGoals.{goal_small, cert_small, floor-small, cert-calm, point-calm, reached-calm, ray-calm, IsSmallCert}
 use Rattle.simplex.proofs.Emptiness.{no_point_of}
 use Rattle.simplex.proofs.Framing.{kinds-length, long}
 use Rattle.simplex.proofs.Leaves.{goals-leaves, limit_of}
 use Rattle.simplex.proofs.Objectives.{more_rows}
 use Rattle.simplex.proofs.Rays.{ray_honest}
 use Rattle.simplex.proofs.Reached.{goal_point_honest, reached_honest}
-use Rattle.simplex.proofs.Roundings.{certificate-rounded, cert-honest}
+use Rattle.simplex.proofs.Roundings.{certificate-floor, cert-honest}
 use Rattle.simplex.proofs.Tame.{fits_twice}
 
 -- ---- lists by places
@@ -120,7 +120,7 @@ more_bounds budget goals place bounds goal cert point b is bound = record {
     all_certs : List Cert
     all_certs = bounds.certs ++ cert ∷ []
 
-    new_reach : ((l : ℕ) (other : Cert) → slice_get bounds.certs l ≡ Some other → rounded other ≤ℤ rounded cert) → IsReachOf budget goals (bounds.certs ++ cert ∷ []) (rounded cert) place point
+    new_reach : ((l : ℕ) (other : Cert) → slice_get bounds.certs l ≡ Some other → whole_bound other ≤ℤ whole_bound cert) → IsReachOf budget goals (bounds.certs ++ cert ∷ []) (whole_bound cert) place point
     new_reach below = record {
       goal = goal;
       is = is;
@@ -128,10 +128,10 @@ more_bounds budget goals place bounds goal cert point b is bound = record {
       has = subst (λ (n : ℕ). slice_get all_certs n ≡ Some cert) b.each (at_end bounds.certs cert);
       bound = bound;
       here = refl;
-      greatest = λ l other e. ⊎_elim (λ (h : slice_get bounds.certs l ≡ Some other). below l other h) (λ last. subst (λ (x : Cert). rounded x ≤ℤ rounded cert) last.1 (itself (rounded cert))) (one_more bounds.certs cert other l e);
+      greatest = λ l other e. ⊎_elim (λ (h : slice_get bounds.certs l ≡ Some other). below l other h) (λ last. subst (λ (x : Cert). whole_bound x ≤ℤ whole_bound cert) last.1 (itself (whole_bound cert))) (one_more bounds.certs cert other l e);
     }
 
-    old_reach : (r : Reach) → IsReachOf budget goals bounds.certs r.at r.case r.point → (rounded cert ≤ℤ r.at) → IsReachOf budget goals (bounds.certs ++ cert ∷ []) r.at r.case r.point
+    old_reach : (r : Reach) → IsReachOf budget goals bounds.certs r.at r.case r.point → (whole_bound cert ≤ℤ r.at) → IsReachOf budget goals (bounds.certs ++ cert ∷ []) r.at r.case r.point
     old_reach r h below = record {
       goal = h.goal;
       is = h.is;
@@ -139,13 +139,13 @@ more_bounds budget goals place bounds goal cert point b is bound = record {
       has = at_front bounds.certs cert h.cert r.case h.has;
       bound = h.bound;
       here = h.here;
-      greatest = λ l other e. ⊎_elim (λ (g : slice_get bounds.certs l ≡ Some other). h.greatest l other g) (λ last. subst (λ (x : Cert). rounded x ≤ℤ r.at) last.1 below) (one_more bounds.certs cert other l e);
+      greatest = λ l other e. ⊎_elim (λ (g : slice_get bounds.certs l ≡ Some other). h.greatest l other g) (λ last. subst (λ (x : Cert). whole_bound x ≤ℤ r.at) last.1 below) (one_more bounds.certs cert other l e);
     }
 
     next : Reach
-    next = record { at = rounded cert; case = place; point = point }
+    next = record { at = whole_bound cert; case = place; point = point }
 
-    empty_below : bounds.certs ≡ [] → (l : ℕ) (other : Cert) → slice_get bounds.certs l ≡ Some other → rounded other ≤ℤ rounded cert
+    empty_below : bounds.certs ≡ [] → (l : ℕ) (other : Cert) → slice_get bounds.certs l ≡ Some other → whole_bound other ≤ℤ whole_bound cert
     empty_below e l other h = absurd (nothing (subst (λ (cs : List Cert). slice_get cs l ≡ Some other) e h))
       where
         none : List Cert
@@ -156,13 +156,13 @@ more_bounds budget goals place bounds goal cert point b is bound = record {
 
     reached : (old : Option Reach) → ReachAt budget goals bounds.certs old → ReachAt budget goals (bounds.certs ++ cert ∷ []) (Some (higher old next))
     reached None h = new_reach (empty_below h)
-    reached (Some r) h = by_order (int_lt r.at (rounded cert)) refl
+    reached (Some r) h = by_order (int_lt r.at (whole_bound cert)) refl
       where
         chosen : Bool → Reach
         chosen q = cond q next r
 
-        by_order : (q : Bool) → int_lt r.at (rounded cert) ≡ q → ReachAt budget goals (bounds.certs ++ cert ∷ []) (Some (chosen (int_lt r.at (rounded cert))))
-        by_order true e = subst (λ (q : Bool). ReachAt budget goals (bounds.certs ++ cert ∷ []) (Some (chosen q))) (sym e) (new_reach (λ l other g. weak (rounded other) r.at (h.greatest l other g) (rounded cert) (omega (arith, ints, e))))
+        by_order : (q : Bool) → int_lt r.at (whole_bound cert) ≡ q → ReachAt budget goals (bounds.certs ++ cert ∷ []) (Some (chosen (int_lt r.at (whole_bound cert))))
+        by_order true e = subst (λ (q : Bool). ReachAt budget goals (bounds.certs ++ cert ∷ []) (Some (chosen q))) (sym e) (new_reach (λ l other g. weak (whole_bound other) r.at (h.greatest l other g) (whole_bound cert) (omega (arith, ints, e))))
         by_order false e = subst (λ (q : Bool). ReachAt budget goals (bounds.certs ++ cert ∷ []) (Some (chosen q))) (sym e) (old_reach r h (omega (arith, ints, e)))
 
 pub bounds_found : (budget : ℕ) (goals : List Goal) (bounds : Bounds) → AreBoundsTo budget goals (length goals) bounds → IsFoundAmong budget goals (bound_answer bounds)
@@ -252,7 +252,7 @@ goals_honest goals budget (answer.Bound at certs case point) b k h e =
     canonical = at_place IsCanonicalGoal goals case h.2.goal (recursion_from_All IsCanonicalGoal goals k) h.2.is
 
     below : (at *ℤ h.2.cert.scale) ≤ℤ h.2.cert.sum
-    below = subst (λ (z : ℤ). (z *ℤ h.2.cert.scale) ≤ℤ h.2.cert.sum) (sym h.2.here) (certificate-rounded h.2.cert (bound_scale budget h.2.goal h.2.cert point h.2.bound).scale).below
+    below = subst (λ (z : ℤ). (z *ℤ h.2.cert.scale) ≤ℤ h.2.cert.sum) (sym h.2.here) (certificate-floor h.2.cert (bound_scale budget h.2.goal h.2.cert point h.2.bound).scale).below
 
 -- ---- widths
 
@@ -312,8 +312,8 @@ goals_calm goals budget (answer.Bound at certs case point) w k c h e =
     at_small : unsigned_abs at ≤ 1099511627776
     at_small =
         let small : unsigned_abs h.2.cert.sum ≤ 1099511627776 = (bound_small budget h.2.goal h.2.cert point calm h.2.bound).sum in
-        let less : unsigned_abs (rounded h.2.cert) ≤ unsigned_abs h.2.cert.sum = rounded-small h.2.cert.sum h.2.cert.scale (bound_scale budget h.2.goal h.2.cert point h.2.bound).scale in
-        let here : unsigned_abs at ≡ unsigned_abs (rounded h.2.cert) = ap unsigned_abs h.2.here in omega (arith, small, less, here)
+        let less : unsigned_abs (whole_bound h.2.cert) ≤ unsigned_abs h.2.cert.sum = floor-small h.2.cert.sum h.2.cert.scale (bound_scale budget h.2.goal h.2.cert point h.2.bound).scale in
+        let here : unsigned_abs at ≡ unsigned_abs (whole_bound h.2.cert) = ap unsigned_abs h.2.here in omega (arith, small, less, here)
 
 -- ---- stops
 

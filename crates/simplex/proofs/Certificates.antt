@@ -121,11 +121,11 @@ yes-honest rows t line by b r m e = after_multipliers (are_multipliers rows by) 
         total-is number rows by lines_by
         ∙ ap (λ n. sum_below n (λ l. get_or by l (pos 0) *ℤ each_of number rows l)) (sym many)
         ∙ sum_below-same (length t.lines) (λ l. get_or by l (pos 0) *ℤ each_of number rows l) (λ l. get_or by l (pos 0) *ℤ numbers_of (framed (columns rows []) rows) l j) (λ l g. ap (λ z. get_or by l (pos 0) *ℤ z) (sym (f l)))
-        ∙ weighted_multiple (length t.lines) (λ l. numbers_of t line (length (columns rows []) + 1 + l)) (λ l. get_or by l (pos 0)) (λ l. numbers_of (framed (columns rows []) rows) l j) m.sign (λ l g. m.turned l g)
+        ∙ weighted_multiple (length t.lines) (λ l. numbers_of t line (length (columns rows []) + 1 + l)) (λ l. get_or by l (pos 0)) (λ l. numbers_of (framed (columns rows []) rows) l j) m.sign (λ l g. m.upright l g)
         ∙ ap (λ z. m.sign *ℤ z) (sym (r.sized.tableau.is.combination line r.here j h))
 
     signs : (l : ℕ) → l < length rows → kind_at (kinds_of rows) l ≡ AtMost → pos 0 ≤ℤ get_or by l (pos 0)
-    signs l h k = subst (λ (z : ℤ). pos 0 ≤ℤ z) (sym (m.turned l (in_t l h))) (⊎_elim (λ zero_at. nothing (zero_at l (in_t l h) k)) (λ above. not_below (numbers_of t line (length (columns rows []) + 1 + l)) above.0 (above.1 l (in_t l h) k)) r.signs)
+    signs l h k = subst (λ (z : ℤ). pos 0 ≤ℤ z) (sym (m.upright l (in_t l h))) (⊎_elim (λ zero_at. nothing (zero_at l (in_t l h) k)) (λ above. not_below (numbers_of t line (length (columns rows []) + 1 + l)) above.0 (above.1 l (in_t l h) k)) r.signs)
       where
         at_zero : (z : ℤ) → z ≡ pos 0 → pos 0 ≤ℤ z
         at_zero z e = omega (arith, ints)

@@ -16,12 +16,12 @@ product-fits : (n : ℕ) (a b : ℤ) → HasSquares n → unsigned_abs a ≤ n �
 product-fits n a b room h k = product_of-fits a b (let x : unsigned_abs (a *ℤ b) ≤ n * n = product-small n n a b h k in omega arith)
 
 abbrev order_ok : Bool → ℤ → ℤ → Result Ordering Step.Wide
-order_ok turned x y = Ok (cond turned (int_cmp y x) (int_cmp x y))
+order_ok backward x y = Ok (cond backward (int_cmp y x) (int_cmp x y))
 
-order_at-fits : (n : ℕ) (turned : Bool) (a p b q : ℤ) → HasSquares n → unsigned_abs a ≤ n → unsigned_abs p ≤ n → unsigned_abs b ≤ n → unsigned_abs q ≤ n → HasValue (order_at turned a p b q)
-order_at-fits n turned a p b q room ha hp hb hq =
-    bind_value (product_of a p) (λ x. product_of b q >>= λ y. order_ok turned x y) (a *ℤ p, product-fits n a p room ha hp)
-    (λ x e. bind_value (product_of b q) (λ y. order_ok turned x y) (b *ℤ q, product-fits n b q room hb hq) (λ y f. (cond turned (int_cmp y x) (int_cmp x y), refl)))
+order_at-fits : (n : ℕ) (backward : Bool) (a p b q : ℤ) → HasSquares n → unsigned_abs a ≤ n → unsigned_abs p ≤ n → unsigned_abs b ≤ n → unsigned_abs q ≤ n → HasValue (order_at backward a p b q)
+order_at-fits n backward a p b q room ha hp hb hq =
+    bind_value (product_of a p) (λ x. product_of b q >>= λ y. order_ok backward x y) (a *ℤ p, product-fits n a p room ha hp)
+    (λ x e. bind_value (product_of b q) (λ y. order_ok backward x y) (b *ℤ q, product-fits n b q room hb hq) (λ y f. (cond backward (int_cmp y x) (int_cmp x y), refl)))
 
 pub comes_before-fits : (n constants column : ℕ) (line other : List ℤ) (keys : List ℕ) → HasSquares n → AreSmall n line → AreSmall n other → HasValue (comes_before constants column line other keys)
 comes_before-fits n constants column line other [] room h k = (false, refl)

@@ -15,31 +15,31 @@ use Rattle.whole_numbers.specs.declared.wide.Wide as Step
 use Rattle.whole_numbers.proofs.CommonDivisors.{DividesEach, DividesEach-gcd_of_all}
 use Rattle.whole_numbers.proofs.Quotients.{gcd_of_all-reduced}
 use Rattle.simplex.specs.declared.tableau.Tableau.{Tableau}
-use Rattle.simplex.specs.Exchange.{combined, multiplied, reduced, turned, cleared, cleared_at, cleared_from, exchanged, numbers_of, choices_of, IsTableauOf, ArePrimitive}
+use Rattle.simplex.specs.Exchange.{sum_of_lines, line_multiple, reduced, upright_line, line_without, line_without_at, lines_without, exchange, numbers_of, choices_of, IsTableauOf, ArePrimitive}
 use Rattle.farkas_check.specs.Relations.{entry}
-use Rattle.simplex.proofs.Numbers.{AreCleared, cleared_from-is, product_of-value, exchanged-keeps, tableau_ok}
+use Rattle.simplex.proofs.Numbers.{AreCleared, lines_without-is, product_of-value, exchange-keeps, tableau_ok}
 
 abbrev lines_ok : List ℤ → Result (List ℤ) Step.Wide
 lines_ok zs = Ok zs
 
 -- ---- the pivot
 
-multiplied-divisor : (line made : List ℤ) → multiplied line (negsuc 0) ≡ Ok made → gcd_of_all made ≡ gcd_of_all line
-multiplied-divisor [] made e = let same : [] ≡ made = cc in ap gcd_of_all (sym same)
-multiplied-divisor (a ∷ line) made e =
-    on_ok (product_of a (negsuc 0)) (λ z. multiplied line (negsuc 0) >>= λ more. lines_ok (z ∷ more)) made e
-    (λ z f g. on_ok (multiplied line (negsuc 0)) (λ more. lines_ok (z ∷ more)) made g
+line_multiple-divisor : (line made : List ℤ) → line_multiple line (negsuc 0) ≡ Ok made → gcd_of_all made ≡ gcd_of_all line
+line_multiple-divisor [] made e = let same : [] ≡ made = cc in ap gcd_of_all (sym same)
+line_multiple-divisor (a ∷ line) made e =
+    on_ok (product_of a (negsuc 0)) (λ z. line_multiple line (negsuc 0) >>= λ more. lines_ok (z ∷ more)) made e
+    (λ z f g. on_ok (line_multiple line (negsuc 0)) (λ more. lines_ok (z ∷ more)) made g
     (λ more h k. let is : z ∷ more ≡ made = cc in
-    ap gcd_of_all (sym is) ∙ ap (λ d. gcd_of (unsigned_abs z) d) (multiplied-divisor line more h) ∙ ap (λ d. gcd_of d (gcd_of_all line)) (ap unsigned_abs (product_of-value a (negsuc 0) z f) ∙ size a)))
+    ap gcd_of_all (sym is) ∙ ap (λ d. gcd_of (unsigned_abs z) d) (line_multiple-divisor line more h) ∙ ap (λ d. gcd_of d (gcd_of_all line)) (ap unsigned_abs (product_of-value a (negsuc 0) z f) ∙ size a)))
   where
     size : (a : ℤ) → unsigned_abs (a *ℤ negsuc 0) ≡ unsigned_abs a
     size a = omega (arith, ints)
 
-turned-divisor : (column : ℕ) (line made : List ℤ) → turned column line ≡ Ok made → gcd_of_all made ≡ gcd_of_all line
-turned-divisor column line made e = go (int_lt (entry line column) (pos 0)) e
+upright-divisor : (column : ℕ) (line made : List ℤ) → upright_line column line ≡ Ok made → gcd_of_all made ≡ gcd_of_all line
+upright-divisor column line made e = go (int_lt (entry line column) (pos 0)) e
   where
-    go : (b : Bool) → cond b (multiplied line (negsuc 0)) (Ok line) ≡ Ok made → gcd_of_all made ≡ gcd_of_all line
-    go true f = multiplied-divisor line made f
+    go : (b : Bool) → cond b (line_multiple line (negsuc 0)) (Ok line) ≡ Ok made → gcd_of_all made ≡ gcd_of_all line
+    go true f = line_multiple-divisor line made f
     go false f = let same : line ≡ made = cc in ap gcd_of_all (sym same)
 
 -- ---- the other lines
@@ -67,25 +67,25 @@ reduced-primitive line j n = go (nat_eq (gcd_of_all line) 0) refl n
     go true e n = absurd (n (all_zero line (subst (λ (d : ℕ). DividesEach d line) (none (gcd_of_all line) e) (DividesEach-gcd_of_all line)) j))
     go false e n = gcd_of_all-reduced line (some (gcd_of_all line) e)
 
-cleared-primitive : (column : ℕ) (pivot line made : List ℤ) (j : ℕ) → gcd_of_all line ≡ 1 → cleared column pivot line ≡ Ok made → (entry made j ≡ pos 0 → ⊥) → gcd_of_all made ≡ 1
-cleared-primitive column pivot line made j p e n = go (int_eq (entry line column) (pos 0)) e
+line_without-primitive : (column : ℕ) (pivot line made : List ℤ) (j : ℕ) → gcd_of_all line ≡ 1 → line_without column pivot line ≡ Ok made → (entry made j ≡ pos 0 → ⊥) → gcd_of_all made ≡ 1
+line_without-primitive column pivot line made j p e n = go (int_eq (entry line column) (pos 0)) e
   where
-    go : (b : Bool) → cond b (lines_ok line) (product_of (entry line column) (negsuc 0) >>= λ q. combined (entry pivot column) line q pivot >>= λ zs. lines_ok (reduced zs)) ≡ Ok made → gcd_of_all made ≡ 1
+    go : (b : Bool) → cond b (lines_ok line) (product_of (entry line column) (negsuc 0) >>= λ q. sum_of_lines (entry pivot column) line q pivot >>= λ zs. lines_ok (reduced zs)) ≡ Ok made → gcd_of_all made ≡ 1
     go true g = let same : line ≡ made = cc in ap gcd_of_all (sym same) ∙ p
     go false g =
-        on_ok (product_of (entry line column) (negsuc 0)) (λ q. combined (entry pivot column) line q pivot >>= λ zs. lines_ok (reduced zs)) made g
-        (λ q h k. on_ok (combined (entry pivot column) line q pivot) (λ zs. lines_ok (reduced zs)) made k
+        on_ok (product_of (entry line column) (negsuc 0)) (λ q. sum_of_lines (entry pivot column) line q pivot >>= λ zs. lines_ok (reduced zs)) made g
+        (λ q h k. on_ok (sum_of_lines (entry pivot column) line q pivot) (λ zs. lines_ok (reduced zs)) made k
         (λ zs m o. let same : reduced zs ≡ made = cc in ap gcd_of_all (sym same) ∙ reduced-primitive zs j (λ z. n (ap (λ ys. entry ys j) (sym same) ∙ z))))
 
 -- ---- an exchange
 
-pub exchanged-primitive : (units : ℕ) (frame : ℕ → ℕ → ℤ) (before after : Tableau) (line column : ℕ) → IsTableauOf units frame before → line < length before.lines → column < units + length before.lines → (numbers_of before line column ≡ pos 0 → ⊥) → ArePrimitive before → exchanged before line column ≡ Ok after → ArePrimitive after
-exchanged-primitive units frame before after line column t here in_range n p e =
-    on_ok (turned column (get_or before.lines line [])) (λ pivot. cleared_from column pivot line 0 before.lines >>= λ lines. tableau_ok (record { lines = lines; chosen = slice_set before.chosen line column })) after e
-    (λ pivot f g. on_ok (cleared_from column pivot line 0 before.lines) (λ lines. tableau_ok (record { lines = lines; chosen = slice_set before.chosen line column })) after g
+pub exchange-primitive : (units : ℕ) (frame : ℕ → ℕ → ℤ) (before after : Tableau) (line column : ℕ) → IsTableauOf units frame before → line < length before.lines → column < units + length before.lines → (numbers_of before line column ≡ pos 0 → ⊥) → ArePrimitive before → exchange before line column ≡ Ok after → ArePrimitive after
+exchange-primitive units frame before after line column t here in_range n p e =
+    on_ok (upright_line column (get_or before.lines line [])) (λ pivot. lines_without column pivot line 0 before.lines >>= λ lines. tableau_ok (record { lines = lines; chosen = slice_set before.chosen line column })) after e
+    (λ pivot f g. on_ok (lines_without column pivot line 0 before.lines) (λ lines. tableau_ok (record { lines = lines; chosen = slice_set before.chosen line column })) after g
     (λ lines h k. let same : record { lines = lines; chosen = slice_set before.chosen line column } ≡ after = cc in
-    made pivot lines same (turned-divisor column (get_or before.lines line []) pivot f ∙ p line here) (cleared_from-is column pivot line 0 before.lines lines h)
-    (exchanged-keeps units frame before after line column t here in_range n e)))
+    made pivot lines same (upright-divisor column (get_or before.lines line []) pivot f ∙ p line here) (lines_without-is column pivot line 0 before.lines lines h)
+    (exchange-keeps units frame before after line column t here in_range n e)))
   where
     not_zero : (z : ℤ) → pos 0 <ℤ z → z ≡ pos 0 → ⊥
     not_zero z q f = omega (arith, ints)
@@ -96,12 +96,12 @@ exchanged-primitive units frame before after line column t here in_range n p e =
         inside : i < length before.lines
         inside = subst (λ (m : ℕ). i < m) c.many (subst (λ (u : Tableau). i < length u.lines) (sym same) h)
 
-        from_zero : cleared_at column pivot line (0 + i) (get_or before.lines i []) ≡ Ok (get_or lines i []) → cleared_at column pivot line i (get_or before.lines i []) ≡ Ok (get_or lines i [])
+        from_zero : line_without_at column pivot line (0 + i) (get_or before.lines i []) ≡ Ok (get_or lines i []) → line_without_at column pivot line i (get_or before.lines i []) ≡ Ok (get_or lines i [])
         from_zero e = let z : 0 + i ≡ i = omega arith in rw z at e
 
-        at : (b : Bool) → cond b (lines_ok pivot) (cleared column pivot (get_or before.lines i [])) ≡ Ok (get_or lines i []) → gcd_of_all (get_or lines i []) ≡ 1
+        at : (b : Bool) → cond b (lines_ok pivot) (line_without column pivot (get_or before.lines i [])) ≡ Ok (get_or lines i []) → gcd_of_all (get_or lines i []) ≡ 1
         at true f = let is : pivot ≡ get_or lines i [] = cc in ap gcd_of_all (sym is) ∙ one
-        at false f = cleared-primitive column pivot (get_or before.lines i []) (get_or lines i []) (choices_of after i) (p i inside) f
+        at false f = line_without-primitive column pivot (get_or before.lines i []) (get_or lines i []) (choices_of after i) (p i inside) f
             (λ z. not_zero (numbers_of after i (choices_of after i)) (s.is.own i h) (ap (λ (u : Tableau). entry (get_or u.lines i []) (choices_of after i)) (sym same) ∙ z))
 
 -- ---- a line with a 1

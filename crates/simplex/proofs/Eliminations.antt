@@ -7,27 +7,27 @@ use Rattle.std.proofs.lemmas.List.{get_or-set_same, get_or-set_other, length-set
 use Rattle.linear_terms.specs.declared.row.Kind.{Kind}
 use Rattle.linear_terms.specs.declared.row.Kind.TheVariants.{AtMost, Equal}
 use Rattle.simplex.specs.declared.tableau.Tableau.{Tableau}
-use Rattle.simplex.specs.Exchange.{numbers_of, choices_of, exchanged, IsTableauOf}
+use Rattle.simplex.specs.Exchange.{numbers_of, choices_of, exchange, IsTableauOf}
 use Rattle.simplex.specs.Raise.{Framed, enters_at, leaves_at}
 use Rattle.simplex.specs.Rows.{kind_at}
 use Rattle.simplex.specs.Search.{IsFlat, IsFixed, IsUnit, IsSized, IsSolving, IsMarked, IsFreeing, IsRefuted}
-use Rattle.simplex.proofs.Lines.{turned-length}
-use Rattle.simplex.proofs.Numbers.{Exchanged, exchanged-is, exchanged-keeps}
-use Rattle.simplex.proofs.Divisors.{exchanged-primitive}
+use Rattle.simplex.proofs.Lines.{upright-length}
+use Rattle.simplex.proofs.Numbers.{ExchangeAt, exchange-is, exchange-keeps}
+use Rattle.simplex.proofs.Divisors.{exchange-primitive}
 use Rattle.simplex.proofs.Zeros.{stays_zero_at}
 
 -- ---- one exchange
 
 pub record Step (over : Framed) (constants : ℕ) (kinds : List Kind) (before after : Tableau) (line column : ℕ) : Type 0 where
   pub sized : IsSized over constants kinds after
-  pub is : Exchanged before after line column
+  pub is : ExchangeAt before after line column
 
-pub step : (over : Framed) (constants : ℕ) (kinds : List Kind) (before after : Tableau) (line column : ℕ) → IsSized over constants kinds before → line < length before.lines → column < over.units + length before.lines → column ≢ constants → (numbers_of before line column ≡ pos 0 → ⊥) → exchanged before line column ≡ Ok after → Step over constants kinds before after line column
-step over constants kinds before after line column s here in_range other n e = with_is (exchanged-is (over.units + length before.lines) before after line column s.tableau.shape here n (λ made m. turned-length column (get_or before.lines line []) made m ∙ s.tableau.shape.wide line here) e)
+pub step : (over : Framed) (constants : ℕ) (kinds : List Kind) (before after : Tableau) (line column : ℕ) → IsSized over constants kinds before → line < length before.lines → column < over.units + length before.lines → column ≢ constants → (numbers_of before line column ≡ pos 0 → ⊥) → exchange before line column ≡ Ok after → Step over constants kinds before after line column
+step over constants kinds before after line column s here in_range other n e = with_is (exchange-is (over.units + length before.lines) before after line column s.tableau.shape here n (λ made m. upright-length column (get_or before.lines line []) made m ∙ s.tableau.shape.wide line here) e)
   where
-    with_is : Exchanged before after line column → Step over constants kinds before after line column
+    with_is : ExchangeAt before after line column → Step over constants kinds before after line column
     with_is x = record {
-      sized = record { tableau = exchanged-keeps over.units over.frame before after line column s.tableau here in_range n e; units = s.units; many = s.many ∙ sym x.many; apart = apart; primitive = exchanged-primitive over.units over.frame before after line column s.tableau here in_range n s.primitive e; inside = subst (λ (n : ℕ). over.rows ≤ n) (sym x.many) s.inside; goals = λ l h k. s.goals l h (subst (λ (n : ℕ). l < n) x.many k) };
+      sized = record { tableau = exchange-keeps over.units over.frame before after line column s.tableau here in_range n e; units = s.units; many = s.many ∙ sym x.many; apart = apart; primitive = exchange-primitive over.units over.frame before after line column s.tableau here in_range n s.primitive e; inside = subst (λ (n : ℕ). over.rows ≤ n) (sym x.many) s.inside; goals = λ l h k. s.goals l h (subst (λ (n : ℕ). l < n) x.many k) };
       is = x;
     }
       where
@@ -35,7 +35,7 @@ step over constants kinds before after line column s here in_range other n e = w
         apart i h same = ⊎_elim (λ (at : i ≡ line). other (sym (ap (choices_of after) at ∙ x.choices.there) ∙ same)) (λ elsewhere. s.apart i (subst (λ (n : ℕ). i < n) x.many h) (sym (x.choices.elsewhere i (subst (λ (n : ℕ). i < n) x.many h) elsewhere) ∙ same)) (cases_eq i line)
 
 -- a fixed line stays fixed
-pub fixed-kept : (over : Framed) (constants : ℕ) (kinds : List Kind) (before after : Tableau) (line column i : ℕ) → Exchanged before after line column → i < length before.lines → i ≢ line → numbers_of before i column ≡ pos 0 → IsFixed over constants kinds before i → IsFixed over constants kinds after i
+pub fixed-kept : (over : Framed) (constants : ℕ) (kinds : List Kind) (before after : Tableau) (line column i : ℕ) → ExchangeAt before after line column → i < length before.lines → i ≢ line → numbers_of before i column ≡ pos 0 → IsFixed over constants kinds before i → IsFixed over constants kinds after i
 fixed-kept over constants kinds before after line column i x h other zero f = record {
   flat = λ j g. keep j (f.flat j g);
   corner = keep constants f.corner;
@@ -52,7 +52,7 @@ differs Equal e f = cc
 
 -- ---- equations
 
-pub solved-more : (over : Framed) (constants : ℕ) (kinds : List Kind) (i column : ℕ) (t next : Tableau) → IsSolving over constants kinds i t → i < length kinds → kind_at kinds i ≡ Equal → column < constants → (numbers_of t i column ≡ pos 0 → ⊥) → exchanged t i column ≡ Ok next → IsSolving over constants kinds (i + 1) next
+pub solved-more : (over : Framed) (constants : ℕ) (kinds : List Kind) (i column : ℕ) (t next : Tableau) → IsSolving over constants kinds i t → i < length kinds → kind_at kinds i ≡ Equal → column < constants → (numbers_of t i column ≡ pos 0 → ⊥) → exchange t i column ≡ Ok next → IsSolving over constants kinds (i + 1) next
 solved-more over constants kinds i column t next s here kind in_question n e =
     with_step (step over constants kinds t next i column s.sized inside in_range (λ same. absurd (omega (arith, same, in_question))) n e)
   where
@@ -114,7 +114,7 @@ choose_apart over t i k s h g other same = clash (numbers_of t i (choices_of t i
 
 -- ---- inequalities
 
-pub freed-more : (over : Framed) (constants : ℕ) (kinds : List Kind) (i column : ℕ) (enters : List Bool) (t next : Tableau) → IsFreeing over constants kinds i enters t → i < length kinds → kind_at kinds i ≡ AtMost → column < constants → (numbers_of t i column ≡ pos 0 → ⊥) → exchanged t i column ≡ Ok next → IsFreeing over constants kinds (i + 1) (slice_set enters (constants + 1 + i) true) next
+pub freed-more : (over : Framed) (constants : ℕ) (kinds : List Kind) (i column : ℕ) (enters : List Bool) (t next : Tableau) → IsFreeing over constants kinds i enters t → i < length kinds → kind_at kinds i ≡ AtMost → column < constants → (numbers_of t i column ≡ pos 0 → ⊥) → exchange t i column ≡ Ok next → IsFreeing over constants kinds (i + 1) (slice_set enters (constants + 1 + i) true) next
 freed-more over constants kinds i column enters t next s here kind in_question n e =
     subst (λ (u : ℕ). IsFreeing over constants kinds (i + 1) (slice_set enters (u + i) true) next) s.marked.sized.units
     (with_step (step over constants kinds t next i column s.marked.sized inside in_range (λ same. absurd (omega (arith, same, in_question))) n e))

@@ -36,18 +36,18 @@ use Rattle.simplex.proofs.Sums.{sum_below-same, weighted_multiple}
 
 -- ---- the numbers below a place as a list
 
-abbrev listed : ℕ → (ℕ → ℤ) → List ℤ
-listed zero f = []
-listed (suc n) f = f 0 ∷ listed n (λ l. f (suc l))
+abbrev numbers_below : ℕ → (ℕ → ℤ) → List ℤ
+numbers_below zero f = []
+numbers_below (suc n) f = f 0 ∷ numbers_below n (λ l. f (suc l))
 
-listed-length : (n : ℕ) (f : ℕ → ℤ) → length (listed n f) ≡ n
-listed-length zero f = refl
-listed-length (suc n) f = let e : length (listed n (λ l. f (suc l))) ≡ n = listed-length n (λ l. f (suc l)) in omega (arith, e)
+numbers_below-length : (n : ℕ) (f : ℕ → ℤ) → length (numbers_below n f) ≡ n
+numbers_below-length zero f = refl
+numbers_below-length (suc n) f = let e : length (numbers_below n (λ l. f (suc l))) ≡ n = numbers_below-length n (λ l. f (suc l)) in omega (arith, e)
 
-listed-entry : (n : ℕ) (f : ℕ → ℤ) (l : ℕ) → l < n → get_or (listed n f) l (pos 0) ≡ f l
-listed-entry zero f l h = absurd (omega (arith, h))
-listed-entry (suc n) f zero h = refl
-listed-entry (suc n) f (suc l) h = listed-entry n (λ i. f (suc i)) l (omega (arith, h))
+numbers_below-entry : (n : ℕ) (f : ℕ → ℤ) (l : ℕ) → l < n → get_or (numbers_below n f) l (pos 0) ≡ f l
+numbers_below-entry zero f l h = absurd (omega (arith, h))
+numbers_below-entry (suc n) f zero h = refl
+numbers_below-entry (suc n) f (suc l) h = numbers_below-entry n (λ i. f (suc i)) l (omega (arith, h))
 
 all_columns : (P : List Col → Type 0) (cs : List (List Col)) → ((j : ℕ) → j < length cs → P (get_or cs j [])) → AllByRecursion P cs
 all_columns P [] f = tt
@@ -93,17 +93,17 @@ no_point_of goal t line canonical r has = by_sign (int_lt (numbers_of t line (le
         (positive_product (total constant_in goal.rows by) has.point.over constant has.point.positive)
       where
         by : List ℤ
-        by = listed (length goal.rows) (λ l. sign *ℤ unit l)
+        by = numbers_below (length goal.rows) (λ l. sign *ℤ unit l)
 
         sum_is : (number : Row → ℤ) (j : ℕ) → j < length (goal_columns goal) + 1 + length t.lines → ((l : ℕ) → own l j ≡ each_of number (with_goal goal.rows goal.objective) l) → total number goal.rows by ≡ sign *ℤ numbers_of t line j
         sum_is number j h f =
-            total-is number goal.rows by (listed-length (length goal.rows) (λ l. sign *ℤ unit l))
+            total-is number goal.rows by (numbers_below-length (length goal.rows) (λ l. sign *ℤ unit l))
             ∙ sum_below-same (length goal.rows) (λ l. get_or by l (pos 0) *ℤ each_of number goal.rows l) (λ l. get_or by l (pos 0) *ℤ own l j) (λ l g. ap (λ z. get_or by l (pos 0) *ℤ z) (sym (f l ∙ each_before number goal.rows goal.objective l g)))
-            ∙ weighted_multiple (length goal.rows) unit (λ l. get_or by l (pos 0)) (λ l. own l j) sign (λ l g. listed-entry (length goal.rows) (λ i. sign *ℤ unit i) l g)
+            ∙ weighted_multiple (length goal.rows) unit (λ l. get_or by l (pos 0)) (λ l. own l j) sign (λ l g. numbers_below-entry (length goal.rows) (λ i. sign *ℤ unit i) l g)
             ∙ ap (λ z. sign *ℤ z) (sym (whole j h))
 
         not_below : (l : ℕ) → l < length goal.rows → kind_at (kinds_of goal.rows) l ≡ AtMost → pos 0 ≤ℤ get_or by l (pos 0)
-        not_below l h k = subst (λ (z : ℤ). pos 0 ≤ℤ z) (sym (listed-entry (length goal.rows) (λ i. sign *ℤ unit i) l h)) (signs l (omega (arith, h, many)) (kind_before goal.rows goal.objective l h ∙ k))
+        not_below l h k = subst (λ (z : ℤ). pos 0 ≤ℤ z) (sym (numbers_below-entry (length goal.rows) (λ i. sign *ℤ unit i) l h)) (signs l (omega (arith, h, many)) (kind_before goal.rows goal.objective l h ∙ k))
 
         zeros : (j : ℕ) → j < length (goal_columns goal) → total (coefficient_at (get_or (goal_columns goal) j [])) goal.rows by ≡ pos 0
         zeros j h = sum_is (coefficient_at (get_or (goal_columns goal) j [])) j (omega (arith, h)) (λ l. framed-column (goal_columns goal) (with_goal goal.rows goal.objective) j l h) ∙ ap (λ z. sign *ℤ z) (r.flat j h) ∙ times_zero sign
@@ -115,10 +115,10 @@ no_point_of goal t line canonical r has = by_sign (int_lt (numbers_of t line (le
         clash t s p a b e f = omega (arith, ints, a, b, e, f)
 
     by_sign : (b : Bool) → int_lt (numbers_of t line (length (goal_columns goal))) (pos 0) ≡ b → ⊥
-    by_sign true e = with_sign (negsuc 0) (turned (numbers_of t line (length (goal_columns goal))) e) (λ l h k. ⊎_elim (λ zero_at. at_zero (negsuc 0) (unit l) (zero_at l h k)) (λ above. absurd (not_both (numbers_of t line (length (goal_columns goal))) e above.0)) r.signs)
+    by_sign true e = with_sign (negsuc 0) (flip (numbers_of t line (length (goal_columns goal))) e) (λ l h k. ⊎_elim (λ zero_at. at_zero (negsuc 0) (unit l) (zero_at l h k)) (λ above. absurd (not_both (numbers_of t line (length (goal_columns goal))) e above.0)) r.signs)
       where
-        turned : (z : ℤ) → int_lt z (pos 0) ≡ true → pos 0 <ℤ (negsuc 0 *ℤ z)
-        turned z f = omega (arith, ints, f)
+        flip : (z : ℤ) → int_lt z (pos 0) ≡ true → pos 0 <ℤ (negsuc 0 *ℤ z)
+        flip z f = omega (arith, ints, f)
 
         not_both : (z : ℤ) → int_lt z (pos 0) ≡ true → pos 0 <ℤ z → ⊥
         not_both z f g = omega (arith, ints, f, g)

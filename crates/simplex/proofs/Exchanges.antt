@@ -61,12 +61,12 @@ exchanged_own : (lines units columns : ℕ) (frame before after : ℕ → ℕ �
 exchanged_own lines units columns frame before after old new line column t x c in_range ranges here i h =
     Parts i line
     (λ same. subst (λ k. pos 0 <ℤ after k (new k)) (sym same) (subst (λ j. pos 0 <ℤ after line j) (sym c.there) x.positive))
-    (λ other. subst (λ j. pos 0 <ℤ after i j) (sym (c.elsewhere i h other)) (elsewhere other (x.cleared i h other)))
+    (λ other. subst (λ j. pos 0 <ℤ after i j) (sym (c.elsewhere i h other)) (elsewhere other (x.line_without i h other)))
   where
     elsewhere : i ≢ line → IsCleared (before i) (after line) (after i) column → pos 0 <ℤ after i (old i)
     elsewhere other s =
         stays_positive s.factor (after i (old i)) (after line column) (before i (old i)) (before i column) (after line (old i)) s.positive
-        (s.is (old i)) x.positive (t.own i h) (x.turned (old i) ∙ ap (λ z. x.sign *ℤ z) (t.others line i here h (λ e. other (sym e))) ∙ times_zero x.sign)
+        (s.is (old i)) x.positive (t.own i h) (x.upright (old i) ∙ ap (λ z. x.sign *ℤ z) (t.others line i here h (λ e. other (sym e))) ∙ times_zero x.sign)
 
 exchanged_others : (lines units columns : ℕ) (frame before after : ℕ → ℕ → ℤ) (old new : ℕ → ℕ) (line column : ℕ)
     → IsWholeTableau lines units columns frame before old → IsExchange lines before after line column → IsChanged lines old new line column
@@ -76,25 +76,25 @@ exchanged_others lines units columns frame before after old new line column t x 
     (λ same. ap (λ j. after i j) (ap new same ∙ c.there) ∙ at_column (λ e. apart (e ∙ sym same)))
     (λ other. ap (λ j. after i j) (c.elsewhere k g other) ∙ Parts i line
     (λ same. ap (λ l. after l (old k)) same ∙ at_line other)
-    (λ elsewhere. both_zero (x.cleared i h elsewhere).factor (after i (old k)) (after line column) (before i (old k)) (before i column) (after line (old k))
-    (x.cleared i h elsewhere).positive ((x.cleared i h elsewhere).is (old k)) (t.others i k h g apart) (at_line other)))
+    (λ elsewhere. both_zero (x.line_without i h elsewhere).factor (after i (old k)) (after line column) (before i (old k)) (before i column) (after line (old k))
+    (x.line_without i h elsewhere).positive ((x.line_without i h elsewhere).is (old k)) (t.others i k h g apart) (at_line other)))
   where
     at_line : k ≢ line → after line (old k) ≡ pos 0
-    at_line other = x.turned (old k) ∙ ap (λ z. x.sign *ℤ z) (t.others line k here g (λ e. other (sym e))) ∙ times_zero x.sign
+    at_line other = x.upright (old k) ∙ ap (λ z. x.sign *ℤ z) (t.others line k here g (λ e. other (sym e))) ∙ times_zero x.sign
 
     at_column : i ≢ line → after i column ≡ pos 0
-    at_column other = at_pivot (x.cleared i h other).factor (after i column) (after line column) (before i column) (x.cleared i h other).positive ((x.cleared i h other).is column)
+    at_column other = at_pivot (x.line_without i h other).factor (after i column) (after line column) (before i column) (x.line_without i h other).positive ((x.line_without i h other).is column)
 
 exchanged_combination : (lines units columns : ℕ) (frame before after : ℕ → ℕ → ℤ) (old new : ℕ → ℕ) (line column : ℕ)
     → IsWholeTableau lines units columns frame before old → IsExchange lines before after line column
     → units + lines ≡ columns → line < lines → (i : ℕ) → i < lines → IsOwnCombination lines units columns frame (after i)
 exchanged_combination lines units columns frame before after old new line column t x wide here i h j g =
-    Parts i line (λ same. subst (λ k. after k j ≡ sum_below lines (λ l. after k (units + l) *ℤ frame l j)) (sym same) at_line) (λ other. elsewhere (x.cleared i h other))
+    Parts i line (λ same. subst (λ k. after k j ≡ sum_below lines (λ l. after k (units + l) *ℤ frame l j)) (sym same) at_line) (λ other. elsewhere (x.line_without i h other))
   where
     at_line : after line j ≡ sum_below lines (λ l. after line (units + l) *ℤ frame l j)
     at_line =
-        x.turned j ∙ ap (λ z. x.sign *ℤ z) (t.combination line here j g)
-        ∙ sym (weighted_multiple lines (λ l. before line (units + l)) (λ l. after line (units + l)) (λ l. frame l j) x.sign (λ l k. x.turned (units + l)))
+        x.upright j ∙ ap (λ z. x.sign *ℤ z) (t.combination line here j g)
+        ∙ sym (weighted_multiple lines (λ l. before line (units + l)) (λ l. after line (units + l)) (λ l. frame l j) x.sign (λ l k. x.upright (units + l)))
 
     elsewhere : IsCleared (before i) (after line) (after i) column → after i j ≡ sum_below lines (λ l. after i (units + l) *ℤ frame l j)
     elsewhere s =
@@ -146,7 +146,7 @@ exchanged_determined lines units columns frame before after old new line column 
             none z = omega (arith, ints)
 
     not_zero : before line column ≡ pos 0 → ⊥
-    not_zero e = clash (after line column) x.positive (x.turned column ∙ ap (λ z. x.sign *ℤ z) e ∙ times_zero x.sign)
+    not_zero e = clash (after line column) x.positive (x.upright column ∙ ap (λ z. x.sign *ℤ z) e ∙ times_zero x.sign)
       where
         clash : (z : ℤ) → pos 0 <ℤ z → z ≡ pos 0 → ⊥
         clash z p e = omega (arith, ints)
@@ -184,7 +184,7 @@ exchanged_solutions lines units columns frame before after old line column t e h
             plain z is = omega (arith, ints)
 
     zero_before : (i : ℕ) → i < lines → sum_below columns (λ j. before i j *ℤ x j) ≡ pos 0
-    zero_before i h = Parts i line (λ same. subst (λ k. sum_below columns (λ j. before k j *ℤ x j) ≡ pos 0) (sym same) at_line) (λ other. elsewhere i h (e.cleared i h other))
+    zero_before i h = Parts i line (λ same. subst (λ k. sum_below columns (λ j. before k j *ℤ x j) ≡ pos 0) (sym same) at_line) (λ other. elsewhere i h (e.line_without i h other))
 
 pub exchanged_is : (lines units columns : ℕ) (frame before after : ℕ → ℕ → ℤ) (old new : ℕ → ℕ) (line column : ℕ)
     → IsWholeTableau lines units columns frame before old → IsExchange lines before after line column → IsChanged lines old new line column

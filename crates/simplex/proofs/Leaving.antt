@@ -26,24 +26,24 @@ use Rattle.simplex.proofs.Runs.{seen-sum, seen-zero}
 -- ---- what one key tells
 
 -- the numbers that are compared at a key
-record Told (turned : Bool) (a p b q : ℤ) (order : Ordering) : Type 0 where
-  is : order ≡ cond turned (int_cmp (b *ℤ q) (a *ℤ p)) (int_cmp (a *ℤ p) (b *ℤ q))
+record Told (upright_line : Bool) (a p b q : ℤ) (order : Ordering) : Type 0 where
+  is : order ≡ cond upright_line (int_cmp (b *ℤ q) (a *ℤ p)) (int_cmp (a *ℤ p) (b *ℤ q))
 
-told : (turned : Bool) (a p b q : ℤ) (order : Ordering) → order_at turned a p b q ≡ Ok order → Told turned a p b q order
-told turned a p b q order e =
-    on_ok (product_of a p) (λ x. product_of b q >>= λ y. Ok (cond turned (int_cmp y x) (int_cmp x y))) order e
-    (λ x f g. on_ok (product_of b q) (λ y. Ok (cond turned (int_cmp y x) (int_cmp x y))) order g
+told : (upright_line : Bool) (a p b q : ℤ) (order : Ordering) → order_at upright_line a p b q ≡ Ok order → Told upright_line a p b q order
+told upright_line a p b q order e =
+    on_ok (product_of a p) (λ x. product_of b q >>= λ y. Ok (cond upright_line (int_cmp y x) (int_cmp x y))) order e
+    (λ x f g. on_ok (product_of b q) (λ y. Ok (cond upright_line (int_cmp y x) (int_cmp x y))) order g
     (λ y h k. record { is = chain x y (product_of-value a p x f) (product_of-value b q y h) (cc) }))
   where
-    chain : (x y : ℤ) → x ≡ a *ℤ p → y ≡ b *ℤ q → cond turned (int_cmp y x) (int_cmp x y) ≡ order → order ≡ cond turned (int_cmp (b *ℤ q) (a *ℤ p)) (int_cmp (a *ℤ p) (b *ℤ q))
+    chain : (x y : ℤ) → x ≡ a *ℤ p → y ≡ b *ℤ q → cond upright_line (int_cmp y x) (int_cmp x y) ≡ order → order ≡ cond upright_line (int_cmp (b *ℤ q) (a *ℤ p)) (int_cmp (a *ℤ p) (b *ℤ q))
     chain x y f g h = sym (rw (f, g) at h)
 
 -- what an ordering of x and y says of their difference, as the order sees it
 abbrev Ranked : Bool → ℤ → ℤ → Ordering → Type 0
-Ranked turned x y o = MatchOrdering o (pos 0 <ℤ cond turned (neg_ℤ (y -ℤ x)) (y -ℤ x)) (cond turned (neg_ℤ (y -ℤ x)) (y -ℤ x) ≡ pos 0) (pos 0 <ℤ cond turned (neg_ℤ (x -ℤ y)) (x -ℤ y))
+Ranked upright_line x y o = MatchOrdering o (pos 0 <ℤ cond upright_line (neg_ℤ (y -ℤ x)) (y -ℤ x)) (cond upright_line (neg_ℤ (y -ℤ x)) (y -ℤ x) ≡ pos 0) (pos 0 <ℤ cond upright_line (neg_ℤ (x -ℤ y)) (x -ℤ y))
 
 -- the difference of the two products, as the order sees it
-ranked : (turned : Bool) (x y : ℤ) → MatchOrdering (cond turned (int_cmp y x) (int_cmp x y)) (pos 0 <ℤ cond turned (neg_ℤ (y -ℤ x)) (y -ℤ x)) (cond turned (neg_ℤ (y -ℤ x)) (y -ℤ x) ≡ pos 0) (pos 0 <ℤ cond turned (neg_ℤ (x -ℤ y)) (x -ℤ y))
+ranked : (upright_line : Bool) (x y : ℤ) → MatchOrdering (cond upright_line (int_cmp y x) (int_cmp x y)) (pos 0 <ℤ cond upright_line (neg_ℤ (y -ℤ x)) (y -ℤ x)) (cond upright_line (neg_ℤ (y -ℤ x)) (y -ℤ x) ≡ pos 0) (pos 0 <ℤ cond upright_line (neg_ℤ (x -ℤ y)) (x -ℤ y))
 ranked true x y = change (int_cmp y x) (int_ranks y x)
   where
     change : (o : Ordering) → MatchOrdering o (y <ℤ x) (y ≡ x) (x <ℤ y) → MatchOrdering o (pos 0 <ℤ neg_ℤ (y -ℤ x)) (neg_ℤ (y -ℤ x) ≡ pos 0) (pos 0 <ℤ neg_ℤ (x -ℤ y))
@@ -57,8 +57,8 @@ ranked false x y = change (int_cmp x y) (int_ranks x y)
     change Equal h = omega (arith, ints, h)
     change Greater h = omega (arith, ints)
 
-ranked_of : (turned : Bool) (x y : ℤ) (o : Ordering) → o ≡ cond turned (int_cmp y x) (int_cmp x y) → Ranked turned x y o
-ranked_of turned x y o e = subst (Ranked turned x y) (sym e) (ranked turned x y)
+ranked_of : (upright_line : Bool) (x y : ℤ) (o : Ordering) → o ≡ cond upright_line (int_cmp y x) (int_cmp x y) → Ranked upright_line x y o
+ranked_of upright_line x y o e = subst (Ranked upright_line x y) (sym e) (ranked upright_line x y)
 
 -- ---- what the comparison tells
 

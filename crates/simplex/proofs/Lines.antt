@@ -8,7 +8,7 @@ use Rattle.whole_numbers.specs.Fits.{product_of}
 use Rattle.whole_numbers.specs.Divisors.{gcd_of, gcd_of_all}
 use Rattle.whole_numbers.specs.declared.wide.Wide as Step
 use Rattle.whole_numbers.proofs.CommonDivisors.{gcd_of_assoc, gcd_of-zero, zero-gcd_of}
-use Rattle.simplex.specs.Exchange.{multiplied, turned}
+use Rattle.simplex.specs.Exchange.{line_multiple, upright_line}
 use Rattle.farkas_check.specs.Relations.{entry}
 
 -- ---- the greatest common divisor
@@ -28,24 +28,24 @@ pub ruleset divisors = (zero-gcd_of)
 lines_ok : List ℤ → Result (List ℤ) Step.Wide
 lines_ok zs = Ok zs
 
-pub multiplied-length : (line : List ℤ) (by : ℤ) (made : List ℤ) → multiplied line by ≡ Ok made → length made ≡ length line
-multiplied-length [] by made e = let same : [] ≡ made = cc in ap length (sym same)
-multiplied-length (a ∷ line) by made e =
-    on_ok (product_of a by) (λ z. multiplied line by >>= λ more. Ok (z ∷ more)) made e
-    (λ z f g. on_ok (multiplied line by) (λ more. Ok (z ∷ more)) made g
-    (λ more h k. let is = chain z more (cc) (multiplied-length line by more h) in omega (arith, is)))
+pub line_multiple-length : (line : List ℤ) (by : ℤ) (made : List ℤ) → line_multiple line by ≡ Ok made → length made ≡ length line
+line_multiple-length [] by made e = let same : [] ≡ made = cc in ap length (sym same)
+line_multiple-length (a ∷ line) by made e =
+    on_ok (product_of a by) (λ z. line_multiple line by >>= λ more. Ok (z ∷ more)) made e
+    (λ z f g. on_ok (line_multiple line by) (λ more. Ok (z ∷ more)) made g
+    (λ more h k. let is = chain z more (cc) (line_multiple-length line by more h) in omega (arith, is)))
   where
     chain : (z : ℤ) (more : List ℤ) → z ∷ more ≡ made → length more ≡ length line → length made ≡ length line + 1
     chain z more e f = let h : length (z ∷ more) ≡ length made = ap length e in omega (arith, h, f)
 
-pub turned-length : (column : ℕ) (line made : List ℤ) → turned column line ≡ Ok made → length made ≡ length line
-turned-length column line made e = go (int_lt (entry line column) (pos 0)) e
+pub upright-length : (column : ℕ) (line made : List ℤ) → upright_line column line ≡ Ok made → length made ≡ length line
+upright-length column line made e = go (int_lt (entry line column) (pos 0)) e
   where
-    go : (b : Bool) → cond b (multiplied line (negsuc 0)) (Ok line) ≡ Ok made → length made ≡ length line
-    go true f = multiplied-length line (negsuc 0) made f
+    go : (b : Bool) → cond b (line_multiple line (negsuc 0)) (Ok line) ≡ Ok made → length made ≡ length line
+    go true f = line_multiple-length line (negsuc 0) made f
     go false f = let same : line ≡ made = cc in ap length (sym same)
 
 -- the pivot has a number for each column
-pub pivot-length : (columns : ℕ) (lines : List (List ℤ)) (line column : ℕ) (own pivot : List ℤ) → ((i : ℕ) → i < length lines → length (get_or lines i []) ≡ columns) → line < length lines → own ≡ get_or lines line own → turned column own ≡ Ok pivot → length pivot ≡ columns
+pub pivot-length : (columns : ℕ) (lines : List (List ℤ)) (line column : ℕ) (own pivot : List ℤ) → ((i : ℕ) → i < length lines → length (get_or lines i []) ≡ columns) → line < length lines → own ≡ get_or lines line own → upright_line column own ≡ Ok pivot → length pivot ≡ columns
 pivot-length columns lines line column own pivot wide h e f =
-    turned-length column own pivot f ∙ ap length (get_or_read lines line own h e []) ∙ wide line h
+    upright-length column own pivot f ∙ ap length (get_or_read lines line own h e []) ∙ wide line h

@@ -15,11 +15,11 @@ use Rattle.std.specs.Prelude.{not, unsigned_abs, Result, IfErr}
 use Rattle.items.specs.Gives.{FailsBy, Gives}
 use Rattle.whole_numbers.specs.declared.wide.Wide as Step
 use Rattle.simplex.specs.Calm.{HasSquares, IsSmallLine, HasSmallLines, IsMemory}
-use Rattle.simplex.specs.Exchange.{cause, multiplied, turned, exchanged}
+use Rattle.simplex.specs.Exchange.{cause, line_multiple, upright_line, exchange}
 use Rattle.simplex.specs.declared.stop.Stop.{Stop}
 use Rattle.simplex.specs.declared.stop.Stop.TheVariants.{Wide, Memory}
 use Rattle.simplex.specs.declared.tableau.Tableau.{Tableau}
-use Rattle.simplex.proofs.Small.{HasValue, multiplied-fits, product_of-fits, bind_value, turned-fits, turned_line-fits, exchanged-fits}
+use Rattle.simplex.proofs.Small.{HasValue, line_multiple-fits, product_of-fits, bind_value, negative-fits, upright-fits, exchange-fits}
 
 only_memory : {X : Type 0} (e : Stop) (r : Result X Step.Wide) → FailsBy (cause e) r → HasValue r → IsMemory e
 only_memory {X = X} (Wide step) r f v = clash v.0 v.1
@@ -28,9 +28,9 @@ only_memory {X = X} (Wide step) r f v = clash v.0 v.1
     clash x g = cc
 only_memory Memory r f v = tt
 
-pub exchange-calm : (t : Tableau) (line column : ℕ) (r : Result Tableau Stop) → Gives cause (λ u. u) r (exchanged t line column) → (n : ℕ) → HasSquares n → HasSmallLines n t → IfErr r IsMemory
+pub exchange-calm : (t : Tableau) (line column : ℕ) (r : Result Tableau Stop) → Gives cause (λ u. u) r (exchange t line column) → (n : ℕ) → HasSquares n → HasSmallLines n t → IfErr r IsMemory
 exchange-calm t line column (Ok u) g n room small = tt
-exchange-calm t line column (Err e) g n room small = only_memory e (exchanged t line column) g (exchanged-fits n t line column room (λ i j. small i j))
+exchange-calm t line column (Err e) g n room small = only_memory e (exchange t line column) g (exchange-fits n t line column room (λ i j. small i j))
 
 lines_ok : List ℤ → Result (List ℤ) Step.Wide
 lines_ok zs = Ok zs
@@ -39,7 +39,7 @@ pub multipliers-calm : (constants : ℕ) (line : List ℤ) (r : Result (List ℤ
 multipliers-calm constants line (Ok by) g n room small = tt
 multipliers-calm constants line (Err e) g n room small =
     only_memory e (multipliers_of constants line) g
-    (bind_value (turned constants line) (λ own. Ok (drop (constants + 1) own)) (turned_line-fits n constants line room small) (λ own f. (drop (constants + 1) own, refl)))
+    (bind_value (upright_line constants line) (λ own. Ok (drop (constants + 1) own)) (upright-fits n constants line room small) (λ own f. (drop (constants + 1) own, refl)))
 
 abbrev ratio_ok : Fraction → Result Fraction Step.Wide
 ratio_ok r = Ok r
@@ -58,7 +58,7 @@ pub corner-calm : (line : List ℤ) (constants column : ℕ) (r : Result Fractio
 corner-calm line constants column r e n room small =
     subst (λ (q : Result Fraction Step.Wide). IfErr q (λ _. ⊥)) (sym e)
     (never (chosen_number line constants column)
-    (bind_value (product_of (entry line constants) (negsuc 0)) (λ m. ratio_ok (lowest_terms m (entry line column))) (entry line constants *ℤ negsuc 0, turned-fits n (entry line constants) room (small constants)) (λ m f. (lowest_terms m (entry line column), refl))))
+    (bind_value (product_of (entry line constants) (negsuc 0)) (λ m. ratio_ok (lowest_terms m (entry line column))) (entry line constants *ℤ negsuc 0, negative-fits n (entry line constants) room (small constants)) (λ m f. (lowest_terms m (entry line column), refl))))
 
 fits_one : (n a : ℕ) → HasSquares n → a ≤ n → a < 2 ^ 127
 fits_one zero a room h = omega (arith, h)
@@ -74,8 +74,8 @@ pub certificate-calm : (constants goal : ℕ) (line : List ℤ) (r : Result Cert
 certificate-calm constants goal line (Ok by) g n room small = tt
 certificate-calm constants goal line (Err e) g n room small =
     only_memory e (certificate_of constants goal line) g
-    (bind_value (multiplied (take goal (drop (constants + 1) line)) (negsuc 0)) (λ by. cert_ok (record { scale = entry line (constants + 1 + goal); sum = entry line constants; by = by }))
-    (multiplied-fits n (take goal (drop (constants + 1) line)) room (taken_small n (drop (constants + 1) line) goal (λ j. subst (λ (z : ℤ). unsigned_abs z ≤ n) (sym (get_or-drop (constants + 1) line j (pos 0))) (small (constants + 1 + j)))))
+    (bind_value (line_multiple (take goal (drop (constants + 1) line)) (negsuc 0)) (λ by. cert_ok (record { scale = entry line (constants + 1 + goal); sum = entry line constants; by = by }))
+    (line_multiple-fits n (take goal (drop (constants + 1) line)) room (taken_small n (drop (constants + 1) line) goal (λ j. subst (λ (z : ℤ). unsigned_abs z ≤ n) (sym (get_or-drop (constants + 1) line j (pos 0))) (small (constants + 1 + j)))))
     (λ by f. (record { scale = entry line (constants + 1 + goal); sum = entry line constants; by = by }, refl)))
   where
     cert_ok : Cert → Result Cert Step.Wide
@@ -85,11 +85,11 @@ pub slope-calm : (line : List ℤ) (column : ℕ) (up : Bool) (own : ℕ) (r : R
 slope-calm line column up own r e n room small =
     subst (λ (q : Result Fraction Step.Wide). IfErr q (λ _. ⊥)) (sym e)
     (never (chosen_slope line column up own)
-    (bind_value (product_of (entry line column) (sign_of (not up))) (λ m. ratio_ok (lowest_terms m (entry line own))) (entry line column *ℤ sign_of (not up), turned up) (λ m f. (lowest_terms m (entry line own), refl))))
+    (bind_value (product_of (entry line column) (sign_of (not up))) (λ m. ratio_ok (lowest_terms m (entry line own))) (entry line column *ℤ sign_of (not up), upright_line up) (λ m f. (lowest_terms m (entry line own), refl))))
   where
-    turned : (up : Bool) → product_of (entry line column) (sign_of (not up)) ≡ Ok (entry line column *ℤ sign_of (not up))
-    turned true = turned-fits n (entry line column) room (small column)
-    turned false = product_of-fits (entry line column) (pos 1) (let h : unsigned_abs (entry line column) ≤ n = small column in let e : unsigned_abs (entry line column *ℤ pos 1) ≡ unsigned_abs (entry line column) = ap unsigned_abs (*ℤ-one (entry line column)) in below (unsigned_abs (entry line column)) h e)
+    upright_line : (up : Bool) → product_of (entry line column) (sign_of (not up)) ≡ Ok (entry line column *ℤ sign_of (not up))
+    upright_line true = negative-fits n (entry line column) room (small column)
+    upright_line false = product_of-fits (entry line column) (pos 1) (let h : unsigned_abs (entry line column) ≤ n = small column in let e : unsigned_abs (entry line column *ℤ pos 1) ≡ unsigned_abs (entry line column) = ap unsigned_abs (*ℤ-one (entry line column)) in below (unsigned_abs (entry line column)) h e)
       where
         below : (a : ℕ) → a ≤ n → unsigned_abs (entry line column *ℤ pos 1) ≡ a → unsigned_abs (entry line column *ℤ pos 1) < 2 ^ 127
         below a h e = let f : a < 2 ^ 127 = fits_one n a room h in omega (arith, e, f)

@@ -16,11 +16,11 @@ use Rattle.whole_numbers.proofs.CommonDivisors.{DividesEach, DividesEach-gcd_of_
 use Rattle.whole_numbers.proofs.Quotients.{int_div-*ℤ}
 use Rattle.whole_numbers.proofs.Ring.{neg_ℤ-*ℤ, one-*ℤ}
 use Rattle.simplex.specs.declared.tableau.Tableau.{Tableau}
-use Rattle.simplex.specs.Exchange.{sum_of_products, combined, multiplied, reduced, turned, cleared, cleared_at, cleared_from, exchanged, numbers_of, choices_of, HasShape, IsTableauOf}
+use Rattle.simplex.specs.Exchange.{sum_of_products, sum_of_lines, line_multiple, reduced, upright_line, line_without, line_without_at, lines_without, exchange, numbers_of, choices_of, HasShape, IsTableauOf}
 use Rattle.farkas_check.specs.Relations.{entry}
 use Rattle.simplex.specs.Frames.{IsCleared, IsExchange, IsChanged, IsWholeTableau}
 use Rattle.simplex.proofs.Exchanges.{times_zero, exchanged_is}
-use Rattle.simplex.proofs.Lines.{turned-length}
+use Rattle.simplex.proofs.Lines.{upright-length}
 
 -- ---- steps in 128 bits
 
@@ -48,25 +48,25 @@ lines_ok zs = Ok zs
 
 -- ---- lines
 
-combined-number : (p : ℤ) (line : List ℤ) (q : ℤ) (pivot made : List ℤ) → length line ≡ length pivot → combined p line q pivot ≡ Ok made → (j : ℕ) → entry made j ≡ p *ℤ entry line j +ℤ q *ℤ entry pivot j
-combined-number p [] q [] made l e j = let same : [] ≡ made = cc in ap (λ zs. entry zs j) (sym same) ∙ sym (rw (times_zero p, times_zero q) refl)
-combined-number p [] q (b ∷ bs) made l e j = absurd (omega arith)
-combined-number p (a ∷ line) q [] made l e j = absurd (omega arith)
-combined-number p (a ∷ line) q (b ∷ bs) made l e j =
-    on_ok (sum_of_products p a q b) (λ z. combined p line q bs >>= λ more. lines_ok (z ∷ more)) made e
-    (λ z f g. on_ok (combined p line q bs) (λ more. lines_ok (z ∷ more)) made g
-    (λ more h k. let is : z ∷ more ≡ made = cc in ap (λ zs. entry zs j) (sym is) ∙ at j z more (sum_of_products-value p a q b z f) (combined-number p line q bs more (omega arith) h)))
+sum_of_lines-number : (p : ℤ) (line : List ℤ) (q : ℤ) (pivot made : List ℤ) → length line ≡ length pivot → sum_of_lines p line q pivot ≡ Ok made → (j : ℕ) → entry made j ≡ p *ℤ entry line j +ℤ q *ℤ entry pivot j
+sum_of_lines-number p [] q [] made l e j = let same : [] ≡ made = cc in ap (λ zs. entry zs j) (sym same) ∙ sym (rw (times_zero p, times_zero q) refl)
+sum_of_lines-number p [] q (b ∷ bs) made l e j = absurd (omega arith)
+sum_of_lines-number p (a ∷ line) q [] made l e j = absurd (omega arith)
+sum_of_lines-number p (a ∷ line) q (b ∷ bs) made l e j =
+    on_ok (sum_of_products p a q b) (λ z. sum_of_lines p line q bs >>= λ more. lines_ok (z ∷ more)) made e
+    (λ z f g. on_ok (sum_of_lines p line q bs) (λ more. lines_ok (z ∷ more)) made g
+    (λ more h k. let is : z ∷ more ≡ made = cc in ap (λ zs. entry zs j) (sym is) ∙ at j z more (sum_of_products-value p a q b z f) (sum_of_lines-number p line q bs more (omega arith) h)))
   where
     at : (j : ℕ) (z : ℤ) (more : List ℤ) → z ≡ p *ℤ a +ℤ q *ℤ b → ((j : ℕ) → entry more j ≡ p *ℤ entry line j +ℤ q *ℤ entry bs j) → entry (z ∷ more) j ≡ p *ℤ entry (a ∷ line) j +ℤ q *ℤ entry (b ∷ bs) j
     at zero z more f g = f
     at (suc j) z more f g = g j
 
-pub multiplied-number : (line : List ℤ) (by : ℤ) (made : List ℤ) → multiplied line by ≡ Ok made → (j : ℕ) → entry made j ≡ entry line j *ℤ by
-multiplied-number [] by made e j = let same : [] ≡ made = cc in ap (λ zs. entry zs j) (sym same) ∙ sym (zero-*ℤ by)
-multiplied-number (a ∷ line) by made e j =
-    on_ok (product_of a by) (λ z. multiplied line by >>= λ more. lines_ok (z ∷ more)) made e
-    (λ z f g. on_ok (multiplied line by) (λ more. lines_ok (z ∷ more)) made g
-    (λ more h k. let is : z ∷ more ≡ made = cc in ap (λ zs. entry zs j) (sym is) ∙ at j z more (product_of-value a by z f) (multiplied-number line by more h)))
+pub line_multiple-number : (line : List ℤ) (by : ℤ) (made : List ℤ) → line_multiple line by ≡ Ok made → (j : ℕ) → entry made j ≡ entry line j *ℤ by
+line_multiple-number [] by made e j = let same : [] ≡ made = cc in ap (λ zs. entry zs j) (sym same) ∙ sym (zero-*ℤ by)
+line_multiple-number (a ∷ line) by made e j =
+    on_ok (product_of a by) (λ z. line_multiple line by >>= λ more. lines_ok (z ∷ more)) made e
+    (λ z f g. on_ok (line_multiple line by) (λ more. lines_ok (z ∷ more)) made g
+    (λ more h k. let is : z ∷ more ≡ made = cc in ap (λ zs. entry zs j) (sym is) ∙ at j z more (product_of-value a by z f) (line_multiple-number line by more h)))
   where
     at : (j : ℕ) (z : ℤ) (more : List ℤ) → z ≡ a *ℤ by → ((j : ℕ) → entry more j ≡ entry line j *ℤ by) → entry (z ∷ more) j ≡ entry (a ∷ line) j *ℤ by
     at zero z more f g = f
@@ -99,8 +99,8 @@ reduced-number line = go (nat_eq (gcd_of_all line) 0) refl
 minus : (z : ℤ) → z *ℤ negsuc 0 ≡ neg_ℤ z
 minus z = omega (arith, ints)
 
-pub cleared-is : (column : ℕ) (pivot line made : List ℤ) → length line ≡ length pivot → pos 0 <ℤ entry pivot column → cleared column pivot line ≡ Ok made → IsCleared (entry line) (entry pivot) (entry made) column
-cleared-is column pivot line made l p e = go (int_eq (entry line column) (pos 0)) refl e
+pub line_without-is : (column : ℕ) (pivot line made : List ℤ) → length line ≡ length pivot → pos 0 <ℤ entry pivot column → line_without column pivot line ≡ Ok made → IsCleared (entry line) (entry pivot) (entry made) column
+line_without-is column pivot line made l p e = go (int_eq (entry line column) (pos 0)) refl e
   where
     at_zero : (z p a b : ℤ) → z ≡ pos 0 → p *ℤ a ≡ p *ℤ a -ℤ z *ℤ b
     at_zero z p a b e = rw (e, zero-*ℤ b) (plain (p *ℤ a))
@@ -108,36 +108,36 @@ cleared-is column pivot line made l p e = go (int_eq (entry line column) (pos 0)
         plain : (x : ℤ) → x ≡ x -ℤ pos 0
         plain x = omega (arith, ints)
 
-    go : (b : Bool) → int_eq (entry line column) (pos 0) ≡ b → cond b (lines_ok line) (product_of (entry line column) (negsuc 0) >>= λ q. combined (entry pivot column) line q pivot >>= λ zs. lines_ok (reduced zs)) ≡ Ok made → IsCleared (entry line) (entry pivot) (entry made) column
+    go : (b : Bool) → int_eq (entry line column) (pos 0) ≡ b → cond b (lines_ok line) (product_of (entry line column) (negsuc 0) >>= λ q. sum_of_lines (entry pivot column) line q pivot >>= λ zs. lines_ok (reduced zs)) ≡ Ok made → IsCleared (entry line) (entry pivot) (entry made) column
     go true f g =
         let same : line ≡ made = cc in
         subst (λ zs. IsCleared (entry line) (entry pivot) (entry zs) column) same
         (record { factor = entry pivot column; positive = p; is = λ j. at_zero (entry line column) (entry pivot column) (entry line j) (entry pivot j) ((Decides-int_eq (entry line column) (pos 0)).0 f) })
     go false f g =
-        on_ok (product_of (entry line column) (negsuc 0)) (λ q. combined (entry pivot column) line q pivot >>= λ zs. lines_ok (reduced zs)) made g
-        (λ q h k. on_ok (combined (entry pivot column) line q pivot) (λ zs. lines_ok (reduced zs)) made k
+        on_ok (product_of (entry line column) (negsuc 0)) (λ q. sum_of_lines (entry pivot column) line q pivot >>= λ zs. lines_ok (reduced zs)) made g
+        (λ q h k. on_ok (sum_of_lines (entry pivot column) line q pivot) (λ zs. lines_ok (reduced zs)) made k
         (λ zs m n. let same : reduced zs ≡ made = cc in subst (λ ys. IsCleared (entry line) (entry pivot) (entry ys) column) same (whole q zs (product_of-value (entry line column) (negsuc 0) q h) m (reduced-number zs))))
       where
-        whole : (q : ℤ) (zs : List ℤ) → q ≡ entry line column *ℤ negsuc 0 → combined (entry pivot column) line q pivot ≡ Ok zs → IsReduced zs (reduced zs) → IsCleared (entry line) (entry pivot) (entry (reduced zs)) column
+        whole : (q : ℤ) (zs : List ℤ) → q ≡ entry line column *ℤ negsuc 0 → sum_of_lines (entry pivot column) line q pivot ≡ Ok zs → IsReduced zs (reduced zs) → IsCleared (entry line) (entry pivot) (entry (reduced zs)) column
         whole q zs h m r = record {
           factor = r.factor;
           positive = r.positive;
           is = λ j.
-              r.is j ∙ combined-number (entry pivot column) line q pivot zs l m j
+              r.is j ∙ sum_of_lines-number (entry pivot column) line q pivot zs l m j
               ∙ ap (λ z. entry pivot column *ℤ entry line j +ℤ z *ℤ entry pivot j) (h ∙ minus (entry line column))
               ∙ ap (λ z. entry pivot column *ℤ entry line j +ℤ z) (neg_ℤ-*ℤ (entry line column) (entry pivot j));
         }
 
 -- a line turned so that it is positive at a column
-pub record IsTurned (line made : ℕ → ℤ) (column : ℕ) : Type 0 where
+pub record IsUpright (line made : ℕ → ℤ) (column : ℕ) : Type 0 where
   pub sign : ℤ
   pub one : unsigned_abs sign ≡ 1
-  pub turned : (j : ℕ) → made j ≡ sign *ℤ line j
+  pub upright : (j : ℕ) → made j ≡ sign *ℤ line j
   pub back : (j : ℕ) → line j ≡ sign *ℤ made j
   pub positive : pos 0 <ℤ made column
 
-pub turned-is : (column : ℕ) (line made : List ℤ) → (entry line column ≡ pos 0 → ⊥) → turned column line ≡ Ok made → IsTurned (entry line) (entry made) column
-turned-is column line made n e = go (int_lt (entry line column) (pos 0)) refl e
+pub upright-is : (column : ℕ) (line made : List ℤ) → (entry line column ≡ pos 0 → ⊥) → upright_line column line ≡ Ok made → IsUpright (entry line) (entry made) column
+upright-is column line made n e = go (int_lt (entry line column) (pos 0)) refl e
   where
     not_negative : (z : ℤ) → (z ≡ pos 0 → ⊥) → int_lt z (pos 0) ≡ false → pos 0 <ℤ z
     not_negative (pos zero) n e = absurd (n refl)
@@ -151,20 +151,20 @@ turned-is column line made n e = go (int_lt (entry line column) (pos 0)) refl e
     back : (z : ℤ) → z ≡ negsuc 0 *ℤ (z *ℤ negsuc 0)
     back z = omega (arith, ints)
 
-    go : (b : Bool) → int_lt (entry line column) (pos 0) ≡ b → cond b (multiplied line (negsuc 0)) (Ok line) ≡ Ok made → IsTurned (entry line) (entry made) column
+    go : (b : Bool) → int_lt (entry line column) (pos 0) ≡ b → cond b (line_multiple line (negsuc 0)) (Ok line) ≡ Ok made → IsUpright (entry line) (entry made) column
     go true f g =
-        let is : (j : ℕ) → entry made j ≡ entry line j *ℤ negsuc 0 = multiplied-number line (negsuc 0) made g in
+        let is : (j : ℕ) → entry made j ≡ entry line j *ℤ negsuc 0 = line_multiple-number line (negsuc 0) made g in
         record {
           sign = negsuc 0;
           one = refl;
-          turned = λ j. is j ∙ *ℤ_comm (entry line j) (negsuc 0);
+          upright = λ j. is j ∙ *ℤ_comm (entry line j) (negsuc 0);
           back = λ j. back (entry line j) ∙ ap (λ z. negsuc 0 *ℤ z) (sym (is j));
           positive = subst (λ (z : ℤ). pos 0 <ℤ z) (sym (is column)) (negative (entry line column) f);
         }
     go false f g =
         let same : line ≡ made = cc in
-        subst (λ zs. IsTurned (entry line) (entry zs) column) same
-        (record { sign = pos 1; one = refl; turned = λ j. sym (one-*ℤ (entry line j)); back = λ j. sym (one-*ℤ (entry line j)); positive = not_negative (entry line column) n f })
+        subst (λ zs. IsUpright (entry line) (entry zs) column) same
+        (record { sign = pos 1; one = refl; upright = λ j. sym (one-*ℤ (entry line j)); back = λ j. sym (one-*ℤ (entry line j)); positive = not_negative (entry line column) n f })
 
 -- ---- all lines
 
@@ -174,19 +174,19 @@ all_ok ls = Ok ls
 -- what the code makes of the lines from the i-th on
 pub record AreCleared (column : ℕ) (pivot : List ℤ) (place i : ℕ) (lines made : List (List ℤ)) : Type 0 where
   pub many : length made ≡ length lines
-  pub each : (k : ℕ) → k < length lines → cleared_at column pivot place (i + k) (get_or lines k []) ≡ Ok (get_or made k [])
+  pub each : (k : ℕ) → k < length lines → line_without_at column pivot place (i + k) (get_or lines k []) ≡ Ok (get_or made k [])
 
-pub cleared_from-is : (column : ℕ) (pivot : List ℤ) (place i : ℕ) (lines made : List (List ℤ)) → cleared_from column pivot place i lines ≡ Ok made → AreCleared column pivot place i lines made
-cleared_from-is column pivot place i [] made e = let same : [] ≡ made = cc in record { many = ap length (sym same); each = λ k h. absurd (omega arith) }
-cleared_from-is column pivot place i (line ∷ lines) made e =
-    on_ok (cleared_at column pivot place i line) (λ new. cleared_from column pivot place (i + 1) lines >>= λ more. all_ok (new ∷ more)) made e
-    (λ new f g. on_ok (cleared_from column pivot place (i + 1) lines) (λ more. all_ok (new ∷ more)) made g
-    (λ more h k. let same : new ∷ more ≡ made = cc in subst (λ ls. AreCleared column pivot place i (line ∷ lines) ls) same (with_first new more f (cleared_from-is column pivot place (i + 1) lines more h))))
+pub lines_without-is : (column : ℕ) (pivot : List ℤ) (place i : ℕ) (lines made : List (List ℤ)) → lines_without column pivot place i lines ≡ Ok made → AreCleared column pivot place i lines made
+lines_without-is column pivot place i [] made e = let same : [] ≡ made = cc in record { many = ap length (sym same); each = λ k h. absurd (omega arith) }
+lines_without-is column pivot place i (line ∷ lines) made e =
+    on_ok (line_without_at column pivot place i line) (λ new. lines_without column pivot place (i + 1) lines >>= λ more. all_ok (new ∷ more)) made e
+    (λ new f g. on_ok (lines_without column pivot place (i + 1) lines) (λ more. all_ok (new ∷ more)) made g
+    (λ more h k. let same : new ∷ more ≡ made = cc in subst (λ ls. AreCleared column pivot place i (line ∷ lines) ls) same (with_first new more f (lines_without-is column pivot place (i + 1) lines more h))))
   where
-    with_first : (new : List ℤ) (more : List (List ℤ)) → cleared_at column pivot place i line ≡ Ok new → AreCleared column pivot place (i + 1) lines more → AreCleared column pivot place i (line ∷ lines) (new ∷ more)
+    with_first : (new : List ℤ) (more : List (List ℤ)) → line_without_at column pivot place i line ≡ Ok new → AreCleared column pivot place (i + 1) lines more → AreCleared column pivot place i (line ∷ lines) (new ∷ more)
     with_first new more f rest = record { many = let h : length more ≡ length lines = rest.many in omega arith; each = at }
       where
-        at : (k : ℕ) → k < length (line ∷ lines) → cleared_at column pivot place (i + k) (get_or (line ∷ lines) k []) ≡ Ok (get_or (new ∷ more) k [])
+        at : (k : ℕ) → k < length (line ∷ lines) → line_without_at column pivot place (i + k) (get_or (line ∷ lines) k []) ≡ Ok (get_or (new ∷ more) k [])
         at zero h = let e : i + 0 ≡ i = omega arith in rw e f
         at (suc k) h = let e : i + suc k ≡ i + 1 + k = omega arith in rw e (rest.each k (omega arith))
 
@@ -194,36 +194,36 @@ abbrev pub tableau_ok : Tableau → Result Tableau Step.Wide
 tableau_ok t = Ok t
 
 -- what an exchange of the code is
-pub record Exchanged (before after : Tableau) (line column : ℕ) : Type 0 where
+pub record ExchangeAt (before after : Tableau) (line column : ℕ) : Type 0 where
   pub many : length after.lines ≡ length before.lines
   pub numbers : IsExchange (length before.lines) (numbers_of before) (numbers_of after) line column
   pub choices : IsChanged (length before.lines) (choices_of before) (choices_of after) line column
 
-pub exchanged-is : (columns : ℕ) (before after : Tableau) (line column : ℕ) → HasShape columns before → line < length before.lines → (numbers_of before line column ≡ pos 0 → ⊥)
-    → ((made : List ℤ) → turned column (get_or before.lines line []) ≡ Ok made → length made ≡ columns)
-    → exchanged before line column ≡ Ok after → Exchanged before after line column
-exchanged-is columns before after line column shape here n long e =
-    on_ok (turned column (get_or before.lines line [])) (λ pivot. cleared_from column pivot line 0 before.lines >>= λ lines. tableau_ok (record { lines = lines; chosen = slice_set before.chosen line column })) after e
-    (λ pivot f g. on_ok (cleared_from column pivot line 0 before.lines) (λ lines. tableau_ok (record { lines = lines; chosen = slice_set before.chosen line column })) after g
+pub exchange-is : (columns : ℕ) (before after : Tableau) (line column : ℕ) → HasShape columns before → line < length before.lines → (numbers_of before line column ≡ pos 0 → ⊥)
+    → ((made : List ℤ) → upright_line column (get_or before.lines line []) ≡ Ok made → length made ≡ columns)
+    → exchange before line column ≡ Ok after → ExchangeAt before after line column
+exchange-is columns before after line column shape here n long e =
+    on_ok (upright_line column (get_or before.lines line [])) (λ pivot. lines_without column pivot line 0 before.lines >>= λ lines. tableau_ok (record { lines = lines; chosen = slice_set before.chosen line column })) after e
+    (λ pivot f g. on_ok (lines_without column pivot line 0 before.lines) (λ lines. tableau_ok (record { lines = lines; chosen = slice_set before.chosen line column })) after g
     (λ lines h k. let same : record { lines = lines; chosen = slice_set before.chosen line column } ≡ after = cc in
-    subst (λ t. Exchanged before t line column) same (made pivot lines (long pivot f) (turned-is column (get_or before.lines line []) pivot n f) (cleared_from-is column pivot line 0 before.lines lines h))))
+    subst (λ t. ExchangeAt before t line column) same (made pivot lines (long pivot f) (upright-is column (get_or before.lines line []) pivot n f) (lines_without-is column pivot line 0 before.lines lines h))))
   where
-    at_place : (pivot own new : List ℤ) → cleared_at column pivot line line own ≡ Ok new → new ≡ pivot
+    at_place : (pivot own new : List ℤ) → line_without_at column pivot line line own ≡ Ok new → new ≡ pivot
     at_place pivot own new e = let f : Ok pivot ≡ Ok new = sym (rw (eq-eqb line line refl) refl) ∙ e in cc
 
-    elsewhere : (pivot own new : List ℤ) (i : ℕ) → i ≢ line → cleared_at column pivot line i own ≡ Ok new → cleared column pivot own ≡ Ok new
+    elsewhere : (pivot own new : List ℤ) (i : ℕ) → i ≢ line → line_without_at column pivot line i own ≡ Ok new → line_without column pivot own ≡ Ok new
     elsewhere pivot own new i other e = sym (rw (ne_eqb i line other) refl) ∙ e
 
-    made : (pivot : List ℤ) (lines : List (List ℤ)) → length pivot ≡ columns → IsTurned (entry (get_or before.lines line [])) (entry pivot) column → AreCleared column pivot line 0 before.lines lines → Exchanged before (record { lines = lines; chosen = slice_set before.chosen line column }) line column
+    made : (pivot : List ℤ) (lines : List (List ℤ)) → length pivot ≡ columns → IsUpright (entry (get_or before.lines line [])) (entry pivot) column → AreCleared column pivot line 0 before.lines lines → ExchangeAt before (record { lines = lines; chosen = slice_set before.chosen line column }) line column
     made pivot lines wide t c = record {
       many = c.many;
       numbers = record {
         sign = t.sign;
-        turned = λ j. ap (λ zs. entry zs j) pivot_there ∙ t.turned j;
+        upright = λ j. ap (λ zs. entry zs j) pivot_there ∙ t.upright j;
         back = λ j. t.back j ∙ ap (λ zs. t.sign *ℤ entry zs j) (sym pivot_there);
         positive = subst (λ zs. pos 0 <ℤ entry zs column) (sym pivot_there) t.positive;
-        cleared = λ i h other. subst (λ zs. IsCleared (entry (get_or before.lines i [])) (entry zs) (entry (get_or lines i [])) column) (sym pivot_there)
-            (cleared-is column pivot (get_or before.lines i []) (get_or lines i []) (shape.wide i h ∙ sym wide) t.positive (elsewhere pivot (get_or before.lines i []) (get_or lines i []) i other (from_zero i (c.each i h))));
+        line_without = λ i h other. subst (λ zs. IsCleared (entry (get_or before.lines i [])) (entry zs) (entry (get_or lines i [])) column) (sym pivot_there)
+            (line_without-is column pivot (get_or before.lines i []) (get_or lines i []) (shape.wide i h ∙ sym wide) t.positive (elsewhere pivot (get_or before.lines i []) (get_or lines i []) i other (from_zero i (c.each i h))));
       };
       choices = record {
         there = get_or-set_same before.chosen line column 0 (let h : length before.chosen ≡ length before.lines = shape.choices in omega arith);
@@ -231,7 +231,7 @@ exchanged-is columns before after line column shape here n long e =
       };
     }
       where
-        from_zero : (i : ℕ) → cleared_at column pivot line (0 + i) (get_or before.lines i []) ≡ Ok (get_or lines i []) → cleared_at column pivot line i (get_or before.lines i []) ≡ Ok (get_or lines i [])
+        from_zero : (i : ℕ) → line_without_at column pivot line (0 + i) (get_or before.lines i []) ≡ Ok (get_or lines i []) → line_without_at column pivot line i (get_or before.lines i []) ≡ Ok (get_or lines i [])
         from_zero i e = let z : 0 + i ≡ i = omega arith in rw z at e
 
         pivot_there : get_or lines line [] ≡ pivot
@@ -239,13 +239,13 @@ exchanged-is columns before after line column shape here n long e =
 
 -- ---- shapes
 
-combined-length : (p : ℤ) (line : List ℤ) (q : ℤ) (pivot made : List ℤ) → length line ≡ length pivot → combined p line q pivot ≡ Ok made → length made ≡ length line
-combined-length p [] q bs made l e = let same : [] ≡ made = cc in ap length (sym same)
-combined-length p (a ∷ line) q [] made l e = absurd (omega arith)
-combined-length p (a ∷ line) q (b ∷ bs) made l e =
-    on_ok (sum_of_products p a q b) (λ z. combined p line q bs >>= λ more. lines_ok (z ∷ more)) made e
-    (λ z f g. on_ok (combined p line q bs) (λ more. lines_ok (z ∷ more)) made g
-    (λ more h k. let is : z ∷ more ≡ made = cc in let n : length more ≡ length line = combined-length p line q bs more (omega arith) h in let m : length (z ∷ more) ≡ length made = ap length is in omega arith))
+sum_of_lines-length : (p : ℤ) (line : List ℤ) (q : ℤ) (pivot made : List ℤ) → length line ≡ length pivot → sum_of_lines p line q pivot ≡ Ok made → length made ≡ length line
+sum_of_lines-length p [] q bs made l e = let same : [] ≡ made = cc in ap length (sym same)
+sum_of_lines-length p (a ∷ line) q [] made l e = absurd (omega arith)
+sum_of_lines-length p (a ∷ line) q (b ∷ bs) made l e =
+    on_ok (sum_of_products p a q b) (λ z. sum_of_lines p line q bs >>= λ more. lines_ok (z ∷ more)) made e
+    (λ z f g. on_ok (sum_of_lines p line q bs) (λ more. lines_ok (z ∷ more)) made g
+    (λ more h k. let is : z ∷ more ≡ made = cc in let n : length more ≡ length line = sum_of_lines-length p line q bs more (omega arith) h in let m : length (z ∷ more) ≡ length made = ap length is in omega arith))
 
 reduced-length : (line : List ℤ) → length (reduced line) ≡ length line
 reduced-length line = go (nat_eq (gcd_of_all line) 0)
@@ -254,33 +254,33 @@ reduced-length line = go (nat_eq (gcd_of_all line) 0)
     go true = refl
     go false = length-map line (λ z. int_div z (pos (gcd_of_all line)))
 
-cleared-length : (column : ℕ) (pivot line made : List ℤ) → length line ≡ length pivot → cleared column pivot line ≡ Ok made → length made ≡ length line
-cleared-length column pivot line made l e = go (int_eq (entry line column) (pos 0)) e
+line_without-length : (column : ℕ) (pivot line made : List ℤ) → length line ≡ length pivot → line_without column pivot line ≡ Ok made → length made ≡ length line
+line_without-length column pivot line made l e = go (int_eq (entry line column) (pos 0)) e
   where
-    go : (b : Bool) → cond b (lines_ok line) (product_of (entry line column) (negsuc 0) >>= λ q. combined (entry pivot column) line q pivot >>= λ zs. lines_ok (reduced zs)) ≡ Ok made → length made ≡ length line
+    go : (b : Bool) → cond b (lines_ok line) (product_of (entry line column) (negsuc 0) >>= λ q. sum_of_lines (entry pivot column) line q pivot >>= λ zs. lines_ok (reduced zs)) ≡ Ok made → length made ≡ length line
     go true g = let same : line ≡ made = cc in ap length (sym same)
     go false g =
-        on_ok (product_of (entry line column) (negsuc 0)) (λ q. combined (entry pivot column) line q pivot >>= λ zs. lines_ok (reduced zs)) made g
-        (λ q h k. on_ok (combined (entry pivot column) line q pivot) (λ zs. lines_ok (reduced zs)) made k
-        (λ zs m n. let same : reduced zs ≡ made = cc in ap length (sym same) ∙ reduced-length zs ∙ combined-length (entry pivot column) line q pivot zs l m))
+        on_ok (product_of (entry line column) (negsuc 0)) (λ q. sum_of_lines (entry pivot column) line q pivot >>= λ zs. lines_ok (reduced zs)) made g
+        (λ q h k. on_ok (sum_of_lines (entry pivot column) line q pivot) (λ zs. lines_ok (reduced zs)) made k
+        (λ zs m n. let same : reduced zs ≡ made = cc in ap length (sym same) ∙ reduced-length zs ∙ sum_of_lines-length (entry pivot column) line q pivot zs l m))
 
-cleared_at-length : (column : ℕ) (pivot : List ℤ) (place i : ℕ) (line made : List ℤ) → length line ≡ length pivot → cleared_at column pivot place i line ≡ Ok made → length made ≡ length line
-cleared_at-length column pivot place i line made l e = go (nat_eq i place) e
+line_without_at-length : (column : ℕ) (pivot : List ℤ) (place i : ℕ) (line made : List ℤ) → length line ≡ length pivot → line_without_at column pivot place i line ≡ Ok made → length made ≡ length line
+line_without_at-length column pivot place i line made l e = go (nat_eq i place) e
   where
-    go : (b : Bool) → cond b (lines_ok pivot) (cleared column pivot line) ≡ Ok made → length made ≡ length line
+    go : (b : Bool) → cond b (lines_ok pivot) (line_without column pivot line) ≡ Ok made → length made ≡ length line
     go true g = let same : pivot ≡ made = cc in ap length (sym same) ∙ sym l
-    go false g = cleared-length column pivot line made l g
+    go false g = line_without-length column pivot line made l g
 
 -- an exchange of the code makes a tableau of a tableau
-pub exchanged-keeps : (units : ℕ) (frame : ℕ → ℕ → ℤ) (before after : Tableau) (line column : ℕ) → IsTableauOf units frame before → line < length before.lines → column < units + length before.lines → (numbers_of before line column ≡ pos 0 → ⊥) → exchanged before line column ≡ Ok after → IsTableauOf units frame after
-exchanged-keeps units frame before after line column t here in_range n e =
-    on_ok (turned column (get_or before.lines line [])) (λ pivot. cleared_from column pivot line 0 before.lines >>= λ lines. tableau_ok (record { lines = lines; chosen = slice_set before.chosen line column })) after e
-    (λ pivot f g. on_ok (cleared_from column pivot line 0 before.lines) (λ lines. tableau_ok (record { lines = lines; chosen = slice_set before.chosen line column })) after g
+pub exchange-keeps : (units : ℕ) (frame : ℕ → ℕ → ℤ) (before after : Tableau) (line column : ℕ) → IsTableauOf units frame before → line < length before.lines → column < units + length before.lines → (numbers_of before line column ≡ pos 0 → ⊥) → exchange before line column ≡ Ok after → IsTableauOf units frame after
+exchange-keeps units frame before after line column t here in_range n e =
+    on_ok (upright_line column (get_or before.lines line [])) (λ pivot. lines_without column pivot line 0 before.lines >>= λ lines. tableau_ok (record { lines = lines; chosen = slice_set before.chosen line column })) after e
+    (λ pivot f g. on_ok (lines_without column pivot line 0 before.lines) (λ lines. tableau_ok (record { lines = lines; chosen = slice_set before.chosen line column })) after g
     (λ lines h k. let same : record { lines = lines; chosen = slice_set before.chosen line column } ≡ after = cc in
-    whole same (turned-length column (get_or before.lines line []) pivot f ∙ t.shape.wide line here) (cleared_from-is column pivot line 0 before.lines lines h)
-    (exchanged-is (units + length before.lines) before after line column t.shape here n (λ made m. turned-length column (get_or before.lines line []) made m ∙ t.shape.wide line here) e)))
+    whole same (upright-length column (get_or before.lines line []) pivot f ∙ t.shape.wide line here) (lines_without-is column pivot line 0 before.lines lines h)
+    (exchange-is (units + length before.lines) before after line column t.shape here n (λ made m. upright-length column (get_or before.lines line []) made m ∙ t.shape.wide line here) e)))
   where
-    whole : {pivot : List ℤ} {lines : List (List ℤ)} → record { lines = lines; chosen = slice_set before.chosen line column } ≡ after → length pivot ≡ units + length before.lines → AreCleared column pivot line 0 before.lines lines → Exchanged before after line column → IsTableauOf units frame after
+    whole : {pivot : List ℤ} {lines : List (List ℤ)} → record { lines = lines; chosen = slice_set before.chosen line column } ≡ after → length pivot ≡ units + length before.lines → AreCleared column pivot line 0 before.lines lines → ExchangeAt before after line column → IsTableauOf units frame after
     whole {pivot} {lines} same long c x = record {
       shape = record { wide = wide; choices = let h : length before.chosen ≡ length before.lines = t.shape.choices in ap (λ (u : Tableau). length u.chosen) (sym same) ∙ length-set before.chosen line column ∙ h ∙ sym x.many };
       is = subst (λ n. IsWholeTableau n units (units + n) frame (numbers_of after) (choices_of after)) (sym x.many)
@@ -299,5 +299,5 @@ exchanged-keeps units frame before after line column t here in_range n e =
             let g : i < length before.lines = subst (λ n. i < n) x.many h in
             let z : 0 + i ≡ i = omega arith in
             ap (λ (u : Tableau). length (get_or u.lines i [])) (sym same)
-            ∙ cleared_at-length column pivot line (0 + i) (get_or before.lines i []) (get_or lines i []) (t.shape.wide i g ∙ sym long) (c.each i g)
+            ∙ line_without_at-length column pivot line (0 + i) (get_or before.lines i []) (get_or lines i []) (t.shape.wide i g ∙ sym long) (c.each i g)
             ∙ t.shape.wide i g ∙ ap (λ n. units + n) (sym x.many)

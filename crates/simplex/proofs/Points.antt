@@ -10,14 +10,14 @@ use Rattle.farkas_check.proofs.Lowest.{IsLowest-lowest_terms, positive-lowest_te
 use Rattle.farkas_check.proofs.PointValues.{Stands-lowest}
 use Rattle.simplex.specs.declared.tableau.Tableau.{Tableau}
 use Rattle.simplex.specs.Answers.{multipliers_of, IsMultipliers}
-use Rattle.simplex.specs.Exchange.{numbers_of, choices_of, turned, HasShape, IsTableauOf}
+use Rattle.simplex.specs.Exchange.{numbers_of, choices_of, upright_line, HasShape, IsTableauOf}
 use Rattle.farkas_check.specs.Relations.{entry}
 use Rattle.simplex.specs.Raise.{Framed, sign_of}
 use Rattle.simplex.specs.Suprema.{SlopeAt, chosen_slope}
 use Rattle.simplex.specs.Search.{CornerAt, chosen_number}
 use Rattle.simplex.proofs.Eliminations.{choose_apart}
-use Rattle.simplex.proofs.Lines.{turned-length}
-use Rattle.simplex.proofs.Numbers.{product_of-value, turned-is, IsTurned}
+use Rattle.simplex.proofs.Lines.{upright-length}
+use Rattle.simplex.proofs.Numbers.{product_of-value, upright-is, IsUpright}
 
 abbrev ratio_ok : Fraction → Result Fraction Step.Wide
 ratio_ok q = Ok q
@@ -93,15 +93,15 @@ lines_ok zs = Ok zs
 
 pub multipliers-are : (t : Tableau) (constants line : ℕ) (by : List ℤ) → HasShape (constants + 1 + length t.lines) t → line < length t.lines → (numbers_of t line constants ≡ pos 0 → ⊥) → multipliers_of constants (get_or t.lines line []) ≡ Ok by → IsMultipliers constants t line by
 multipliers-are t constants line by shape here some e =
-    on_ok (turned constants (get_or t.lines line [])) (λ own. lines_ok (drop (constants + 1) own)) by e
+    on_ok (upright_line constants (get_or t.lines line [])) (λ own. lines_ok (drop (constants + 1) own)) by e
     (λ own f g. let same : drop (constants + 1) own ≡ by = cc in subst (λ zs. IsMultipliers constants t line zs) same
-    (made own (turned-length constants (get_or t.lines line []) own f ∙ shape.wide line here) (turned-is constants (get_or t.lines line []) own some f)))
+    (made own (upright-length constants (get_or t.lines line []) own f ∙ shape.wide line here) (upright-is constants (get_or t.lines line []) own some f)))
   where
-    made : (own : List ℤ) → length own ≡ constants + 1 + length t.lines → IsTurned (numbers_of t line) (entry own) constants → IsMultipliers constants t line (drop (constants + 1) own)
+    made : (own : List ℤ) → length own ≡ constants + 1 + length t.lines → IsUpright (numbers_of t line) (entry own) constants → IsMultipliers constants t line (drop (constants + 1) own)
     made own long x = record {
       each = ⊎_elim (λ (e : length (drop (constants + 1) own) + (constants + 1) ≡ length own). omega (arith, e, long)) (λ (h : length own < constants + 1). absurd (omega (arith, h, long))) (drop-length own (constants + 1));
       sign = x.sign;
       one = x.one;
-      turned = λ l h. at_drop own (constants + 1) l ∙ x.turned (constants + 1 + l);
-      positive = subst (λ (z : ℤ). pos 0 <ℤ z) (x.turned constants) x.positive;
+      upright = λ l h. at_drop own (constants + 1) l ∙ x.upright (constants + 1 + l);
+      positive = subst (λ (z : ℤ). pos 0 <ℤ z) (x.upright constants) x.positive;
     }

@@ -59,16 +59,16 @@ pub ahead_after : (lines units columns constants : ℕ) (frame : ℕ → ℕ →
     → IsRaising lines units columns constants frame slack first keys before old → AllByRecursion (λ c. c < columns) keys → Leaves lines constants slack keys before line column → IsExchange lines before after line column
     → (i : ℕ) → i < lines → slack i ≡ true → IsLexPositive (seen constants (after i)) keys
 ahead_after lines units columns constants frame slack first keys before after old line column r within l x i h is_slack =
-    ⊎_elim (λ (e : i ≡ line). subst (λ k. IsLexPositive (seen constants (after k)) keys) (sym e) at_line) (λ other. elsewhere other (x.cleared i h other)) (cases_eq i line)
+    ⊎_elim (λ (e : i ≡ line). subst (λ k. IsLexPositive (seen constants (after k)) keys) (sym e) at_line) (λ other. elsewhere other (x.line_without i h other)) (cases_eq i line)
   where
     sign_positive : pos 0 <ℤ x.sign
-    sign_positive = not_turned (before line column) (after line column) x.sign l.positive x.positive (x.turned column)
+    sign_positive = not_turned (before line column) (after line column) x.sign l.positive x.positive (x.upright column)
 
     at_line : IsLexPositive (seen constants (after line)) keys
     at_line =
         lex_multiple keys (seen constants (before line)) (seen constants (after line)) x.sign (pos 1) sign_positive (omega (arith, ints))
         (all_below columns keys (λ j. pos 1 *ℤ seen constants (after line) j ≡ x.sign *ℤ seen constants (before line) j) within
-        (λ j k. seen-multiple constants (before line) (after line) x.sign (pos 1) j (one-*ℤ (after line j) ∙ x.turned j)))
+        (λ j k. seen-multiple constants (before line) (after line) x.sign (pos 1) j (one-*ℤ (after line j) ∙ x.upright j)))
         (r.ahead line l.here l.is_slack)
 
     elsewhere : i ≢ line → IsCleared (before i) (after line) (after i) column → IsLexPositive (seen constants (after i)) keys
@@ -81,7 +81,7 @@ ahead_after lines units columns constants frame slack first keys before after ol
             lex_multiple keys (seen constants (difference (before line column) (before i) (before i column) (before line))) (seen constants (after i)) x.sign s.factor sign_positive s.positive
             (all_below columns keys (λ j. s.factor *ℤ seen constants (after i) j ≡ x.sign *ℤ seen constants (difference (before line column) (before i) (before i column) (before line)) j) within
             (λ j k. seen-multiple constants (difference (before line column) (before i) (before i column) (before line)) (after i) x.sign s.factor j
-            (s.is j ∙ rw (x.turned column, x.turned j) (together x.sign (before line column) (before i j) (before i column) (before line j)))))
+            (s.is j ∙ rw (x.upright column, x.upright j) (together x.sign (before line column) (before i j) (before i column) (before line j)))))
             (l.least i h is_slack other p)
           where
             together : (s p a q b : ℤ) → s *ℤ p *ℤ a -ℤ q *ℤ (s *ℤ b) ≡ s *ℤ (p *ℤ a -ℤ q *ℤ b)
@@ -113,15 +113,15 @@ pub grows : (lines units columns constants goal : ℕ) (sign : ℤ) (frame : ℕ
     → goal < lines → slack goal ≡ false → (sign *ℤ before goal column) <ℤ pos 0 → Grows constants goal sign keys before after old new
 grows lines units columns constants goal sign frame slack first keys before after old new line column r within l x c here not_slack better = record {
   pivot = after line;
-  factor = (x.cleared goal here apart).factor;
+  factor = (x.line_without goal here apart).factor;
   keeps = after line column;
   adds = neg_ℤ (sign *ℤ before goal column);
-  factor_positive = (x.cleared goal here apart).positive;
+  factor_positive = (x.line_without goal here apart).positive;
   keeps_positive = x.positive;
   adds_positive = omega (arith, ints);
-  line = λ j. through (x.cleared goal here apart).factor (after goal j) (after line column) (before goal j) (before goal column) (after line j) ((x.cleared goal here apart).is j);
-  number = ap (λ j. (x.cleared goal here apart).factor *ℤ after goal j) (c.elsewhere goal here apart) ∙ (x.cleared goal here apart).is (old goal)
-      ∙ rw (x.turned (old goal), r.tableau.others line goal l.here here (λ e. apart (sym e)), times_zero x.sign, times_zero (before goal column)) (alone (after line column *ℤ before goal (old goal)));
+  line = λ j. through (x.line_without goal here apart).factor (after goal j) (after line column) (before goal j) (before goal column) (after line j) ((x.line_without goal here apart).is j);
+  number = ap (λ j. (x.line_without goal here apart).factor *ℤ after goal j) (c.elsewhere goal here apart) ∙ (x.line_without goal here apart).is (old goal)
+      ∙ rw (x.upright (old goal), r.tableau.others line goal l.here here (λ e. apart (sym e)), times_zero x.sign, times_zero (before goal column)) (alone (after line column *ℤ before goal (old goal)));
   same = c.elsewhere goal here apart;
   ahead = ahead_after lines units columns constants frame slack first keys before after old line column r within l x line l.here l.is_slack;
 }

@@ -17,12 +17,12 @@ use Rattle.farkas_check.specs.Tested.{tested_sum, tested_below, tested_cert}
 use Rattle.farkas_check.specs.declared.answer.Cert.{Cert}
 use Rattle.farkas_check.specs.declared.question.Goal.{Goal}
 use Rattle.farkas_check.proofs.Farkas.{bool_ok}
-use Rattle.simplex.specs.Goals.{rounded}
+use Rattle.simplex.specs.Goals.{whole_bound}
 use Rattle.simplex.proofs.Bounded.{IsCertified}
 use Rattle.simplex.proofs.Certificates.{le_true}
 
 -- a number between the products of its quotient rounded down, and of the next one
-pub record IsRounded (z d q : ℤ) : Type 0 where
+pub record IsFloor (z d q : ℤ) : Type 0 where
   pub below : (q *ℤ d) ≤ℤ z
   pub above : z <ℤ ((q +ℤ pos 1) *ℤ d)
 
@@ -47,29 +47,29 @@ negative_times q d = ap (λ z. z *ℤ d) (less q) ∙ neg_ℤ-*ℤ (pos q +ℤ p
     less : (q : ℕ) → negsuc q ≡ neg_ℤ (pos q +ℤ pos 1)
     less q = omega (arith, ints)
 
-pub rounded-is : (z d : ℤ) → pos 0 <ℤ d → IsRounded z d (int_div_euclid z d)
-rounded-is (pos a) (pos zero) h = absurd (omega (arith, ints, h))
-rounded-is (pos a) (pos (suc b)) h = record {
+pub floor-is : (z d : ℤ) → pos 0 <ℤ d → IsFloor z d (int_div_euclid z d)
+floor-is (pos a) (pos zero) h = absurd (omega (arith, ints, h))
+floor-is (pos a) (pos (suc b)) h = record {
   below = le_pos (a / suc b * suc b) a (div-mul-le_self a (suc b));
   above = subst (λ z. pos a <ℤ z) (sym (next_times (pos (a / suc b)) (pos (suc b)))) (lt_pos (a / suc b * suc b) (suc b) a (lt-div-mul-add (omega arith)));
 }
-rounded-is (pos a) (negsuc b) h = absurd (omega (arith, ints, h))
-rounded-is (negsuc a) (pos zero) h = absurd (omega (arith, ints, h))
-rounded-is (negsuc a) (pos (suc b)) h = record {
+floor-is (pos a) (negsuc b) h = absurd (omega (arith, ints, h))
+floor-is (negsuc a) (pos zero) h = absurd (omega (arith, ints, h))
+floor-is (negsuc a) (pos (suc b)) h = record {
   below = subst (λ z. z ≤ℤ negsuc a) (sym (negative_times (a / suc b) (pos (suc b)))) (neg_le (a / suc b * suc b) (suc b) a (lt-div-mul-add (omega arith)));
   above = subst (λ z. negsuc a <ℤ z) (sym (next_times (negsuc (a / suc b)) (pos (suc b)) ∙ ap (λ z. z +ℤ pos (suc b)) (negative_times (a / suc b) (pos (suc b))))) (lt_neg (a / suc b * suc b) (suc b) a (div-mul-le_self a (suc b)));
 }
-rounded-is (negsuc a) (negsuc b) h = absurd (omega (arith, ints, h))
+floor-is (negsuc a) (negsuc b) h = absurd (omega (arith, ints, h))
 
 -- ---- the bound of a certificate
 
-pub certificate-rounded : (cert : Cert) → pos 0 <ℤ cert.scale → IsRounded cert.sum cert.scale (rounded cert)
-certificate-rounded cert h = rounded-is cert.sum cert.scale h
+pub certificate-floor : (cert : Cert) → pos 0 <ℤ cert.scale → IsFloor cert.sum cert.scale (whole_bound cert)
+certificate-floor cert h = floor-is cert.sum cert.scale h
 
 -- the bound is below the whole number after `at`, where it is rounded down to at most this
-pub next_above : (cert : Cert) (at : ℤ) → pos 0 <ℤ cert.scale → rounded cert ≤ℤ at → cert.sum <ℤ (cert.scale *ℤ (at +ℤ pos 1))
-next_above cert at h below = chain cert.sum ((rounded cert +ℤ pos 1) *ℤ cert.scale) ((at +ℤ pos 1) *ℤ cert.scale) (cert.scale *ℤ (at +ℤ pos 1)) (certificate-rounded cert h).above
-    (≤ℤ-*ℤ (rounded cert +ℤ pos 1) (at +ℤ pos 1) cert.scale (weak cert.scale h) (both (rounded cert) at below)) (*ℤ_comm (at +ℤ pos 1) cert.scale)
+pub next_above : (cert : Cert) (at : ℤ) → pos 0 <ℤ cert.scale → whole_bound cert ≤ℤ at → cert.sum <ℤ (cert.scale *ℤ (at +ℤ pos 1))
+next_above cert at h below = chain cert.sum ((whole_bound cert +ℤ pos 1) *ℤ cert.scale) ((at +ℤ pos 1) *ℤ cert.scale) (cert.scale *ℤ (at +ℤ pos 1)) (certificate-floor cert h).above
+    (≤ℤ-*ℤ (whole_bound cert +ℤ pos 1) (at +ℤ pos 1) cert.scale (weak cert.scale h) (both (whole_bound cert) at below)) (*ℤ_comm (at +ℤ pos 1) cert.scale)
   where
     weak : (z : ℤ) → pos 0 <ℤ z → pos 0 ≤ℤ z
     weak z h = omega (arith, ints, h)
@@ -80,7 +80,7 @@ next_above cert at h below = chain cert.sum ((rounded cert +ℤ pos 1) *ℤ cert
     chain : (x y z w : ℤ) → x <ℤ y → y ≤ℤ z → z ≡ w → x <ℤ w
     chain x y z w e f g = omega (arith, ints, e, f, g)
 
-pub below-honest : (cert : Cert) (at : ℤ) (b : Bool) → pos 0 <ℤ cert.scale → rounded cert ≤ℤ at → tested_below at cert ≡ Ok b → b ≡ true
+pub below-honest : (cert : Cert) (at : ℤ) (b : Bool) → pos 0 <ℤ cert.scale → whole_bound cert ≤ℤ at → tested_below at cert ≡ Ok b → b ≡ true
 below-honest cert at b h below e =
     on_ok (sum_of at (pos 1)) (λ next. product_of cert.scale next >>= λ limit. sum_of limit (negsuc 0) >>= λ most. bool_ok (int_le cert.sum most)) b e
     (λ next f g. on_ok (product_of cert.scale next) (λ limit. sum_of limit (negsuc 0) >>= λ most. bool_ok (int_le cert.sum most)) b g
@@ -91,7 +91,7 @@ below-honest cert at b h below e =
     at_most : (x y limit most : ℤ) → x <ℤ y → limit ≡ y → most ≡ limit +ℤ negsuc 0 → x ≤ℤ most
     at_most x y limit most e f g = omega (arith, ints, e, f, g)
 
-pub cert-honest : (goal : Goal) (cert : Cert) (at : ℤ) (b : Bool) → IsCertified goal cert → rounded cert ≤ℤ at → tested_cert at goal cert ≡ Ok b → b ≡ true
+pub cert-honest : (goal : Goal) (cert : Cert) (at : ℤ) (b : Bool) → IsCertified goal cert → whole_bound cert ≤ℤ at → tested_cert at goal cert ≡ Ok b → b ≡ true
 cert-honest goal cert at b c below e = first (are_multipliers goal.rows cert.by && int_le (pos 1) cert.scale) (both (are_multipliers goal.rows cert.by) c.multipliers (le_true (pos 1) cert.scale (least cert.scale c.scale))) e
   where
     least : (z : ℤ) → pos 0 <ℤ z → pos 1 ≤ℤ z

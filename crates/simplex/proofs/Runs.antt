@@ -9,7 +9,7 @@ use Rattle.whole_numbers.proofs.Ring.{ring}
 use Rattle.simplex.specs.Choices.{count_to, rank}
 use Rattle.farkas_check.specs.Frames.{choose}
 use Rattle.simplex.specs.Frames.{IsWholeTableau, is_chosen, seen, IsLexPositive}
-use Rattle.simplex.specs.History.{lead, signed, HasRun}
+use Rattle.simplex.specs.History.{lead, with_sign, HasRun}
 use Rattle.simplex.proofs.Exchanges.{product, times_zero}
 use Rattle.simplex.proofs.Growth.{lex_sum, lex_multiple, not_lex_zero}
 use Rattle.simplex.proofs.Choosing.{count_to-chosen, same_line}
@@ -20,8 +20,8 @@ use Rattle.simplex.proofs.Ranks.{rank-below, rank-same}
 pub seen-sum : (constants : ℕ) (u v w : ℕ → ℤ) (a b factor : ℤ) (j : ℕ) → factor *ℤ w j ≡ a *ℤ u j +ℤ b *ℤ v j → factor *ℤ seen constants w j ≡ a *ℤ seen constants u j +ℤ b *ℤ seen constants v j
 seen-sum constants u v w a b factor j e = go (nat_eq j constants)
   where
-    turned : (x y z : ℤ) → factor *ℤ z ≡ a *ℤ x +ℤ b *ℤ y → factor *ℤ neg_ℤ z ≡ a *ℤ neg_ℤ x +ℤ b *ℤ neg_ℤ y
-    turned x y z f = out z ∙ ap neg_ℤ f ∙ back x y
+    flip : (x y z : ℤ) → factor *ℤ z ≡ a *ℤ x +ℤ b *ℤ y → factor *ℤ neg_ℤ z ≡ a *ℤ neg_ℤ x +ℤ b *ℤ neg_ℤ y
+    flip x y z f = out z ∙ ap neg_ℤ f ∙ back x y
       where
         out : (z : ℤ) → factor *ℤ neg_ℤ z ≡ neg_ℤ (factor *ℤ z)
         out z = simp ring (omega (arith, ints))
@@ -30,20 +30,20 @@ seen-sum constants u v w a b factor j e = go (nat_eq j constants)
         back x y = simp ring (omega (arith, ints))
 
     go : (t : Bool) → factor *ℤ cond t (neg_ℤ (w j)) (w j) ≡ a *ℤ cond t (neg_ℤ (u j)) (u j) +ℤ b *ℤ cond t (neg_ℤ (v j)) (v j)
-    go true = turned (u j) (v j) (w j) e
+    go true = flip (u j) (v j) (w j) e
     go false = e
 
 pub seen-multiple : (constants : ℕ) (v w : ℕ → ℤ) (b factor : ℤ) (j : ℕ) → factor *ℤ w j ≡ b *ℤ v j → factor *ℤ seen constants w j ≡ b *ℤ seen constants v j
 seen-multiple constants v w b factor j e = go (nat_eq j constants)
   where
-    turned : (x z : ℤ) → factor *ℤ z ≡ b *ℤ x → factor *ℤ neg_ℤ z ≡ b *ℤ neg_ℤ x
-    turned x z f = out factor z ∙ ap neg_ℤ f ∙ sym (out b x)
+    flip : (x z : ℤ) → factor *ℤ z ≡ b *ℤ x → factor *ℤ neg_ℤ z ≡ b *ℤ neg_ℤ x
+    flip x z f = out factor z ∙ ap neg_ℤ f ∙ sym (out b x)
       where
         out : (c z : ℤ) → c *ℤ neg_ℤ z ≡ neg_ℤ (c *ℤ z)
         out c z = simp ring (omega (arith, ints))
 
     go : (t : Bool) → factor *ℤ cond t (neg_ℤ (w j)) (w j) ≡ b *ℤ cond t (neg_ℤ (v j)) (v j)
-    go true = turned (v j) (w j) e
+    go true = flip (v j) (w j) e
     go false = e
 
 pub seen-zero : (constants : ℕ) (w : ℕ → ℤ) (j : ℕ) → w j ≡ pos 0 → seen constants w j ≡ pos 0
@@ -68,7 +68,7 @@ pub record Grows (constants goal : ℕ) (sign : ℤ) (keys : List ℕ) (before a
   pub factor_positive : pos 0 <ℤ factor
   pub keeps_positive : pos 0 <ℤ keeps
   pub adds_positive : pos 0 <ℤ adds
-  pub line : (j : ℕ) → factor *ℤ signed sign (after goal) j ≡ keeps *ℤ signed sign (before goal) j +ℤ adds *ℤ pivot j
+  pub line : (j : ℕ) → factor *ℤ with_sign sign (after goal) j ≡ keeps *ℤ with_sign sign (before goal) j +ℤ adds *ℤ pivot j
   pub number : factor *ℤ after goal (new goal) ≡ keeps *ℤ before goal (old goal)
   pub same : new goal ≡ old goal
   pub ahead : IsLexPositive (seen constants pivot) keys
@@ -81,10 +81,10 @@ distinct_choices lines units columns frame numbers chosen t i k h g apart e = cl
 
 -- the goal is ahead after the step of where it was ahead before, and of where it was
 ahead_of : (constants goal : ℕ) (sign : ℤ) (keys : List ℕ) (before after then : ℕ → ℕ → ℤ) (old new choice : ℕ → ℕ) (s : Grows constants goal sign keys before after old new) (j : ℕ)
-    → s.factor *ℤ lead (signed sign (after goal)) (after goal (new goal)) (signed sign (then goal)) (then goal (choice goal)) j
-    ≡ s.keeps *ℤ lead (signed sign (before goal)) (before goal (old goal)) (signed sign (then goal)) (then goal (choice goal)) j +ℤ (then goal (choice goal) *ℤ s.adds) *ℤ s.pivot j
+    → s.factor *ℤ lead (with_sign sign (after goal)) (after goal (new goal)) (with_sign sign (then goal)) (then goal (choice goal)) j
+    ≡ s.keeps *ℤ lead (with_sign sign (before goal)) (before goal (old goal)) (with_sign sign (then goal)) (then goal (choice goal)) j +ℤ (then goal (choice goal) *ℤ s.adds) *ℤ s.pivot j
 ahead_of constants goal sign keys before after then old new choice s j =
-    plain s.factor (then goal (choice goal)) (signed sign (after goal) j) (after goal (new goal)) (signed sign (then goal) j) s.keeps (signed sign (before goal) j) (before goal (old goal)) s.adds (s.pivot j) (s.line j) s.number
+    plain s.factor (then goal (choice goal)) (with_sign sign (after goal) j) (after goal (new goal)) (with_sign sign (then goal) j) s.keeps (with_sign sign (before goal) j) (before goal (old goal)) s.adds (s.pivot j) (s.line j) s.number
   where
     plain : (f e a d t p b c q r : ℤ) → f *ℤ a ≡ p *ℤ b +ℤ q *ℤ r → f *ℤ d ≡ p *ℤ c → f *ℤ (e *ℤ a -ℤ d *ℤ t) ≡ p *ℤ (e *ℤ b -ℤ c *ℤ t) +ℤ e *ℤ q *ℤ r
     plain f e a d t p b c q r g h = apart f e a d t ∙ rw (g, h) (together e t p b c q r)
@@ -143,9 +143,9 @@ own_fresh lines units columns constants goal sign frame keys numbers chosen turn
     fresh : (b : Bool) → list_any (nat_eq (rank columns lines (is_chosen lines chosen))) run.ranks ≡ b → list_any (nat_eq (rank columns lines (is_chosen lines chosen))) run.ranks ≡ false
     fresh true e =
         absurd
-        (not_lex_zero keys (seen constants (lead (signed sign (numbers goal)) (numbers goal (chosen goal)) (signed sign (numbers goal)) (numbers goal (chosen goal))))
-        (all_below columns keys (λ j. seen constants (lead (signed sign (numbers goal)) (numbers goal (chosen goal)) (signed sign (numbers goal)) (numbers goal (chosen goal))) j ≡ pos 0) within
-        (λ j h. seen-zero constants (lead (signed sign (numbers goal)) (numbers goal (chosen goal)) (signed sign (numbers goal)) (numbers goal (chosen goal))) j (level (numbers goal (chosen goal)) (signed sign (numbers goal) j))))
+        (not_lex_zero keys (seen constants (lead (with_sign sign (numbers goal)) (numbers goal (chosen goal)) (with_sign sign (numbers goal)) (numbers goal (chosen goal))))
+        (all_below columns keys (λ j. seen constants (lead (with_sign sign (numbers goal)) (numbers goal (chosen goal)) (with_sign sign (numbers goal)) (numbers goal (chosen goal))) j ≡ pos 0) within
+        (λ j h. seen-zero constants (lead (with_sign sign (numbers goal)) (numbers goal (chosen goal)) (with_sign sign (numbers goal)) (numbers goal (chosen goal))) j (level (numbers goal (chosen goal)) (with_sign sign (numbers goal) j))))
         (run.older numbers chosen t refl ranges e))
     fresh false e = e
 
@@ -168,11 +168,11 @@ HasRun-more lines units columns constants goal sign frame keys before after old 
     counted = count_to-chosen columns lines old ranges (distinct_choices lines units columns frame before old t)
 
     behind_older : (then : ℕ → ℕ → ℤ) (choice : ℕ → ℕ) → IsWholeTableau lines units columns frame then choice
-        → IsLexPositive (seen constants (lead (signed sign (before goal)) (before goal (old goal)) (signed sign (then goal)) (then goal (choice goal)))) keys
-        → IsLexPositive (seen constants (lead (signed sign (after goal)) (after goal (new goal)) (signed sign (then goal)) (then goal (choice goal)))) keys
+        → IsLexPositive (seen constants (lead (with_sign sign (before goal)) (before goal (old goal)) (with_sign sign (then goal)) (then goal (choice goal)))) keys
+        → IsLexPositive (seen constants (lead (with_sign sign (after goal)) (after goal (new goal)) (with_sign sign (then goal)) (then goal (choice goal)))) keys
     behind_older then choice u h =
-        let now = lead (signed sign (before goal)) (before goal (old goal)) (signed sign (then goal)) (then goal (choice goal)) in
-        let next = lead (signed sign (after goal)) (after goal (new goal)) (signed sign (then goal)) (then goal (choice goal)) in
+        let now = lead (with_sign sign (before goal)) (before goal (old goal)) (with_sign sign (then goal)) (then goal (choice goal)) in
+        let next = lead (with_sign sign (after goal)) (after goal (new goal)) (with_sign sign (then goal)) (then goal (choice goal)) in
         lex_sum keys (seen constants now) (seen constants s.pivot) (seen constants next) s.keeps (then goal (choice goal) *ℤ s.adds) s.factor
         s.keeps_positive (product (then goal (choice goal)) s.adds (u.own goal here) s.adds_positive) s.factor_positive
         (all_below columns keys (λ j. s.factor *ℤ seen constants next j ≡ s.keeps *ℤ seen constants now j +ℤ (then goal (choice goal) *ℤ s.adds) *ℤ seen constants s.pivot j) within
@@ -181,15 +181,15 @@ HasRun-more lines units columns constants goal sign frame keys before after old 
 
     behind_here : (then : ℕ → ℕ → ℤ) (choice : ℕ → ℕ) → IsWholeTableau lines units columns frame then choice → choice goal ≡ old goal → ((k : ℕ) → k < lines → choice k < columns)
         → rank columns lines (is_chosen lines choice) ≡ rank columns lines (is_chosen lines old)
-        → IsLexPositive (seen constants (lead (signed sign (after goal)) (after goal (new goal)) (signed sign (then goal)) (then goal (choice goal)))) keys
+        → IsLexPositive (seen constants (lead (with_sign sign (after goal)) (after goal (new goal)) (with_sign sign (then goal)) (then goal (choice goal)))) keys
     behind_here then choice u same r e =
-        let next = lead (signed sign (after goal)) (after goal (new goal)) (signed sign (then goal)) (then goal (choice goal)) in
+        let next = lead (with_sign sign (after goal)) (after goal (new goal)) (with_sign sign (then goal)) (then goal (choice goal)) in
         lex_multiple keys (seen constants s.pivot) (seen constants next) (then goal (choice goal) *ℤ s.adds) s.factor
         (product (then goal (choice goal)) s.adds (u.own goal here) s.adds_positive) s.factor_positive
         (all_below columns keys (λ j. s.factor *ℤ seen constants next j ≡ (then goal (choice goal) *ℤ s.adds) *ℤ seen constants s.pivot j) within
         (λ j k. seen-multiple constants s.pivot next (then goal (choice goal) *ℤ s.adds) s.factor j
         (ahead_of constants goal sign keys before after then old new choice s j
-        ∙ drop_left s.keeps (lead (signed sign (before goal)) (before goal (old goal)) (signed sign (then goal)) (then goal (choice goal)) j) ((then goal (choice goal) *ℤ s.adds) *ℤ s.pivot j)
+        ∙ drop_left s.keeps (lead (with_sign sign (before goal)) (before goal (old goal)) (with_sign sign (then goal)) (then goal (choice goal)) j) ((then goal (choice goal) *ℤ s.adds) *ℤ s.pivot j)
         (scaled (then goal (choice goal)) (before goal (old goal)) (before goal j) (then goal j)
         (same_line lines units columns frame before then old choice goal t u here (sym same)
         (rank-same columns lines (is_chosen lines old) (is_chosen lines choice) counted (count_to-chosen columns lines choice r (distinct_choices lines units columns frame then choice u)) (sym e)) ranges j k)))))

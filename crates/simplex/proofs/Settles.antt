@@ -9,7 +9,7 @@ use Rattle.whole_numbers.proofs.Ring.{ring, ≤ℤ-*ℤ, *ℤ-≤ℤ, one-*ℤ}
 use Rattle.linear_terms.specs.declared.row.Kind.{Kind}
 use Rattle.linear_terms.specs.declared.row.Kind.TheVariants.{AtMost, Equal}
 use Rattle.simplex.specs.declared.tableau.Tableau.{Tableau}
-use Rattle.simplex.specs.Exchange.{numbers_of, choices_of, exchanged}
+use Rattle.simplex.specs.Exchange.{numbers_of, choices_of, exchange}
 use Rattle.simplex.specs.Frames.{IsCleared, seen, IsLexPositive}
 use Rattle.simplex.specs.History.{Raises, IsUnmet}
 use Rattle.simplex.specs.Raise.{Framed, enters_at, leaves_at, keys_of, Begins, IsBest, IsOpen}
@@ -204,7 +204,7 @@ turned_down sign a b c d n p e q f =
     last x y z g h k = omega (arith, ints)
 
 kept_open : (over : Framed) (constants : ℕ) (kinds : List Kind) (enters : List Bool) (t next : Tableau) (i column : ℕ) → IsPlaced over constants kinds enters t → i < over.rows → i < length t.lines → kind_at kinds i ≡ AtMost → enters_at enters (over.units + i) ≡ false
-    → pos 0 <ℤ numbers_of t i constants → IsOpen enters (pos 1) i column t → exchanged t i column ≡ Ok next → IsKept over constants kinds i enters (slice_set enters (over.units + i) true) next
+    → pos 0 <ℤ numbers_of t i constants → IsOpen enters (pos 1) i column t → exchange t i column ≡ Ok next → IsKept over constants kinds i enters (slice_set enters (over.units + i) true) next
 kept_open over constants kinds enters t next i column p row here kind waits unmet o e =
     with_step (step over constants kinds t next i column p.marked.sized here (subst (λ (n : ℕ). column < n) p.marked.wide o.0.within) (λ same. let is : column ≡ over.units + unit.row = unit.is in let u : over.units ≡ constants + 1 = p.marked.sized.units in absurd (omega (arith, same, is, u))) (λ z. not_zero (numbers_of t i column) down z) e)
   where
@@ -270,13 +270,13 @@ kept_open over constants kinds enters t next i column p row here kind waits unme
             before (inr other) = p.flat l r (in_t l h) (subst (λ (n : ℕ). over.units ≤ n) (x.is.choices.elsewhere l (in_t l h) other) c) j m
 
         constant_down : numbers_of next i constants ≤ℤ pos 0
-        constant_down = turned_down x.is.numbers.sign (numbers_of t i column) (numbers_of next i column) (numbers_of t i constants) (numbers_of next i constants) down x.is.numbers.positive (x.is.numbers.turned column) unmet (x.is.numbers.turned constants)
+        constant_down = turned_down x.is.numbers.sign (numbers_of t i column) (numbers_of next i column) (numbers_of t i constants) (numbers_of next i constants) down x.is.numbers.positive (x.is.numbers.upright column) unmet (x.is.numbers.upright constants)
 
         corner : (l : ℕ) → l < length next.lines → leaves_at (slice_set enters (over.units + i) true) next l ≡ true → numbers_of next l constants ≤ℤ pos 0
         corner l h may = ⊎_elim (λ (same : l ≡ i). subst (λ (k : ℕ). numbers_of next k constants ≤ℤ pos 0) (sym same) constant_down) elsewhere (cases_eq l i)
           where
             elsewhere : l ≢ i → numbers_of next l constants ≤ℤ pos 0
-            elsewhere other = with_cleared (x.is.numbers.cleared l (in_t l h) other)
+            elsewhere other = with_cleared (x.is.numbers.line_without l (in_t l h) other)
               where
                 slack : leaves_at enters t l ≡ true
                 slack = sym (set_other enters (over.units + i) (choices_of t l) (λ is. choose_apart over t l i p.marked.sized.tableau (in_t l h) here other (is ∙ sym own))) ∙ ap (enters_at (slice_set enters (over.units + i) true)) (sym (x.is.choices.elsewhere l (in_t l h) other)) ∙ may
@@ -299,7 +299,7 @@ kept-met over constants kinds enters sign t now i turns p r row here kind waits 
     (kept_here over constants kinds enters now i (raised-placed over constants kinds enters i sign t now turns p r) row (subst (λ (n : ℕ). i < n) (p.marked.sized.many ∙ sym r.many) here) kind (waits_there over constants i enters p.marked.sized.units waits) met)
 
 pub kept-open : (over : Framed) (constants : ℕ) (kinds : List Kind) (enters : List Bool) (t now next : Tableau) (i column turns : ℕ) → IsPlaced over constants kinds enters t → Raises over enters constants (keys_of enters constants t) i (pos 1) t now turns → i < over.rows → i < length kinds → kind_at kinds i ≡ AtMost → enters_at enters (constants + 1 + i) ≡ false
-    → IsUnmet true constants i now → IsOpen enters (pos 1) i column now → exchanged now i column ≡ Ok next → IsKept over constants kinds i enters (slice_set enters (constants + 1 + i) true) next
+    → IsUnmet true constants i now → IsOpen enters (pos 1) i column now → exchange now i column ≡ Ok next → IsKept over constants kinds i enters (slice_set enters (constants + 1 + i) true) next
 kept-open over constants kinds enters t now next i column turns p r row here kind waits unmet o e =
     in_units over constants kinds i enters next p.marked.sized.units
     (kept_open over constants kinds enters now next i column (raised-placed over constants kinds enters i (pos 1) t now turns p r) row (subst (λ (n : ℕ). i < n) (p.marked.sized.many ∙ sym r.many) here) kind (waits_there over constants i enters p.marked.sized.units waits) (unmet refl) o e)

@@ -10,8 +10,8 @@ use Rattle.whole_numbers.specs.Fits.{fits, sum_of, product_of}
 use Rattle.whole_numbers.specs.declared.wide.Wide as Step
 use Rattle.simplex.specs.declared.tableau.Tableau.{Tableau}
 use Rattle.simplex.specs.Calm.{HasSquares}
-use Rattle.simplex.proofs.Numbers.{multiplied-number, tableau_ok}
-use Rattle.simplex.specs.Exchange.{sum_of_products, combined, multiplied, reduced, turned, cleared, cleared_at, cleared_from, exchanged}
+use Rattle.simplex.proofs.Numbers.{line_multiple-number, tableau_ok}
+use Rattle.simplex.specs.Exchange.{sum_of_products, sum_of_lines, line_multiple, reduced, upright_line, line_without, line_without_at, lines_without, exchange}
 use Rattle.farkas_check.specs.Relations.{entry}
 
 -- each number is at most n in size
@@ -58,18 +58,18 @@ sum_of_products-fits n p a q b room hp ha hq hb =
 tail-small : (n : ℕ) (a : ℤ) (line : List ℤ) → AreSmall n (a ∷ line) → AreSmall n line
 tail-small n a line h j = h (suc j)
 
-combined-fits : (n : ℕ) (p : ℤ) (line : List ℤ) (q : ℤ) (pivot : List ℤ) → HasSquares n → unsigned_abs p ≤ n → unsigned_abs q ≤ n → AreSmall n line → AreSmall n pivot → HasValue (combined p line q pivot)
-combined-fits n p [] q pivot room hp hq h k = ([], refl)
-combined-fits n p (a ∷ line) q [] room hp hq h k = ([], refl)
-combined-fits n p (a ∷ line) q (b ∷ pivot) room hp hq h k =
-    bind_value (sum_of_products p a q b) (λ z. combined p line q pivot >>= λ made. Ok (z ∷ made)) (p *ℤ a +ℤ q *ℤ b, sum_of_products-fits n p a q b room hp (h 0) hq (k 0))
-    (λ z e. rest z (combined-fits n p line q pivot room hp hq (tail-small n a line h) (tail-small n b pivot k)))
+sum_of_lines-fits : (n : ℕ) (p : ℤ) (line : List ℤ) (q : ℤ) (pivot : List ℤ) → HasSquares n → unsigned_abs p ≤ n → unsigned_abs q ≤ n → AreSmall n line → AreSmall n pivot → HasValue (sum_of_lines p line q pivot)
+sum_of_lines-fits n p [] q pivot room hp hq h k = ([], refl)
+sum_of_lines-fits n p (a ∷ line) q [] room hp hq h k = ([], refl)
+sum_of_lines-fits n p (a ∷ line) q (b ∷ pivot) room hp hq h k =
+    bind_value (sum_of_products p a q b) (λ z. sum_of_lines p line q pivot >>= λ made. Ok (z ∷ made)) (p *ℤ a +ℤ q *ℤ b, sum_of_products-fits n p a q b room hp (h 0) hq (k 0))
+    (λ z e. rest z (sum_of_lines-fits n p line q pivot room hp hq (tail-small n a line h) (tail-small n b pivot k)))
   where
-    rest : (z : ℤ) → HasValue (combined p line q pivot) → HasValue (combined p line q pivot >>= λ made. Ok (z ∷ made))
-    rest z v = bind_value (combined p line q pivot) (λ made. Ok (z ∷ made)) v (λ made e. (z ∷ made, refl))
+    rest : (z : ℤ) → HasValue (sum_of_lines p line q pivot) → HasValue (sum_of_lines p line q pivot >>= λ made. Ok (z ∷ made))
+    rest z v = bind_value (sum_of_lines p line q pivot) (λ made. Ok (z ∷ made)) v (λ made e. (z ∷ made, refl))
 
-pub turned-fits : (n : ℕ) (a : ℤ) → HasSquares n → unsigned_abs a ≤ n → product_of a (negsuc 0) ≡ Ok (a *ℤ negsuc 0)
-turned-fits n a room h = product_of-fits a (negsuc 0) (let x : unsigned_abs (a *ℤ negsuc 0) ≡ unsigned_abs a = omega (arith, ints) in small (unsigned_abs a) (unsigned_abs (a *ℤ negsuc 0)) x h)
+pub negative-fits : (n : ℕ) (a : ℤ) → HasSquares n → unsigned_abs a ≤ n → product_of a (negsuc 0) ≡ Ok (a *ℤ negsuc 0)
+negative-fits n a room h = product_of-fits a (negsuc 0) (let x : unsigned_abs (a *ℤ negsuc 0) ≡ unsigned_abs a = omega (arith, ints) in small (unsigned_abs a) (unsigned_abs (a *ℤ negsuc 0)) x h)
   where
     small : (x y : ℕ) → y ≡ x → x ≤ n → y < 2 ^ 127
     small x y e k = let m : n ≤ n * n + n * n = at_least n in omega arith
@@ -78,52 +78,52 @@ turned-fits n a room h = product_of-fits a (negsuc 0) (let x : unsigned_abs (a *
         at_least zero = omega arith
         at_least (suc n) = let m : suc n * 1 ≤ suc n * suc n = mul-le-mul (omega arith) (omega arith) in omega arith
 
-pub multiplied-fits : (n : ℕ) (line : List ℤ) → HasSquares n → AreSmall n line → HasValue (multiplied line (negsuc 0))
-multiplied-fits n [] room h = ([], refl)
-multiplied-fits n (a ∷ line) room h =
-    bind_value (product_of a (negsuc 0)) (λ z. multiplied line (negsuc 0) >>= λ made. Ok (z ∷ made)) (a *ℤ negsuc 0, turned-fits n a room (h 0))
-    (λ z e. rest z (multiplied-fits n line room (tail-small n a line h)))
+pub line_multiple-fits : (n : ℕ) (line : List ℤ) → HasSquares n → AreSmall n line → HasValue (line_multiple line (negsuc 0))
+line_multiple-fits n [] room h = ([], refl)
+line_multiple-fits n (a ∷ line) room h =
+    bind_value (product_of a (negsuc 0)) (λ z. line_multiple line (negsuc 0) >>= λ made. Ok (z ∷ made)) (a *ℤ negsuc 0, negative-fits n a room (h 0))
+    (λ z e. rest z (line_multiple-fits n line room (tail-small n a line h)))
   where
-    rest : (z : ℤ) → HasValue (multiplied line (negsuc 0)) → HasValue (multiplied line (negsuc 0) >>= λ made. Ok (z ∷ made))
-    rest z v = bind_value (multiplied line (negsuc 0)) (λ made. Ok (z ∷ made)) v (λ made e. (z ∷ made, refl))
+    rest : (z : ℤ) → HasValue (line_multiple line (negsuc 0)) → HasValue (line_multiple line (negsuc 0) >>= λ made. Ok (z ∷ made))
+    rest z v = bind_value (line_multiple line (negsuc 0)) (λ made. Ok (z ∷ made)) v (λ made e. (z ∷ made, refl))
 
-pub turned_line-fits : (n column : ℕ) (line : List ℤ) → HasSquares n → AreSmall n line → HasValue (turned column line)
-turned_line-fits n column line room h = go (int_lt (entry line column) (pos 0))
+pub upright-fits : (n column : ℕ) (line : List ℤ) → HasSquares n → AreSmall n line → HasValue (upright_line column line)
+upright-fits n column line room h = go (int_lt (entry line column) (pos 0))
   where
-    go : (b : Bool) → HasValue (cond b (multiplied line (negsuc 0)) (Ok line))
-    go true = multiplied-fits n line room h
+    go : (b : Bool) → HasValue (cond b (line_multiple line (negsuc 0)) (Ok line))
+    go true = line_multiple-fits n line room h
     go false = (line, refl)
 
-cleared-fits : (n column : ℕ) (pivot line : List ℤ) → HasSquares n → AreSmall n line → AreSmall n pivot → HasValue (cleared column pivot line)
-cleared-fits n column pivot line room h k = go (int_eq (entry line column) (pos 0))
+line_without-fits : (n column : ℕ) (pivot line : List ℤ) → HasSquares n → AreSmall n line → AreSmall n pivot → HasValue (line_without column pivot line)
+line_without-fits n column pivot line room h k = go (int_eq (entry line column) (pos 0))
   where
     sizes : (a : ℤ) → unsigned_abs (a *ℤ negsuc 0) ≡ unsigned_abs a
     sizes a = omega (arith, ints)
 
-    go : (b : Bool) → HasValue (cond b (Ok line) (product_of (entry line column) (negsuc 0) >>= λ q. combined (entry pivot column) line q pivot >>= λ made. Ok (reduced made)))
+    go : (b : Bool) → HasValue (cond b (Ok line) (product_of (entry line column) (negsuc 0) >>= λ q. sum_of_lines (entry pivot column) line q pivot >>= λ made. Ok (reduced made)))
     go true = (line, refl)
     go false =
-        bind_value (product_of (entry line column) (negsuc 0)) (λ q. combined (entry pivot column) line q pivot >>= λ made. Ok (reduced made)) (entry line column *ℤ negsuc 0, turned-fits n (entry line column) room (h column))
-        (λ q e. rest q (combined-fits n (entry pivot column) line q pivot room (k column) (small q e) h k))
+        bind_value (product_of (entry line column) (negsuc 0)) (λ q. sum_of_lines (entry pivot column) line q pivot >>= λ made. Ok (reduced made)) (entry line column *ℤ negsuc 0, negative-fits n (entry line column) room (h column))
+        (λ q e. rest q (sum_of_lines-fits n (entry pivot column) line q pivot room (k column) (small q e) h k))
       where
         small : (q : ℤ) → product_of (entry line column) (negsuc 0) ≡ Ok q → unsigned_abs q ≤ n
         small q e =
-            let same : entry line column *ℤ negsuc 0 ≡ q = let f : Ok (entry line column *ℤ negsuc 0) ≡ Ok q = sym (turned-fits n (entry line column) room (h column)) ∙ e in cc in
+            let same : entry line column *ℤ negsuc 0 ≡ q = let f : Ok (entry line column *ℤ negsuc 0) ≡ Ok q = sym (negative-fits n (entry line column) room (h column)) ∙ e in cc in
             let size : unsigned_abs q ≡ unsigned_abs (entry line column) = ap unsigned_abs (sym same) ∙ sizes (entry line column) in
             let known : unsigned_abs (entry line column) ≤ n = h column in omega arith
 
-        rest : (q : ℤ) → HasValue (combined (entry pivot column) line q pivot) → HasValue (combined (entry pivot column) line q pivot >>= λ made. Ok (reduced made))
-        rest q v = bind_value (combined (entry pivot column) line q pivot) (λ made. Ok (reduced made)) v (λ made e. (reduced made, refl))
+        rest : (q : ℤ) → HasValue (sum_of_lines (entry pivot column) line q pivot) → HasValue (sum_of_lines (entry pivot column) line q pivot >>= λ made. Ok (reduced made))
+        rest q v = bind_value (sum_of_lines (entry pivot column) line q pivot) (λ made. Ok (reduced made)) v (λ made e. (reduced made, refl))
 
-turned-small : (n column : ℕ) (line made : List ℤ) → AreSmall n line → turned column line ≡ Ok made → AreSmall n made
-turned-small n column line made h e = go (int_lt (entry line column) (pos 0)) e
+upright-small : (n column : ℕ) (line made : List ℤ) → AreSmall n line → upright_line column line ≡ Ok made → AreSmall n made
+upright-small n column line made h e = go (int_lt (entry line column) (pos 0)) e
   where
     sizes : (a : ℤ) → unsigned_abs (a *ℤ negsuc 0) ≡ unsigned_abs a
     sizes a = omega (arith, ints)
 
-    go : (b : Bool) → cond b (multiplied line (negsuc 0)) (Ok line) ≡ Ok made → AreSmall n made
+    go : (b : Bool) → cond b (line_multiple line (negsuc 0)) (Ok line) ≡ Ok made → AreSmall n made
     go true f j =
-        let size : unsigned_abs (entry made j) ≡ unsigned_abs (entry line j) = ap unsigned_abs (multiplied-number line (negsuc 0) made f j) ∙ sizes (entry line j) in
+        let size : unsigned_abs (entry made j) ≡ unsigned_abs (entry line j) = ap unsigned_abs (line_multiple-number line (negsuc 0) made f j) ∙ sizes (entry line j) in
         let known : unsigned_abs (entry line j) ≤ n = h j in omega arith
     go false f j = let same : line ≡ made = cc in subst (AreSmall n) same h j
 
@@ -131,24 +131,24 @@ turned-small n column line made h e = go (int_lt (entry line column) (pos 0)) e
 abbrev pub EachSmall : ℕ → List (List ℤ) → Type 0
 EachSmall n lines = (i : ℕ) → AreSmall n (get_or lines i [])
 
-cleared_from-fits : (n column : ℕ) (pivot : List ℤ) (place i : ℕ) (lines : List (List ℤ)) → HasSquares n → AreSmall n pivot → EachSmall n lines → HasValue (cleared_from column pivot place i lines)
-cleared_from-fits n column pivot place i [] room k h = ([], refl)
-cleared_from-fits n column pivot place i (line ∷ lines) room k h =
-    bind_value (cleared_at column pivot place i line) (λ made. cleared_from column pivot place (i + 1) lines >>= λ more. Ok (made ∷ more)) (first (nat_eq i place))
-    (λ made e. rest made (cleared_from-fits n column pivot place (i + 1) lines room k (λ l. h (suc l))))
+lines_without-fits : (n column : ℕ) (pivot : List ℤ) (place i : ℕ) (lines : List (List ℤ)) → HasSquares n → AreSmall n pivot → EachSmall n lines → HasValue (lines_without column pivot place i lines)
+lines_without-fits n column pivot place i [] room k h = ([], refl)
+lines_without-fits n column pivot place i (line ∷ lines) room k h =
+    bind_value (line_without_at column pivot place i line) (λ made. lines_without column pivot place (i + 1) lines >>= λ more. Ok (made ∷ more)) (first (nat_eq i place))
+    (λ made e. rest made (lines_without-fits n column pivot place (i + 1) lines room k (λ l. h (suc l))))
   where
-    first : (b : Bool) → HasValue (cond b (Ok pivot) (cleared column pivot line))
+    first : (b : Bool) → HasValue (cond b (Ok pivot) (line_without column pivot line))
     first true = (pivot, refl)
-    first false = cleared-fits n column pivot line room (h 0) k
+    first false = line_without-fits n column pivot line room (h 0) k
 
-    rest : (made : List ℤ) → HasValue (cleared_from column pivot place (i + 1) lines) → HasValue (cleared_from column pivot place (i + 1) lines >>= λ more. Ok (made ∷ more))
-    rest made v = bind_value (cleared_from column pivot place (i + 1) lines) (λ more. Ok (made ∷ more)) v (λ more e. (made ∷ more, refl))
+    rest : (made : List ℤ) → HasValue (lines_without column pivot place (i + 1) lines) → HasValue (lines_without column pivot place (i + 1) lines >>= λ more. Ok (made ∷ more))
+    rest made v = bind_value (lines_without column pivot place (i + 1) lines) (λ more. Ok (made ∷ more)) v (λ more e. (made ∷ more, refl))
 
 -- no step of an exchange of small numbers leaves 128 bits
-pub exchanged-fits : (n : ℕ) (t : Tableau) (line column : ℕ) → HasSquares n → EachSmall n t.lines → HasValue (exchanged t line column)
-exchanged-fits n t line column room h =
-    bind_value (turned column (get_or t.lines line [])) (λ pivot. cleared_from column pivot line 0 t.lines >>= λ lines. tableau_ok (record { lines = lines; chosen = slice_set t.chosen line column })) (turned_line-fits n column (get_or t.lines line []) room (h line))
-    (λ pivot e. rest pivot (cleared_from-fits n column pivot line 0 t.lines room (turned-small n column (get_or t.lines line []) pivot (h line) e) h))
+pub exchange-fits : (n : ℕ) (t : Tableau) (line column : ℕ) → HasSquares n → EachSmall n t.lines → HasValue (exchange t line column)
+exchange-fits n t line column room h =
+    bind_value (upright_line column (get_or t.lines line [])) (λ pivot. lines_without column pivot line 0 t.lines >>= λ lines. tableau_ok (record { lines = lines; chosen = slice_set t.chosen line column })) (upright-fits n column (get_or t.lines line []) room (h line))
+    (λ pivot e. rest pivot (lines_without-fits n column pivot line 0 t.lines room (upright-small n column (get_or t.lines line []) pivot (h line) e) h))
   where
-    rest : (pivot : List ℤ) → HasValue (cleared_from column pivot line 0 t.lines) → HasValue (cleared_from column pivot line 0 t.lines >>= λ lines. tableau_ok (record { lines = lines; chosen = slice_set t.chosen line column }))
-    rest pivot v = bind_value (cleared_from column pivot line 0 t.lines) (λ lines. tableau_ok (record { lines = lines; chosen = slice_set t.chosen line column })) v (λ lines e. (record { lines = lines; chosen = slice_set t.chosen line column }, refl))
+    rest : (pivot : List ℤ) → HasValue (lines_without column pivot line 0 t.lines) → HasValue (lines_without column pivot line 0 t.lines >>= λ lines. tableau_ok (record { lines = lines; chosen = slice_set t.chosen line column }))
+    rest pivot v = bind_value (lines_without column pivot line 0 t.lines) (λ lines. tableau_ok (record { lines = lines; chosen = slice_set t.chosen line column })) v (λ lines e. (record { lines = lines; chosen = slice_set t.chosen line column }, refl))

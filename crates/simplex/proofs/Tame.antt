@@ -157,7 +157,7 @@ all_entries P (z ∷ zs) f = (f 0 (omega arith), all_entries P zs (λ j h. f (su
 
 pub multipliers_small : (n constants : ℕ) (t : Tableau) (line : ℕ) (by : List ℤ) → HasSmallLines n t → IsMultipliers constants t line by → AllByRecursion (λ m. unsigned_abs m ≤ n) by
 multipliers_small n constants t line by small m =
-    all_entries (λ z. unsigned_abs z ≤ n) by (λ l h. subst (λ (x : ℕ). x ≤ n) (sym (ap unsigned_abs (m.turned l (subst (λ (x : ℕ). l < x) m.each h)) ∙ unsigned_abs-mul m.sign (numbers_of t line (constants + 1 + l)) ∙ ap (λ (x : ℕ). x * unsigned_abs (numbers_of t line (constants + 1 + l))) m.one ∙ one-mul (unsigned_abs (numbers_of t line (constants + 1 + l))))) (small line (constants + 1 + l)))
+    all_entries (λ z. unsigned_abs z ≤ n) by (λ l h. subst (λ (x : ℕ). x ≤ n) (sym (ap unsigned_abs (m.upright l (subst (λ (x : ℕ). l < x) m.each h)) ∙ unsigned_abs-mul m.sign (numbers_of t line (constants + 1 + l)) ∙ ap (λ (x : ℕ). x * unsigned_abs (numbers_of t line (constants + 1 + l))) m.one ∙ one-mul (unsigned_abs (numbers_of t line (constants + 1 + l))))) (small line (constants + 1 + l)))
 
 pub yes-fits : (n : ℕ) (rows : List Row) (by : List ℤ) (w : Step.Wide) → HasSmallLines n (framed (columns rows []) rows) → AllByRecursion (λ m. unsigned_abs m ≤ n) by → length rows * (n * n) < 2 ^ 127 → tested_yes rows by ≡ Err w → ⊥
 yes-fits n rows by w small m h e =

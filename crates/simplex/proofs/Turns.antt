@@ -6,15 +6,15 @@ use Rattle.std.proofs.lemmas.Bool.{cases_eq, false≢true}
 use Rattle.simplex.specs.declared.tableau.Tableau.{Tableau}
 use Rattle.farkas_check.specs.Frames.{choose}
 use Rattle.simplex.specs.Frames.{IsWholeTableau, IsExchange, IsChanged, seen, IsLexPositive}
-use Rattle.simplex.specs.Exchange.{numbers_of, choices_of, exchanged, IsTableauOf}
+use Rattle.simplex.specs.Exchange.{numbers_of, choices_of, exchange, IsTableauOf}
 use Rattle.simplex.specs.Raise.{Framed, enters_at, leaves_at, behind_of, IsLeast, Begins, Improves}
 use Rattle.simplex.specs.History.{Raises}
 use Rattle.simplex.proofs.Runs.{HasRun-begins, HasRun-more, HasRun-short}
-use Rattle.simplex.proofs.Divisors.{exchanged-primitive}
+use Rattle.simplex.proofs.Divisors.{exchange-primitive}
 use Rattle.simplex.proofs.Zeros.{stays_zero_at, stays_zero_under}
 use Rattle.simplex.proofs.Raises.{Leaves, no_tie, ahead_after, grows}
-use Rattle.simplex.proofs.Numbers.{Exchanged, exchanged-is, exchanged-keeps}
-use Rattle.simplex.proofs.Lines.{turned-length}
+use Rattle.simplex.proofs.Numbers.{ExchangeAt, exchange-is, exchange-keeps}
+use Rattle.simplex.proofs.Lines.{upright-length}
 
 pub Raises-begins : (over : Framed) (enters : List Bool) (constants : ℕ) (keys : List ℕ) (goal : ℕ) (sign : ℤ) (first : Tableau) → Begins over enters constants keys goal first → Raises over enters constants keys goal sign first first 0
 Raises-begins over enters constants keys goal sign first b = record {
@@ -49,11 +49,11 @@ leaves over enters constants keys goal sign first now turns line column b r l = 
     slack = sym (r.same line (subst (λ (n : ℕ). line < n) r.many l.here)) ∙ l.leaves
 
 pub Raises-more : (over : Framed) (enters : List Bool) (constants : ℕ) (keys : List ℕ) (goal : ℕ) (sign : ℤ) (first now next : Tableau) (turns line column : ℕ) → Begins over enters constants keys goal first → Raises over enters constants keys goal sign first now turns
-    → Improves enters sign goal column now → IsLeast (length now.lines) enters constants keys column now line → exchanged now line column ≡ Ok next → Raises over enters constants keys goal sign first next (turns + 1)
+    → Improves enters sign goal column now → IsLeast (length now.lines) enters constants keys column now line → exchange now line column ≡ Ok next → Raises over enters constants keys goal sign first next (turns + 1)
 Raises-more over enters constants keys goal sign first now next turns line column b r i l e =
     whole (leaves over enters constants keys goal sign first now turns line column b r l)
-    (exchanged-is (over.units + length now.lines) now next line column r.tableau.shape l.here not_zero (λ made m. turned-length column (get_or now.lines line []) made m ∙ r.tableau.shape.wide line l.here) e)
-    (exchanged-keeps over.units over.frame now next line column r.tableau l.here in_range not_zero e)
+    (exchange-is (over.units + length now.lines) now next line column r.tableau.shape l.here not_zero (λ made m. upright-length column (get_or now.lines line []) made m ∙ r.tableau.shape.wide line l.here) e)
+    (exchange-keeps over.units over.frame now next line column r.tableau l.here in_range not_zero e)
   where
     not_zero : numbers_of now line column ≡ pos 0 → ⊥
     not_zero z = clash (numbers_of now line column) l.positive z
@@ -70,14 +70,14 @@ Raises-more over enters constants keys goal sign first now next turns line colum
     ranges : (k : ℕ) → k < length first.lines → choices_of now k < over.units + length first.lines
     ranges k h = subst (λ (n : ℕ). choices_of now k < over.units + n) r.many (r.tableau.within k (subst (λ (n : ℕ). k < n) (sym r.many) h))
 
-    whole : Leaves (length first.lines) constants (leaves_at enters first) keys (numbers_of now) line column → Exchanged now next line column → IsTableauOf over.units over.frame next → Raises over enters constants keys goal sign first next (turns + 1)
+    whole : Leaves (length first.lines) constants (leaves_at enters first) keys (numbers_of now) line column → ExchangeAt now next line column → IsTableauOf over.units over.frame next → Raises over enters constants keys goal sign first next (turns + 1)
     whole v x t = record {
       tableau = t;
       many = x.many ∙ r.many;
       same = same;
       level = λ k h s e j z. stays_zero_at (length first.lines) (numbers_of now) (numbers_of next) line column k j numbers h (λ is. false≢true (sym s ∙ ap (leaves_at enters first) is ∙ v.is_slack)) (r.level k h s e column (e column i.may)) (r.level k h s e j z);
       zeros = λ j e k h z. stays_zero_under (length first.lines) (numbers_of now) (numbers_of next) line column k j numbers h (r.zeros j e line v.here (e line v.here v.is_slack)) (r.zeros j e k h z);
-      primitive = λ p. exchanged-primitive over.units over.frame now next line column r.tableau l.here in_range not_zero (r.primitive p) e;
+      primitive = λ p. exchange-primitive over.units over.frame now next line column r.tableau l.here in_range not_zero (r.primitive p) e;
       raising = record {
         tableau = subst (λ (n : ℕ). IsWholeTableau n over.units (over.units + n) over.frame (numbers_of next) (choices_of next)) (x.many ∙ r.many) t.is;
         ahead = ahead_after (length first.lines) over.units (over.units + length first.lines) constants over.frame (leaves_at enters first) (choices_of first) keys (numbers_of now) (numbers_of next) (choices_of now) line column r.raising inside v numbers;

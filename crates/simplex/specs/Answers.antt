@@ -16,7 +16,7 @@ use Rattle.linear_terms.specs.declared.row.Kind.{Kind}
 use Rattle.simplex.specs.Raise.{Framed}
 use Rattle.simplex.specs.Search.{IsRefuted, IsMet, IsCornerOf}
 use Rattle.farkas_check.specs.Frames.{choose}
-use Rattle.simplex.specs.Exchange.{numbers_of, turned}
+use Rattle.simplex.specs.Exchange.{numbers_of, upright_line}
 use Rattle.farkas_check.specs.Relations.{entry}
 use Rattle.simplex.specs.Refusal.{IsRefusalIn}
 use Rattle.simplex.specs.Rows.{framed_by, kinds_of}
@@ -46,14 +46,14 @@ IsRefusalFor rows stop = IsRefusalIn (framed_by (columns rows []) rows) (length 
 
 -- a line's numbers at the unit columns, from its own with the sign turned where its constant is negative
 abbrev pub multipliers_of : ℕ → List ℤ → Result (List ℤ) Step.Wide
-multipliers_of constants line = turned constants line >>= λ own. Ok (drop (constants + 1) own)
+multipliers_of constants line = upright_line constants line >>= λ own. Ok (drop (constants + 1) own)
 
 -- a line's numbers at the unit columns, with the sign that makes its constant positive
 pub record IsMultipliers (constants : ℕ) (t : Tableau) (line : ℕ) (by : List ℤ) : Type 0 where
   pub each : length by ≡ length t.lines
   pub sign : ℤ
   pub one : unsigned_abs sign ≡ 1
-  pub turned : (l : ℕ) → l < length t.lines → entry by l ≡ sign *ℤ numbers_of t line (constants + 1 + l)
+  pub upright : (l : ℕ) → l < length t.lines → entry by l ≡ sign *ℤ numbers_of t line (constants + 1 + l)
   pub positive : pos 0 <ℤ (sign *ℤ numbers_of t line constants)
 
 -- what an answer stands on: a line that refutes the rows, or a corner of all rows

@@ -26,44 +26,44 @@ abbrev pub sum_of_products : ℤ → ℤ → ℤ → ℤ → Result ℤ Step.Wid
 sum_of_products p a q b = product_of p a >>= λ x. product_of q b >>= λ y. sum_of x y
 
 -- p times one line and q times another
-abbrev pub combined : ℤ → List ℤ → ℤ → List ℤ → Result (List ℤ) Step.Wide
-combined p [] q bs = Ok []
-combined p (a ∷ more) q [] = Ok []
-combined p (a ∷ more) q (b ∷ bs) = sum_of_products p a q b >>= λ z. combined p more q bs >>= λ made. Ok (z ∷ made)
+abbrev pub sum_of_lines : ℤ → List ℤ → ℤ → List ℤ → Result (List ℤ) Step.Wide
+sum_of_lines p [] q bs = Ok []
+sum_of_lines p (a ∷ more) q [] = Ok []
+sum_of_lines p (a ∷ more) q (b ∷ bs) = sum_of_products p a q b >>= λ z. sum_of_lines p more q bs >>= λ made. Ok (z ∷ made)
 
-abbrev pub multiplied : List ℤ → ℤ → Result (List ℤ) Step.Wide
-multiplied [] by = Ok []
-multiplied (a ∷ more) by = product_of a by >>= λ z. multiplied more by >>= λ made. Ok (z ∷ made)
+abbrev pub line_multiple : List ℤ → ℤ → Result (List ℤ) Step.Wide
+line_multiple [] by = Ok []
+line_multiple (a ∷ more) by = product_of a by >>= λ z. line_multiple more by >>= λ made. Ok (z ∷ made)
 
 -- the numbers divided by their greatest common divisor
 abbrev pub reduced : List ℤ → List ℤ
 reduced line = if nat_eq (gcd_of_all line) 0 then line else map (λ z. int_div z (pos (gcd_of_all line))) line
 
 -- the line with its signs turned where it is negative at the column
-abbrev pub turned : ℕ → List ℤ → Result (List ℤ) Step.Wide
-turned column line = if int_lt (entry line column) (pos 0) then multiplied line (negsuc 0) else Ok line
+abbrev pub upright_line : ℕ → List ℤ → Result (List ℤ) Step.Wide
+upright_line column line = if int_lt (entry line column) (pos 0) then line_multiple line (negsuc 0) else Ok line
 
 -- a line cleared at the column by one that is positive there
-abbrev pub cleared : ℕ → List ℤ → List ℤ → Result (List ℤ) Step.Wide
-cleared column pivot line =
+abbrev pub line_without : ℕ → List ℤ → List ℤ → Result (List ℤ) Step.Wide
+line_without column pivot line =
     if int_eq (entry line column) (pos 0) then Ok line
-    else (product_of (entry line column) (negsuc 0) >>= λ q. combined (entry pivot column) line q pivot >>= λ made. Ok (reduced made))
+    else (product_of (entry line column) (negsuc 0) >>= λ q. sum_of_lines (entry pivot column) line q pivot >>= λ made. Ok (reduced made))
 
 -- ---- all lines
 
 -- a line at a place: the pivot's own, or one that is cleared
-abbrev pub cleared_at : ℕ → List ℤ → ℕ → ℕ → List ℤ → Result (List ℤ) Step.Wide
-cleared_at column pivot place i line = if nat_eq i place then Ok pivot else cleared column pivot line
+abbrev pub line_without_at : ℕ → List ℤ → ℕ → ℕ → List ℤ → Result (List ℤ) Step.Wide
+line_without_at column pivot place i line = if nat_eq i place then Ok pivot else line_without column pivot line
 
 -- the lines from the i-th on
-abbrev pub cleared_from : ℕ → List ℤ → ℕ → ℕ → List (List ℤ) → Result (List (List ℤ)) Step.Wide
-cleared_from column pivot place i [] = Ok []
-cleared_from column pivot place i (line ∷ lines) = cleared_at column pivot place i line >>= λ made. cleared_from column pivot place (i + 1) lines >>= λ more. Ok (made ∷ more)
+abbrev pub lines_without : ℕ → List ℤ → ℕ → ℕ → List (List ℤ) → Result (List (List ℤ)) Step.Wide
+lines_without column pivot place i [] = Ok []
+lines_without column pivot place i (line ∷ lines) = line_without_at column pivot place i line >>= λ made. lines_without column pivot place (i + 1) lines >>= λ more. Ok (made ∷ more)
 
 -- the column is chosen in the line
-abbrev pub exchanged : Tableau → ℕ → ℕ → Result Tableau Step.Wide
-exchanged t line column =
-    turned column (get_or t.lines line []) >>= λ pivot. cleared_from column pivot line 0 t.lines >>= λ lines. Ok record { lines = lines; chosen = slice_set t.chosen line column }
+abbrev pub exchange : Tableau → ℕ → ℕ → Result Tableau Step.Wide
+exchange t line column =
+    upright_line column (get_or t.lines line []) >>= λ pivot. lines_without column pivot line 0 t.lines >>= λ lines. Ok record { lines = lines; chosen = slice_set t.chosen line column }
 
 -- ---- what is put behind what is made
 

@@ -26,10 +26,10 @@ pub record IsCleared (old pivot new : ℕ → ℤ) (column : ℕ) : Type 0 where
 -- one line is turned so that it is positive at a column, and all others are cleared there
 pub record IsExchange (lines : ℕ) (before after : ℕ → ℕ → ℤ) (line column : ℕ) : Type 0 where
   pub sign : ℤ
-  pub turned : (j : ℕ) → after line j ≡ sign *ℤ before line j
+  pub upright : (j : ℕ) → after line j ≡ sign *ℤ before line j
   pub back : (j : ℕ) → before line j ≡ sign *ℤ after line j
   pub positive : pos 0 <ℤ after line column
-  pub cleared : (i : ℕ) → i < lines → i ≢ line → IsCleared (before i) (after line) (after i) column
+  pub line_without : (i : ℕ) → i < lines → i ≢ line → IsCleared (before i) (after line) (after i) column
 
 -- one choice is changed
 pub record IsChanged (lines : ℕ) (before after : ℕ → ℕ) (line column : ℕ) : Type 0 where

@@ -29,8 +29,8 @@ use Rattle.simplex.specs.declared.supremum.Supremum.TheVariants as supremum
 -- ---- bounds
 
 -- the bound of a certificate, its sum over its scale, rounded down
-abbrev pub rounded : Cert → ℤ
-rounded cert = int_div_euclid cert.sum cert.scale
+abbrev pub whole_bound : Cert → ℤ
+whole_bound cert = int_div_euclid cert.sum cert.scale
 
 -- the higher reach, and the first of equal ones
 abbrev pub higher : Option Reach → Reach → Reach
@@ -40,7 +40,7 @@ higher (Some reach) next = if int_lt reach.at next.at then next else reach
 -- one more case that is bounded, with the corner that reaches its bound
 abbrev pub with_bound : Bounds → ℕ → Cert → List Fraction → Bounds
 with_bound bounds case cert point =
-    record { certs = bounds.certs ++ cert ∷ []; reach = Some (higher bounds.reach (record { at = rounded cert; case = case; point = point })) }
+    record { certs = bounds.certs ++ cert ∷ []; reach = Some (higher bounds.reach (record { at = whole_bound cert; case = case; point = point })) }
 
 -- each certificate is that of the case at its place
 abbrev pub AreBounds : ℕ → List Goal → List Cert → Type 0
@@ -54,8 +54,8 @@ pub record IsReachOf (budget : ℕ) (goals : List Goal) (certs : List Cert) (at 
   pub cert : Cert
   pub has : slice_get certs case ≡ Some cert
   pub bound : IsSupremumOf goal budget (supremum.Bound cert point)
-  pub here : at ≡ rounded cert
-  pub greatest : (l : ℕ) (other : Cert) → slice_get certs l ≡ Some other → rounded other ≤ℤ at
+  pub here : at ≡ whole_bound cert
+  pub greatest : (l : ℕ) (other : Cert) → slice_get certs l ≡ Some other → whole_bound other ≤ℤ at
 
 abbrev pub ReachAt : ℕ → List Goal → List Cert → Option Reach → Type 0
 ReachAt budget goals certs None = certs ≡ []

@@ -4,21 +4,21 @@ use Rattle.std.specs.List.{list_any, IsDistinct}
 use Rattle.simplex.specs.Choices.{rank}
 use Rattle.farkas_check.specs.Frames.{choose}
 use Rattle.simplex.specs.Frames.{IsWholeTableau, is_chosen, seen, IsLexPositive}
-use Rattle.simplex.specs.Exchange.{numbers_of, choices_of, exchanged, IsTableauOf, ArePrimitive}
+use Rattle.simplex.specs.Exchange.{numbers_of, choices_of, exchange, IsTableauOf, ArePrimitive}
 use Rattle.simplex.specs.Raise.{Framed, enters_at, leaves_at, Improves, IsBest, IsOpen, IsLeast, NoneLeaves}
 use Rattle.simplex.specs.declared.tableau.Tableau.{Tableau}
 use Rattle.simplex.specs.declared.raise.Turn.{Turn}
 use Rattle.simplex.specs.declared.raise.Turn.TheVariants as turn
-use Rattle.simplex.specs.declared.raise.Raised.{Raised}
-use Rattle.simplex.specs.declared.raise.Raised.TheVariants as raised
+use Rattle.simplex.specs.declared.raise.RaiseEnd.{RaiseEnd}
+use Rattle.simplex.specs.declared.raise.RaiseEnd.TheVariants as raised
 
 -- how far a goal's line is ahead of another one, over both their numbers at the goal
 abbrev pub lead : (ℕ → ℤ) → ℤ → (ℕ → ℤ) → ℤ → ℕ → ℤ
 lead now d then e j = e *ℤ now j -ℤ d *ℤ then j
 
 -- where the line is read with a sign, for a goal that is lowered
-abbrev pub signed : ℤ → (ℕ → ℤ) → ℕ → ℤ
-signed sign w j = sign *ℤ w j
+abbrev pub with_sign : ℤ → (ℕ → ℤ) → ℕ → ℤ
+with_sign sign w j = sign *ℤ w j
 
 -- the ranks of the choices that came before: each is behind the one that is there now
 pub record HasRun (lines units columns constants goal : ℕ) (sign : ℤ) (frame : ℕ → ℕ → ℤ) (keys : List ℕ) (numbers : ℕ → ℕ → ℤ) (chosen : ℕ → ℕ) (turns : ℕ) : Type 0 where
@@ -28,7 +28,7 @@ pub record HasRun (lines units columns constants goal : ℕ) (sign : ℤ) (frame
   pub below : (q : ℕ) → list_any (nat_eq q) ranks ≡ true → q < choose columns lines
   pub older : (then : ℕ → ℕ → ℤ) (choice : ℕ → ℕ) → IsWholeTableau lines units columns frame then choice → choice goal ≡ chosen goal → ((k : ℕ) → k < lines → choice k < columns)
       → list_any (nat_eq (rank columns lines (is_chosen lines choice))) ranks ≡ true
-      → IsLexPositive (seen constants (lead (signed sign (numbers goal)) (numbers goal (chosen goal)) (signed sign (then goal)) (then goal (choice goal)))) keys
+      → IsLexPositive (seen constants (lead (with_sign sign (numbers goal)) (numbers goal (chosen goal)) (with_sign sign (then goal)) (then goal (choice goal)))) keys
 
 -- the lines of slacks at a raise's corner
 pub record IsRaising (lines units columns constants : ℕ) (frame : ℕ → ℕ → ℤ) (slack : ℕ → Bool) (first : ℕ → ℕ) (keys : List ℕ) (numbers : ℕ → ℕ → ℤ) (chosen : ℕ → ℕ) : Type 0 where
@@ -57,17 +57,17 @@ CameTo enters constants keys sign until goal before after turn.Met = (after ≡ 
 CameTo enters constants keys sign until goal before after turn.Best = (after ≡ before) × IsUnmet until constants goal before × IsBest enters sign goal before
 CameTo enters constants keys sign until goal before after (turn.Open column) = (after ≡ before) × IsUnmet until constants goal before × IsOpen enters sign goal column before
 CameTo enters constants keys sign until goal before after turn.Moved =
-    (column : ℕ) × ((line : ℕ) × (Improves enters sign goal column before × IsLeast (length before.lines) enters constants keys column before line × (exchanged before line column ≡ Ok after)))
+    (column : ℕ) × ((line : ℕ) × (Improves enters sign goal column before × IsLeast (length before.lines) enters constants keys column before line × (exchange before line column ≡ Ok after)))
 
 -- what the exchange of an entering column comes to: no line leaves, or one does
 abbrev pub MovedTo : List Bool → ℕ → List ℕ → ℕ → Tableau → Tableau → Turn → Type 0
 MovedTo enters constants keys column before after turn.Met = ⊥
 MovedTo enters constants keys column before after turn.Best = ⊥
 MovedTo enters constants keys column before after (turn.Open entered) = (after ≡ before) × (entered ≡ column) × NoneLeaves (length before.lines) enters column before
-MovedTo enters constants keys column before after turn.Moved = (line : ℕ) × (IsLeast (length before.lines) enters constants keys column before line × (exchanged before line column ≡ Ok after))
+MovedTo enters constants keys column before after turn.Moved = (line : ℕ) × (IsLeast (length before.lines) enters constants keys column before line × (exchange before line column ≡ Ok after))
 
 -- how a raise ended
-abbrev pub EndsAt : Framed → List Bool → ℕ → ℤ → Bool → ℕ → ℕ → Tableau → Raised → Type 0
+abbrev pub EndsAt : Framed → List Bool → ℕ → ℤ → Bool → ℕ → ℕ → Tableau → RaiseEnd → Type 0
 EndsAt over enters constants sign until goal budget t raised.Met = (until ≡ true) × (numbers_of t goal constants ≤ℤ pos 0)
 EndsAt over enters constants sign until goal budget t raised.Best = IsUnmet until constants goal t × IsBest enters sign goal t
 EndsAt over enters constants sign until goal budget t (raised.Open column) = IsUnmet until constants goal t × IsOpen enters sign goal column t

@@ -37,7 +37,7 @@ behind_of column line other j = entry other column *ℤ entry line j -ℤ entry 
 
 -- how two lines stand at a key, each over the other's number at the column; at the constants the other way round
 abbrev pub order_at : Bool → ℤ → ℤ → ℤ → ℤ → Result Ordering Step.Wide
-order_at turned a p b q = product_of a p >>= λ x. product_of b q >>= λ y. Ok (if turned then int_cmp y x else int_cmp x y)
+order_at backward a p b q = product_of a p >>= λ x. product_of b q >>= λ y. Ok (if backward then int_cmp y x else int_cmp x y)
 
 -- whether a line comes before another one, by the first key at which they differ
 abbrev pub comes_before : ℕ → ℕ → List ℤ → List ℤ → List ℕ → Result Bool Step.Wide

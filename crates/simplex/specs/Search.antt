@@ -12,8 +12,8 @@ use Rattle.farkas_check.specs.Relations.{entry}
 use Rattle.simplex.specs.Raise.{Framed, enters_at, leaves_at}
 use Rattle.simplex.specs.Rows.{kind_at}
 use Rattle.simplex.specs.declared.tableau.Tableau.{Tableau}
-use Rattle.simplex.specs.declared.search.Turned.{Turned}
-use Rattle.simplex.specs.declared.search.Turned.TheVariants as turned
+use Rattle.simplex.specs.declared.search.TurnEnd.{TurnEnd}
+use Rattle.simplex.specs.declared.search.TurnEnd.TheVariants as turn_end
 use Rattle.simplex.specs.declared.search.Found.{Found}
 use Rattle.simplex.specs.declared.search.Found.TheVariants as found
 
@@ -101,10 +101,10 @@ pub record IsKept (over : Framed) (constants : ℕ) (kinds : List Kind) (i : ℕ
   pub own : kind_at kinds i ≡ AtMost → enters_at enters (over.units + i) ≡ true
   pub others : (j : ℕ) → enters_at before j ≡ true → enters_at enters j ≡ true
 
-abbrev pub TurnedAt : Framed → ℕ → List Kind → ℕ → ℕ → List Bool → List Bool → Tableau → Turned → Type 0
-TurnedAt over constants kinds budget i before enters t turned.Kept = IsKept over constants kinds i before enters t
-TurnedAt over constants kinds budget i before enters t turned.Refuted = IsRefuted over constants kinds t i
-TurnedAt over constants kinds budget i before enters t turned.Pivots = budget < choose (over.units + length kinds) (length kinds)
+abbrev pub TurnedAt : Framed → ℕ → List Kind → ℕ → ℕ → List Bool → List Bool → Tableau → TurnEnd → Type 0
+TurnedAt over constants kinds budget i before enters t turn_end.Kept = IsKept over constants kinds i before enters t
+TurnedAt over constants kinds budget i before enters t turn_end.Refuted = IsRefuted over constants kinds t i
+TurnedAt over constants kinds budget i before enters t turn_end.Pivots = budget < choose (over.units + length kinds) (length kinds)
 
 -- all rows are kept
 pub record IsMet (over : Framed) (constants : ℕ) (kinds : List Kind) (enters : List Bool) (t : Tableau) : Type 0 where

@@ -13,7 +13,7 @@ use Rattle.farkas_check.specs.Relations.{entry}
 use Rattle.farkas_check.specs.declared.answer.Cert.{Cert}
 use Rattle.farkas_check.specs.Tested.{goal_columns}
 use Rattle.farkas_check.specs.declared.question.Goal.{Goal}
-use Rattle.simplex.specs.Exchange.{numbers_of, choices_of, multiplied}
+use Rattle.simplex.specs.Exchange.{numbers_of, choices_of, line_multiple}
 use Rattle.simplex.specs.Raise.{Framed, sign_of, enters_at, NoneLeaves, IsBest}
 use Rattle.simplex.specs.Rows.{kinds_of, framed}
 use Rattle.simplex.specs.Search.{IsFlat, IsMet, IsRefuted, IsCornerOf}
@@ -68,7 +68,7 @@ chosen_slope line column up own = product_of (entry line column) (sign_of (not u
 
 -- a line's numbers as a certificate: minus those at the slacks of the rows, over that at its own
 abbrev pub certificate_of : ℕ → ℕ → List ℤ → Result Cert Step.Wide
-certificate_of constants goal line = multiplied (take goal (drop (constants + 1) line)) (negsuc 0) >>= λ by. Ok record { scale = entry line (constants + 1 + goal); sum = entry line constants; by = by }
+certificate_of constants goal line = line_multiple (take goal (drop (constants + 1) line)) (negsuc 0) >>= λ by. Ok record { scale = entry line (constants + 1 + goal); sum = entry line constants; by = by }
 
 -- what a case comes to
 abbrev pub SupremumAt : Framed → ℕ → List Kind → ℕ → Supremum → Type 0

@@ -18,7 +18,7 @@ ghost use Rattle.simplex.specs.declared.stop.Stop.TheVariants as stop;
 use crate::corner::corner;
 use crate::frame::{framed, kinds_of};
 use crate::search::{Found, searched};
-use crate::tableau::turned;
+use crate::tableau::upright_line;
 use crate::{Stop, Tableau};
 use farkas_check::{
     Answer, Limit, canonical_rows, case_columns, positivity, rows_outcome, truth_of_passing,
@@ -148,7 +148,7 @@ fn unit_numbers(alloc: Global, line: &[i128], constants: usize) -> Result<Items<
     ensures exact { Gives cause (λ by. by) result (multipliers_of constants line.now) }
     ensures refusal { IfErr result IsRefusal }
 {
-    let own = turned(alloc, line, constants)?;
+    let own = upright_line(alloc, line, constants)?;
     Ok(after(alloc, own.as_slice(), constants + 1)?)
 }
 

@@ -64,8 +64,8 @@ fn lowest_number(line: &[i128], constants: usize, column: usize) -> Result<Ratio
     ensures exact { result ≡ chosen_number line.now constants column }
     ensures width { IfErr result LeavesBits }
 {
-    let turned = product(line[constants], -1)?;
-    Ok(Ratio::lowest(turned, line[column]))
+    let numerator = product(line[constants], -1)?;
+    Ok(Ratio::lowest(numerator, line[column]))
 }
 
 /// The first line that chooses a column.
@@ -141,6 +141,6 @@ fn lowest_slope(line: &[i128], column: usize, up: bool, own: usize) -> Result<Ra
     ensures exact { result ≡ chosen_slope line.now column up own }
     ensures width { IfErr result LeavesBits }
 {
-    let turned = product(line[column], if up { -1 } else { 1 })?;
-    Ok(Ratio::lowest(turned, line[own]))
+    let numerator = product(line[column], if up { -1 } else { 1 })?;
+    Ok(Ratio::lowest(numerator, line[own]))
 }

@@ -4,7 +4,7 @@ ghost use Rattle.farkas_check.specs.Kept.{IsCanonicalGoal};
 ghost use Rattle.farkas_check.specs.Meaning.{IsLimit, IsTight};
 ghost use Rattle.farkas_check.specs.Tested.{Passes};
 ghost use Rattle.farkas_check.specs.declared.question.Question.TheVariants as question;
-ghost use Rattle.simplex.specs.Goals.{rounded, higher, with_bound, bound_answer, AreBoundsTo, ProgressAt, IsFoundAmong, IsRefusalAmong, IsSupremumAt, IsGoalsAnswer, PivotsAmong, IsWide};
+ghost use Rattle.simplex.specs.Goals.{whole_bound, higher, with_bound, bound_answer, AreBoundsTo, ProgressAt, IsFoundAmong, IsRefusalAmong, IsSupremumAt, IsGoalsAnswer, PivotsAmong, IsWide};
 ghost use Rattle.simplex.specs.Refusal.{LeavesBits};
 ghost use Rattle.simplex.specs.declared.stop.Stop.TheVariants as stop;
 
@@ -195,7 +195,7 @@ fn with_bound(
     ensures { IfOk result (λ made. made ≡ with_bound bounds case cert point) }
 {
     let Bounds { certs, reach } = bounds;
-    let at = rounded(&cert);
+    let at = whole_bound(&cert);
     let next = Reach { at, case, point };
     let reach = Some(higher(reach, next));
     let mut certs = certs;
@@ -204,9 +204,9 @@ fn with_bound(
 }
 
 /// The bound of a certificate, rounded down.
-fn rounded(cert: &Cert) -> i128
+fn whole_bound(cert: &Cert) -> i128
     requires { pos 0 <ℤ cert.now.scale }
-    ensures { result ≡ rounded cert.now }
+    ensures { result ≡ whole_bound cert.now }
 {
     cert.sum.div_euclid(cert.scale)
 }

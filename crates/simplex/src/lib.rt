@@ -18,8 +18,8 @@ mod tableau;
 
 pub use answering::infeasible;
 pub use goals::sup;
-pub use raise::{Raised, Turn};
-pub use search::{Found, Turned};
+pub use raise::{RaiseEnd, Turn};
+pub use search::{Found, TurnEnd};
 pub use stop::Stop;
 pub use supremum::{Supremum, Top, supremum_of};
 pub use tableau::Tableau;

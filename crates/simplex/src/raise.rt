@@ -34,13 +34,13 @@ fn grows(number: &i128, up: bool) -> bool
 
 /// How two lines stand at a key, each over the other's number at the column; at the constants the other way
 /// round.
-fn order_at(turned: bool, a: &i128, p: &i128, b: &i128, q: &i128) -> Result<Ordering, Wide>
-    ensures exact { result ≡ order_at turned a.now p.now b.now q.now }
+fn order_at(backward: bool, a: &i128, p: &i128, b: &i128, q: &i128) -> Result<Ordering, Wide>
+    ensures exact { result ≡ order_at backward a.now p.now b.now q.now }
     ensures width { IfErr result LeavesBits }
 {
     let left = product(*a, *p)?;
     let right = product(*b, *q)?;
-    if turned {
+    if backward {
         Ok(right.cmp(&left))
     } else {
         Ok(left.cmp(&right))
@@ -80,8 +80,14 @@ fn compared(
     ensures width { IfErr result LeavesBits }
 {
     for c in keys {
-        let turned = *c == constants;
-        match order_at(turned, &line[*c], &other[column], &other[*c], &line[column])? {
+        let backward = *c == constants;
+        match order_at(
+            backward,
+            &line[*c],
+            &other[column],
+            &other[*c],
+            &line[column],
+        )? {
             Ordering::Less => return Ok(true),
             Ordering::Greater => return Ok(false),
             Ordering::Equal => {}
@@ -92,7 +98,7 @@ fn compared(
 
 /// How a raise ends: its goal is met, no column lets the goal grow, or one does so without end, or the turns are used up.
 #[derive(Clone, Copy, Debug, PartialEq, Eq)]
-pub enum Raised {
+pub enum RaiseEnd {
     Met,
     Best,
     Open(usize),
@@ -121,7 +127,7 @@ pub(crate) fn raised_to(
     enters: &[bool],
     keys: &[usize],
     budget: u128,
-) -> Result<(Tableau, Raised), Stop>
+) -> Result<(Tableau, RaiseEnd), Stop>
     ghost over: { Framed }
     requires begins { Begins over enters.now constants keys.now goal t }
     requires primitive { ArePrimitive t }
@@ -134,13 +140,13 @@ pub(crate) fn raised_to(
         let (next, came) = one_turn(alloc, now, constants, goal, up, until, enters, keys)?;
         now = next;
         match came {
-            Turn::Met => return Ok((now, Raised::Met)),
-            Turn::Best => return Ok((now, Raised::Best)),
-            Turn::Open(column) => return Ok((now, Raised::Open(column))),
+            Turn::Met => return Ok((now, RaiseEnd::Met)),
+            Turn::Best => return Ok((now, RaiseEnd::Best)),
+            Turn::Open(column) => return Ok((now, RaiseEnd::Open(column))),
             Turn::Moved => {}
         }
     }
-    Ok((now, Raised::Pivots))
+    Ok((now, RaiseEnd::Pivots))
 }
 
 /// Whether a goal that is to be met has a constant that is not positive.

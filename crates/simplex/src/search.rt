@@ -9,7 +9,7 @@ ghost use Rattle.simplex.specs.Search.{IsPlaced, TurnedAt, IsMet, IsSolving, Fou
 use crate::frame::{framed, kinds_of};
 use crate::gauss::{Stage, equations, inequalities, with_entry};
 use crate::raise::raised_to;
-use crate::{Raised, Stop, Tableau};
+use crate::{RaiseEnd, Stop, Tableau};
 use items::Items;
 use linear_terms::{Kind, Mono, Row};
 use std::alloc::{AllocError, Global};
@@ -17,7 +17,7 @@ use std::alloc::{AllocError, Global};
 /// What the turn of a row comes to: the row is true at the corner and is kept so, or its line refutes the rows,
 /// or the turns are used up.
 #[derive(Clone, Copy, Debug, PartialEq, Eq)]
-pub enum Turned {
+pub enum TurnEnd {
     Kept,
     Refuted,
     Pivots,
@@ -60,7 +60,7 @@ fn turn_of(
     kinds: &[Kind],
     i: usize,
     budget: u128,
-) -> Result<(Stage, Turned), Stop>
+) -> Result<(Stage, TurnEnd), Stop>
     ghost over: { Framed }
     requires placed { IsPlaced over constants kinds.now stage.enters stage.tableau }
     requires here { i < length kinds.now }
@@ -89,24 +89,24 @@ fn turn_of(
         budget,
     )?;
     match came {
-        Raised::Met => Ok((kept(raised, enters, constants + 1 + i), Turned::Kept)),
-        Raised::Open(column) => {
+        RaiseEnd::Met => Ok((kept(raised, enters, constants + 1 + i), TurnEnd::Kept)),
+        RaiseEnd::Open(column) => {
             let next = raised.exchange(alloc, i, column)?;
-            Ok((kept(next, enters, constants + 1 + i), Turned::Kept))
+            Ok((kept(next, enters, constants + 1 + i), TurnEnd::Kept))
         }
-        Raised::Best => Ok((
+        RaiseEnd::Best => Ok((
             Stage {
                 tableau: raised,
                 enters,
             },
-            Turned::Refuted,
+            TurnEnd::Refuted,
         )),
-        Raised::Pivots => Ok((
+        RaiseEnd::Pivots => Ok((
             Stage {
                 tableau: raised,
                 enters,
             },
-            Turned::Pivots,
+            TurnEnd::Pivots,
         )),
     }
 }
@@ -130,7 +130,7 @@ fn passed(
     kinds: &[Kind],
     i: usize,
     budget: u128,
-) -> Result<(Stage, Turned), Stop>
+) -> Result<(Stage, TurnEnd), Stop>
     ghost over: { Framed }
     requires placed { IsPlaced over constants kinds.now stage.enters stage.tableau }
     requires here { i < length kinds.now }
@@ -139,10 +139,10 @@ fn passed(
     ensures refusal { IfErr result (IsRefusalIn over (length kinds.now)) }
 {
     if kinds[i] != Kind::AtMost {
-        return Ok((stage, Turned::Kept));
+        return Ok((stage, TurnEnd::Kept));
     }
     if stage.enters[constants + 1 + i] {
-        return Ok((stage, Turned::Kept));
+        return Ok((stage, TurnEnd::Kept));
     }
     turn_of(alloc, stage, constants, kinds, i, budget)
 }
@@ -168,9 +168,9 @@ fn turns(
         let (next, came) = passed(alloc, now, constants, kinds, i, budget)?;
         now = next;
         match came {
-            Turned::Kept => {}
-            Turned::Refuted => return Ok((now, Found::Refuted(i))),
-            Turned::Pivots => return Ok((now, Found::Pivots)),
+            TurnEnd::Kept => {}
+            TurnEnd::Refuted => return Ok((now, Found::Refuted(i))),
+            TurnEnd::Pivots => return Ok((now, Found::Pivots)),
         }
     }
     Ok((now, Found::Corner))

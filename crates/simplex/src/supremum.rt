@@ -13,8 +13,8 @@ use crate::frame::{framed, kinds_of};
 use crate::gauss::{Stage, question_column};
 use crate::raise::raised_to;
 use crate::search::{Found, keys_of, searched};
-use crate::tableau::multiplied;
-use crate::{Raised, Stop, Tableau};
+use crate::tableau::line_multiple;
+use crate::{RaiseEnd, Stop, Tableau};
 use farkas_check::{Cert, Goal, Ratio, case_columns};
 use items::Items;
 use linear_terms::{Kind, Poly, Row};
@@ -200,7 +200,7 @@ fn read_certificate(
     ensures refusal { IfErr result IsRefusal }
 {
     let first = constants + 1;
-    let by = multiplied(alloc, &line[first..first + goal], -1)?;
+    let by = line_multiple(alloc, &line[first..first + goal], -1)?;
     Ok(Cert {
         scale: line[first + goal],
         sum: line[constants],
@@ -269,9 +269,9 @@ fn lowered(
         budget,
     )?;
     match came {
-        Raised::Met => Ok((t, Top::Best)),
-        Raised::Best => Ok((t, Top::Best)),
-        Raised::Open(column) => Ok((t, Top::Open { column, up: true })),
-        Raised::Pivots => Ok((t, Top::Pivots)),
+        RaiseEnd::Met => Ok((t, Top::Best)),
+        RaiseEnd::Best => Ok((t, Top::Best)),
+        RaiseEnd::Open(column) => Ok((t, Top::Open { column, up: true })),
+        RaiseEnd::Pivots => Ok((t, Top::Pivots)),
     }
 }

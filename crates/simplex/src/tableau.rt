@@ -3,7 +3,7 @@ ghost use Rattle.items.specs.Gives.{Gives};
 ghost use Rattle.whole_numbers.specs.Divisors.{gcd_of_all};
 ghost use Rattle.simplex.specs.Calm.{HasSquares, HasSmallLines, IsMemory};
 ghost use Rattle.simplex.specs.Refusal.{LeavesBits, IsRefusal};
-ghost use Rattle.simplex.specs.Exchange.{cause, combined, sum_of_products, multiplied, reduced, turned, cleared, cleared_at, cleared_from, exchanged, numbers_of, HasShape, IsTableauOf};
+ghost use Rattle.simplex.specs.Exchange.{cause, sum_of_lines, sum_of_products, line_multiple, reduced, upright_line, line_without, line_without_at, lines_without, exchange, numbers_of, HasShape, IsTableauOf};
 
 use crate::Stop;
 use items::Items;
@@ -27,25 +27,25 @@ impl Tableau {
         requires line { line < length self.lines }
         requires column { column < columns }
         requires pivot { numbers_of self line column ≡ pos 0 → ⊥ }
-        ensures exact { Gives cause (λ t. t) result (exchanged self line column) }
+        ensures exact { Gives cause (λ t. t) result (exchange self line column) }
         ensures kept { (units : ℕ) (frame : ℕ → ℕ → ℤ) → columns ≡ units + length self.lines → IsTableauOf units frame self → IfOk result (λ t. IsTableauOf units frame t) }
         ensures refusal { IfErr result IsRefusal }
         ensures calm { (n : ℕ) → HasSquares n → HasSmallLines n self → IfErr result IsMemory }
     {
-        let made = self.exchanged(alloc, line, column)?;
+        let made = self.exchange_line(alloc, line, column)?;
         Ok(made)
     }
 
-    fn exchanged(self, alloc: Global, line: usize, column: usize) -> Result<Tableau, Stop>
+    fn exchange_line(self, alloc: Global, line: usize, column: usize) -> Result<Tableau, Stop>
         ghost columns: { ℕ }
         requires shape { HasShape columns self }
         requires line { line < length self.lines }
         requires column { column < columns }
-        ensures exact { Gives cause (λ t. t) result (exchanged self line column) }
+        ensures exact { Gives cause (λ t. t) result (exchange self line column) }
         ensures refusal { IfErr result IsRefusal }
     {
-        let pivot = turned(alloc, self.lines[line].as_slice(), column)?;
-        let lines = others_cleared(alloc, self.lines.as_slice(), line, column, pivot.as_slice())?;
+        let pivot = upright_line(alloc, self.lines[line].as_slice(), column)?;
+        let lines = other_lines(alloc, self.lines.as_slice(), line, column, pivot.as_slice())?;
         let mut chosen = self.chosen.into_vec();
         chosen[line] = column;
         Ok(Tableau {
@@ -56,7 +56,7 @@ impl Tableau {
 }
 
 /// Each line but the pivot's is cleared at the column.
-fn others_cleared(
+fn other_lines(
     alloc: Global,
     lines: &[Items<i128>],
     line: usize,
@@ -65,18 +65,18 @@ fn others_cleared(
 ) -> Result<Items<Items<i128>>, Stop>
     requires column { column < length pivot.now }
     requires wide { (i : ℕ) → i < length lines.now → length (get_or lines.now i []) ≡ length pivot.now }
-    ensures exact { Gives cause (λ made. made) result (cleared_from column pivot.now line 0 lines.now) }
+    ensures exact { Gives cause (λ made. made) result (lines_without column pivot.now line 0 lines.now) }
     ensures refusal { IfErr result IsRefusal }
 {
     let mut made = Items::new(alloc);
     for (i, own) in lines.iter().enumerate() {
-        made.push(cleared_at(alloc, own.as_slice(), i == line, column, pivot)?)?;
+        made.push(line_without_at(alloc, own.as_slice(), i == line, column, pivot)?)?;
     }
     Ok(made)
 }
 
 /// The pivot itself at its own place, and elsewhere the line cleared.
-fn cleared_at(
+fn line_without_at(
     alloc: Global,
     own: &[i128],
     here: bool,
@@ -85,30 +85,30 @@ fn cleared_at(
 ) -> Result<Items<i128>, Stop>
     requires column { column < length own.now }
     requires same { length pivot.now ≡ length own.now }
-    ensures exact { Gives cause (λ made. made) result (if here then Ok pivot.now else cleared column pivot.now own.now) }
+    ensures exact { Gives cause (λ made. made) result (if here then Ok pivot.now else line_without column pivot.now own.now) }
     ensures refusal { IfErr result IsRefusal }
 {
     if here {
         return Ok(Items::from_slice(alloc, pivot)?);
     }
-    cleared(alloc, own, column, pivot)
+    line_without(alloc, own, column, pivot)
 }
 
 /// The signs turned where the number at the column is negative.
-pub(crate) fn turned(alloc: Global, line: &[i128], column: usize) -> Result<Items<i128>, Stop>
+pub(crate) fn upright_line(alloc: Global, line: &[i128], column: usize) -> Result<Items<i128>, Stop>
     requires { column < length line.now }
-    ensures exact { Gives cause (λ made. made) result (turned column line.now) }
+    ensures exact { Gives cause (λ made. made) result (upright_line column line.now) }
     ensures refusal { IfErr result IsRefusal }
 {
     if line[column] < 0 {
-        multiplied(alloc, line, -1)
+        line_multiple(alloc, line, -1)
     } else {
         Ok(Items::from_slice(alloc, line)?)
     }
 }
 
-pub(crate) fn multiplied(alloc: Global, line: &[i128], by: i128) -> Result<Items<i128>, Stop>
-    ensures exact { Gives cause (λ made. made) result (multiplied line.now by) }
+pub(crate) fn line_multiple(alloc: Global, line: &[i128], by: i128) -> Result<Items<i128>, Stop>
+    ensures exact { Gives cause (λ made. made) result (line_multiple line.now by) }
     ensures refusal { IfErr result IsRefusal }
 {
     let mut made = Items::new(alloc);
@@ -119,22 +119,27 @@ pub(crate) fn multiplied(alloc: Global, line: &[i128], by: i128) -> Result<Items
 }
 
 /// A line cleared at the column by one that is positive there.
-fn cleared(alloc: Global, line: &[i128], column: usize, pivot: &[i128]) -> Result<Items<i128>, Stop>
+fn line_without(
+    alloc: Global,
+    line: &[i128],
+    column: usize,
+    pivot: &[i128],
+) -> Result<Items<i128>, Stop>
     requires column { column < length line.now }
     requires same { length pivot.now ≡ length line.now }
-    ensures exact { Gives cause (λ made. made) result (cleared column pivot.now line.now) }
+    ensures exact { Gives cause (λ made. made) result (line_without column pivot.now line.now) }
     ensures refusal { IfErr result IsRefusal }
 {
     if line[column] == 0 {
         return Ok(Items::from_slice(alloc, line)?);
     }
     let by = product(line[column], -1)?;
-    let made = combined(alloc, &pivot[column], line, &by, pivot)?;
+    let made = sum_of_lines(alloc, &pivot[column], line, &by, pivot)?;
     Ok(reduced(alloc, made.as_slice())?)
 }
 
 /// A multiple of a line and a multiple of another.
-fn combined(
+fn sum_of_lines(
     alloc: Global,
     p: &i128,
     line: &[i128],
@@ -142,7 +147,7 @@ fn combined(
     pivot: &[i128],
 ) -> Result<Items<i128>, Stop>
     requires { length pivot.now ≡ length line.now }
-    ensures exact { Gives cause (λ made. made) result (combined p.now line.now q.now pivot.now) }
+    ensures exact { Gives cause (λ made. made) result (sum_of_lines p.now line.now q.now pivot.now) }
     ensures refusal { IfErr result IsRefusal }
 {
     let mut made = Items::new(alloc);

@@ -1,7 +1,7 @@
 use Rattle.std.proofs.Common.{◌≡◌, ◌<◌, ◌∙◌, ℕ, ℤ, List, [], length, get_or, ap, sym, subst, Ok, pos, rules}
 use Rattle.std.proofs.lemmas.List.{get_or_read}
 use Rattle.linear_terms.specs.declared.row.Kind.TheVariants.{Equal}
-use Rattle.simplex.specs.Exchange.{numbers_of, exchanged}
+use Rattle.simplex.specs.Exchange.{numbers_of, exchange}
 use Rattle.farkas_check.specs.Relations.{entry}
 use Rattle.simplex.specs.Rows.{kind_at}
 use Rattle.simplex.proofs.Eliminations.{solved-more, refuted-equation}
@@ -9,7 +9,7 @@ use Rattle.simplex.proofs.gauss.equation.Goals as goal
 
 pub returns-in_ok-next-in-Some-clause-found : goal.returns-in_ok-next-in-Some-clause-found
 returns-in_ok-next-in-Some-clause-found g c =
-    let exact : exchanged c.args.t c.args.i c.in-Some.column ≡ Ok c.in_ok-next-in-Some.next = search rules in
+    let exact : exchange c.args.t c.args.i c.in-Some.column ≡ Ok c.in_ok-next-in-Some.next = search rules in
     let kind : kind_at c.args.kinds.now c.args.i ≡ Equal = search rules in
     let inside : c.args.i < length c.args.t.lines = subst (λ (n : ℕ). c.args.i < n) c.requires.0.sized.many c.requires.1 in
     let own : c.as_slice.result.now ≡ get_or c.args.t.lines c.args.i [] = get_or_read c.args.t.lines c.args.i c.as_slice.result.now inside (search rules) [] in

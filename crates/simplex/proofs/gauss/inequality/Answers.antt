@@ -2,7 +2,7 @@ use Rattle.std.proofs.Common.{◌≡◌, ◌<◌, ◌+◌, Ok, pos, true, sym, s
 use Rattle.std.proofs.lemmas.List.{get_or_read}
 use Rattle.std.specs.Prelude.{slice_set}
 use Rattle.linear_terms.specs.declared.row.Kind.TheVariants.{AtMost}
-use Rattle.simplex.specs.Exchange.{numbers_of, exchanged}
+use Rattle.simplex.specs.Exchange.{numbers_of, exchange}
 use Rattle.farkas_check.specs.Relations.{entry}
 use Rattle.simplex.specs.Rows.{kind_at}
 use Rattle.simplex.specs.Search.{IsFreeing}
@@ -11,7 +11,7 @@ use Rattle.simplex.proofs.gauss.inequality.Goals as goal
 
 pub returns-in_ok-next-in-Some-clause-freed : goal.returns-in_ok-next-in-Some-clause-freed
 returns-in_ok-next-in-Some-clause-freed g c =
-    let exact : exchanged c.args.stage.tableau c.args.i c.in-Some.column ≡ Ok c.in_ok-next-in-Some.next = search rules in
+    let exact : exchange c.args.stage.tableau c.args.i c.in-Some.column ≡ Ok c.in_ok-next-in-Some.next = search rules in
     let kind : kind_at c.args.kinds.now c.args.i ≡ AtMost = search rules in
     let inside : c.args.i < length c.args.stage.tableau.lines = subst (λ (n : ℕ). c.args.i < n) c.requires.0.marked.sized.many c.requires.1 in
     let own : c.as_slice.result.now ≡ get_or c.args.stage.tableau.lines c.args.i [] = get_or_read c.args.stage.tableau.lines c.args.i c.as_slice.result.now inside (search rules) [] in

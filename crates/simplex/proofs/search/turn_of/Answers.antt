@@ -1,12 +1,12 @@
 use Rattle.std.proofs.Common.{◌≡◌, ◌+◌, ℕ, List, Bool, Ok, pos, true, sym, subst, rules}
 use Rattle.std.specs.Prelude.{slice_set}
-use Rattle.simplex.specs.Exchange.{exchanged}
+use Rattle.simplex.specs.Exchange.{exchange}
 use Rattle.simplex.specs.History.{Raises, EndsAt}
 use Rattle.simplex.specs.Raise.{Begins, keys_of}
 use Rattle.simplex.specs.Search.{IsKept}
 use Rattle.simplex.specs.declared.gauss.Stage.{Stage}
-use Rattle.simplex.specs.declared.raise.Raised.{Raised}
-use Rattle.simplex.specs.declared.raise.Raised.TheVariants as raised
+use Rattle.simplex.specs.declared.raise.RaiseEnd.{RaiseEnd}
+use Rattle.simplex.specs.declared.raise.RaiseEnd.TheVariants as raised
 use Rattle.simplex.proofs.Settles.{begins, kept-met, kept-open, refuted-best}
 use Rattle.simplex.proofs.search.turn_of.Goals as goal
 
@@ -29,7 +29,7 @@ returns-in-Met-clause-came g c =
     (subst (λ (enters : List Bool). Raises g.over enters c.args.constants c.as_slice-4.result.now c.args.i (pos 1) c.args.stage.tableau c.in_ok-raised.raised c.in_ok-raised.ensures.tableau.0) es c.in_ok-raised.ensures.tableau.1) in
     let ends : EndsAt g.over c.args.stage.enters c.args.constants (pos 1) true c.args.i c.args.budget c.in_ok-raised.raised raised.Met =
     subst (λ (enters : List Bool). EndsAt g.over enters c.args.constants (pos 1) true c.args.i c.args.budget c.in_ok-raised.raised raised.Met) es
-    (subst (λ (came : Raised). EndsAt g.over c.as_slice-3.result.now c.args.constants (pos 1) true c.args.i c.args.budget c.in_ok-raised.raised came) c.in-Met.is c.in_ok-raised.ensures.ends) in
+    (subst (λ (came : RaiseEnd). EndsAt g.over c.as_slice-3.result.now c.args.constants (pos 1) true c.args.i c.args.budget c.in_ok-raised.raised came) c.in-Met.is c.in_ok-raised.ensures.ends) in
     let made : c.kept.result ≡ record { tableau = c.in_ok-raised.raised; enters = slice_set c.args.stage.enters (c.args.constants + 1 + c.args.i) true } = search rules in
     subst (λ (s : Stage). IsKept g.over c.args.constants c.args.kinds.now c.args.i c.args.stage.enters s.enters s.tableau) (sym made)
     (kept-met g.over c.args.constants c.args.kinds.now c.args.stage.enters (pos 1) c.args.stage.tableau c.in_ok-raised.raised c.args.i c.in_ok-raised.ensures.tableau.0 c.requires.0 r c.requires.1.1.1.1 c.requires.1.0 c.requires.1.1.0 c.requires.1.1.1.0 ends.1)
@@ -43,8 +43,8 @@ returns-in-Open-clause-came g c =
     (subst (λ (enters : List Bool). Raises g.over enters c.args.constants c.as_slice-4.result.now c.args.i (pos 1) c.args.stage.tableau c.in_ok-raised.raised c.in_ok-raised.ensures.tableau.0) es c.in_ok-raised.ensures.tableau.1) in
     let ends : EndsAt g.over c.args.stage.enters c.args.constants (pos 1) true c.args.i c.args.budget c.in_ok-raised.raised (raised.Open c.in-Open.column) =
     subst (λ (enters : List Bool). EndsAt g.over enters c.args.constants (pos 1) true c.args.i c.args.budget c.in_ok-raised.raised (raised.Open c.in-Open.column)) es
-    (subst (λ (came : Raised). EndsAt g.over c.as_slice-3.result.now c.args.constants (pos 1) true c.args.i c.args.budget c.in_ok-raised.raised came) c.in-Open.is c.in_ok-raised.ensures.ends) in
-    let exact : exchanged c.in_ok-raised.raised c.args.i c.in-Open.column ≡ Ok c.in_ok-next-in-Open.next = search rules in
+    (subst (λ (came : RaiseEnd). EndsAt g.over c.as_slice-3.result.now c.args.constants (pos 1) true c.args.i c.args.budget c.in_ok-raised.raised came) c.in-Open.is c.in_ok-raised.ensures.ends) in
+    let exact : exchange c.in_ok-raised.raised c.args.i c.in-Open.column ≡ Ok c.in_ok-next-in-Open.next = search rules in
     let made : c.kept-in-Open.result ≡ record { tableau = c.in_ok-next-in-Open.next; enters = slice_set c.args.stage.enters (c.args.constants + 1 + c.args.i) true } = search rules in
     subst (λ (s : Stage). IsKept g.over c.args.constants c.args.kinds.now c.args.i c.args.stage.enters s.enters s.tableau) (sym made)
     (kept-open g.over c.args.constants c.args.kinds.now c.args.stage.enters c.args.stage.tableau c.in_ok-raised.raised c.in_ok-next-in-Open.next c.args.i c.in-Open.column c.in_ok-raised.ensures.tableau.0 c.requires.0 r c.requires.1.1.1.1 c.requires.1.0 c.requires.1.1.0 c.requires.1.1.1.0 ends.0 ends.1 exact)
@@ -58,5 +58,5 @@ returns-in-Best-clause-came g c =
     (subst (λ (enters : List Bool). Raises g.over enters c.args.constants c.as_slice-4.result.now c.args.i (pos 1) c.args.stage.tableau c.in_ok-raised.raised c.in_ok-raised.ensures.tableau.0) es c.in_ok-raised.ensures.tableau.1) in
     let ends : EndsAt g.over c.args.stage.enters c.args.constants (pos 1) true c.args.i c.args.budget c.in_ok-raised.raised raised.Best =
     subst (λ (enters : List Bool). EndsAt g.over enters c.args.constants (pos 1) true c.args.i c.args.budget c.in_ok-raised.raised raised.Best) es
-    (subst (λ (came : Raised). EndsAt g.over c.as_slice-3.result.now c.args.constants (pos 1) true c.args.i c.args.budget c.in_ok-raised.raised came) c.in-Best.is c.in_ok-raised.ensures.ends) in
+    (subst (λ (came : RaiseEnd). EndsAt g.over c.as_slice-3.result.now c.args.constants (pos 1) true c.args.i c.args.budget c.in_ok-raised.raised came) c.in-Best.is c.in_ok-raised.ensures.ends) in
     refuted-best g.over c.args.constants c.args.kinds.now c.args.stage.enters c.args.stage.tableau c.in_ok-raised.raised c.args.i c.in_ok-raised.ensures.tableau.0 c.requires.0 r c.requires.1.1.1.1 c.requires.1.0 c.requires.1.1.0 c.requires.1.1.1.0 ends.0 ends.1

@@ -2,8 +2,8 @@ use Rattle.std.proofs.Common.{rules, ◌≡◌, ◌<◌, ℕ, List, Bool, false,
 use Rattle.simplex.specs.History.{Raises, EndsAt}
 use Rattle.simplex.specs.Raise.{Begins, keys_of}
 use Rattle.simplex.specs.Search.{IsFlat}
-use Rattle.simplex.specs.declared.raise.Raised.{Raised}
-use Rattle.simplex.specs.declared.raise.Raised.TheVariants as raised
+use Rattle.simplex.specs.declared.raise.RaiseEnd.{RaiseEnd}
+use Rattle.simplex.specs.declared.raise.RaiseEnd.TheVariants as raised
 use Rattle.simplex.proofs.Settles.{begins_goal, topped, opened}
 use Rattle.simplex.proofs.supremum.lowered.Goals as goal
 
@@ -33,7 +33,7 @@ returns-in-Best-clause-top g c =
     let ends : EndsAt g.over c.args.stage.enters c.args.constants (negsuc 0) false g.over.rows c.args.budget c.in_ok-t.t raised.Best =
     subst (λ (n : ℕ). EndsAt g.over c.args.stage.enters c.args.constants (negsuc 0) false n c.args.budget c.in_ok-t.t raised.Best) is
     (subst (λ (enters : List Bool). EndsAt g.over enters c.args.constants (negsuc 0) false c.args.goal c.args.budget c.in_ok-t.t raised.Best) es
-    (subst (λ (came : Raised). EndsAt g.over c.as_slice-3.result.now c.args.constants (negsuc 0) false c.args.goal c.args.budget c.in_ok-t.t came) c.in-Best.is c.in_ok-t.ensures.ends)) in
+    (subst (λ (came : RaiseEnd). EndsAt g.over c.as_slice-3.result.now c.args.constants (negsuc 0) false c.args.goal c.args.budget c.in_ok-t.t came) c.in-Best.is c.in_ok-t.ensures.ends)) in
     topped g.over c.args.constants c.args.kinds.now c.args.stage.enters c.args.budget c.args.stage.tableau c.in_ok-t.t c.in_ok-t.ensures.tableau.0 c.requires.0 r here
     (subst (λ (n : ℕ). IsFlat c.args.constants c.args.stage.tableau n) is c.requires.1.1.1) ends.1
 
@@ -49,5 +49,5 @@ returns-in-Open-clause-top g c =
     let ends : EndsAt g.over c.args.stage.enters c.args.constants (negsuc 0) false g.over.rows c.args.budget c.in_ok-t.t (raised.Open c.in-Open.column) =
     subst (λ (n : ℕ). EndsAt g.over c.args.stage.enters c.args.constants (negsuc 0) false n c.args.budget c.in_ok-t.t (raised.Open c.in-Open.column)) is
     (subst (λ (enters : List Bool). EndsAt g.over enters c.args.constants (negsuc 0) false c.args.goal c.args.budget c.in_ok-t.t (raised.Open c.in-Open.column)) es
-    (subst (λ (came : Raised). EndsAt g.over c.as_slice-3.result.now c.args.constants (negsuc 0) false c.args.goal c.args.budget c.in_ok-t.t came) c.in-Open.is c.in_ok-t.ensures.ends)) in
+    (subst (λ (came : RaiseEnd). EndsAt g.over c.as_slice-3.result.now c.args.constants (negsuc 0) false c.args.goal c.args.budget c.in_ok-t.t came) c.in-Open.is c.in_ok-t.ensures.ends)) in
     opened g.over c.args.constants c.args.kinds.now c.args.stage.enters c.args.stage.tableau c.in_ok-t.t c.in-Open.column c.in_ok-t.ensures.tableau.0 c.requires.0 r ends.1
