@@ -1,5 +1,5 @@
 -- A calm question of goals: the test of what the search finds stays within 128 bits.
-use Rattle.std.proofs.Common.{◌≡◌, ◌≢◌, ℕ, zero, suc, ◌+◌, ◌*◌, ◌^◌, ◌<◌, ◌≤◌, Bool, true, false, cond, List, [], ◌∷◌, ◌++◌, length, get_or, map, Result, Ok, Err, refl, sym, ap, subst, ◌∙◌, arith, ⊎_elim, ℤ, pos, negsuc, ◌+ℤ◌, ◌*ℤ◌, ◌≤ℤ◌, ◌<ℤ◌}
+use Rattle.std.proofs.Common.{◌≡◌, ◌≢◌, ℕ, suc, ◌+◌, ◌*◌, ◌^◌, ◌<◌, ◌≤◌, Bool, true, false, cond, List, [], ◌∷◌, length, get_or, Result, Ok, Err, refl, sym, ap, subst, ◌∙◌, arith, ⊎_elim, ℤ, pos, negsuc, ◌+ℤ◌, ◌*ℤ◌, ◌<ℤ◌}
 use Rattle.std.specs.Prelude.{unsigned_abs, slice_get, Some, ◌==◌, ◌&&◌, nat_eq, int_le, int_lt}
 use Rattle.std.specs.Int.{int_div_euclid}
 use Rattle.std.specs.List.{AllByRecursion}
@@ -7,7 +7,7 @@ use Rattle.std.specs.Map.{keys_of}
 use Rattle.std.proofs.lemmas.Int.{ints, unsigned_abs-mul}
 use Rattle.std.proofs.lemmas.Bool.{cases_eq, eq-eqb, ne_eqb}
 use Rattle.std.proofs.lemmas.List.Elements.{recursion_from_All}
-use Rattle.std.proofs.Math.Nat.{one-mul, mul-one, mul-le-mul, mul-le-mul_right, div-le_self}
+use Rattle.std.proofs.Math.Nat.{one-mul, mul-one, mul-le-mul_right, div-le_self}
 use Rattle.items.specs.Gives.{◌>>=◌}
 use Rattle.whole_numbers.specs.declared.wide.Wide as Step
 use Rattle.whole_numbers.specs.Fits.{sum_of, product_of}
@@ -16,17 +16,15 @@ use Rattle.linear_terms.specs.declared.col.Col.{Col}
 use Rattle.linear_terms.specs.declared.row.Kind.TheVariants.{AtMost}
 use Rattle.linear_terms.specs.declared.row.Row.{Row}
 use Rattle.linear_terms.specs.Polynomial.{Terms, Polynomial, coefficient_in, IsCanonical}
-use Rattle.linear_terms.specs.Row.{is_within}
 use Rattle.farkas_check.specs.Columns.{monos_of}
 use Rattle.farkas_check.specs.Calm.{IsCalmGoal}
 use Rattle.farkas_check.specs.Frames.{IsCalmUpTo, frame_of}
 use Rattle.farkas_check.specs.Kept.{IsCanonicalGoal}
-use Rattle.farkas_check.specs.Multiples.{Form, number_at as coefficient_at, constant_in, sum_from, sums_at, constant_sum, sum_of_multiples, are_multipliers, scaled_at, scaled_less, scaled_form, same_form}
+use Rattle.farkas_check.specs.Multiples.{Form, number_at as coefficient_at, constant_in, sums_at, constant_sum, sum_of_multiples, are_multipliers, scaled_at, scaled_less, scaled_form, same_form}
 use Rattle.farkas_check.specs.Parts.{and_then}
 use Rattle.farkas_check.specs.Points.{ratio_at, ratio_value, slope_at, meets}
 use Rattle.farkas_check.specs.Rational.{terms_at}
 use Rattle.farkas_check.specs.Ratios.{Fraction, whole, is_at_least}
-use Rattle.farkas_check.specs.Relations.{entry}
 use Rattle.farkas_check.specs.Sizes.{row_polys}
 use Rattle.farkas_check.specs.Tested.{goal_columns, tested_sum, tested_below, tested_cert, tested_point, tested_reached, tested_ray}
 use Rattle.farkas_check.specs.declared.answer.Cert.{Cert}
@@ -38,12 +36,12 @@ use Rattle.simplex.specs.Calm.{HasSmallLines}
 use Rattle.simplex.specs.Exchange.{numbers_of, choices_of, IsTableauOf}
 use Rattle.simplex.specs.Raise.{sign_of}
 use Rattle.simplex.specs.Refusal.{IsSmallFrame}
-use Rattle.simplex.specs.Rows.{kinds_of, framed, framed_by}
+use Rattle.simplex.specs.Rows.{kinds_of, framed}
 use Rattle.simplex.specs.Search.{IsMet, IsCornerOf}
 use Rattle.simplex.specs.Suprema.{with_goal, goal_frame, IsOpened, SlopeAt, IsRayOf}
 use Rattle.simplex.specs.declared.tableau.Tableau.{Tableau}
 use Rattle.simplex.proofs.Bounded.{IsCertificate}
-use Rattle.simplex.proofs.Calmness.{small_frame, small_column, HasSmallColumn, moved_part, moved_parts, whole_over}
+use Rattle.simplex.proofs.Calmness.{small_frame, small_column, HasSmallColumn, moved_part, moved_parts}
 use Rattle.simplex.proofs.Corners.{moved}
 use Rattle.simplex.proofs.Framing.{kinds-length}
 use Rattle.simplex.proofs.Moves.{shift_own}

@@ -3,7 +3,7 @@ use Rattle.std.proofs.Common.{◌≡◌, ◌⊎◌, inl, inr, ℕ, zero, suc, �
 use Rattle.std.specs.Prelude.{IfOk, IfErr, ◌-◌, ◌^◌, ◌==◌, slice_get, int_lt, unsigned_abs}
 use Rattle.std.specs.List.{AllByRecursion}
 use Rattle.std.proofs.lemmas.Int.{ints}
-use Rattle.std.proofs.lemmas.Bool.{cases_eq, eq-eqb, false≢true}
+use Rattle.std.proofs.lemmas.Bool.{eq-eqb, false≢true}
 use Rattle.std.proofs.lemmas.List.Elements.{recursion_from_All}
 use Rattle.std.specs.Prelude.{All}
 use Rattle.whole_numbers.specs.declared.wide.Wide as Step
@@ -13,18 +13,16 @@ use Rattle.farkas_check.specs.Kept.{IsCanonicalGoal, HasPositive}
 use Rattle.farkas_check.specs.Meaning.{IsLimit}
 use Rattle.farkas_check.specs.Parts.{and_then}
 use Rattle.farkas_check.specs.Ratios.{Fraction}
-use Rattle.farkas_check.specs.Sizes.{IsDead, HasEmptyCase, HasRationalPoint, case_rows}
+use Rattle.farkas_check.specs.Sizes.{IsDead, case_rows}
 use Rattle.farkas_check.specs.Tested.{goal_columns, outcome, Passes, tested_cert, tested_certs, tested_point, tested_reached, tested_ray, of_case}
 use Rattle.farkas_check.specs.declared.answer.Answer.{Answer}
 use Rattle.farkas_check.specs.declared.answer.Answer.TheVariants as answer
 use Rattle.farkas_check.specs.declared.answer.Cert.{Cert}
-use Rattle.farkas_check.specs.declared.answer.Limit.{Limit}
 use Rattle.farkas_check.specs.declared.answer.Limit.TheVariants as limit
 use Rattle.farkas_check.specs.declared.question.Goal.{Goal}
 use Rattle.farkas_check.specs.declared.question.Question.TheVariants.{Sup}
 use Rattle.farkas_check.proofs.Farkas.{bool_ok}
-use Rattle.linear_terms.specs.declared.row.Row.{Row}
-use Rattle.simplex.specs.Goals.{whole_bound, higher, with_bound, bound_answer, AreBounds, IsReachOf, ReachAt, AreBoundsTo, HasNoBound, IsFoundAmong, IsRefusalAmong, IsSupremumAt, HasManyChoices, PivotsAmong, IsWide, IsGoalsAnswer}
+use Rattle.simplex.specs.Goals.{whole_bound, higher, with_bound, bound_answer, IsReachOf, ReachAt, AreBoundsTo, HasNoBound, IsFoundAmong, IsRefusalAmong, IsSupremumAt, HasManyChoices, PivotsAmong, IsWide, IsGoalsAnswer}
 use Rattle.simplex.specs.Refusal.{LeavesBits, IsRefusalIn}
 use Rattle.simplex.specs.Rows.{kinds_of}
 use Rattle.simplex.specs.Suprema.{with_goal, goal_frame, IsSupremumOf}
@@ -35,8 +33,7 @@ use Rattle.simplex.specs.declared.stop.Stop.TheVariants.{Wide, Memory}
 use Rattle.simplex.specs.declared.tableau.Tableau.{Tableau}
 use Rattle.simplex.specs.declared.supremum.Supremum.{Supremum}
 use Rattle.simplex.specs.declared.supremum.Supremum.TheVariants as supremum
-use Rattle.simplex.proofs.Bounded.{IsCertified, certified, IsCertificate, certificate-is}
-use Rattle.simplex.proofs.Calmness.{small_frame}
+use Rattle.simplex.proofs.Bounded.{IsCertified, certified, certificate-is}
 use Rattle.simplex.proofs.CalmGoals.{goal_small, cert_small, floor-small, cert-calm, point-calm, reached-calm, ray-calm, IsSmallCert}
 use Rattle.simplex.proofs.Emptiness.{no_point_of}
 use Rattle.simplex.proofs.Framing.{kinds-length, long}

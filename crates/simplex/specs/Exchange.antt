@@ -1,5 +1,5 @@
 -- An exchange of a chosen column, in 128 bits.
-use Rattle.std.specs.Prelude.{◌≡◌, ℕ, ◌+◌, nat_eq, ℤ, pos, negsuc, List, [], ◌∷◌, ◌++◌, map, get_or, slice_set, length, Option, None, Some, Result, Ok, int_div, int_lt, if◌then◌else◌, ◌<◌}
+use Rattle.std.specs.Prelude.{◌≡◌, ℕ, ◌+◌, nat_eq, ℤ, pos, negsuc, List, [], ◌∷◌, ◌++◌, map, get_or, slice_set, length, Option, None, Some, Result, Ok, int_div, int_lt, if◌then◌else◌, ◌<◌, IfOk}
 use Rattle.std.specs.Ordering.{int_eq}
 use Rattle.items.specs.Gives.{◌>>=◌}
 use Rattle.whole_numbers.specs.Fits.{sum_of, product_of}
@@ -93,3 +93,7 @@ pub record IsTableauOf (units : ℕ) (frame : ℕ → ℕ → ℤ) (t : Tableau)
 -- the numbers of a line have no common divisor but 1
 abbrev pub ArePrimitive : Tableau → Type 0
 ArePrimitive t = (i : ℕ) → i < length t.lines → gcd_of_all (get_or t.lines i []) ≡ 1
+
+-- what is made is a tableau of each frame of which the first one is
+abbrev pub KeepsFrames : ℕ → Tableau → Result Tableau Stop → Type 0
+KeepsFrames columns before after = (units : ℕ) (frame : ℕ → ℕ → ℤ) → columns ≡ units + length before.lines → IsTableauOf units frame before → IfOk after (λ t. IsTableauOf units frame t)

@@ -1,5 +1,5 @@
 -- What the cases of a question Sup come to, one after another, and what the answer owes.
-use Rattle.std.specs.Prelude.{◌≡◌, ◌⊎◌, ℕ, ◌+◌, ◌-◌, ◌^◌, ◌<◌, ◌≤◌, ℤ, ◌≤ℤ◌, List, [], ◌∷◌, ◌++◌, length, slice_get, Option, None, Some, int_lt, if◌then◌else◌, ⊤}
+use Rattle.std.specs.Prelude.{◌≡◌, ◌⊎◌, ℕ, ◌+◌, ◌-◌, ◌^◌, ◌<◌, ℤ, ◌≤ℤ◌, List, [], ◌∷◌, ◌++◌, length, slice_get, Option, None, Some, int_lt, if◌then◌else◌, ⊤}
 use Rattle.std.specs.Int.{int_div_euclid}
 use Rattle.farkas_check.specs.Calm.{IsCalm, IsLiveAndCalm}
 use Rattle.farkas_check.specs.Meaning.{IsLimit}
@@ -10,10 +10,8 @@ use Rattle.farkas_check.specs.Tested.{goal_columns, Passes}
 use Rattle.farkas_check.specs.declared.answer.Answer.{Answer}
 use Rattle.farkas_check.specs.declared.answer.Answer.TheVariants as answer
 use Rattle.farkas_check.specs.declared.answer.Cert.{Cert}
-use Rattle.farkas_check.specs.declared.answer.Limit.{Limit}
 use Rattle.farkas_check.specs.declared.answer.Limit.TheVariants as limit
 use Rattle.farkas_check.specs.declared.question.Goal.{Goal}
-use Rattle.farkas_check.specs.declared.question.Question.{Question}
 use Rattle.farkas_check.specs.declared.question.Question.TheVariants.{Sup}
 use Rattle.simplex.specs.Refusal.{LeavesBits}
 use Rattle.simplex.specs.Suprema.{IsSupremumOf}

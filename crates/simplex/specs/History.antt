@@ -47,6 +47,10 @@ pub record Raises (over : Framed) (enters : List Bool) (constants : ℕ) (keys :
   pub raising : IsRaising (length first.lines) over.units (over.units + length first.lines) constants over.frame (leaves_at enters first) (choices_of first) keys (numbers_of now) (choices_of now)
   pub run : HasRun (length first.lines) over.units (over.units + length first.lines) constants goal sign over.frame keys (numbers_of now) (choices_of now) turns
 
+-- some number of turns lead from the one tableau to the other
+abbrev pub RaisedFrom : Framed → List Bool → ℕ → List ℕ → ℕ → ℤ → Tableau → Tableau → Type 0
+RaisedFrom over enters constants keys goal sign first now = (turns : ℕ) × Raises over enters constants keys goal sign first now turns
+
 -- a goal that was to be met is not met
 abbrev pub IsUnmet : Bool → ℕ → ℕ → Tableau → Type 0
 IsUnmet until constants goal t = until ≡ true → pos 0 <ℤ numbers_of t goal constants

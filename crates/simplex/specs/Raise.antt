@@ -1,5 +1,5 @@
 -- A raise: the entering column and the leaving line.
-use Rattle.std.specs.Prelude.{◌≡◌, ◌⊎◌, ℕ, ◌+◌, ◌<◌, ℤ, pos, negsuc, ◌*ℤ◌, ◌-ℤ◌, ◌≤ℤ◌, ◌<ℤ◌, List, [], ◌∷◌, length, get_or, Bool, true, false, nat_eq, Option, None, Some, Result, Ok, if◌then◌else◌}
+use Rattle.std.specs.Prelude.{◌≡◌, ◌⊎◌, ℕ, ◌+◌, ◌<◌, ℤ, pos, negsuc, ◌*ℤ◌, ◌-ℤ◌, ◌≤ℤ◌, ◌<ℤ◌, List, [], ◌∷◌, length, get_or, Bool, true, false, nat_eq, Option, None, Some, Result, Ok, if◌then◌else◌, MatchOption}
 use Rattle.std.specs.List.{AllByRecursion, filter}
 use Rattle.std.specs.Ordering.{int_cmp, match_ordering}
 use Rattle.std.specs.declared.cmp.Ordering.{Ordering}
@@ -28,6 +28,12 @@ enters_at enters j = get_or enters j false
 -- whether a line's choice may leave
 abbrev pub leaves_at : List Bool → Tableau → ℕ → Bool
 leaves_at enters t i = enters_at enters (choices_of t i)
+
+-- the first column that may enter and at which the line lets its goal grow, or none is such
+abbrev pub EntersFirst : List ℤ → Bool → List Bool → Option ℕ → Type 0
+EntersFirst line up enters found =
+    MatchOption found ((j : ℕ) → j < length line → enters_at enters j ≡ true → pos 0 ≤ℤ (sign_of up *ℤ entry line j))
+    (λ j. (j < length line) × (enters_at enters j ≡ true) × ((sign_of up *ℤ entry line j) <ℤ pos 0))
 
 -- p times a line less q times another
 abbrev pub behind_of : ℕ → List ℤ → List ℤ → ℕ → ℤ

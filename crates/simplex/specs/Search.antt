@@ -1,5 +1,5 @@
 -- The search for a corner of a list of rows, or for multipliers that refute them.
-use Rattle.std.specs.Prelude.{◌≡◌, ◌≢◌, ◌⊎◌, ℕ, ◌+◌, ◌<◌, ◌≤◌, ℤ, pos, negsuc, ◌*ℤ◌, ◌≤ℤ◌, ◌<ℤ◌, List, length, get_or, Bool, true, false, Option, None, Some, Result, Ok}
+use Rattle.std.specs.Prelude.{◌≡◌, ◌≢◌, ◌⊎◌, ℕ, ◌+◌, ◌<◌, ◌≤◌, ℤ, pos, negsuc, ◌*ℤ◌, ◌≤ℤ◌, ◌<ℤ◌, List, length, get_or, Bool, true, false, Option, None, Some, MatchOption, Result, Ok}
 use Rattle.linear_terms.specs.declared.row.Kind.{Kind}
 use Rattle.linear_terms.specs.declared.row.Kind.TheVariants.{AtMost, Equal}
 use Rattle.farkas_check.specs.Ratios.{Fraction, IsLowest, whole, lowest_terms}
@@ -43,6 +43,10 @@ pub record IsSized (over : Framed) (constants : ℕ) (kinds : List Kind) (t : Ta
   pub primitive : ArePrimitive t
   pub inside : over.rows ≤ length t.lines
   pub goals : (l : ℕ) → over.rows ≤ l → l < length t.lines → kind_at kinds l ≡ AtMost
+
+-- the first column of the question at which a line is not 0, or it is 0 at all
+abbrev pub IsQuestionColumn : List ℤ → ℕ → Option ℕ → Type 0
+IsQuestionColumn line constants found = MatchOption found ((j : ℕ) → j < constants → entry line j ≡ pos 0) (λ j. (j < constants) × (entry line j ≡ pos 0 → ⊥))
 
 -- equations before the i-th are solved: a column of the question is chosen, or the line is fixed
 pub record IsSolving (over : Framed) (constants : ℕ) (kinds : List Kind) (count : ℕ) (t : Tableau) : Type 0 where
@@ -118,6 +122,10 @@ FoundAt over constants kinds budget enters t (found.Refuted i) = IsRefuted over 
 FoundAt over constants kinds budget enters t found.Pivots = budget < choose (over.units + length kinds) (length kinds)
 
 -- ---- the corner
+
+-- a line that chooses the column, or none does
+abbrev pub IsLineChoosing : List ℕ → ℕ → Option ℕ → Type 0
+IsLineChoosing chosen column found = MatchOption found ((k : ℕ) → k < length chosen → get_or chosen k 0 ≢ column) (λ k. (k < length chosen) × (get_or chosen k 0 ≡ column))
 
 -- the number of a chosen column is minus its line's constant over its line's own number, and 0 where it is not chosen
 pub record CornerAt (t : Tableau) (constants column : ℕ) (r : Fraction) : Type 0 where

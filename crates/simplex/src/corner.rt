@@ -5,7 +5,7 @@ ghost use Rattle.simplex.specs.Raise.{Framed};
 ghost use Rattle.simplex.specs.Calm.{HasSquares, IsSmallLine, HasSmallLines, IsMemory};
 ghost use Rattle.simplex.specs.Refusal.{LeavesBits, IsRefusal};
 ghost use Rattle.simplex.specs.Suprema.{SlopeAt, IsRayOf, chosen_slope};
-ghost use Rattle.simplex.specs.Search.{CornerAt, IsCornerOf, chosen_number};
+ghost use Rattle.simplex.specs.Search.{CornerAt, IsCornerOf, IsLineChoosing, chosen_number};
 
 use crate::{Stop, Tableau};
 use farkas_check::Ratio;
@@ -70,7 +70,7 @@ fn lowest_number(line: &[i128], constants: usize, column: usize) -> Result<Ratio
 
 /// The first line that chooses a column.
 fn line_choosing(chosen: &[usize], column: usize) -> Option<usize>
-    ensures { MatchOption result ((k : ℕ) → k < length chosen.now → get_or chosen.now k 0 ≢ column) (λ k. (k < length chosen.now) × (get_or chosen.now k 0 ≡ column)) }
+    ensures { IsLineChoosing chosen.now column result }
 {
     for (line, own) in chosen.iter().enumerate() {
         if *own == column {

@@ -3,7 +3,7 @@ ghost use Rattle.linear_terms.specs.declared.row.Kind.TheVariants.{AtMost, Equal
 ghost use Rattle.farkas_check.specs.Relations.{entry};
 ghost use Rattle.simplex.specs.Raise.{Framed};
 ghost use Rattle.simplex.specs.Refusal.{IsRefusalIn};
-ghost use Rattle.simplex.specs.Search.{IsSolving, EquationAt, EquationsAt, IsFreeing};
+ghost use Rattle.simplex.specs.Search.{IsQuestionColumn, IsSolving, EquationAt, EquationsAt, IsFreeing};
 
 use crate::{Stop, Tableau};
 use items::Items;
@@ -13,7 +13,7 @@ use std::alloc::Global;
 /// The first column of the question at which a line is not 0.
 pub(crate) fn question_column(line: &[i128], constants: usize) -> Option<usize>
     requires { constants < length line.now }
-    ensures { MatchOption result ((j : ℕ) → j < constants → entry line.now j ≡ pos 0) (λ j. (j < constants) × (entry line.now j ≡ pos 0 → ⊥)) }
+    ensures { IsQuestionColumn line.now constants result }
 {
     for j in 0..constants {
         if line[j] != 0 {

@@ -4,8 +4,8 @@ ghost use Rattle.simplex.specs.Exchange.{HasShape, IsTableauOf, ArePrimitive};
 ghost use Rattle.farkas_check.specs.Relations.{entry};
 ghost use Rattle.simplex.specs.Calm.{HasSquares, IsSmallLine, HasSmallLines};
 ghost use Rattle.simplex.specs.Refusal.{LeavesBits, IsRefusalIn};
-ghost use Rattle.simplex.specs.Raise.{sign_of, enters_at, order_at, comes_before, LeavingOf, Framed, Begins};
-ghost use Rattle.simplex.specs.History.{Raises, CameTo, MovedTo, EndsAt};
+ghost use Rattle.simplex.specs.Raise.{EntersFirst, sign_of, enters_at, order_at, comes_before, LeavingOf, Framed, Begins};
+ghost use Rattle.simplex.specs.History.{RaisedFrom, CameTo, MovedTo, EndsAt};
 
 use crate::{Stop, Tableau};
 use std::alloc::Global;
@@ -15,7 +15,7 @@ use whole_numbers::{Wide, product};
 /// The first column that may enter and at which the goal's line lets it grow.
 pub(crate) fn entering(line: &[i128], up: bool, enters: &[bool]) -> Option<usize>
     requires { length enters.now ≡ length line.now }
-    ensures { MatchOption result ((j : ℕ) → j < length line.now → enters_at enters.now j ≡ true → pos 0 ≤ℤ (sign_of up *ℤ entry line.now j)) (λ j. (j < length line.now) × (enters_at enters.now j ≡ true) × ((sign_of up *ℤ entry line.now j) <ℤ pos 0)) }
+    ensures { EntersFirst line.now up enters.now result }
 {
     for (j, number) in line.iter().enumerate() {
         if enters[j] && grows(number, up) {
@@ -96,7 +96,8 @@ fn compared(
     Ok(false)
 }
 
-/// How a raise ends: its goal is met, no column lets the goal grow, or one does so without end, or the turns are used up.
+/// How a raise ends: its goal is met, no column lets the goal grow, or one does so without end, or the turns are used
+/// up.
 #[derive(Clone, Copy, Debug, PartialEq, Eq)]
 pub enum RaiseEnd {
     Met,
@@ -131,7 +132,7 @@ pub(crate) fn raised_to(
     ghost over: { Framed }
     requires begins { Begins over enters.now constants keys.now goal t }
     requires primitive { ArePrimitive t }
-    ensures tableau { IfOk result (λ r. (turns : ℕ) × Raises over enters.now constants keys.now goal (sign_of up) t r.0 turns) }
+    ensures tableau { IfOk result (λ r. RaisedFrom over enters.now constants keys.now goal (sign_of up) t r.0) }
     ensures ends { IfOk result (λ r. EndsAt over enters.now constants (sign_of up) until goal budget r.0 r.1) }
     ensures refusal { IfErr result (IsRefusalIn over (length t.lines)) }
 {

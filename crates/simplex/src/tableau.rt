@@ -3,7 +3,7 @@ ghost use Rattle.items.specs.Gives.{Gives};
 ghost use Rattle.whole_numbers.specs.Divisors.{gcd_of_all};
 ghost use Rattle.simplex.specs.Calm.{HasSquares, HasSmallLines, IsMemory};
 ghost use Rattle.simplex.specs.Refusal.{LeavesBits, IsRefusal};
-ghost use Rattle.simplex.specs.Exchange.{cause, sum_of_lines, sum_of_products, line_multiple, reduced, upright_line, line_without, line_without_at, lines_without, exchange, numbers_of, HasShape, IsTableauOf};
+ghost use Rattle.simplex.specs.Exchange.{cause, sum_of_lines, sum_of_products, line_multiple, reduced, upright_line, line_without, line_without_at, lines_without, exchange, numbers_of, HasShape, KeepsFrames};
 
 use crate::Stop;
 use items::Items;
@@ -28,7 +28,7 @@ impl Tableau {
         requires column { column < columns }
         requires pivot { numbers_of self line column ≡ pos 0 → ⊥ }
         ensures exact { Gives cause (λ t. t) result (exchange self line column) }
-        ensures kept { (units : ℕ) (frame : ℕ → ℕ → ℤ) → columns ≡ units + length self.lines → IsTableauOf units frame self → IfOk result (λ t. IsTableauOf units frame t) }
+        ensures kept { KeepsFrames columns self result }
         ensures refusal { IfErr result IsRefusal }
         ensures calm { (n : ℕ) → HasSquares n → HasSmallLines n self → IfErr result IsMemory }
     {
