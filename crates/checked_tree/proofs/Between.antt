@@ -1,6 +1,6 @@
 -- Formulas between vocabularies: settled and fitted ones, sequences, joins and stars.
 use Rattle.std.proofs.Common.{◌≡◌, ℕ, ◌+◌, ◌≤◌, ℤ, List, [], ◌∷◌, map, length, Option, refl, sym, ◌∙◌, ap, subst, inl, inr, arith, Ok, Err}
-use Rattle.std.specs.Prelude.{IsTrue, Result, ◌&&◌, nat_le, option_to_list}
+use Rattle.std.specs.Prelude.{IsTrue, Result, ◌&&◌, nat_le, nat_lt, option_to_list}
 use Rattle.std.specs.List.{AllByRecursion, list_all, cons_option}
 use Rattle.std.proofs.lemmas.Bool.{leb-true, le-leb}
 use Rattle.std.proofs.lemmas.List.{length-map}
@@ -15,10 +15,11 @@ use Rattle.linear_terms.specs.Value.{value_of}
 use Rattle.linear_terms.proofs.Canonical.{IsCanonical-substituted}
 use Rattle.transition_formula.specs.Composition.{Operation, identity_of, joined, row_of, rows_by, sequence_of_cases, sequence_of, after_case}
 use Rattle.transition_formula.specs.Meaning.{Holds, HoldsSome, numbers, Covers}
-use Rattle.transition_formula.specs.Transition.{Transition, IsTransition, IsFitted, IsSolvable, AreSolvable, fits}
+use Rattle.transition_formula.specs.Transition.{Transition, IsTransition, IsFitted, IsSolvable, AreSolvable, AreFew, fits}
 use Rattle.transition_formula.proofs.Covered.{both, both_true, lost, each_from_test, test_from_each}
 use Rattle.transition_formula.proofs.Fitted.{fits-solvable}
-use Rattle.transition_formula.proofs.Fitting.{fitting, joined-fits, sequence_of-fits}
+use Rattle.transition_formula.proofs.Few.{all_few}
+use Rattle.transition_formula.proofs.Fitting.{below-true, fitting, joined-fits, sequence_of-fits}
 use Rattle.posing.specs.Posing.{Done, ◌>>=◌, Always}
 use Rattle.posing.proofs.Paths.{always_bind, always_weaker, always_any}
 use Rattle.polyhedra.specs.Finish.{finished}
@@ -38,13 +39,13 @@ use Rattle.checked_tree.specs.Law.{IsFrom, IsEnd, IsBetweenEnds}
 -- ---- settled and fitted
 
 module _ (from to : Vocabulary) (start : IsEnd from) (end : IsEnd to) where
-  settled-from : (f : Transition) → IsFrom from to f → Always (IsFrom from to) (settled f)
+  pub settled-from : (f : Transition) → IsFrom from to f → Always (IsFrom from to) (settled f)
   unfolding settled
   settled-from f is =
       always_bind (IsTransition f.from f.to) (IsFrom from to) (settled_cases f.cases) (λ cases. Done record { from = f.from; to = f.to; cases = cases })
       (settled_cases-fit f.from f.to f.cases is.fits) (λ cases fit. record { from_is = is.from_is; to_is = is.to_is; fits = fit })
 
-  between : (f : Transition) → IsFrom from to f → IsBetween f from to
+  pub between : (f : Transition) → IsFrom from to f → IsBetween f from to
   between f is = record {
     fits = is.fits;
     starts = sym is.from_is;
@@ -87,7 +88,7 @@ module _ (from to : Vocabulary) (start : IsEnd from) (end : IsEnd to) where
 abbrev pub IsFewCase : Case → Type 0
 IsFewCase case = case.aux ≤ 64
 
-few-cases : (cases : List Case) → IsFitted cases → AllByRecursion IsFewCase cases
+pub few-cases : (cases : List Case) → IsFitted cases → AllByRecursion IsFewCase cases
 few-cases cases fit =
     each_from_test (λ case. nat_le (length case.rows) 64 && nat_le case.aux 64) IsFewCase
     (λ case h. leb-true case.aux 64 (both (nat_le (length case.rows) 64) (nat_le case.aux 64) h).1) cases
@@ -243,3 +244,11 @@ some-length from to (case ∷ cases) e before after (inr h) = some-length from t
 
 pub after-length : (from to : Vocabulary) (f : Transition) → IsBetweenEnds from to f → (before after : List ℤ) → Holds f before after → length after ≡ to.columns
 after-length from to f is before after h = some-length f.from f.to f.cases is.between.fits before after h.some ∙ is.between.to_is
+
+-- ---- two fitted formulas have few auxiliaries together
+
+few_test : (cases : List Case) → IsFitted cases → IsTrue (list_all (λ (case : Case). nat_lt case.aux 1000) cases)
+few_test cases fit = test_from_each (λ (case : Case). nat_lt case.aux 1000) IsFewCase (λ case h. below-true case.aux 1000 (omega arith)) cases (few-cases cases fit)
+
+pub pair-few : (a b : Transition) → IsFitted a.cases → IsFitted b.cases → b.to ≤ 63 → AreFew a b
+pair-few a b h k few = all_few a.cases b.cases b.to (omega arith) (few_test a.cases h) (few_test b.cases k)

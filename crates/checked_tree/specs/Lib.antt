@@ -2,6 +2,7 @@ pub use Rattle.items.specs.Gives
 pub use Rattle.path_expr.specs.Elimination
 pub use Rattle.path_expr.specs.Operations
 pub use Rattle.posing.specs.Posing
+pub use Rattle.posing.specs.Follows
 pub use Rattle.transition_formula.specs.Meaning
 pub use Rattle.polyhedra.specs.Vocabulary
 -- ---- what must be believed: the words that clauses of public calls cite
@@ -12,6 +13,8 @@ pub mod Graph
 pub mod Evaluation
 -- what holds of it, whatever the answers are, as long as they are true
 pub mod Law
+-- what operations ask of their operands
+pub mod Operands
 -- its operations by numbers, and their evaluation
 pub mod Plan
 pub mod ByNumber

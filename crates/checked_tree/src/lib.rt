@@ -5,9 +5,11 @@
 mod entry;
 mod key;
 mod law;
+mod operations;
 mod plan;
 
 pub use entry::Entry;
 pub use key::Key;
 pub use law::{law_of_evaluation, law_of_plans};
+pub use operations::{either, leaf, sequence};
 pub use plan::{Plan, planned};
