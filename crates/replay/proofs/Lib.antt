@@ -2,3 +2,5 @@
 pub mod Chosen
 -- ---- traces: `failed_stop_fails`, `traces_are_determined`, and those that are made
 pub mod Traces
+-- ---- texts that are put together
+pub mod Texts

@@ -1,6 +1,8 @@
 -- ---- what must be believed
--- the chosen execution on given values, its trace, and laws that tie both to the machine
+-- the chosen execution on given values, its trace, the text of a trace, and laws that tie them to the machine
 pub mod Chosen
+pub mod TraceText
 pub mod Laws
 -- ---- words of proofs
 pub mod Follow
+pub mod Appends
