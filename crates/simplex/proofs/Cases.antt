@@ -22,7 +22,8 @@ use Rattle.farkas_check.specs.declared.answer.Limit.TheVariants as limit
 use Rattle.farkas_check.specs.declared.question.Goal.{Goal}
 use Rattle.farkas_check.specs.declared.question.Question.TheVariants.{Sup}
 use Rattle.farkas_check.proofs.Farkas.{bool_ok}
-use Rattle.simplex.specs.Goals.{whole_bound, higher, with_bound, bound_answer, IsReachOf, ReachAt, AreBoundsTo, HasNoBound, IsFoundAmong, IsRefusalAmong, IsSupremumAt, HasManyChoices, PivotsAmong, IsWide, IsGoalsAnswer}
+use Rattle.simplex.specs.Goals.{whole_bound, higher, with_bound, bound_answer, IsReachOf, ReachAt, AreBoundsTo, HasNoBound, IsFoundAmong, IsRefusalAmong, IsSupremumAt, HasManyChoices, PivotsAmong, IsGoalsAnswer}
+use Rattle.simplex.specs.Answers.{IsWide}
 use Rattle.simplex.specs.Refusal.{LeavesBits, IsRefusalIn}
 use Rattle.simplex.specs.Rows.{kinds_of}
 use Rattle.simplex.specs.Suprema.{with_goal, goal_frame, IsSupremumOf}

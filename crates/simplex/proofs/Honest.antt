@@ -10,14 +10,14 @@ use Rattle.farkas_check.specs.declared.answer.Answer.{Answer}
 use Rattle.farkas_check.specs.declared.answer.Answer.TheVariants as answer
 use Rattle.farkas_check.specs.declared.answer.Limit.TheVariants as limit
 use Rattle.whole_numbers.specs.declared.wide.Wide as Step
-use Rattle.farkas_check.specs.Calm.{IsLiveAndCalm}
+use Rattle.farkas_check.specs.Calm.{IsCalm, IsLiveAndCalm}
 use Rattle.farkas_check.specs.Meaning.{IsLimit}
 use Rattle.farkas_check.specs.Frames.{choose, choice_count}
 use Rattle.farkas_check.specs.Kept.{HasPositive}
 use Rattle.farkas_check.specs.Tested.{outcome, Passes}
 use Rattle.farkas_check.specs.declared.question.Question.TheVariants.{Infeasible}
 use Rattle.farkas_check.proofs.Farkas.{bool_ok}
-use Rattle.simplex.specs.Answers.{AnswerOf, IsHonestOf, IsFoundFor, IsRefusalFor, IsRowsAnswer, PivotsOf}
+use Rattle.simplex.specs.Answers.{AnswerOf, IsHonestOf, IsFoundFor, IsRefusalFor, IsRowsAnswer, PivotsOf, IsWide}
 use Rattle.simplex.specs.Refusal.{LeavesBits, IsRefusalIn}
 use Rattle.simplex.specs.declared.stop.Stop.TheVariants as stop
 use Rattle.simplex.proofs.Framing.{kinds-length}
@@ -74,15 +74,19 @@ no_pivots : (rows : List Row) (step : Step.Wide) → PivotsOf (2 ^ 127 - 1) rows
 no_pivots rows step e = cc
 
 pub overrun_answer : (rows : List Row) (step : Step.Wide) → AreCanonical rows → IsRefusalFor rows (stop.Wide step) → IsRowsAnswer rows (answer.Limit (limit.Wide step.left step.right step.times))
-overrun_answer rows step k h = record { passes = limit_passes rows step k h.leaves; pivots = no_pivots rows step; calm = λ live is. h.great 1099511627776 fits_twice (small_frame 1099511627776 (columns rows []) rows live.calm.cases.calm) }
+overrun_answer rows step k h = record { passes = limit_passes rows step k h.leaves; pivots = no_pivots rows step; wide = λ c is. wild c; calm = λ live is. wild live.calm }
+  where
+    wild : IsCalm (Infeasible rows) → ⊥
+    wild c = h.great 1099511627776 fits_twice (small_frame 1099511627776 (columns rows []) rows c.cases.calm)
 
 pub step_answer : (rows : List Row) (a : Answer) (step : Step.Wide) → AreCanonical rows → IsFoundFor (2 ^ 127 - 1) rows a → outcome (Infeasible rows) a ≡ Err step → IsRowsAnswer rows (answer.Limit (limit.Wide step.left step.right step.times))
-step_answer rows a step k h e = record { passes = limit_passes rows step k (outcome-leaves rows a step e); pivots = no_pivots rows step; calm = λ live is. calm_found rows (2 ^ 127 - 1) a step k live.calm.cases h e }
+step_answer rows a step k h e = record { passes = limit_passes rows step k (outcome-leaves rows a step e); pivots = no_pivots rows step; wide = λ c is. calm_found rows (2 ^ 127 - 1) a step k c.cases h e; calm = λ live is. calm_found rows (2 ^ 127 - 1) a step k live.calm.cases h e }
 
 pub found_answer : (rows : List Row) (a : Answer) (b : Bool) → AreCanonical rows → HasPositive a → IsFoundFor (2 ^ 127 - 1) rows a → outcome (Infeasible rows) a ≡ Ok b → IsRowsAnswer rows a
 found_answer rows a b k p h e = record {
   passes = record { canonical = k; positive = p; passed = e ∙ ap (λ (x : Bool). bool_ok x) (honest rows (2 ^ 127 - 1) a k h b e) };
   pivots = pivots_of rows a h;
+  wide = λ c is. not_wide rows a h is;
   calm = calm_of rows a h;
 }
   where
@@ -93,6 +97,18 @@ found_answer rows a b k p h e = record {
     pivots_of rows (answer.Unbounded case point ray) h e = absurd h
     pivots_of rows (answer.Basis relations spots free) h e = absurd h
     pivots_of rows (answer.Limit l) h e = subst (λ (n : ℕ). (2 ^ 127 - 1) < choose (length (columns rows []) + 1 + n) n) (kinds-length rows) h.1
+
+    not_wide : (rows : List Row) (a : Answer) → IsFoundFor (2 ^ 127 - 1) rows a → IsWide a → ⊥
+    not_wide rows (answer.Yes by) h is = is
+    not_wide rows (answer.No point) h is = is
+    not_wide rows (answer.Bound at certs case point) h is = is
+    not_wide rows (answer.Unbounded case point ray) h is = is
+    not_wide rows (answer.Basis relations spots free) h is = is
+    not_wide rows (answer.Limit limit.Pivots) h is = is
+    not_wide rows (answer.Limit (limit.Wide left right times)) h is = other h.0
+      where
+        other : limit.Wide left right times ≡ limit.Pivots → ⊥
+        other f = cc
 
     calm_of : (rows : List Row) (a : Answer) → IsFoundFor (2 ^ 127 - 1) rows a → IsLiveAndCalm (Infeasible rows) → IsLimit a → ⊥
     calm_of rows (answer.Yes by) h live is = is

@@ -1,8 +1,8 @@
 -- What an answer owes before its test is made.
-use Rattle.std.specs.Prelude.{unsigned_abs, ◌≡◌, ℕ, ◌+◌, ◌-◌, ◌^◌, ◌<◌, ℤ, pos, ◌*ℤ◌, ◌<ℤ◌, List, [], drop, length, Bool, true, Result, Ok}
+use Rattle.std.specs.Prelude.{unsigned_abs, ◌≡◌, ℕ, ◌+◌, ◌-◌, ◌^◌, ◌<◌, ℤ, pos, ◌*ℤ◌, ◌<ℤ◌, List, [], drop, length, Bool, true, Result, Ok, ⊤}
 use Rattle.linear_terms.specs.declared.row.Row.{Row}
 use Rattle.whole_numbers.specs.declared.wide.Wide as Step
-use Rattle.farkas_check.specs.Calm.{IsLiveAndCalm}
+use Rattle.farkas_check.specs.Calm.{IsCalm, IsLiveAndCalm}
 use Rattle.farkas_check.specs.Meaning.{IsLimit}
 use Rattle.farkas_check.specs.Columns.{columns}
 use Rattle.farkas_check.specs.Tested.{outcome, Passes}
@@ -34,10 +34,21 @@ IsHonestOf rows a = IsHonest (Infeasible rows) a
 abbrev pub PivotsOf : ℕ → List Row → Answer → Type 0
 PivotsOf budget rows a = a ≡ answer.Limit limit.Pivots → budget < choose (length (columns rows []) + 1 + length rows) (length rows)
 
+-- a limit that names a step
+abbrev pub IsWide : Answer → Type 0
+IsWide (answer.Limit (limit.Wide left right times)) = ⊤
+IsWide (answer.Limit limit.Pivots) = ⊥
+IsWide (answer.Yes by) = ⊥
+IsWide (answer.No point) = ⊥
+IsWide (answer.Bound at certs case point) = ⊥
+IsWide (answer.Unbounded case point ray) = ⊥
+IsWide (answer.Basis relations spots free) = ⊥
+
 -- what the call for rows owes of its answer
 pub record IsRowsAnswer (rows : List Row) (a : Answer) : Type 0 where
   pub passes : Passes (Infeasible rows) a
   pub pivots : PivotsOf (2 ^ 127 - 1) rows a
+  pub wide : IsCalm (Infeasible rows) → IsWide a → ⊥
   pub calm : IsLiveAndCalm (Infeasible rows) → IsLimit a → ⊥
 
 -- a stop of the search over the frame of the rows

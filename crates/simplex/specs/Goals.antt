@@ -13,6 +13,7 @@ use Rattle.farkas_check.specs.declared.answer.Cert.{Cert}
 use Rattle.farkas_check.specs.declared.answer.Limit.TheVariants as limit
 use Rattle.farkas_check.specs.declared.question.Goal.{Goal}
 use Rattle.farkas_check.specs.declared.question.Question.TheVariants.{Sup}
+use Rattle.simplex.specs.Answers.{IsWide}
 use Rattle.simplex.specs.Refusal.{LeavesBits}
 use Rattle.simplex.specs.Suprema.{IsSupremumOf}
 use Rattle.simplex.specs.declared.goals.Bounds.{Bounds}
@@ -121,16 +122,6 @@ pub record HasManyChoices (budget : ℕ) (goals : List Goal) : Type 0 where
 -- the turns are used up only where a case has more choices, or where the question is dead
 abbrev pub PivotsAmong : ℕ → List Goal → Answer → Type 0
 PivotsAmong budget goals a = a ≡ answer.Limit limit.Pivots → IsDead (Sup goals) ⊎ HasManyChoices budget goals
-
--- a limit that names a step
-abbrev pub IsWide : Answer → Type 0
-IsWide (answer.Limit (limit.Wide left right times)) = ⊤
-IsWide (answer.Limit limit.Pivots) = ⊥
-IsWide (answer.Yes by) = ⊥
-IsWide (answer.No point) = ⊥
-IsWide (answer.Bound at certs case point) = ⊥
-IsWide (answer.Unbounded case point ray) = ⊥
-IsWide (answer.Basis relations spots free) = ⊥
 
 -- what the call for goals owes of its answer
 pub record IsGoalsAnswer (goals : List Goal) (a : Answer) : Type 0 where

@@ -1,13 +1,13 @@
 ghost use Rattle.std.specs.Prelude.{◌≡◌, ◌+◌, ◌-◌, ◌^◌, ◌<◌, ◌≤◌, ℕ, pos, length, drop, IfOk, IfErr};
 ghost use Rattle.items.specs.Gives.{Gives};
 ghost use Rattle.linear_terms.specs.Row.{AreCanonical};
-ghost use Rattle.farkas_check.specs.Calm.{IsLiveAndCalm};
+ghost use Rattle.farkas_check.specs.Calm.{IsCalm, IsLiveAndCalm};
 ghost use Rattle.farkas_check.specs.Meaning.{IsLimit, IsTight};
 ghost use Rattle.farkas_check.specs.Tested.{Passes};
 ghost use Rattle.farkas_check.specs.declared.answer.Answer.TheVariants as answer;
 ghost use Rattle.farkas_check.specs.declared.answer.Limit.TheVariants as limit;
 ghost use Rattle.farkas_check.specs.declared.question.Question.TheVariants as question;
-ghost use Rattle.simplex.specs.Answers.{PivotsOf, IsRowsAnswer, IsFoundFor, IsRefusalFor, AnswerOf, multipliers_of};
+ghost use Rattle.simplex.specs.Answers.{IsWide, PivotsOf, IsRowsAnswer, IsFoundFor, IsRefusalFor, AnswerOf, multipliers_of};
 ghost use Rattle.simplex.specs.Calm.{HasSquares, IsSmallLine, IsMemory};
 ghost use Rattle.simplex.specs.Exchange.{cause};
 ghost use Rattle.simplex.specs.Raise.{Framed};
@@ -34,6 +34,7 @@ use whole_numbers::Wide;
 pub fn infeasible(alloc: Global, rows: &[Row]) -> Result<Answer, AllocError>
     ensures passes { IfOk result (λ a. Passes (question.Infeasible rows.now) a) }
     ensures tight { IfOk result (λ a. (IsLimit a → ⊥) → IsTight (question.Infeasible rows.now) a) }
+    ensures wide { IsCalm (question.Infeasible rows.now) → IfOk result (λ a. IsWide a → ⊥) }
     ensures pivots { IfOk result (λ a. PivotsOf (2 ^ 127 - 1) rows.now a) }
     ensures calm { IsLiveAndCalm (question.Infeasible rows.now) → IfOk result (λ a. IsLimit a → ⊥) }
 {

@@ -4,7 +4,8 @@ ghost use Rattle.farkas_check.specs.Kept.{IsCanonicalGoal};
 ghost use Rattle.farkas_check.specs.Meaning.{IsLimit, IsTight};
 ghost use Rattle.farkas_check.specs.Tested.{Passes};
 ghost use Rattle.farkas_check.specs.declared.question.Question.TheVariants as question;
-ghost use Rattle.simplex.specs.Goals.{whole_bound, higher, with_bound, bound_answer, AreBoundsTo, ProgressAt, IsFoundAmong, IsRefusalAmong, IsSupremumAt, IsGoalsAnswer, PivotsAmong, IsWide};
+ghost use Rattle.simplex.specs.Goals.{whole_bound, higher, with_bound, bound_answer, AreBoundsTo, ProgressAt, IsFoundAmong, IsRefusalAmong, IsSupremumAt, IsGoalsAnswer, PivotsAmong};
+ghost use Rattle.simplex.specs.Answers.{IsWide};
 ghost use Rattle.simplex.specs.Refusal.{LeavesBits};
 ghost use Rattle.simplex.specs.declared.stop.Stop.TheVariants as stop;
 
