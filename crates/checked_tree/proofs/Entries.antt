@@ -1,11 +1,11 @@
 -- What is known of the formulas of paths, when one more is made.
-use Rattle.std.proofs.Common.{◌≡◌, Bool, true, false, cond, List, [], ◌∷◌, ◌++◌, map, refl, sym, ap, subst, inl, inr, ◌⊎◌, eqb-true, eq-eqb}
+use Rattle.std.proofs.Common.{◌≡◌, Bool, true, false, cond, [], ◌∷◌, ◌++◌, refl, sym, ap, subst, inl, inr, ◌⊎◌, eqb-true, eq-eqb}
 use Rattle.std.specs.List.{AllByRecursion}
 use Rattle.std.proofs.lemmas.Bool.{cond_both, and_parts, and_from}
 use Rattle.path_expr.specs.PathExpr.{PathExpr, Zero, One, Edge, Seq, Join, Star}
 use Rattle.transition_formula.specs.Transition.{Transition}
 use Rattle.checked_tree.specs.Graph.{nothing, same_path}
-use Rattle.checked_tree.specs.Evaluation.{Made, latest, formula_at, with_entry}
+use Rattle.checked_tree.specs.Evaluation.{Made, latest, formula_at, with_entry, paths_of}
 use Rattle.checked_tree.specs.Ready.{IsAmong}
 use Rattle.checked_tree.proofs.Stands.{among-last}
 
@@ -33,10 +33,6 @@ same_path-true (Join a b) (Join c d) e =
     λ i. Join (first i) (second i)
 same_path-true (Star a) (Star b) e = ap (λ p. Star p) (same_path-true a b e)
 same_path-true p q e = cc
-
--- the paths that have formulas, in their order
-abbrev pub paths_of : Made → List PathExpr
-paths_of made = map (λ entry. entry.0) made
 
 pub paths-entry : (made : Made) (p : PathExpr) (f : Transition) → paths_of (with_entry made p f) ≡ paths_of made ++ p ∷ []
 paths-entry [] p f = refl

@@ -6,6 +6,7 @@ pub mod Along
 -- formulas of paths
 pub mod Entries
 -- ---- the evaluation of a plan
+pub mod GoingOn
 pub mod SameByNumber
 pub mod Numbered
 -- ---- each operation is ready where it stands

@@ -20,11 +20,12 @@ use Rattle.checked_tree.specs.declared.entry.Entry.{Entry}
 use Rattle.checked_tree.specs.declared.key.Key.{Key}
 use Rattle.checked_tree.specs.declared.key.Key.TheVariants as key
 use Rattle.checked_tree.specs.Graph.{Graph, start_of, end_of, vocabulary_at}
-use Rattle.checked_tree.specs.Evaluation.{Made, formula_at, sequence_formula, join_formula, own, with_entry, with_made, evaluation, cell_of, cell_at, cells_of, evaluated}
+use Rattle.checked_tree.specs.Evaluation.{Made, formula_at, sequence_formula, join_formula, own, with_entry, with_made, evaluation, cell_of, cell_at, cells_of, evaluated, paths_of}
 use Rattle.checked_tree.specs.Ready.{IsAmong, IsReady, AreReady}
 use Rattle.checked_tree.specs.Plan.{IsPathOf, ArePathsOf, AreDistinct, IsCellOf, IsPlanned}
 use Rattle.checked_tree.specs.ByNumber.{Entries, blank, entry_at, key_at, formula_by, entry_of, with_number, entries_of, cell_by, evaluated_by, PlansEvaluate}
-use Rattle.checked_tree.proofs.Entries.{paths_of, paths-entry, known-more}
+use Rattle.checked_tree.specs.UnderWay.{entry_for, Agrees}
+use Rattle.checked_tree.proofs.Entries.{paths-entry, known-more}
 use Rattle.checked_tree.proofs.Numbered.{key_eq}
 use Rattle.checked_tree.proofs.Stands.{Stands}
 use Rattle.checked_tree.proofs.Swept.{operations-ready, path_at-stands}
@@ -143,19 +144,14 @@ length-blank (suc n) = ap suc (length-blank n)
 
 -- ---- both evaluations side by side
 
+pub agrees-first : (g : Graph) (keys : List Key) → Agrees g keys [] (replicate (length keys) blank)
+agrees-first g keys = record { long = length-blank (length keys); same = λ p n is among. absurd among }
+
 module _ (g : Graph) (keys : List Key) (distinct : AreDistinct keys) where
-  abbrev pub entry_for : Made → PathExpr → Entry
-  entry_for made p = record { from = start_of g p; to = end_of g p; formula = formula_at made p }
-
-  -- each path that was made has its entry at its number
-  pub record Agrees (made : Made) (entries : Entries) : Type 0 where
-    pub long : length entries ≡ length keys
-    pub same : (p : PathExpr) (n : ℕ) → IsPathOf keys p n → IsAmong p (paths_of made) → entry_at entries n ≡ entry_for made p
-
   found_key : (n : ℕ) (k : Key) → slice_get keys n ≡ Some k → key_at keys n ≡ k
   found_key n k e = ap (λ o. unwrap_or o (key.Edge 0)) e
 
-  pub same-formula : (made : Made) (entries : Entries) (p : PathExpr) (n : ℕ) → Agrees made entries → IsPathOf keys p n → IsReady g (paths_of made) p → own g made p ≡ formula_by g entries (key_at keys n)
+  pub same-formula : (made : Made) (entries : Entries) (p : PathExpr) (n : ℕ) → Agrees g keys made entries → IsPathOf keys p n → IsReady g (paths_of made) p → own g made p ≡ formula_by g entries (key_at keys n)
   same-formula made entries Zero n agrees is ready = absurd ready
   same-formula made entries One n agrees is ready = absurd ready
   same-formula made entries (Edge e) n agrees is ready = sym (ap (formula_by g entries) (found_key n (key.Edge e) is))
@@ -174,7 +170,7 @@ module _ (g : Graph) (keys : List Key) (distinct : AreDistinct keys) where
       sym (ap (formula_by g entries) (found_key n (key.Star is.0) is.1)
       ∙ (λ i. star_of (turn i).formula (vocabulary_at g (turn i).from)))
 
-  same-ends : (made : Made) (entries : Entries) (p : PathExpr) (n : ℕ) → Agrees made entries → IsPathOf keys p n → IsReady g (paths_of made) p → (f : Transition) →
+  same-ends : (made : Made) (entries : Entries) (p : PathExpr) (n : ℕ) → Agrees g keys made entries → IsPathOf keys p n → IsReady g (paths_of made) p → (f : Transition) →
       entry_of g entries (key_at keys n) f ≡ record { from = start_of g p; to = end_of g p; formula = f }
   same-ends made entries Zero n agrees is ready f = absurd ready
   same-ends made entries One n agrees is ready f = absurd ready
@@ -199,8 +195,8 @@ module _ (g : Graph) (keys : List Key) (distinct : AreDistinct keys) where
   path-within (Star a) n h = slice_get_within keys n (key.Star h.0) h.1
 
   -- with one path more they agree
-  pub agrees-more : (made : Made) (entries : Entries) (p : PathExpr) (n : ℕ) → Agrees made entries → IsPathOf keys p n → IsReady g (paths_of made) p → (f : Transition) →
-      Agrees (with_entry made p f) (slice_set entries n (entry_of g entries (key_at keys n) f))
+  pub agrees-more : (made : Made) (entries : Entries) (p : PathExpr) (n : ℕ) → Agrees g keys made entries → IsPathOf keys p n → IsReady g (paths_of made) p → (f : Transition) →
+      Agrees g keys (with_entry made p f) (slice_set entries n (entry_of g entries (key_at keys n) f))
   agrees-more made entries p n agrees is ready f = record { long = length-set entries n new ∙ agrees.long; same = λ q m here among. all q m here among }
     where
       new : Entry
@@ -219,13 +215,13 @@ module _ (g : Graph) (keys : List Key) (distinct : AreDistinct keys) where
       before q among other m here =
           entry_at-other entries m n new (λ e. other (one-path keys q p n (subst (IsPathOf keys q) e here) is)) ∙ agrees.same q m here among
 
-      all : (q : PathExpr) (m : ℕ) → IsPathOf keys q m → IsAmong q (paths_of (with_entry made p f)) → entry_at (slice_set entries n new) m ≡ entry_for (with_entry made p f) q
+      all : (q : PathExpr) (m : ℕ) → IsPathOf keys q m → IsAmong q (paths_of (with_entry made p f)) → entry_at (slice_set entries n new) m ≡ entry_for g (with_entry made p f) q
       all q m here among = known-more P made p f before now q among m here
 
   module _ (B : Type 0) (end : Made → Posing B) (finish : Entries → Posing B) where
     -- from where both agree, what is left comes to the same
-    same-rest : (paths : List PathExpr) (numbers : List ℕ) (made : Made) (entries : Entries) → Agrees made entries → ArePathsOf keys paths numbers → AreReady g (paths_of made) paths →
-        ((last : Made) (all : Entries) → Agrees last all → paths_of last ≡ paths_of made ++ paths → end last ≡ finish all) →
+    same-rest : (paths : List PathExpr) (numbers : List ℕ) (made : Made) (entries : Entries) → Agrees g keys made entries → ArePathsOf keys paths numbers → AreReady g (paths_of made) paths →
+        ((last : Made) (all : Entries) → Agrees g keys last all → paths_of last ≡ paths_of made ++ paths → end last ≡ finish all) →
         each (with_made g) made paths >>= end ≡ each (with_number g keys) entries numbers >>= finish
     unfolding with_made with_number ◌>>=◌
     same-rest [] [] made entries agrees are ready ends = ends made entries agrees (sym (append-nil (paths_of made)))
@@ -272,7 +268,7 @@ cells-same A f (cell ∷ cells) tell from same =
 
 module _ (g : Graph) (source : ℕ) (keys : List Key) (distinct : AreDistinct keys) (order : List ℕ) (cells : List (Cell ℕ)) (planned : IsPlanned (length g.nodes) g.links source keys order cells)
     (ready : AreReady g [] (operations (length g.nodes) g.links source)) (items : (node : ℕ) → node < length g.nodes → CellIsMade g source node) where
-  same-cell : (made : Made) (entries : Entries) → Agrees g keys distinct made entries → paths_of made ≡ operations (length g.nodes) g.links source → (node : ℕ) (cell : Cell ℕ) →
+  same-cell : (made : Made) (entries : Entries) → Agrees g keys made entries → paths_of made ≡ operations (length g.nodes) g.links source → (node : ℕ) (cell : Cell ℕ) →
       slice_get cells node ≡ Some cell → cell_at g source made node ≡ cell_by entries cell
   same-cell made entries agrees all node cell is = by_cell cell (planned.cells_are node cell is)
     where

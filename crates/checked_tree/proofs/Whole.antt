@@ -23,12 +23,13 @@ use Rattle.recurrence.specs.Star.{star_of}
 use Rattle.recurrence.proofs.Starred.{always_both}
 use Rattle.recurrence.proofs.Whole.{star-holds-of-chains}
 use Rattle.checked_tree.specs.Graph.{Graph, nothing, link_at, leaf_at, vocabulary_at, start_of, end_of, start_vocabulary, end_vocabulary}
-use Rattle.checked_tree.specs.Evaluation.{Made, formula_at, settled_and_fitted, leaf_formula, sequence_formula, join_formula, own, with_entry, with_made, evaluation, cell_of, cell_at}
-use Rattle.checked_tree.specs.Law.{IsEnd, IsEvaluated, IsRun, HoldsCell, HoldsAlong, HaveCanonicalLeaves, AreCanonicalMade, HoldsOfWalks, EvaluationHolds, IsBetweenEnds, FitsCell, EvaluationFits}
+use Rattle.checked_tree.specs.Evaluation.{Made, formula_at, settled_and_fitted, leaf_formula, sequence_formula, join_formula, own, with_entry, with_made, evaluation, cell_of, cell_at, paths_of}
+use Rattle.checked_tree.specs.Law.{IsEvaluated, IsRun, HoldsCell, HoldsAlong, HaveCanonicalLeaves, AreCanonicalMade, HoldsOfWalks, EvaluationHolds, IsBetweenEnds, FitsCell, EvaluationFits}
 use Rattle.checked_tree.specs.Ready.{IsAmong, IsReady, AreReady}
+use Rattle.checked_tree.specs.UnderWay.{IsKnown}
 use Rattle.checked_tree.proofs.Along.{edge-along, sequence-along, join-along, star-along}
 use Rattle.checked_tree.proofs.Between.{fitted-between, fitted-covered, settled_and_fitted-between, settled_and_fitted-covers, sequence-from, sequence-solvable, sequence-canonical, joined-from, starred, star-between}
-use Rattle.checked_tree.proofs.Entries.{paths_of, paths-entry, latest-has, known-more}
+use Rattle.checked_tree.proofs.Entries.{paths-entry, latest-has, known-more}
 use Rattle.checked_tree.proofs.Stands.{Stands}
 use Rattle.checked_tree.proofs.Swept.{operations-ready, path_at-stands}
 
@@ -39,14 +40,8 @@ always_if P (Noted notes p) h = always_if P p h
 always_if P (Asked question next) h = λ answer is_true. always_if P (next answer) (λ c. h c answer is_true)
 
 module _ (g : Graph) (source : ℕ) (is : IsEvaluated g source) where
-  -- a path of two ends with vocabularies, and its formula between them
-  record IsKnown (p : PathExpr) (f : Transition) : Type 0 where
-    starts : IsEnd (start_vocabulary g p)
-    ends : IsEnd (end_vocabulary g p)
-    formula : IsBetweenEnds (start_vocabulary g p) (end_vocabulary g p) f
-
-  abbrev AllKnown : Made → Type 0
-  AllKnown made = (p : PathExpr) → IsAmong p (paths_of made) → IsKnown p (formula_at made p)
+  abbrev pub AllKnown : Made → Type 0
+  AllKnown made = (p : PathExpr) → IsAmong p (paths_of made) → IsKnown g p (formula_at made p)
 
   abbrev AllAlong : Made → Type 0
   AllAlong made = (p : PathExpr) → IsAmong p (paths_of made) → HoldsAlong g p (formula_at made p)
@@ -67,7 +62,7 @@ module _ (g : Graph) (source : ℕ) (is : IsEvaluated g source) where
   module _ (made : Made) (known : AllKnown made) where
     -- ---- the formula of an operation is between its vocabularies
 
-    own-known : (path : PathExpr) → IsReady g (paths_of made) path → Always (IsKnown path) (own g made path)
+    pub own-known : (path : PathExpr) → IsReady g (paths_of made) path → Always (IsKnown g path) (own g made path)
     unfolding leaf_formula sequence_formula join_formula
     own-known Zero ready = absurd ready
     own-known One ready = absurd ready
@@ -75,7 +70,7 @@ module _ (g : Graph) (source : ℕ) (is : IsEvaluated g source) where
         let ends = link-within number ready in
         let start = is.ends (link_at g number).from ends.0 in
         let end = is.ends (link_at g number).to ends.1 in
-        always_weaker (IsBetweenEnds (start_vocabulary g (Edge number)) (end_vocabulary g (Edge number))) (IsKnown (Edge number)) (settled_and_fitted (leaf_at g number) (start_vocabulary g (Edge number)) (end_vocabulary g (Edge number)))
+        always_weaker (IsBetweenEnds (start_vocabulary g (Edge number)) (end_vocabulary g (Edge number))) (IsKnown g (Edge number)) (settled_and_fitted (leaf_at g number) (start_vocabulary g (Edge number)) (end_vocabulary g (Edge number)))
         (λ f h. record { starts = start; ends = end; formula = h })
         (settled_and_fitted-between (start_vocabulary g (Edge number)) (end_vocabulary g (Edge number)) start end (leaf_at g number) (is.leaves number ready).between)
     own-known (Seq a b) ready =
@@ -83,7 +78,7 @@ module _ (g : Graph) (source : ℕ) (is : IsEvaluated g source) where
         let second = known b ready.1 in
         let fa = formula_at made a in
         let fb = formula_at made b in
-        always_weaker (IsBetweenEnds (start_vocabulary g a) (end_vocabulary g b)) (IsKnown (Seq a b)) (settled_and_fitted (sequence_of fa fb) (start_vocabulary g a) (end_vocabulary g b))
+        always_weaker (IsBetweenEnds (start_vocabulary g a) (end_vocabulary g b)) (IsKnown g (Seq a b)) (settled_and_fitted (sequence_of fa fb) (start_vocabulary g a) (end_vocabulary g b))
         (λ f h. record { starts = first.starts; ends = second.ends; formula = h })
         (settled_and_fitted-between (start_vocabulary g a) (end_vocabulary g b) first.starts second.ends (sequence_of fa fb)
         (sequence-from (start_vocabulary g a) (end_vocabulary g a) (end_vocabulary g b) second.ends fa fb first.formula (moved_start b (end_of g a) (start_of g b) fb ready.2 second.formula)))
@@ -92,7 +87,7 @@ module _ (g : Graph) (source : ℕ) (is : IsEvaluated g source) where
         let second = known b ready.1 in
         let fa = formula_at made a in
         let fb = formula_at made b in
-        always_weaker (IsBetweenEnds (start_vocabulary g a) (end_vocabulary g a)) (IsKnown (Join a b)) (fitted (joined fa fb) (start_vocabulary g a) (end_vocabulary g a))
+        always_weaker (IsBetweenEnds (start_vocabulary g a) (end_vocabulary g a)) (IsKnown g (Join a b)) (fitted (joined fa fb) (start_vocabulary g a) (end_vocabulary g a))
         (λ f h. record { starts = first.starts; ends = first.ends; formula = h })
         (fitted-between (start_vocabulary g a) (end_vocabulary g a) first.starts first.ends (joined fa fb)
         (joined-from (start_vocabulary g a) (end_vocabulary g a) fa fb first.formula
@@ -100,7 +95,7 @@ module _ (g : Graph) (source : ℕ) (is : IsEvaluated g source) where
     own-known (Star a) ready =
         let turn = known a ready.0 in
         let fa = formula_at made a in
-        always_weaker (IsBetweenEnds (start_vocabulary g a) (start_vocabulary g a)) (IsKnown (Star a)) (star_of fa (start_vocabulary g a))
+        always_weaker (IsBetweenEnds (start_vocabulary g a) (start_vocabulary g a)) (IsKnown g (Star a)) (star_of fa (start_vocabulary g a))
         (λ f h. record { starts = turn.starts; ends = turn.starts; formula = h })
         (star-between (start_vocabulary g a) turn.starts fa (moved_both (start_of g a) (start_of g a) (start_of g a) (end_of g a) fa refl ready.1 turn.formula))
 
@@ -169,13 +164,13 @@ module _ (g : Graph) (source : ℕ) (is : IsEvaluated g source) where
   with_made-keeps : (path : PathExpr) (rest : List PathExpr) (made : Made) → Keeps (path ∷ rest) made → Always (Keeps rest) (with_made g made path)
   unfolding with_made
   with_made-keeps path rest made kept =
-      always_bind (λ f. IsKnown path f × (Premise → HoldsAlong g path f)) (Keeps rest) (own g made path) (λ f. Done (with_entry made path f))
-      (always_both (IsKnown path) (λ f. Premise → HoldsAlong g path f) (own g made path) (own-known made kept.known path kept.ready.0)
+      always_bind (λ f. IsKnown g path f × (Premise → HoldsAlong g path f)) (Keeps rest) (own g made path) (λ f. Done (with_entry made path f))
+      (always_both (IsKnown g path) (λ f. Premise → HoldsAlong g path f) (own g made path) (own-known made kept.known path kept.ready.0)
       (always_if (HoldsAlong g path) (own g made path) (λ (both : Premise). own-along made kept.known both.0 both.1 (kept.along both.0 both.1) path kept.ready.0)))
       (λ f now. record {
         ready = subst (λ ps. AreReady g ps rest) (sym (paths-entry made path f)) kept.ready.1;
         parts = ap (λ ps. ps ++ rest) (paths-entry made path f) ∙ append_one (paths_of made) path rest ∙ kept.parts;
-        known = known-more IsKnown made path f (λ p h other. kept.known p h) now.0;
+        known = known-more (IsKnown g) made path f (λ p h other. kept.known p h) now.0;
         along = λ canonical all. let before = each-front (λ entry. HaveCanonicalRows entry.1.cases) made ((path, f) ∷ []) all in
             known-more (HoldsAlong g) made path f (λ p h other. kept.along canonical before p h) (now.1 (canonical, before));
       })

@@ -20,6 +20,10 @@ use Rattle.checked_tree.specs.Graph.{Graph, nothing, leaf_at, start_vocabulary, 
 abbrev pub Made : Type 0
 Made = List (PathExpr × Transition)
 
+-- the paths that have formulas, in their order
+abbrev pub paths_of : Made → List PathExpr
+paths_of made = map (λ entry. entry.0) made
+
 -- of a path that was made twice the later formula counts
 abbrev pub latest : PathExpr → Transition → Made → Transition
 latest path found [] = found

@@ -19,4 +19,5 @@ pub mod Operands
 pub mod Plan
 pub mod ByNumber
 -- ---- words of proofs
+pub mod UnderWay
 pub mod Ready

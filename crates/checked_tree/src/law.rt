@@ -1,5 +1,6 @@
 ghost use Rattle.checked_tree.specs.ByNumber.{PlansEvaluate};
 ghost use Rattle.checked_tree.specs.Law.{EvaluationHolds, EvaluationFits};
+ghost use Rattle.checked_tree.specs.UnderWay.{PlansBegin, PlansGoOn};
 
 /// What a graph is evaluated to holds of every run along a walk from the source, whatever true answers are given, and goes
 /// between the columns of the source and of its node, by formulas that are small enough to go on with. It does nothing when it
@@ -12,5 +13,7 @@ pub fn law_of_evaluation()
 /// A plan evaluates its graph: by the numbers of paths the same questions and notes come in the same order, and the same formulas.
 /// It does nothing when it runs.
 pub fn law_of_plans()
-    ensures { PlansEvaluate }
+    ensures same { PlansEvaluate }
+    ensures begins { PlansBegin }
+    ensures goes_on { PlansGoOn }
 {}
