@@ -38,11 +38,14 @@ ends_by g entries (key.Star i) = record { from = (entry_at entries i).from; to =
 
 -- its formula, from those of its operands
 abbrev pub formula_by : Graph → Entries → Key → Posing Transition
-formula_by g entries (key.Edge number) = leaf_formula (leaf_at g number) (vocabulary_at g (link_at g number).from) (vocabulary_at g (link_at g number).to)
+formula_by g entries (key.Edge number) =
+    leaf_formula (leaf_at g number) (vocabulary_at g (link_at g number).from) (vocabulary_at g (link_at g number).to)
 formula_by g entries (key.Seq i j) =
-    sequence_formula (entry_at entries i).formula (entry_at entries j).formula (vocabulary_at g (entry_at entries i).from) (vocabulary_at g (entry_at entries j).to)
+    sequence_formula (entry_at entries i).formula (entry_at entries j).formula
+    (vocabulary_at g (entry_at entries i).from) (vocabulary_at g (entry_at entries j).to)
 formula_by g entries (key.Join i j) =
-    join_formula (entry_at entries i).formula (entry_at entries j).formula (vocabulary_at g (entry_at entries i).from) (vocabulary_at g (entry_at entries i).to)
+    join_formula (entry_at entries i).formula (entry_at entries j).formula
+    (vocabulary_at g (entry_at entries i).from) (vocabulary_at g (entry_at entries i).to)
 formula_by g entries (key.Star i) = star_of (entry_at entries i).formula (vocabulary_at g (entry_at entries i).from)
 
 abbrev pub entry_of : Graph → Entries → Key → Transition → Entry
@@ -69,5 +72,5 @@ evaluated_by g keys order cells = entries_of g keys order >>= λ entries. Done (
 -- it is the evaluation of the graph: the same questions and notes in the same order, and the same formulas
 abbrev pub PlansEvaluate : Type 0
 PlansEvaluate =
-    (g : Graph) (source : ℕ) (keys : List Key) (order : List ℕ) (cells : List (Cell ℕ)) → IsEvaluated g source → AreDistinct keys →
-    IsPlanned (length g.nodes) g.links source keys order cells → evaluated g source ≡ evaluated_by g keys order cells
+    (g : Graph) (source : ℕ) (keys : List Key) (order : List ℕ) (cells : List (Cell ℕ)) →
+    IsEvaluated g source → AreDistinct keys → IsPlanned (length g.nodes) g.links source keys order cells → evaluated g source ≡ evaluated_by g keys order cells

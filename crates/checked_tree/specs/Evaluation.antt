@@ -51,12 +51,15 @@ sequence_formula first second from to =
 unfoldable pub join_formula : Transition → Transition → Vocabulary → Vocabulary → Posing Transition
 join_formula left right from to = fitted (joined left right) from to
 
--- the formula of an operation, from those of its operands: a leaf's, a sequence's, a join's, or star at its node's vocabulary
+-- the formula of an operation, from those of its operands: a leaf's, a sequence's, a join's, or star at its node's
+-- vocabulary
 abbrev pub own : Graph → Made → PathExpr → Posing Transition
 own g made Zero = Done nothing
 own g made One = Done nothing
-own g made (Edge number) = leaf_formula (leaf_at g number) (start_vocabulary g (Edge number)) (end_vocabulary g (Edge number))
-own g made (Seq a b) = sequence_formula (formula_at made a) (formula_at made b) (start_vocabulary g a) (end_vocabulary g b)
+own g made (Edge number) =
+    leaf_formula (leaf_at g number) (start_vocabulary g (Edge number)) (end_vocabulary g (Edge number))
+own g made (Seq a b) =
+    sequence_formula (formula_at made a) (formula_at made b) (start_vocabulary g a) (end_vocabulary g b)
 own g made (Join a b) = join_formula (formula_at made a) (formula_at made b) (start_vocabulary g a) (end_vocabulary g a)
 own g made (Star a) = star_of (formula_at made a) (start_vocabulary g a)
 

@@ -23,7 +23,8 @@ pub record IsFrom (from to : Vocabulary) (f : Transition) : Type 0 where
 
 -- a leaf goes between the columns of its link's ends, and can be put in order
 pub record IsLeaf (g : Graph) (number : ℕ) : Type 0 where
-  pub between : IsFrom (vocabulary_at g (link_at g number).from) (vocabulary_at g (link_at g number).to) (leaf_at g number)
+  pub between :
+      IsFrom (vocabulary_at g (link_at g number).from) (vocabulary_at g (link_at g number).to) (leaf_at g number)
   pub solvable : AreSolvable (leaf_at g number).cases
 
 -- a vocabulary of at most 63 columns
@@ -44,7 +45,8 @@ pub record IsEvaluated (g : Graph) (source : ℕ) : Type 0 where
 -- the leaves of these links hold of states that follow one another
 abbrev pub IsRun : Graph → List ℕ → List ℤ → List ℤ → Type 0
 IsRun g [] before after = before ≡ after
-IsRun g (number ∷ numbers) before after = (next : List ℤ) × Holds (leaf_at g number) before next × IsRun g numbers next after
+IsRun g (number ∷ numbers) before after =
+    (next : List ℤ) × Holds (leaf_at g number) before next × IsRun g numbers next after
 
 -- what a cell says of two states
 abbrev pub HoldsCell : Cell Transition → List ℤ → List ℤ → Type 0
@@ -58,7 +60,8 @@ HoldsAlong g path f =
     (word : List ℕ) (before after : List ℤ) → InLanguage path word → length before ≡ (start_vocabulary g path).columns →
     IsRun g word before after → Holds f before after
 
--- each leaf's rows have their monomials in print order, each once, as their types keep them; so have those of each formula made
+-- each leaf's rows have their monomials in print order, each once, as their types keep them; so have those of each
+-- formula made
 abbrev pub HaveCanonicalLeaves : Graph → Type 0
 HaveCanonicalLeaves g = AllByRecursion (λ (f : Transition). HaveCanonicalRows f.cases) g.leaves
 
@@ -71,7 +74,8 @@ AreCanonicalMade made = AllByRecursion (λ entry. HaveCanonicalRows entry.1.case
 abbrev pub HoldsOfWalks : Graph → ℕ → Made → Type 0
 HoldsOfWalks g source made =
     (node : ℕ) → node < length g.nodes → (word : List ℕ) → IsWalk g.links source node word → (before after : List ℤ) →
-    length before ≡ (vocabulary_at g source).columns → IsRun g word before after → HoldsCell (cell_at g source made node) before after
+    length before ≡ (vocabulary_at g source).columns → IsRun g word before after →
+    HoldsCell (cell_at g source made node) before after
 
 abbrev pub EvaluationHolds : Type 0
 EvaluationHolds =
@@ -92,4 +96,5 @@ FitsCell from to (known.Item f) = IsBetweenEnds from to f
 abbrev pub EvaluationFits : Type 0
 EvaluationFits =
     (g : Graph) (source : ℕ) → IsEvaluated g source →
-    Always (λ made. (node : ℕ) → node < length g.nodes → FitsCell (vocabulary_at g source) (vocabulary_at g node) (cell_at g source made node)) (evaluation g source)
+    Always (λ made. (node : ℕ) → node < length g.nodes →
+    FitsCell (vocabulary_at g source) (vocabulary_at g node) (cell_at g source made node)) (evaluation g source)

@@ -1,4 +1,5 @@
--- Operations by numbers: each path has one number, and a plan lists the numbers of the paths that are made, in their order.
+-- Operations by numbers: each path has one number, and a plan lists the numbers of the paths that are made, in their
+-- order.
 use Rattle.std.specs.Prelude.{◌≡◌, ℕ, List, [], ◌∷◌, ◌++◌, length, Some}
 use Rattle.std.specs.List.{slice_get}
 use Rattle.path_expr.specs.declared.cell.Cell.{Cell}
@@ -15,8 +16,10 @@ abbrev pub IsPathOf : List Key → PathExpr → ℕ → Type 0
 IsPathOf keys Zero n = ⊥
 IsPathOf keys One n = ⊥
 IsPathOf keys (Edge number) n = slice_get keys n ≡ Some (key.Edge number)
-IsPathOf keys (Seq a b) n = (i : ℕ) × (j : ℕ) × (slice_get keys n ≡ Some (key.Seq i j)) × IsPathOf keys a i × IsPathOf keys b j
-IsPathOf keys (Join a b) n = (i : ℕ) × (j : ℕ) × (slice_get keys n ≡ Some (key.Join i j)) × IsPathOf keys a i × IsPathOf keys b j
+IsPathOf keys (Seq a b) n =
+    (i : ℕ) × (j : ℕ) × (slice_get keys n ≡ Some (key.Seq i j)) × IsPathOf keys a i × IsPathOf keys b j
+IsPathOf keys (Join a b) n =
+    (i : ℕ) × (j : ℕ) × (slice_get keys n ≡ Some (key.Join i j)) × IsPathOf keys a i × IsPathOf keys b j
 IsPathOf keys (Star a) n = (i : ℕ) × (slice_get keys n ≡ Some (key.Star i)) × IsPathOf keys a i
 
 -- no key stands in two places, so that a path has one number
@@ -44,7 +47,9 @@ IsCellOf keys path known.One = path ≡ One
 IsCellOf keys path (known.Item n) = IsPathOf keys path n
 
 -- the operations of the stated elimination, and a cell for each node
-pub record IsPlanned (nodes : ℕ) (links : List Link) (source : ℕ) (keys : List Key) (order : List ℕ) (cells : List (Cell ℕ)) : Type 0 where
+pub record IsPlanned (nodes : ℕ) (links : List Link) (source : ℕ) (keys : List Key) (order : List ℕ)
+    (cells : List (Cell ℕ)) : Type 0 where
   pub order_is : ArePathsOf keys (operations nodes links source) order
   pub one_each : length cells ≡ nodes
-  pub cells_are : (node : ℕ) (cell : Cell ℕ) → slice_get cells node ≡ Some cell → IsCellOf keys (path_at nodes links source node) cell
+  pub cells_are : (node : ℕ) (cell : Cell ℕ) → slice_get cells node ≡ Some cell →
+      IsCellOf keys (path_at nodes links source node) cell

@@ -25,9 +25,11 @@ entry_for g made p = record { from = start_of g p; to = end_of g p; formula = fo
 -- each path that was made has its entry at its number
 pub record Agrees (g : Graph) (keys : List Key) (made : Made) (entries : Entries) : Type 0 where
   pub long : length entries ≡ length keys
-  pub same : (p : PathExpr) (n : ℕ) → IsPathOf keys p n → IsAmong p (paths_of made) → entry_at entries n ≡ entry_for g made p
+  pub same : (p : PathExpr) (n : ℕ) → IsPathOf keys p n → IsAmong p (paths_of made) →
+      entry_at entries n ≡ entry_for g made p
 
--- The entries are those of what was made, each known, and what is left are the numbers of paths that are ready where they stand.
+-- The entries are those of what was made, each known, and what is left are the numbers of paths that are ready where
+-- they stand.
 pub record IsUnderWay (g : Graph) (keys : List Key) (entries : Entries) (rest : List ℕ) : Type 0 where
   pub made : Made
   pub paths : List PathExpr
@@ -39,8 +41,9 @@ pub record IsUnderWay (g : Graph) (keys : List Key) (entries : Entries) (rest : 
 -- each step of it leaves an evaluation that is under way, and it begins as one
 abbrev pub PlansGoOn : Type 0
 PlansGoOn =
-    (g : Graph) (source : ℕ) (keys : List Key) → IsEvaluated g source → AreDistinct keys → (entries : Entries) (n : ℕ) (rest : List ℕ) →
-    IsUnderWay g keys entries (n ∷ rest) → Always (λ next. IsUnderWay g keys next rest) (with_number g keys entries n)
+    (g : Graph) (source : ℕ) (keys : List Key) → IsEvaluated g source → AreDistinct keys →
+    (entries : Entries) (n : ℕ) (rest : List ℕ) → IsUnderWay g keys entries (n ∷ rest) →
+    Always (λ next. IsUnderWay g keys next rest) (with_number g keys entries n)
 
 abbrev pub PlansBegin : Type 0
 PlansBegin =

@@ -31,7 +31,8 @@ fn settled_and_fitted<O: Oracle>(
     fit(alloc, &settled, from, to, oracle, log)
 }
 
-/// The formula of a link, from the one that it was given: settled, then fitted between the vocabularies of the link's ends.
+/// The formula of a link, from the one that it was given: settled, then fitted between the vocabularies of the link's
+/// ends.
 #[tactic(auto, using(posing::proofs::Following::following), unfolding(crate::specs::Evaluation::leaf_formula))]
 pub fn leaf<O: Oracle>(
     alloc: Global,
@@ -50,8 +51,8 @@ pub fn leaf<O: Oracle>(
     settled_and_fitted(alloc, f, from, to, oracle, log)
 }
 
-/// The formula of one path and then another: the sequence of both, whose losses are noted before the first question, settled and
-/// fitted between the vocabularies of its ends. The first goes to a vocabulary that the second goes on from.
+/// The formula of one path and then another: the sequence of both, whose losses are noted before the first question,
+/// settled and fitted between the vocabularies of its ends. The first goes to a vocabulary that the second goes on from.
 #[tactic(auto, using(posing::proofs::Following::following), unfolding(crate::specs::Evaluation::sequence_formula))]
 pub fn sequence<O: Oracle>(
     alloc: Global,
@@ -71,7 +72,8 @@ pub fn sequence<O: Oracle>(
     settled_and_fitted(alloc, &f, from, to, oracle, log)
 }
 
-/// The formula of either of two paths between the same nodes: the cases of both, fitted between the vocabularies of these nodes.
+/// The formula of either of two paths between the same nodes: the cases of both, fitted between the vocabularies of
+/// these nodes.
 #[tactic(auto, using(posing::proofs::Following::following), unfolding(crate::specs::Evaluation::join_formula))]
 pub fn either<O: Oracle>(
     alloc: Global,

@@ -8,7 +8,8 @@ use items::Items;
 use path_expr::{Algebra, Cell, Link, reach};
 use std::alloc::{AllocError, Global};
 
-/// The operations that evaluate a graph: the key of each path once, and the numbers of the paths in the order of making.
+/// The operations that evaluate a graph: the key of each path once, and the numbers of the paths in the order of
+/// making.
 #[derive(Drop)]
 pub struct Plan {
     pub keys: IndexSet<Key>,
