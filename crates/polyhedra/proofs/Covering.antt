@@ -22,7 +22,7 @@ use Rattle.polyhedra.proofs.Directed.{directions-over}
 
 -- ---- directions
 
-over-covered : (n : ℕ) (d : Polynomial) → IsDirectionOver n d → IsCovered n d
+pub over-covered : (n : ℕ) (d : Polynomial) → IsDirectionOver n d → IsCovered n d
 over-covered n d h =
     All-from_recursion (λ t. All (IsBelow n 0) t.0) d.terms
     (each-more (λ t. AllByRecursion (λ c. IsTrue (is_below n 0 c)) t.0) (λ t. All (IsBelow n 0) t.0)
@@ -54,7 +54,7 @@ pub posts-long : (from to : ℕ) (cases : List Case) → IsTransition from to ca
 posts-long from to cases fit =
     All-from_recursion (λ (case : Case). length case.post ≡ to) cases (each_from_test (fits from to) (λ (case : Case). length case.post ≡ to) (λ case k. (fitting from to case k).length_is) cases fit)
 
-filter-short : {A : Type 0} (test : A → Bool) (xs : List A) → length (filter test xs) ≤ length xs
+pub filter-short : {A : Type 0} (test : A → Bool) (xs : List A) → length (filter test xs) ≤ length xs
 filter-short test [] = omega arith
 filter-short test (x ∷ xs) = go (test x) (filter-short test xs)
   where
@@ -62,7 +62,7 @@ filter-short test (x ∷ xs) = go (test x) (filter-short test xs)
     go true le = omega arith
     go false le = omega arith
 
-range-long : (a n : ℕ) → length (range_with_len a n) ≡ n
+pub range-long : (a n : ℕ) → length (range_with_len a n) ≡ n
 range-long a zero = refl
 range-long a (suc n) = let rest = range-long (a + 1) n in omega arith
 

@@ -9,7 +9,7 @@ use std::alloc::{AllocError, Global};
 
 /// A polynomial for each variable afterwards: auxiliaries for those that are modified, in order; for another its entry column
 /// where both ends have one vocabulary, else 0.
-pub(crate) fn posts_after(
+pub fn posts_after(
     alloc: Global,
     one: bool,
     modified: &[u32],
@@ -26,7 +26,7 @@ pub(crate) fn posts_after(
 }
 
 /// A polynomial for the change of each variable.
-pub(crate) fn changes_after(
+pub fn changes_after(
     alloc: Global,
     one: bool,
     modified: &[u32],
@@ -60,7 +60,7 @@ pub(crate) fn changes_of_some(
 }
 
 /// The entry columns of some variables.
-pub(crate) fn entries_of(alloc: Global, variables: &[u32]) -> Result<Items<Poly>, AllocError>
+pub fn entries_of(alloc: Global, variables: &[u32]) -> Result<Items<Poly>, AllocError>
     ensures { IfOk result (λ entries. entries ≡ entries_of variables.now) }
 {
     let mut entries = Items::new(alloc);

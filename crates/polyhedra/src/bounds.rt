@@ -50,8 +50,9 @@ fn bound_in(answer: &Answer) -> Option<i128>
     }
 }
 
-/// The same where the objective may be lost: then its loss is noted, and nothing is asked.
-pub(crate) fn bound_by<O: Oracle>(
+/// The greatest value of the objective of goals, if it is known. Where the objective is lost, its loss is noted and nothing is
+/// asked; a limit is noted too.
+pub fn bound_by<O: Oracle>(
     alloc: Global,
     goals: Result<Items<Goal>, TermError>,
     oracle: &mut O,

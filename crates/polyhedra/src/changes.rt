@@ -35,7 +35,7 @@ pub(crate) fn moves_of(alloc: Global, one: bool, case: &Case, to: u32) -> Result
 }
 
 /// The change of a variable: where both ends have one vocabulary its post less its entry column, else its post.
-fn change(alloc: Global, one: bool, case: &Case, v: u32) -> Result<Poly, TermError>
+pub fn change(alloc: Global, one: bool, case: &Case, v: u32) -> Result<Poly, TermError>
     requires { v < length case.now.post }
     ensures { Gives cause (λ p. p) result (change one case.now v) }
 {

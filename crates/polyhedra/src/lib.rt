@@ -16,12 +16,14 @@ mod thinning;
 mod variables;
 mod vocabulary;
 
-pub use bounds::{bounds_after, bounds_before, bounds_on_changes, with_row};
+pub use after::{changes_after, entries_of, posts_after};
+pub use bounds::{bound_by, bounds_after, bounds_before, bounds_on_changes, with_row};
 pub use candidates::directions;
+pub use changes::change;
 pub use finishing::finish;
 pub use fitting::{coverage_of_fitting, fit, size_of_fitting};
 pub use posing::{Log, Note, Witness, WorkError};
-pub use relations::{relation_rows, relations_of};
+pub use relations::{add_row, relation_rows, relations_of};
 pub use settling::{coverage_of_settling, settle};
 pub use thinning::{coverage_of_thinning, thin};
 pub use variables::{Movement, movement_of};

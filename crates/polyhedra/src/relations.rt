@@ -126,7 +126,7 @@ fn relation_row(
 }
 
 /// Adds a row that could be made, or else its loss.
-fn add_row(
+pub fn add_row(
     rows: &mut Items<Row>,
     losses: &mut Items<Loss>,
     made: Result<Row, TermError>,

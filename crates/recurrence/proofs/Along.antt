@@ -17,7 +17,9 @@ use Rattle.polyhedra.specs.Changes.{change, is_modified, is_exact, modified, mov
 use Rattle.polyhedra.proofs.Lists.{each-unmap, filter-passes, each-tested}
 use Rattle.polyhedra.proofs.Related.{IsTrueIn, IsTrueRelation}
 use Rattle.items.proofs.Each.{each-any}
-use Rattle.recurrence.specs.Strata.{Recurrence, Term, steady, recurrence_of, term_of}
+use Rattle.recurrence.specs.declared.terms.Recurrence.{Recurrence}
+use Rattle.recurrence.specs.declared.terms.Term.{Term}
+use Rattle.recurrence.specs.Strata.{steady, recurrence_of, term_of}
 use Rattle.linear_terms.proofs.Worth.{IsWorth, IsWorth-Ok, IsWorth-same, IsWorth-whole, IsWorth-sum, column_of-value, linear-value, dot-minus, dot-same, AreWorth, IsWorth-combination}
 use Rattle.polyhedra.proofs.Turns.{number_in, Reads, reads-numbers, change-value, by_some, IsRunOf, unmodified-along}
 

@@ -10,5 +10,11 @@ pub mod Progressed
 pub mod Shaped
 pub mod Within
 pub mod Numbered
--- ---- a worked body
-pub mod Worked
+-- ---- the calls
+-- linear polynomials, and the columns of variables
+pub mod Linear
+pub mod Rising
+-- computations part by part
+pub mod Parts
+-- ---- vocabularies of tests and benches
+pub mod Named

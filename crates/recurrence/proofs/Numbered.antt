@@ -34,7 +34,10 @@ use Rattle.polyhedra.proofs.Owned.{is_post, same_post, owns, IsOwned}
 use Rattle.polyhedra.proofs.Places.{any-range}
 use Rattle.polyhedra.proofs.Shaped.{with_row-keeps, bounded-keeps, each-keeps}
 use Rattle.polyhedra.proofs.Directed.{each-distinct}
-use Rattle.recurrence.specs.Strata.{Recurrence, Term, steady, term_of, has_terms, stratum, steady_columns, over, stratum_if, is_short, has_grown, Strata, strata, all_terms}
+use Rattle.recurrence.specs.declared.terms.Recurrence.{Recurrence}
+use Rattle.recurrence.specs.declared.terms.Term.{Term}
+use Rattle.recurrence.specs.declared.terms.Strata.{Strata}
+use Rattle.recurrence.specs.Strata.{steady, term_of, has_terms, stratum, steady_columns, over, stratum_if, is_short, has_grown, strata, all_terms}
 use Rattle.recurrence.specs.Progressions.{Progression, progressions, excess, progression_row, bounded_progression}
 use Rattle.recurrence.specs.Star.{after_from, after, count, moved, posts, moves, same_term, term_row, terms_once, some_turn, rows_of, turns}
 use Rattle.recurrence.proofs.Progressed.{each-progression}

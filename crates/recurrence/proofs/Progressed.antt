@@ -24,7 +24,8 @@ use Rattle.closed_form.proofs.Progressions.{sum_row-climb}
 use Rattle.polyhedra.specs.Vocabulary.{Vocabulary}
 use Rattle.polyhedra.proofs.Turns.{number_in, reads-numbers, change-worth, IsRunOf}
 use Rattle.polyhedra.proofs.Bounded.{IsWorthAlong, IsBelow, bounded-true}
-use Rattle.recurrence.specs.Strata.{Term, Strata}
+use Rattle.recurrence.specs.declared.terms.Term.{Term}
+use Rattle.recurrence.specs.declared.terms.Strata.{Strata}
 use Rattle.recurrence.specs.Progressions.{Progression, signs, open_variables, progressions_of, progressions, excess, progression_row, bounded_progression}
 use Rattle.recurrence.specs.Star.{after, count, moved}
 use Rattle.recurrence.proofs.Stratified.{IsFirstTerm, IsAfter}

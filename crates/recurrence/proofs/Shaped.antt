@@ -23,7 +23,8 @@ use Rattle.polyhedra.proofs.Shaped.{with_row-keeps, bounded-keeps, each-keeps}
 use Rattle.polyhedra.specs.Directions.{directions}
 use Rattle.polyhedra.specs.Changes.{poly_at, change, moving}
 use Rattle.polyhedra.specs.Bounds.{for_entries, put_in_for, with_row, before_row, after_row, change_row, bounded_before, bounded_after, bounded_change}
-use Rattle.recurrence.specs.Strata.{strata, Term}
+use Rattle.recurrence.specs.declared.terms.Term.{Term}
+use Rattle.recurrence.specs.Strata.{strata}
 use Rattle.recurrence.specs.Progressions.{Progression, excess, progression_row, progressions, bounded_progression}
 use Rattle.recurrence.specs.Star.{after, count, moved, posts, moves, term_row, terms_once, some_turn, rows_of, turns}
 

@@ -41,7 +41,8 @@ use Rattle.polyhedra.proofs.Settled.{KeepsLeft}
 use Rattle.polyhedra.proofs.Finished.{finished-covers}
 use Rattle.polyhedra.proofs.Turns.{number_in, by_some, IsRunOf, unmodified-along}
 use Rattle.polyhedra.proofs.Bounded.{IsOver, each-true, with_row-true, before-true, after-true, change-true}
-use Rattle.recurrence.specs.Strata.{Strata, strata, all_terms}
+use Rattle.recurrence.specs.declared.terms.Strata.{Strata}
+use Rattle.recurrence.specs.Strata.{strata, all_terms}
 use Rattle.recurrence.specs.Progressions.{open_variables, progressions, bounded_progression}
 use Rattle.recurrence.specs.Star.{after_from, after, count, moved, posts, moves, term_row, same_term, terms_once, some_turn, rows_of, turns, star_by, star_of}
 use Rattle.recurrence.proofs.Stratified.{IsTermAlong, IsFirstTerm, AreStrata, strata-along, all-along, IsAfter, term_row-true}

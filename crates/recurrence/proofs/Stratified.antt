@@ -26,7 +26,10 @@ use Rattle.polyhedra.specs.Relations.{relations_of}
 use Rattle.polyhedra.proofs.Lists.{each-filter, filter-passes}
 use Rattle.polyhedra.proofs.Related.{IsTrueRelation, AreTrueRelations, relations-true}
 use Rattle.items.proofs.Each.{each-append, each-map, each-more}
-use Rattle.recurrence.specs.Strata.{Recurrence, Term, steady, term_of, has_terms, stratum, steady_columns, over, stratum_if, is_short, has_grown, Strata, strata, all_terms}
+use Rattle.recurrence.specs.declared.terms.Recurrence.{Recurrence}
+use Rattle.recurrence.specs.declared.terms.Term.{Term}
+use Rattle.recurrence.specs.declared.terms.Strata.{Strata}
+use Rattle.recurrence.specs.Strata.{steady, term_of, has_terms, stratum, steady_columns, over, stratum_if, is_short, has_grown, strata, all_terms}
 use Rattle.recurrence.specs.Star.{after, count, term_row}
 use Rattle.linear_terms.proofs.Worth.{IsTrueIfMade, linear-value}
 use Rattle.polyhedra.proofs.Turns.{number_in, Reads, IsRunOf}

@@ -11,11 +11,11 @@ use Rattle.linear_terms.specs.Polynomial.{Polynomial, IsCanonical, column_of}
 use Rattle.linear_terms.proofs.Columns.{EachColumn}
 use Rattle.transition_formula.specs.Composition.{identity_of, joined}
 use Rattle.transition_formula.specs.Rounds.{in_order, solved, Stays}
-use Rattle.transition_formula.specs.Transition.{Transition, IsTransition, is_below, fits}
+use Rattle.transition_formula.specs.Transition.{Transition, IsTransition, IsSolvable, is_below, fits}
 use Rattle.transition_formula.proofs.Covered.{both, both_true}
 use Rattle.transition_formula.proofs.Fitting.{identity-fits}
 use Rattle.posing.specs.Posing.{Always, ◌>>=◌}
-use Rattle.posing.proofs.Paths.{always_weaker, always_bind}
+use Rattle.posing.proofs.Paths.{always_weaker, always_any, always_bind}
 use Rattle.polyhedra.specs.Vocabulary.{Vocabulary, IsDirection, IsDirectionOver}
 use Rattle.polyhedra.specs.Directions.{directions}
 use Rattle.polyhedra.specs.Finish.{finished}
@@ -23,7 +23,9 @@ use Rattle.polyhedra.proofs.Directed.{directions-over}
 use Rattle.polyhedra.specs.Changes.{modified}
 use Rattle.polyhedra.proofs.Owned.{in_order-few}
 use Rattle.polyhedra.proofs.Finished.{FinishedLeft, finished-fits}
-use Rattle.recurrence.specs.Star.{turns, star_by, star_of}
+use Rattle.polyhedra.proofs.Covering.{modified-few}
+use Rattle.recurrence.specs.Strata.{strata}
+use Rattle.recurrence.specs.Star.{rows_of, turns, star_by, star_of}
 use Rattle.recurrence.specs.Law.{IsStarred, IsStar, StarHolds, StarFits}
 use Rattle.recurrence.proofs.Shaped.{RowsAreCanonical, turns-canonical}
 use Rattle.recurrence.proofs.Numbered.{IsFit, turns-fit}
@@ -31,7 +33,7 @@ use Rattle.recurrence.proofs.Starred.{IsReady, always_both, star-holds}
 
 module _ (body : Transition) (voc : Vocabulary) (starred : IsStarred body voc) where
   -- the second case fits and can be put in order
-  turns-are-fit : Always (IsFit body) (turns body voc)
+  pub turns-are-fit : Always (IsFit body) (turns body voc)
   turns-are-fit =
       turns-fit body starred.same_ends voc (each-more (IsDirectionOver body.to) (λ (d : Polynomial). EachColumn (λ c. IsTrue (is_below body.to 0 c)) d.terms) (λ d k. k.within) (directions voc)
       (subst (λ n. AllByRecursion (IsDirectionOver n) (directions voc)) starred.same_columns (directions-over voc starred.vocabulary)))
@@ -43,6 +45,29 @@ module _ (body : Transition) (voc : Vocabulary) (starred : IsStarred body voc) w
       (always_both (IsFit body) (λ case. RowsAreCanonical case.rows) (turns body voc) turns-are-fit
       (turns-canonical body voc (each-more (IsDirectionOver voc.columns) (λ d. IsCanonical d.terms) (λ d k. k.canonical) (directions voc) (directions-over voc starred.vocabulary))))
 
+  -- one auxiliary more than modified variables
+  turns-aux : Always (λ (case : Case). case.aux ≡ length (modified true body) + 1) (turns body voc)
+  unfolding turns ◌>>=◌
+  turns-aux =
+      always_bind (λ s. Unit {0}) (λ (case : Case). case.aux ≡ length (modified true body) + 1) (strata body) _ (always_any (λ s. Unit {0}) (strata body) (λ s. tt)) (λ s any.
+      always_bind (λ rows. Unit {0}) (λ (case : Case). case.aux ≡ length (modified true body) + 1) (rows_of body voc s) _ (always_any (λ rows. Unit {0}) (rows_of body voc s) (λ rows. tt)) (λ rows all. refl))
+
+  pub record IsPut (case : Case) : Type 0 where
+    pub fit : IsFit body case
+    pub solvable : IsSolvable case
+
+  -- the second case fits, and can be put in order
+  pub turns-put : Always IsPut (turns body voc)
+  turns-put =
+      always_weaker (λ (case : Case). IsFit body case × (case.aux ≡ length (modified true body) + 1)) IsPut (turns body voc) (λ case made. record { fit = made.0; solvable = solvable case made.0 made.1 })
+      (always_both (IsFit body) (λ (case : Case). case.aux ≡ length (modified true body) + 1) (turns body voc) turns-are-fit turns-aux)
+    where
+      solvable : (case : Case) → IsFit body case → case.aux ≡ length (modified true body) + 1 → IsSolvable case
+      solvable case fit few = record {
+        numbered = fit.numbered;
+        few = let long = fit.posts_are in let short = modified-few true body in let small = starred.few in omega arith;
+      }
+
 pub star-holds-of-chains : StarHolds
 star-holds-of-chains body voc starred =
     star-holds body voc starred.body_fits starred.same_ends (each-more (IsDirectionOver voc.columns) IsDirection (λ d k. k.straight) (directions voc) (directions-over voc starred.vocabulary))
@@ -50,10 +75,14 @@ star-holds-of-chains body voc starred =
 
 -- ---- what star fits
 
-abbrev SmallLeft : ℕ → Option Case → Type 0
+abbrev pub SmallLeft : ℕ → Option Case → Type 0
 SmallLeft n left = FinishedLeft n n (n + 1) left
 
-finished-small : (body : Transition) (case : Case) → IsFit body case → Always (SmallLeft body.to) (finished case)
+pub left-fits : (n : ℕ) (o : Option Case) → SmallLeft n o → IsTransition n n (option_to_list o)
+left-fits n None h = refl
+left-fits n (Some case) h = both_true (fits n n case) true h.fit refl
+
+pub finished-small : (body : Transition) (case : Case) → IsFit body case → Always (SmallLeft body.to) (finished case)
 finished-small body case is =
     finished-fits body.to body.to (body.to + 1) case is.fits
     (subst (λ m. Stays (λ left. left.aux ≤ m) (solved (in_order case).left)) (next (length case.post) body.to is.posts_are) (in_order-few (length (modified true body) ∷ []) case is.owned))

@@ -19,7 +19,8 @@ use Rattle.closed_form.specs.ClosedRow.{closed_poly, closed_row, sum_row}
 use Rattle.farkas_check.specs.declared.stratum.Relation.{Relation}
 use Rattle.polyhedra.specs.Changes.{poly_at}
 use Rattle.polyhedra.specs.Bounds.{for_entries, put_in_for}
-use Rattle.recurrence.specs.Strata.{Recurrence, steady, recurrence_of}
+use Rattle.recurrence.specs.declared.terms.Recurrence.{Recurrence}
+use Rattle.recurrence.specs.Strata.{steady, recurrence_of}
 
 -- ---- expressions whose columns have a property
 

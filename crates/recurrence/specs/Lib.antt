@@ -12,5 +12,5 @@ pub mod Star
 -- its terms with their differences, and its progressions
 pub mod Strata
 pub mod Progressions
--- ---- a worked body
-pub mod Examples
+-- ---- words of proofs
+pub mod Words

@@ -15,7 +15,9 @@ use Rattle.closed_form.specs.ClosedRow.{sum_row}
 use Rattle.polyhedra.specs.Vocabulary.{Vocabulary}
 use Rattle.polyhedra.specs.Changes.{change, modified, moving}
 use Rattle.polyhedra.specs.Bounds.{bounded}
-use Rattle.recurrence.specs.Strata.{Term, Strata, all_terms}
+use Rattle.recurrence.specs.declared.terms.Term.{Term}
+use Rattle.recurrence.specs.declared.terms.Strata.{Strata}
+use Rattle.recurrence.specs.Strata.{all_terms}
 
 -- `up` times the change of a variable is bounded over `by` times a term
 pub record Progression : Type 0 where
@@ -34,10 +36,14 @@ is_alone (u ∷ us) [] v = false
 is_alone (u ∷ us) (n ∷ rest) v =
     if u == v then int_eq n (pos 1) && list_all (λ m. int_eq m (pos 0)) rest else int_eq n (pos 0) && is_alone us rest v
 
+-- a variable is a term by itself
+abbrev pub is_term : List ℕ → List Term → ℕ → Bool
+is_term moving terms v = list_any (λ (t : Term). is_alone moving t.relation.a v) terms
+
 -- named modified variables that are no terms by themselves
 abbrev pub open_variables : Transition → Vocabulary → Strata → List ℕ
 open_variables body voc strata =
-    filter (λ v. list_any (λ u. u == v) voc.named && not (list_any (λ (t : Term). is_alone (moving true body) t.relation.a v) (all_terms strata))) (modified true body)
+    filter (λ v. list_any (λ u. u == v) voc.named && not (is_term (moving true body) (all_terms strata) v)) (modified true body)
 
 -- of one variable: by sign, term of the first stratum, and sign
 abbrev pub progressions_of : List Term → ℕ → List Progression

@@ -21,7 +21,9 @@ use Rattle.polyhedra.specs.Directions.{distinct, directions}
 use Rattle.polyhedra.specs.Changes.{modified, moving, lost_changes}
 use Rattle.polyhedra.specs.Bounds.{with_row, bounded_before, bounded_after, bounded_change}
 use Rattle.polyhedra.specs.Finish.{finished}
-use Rattle.recurrence.specs.Strata.{Term, Strata, strata, all_terms}
+use Rattle.recurrence.specs.declared.terms.Term.{Term}
+use Rattle.recurrence.specs.declared.terms.Strata.{Strata}
+use Rattle.recurrence.specs.Strata.{strata, all_terms}
 use Rattle.recurrence.specs.Progressions.{progressions, bounded_progression}
 
 -- ---- columns of the second case

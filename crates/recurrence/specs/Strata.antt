@@ -7,26 +7,25 @@ use Rattle.std.specs.Option.{option_map}
 use Rattle.std.specs.Ordering.{int_eq}
 use Rattle.linear_terms.specs.declared.col.Col.TheVariants.{At}
 use Rattle.linear_terms.specs.Expressions.{Made, ◌⊞◌, whole, linear, combination}
-use Rattle.linear_terms.specs.Polynomial.{Polynomial, column_of}
+use Rattle.linear_terms.specs.Polynomial.{column_of}
 use Rattle.transition_formula.specs.Transition.{Transition}
 use Rattle.farkas_check.specs.declared.stratum.Relation.{Relation}
 use Rattle.posing.specs.Posing.{Posing, Done, ◌>>=◌}
 use Rattle.polyhedra.specs.Changes.{is_modified, modified, moving, changes_of, occurring}
 use Rattle.polyhedra.specs.Relations.{relations_of}
+use Rattle.recurrence.specs.declared.terms.Recurrence.{Recurrence}
+use Rattle.recurrence.specs.declared.terms.Term.{Term}
+use Rattle.recurrence.specs.declared.terms.Strata.{Strata}
+use Rattle.recurrence.specs.declared.terms.Part.{Part}
+use Rattle.recurrence.specs.declared.terms.Part.TheVariants.{Start, First, Second}
 
 -- ---- difference equations
 
--- a sequence along the turns: polynomials over the state in which they start, for its number there and its first three differences
-pub record Recurrence : Type 0 where
-  pub start : Polynomial
-  pub first : Made
-  pub second : Made
-  pub third : Made
-
--- a term, by the relation that determines its change
-pub record Term : Type 0 where
-  pub relation : Relation
-  pub recurrence : Recurrence
+-- the number of a sequence, or its first or second difference, where the turns start
+abbrev pub part : Part → Recurrence → Made
+part Start r = Ok r.start
+part First r = r.first
+part Second r = r.second
 
 -- a column that is not modified
 abbrev pub steady : ℕ → Recurrence
@@ -77,11 +76,6 @@ is_short most (Some terms) = nat_lt (length terms) most
 -- the second has more terms than the first
 abbrev pub has_grown : Option (List Term) → Option (List Term) → Bool
 has_grown first second = nat_lt (length (unwrap_or first [])) (length (unwrap_or second []))
-
-pub record Strata : Type 0 where
-  pub first : List Term
-  pub second : List Term
-  pub third : List Term
 
 -- The first has no lower terms. The second is asked where the first has fewer terms than there are modified variables, and the
 -- third where the second has fewer too, and more than the first.

@@ -1,0 +1,88 @@
+use Rattle.std.proofs.Common.{◌≡◌, ◌++◌, true, All, Some, map, length, refl, sym, ap, subst, ◌∙◌}
+use Rattle.std.specs.List.{range_with_len}
+use Rattle.std.proofs.lemmas.List.FromFn.{length-map-range_with_len}
+use Rattle.linear_terms.specs.declared.col.Col.TheVariants.{Aux}
+use Rattle.linear_terms.specs.declared.row.Case.{Case}
+use Rattle.posing.specs.Posing.{each}
+use Rattle.posing.proofs.Following.{stops}
+use Rattle.posing.proofs.Steps.{value_first, error_first, in_other_words}
+use Rattle.polyhedra.specs.Bounds.{IsCovered, IsCoveredByPosts, bounded_before, bounded_after, bounded_change}
+use Rattle.polyhedra.specs.Directions.{directions}
+use Rattle.polyhedra.specs.Squash.{after_from, change_after}
+use Rattle.polyhedra.proofs.Covering.{directions-covered, directions-covered_by_posts, posts-long}
+use Rattle.recurrence.specs.Star.{posts, moves}
+use Rattle.recurrence.specs.Words.{bound_rows}
+use Rattle.recurrence.proofs.Parts.{posts-same, moves-same, all-covered}
+use Rattle.recurrence.proofs.turning.bound_rows.Goals as goal
+
+pub returns-in_err-both : goal.returns-in_err-both
+unfolding bound_rows
+returns-in_err-both g c =
+    let body = c.args.body.now in
+    let entry = c.as_slice.ensures ∙ c.in_ok-directions.ensures in
+    let again = c.as_slice-3.ensures ∙ c.in_ok-directions.ensures in
+    let after : c.as_slice-2.result.now ≡ posts body =
+    c.as_slice-2.ensures ∙ c.in_ok-posts.ensures ∙ (λ i. map (after_from true 0 (c.requires.modified.are i)) (range_with_len 0 (c.to.ensures i))) ∙ posts-same body in
+    value_first _ c.in_ok-before.ensures (λ i. each (bounded_before (c.cases-cases.ensures.cases i)) c.args.rows (entry i))
+    (error_first _ c.in_err-both.ensures (λ i. each (bounded_after (c.cases-cases.ensures.cases i) (after i)) c.in_ok-before.before (again i)) c.from_residual-in_err-both.ensures.1)
+
+pub returns-in_err-add_extra : goal.returns-in_err-add_extra
+unfolding bound_rows
+returns-in_err-add_extra g c =
+    let body = c.args.body.now in
+    let entry = c.as_slice.ensures ∙ c.in_ok-directions.ensures in
+    let again = c.as_slice-3.ensures ∙ c.in_ok-directions.ensures in
+    let after : c.as_slice-2.result.now ≡ posts body =
+    c.as_slice-2.ensures ∙ c.in_ok-posts.ensures ∙ (λ i. map (after_from true 0 (c.requires.modified.are i)) (range_with_len 0 (c.to.ensures i))) ∙ posts-same body in
+    value_first _ c.in_ok-before.ensures (λ i. each (bounded_before (c.cases-cases.ensures.cases i)) c.args.rows (entry i))
+    (value_first _ c.in_ok-both.ensures (λ i. each (bounded_after (c.cases-cases.ensures.cases i) (after i)) c.in_ok-before.before (again i))
+    (stops _ _ _ _ _ _ refl c.from_residual-in_err-add_extra.ensures.1))
+
+pub returns : goal.returns
+unfolding bound_rows
+returns g c =
+    let body = c.args.body.now in
+    let entry = c.as_slice.ensures ∙ c.in_ok-directions.ensures in
+    let again = c.as_slice-3.ensures ∙ c.in_ok-directions.ensures in
+    let more = c.as_slice-5.ensures ∙ c.in_ok-add_extra.ensures ∙ ap (λ ds. ds ++ c.args.voc.now.extra) c.in_ok-directions.ensures in
+    let after : c.as_slice-2.result.now ≡ posts body =
+    c.as_slice-2.ensures ∙ c.in_ok-posts.ensures ∙ (λ i. map (after_from true 0 (c.requires.modified.are i)) (range_with_len 0 (c.to.ensures i))) ∙ posts-same body in
+    let changed : c.as_slice-4.result.now ≡ moves body =
+    c.as_slice-4.ensures ∙ c.in_ok-moves.ensures ∙ (λ i. map (change_after true (c.requires.modified.are i)) (range_with_len 0 (c.to-2.ensures i))) ∙ moves-same body in
+    let turns = c.turn_count-count.ensures ∙ ap (λ us. Aux (length us)) c.requires.modified.are in
+    value_first _ c.in_ok-before.ensures (λ i. each (bounded_before (c.cases-cases.ensures.cases i)) c.args.rows (entry i))
+    (value_first _ c.in_ok-both.ensures (λ i. each (bounded_after (c.cases-cases.ensures.cases i) (after i)) c.in_ok-before.before (again i))
+    (in_other_words (λ i. each (bounded_change (c.cases-cases.ensures.cases i) (changed i) (Some (turns i))) c.in_ok-both.both (more i)) c.bounds_on_changes.ensures))
+
+pub bounds_after-requires-clause-posts : goal.bounds_after-requires-clause-posts
+bounds_after-requires-clause-posts g c =
+    let body = c.args.body.now in
+    let s = c.requires.starred in
+    subst (All (IsCoveredByPosts c.cases-cases.result.now)) (sym (c.as_slice-3.ensures ∙ c.in_ok-directions.ensures))
+    (subst (λ cs. All (IsCoveredByPosts cs) (directions c.args.voc.now)) (sym c.cases-cases.ensures.cases)
+    (directions-covered_by_posts c.args.voc.now s.vocabulary body.to s.same_columns body.from body.cases s.body_fits))
+
+pub bounds_after-requires-clause-rows : goal.bounds_after-requires-clause-rows
+bounds_after-requires-clause-rows g c =
+    let body = c.args.body.now in
+    let s = c.requires.starred in
+    let long = ap length (c.as_slice-2.ensures ∙ c.in_ok-posts.ensures) ∙ length-map-range_with_len (after_from true 0 c.args.modified.now) 0 c.to.result in
+    subst (All (IsCovered (length c.as_slice-2.result.now))) (sym (c.as_slice-3.ensures ∙ c.in_ok-directions.ensures))
+    (directions-covered c.args.voc.now s.vocabulary body.to s.same_columns (length c.as_slice-2.result.now) (long ∙ c.to.ensures))
+
+pub bounds_on_changes-requires-clause-posts : goal.bounds_on_changes-requires-clause-posts
+bounds_on_changes-requires-clause-posts g c =
+    let body = c.args.body.now in
+    subst (λ n. All (λ (case : Case). length case.post ≡ n) c.cases-cases.result.now) (sym c.to-3.ensures)
+    (posts-long body.from body.to c.cases-cases.result.now c.cases-cases.ensures.fit)
+
+pub bounds_on_changes-requires-clause-columns : goal.bounds_on_changes-requires-clause-columns
+bounds_on_changes-requires-clause-columns g c =
+    let more = c.as_slice-5.ensures ∙ c.in_ok-add_extra.ensures ∙ ap (λ ds. ds ++ c.args.voc.now.extra) c.in_ok-directions.ensures in
+    subst (All (IsCovered c.to-3.result)) (sym more) (all-covered c.args.body.now c.args.voc.now c.requires.starred c.to-3.result c.to-3.ensures)
+
+pub bounds_on_changes-requires-clause-rows : goal.bounds_on_changes-requires-clause-rows
+bounds_on_changes-requires-clause-rows g c =
+    let long = ap length (c.as_slice-4.ensures ∙ c.in_ok-moves.ensures) ∙ length-map-range_with_len (change_after true c.args.modified.now) 0 c.to-2.result in
+    let more = c.as_slice-5.ensures ∙ c.in_ok-add_extra.ensures ∙ ap (λ ds. ds ++ c.args.voc.now.extra) c.in_ok-directions.ensures in
+    subst (All (IsCovered (length c.as_slice-4.result.now))) (sym more) (all-covered c.args.body.now c.args.voc.now c.requires.starred (length c.as_slice-4.result.now) (long ∙ c.to-2.ensures))

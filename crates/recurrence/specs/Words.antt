@@ -1,0 +1,85 @@
+-- Words of the proofs of the calls.
+use Rattle.std.specs.Prelude.{◌≡◌, ℕ, ◌<◌, ◌^◌, ℤ, pos, negsuc, Result, Some, ◌++◌, List, [], ◌∷◌, length, map, Bool, true, ◌==◌}
+use Rattle.std.specs.List.{AllByRecursion, list_any}
+use Rattle.std.specs.declared.cmp.Ordering.TheVariants.{Greater}
+use Rattle.linear_terms.specs.declared.col.Col.{Col}
+use Rattle.linear_terms.specs.Mono.{mono_cmp}
+use Rattle.transition_formula.specs.Transition.{Transition}
+use Rattle.polyhedra.specs.declared.variables.Movement.{Movement}
+use Rattle.polyhedra.specs.Changes.{modified, moving, changes_of, occurring}
+use Rattle.linear_terms.specs.declared.row.Row.{Row}
+use Rattle.linear_terms.specs.declared.row.Case.{Case}
+use Rattle.posing.specs.Posing.{Posing, ◌>>=◌, each}
+use Rattle.recurrence.specs.declared.terms.Term.{Term}
+use Rattle.recurrence.specs.Progressions.{Progression, signs, progressions_of, bounded_progression}
+use Rattle.recurrence.specs.Star.{after_from, count, posts, moves}
+use Rattle.linear_terms.specs.declared.col.Col.TheVariants.{At, Aux}
+use Rattle.linear_terms.specs.declared.error.TermError.{TermError}
+use Rattle.linear_terms.specs.declared.row.Kind.TheVariants.{AtMost}
+use Rattle.linear_terms.specs.Expressions.{Made, ◌⊟◌, column, linear}
+use Rattle.items.specs.Gives as gives
+use Rattle.closed_form.specs.ClosedRow.{closed_row}
+use Rattle.polyhedra.specs.Vocabulary.{Vocabulary}
+use Rattle.polyhedra.specs.Directions.{directions}
+use Rattle.polyhedra.specs.Bounds.{bounded_before, bounded_after, bounded_change}
+
+-- each number is less than those behind it
+abbrev pub Rise : List ℕ → Type 0
+Rise [] = Unit {0}
+Rise (v ∷ vs) = AllByRecursion (λ w. v < w) vs × Rise vs
+
+-- each column stands in print order before those behind it
+abbrev pub Ascend : List Col → Type 0
+Ascend [] = Unit {0}
+Ascend (c ∷ cs) = AllByRecursion (λ d. mono_cmp (d ∷ []) (c ∷ []) ≡ Greater) cs × Ascend cs
+
+abbrev pub is_among : List ℕ → ℕ → Bool
+is_among numbers v = list_any (λ u. u == v) numbers
+
+-- what a body changes, where both ends have one vocabulary
+pub record IsMovement (body : Transition) (m : Movement) : Type 0 where
+  pub modified : m.modified ≡ modified true body
+  pub moving : m.moving ≡ moving true body
+  pub cases : m.cases ≡ changes_of true body
+  pub occurring : m.occurring ≡ occurring true body
+
+-- the modified variables, few enough to be numbered
+pub record AreModified (body : Transition) (variables : List ℕ) : Type 0 where
+  pub are : variables ≡ modified true body
+  pub few : length variables < 2 ^ 32
+
+-- ---- progressions, one part after another
+
+-- a variable's change over the turns, by the modified variables
+abbrev pub moved_by : List ℕ → ℕ → Made
+moved_by modified v = column (after_from 0 modified v) ⊟ column (At v)
+
+abbrev pub bounded_over : List Case → List ℕ → List Row → Progression → Posing (List Row)
+bounded_over cases modified = bounded_progression cases (moved_by modified) (Aux (length modified))
+
+-- of one variable and one sign, over both signs of a term
+abbrev pub by_term : List Case → List ℕ → ℕ → ℤ → List Row → Term → Posing (List Row)
+by_term cases modified v up rows t = each (bounded_over cases modified) rows (map (λ by. record { variable = v; up = up; term = t; by = by }) signs)
+
+-- of one variable
+abbrev pub by_variable : List Case → List ℕ → List Term → List Row → ℕ → Posing (List Row)
+by_variable cases modified terms rows v = each (bounded_over cases modified) rows (progressions_of terms v)
+
+-- ---- rows
+
+-- the row of a term, by the modified variables and those whose change can be made
+abbrev pub row_of_term : List ℕ → List ℕ → Term → Result Row TermError
+row_of_term modified moving t =
+    gives.◌>>=◌ t.recurrence.first (λ d1. gives.◌>>=◌ t.recurrence.second (λ d2. gives.◌>>=◌ t.recurrence.third (λ d3.
+    closed_row (linear t.relation.a (map (after_from 0 modified) moving)) t.recurrence.start d1 d2 d3 (Aux (length modified)))))
+
+-- a column is at least 1
+abbrev pub turn_row : Col → Row
+turn_row c = record { poly = record { terms = (c ∷ [], negsuc 0) ∷ []; rest = pos 1 }; kind = AtMost }
+
+-- bounds before, after and on changes, behind other rows
+unfoldable pub bound_rows : Transition → Vocabulary → List Row → Posing (List Row)
+bound_rows body voc rows =
+    each (bounded_before body.cases) rows (directions voc) >>= λ before.
+    each (bounded_after body.cases (posts body)) before (directions voc) >>= λ both.
+    each (bounded_change body.cases (moves body) (Some (count body))) both (directions voc ++ voc.extra)

@@ -1,0 +1,267 @@
+ghost use Rattle.std.specs.Prelude.{◌≡◌, ◌&&◌, [], map, not, length, unwrap_or, IsTrue, IfOk};
+ghost use Rattle.std.specs.List.{filter};
+ghost use Rattle.std.specs.Option.{option_map};
+ghost use Rattle.farkas_check.specs.Relations.{have_equally_many};
+ghost use Rattle.polyhedra.specs.Changes.{is_modified, moving, occurring};
+ghost use Rattle.posing.specs.Follows.{Follows};
+ghost use Rattle.recurrence.specs.Strata.{term_of, has_terms, stratum, steady_columns, over, steady, stratum_if, is_short, has_grown, strata};
+ghost use Rattle.recurrence.specs.Words.{Rise, IsMovement, is_among};
+
+use crate::terms::{Recurrence, Strata, Term, has_terms, steady, term_of};
+use farkas_check::{Change, Oracle, Relation, Stratum};
+use items::Items;
+use linear_terms::Poly;
+use polyhedra::{Log, Movement, WorkError, relations_of};
+use std::alloc::{AllocError, Global};
+use transition_formula::Formula;
+
+/// The strata of a body.
+#[tactic(auto, using(posing::proofs::Following::following), unfolding(crate::specs::Strata::strata))]
+pub(crate) fn strata_of<O: Oracle>(
+    alloc: Global,
+    body: &Formula,
+    movement: &Movement,
+    oracle: &mut O,
+    log: &mut Log,
+) -> Result<Strata, WorkError>
+    requires ends { body.now.from ≡ body.now.to }
+    requires movement { IsMovement body.now movement.now }
+    ensures { Follows O.asking oracle.old oracle.new log.old log.new result (strata body.now) }
+{
+    let most = movement.modified.len();
+    let first = one_stratum(alloc, body, movement, &[], oracle, log)?;
+    let asked = is_short(most, &first);
+    let second = next_stratum(alloc, asked, body, movement, &first, oracle, log)?;
+    let again = asks_third(most, &first, &second);
+    let third = next_stratum(alloc, again, body, movement, &second, oracle, log)?;
+    Ok(Strata {
+        first: terms_in(alloc, first),
+        second: terms_in(alloc, second),
+        third: terms_in(alloc, third),
+    })
+}
+
+/// The relations between the changes of a body and lower terms, as terms.
+#[tactic(auto, using(posing::proofs::Following::following), unfolding(crate::specs::Strata::stratum))]
+fn one_stratum<O: Oracle>(
+    alloc: Global,
+    body: &Formula,
+    movement: &Movement,
+    lower: &[Recurrence],
+    oracle: &mut O,
+    log: &mut Log,
+) -> Result<Option<Items<Term>>, WorkError>
+    requires { IsMovement body.now movement.now }
+    ensures { Follows O.asking oracle.old oracle.new log.old log.new result (stratum body.now lower.now) }
+{
+    let cases = cases_of(movement)?;
+    let starts = starts_of(alloc, lower)?;
+    let question = question_of(cases, starts);
+    let found = relations_of(alloc, question, oracle, log)?;
+    let terms = terms_of(alloc, movement.moving.as_slice(), lower, found)?;
+    Ok(terms)
+}
+
+/// The next stratum where it is asked, over the columns that no turn changes and the terms of the stratum before.
+#[tactic(auto, using(posing::proofs::Following::stops))]
+fn next_stratum<O: Oracle>(
+    alloc: Global,
+    asked: bool,
+    body: &Formula,
+    movement: &Movement,
+    below: &Option<Items<Term>>,
+    oracle: &mut O,
+    log: &mut Log,
+) -> Result<Option<Items<Term>>, WorkError>
+    requires ends { body.now.from ≡ body.now.to }
+    requires movement { IsMovement body.now movement.now }
+    ensures { Follows O.asking oracle.old oracle.new log.old log.new result (stratum_if asked body.now (over body.now below.now)) }
+{
+    if !asked {
+        return Ok(None);
+    }
+    let lower = over(alloc, body, movement, below)?;
+    one_stratum(alloc, body, movement, lower.as_slice(), oracle, log)
+}
+
+fn cases_of(movement: &Movement) -> Result<Items<Change>, AllocError>
+    ensures { IfOk result (λ cases. cases ≡ movement.now.cases) }
+{
+    let cases = movement.cases.clone()?;
+    Ok(cases)
+}
+
+/// A question about cases that have equally many terms.
+fn question_of(cases: Items<Change>, lower: Items<Poly>) -> Stratum
+    requires { IsTrue (have_equally_many cases) }
+    ensures { result ≡ record { cases = cases; lower = lower } }
+{
+    match Stratum::new(cases, lower) {
+        Some(stratum) => stratum,
+        None => unreachable!(),
+    }
+}
+
+fn starts_of(alloc: Global, lower: &[Recurrence]) -> Result<Items<Poly>, AllocError>
+    ensures { IfOk result (λ starts. starts ≡ map (λ l. l.start) lower.now) }
+{
+    let mut starts = Items::new(alloc);
+    for recurrence in lower {
+        let start = recurrence.start.clone()?;
+        starts.push(start)?;
+    }
+    Ok(starts)
+}
+
+/// The terms of relations that have some variable.
+fn terms_of(
+    alloc: Global,
+    variables: &[u32],
+    lower: &[Recurrence],
+    found: Option<Items<Relation>>,
+) -> Result<Option<Items<Term>>, AllocError>
+    requires { Rise variables.now }
+    ensures { IfOk result (λ terms. terms ≡ option_map (λ rs. map (term_of variables.now lower.now) (filter has_terms rs)) found) }
+{
+    match found {
+        None => Ok(None),
+        Some(relations) => Ok(Some(terms_from(alloc, variables, lower, relations)?)),
+    }
+}
+
+fn terms_from(
+    alloc: Global,
+    variables: &[u32],
+    lower: &[Recurrence],
+    relations: Items<Relation>,
+) -> Result<Items<Term>, AllocError>
+    requires { Rise variables.now }
+    ensures { IfOk result (λ terms. terms ≡ map (term_of variables.now lower.now) (filter has_terms relations)) }
+{
+    let mut terms = Items::new(alloc);
+    for relation in relations {
+        if has_terms(&relation) {
+            terms.push(term_of(alloc, variables, lower, relation)?)?;
+        }
+    }
+    Ok(terms)
+}
+
+/// The columns that no turn changes and that occur, and then the terms of a stratum.
+fn over(
+    alloc: Global,
+    body: &Formula,
+    movement: &Movement,
+    below: &Option<Items<Term>>,
+) -> Result<Items<Recurrence>, AllocError>
+    requires ends { body.now.from ≡ body.now.to }
+    requires movement { IsMovement body.now movement.now }
+    ensures { IfOk result (λ lower. lower ≡ over body.now below.now) }
+{
+    let columns = steady_columns(
+        alloc,
+        movement.modified.as_slice(),
+        movement.occurring.as_slice(),
+    )?;
+    let mut lower = steadies(alloc, columns.as_slice())?;
+    lower.append(recurrences_in(alloc, below)?)?;
+    Ok(lower)
+}
+
+/// Those of the columns that are not modified.
+fn steady_columns(
+    alloc: Global,
+    modified: &[u32],
+    occurring: &[u32],
+) -> Result<Items<u32>, AllocError>
+    ensures { IfOk result (λ columns. columns ≡ filter (λ v. not (is_among modified.now v)) occurring.now) }
+{
+    let mut columns = Items::new(alloc);
+    for v in occurring {
+        if !is_among(modified, *v) {
+            columns.push(*v)?;
+        }
+    }
+    Ok(columns)
+}
+
+pub(crate) fn is_among(numbers: &[u32], v: u32) -> bool
+    ensures { result ≡ is_among numbers.now v }
+{
+    numbers.iter().any(|u| *u == v)
+}
+
+fn steadies(alloc: Global, columns: &[u32]) -> Result<Items<Recurrence>, AllocError>
+    ensures { IfOk result (λ lower. lower ≡ map steady columns.now) }
+{
+    let mut lower = Items::new(alloc);
+    for v in columns {
+        lower.push(steady(alloc, *v)?)?;
+    }
+    Ok(lower)
+}
+
+fn recurrences_in(
+    alloc: Global,
+    found: &Option<Items<Term>>,
+) -> Result<Items<Recurrence>, AllocError>
+    ensures { IfOk result (λ all. all ≡ map (λ t. t.recurrence) (unwrap_or found.now [])) }
+{
+    match found {
+        None => Ok(Items::new(alloc)),
+        Some(terms) => Ok(recurrences_of(alloc, terms.as_slice())?),
+    }
+}
+
+fn recurrences_of(alloc: Global, terms: &[Term]) -> Result<Items<Recurrence>, AllocError>
+    ensures { IfOk result (λ all. all ≡ map (λ t. t.recurrence) terms.now) }
+{
+    let mut recurrences = Items::new(alloc);
+    for term in terms {
+        let recurrence = term.recurrence.clone()?;
+        recurrences.push(recurrence)?;
+    }
+    Ok(recurrences)
+}
+
+/// Whether the terms are known, and are fewer than so many.
+fn is_short(most: usize, found: &Option<Items<Term>>) -> bool
+    ensures { result ≡ is_short most found.now }
+{
+    match found {
+        None => false,
+        Some(terms) => terms.len() < most,
+    }
+}
+
+/// Whether the second has more terms than the first, and fewer than so many.
+fn asks_third(most: usize, first: &Option<Items<Term>>, second: &Option<Items<Term>>) -> bool
+    ensures { result ≡ (has_grown first.now second.now && is_short most second.now) }
+{
+    has_grown(first, second) && is_short(most, second)
+}
+
+/// Whether the second has more terms than the first.
+fn has_grown(first: &Option<Items<Term>>, second: &Option<Items<Term>>) -> bool
+    ensures { result ≡ has_grown first.now second.now }
+{
+    count_in(first) < count_in(second)
+}
+
+fn count_in(found: &Option<Items<Term>>) -> usize
+    ensures { result ≡ length (unwrap_or found.now []) }
+{
+    match found {
+        None => 0,
+        Some(terms) => terms.len(),
+    }
+}
+
+fn terms_in(alloc: Global, found: Option<Items<Term>>) -> Items<Term>
+    ensures { result ≡ unwrap_or found [] }
+{
+    match found {
+        None => Items::new(alloc),
+        Some(terms) => terms,
+    }
+}

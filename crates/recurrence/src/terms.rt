@@ -1,0 +1,209 @@
+ghost use Rattle.std.specs.Prelude.{◌≡◌, ℤ, List, Ok, map, Result, IfOk};
+ghost use Rattle.items.specs.Gives.{Gives};
+ghost use Rattle.linear_terms.specs.declared.col.Col.{Col};
+ghost use Rattle.linear_terms.specs.Expressions.{Made, ◌⊞◌, whole, all_of, combination, linear};
+ghost use Rattle.linear_terms.specs.Polynomial.{column_of};
+ghost use Rattle.linear_terms.specs.TermError.{cause};
+ghost use Rattle.recurrence.specs.Strata.{part, steady, term_of, has_terms};
+ghost use Rattle.recurrence.specs.Words.{Ascend, Rise};
+
+use farkas_check::Relation;
+use items::Items;
+use linear_terms::{Col, Poly, TermError, add, combination};
+use polyhedra::entries_of;
+use std::alloc::{AllocError, Global};
+
+/// A sequence along the turns, over the state in which they start: its number there and its first three differences.
+#[derive(Debug, Drop)]
+pub(crate) struct Recurrence {
+    pub(crate) start: Poly,
+    pub(crate) first: Result<Poly, TermError>,
+    pub(crate) second: Result<Poly, TermError>,
+    pub(crate) third: Result<Poly, TermError>,
+}
+
+/// A term, by the relation that determines its change.
+#[derive(Debug, Drop)]
+pub(crate) struct Term {
+    pub(crate) relation: Relation,
+    pub(crate) recurrence: Recurrence,
+}
+
+/// The terms of a body, by strata.
+#[derive(Debug, Drop)]
+pub(crate) struct Strata {
+    pub(crate) first: Items<Term>,
+    pub(crate) second: Items<Term>,
+    pub(crate) third: Items<Term>,
+}
+
+/// Parts of a recurrence.
+#[derive(Clone, Copy, Debug, PartialEq, Eq)]
+pub(crate) enum Part {
+    Start,
+    First,
+    Second,
+}
+
+impl Clone for Recurrence {
+    ghost is_clone = { λ a b. b ≡ a };
+
+    fn clone(&self) -> Result<Recurrence, AllocError> {
+        let start = self.start.clone()?;
+        let first = copy_of(&self.first)?;
+        let second = copy_of(&self.second)?;
+        let third = copy_of(&self.third)?;
+        Ok(Recurrence {
+            start,
+            first,
+            second,
+            third,
+        })
+    }
+}
+
+impl Clone for Term {
+    ghost is_clone = { λ a b. b ≡ a };
+
+    fn clone(&self) -> Result<Term, AllocError> {
+        let relation = self.relation.clone()?;
+        let recurrence = self.recurrence.clone()?;
+        Ok(Term {
+            relation,
+            recurrence,
+        })
+    }
+}
+
+fn copy_of(made: &Result<Poly, TermError>) -> Result<Result<Poly, TermError>, AllocError>
+    ensures { IfOk result (λ copy. copy ≡ made.now) }
+{
+    match made {
+        Ok(poly) => {
+            let copy = poly.clone()?;
+            Ok(Ok(copy))
+        }
+        Err(error) => Ok(Err(*error)),
+    }
+}
+
+/// A column that no turn changes.
+pub(crate) fn steady(alloc: Global, v: u32) -> Result<Recurrence, AllocError>
+    ensures { IfOk result (λ r. r ≡ steady v) }
+{
+    let start = column(alloc, Col::At(v))?;
+    Ok(Recurrence {
+        start,
+        first: Ok(Poly::constant(alloc, 0)),
+        second: Ok(Poly::constant(alloc, 0)),
+        third: Ok(Poly::constant(alloc, 0)),
+    })
+}
+
+/// One column.
+pub(crate) fn column(alloc: Global, col: Col) -> Result<Poly, AllocError>
+    ensures { IfOk result (λ p. p ≡ column_of col) }
+{
+    match Poly::column(alloc, col) {
+        Ok(poly) => Ok(poly),
+        Err(_memory) => Err(AllocError),
+    }
+}
+
+/// The term of a relation between the changes of variables and lower terms.
+pub(crate) fn term_of(
+    alloc: Global,
+    variables: &[u32],
+    lower: &[Recurrence],
+    relation: Relation,
+) -> Result<Term, AllocError>
+    requires { Rise variables.now }
+    ensures { IfOk result (λ t. t ≡ term_of variables.now lower.now relation) }
+{
+    let entries = entries_of(alloc, variables)?;
+    let start = linear(alloc, relation.a.as_slice(), entries.as_slice())?;
+    let first = settled(first_of(alloc, lower, &relation))?;
+    let second = settled(combined(alloc, Part::First, lower, relation.b.as_slice()))?;
+    let third = settled(combined(alloc, Part::Second, lower, relation.b.as_slice()))?;
+    Ok(Term {
+        relation,
+        recurrence: Recurrence {
+            start,
+            first,
+            second,
+            third,
+        },
+    })
+}
+
+/// The linear polynomial that has numbers at columns, which stand in print order.
+pub(crate) fn linear(alloc: Global, numbers: &[i128], columns: &[Poly]) -> Result<Poly, AllocError>
+    ensures { (cs : List Col) → Ascend cs → columns.now ≡ map column_of cs → IfOk result (λ p. p ≡ linear numbers.now cs) }
+{
+    match combination(alloc, numbers, columns) {
+        Ok(poly) => Ok(poly),
+        Err(_memory) => Err(AllocError),
+    }
+}
+
+/// What is made, or the step that cannot be made; want of memory is an error here.
+fn settled(made: Result<Poly, TermError>) -> Result<Result<Poly, TermError>, AllocError>
+    ensures { (stated : Made) → Gives cause (λ p. p) made stated → IfOk result (λ kept. kept ≡ stated) }
+{
+    match made {
+        Ok(poly) => Ok(Ok(poly)),
+        Err(TermError::Memory) => Err(AllocError),
+        Err(error) => Ok(Err(error)),
+    }
+}
+
+/// The first difference: numbers times lower terms, and a constant.
+fn first_of(alloc: Global, lower: &[Recurrence], relation: &Relation) -> Result<Poly, TermError>
+    ensures { Gives cause (λ p. p) result (combination relation.now.b (map (λ l. Ok l.start) lower.now) ⊞ whole relation.now.c) }
+{
+    let of_lower = combined(alloc, Part::Start, lower, relation.b.as_slice())?;
+    add(alloc, &of_lower, &Poly::constant(alloc, relation.c))
+}
+
+/// Numbers times a part of each lower term.
+fn combined(
+    alloc: Global,
+    which: Part,
+    lower: &[Recurrence],
+    numbers: &[i128],
+) -> Result<Poly, TermError>
+    ensures { Gives cause (λ p. p) result (combination numbers.now (map (part which) lower.now)) }
+{
+    let parts = parts_of(alloc, which, lower)?;
+    combination(alloc, numbers, parts.as_slice())
+}
+
+fn parts_of(alloc: Global, which: Part, lower: &[Recurrence]) -> Result<Items<Poly>, TermError>
+    ensures { Gives cause (λ ps. ps) result (all_of (map (part which) lower.now)) }
+{
+    let mut parts = Items::new(alloc);
+    for recurrence in lower {
+        parts.push(part_of(which, recurrence)?)?;
+    }
+    Ok(parts)
+}
+
+fn part_of(which: Part, recurrence: &Recurrence) -> Result<Poly, TermError>
+    ensures { Gives cause (λ p. p) result (part which recurrence.now) }
+{
+    match which {
+        Part::Start => {
+            let start = recurrence.start.clone()?;
+            Ok(start)
+        }
+        Part::First => copy_of(&recurrence.first)?,
+        Part::Second => copy_of(&recurrence.second)?,
+    }
+}
+
+/// Whether some variable has a number.
+pub(crate) fn has_terms(relation: &Relation) -> bool
+    ensures { result ≡ has_terms relation.now }
+{
+    relation.a.iter().any(|n| *n != 0)
+}

@@ -1,0 +1,283 @@
+ghost use Rattle.std.specs.Prelude.{◌≡◌, ◌<◌, ◌^◌, ◌++◌, ◌∷◌, [], ℕ, List, map, fold, length, IfOk, OnOk};
+ghost use Rattle.std.specs.List.{filter_map, flat_map, list_any};
+ghost use Rattle.items.specs.Gives.{Gives};
+ghost use Rattle.linear_terms.specs.declared.col.Col.TheVariants.{Aux};
+ghost use Rattle.linear_terms.specs.Polynomial.{column_of};
+ghost use Rattle.linear_terms.specs.TermError.{cause};
+ghost use Rattle.transition_formula.specs.Loss.{answered, losses_of};
+ghost use Rattle.posing.specs.Follows.{Follows};
+ghost use Rattle.posing.specs.Logs.{Adds, loss_notes};
+ghost use Rattle.polyhedra.specs.Directions.{with_new};
+ghost use Rattle.recurrence.specs.Law.{IsStarred};
+ghost use Rattle.recurrence.specs.Star.{after_from, term_row, same_term, terms_once, rows_of, turns};
+ghost use Rattle.recurrence.specs.Words.{Ascend, IsMovement, AreModified, row_of_term, turn_row, bound_rows};
+
+use crate::progressions::{after, turn_count, with_progressions};
+use crate::stratifying::strata_of;
+use crate::terms::{Strata, Term, column, linear};
+use closed_form::row;
+use farkas_check::Oracle;
+use items::Items;
+use linear_terms::{Case, Col, Kind, Poly, Row, TermError, difference};
+use polyhedra::{
+    Log, Movement, Vocabulary, WorkError, add_row, bounds_after, bounds_before, bounds_on_changes,
+    changes_after, directions, movement_of, posts_after,
+};
+use std::alloc::{AllocError, Global};
+use transition_formula::Formula;
+
+/// The second case as it is put together: one and more turns.
+#[tactic(auto, using(posing::proofs::Following::following), unfolding(crate::specs::Star::turns))]
+pub(crate) fn turns<O: Oracle>(
+    alloc: Global,
+    body: &Formula,
+    voc: &Vocabulary,
+    oracle: &mut O,
+    log: &mut Log,
+) -> Result<Case, WorkError>
+    requires { IsStarred body.now voc.now }
+    ensures { Follows O.asking oracle.old oracle.new log.old log.new result (turns body.now voc.now) }
+{
+    let movement = movement_of(alloc, true, body)?;
+    let aux = movement.modified.len() as u32 + 1;
+    let post = posts_after(alloc, true, movement.modified.as_slice(), body.to())?;
+    log.add_losses(alloc, movement.lost.as_slice())?;
+    let strata = strata_of(alloc, body, &movement, oracle, log)?;
+    let rows = rows_of(alloc, body, voc, &movement, &strata, oracle, log)?;
+    Ok(Case { aux, rows, post })
+}
+
+/// Its rows: what the terms are after the turns, that there is a turn, bounds, and progressions.
+#[tactic(auto, using(posing::proofs::Following::following), unfolding(crate::specs::Star::rows_of))]
+fn rows_of<O: Oracle>(
+    alloc: Global,
+    body: &Formula,
+    voc: &Vocabulary,
+    movement: &Movement,
+    strata: &Strata,
+    oracle: &mut O,
+    log: &mut Log,
+) -> Result<Items<Row>, WorkError>
+    requires starred { IsStarred body.now voc.now }
+    requires movement { IsMovement body.now movement.now }
+    ensures { Follows O.asking oracle.old oracle.new log.old log.new result (rows_of body.now voc.now strata.now) }
+{
+    let modified = movement.modified.as_slice();
+    let terms = terms_once(alloc, strata)?;
+    let equations = equations(
+        alloc,
+        terms.as_slice(),
+        modified,
+        movement.moving.as_slice(),
+        log,
+    )?;
+    let started = with_some_turn(alloc, equations, modified)?;
+    let bounds = bound_rows(alloc, body, voc, modified, started, oracle, log)?;
+    with_progressions(alloc, bounds, body, movement, voc, strata, oracle, log)
+}
+
+// ---- rows of terms
+
+/// Each term once.
+fn terms_once(alloc: Global, strata: &Strata) -> Result<Items<Term>, AllocError>
+    ensures { IfOk result (λ terms. terms ≡ terms_once strata.now) }
+{
+    let mut made = Items::new(alloc);
+    add_each(&mut made, strata.first.as_slice())?;
+    add_each(&mut made, strata.second.as_slice())?;
+    add_each(&mut made, strata.third.as_slice())?;
+    Ok(made)
+}
+
+fn add_each(made: &mut Items<Term>, terms: &[Term]) -> Result<(), AllocError>
+    ensures { OnOk result (made.new ≡ fold (with_new same_term) made.old terms.now) }
+{
+    for term in terms {
+        add_new(made, term)?;
+    }
+    Ok(())
+}
+
+fn add_new(made: &mut Items<Term>, term: &Term) -> Result<(), AllocError>
+    ensures { OnOk result (made.new ≡ with_new same_term made.old term.now) }
+{
+    if !has_same(made.as_slice(), term) {
+        let copy = term.clone()?;
+        made.push(copy)?;
+    }
+    Ok(())
+}
+
+fn has_same(terms: &[Term], term: &Term) -> bool
+    ensures { result ≡ list_any (same_term term.now) terms.now }
+{
+    terms.iter().any(|other| is_same(term, other))
+}
+
+fn is_same(term: &Term, other: &Term) -> bool
+    ensures { result ≡ same_term term.now other.now }
+{
+    term.relation.a.as_slice() == other.relation.a.as_slice()
+}
+
+/// What the terms are after the turns, by their numbers and differences before. A row that is lost is noted.
+fn equations(
+    alloc: Global,
+    terms: &[Term],
+    modified: &[u32],
+    moving: &[u32],
+    log: &mut Log,
+) -> Result<Items<Row>, AllocError>
+    requires few { length modified.now < 2 ^ 32 }
+    requires ascending { Ascend (map (after_from 0 modified.now) moving.now) }
+    ensures noted { Adds (loss_notes (flat_map (λ t. losses_of (row_of_term modified.now moving.now t)) terms.now)) log.old log.new result }
+    ensures exact { IfOk result (λ rows. rows ≡ filter_map (λ t. answered (row_of_term modified.now moving.now t)) terms.now) }
+{
+    let columns = columns_after(alloc, modified, moving)?;
+    let mut rows = Items::new(alloc);
+    let mut losses = Items::new(alloc);
+    for term in terms {
+        let row = term_row(alloc, term, columns.as_slice(), modified);
+        add_row(&mut rows, &mut losses, row)?;
+    }
+    log.add_losses(alloc, losses.as_slice())?;
+    Ok(rows)
+}
+
+/// The columns of variables after the turns.
+fn columns_after(
+    alloc: Global,
+    modified: &[u32],
+    variables: &[u32],
+) -> Result<Items<Poly>, AllocError>
+    requires { length modified.now < 2 ^ 32 }
+    ensures { IfOk result (λ columns. columns ≡ map column_of (map (after_from 0 modified.now) variables.now)) }
+{
+    let mut columns = Items::new(alloc);
+    for v in variables {
+        columns.push(column(alloc, after(modified, *v))?)?;
+    }
+    Ok(columns)
+}
+
+/// The term after the turns by Newton's forward difference formula.
+fn term_row(
+    alloc: Global,
+    term: &Term,
+    columns: &[Poly],
+    modified: &[u32],
+) -> Result<Row, TermError>
+    requires { length modified.now < 2 ^ 32 }
+    ensures { (moving : List ℕ) → Ascend (map (after_from 0 modified.now) moving) → columns.now ≡ map column_of (map (after_from 0 modified.now) moving) →
+        Gives cause (λ r. r) result (row_of_term modified.now moving term.now) }
+{
+    let first = made(&term.recurrence.first)?;
+    let second = made(&term.recurrence.second)?;
+    let third = made(&term.recurrence.third)?;
+    let last = linear(alloc, term.relation.a.as_slice(), columns)?;
+    row(
+        alloc,
+        &last,
+        &term.recurrence.start,
+        first,
+        second,
+        third,
+        turn_count(modified),
+    )
+}
+
+/// What is made, or the step that cannot be made.
+fn made(part: &Result<Poly, TermError>) -> Result<&Poly, TermError>
+    ensures { Gives cause (λ p. p.now) result part.now }
+{
+    match part {
+        Ok(poly) => Ok(poly),
+        Err(error) => Err(*error),
+    }
+}
+
+/// That there is at least one turn, behind other rows.
+fn with_some_turn(
+    alloc: Global,
+    rows: Items<Row>,
+    modified: &[u32],
+) -> Result<Items<Row>, AllocError>
+    requires { length modified.now < 2 ^ 32 }
+    ensures { IfOk result (λ all. all ≡ rows ++ turn_row (Aux (length modified.now)) ∷ []) }
+{
+    let mut all = rows;
+    let poly = one_less(alloc, turn_count(modified))?;
+    all.push(Row {
+        poly,
+        kind: Kind::AtMost,
+    })?;
+    Ok(all)
+}
+
+/// 1 less a column.
+fn one_less(alloc: Global, col: Col) -> Result<Poly, AllocError>
+    ensures { IfOk result (λ p. p ≡ (turn_row col).poly) }
+{
+    let count = column(alloc, col)?;
+    match difference(alloc, &Poly::constant(alloc, 1), &count) {
+        Ok(poly) => Ok(poly),
+        Err(_memory) => Err(AllocError),
+    }
+}
+
+// ---- bounds
+
+/// Bounds before, after and on changes, behind other rows.
+#[tactic(auto, using(posing::proofs::Following::following), unfolding(crate::specs::Words::bound_rows))]
+fn bound_rows<O: Oracle>(
+    alloc: Global,
+    body: &Formula,
+    voc: &Vocabulary,
+    modified: &[u32],
+    rows: Items<Row>,
+    oracle: &mut O,
+    log: &mut Log,
+) -> Result<Items<Row>, WorkError>
+    requires starred { IsStarred body.now voc.now }
+    requires modified { AreModified body.now modified.now }
+    ensures { Follows O.asking oracle.old oracle.new log.old log.new result (bound_rows body.now voc.now rows) }
+{
+    let mut directions = directions(alloc, voc)?;
+    let cases = body.cases();
+    let posts = posts_after(alloc, true, modified, body.to())?;
+    let moves = changes_after(alloc, true, modified, body.to())?;
+    let before = bounds_before(alloc, rows, cases, directions.as_slice(), oracle, log)?;
+    let both = bounds_after(
+        alloc,
+        before,
+        cases,
+        posts.as_slice(),
+        directions.as_slice(),
+        oracle,
+        log,
+    )?;
+    add_extra(&mut directions, voc)?;
+    let count = turn_count(modified);
+    bounds_on_changes(
+        alloc,
+        both,
+        cases,
+        body.to(),
+        moves.as_slice(),
+        Some(count),
+        directions.as_slice(),
+        oracle,
+        log,
+    )
+}
+
+/// Adds the further directions.
+fn add_extra(directions: &mut Items<Poly>, voc: &Vocabulary) -> Result<(), AllocError>
+    ensures { OnOk result (directions.new ≡ directions.old ++ voc.now.extra) }
+{
+    for d in voc.extra() {
+        let copy = d.clone()?;
+        directions.push(copy)?;
+    }
+    Ok(())
+}
