@@ -7,6 +7,7 @@ pub mod Along
 pub mod Entries
 -- ---- the evaluation of a plan
 pub mod GoingOn
+pub mod Due
 pub mod SameByNumber
 pub mod Numbered
 -- ---- each operation is ready where it stands

@@ -148,7 +148,7 @@ pub agrees-first : (g : Graph) (keys : List Key) → Agrees g keys [] (replicate
 agrees-first g keys = record { long = length-blank (length keys); same = λ p n is among. absurd among }
 
 module _ (g : Graph) (keys : List Key) (distinct : AreDistinct keys) where
-  found_key : (n : ℕ) (k : Key) → slice_get keys n ≡ Some k → key_at keys n ≡ k
+  pub found_key : (n : ℕ) (k : Key) → slice_get keys n ≡ Some k → key_at keys n ≡ k
   found_key n k e = ap (λ o. unwrap_or o (key.Edge 0)) e
 
   pub same-formula : (made : Made) (entries : Entries) (p : PathExpr) (n : ℕ) → Agrees g keys made entries → IsPathOf keys p n → IsReady g (paths_of made) p → own g made p ≡ formula_by g entries (key_at keys n)
@@ -186,7 +186,7 @@ module _ (g : Graph) (keys : List Key) (distinct : AreDistinct keys) where
       let turn = agrees.same a is.0 is.2 ready.0 in
       ap (λ k. entry_of g entries k f) (found_key n (key.Star is.0) is.1) ∙ (λ i. record { from = (turn i).from; to = (turn i).from; formula = f })
 
-  path-within : (p : PathExpr) (n : ℕ) → IsPathOf keys p n → n < length keys
+  pub path-within : (p : PathExpr) (n : ℕ) → IsPathOf keys p n → n < length keys
   path-within Zero n h = absurd h
   path-within One n h = absurd h
   path-within (Edge e) n h = slice_get_within keys n (key.Edge e) h

@@ -46,17 +46,17 @@ module _ (g : Graph) (source : ℕ) (is : IsEvaluated g source) where
   abbrev AllAlong : Made → Type 0
   AllAlong made = (p : PathExpr) → IsAmong p (paths_of made) → HoldsAlong g p (formula_at made p)
 
-  link-within : (number : ℕ) → number < length g.links → ((link_at g number).from < length g.nodes) × ((link_at g number).to < length g.nodes)
+  pub link-within : (number : ℕ) → number < length g.links → ((link_at g number).from < length g.nodes) × ((link_at g number).to < length g.nodes)
   link-within number lt =
       let found = slice_get-get_or g.links number record { from = 0; to = 0 } lt in
       let same = unwrap_or-slice_get g.links number record { from = 0; to = 0 } in
       subst (λ (l : Link). (l.from < length g.nodes) × (l.to < length g.nodes)) (sym same) (is.graph number record { from = 0; to = 0 } lt)
 
   -- a formula of a second path, between the vocabularies that the first path's ends have
-  moved_start : (p : PathExpr) (m n : ℕ) (f : Transition) → m ≡ n → IsBetweenEnds (vocabulary_at g n) (end_vocabulary g p) f → IsBetweenEnds (vocabulary_at g m) (end_vocabulary g p) f
+  pub moved_start : (p : PathExpr) (m n : ℕ) (f : Transition) → m ≡ n → IsBetweenEnds (vocabulary_at g n) (end_vocabulary g p) f → IsBetweenEnds (vocabulary_at g m) (end_vocabulary g p) f
   moved_start p m n f e h = subst (λ k. IsBetweenEnds (vocabulary_at g k) (end_vocabulary g p) f) (sym e) h
 
-  moved_both : (i j m n : ℕ) (f : Transition) → i ≡ m → j ≡ n → IsBetweenEnds (vocabulary_at g m) (vocabulary_at g n) f → IsBetweenEnds (vocabulary_at g i) (vocabulary_at g j) f
+  pub moved_both : (i j m n : ℕ) (f : Transition) → i ≡ m → j ≡ n → IsBetweenEnds (vocabulary_at g m) (vocabulary_at g n) f → IsBetweenEnds (vocabulary_at g i) (vocabulary_at g j) f
   moved_both i j m n f e d h = subst (λ k. IsBetweenEnds (vocabulary_at g k) (vocabulary_at g j) f) (sym e) (subst (λ k. IsBetweenEnds (vocabulary_at g m) (vocabulary_at g k) f) (sym d) h)
 
   module _ (made : Made) (known : AllKnown made) where
@@ -71,7 +71,7 @@ module _ (g : Graph) (source : ℕ) (is : IsEvaluated g source) where
         let start = is.ends (link_at g number).from ends.0 in
         let end = is.ends (link_at g number).to ends.1 in
         always_weaker (IsBetweenEnds (start_vocabulary g (Edge number)) (end_vocabulary g (Edge number))) (IsKnown g (Edge number)) (settled_and_fitted (leaf_at g number) (start_vocabulary g (Edge number)) (end_vocabulary g (Edge number)))
-        (λ f h. record { starts = start; ends = end; formula = h })
+        (λ f h. record { starts = start; ends = end; start_within = ends.0; end_within = ends.1; formula = h })
         (settled_and_fitted-between (start_vocabulary g (Edge number)) (end_vocabulary g (Edge number)) start end (leaf_at g number) (is.leaves number ready).between)
     own-known (Seq a b) ready =
         let first = known a ready.0 in
@@ -79,7 +79,7 @@ module _ (g : Graph) (source : ℕ) (is : IsEvaluated g source) where
         let fa = formula_at made a in
         let fb = formula_at made b in
         always_weaker (IsBetweenEnds (start_vocabulary g a) (end_vocabulary g b)) (IsKnown g (Seq a b)) (settled_and_fitted (sequence_of fa fb) (start_vocabulary g a) (end_vocabulary g b))
-        (λ f h. record { starts = first.starts; ends = second.ends; formula = h })
+        (λ f h. record { starts = first.starts; ends = second.ends; start_within = first.start_within; end_within = second.end_within; formula = h })
         (settled_and_fitted-between (start_vocabulary g a) (end_vocabulary g b) first.starts second.ends (sequence_of fa fb)
         (sequence-from (start_vocabulary g a) (end_vocabulary g a) (end_vocabulary g b) second.ends fa fb first.formula (moved_start b (end_of g a) (start_of g b) fb ready.2 second.formula)))
     own-known (Join a b) ready =
@@ -88,7 +88,7 @@ module _ (g : Graph) (source : ℕ) (is : IsEvaluated g source) where
         let fa = formula_at made a in
         let fb = formula_at made b in
         always_weaker (IsBetweenEnds (start_vocabulary g a) (end_vocabulary g a)) (IsKnown g (Join a b)) (fitted (joined fa fb) (start_vocabulary g a) (end_vocabulary g a))
-        (λ f h. record { starts = first.starts; ends = first.ends; formula = h })
+        (λ f h. record { starts = first.starts; ends = first.ends; start_within = first.start_within; end_within = first.end_within; formula = h })
         (fitted-between (start_vocabulary g a) (end_vocabulary g a) first.starts first.ends (joined fa fb)
         (joined-from (start_vocabulary g a) (end_vocabulary g a) fa fb first.formula
         (moved_both (start_of g a) (end_of g a) (start_of g b) (end_of g b) fb ready.2 ready.3 second.formula)))
@@ -96,7 +96,7 @@ module _ (g : Graph) (source : ℕ) (is : IsEvaluated g source) where
         let turn = known a ready.0 in
         let fa = formula_at made a in
         always_weaker (IsBetweenEnds (start_vocabulary g a) (start_vocabulary g a)) (IsKnown g (Star a)) (star_of fa (start_vocabulary g a))
-        (λ f h. record { starts = turn.starts; ends = turn.starts; formula = h })
+        (λ f h. record { starts = turn.starts; ends = turn.starts; start_within = turn.start_within; end_within = turn.start_within; formula = h })
         (star-between (start_vocabulary g a) turn.starts fa (moved_both (start_of g a) (start_of g a) (start_of g a) (end_of g a) fa refl ready.1 turn.formula))
 
     -- ---- and it holds of each run along a word of the path

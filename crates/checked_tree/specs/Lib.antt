@@ -20,4 +20,5 @@ pub mod Plan
 pub mod ByNumber
 -- ---- words of proofs
 pub mod UnderWay
+pub mod Due
 pub mod Ready

@@ -1,5 +1,5 @@
 -- The evaluation of a plan that is under way.
-use Rattle.std.specs.Prelude.{◌≡◌, ℕ, List, ◌∷◌, length, replicate}
+use Rattle.std.specs.Prelude.{◌≡◌, ◌<◌, ℕ, List, ◌∷◌, length, replicate}
 use Rattle.path_expr.specs.PathExpr.{PathExpr}
 use Rattle.transition_formula.specs.Transition.{Transition}
 use Rattle.posing.specs.Posing.{Always}
@@ -13,10 +13,12 @@ use Rattle.checked_tree.specs.Ready.{IsAmong, AreReady}
 use Rattle.checked_tree.specs.Plan.{IsPathOf, ArePathsOf, AreDistinct, IsPlanned}
 use Rattle.checked_tree.specs.ByNumber.{Entries, blank, entry_at, with_number}
 
--- a path whose ends have vocabularies, and its formula between them
+-- a path between nodes whose vocabularies are of few columns, and its formula between them
 pub record IsKnown (g : Graph) (p : PathExpr) (f : Transition) : Type 0 where
   pub starts : IsEnd (start_vocabulary g p)
   pub ends : IsEnd (end_vocabulary g p)
+  pub start_within : start_of g p < length g.nodes
+  pub end_within : end_of g p < length g.nodes
   pub formula : IsBetweenEnds (start_vocabulary g p) (end_vocabulary g p) f
 
 abbrev pub entry_for : Graph → Made → PathExpr → Entry
