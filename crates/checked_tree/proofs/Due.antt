@@ -8,7 +8,6 @@ use Rattle.checked_tree.specs.declared.key.Key.{Key}
 use Rattle.checked_tree.specs.declared.key.Key.TheVariants as key
 use Rattle.checked_tree.specs.Graph.{Graph, start_of, end_of, link_at, end_vocabulary}
 use Rattle.checked_tree.specs.Evaluation.{formula_at, paths_of}
-use Rattle.checked_tree.specs.Law.{IsEvaluated}
 use Rattle.checked_tree.specs.Plan.{IsPathOf, ArePathsOf, IsPlanned}
 use Rattle.checked_tree.specs.ByNumber.{entry_at, key_at}
 use Rattle.checked_tree.specs.Ready.{IsReady, AreReady}

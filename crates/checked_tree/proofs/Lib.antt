@@ -1,5 +1,6 @@
 -- ---- the laws of an evaluation
 pub mod Whole
+pub mod Cells
 -- formulas between vocabularies, and runs along words
 pub mod Between
 pub mod Along

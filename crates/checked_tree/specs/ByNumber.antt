@@ -36,10 +36,14 @@ ends_by g entries (key.Seq i j) = record { from = (entry_at entries i).from; to 
 ends_by g entries (key.Join i j) = record { from = (entry_at entries i).from; to = (entry_at entries i).to }
 ends_by g entries (key.Star i) = record { from = (entry_at entries i).from; to = (entry_at entries i).from }
 
+-- the formula of a link, between the vocabularies of its ends
+abbrev pub link_formula : Graph → ℕ → Posing Transition
+link_formula g number =
+    leaf_formula (leaf_at g number) (vocabulary_at g (link_at g number).from) (vocabulary_at g (link_at g number).to)
+
 -- its formula, from those of its operands
 abbrev pub formula_by : Graph → Entries → Key → Posing Transition
-formula_by g entries (key.Edge number) =
-    leaf_formula (leaf_at g number) (vocabulary_at g (link_at g number).from) (vocabulary_at g (link_at g number).to)
+formula_by g entries (key.Edge number) = link_formula g number
 formula_by g entries (key.Seq i j) =
     sequence_formula (entry_at entries i).formula (entry_at entries j).formula
     (vocabulary_at g (entry_at entries i).from) (vocabulary_at g (entry_at entries j).to)

@@ -1,19 +1,15 @@
 -- What is asked for an operation of a plan to be made.
-use Rattle.std.specs.Prelude.{◌≡◌, ◌<◌, ℕ, List, [], length}
+use Rattle.std.specs.Prelude.{◌<◌, ℕ, List, length}
 use Rattle.polyhedra.specs.Vocabulary.{Vocabulary}
 use Rattle.checked_tree.specs.declared.entry.Entry.{Entry}
 use Rattle.checked_tree.specs.declared.key.Key.{Key}
 use Rattle.checked_tree.specs.declared.key.Key.TheVariants as key
-use Rattle.checked_tree.specs.Graph.{Graph, link_at, vocabulary_at}
+use Rattle.checked_tree.specs.Graph.{Graph, bare, link_at, vocabulary_at}
 use Rattle.checked_tree.specs.Law.{IsEnd, IsLeaf, IsEvaluated}
 use Rattle.checked_tree.specs.Operands.{AreInSequence, AreEither, IsTurn}
 use Rattle.checked_tree.specs.Plan.{AreDistinct}
 use Rattle.checked_tree.specs.ByNumber.{Entries, entry_at, key_at}
 use Rattle.checked_tree.specs.UnderWay.{IsUnderWay}
-
--- nodes without links
-abbrev pub bare : List Vocabulary → Graph
-bare nodes = record { links = []; leaves = []; nodes = nodes }
 
 -- the link's leaf and nodes are there
 pub record IsDueLink (g : Graph) (number : ℕ) : Type 0 where

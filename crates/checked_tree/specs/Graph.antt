@@ -13,6 +13,16 @@ pub record Graph : Type 0 where
   pub leaves : List Transition
   pub nodes : List Vocabulary
 
+abbrev pub graph_of : List Link → List Transition → List Vocabulary → Graph
+graph_of links leaves nodes = record { links = links; leaves = leaves; nodes = nodes }
+
+-- links and leaves without nodes, and nodes without links
+abbrev pub bare_links : List Link → List Transition → Graph
+bare_links links leaves = graph_of links leaves []
+
+abbrev pub bare : List Vocabulary → Graph
+bare nodes = graph_of [] [] nodes
+
 -- the formula that holds of nothing, from no columns to none
 abbrev pub nothing : Transition
 nothing = record { from = 0; to = 0; cases = [] }

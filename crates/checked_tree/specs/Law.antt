@@ -1,6 +1,6 @@
 -- What an evaluation keeps, whatever the answers are, as long as they are true.
-use Rattle.std.specs.Prelude.{◌≡◌, ◌<◌, ◌≤◌, ℕ, ℤ, List, [], ◌∷◌, length}
-use Rattle.std.specs.List.{AllByRecursion}
+use Rattle.std.specs.Prelude.{◌≡◌, ◌<◌, ◌≤◌, ℕ, ℤ, List, [], ◌∷◌, length, Some}
+use Rattle.std.specs.List.{AllByRecursion, slice_get}
 use Rattle.path_expr.specs.declared.cell.Cell.{Cell}
 use Rattle.path_expr.specs.declared.cell.Cell.TheVariants as known
 use Rattle.path_expr.specs.PathExpr.{PathExpr, InLanguage}
@@ -98,3 +98,9 @@ EvaluationFits =
     (g : Graph) (source : ℕ) → IsEvaluated g source →
     Always (λ made. (node : ℕ) → node < length g.nodes →
     FitsCell (vocabulary_at g source) (vocabulary_at g node) (cell_at g source made node)) (evaluation g source)
+
+-- a cell for each node, and each as it has to be
+pub record AreFittedCells (g : Graph) (source : ℕ) (cells : List (Cell Transition)) : Type 0 where
+  pub one_each : length cells ≡ length g.nodes
+  pub fits : (node : ℕ) (cell : Cell Transition) → slice_get cells node ≡ Some cell →
+      FitsCell (vocabulary_at g source) (vocabulary_at g node) cell

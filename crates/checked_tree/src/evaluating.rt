@@ -1,8 +1,9 @@
-ghost use Rattle.std.specs.Prelude.{◌≡◌, ◌<◌, ◌^◌, length, replicate};
+ghost use Rattle.std.specs.Prelude.{◌≡◌, ◌<◌, ◌^◌, length, replicate, IfOk};
 ghost use Rattle.posing.specs.Follows.{Follows};
 ghost use Rattle.posing.specs.Posing.{each};
+ghost use Rattle.checked_tree.specs.Graph.{graph_of};
 ghost use Rattle.checked_tree.specs.Evaluation.{evaluated};
-ghost use Rattle.checked_tree.specs.Law.{IsEvaluated};
+ghost use Rattle.checked_tree.specs.Law.{IsEvaluated, AreFittedCells};
 ghost use Rattle.checked_tree.specs.ByNumber.{blank, with_number, entries_of, evaluated_by};
 ghost use Rattle.checked_tree.specs.Due.{IsSetOut};
 
@@ -18,8 +19,9 @@ use polyhedra::{Log, Vocabulary, WorkError};
 use std::alloc::Global;
 use transition_formula::Formula;
 
-/// The formulas of the walks from a source: at each node's place its cell. The links lead between nodes, each link has a
-/// formula between its ends' vocabularies, and each node a vocabulary of at most 63 columns.
+/// The formulas of the walks from a source: at each node's place its cell. The links lead between nodes, each link has
+/// a formula between its ends' vocabularies, and each node a vocabulary of at most 63 columns. An item goes from the
+/// source's columns to its node's, by at most 16 cases of at most 64 rows and 64 auxiliaries.
 ///
 /// The operations are those of the stated elimination, in its order, each with its questions; what is lost is noted.
 pub fn evaluate<O: Oracle>(
@@ -31,10 +33,11 @@ pub fn evaluate<O: Oracle>(
     oracle: &mut O,
     log: &mut Log,
 ) -> Result<Items<Cell<Formula>>, WorkError>
-    requires graph { IsEvaluated (record { links = links.now; leaves = leaves.now; nodes = nodes.now }) source }
+    requires graph { IsEvaluated (graph_of links.now leaves.now nodes.now) source }
     requires few_links { length links.now < 2 ^ 32 }
     requires few_nodes { length nodes.now < 2 ^ 32 }
-    ensures { Follows O.asking oracle.old oracle.new log.old log.new result (evaluated (record { links = links.now; leaves = leaves.now; nodes = nodes.now }) source) }
+    ensures follows { Follows O.asking oracle.old oracle.new log.old log.new result (evaluated (graph_of links.now leaves.now nodes.now) source) }
+    ensures fits { IfOk result (AreFittedCells (graph_of links.now leaves.now nodes.now) source) }
 {
     let count = count_of(nodes);
     let (plan, cells) = planned(alloc, count, links, source)?;
@@ -65,8 +68,8 @@ fn evaluated_by<O: Oracle>(
     oracle: &mut O,
     log: &mut Log,
 ) -> Result<Items<Cell<Formula>>, WorkError>
-    requires { IsSetOut (record { links = links.now; leaves = leaves.now; nodes = nodes.now }) keys.now (replicate (length keys.now) blank) order.now }
-    ensures { Follows O.asking oracle.old oracle.new log.old log.new result (evaluated_by (record { links = links.now; leaves = leaves.now; nodes = nodes.now }) keys.now order.now cells.now) }
+    requires { IsSetOut (graph_of links.now leaves.now nodes.now) keys.now (replicate (length keys.now) blank) order.now }
+    ensures { Follows O.asking oracle.old oracle.new log.old log.new result (evaluated_by (graph_of links.now leaves.now nodes.now) keys.now order.now cells.now) }
 {
     let entries = entries_of(alloc, links, leaves, nodes, keys, order, oracle, log)?;
     let made = cells_by(alloc, entries.as_slice(), cells)?;
@@ -85,8 +88,8 @@ fn entries_of<O: Oracle>(
     oracle: &mut O,
     log: &mut Log,
 ) -> Result<Items<Entry>, WorkError>
-    requires { IsSetOut (record { links = links.now; leaves = leaves.now; nodes = nodes.now }) keys.now (replicate (length keys.now) blank) order.now }
-    ensures { Follows O.asking oracle.old oracle.new log.old log.new result (entries_of (record { links = links.now; leaves = leaves.now; nodes = nodes.now }) keys.now order.now) }
+    requires { IsSetOut (graph_of links.now leaves.now nodes.now) keys.now (replicate (length keys.now) blank) order.now }
+    ensures { Follows O.asking oracle.old oracle.new log.old log.new result (entries_of (graph_of links.now leaves.now nodes.now) keys.now order.now) }
 {
     let entries = blanks(alloc, keys.len())?;
     let all = with_numbers(
@@ -107,8 +110,8 @@ fn with_numbers<O: Oracle>(
     oracle: &mut O,
     log: &mut Log,
 ) -> Result<Items<Entry>, WorkError>
-    requires { IsSetOut (record { links = links.now; leaves = leaves.now; nodes = nodes.now }) keys.now entries order.now }
-    ensures { Follows O.asking oracle.old oracle.new log.old log.new result (each (with_number (record { links = links.now; leaves = leaves.now; nodes = nodes.now }) keys.now) entries order.now) }
+    requires { IsSetOut (graph_of links.now leaves.now nodes.now) keys.now entries order.now }
+    ensures { Follows O.asking oracle.old oracle.new log.old log.new result (each (with_number (graph_of links.now leaves.now nodes.now) keys.now) entries order.now) }
 {
     let mut made = entries;
     for number in order {

@@ -1,10 +1,10 @@
 ghost use Rattle.std.specs.Prelude.{◌≡◌, ◌<◌, [], length};
 ghost use Rattle.posing.specs.Follows.{Follows};
 ghost use Rattle.recurrence.specs.Star.{star_of};
-ghost use Rattle.checked_tree.specs.Graph.{link_at, leaf_at, vocabulary_at};
-ghost use Rattle.checked_tree.specs.Evaluation.{leaf_formula, sequence_formula, join_formula};
-ghost use Rattle.checked_tree.specs.ByNumber.{ends_by, formula_by, key_at, with_number};
-ghost use Rattle.checked_tree.specs.Due.{bare, AreDueInSequence, AreDueEither, IsDueLink, IsDueTurn, IsDue, IsNext};
+ghost use Rattle.checked_tree.specs.Graph.{graph_of, bare, bare_links, link_at, leaf_at, vocabulary_at};
+ghost use Rattle.checked_tree.specs.Evaluation.{sequence_formula, join_formula};
+ghost use Rattle.checked_tree.specs.ByNumber.{link_formula, ends_by, formula_by, key_at, with_number};
+ghost use Rattle.checked_tree.specs.Due.{AreDueInSequence, AreDueEither, IsDueLink, IsDueTurn, IsDue, IsNext};
 
 use crate::entry::Entry;
 use crate::key::Key;
@@ -19,7 +19,7 @@ use std::alloc::Global;
 use transition_formula::Formula;
 
 fn link_at(links: &[Link], number: u32) -> Link
-    ensures { result ≡ link_at (record { links = links.now; leaves = []; nodes = [] }) number }
+    ensures { result ≡ link_at (bare_links links.now []) number }
 {
     match links.get(number as usize) {
         Some(link) => *link,
@@ -29,7 +29,7 @@ fn link_at(links: &[Link], number: u32) -> Link
 
 fn leaf_at(leaves: &[Formula], number: u32) -> &Formula
     requires { number < length leaves.now }
-    ensures { result.now ≡ leaf_at (record { links = []; leaves = leaves.now; nodes = [] }) number }
+    ensures { result.now ≡ leaf_at (bare_links [] leaves.now) number }
 {
     &leaves[number as usize]
 }
@@ -52,7 +52,7 @@ fn key_at(keys: &[Key], number: usize) -> Key
 
 /// The nodes that the path of a key leads from and to.
 fn ends_by(links: &[Link], entries: &[Entry], key: Key) -> Link
-    ensures { result ≡ ends_by (record { links = links.now; leaves = []; nodes = [] }) entries.now key }
+    ensures { result ≡ ends_by (bare_links links.now []) entries.now key }
 {
     match key {
         Key::Edge(number) => link_at(links, number),
@@ -78,8 +78,8 @@ fn of_link<O: Oracle>(
     oracle: &mut O,
     log: &mut Log,
 ) -> Result<Formula, WorkError>
-    requires { IsDueLink (record { links = links.now; leaves = leaves.now; nodes = nodes.now }) number }
-    ensures { Follows O.asking oracle.old oracle.new log.old log.new result (leaf_formula (leaf_at (record { links = []; leaves = leaves.now; nodes = [] }) number) (vocabulary_at (bare nodes.now) (link_at (record { links = links.now; leaves = []; nodes = [] }) number).from) (vocabulary_at (bare nodes.now) (link_at (record { links = links.now; leaves = []; nodes = [] }) number).to)) }
+    requires { IsDueLink (graph_of links.now leaves.now nodes.now) number }
+    ensures { Follows O.asking oracle.old oracle.new log.old log.new result (link_formula (graph_of links.now leaves.now nodes.now) number) }
 {
     let link = link_at(links, number);
     let given = leaf_at(leaves, number);
@@ -164,8 +164,8 @@ fn formula_by<O: Oracle>(
     oracle: &mut O,
     log: &mut Log,
 ) -> Result<Formula, WorkError>
-    requires { IsDue (record { links = links.now; leaves = leaves.now; nodes = nodes.now }) entries.now key }
-    ensures { Follows O.asking oracle.old oracle.new log.old log.new result (formula_by (record { links = links.now; leaves = leaves.now; nodes = nodes.now }) entries.now key) }
+    requires { IsDue (graph_of links.now leaves.now nodes.now) entries.now key }
+    ensures { Follows O.asking oracle.old oracle.new log.old log.new result (formula_by (graph_of links.now leaves.now nodes.now) entries.now key) }
 {
     match key {
         Key::Edge(number) => of_link(alloc, links, leaves, nodes, number, oracle, log),
@@ -199,8 +199,8 @@ pub(crate) fn with_number<O: Oracle>(
     oracle: &mut O,
     log: &mut Log,
 ) -> Result<Items<Entry>, WorkError>
-    requires { IsNext (record { links = links.now; leaves = leaves.now; nodes = nodes.now }) keys.now entries number }
-    ensures { Follows O.asking oracle.old oracle.new log.old log.new result (with_number (record { links = links.now; leaves = leaves.now; nodes = nodes.now }) keys.now entries number) }
+    requires { IsNext (graph_of links.now leaves.now nodes.now) keys.now entries number }
+    ensures { Follows O.asking oracle.old oracle.new log.old log.new result (with_number (graph_of links.now leaves.now nodes.now) keys.now entries number) }
 {
     let key = key_at(keys, number);
     let made = entries.as_slice();

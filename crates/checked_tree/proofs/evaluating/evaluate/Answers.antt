@@ -1,9 +1,12 @@
-use Rattle.std.proofs.Common.{◌≡◌, ◌<◌, length, refl, sym, subst}
+use Rattle.std.proofs.Common.{◌<◌, refl, sym, subst}
 use Rattle.std.specs.List.{IsDistinct}
 use Rattle.path_expr.specs.Walks.{IsGraph}
 use Rattle.posing.proofs.Following.{stops}
 use Rattle.posing.proofs.Steps.{in_other_words}
+use Rattle.polyhedra.proofs.Results.{result_has}
 use Rattle.checked_tree.specs.Graph.{Graph}
+use Rattle.checked_tree.specs.Law.{AreFittedCells}
+use Rattle.checked_tree.proofs.Cells.{cells-fit}
 use Rattle.checked_tree.proofs.Due.{planned-same}
 use Rattle.checked_tree.proofs.GoingOn.{plans-begin}
 use Rattle.checked_tree.proofs.Numbered.{key_eq}
@@ -16,8 +19,8 @@ planned-requires-clause-graph g c = subst (λ n. IsGraph n c.args.links.now) (sy
 pub planned-requires-clause-source : goal.planned-requires-clause-source
 planned-requires-clause-source g c = subst (λ n. c.args.source < n) (sym c.count_of-count.ensures) c.requires.graph.source_is
 
-pub returns-in_err-plan : goal.returns-in_err-plan
-returns-in_err-plan g c = stops _ _ _ _ _ _ refl c.from_residual.ensures.1
+pub returns-in_err-plan-clause-follows : goal.returns-in_err-plan-clause-follows
+returns-in_err-plan-clause-follows g c = stops _ _ _ _ _ _ refl c.from_residual.ensures.1
 
 pub evaluated_by-requires : goal.evaluated_by-requires
 evaluated_by-requires g c =
@@ -30,11 +33,16 @@ evaluated_by-requires g c =
           (planned-same _ _ c.args.links.now c.args.source _ _ _ _ _ _ c.count_of-count.ensures c.as_slice-keys.ensures.keys c.as_slice-order.ensures c.deref.ensures.value c.in_ok-plan.ensures);
     }
 
-pub returns : goal.returns
-returns g c =
+pub returns-clause-follows : goal.returns-clause-follows
+returns-clause-follows g c =
     let graph : Graph = record { links = c.args.links.now; leaves = c.args.leaves.now; nodes = c.args.nodes.now } in
     in_other_words
     (sym (plans-evaluate graph c.args.source c.as_slice-keys.result.now c.as_slice-order.result.now c.deref.result.now c.requires.graph
     (distinct_places c.as_slice-keys.result.now (subst (IsDistinct key_eq) (sym c.as_slice-keys.ensures.keys) c.as_slice-keys.ensures.unique))
     (planned-same _ _ c.args.links.now c.args.source _ _ _ _ _ _ c.count_of-count.ensures c.as_slice-keys.ensures.keys c.as_slice-order.ensures c.deref.ensures.value c.in_ok-plan.ensures)))
     c.evaluated_by.ensures
+
+pub returns-clause-fits : goal.returns-clause-fits
+returns-clause-fits g c =
+    let graph : Graph = record { links = c.args.links.now; leaves = c.args.leaves.now; nodes = c.args.nodes.now } in
+    result_has (AreFittedCells graph c.args.source) c.evaluated_by.result (returns-clause-follows g c) (cells-fit graph c.args.source c.requires.graph)

@@ -1,4 +1,4 @@
-use Rattle.std.proofs.Common.{◌≡◌, ℕ, zero, suc, ◌<◌, ◌+◌, List, [], ◌∷◌, length, get_or, drop, refl, sym, subst, arith}
+use Rattle.std.proofs.Common.{◌≡◌, ℕ, zero, suc, ◌<◌, ◌+◌, List, [], ◌∷◌, length, get_or, drop, refl, subst, arith}
 use Rattle.std.proofs.lemmas.List.{drop_more}
 use Rattle.posing.proofs.Following.{leads_none}
 use Rattle.posing.proofs.Steps.{each_next, each_fails, value_has}

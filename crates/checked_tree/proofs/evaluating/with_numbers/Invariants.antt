@@ -1,7 +1,6 @@
 use Rattle.std.proofs.Common.{drop}
 use Rattle.posing.specs.Follows.{Leads}
 use Rattle.posing.specs.Posing.{each}
-use Rattle.checked_tree.specs.Graph.{Graph}
 use Rattle.checked_tree.specs.ByNumber.{with_number}
 use Rattle.checked_tree.specs.UnderWay.{IsUnderWay}
 use Rattle.checked_tree.proofs.evaluating.with_numbers.Given as goal

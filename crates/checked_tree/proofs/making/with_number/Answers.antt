@@ -1,18 +1,14 @@
-use Rattle.std.proofs.Common.{◌≡◌, ◌∙◌, List, [], refl, sym, ap}
+use Rattle.std.proofs.Common.{◌≡◌, ◌∙◌, [], refl}
 use Rattle.std.specs.Prelude.{slice_set}
-use Rattle.path_expr.specs.declared.link.Link.{Link}
-use Rattle.transition_formula.specs.Transition.{Transition}
-use Rattle.polyhedra.specs.Vocabulary.{Vocabulary}
 use Rattle.posing.proofs.Steps.{value_first, at_end}
-use Rattle.checked_tree.specs.declared.entry.Entry.{Entry}
 use Rattle.checked_tree.specs.declared.key.Key.{Key}
 use Rattle.checked_tree.specs.declared.key.Key.TheVariants as key
-use Rattle.checked_tree.specs.Graph.{Graph}
+use Rattle.checked_tree.specs.Graph.{Graph, bare_links}
 use Rattle.checked_tree.specs.ByNumber.{Entries, ends_by, formula_by, with_number}
 use Rattle.checked_tree.proofs.making.with_number.Goals as goal
 
 -- the nodes of a key's path are those of the links alone
-ends-by-links : (g : Graph) (entries : Entries) (k : Key) → ends_by (record { links = g.links; leaves = []; nodes = [] }) entries k ≡ ends_by g entries k
+ends-by-links : (g : Graph) (entries : Entries) (k : Key) → ends_by (bare_links g.links []) entries k ≡ ends_by g entries k
 ends-by-links g entries (key.Edge number) = refl
 ends-by-links g entries (key.Seq i j) = refl
 ends-by-links g entries (key.Join i j) = refl
