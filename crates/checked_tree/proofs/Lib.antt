@@ -9,6 +9,7 @@ pub mod Entries
 -- ---- the evaluation of a plan
 pub mod GoingOn
 pub mod Due
+pub mod Holding
 pub mod SameByNumber
 pub mod Numbered
 -- ---- each operation is ready where it stands

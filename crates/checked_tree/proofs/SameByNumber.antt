@@ -21,6 +21,7 @@ use Rattle.checked_tree.specs.declared.key.Key.{Key}
 use Rattle.checked_tree.specs.declared.key.Key.TheVariants as key
 use Rattle.checked_tree.specs.Graph.{Graph, start_of, end_of, vocabulary_at}
 use Rattle.checked_tree.specs.Evaluation.{Made, formula_at, sequence_formula, join_formula, own, with_entry, with_made, evaluation, cell_of, cell_at, cells_of, evaluated, paths_of}
+use Rattle.checked_tree.specs.Law.{IsEvaluated}
 use Rattle.checked_tree.specs.Ready.{IsAmong, IsReady, AreReady}
 use Rattle.checked_tree.specs.Plan.{IsPathOf, ArePathsOf, AreDistinct, IsCellOf, IsPlanned}
 use Rattle.checked_tree.specs.ByNumber.{Entries, blank, entry_at, key_at, formula_by, entry_of, with_number, entries_of, cell_by, evaluated_by, PlansEvaluate}
@@ -268,7 +269,7 @@ cells-same A f (cell ∷ cells) tell from same =
 
 module _ (g : Graph) (source : ℕ) (keys : List Key) (distinct : AreDistinct keys) (order : List ℕ) (cells : List (Cell ℕ)) (planned : IsPlanned (length g.nodes) g.links source keys order cells)
     (ready : AreReady g [] (operations (length g.nodes) g.links source)) (items : (node : ℕ) → node < length g.nodes → CellIsMade g source node) where
-  same-cell : (made : Made) (entries : Entries) → Agrees g keys made entries → paths_of made ≡ operations (length g.nodes) g.links source → (node : ℕ) (cell : Cell ℕ) →
+  pub same-cell : (made : Made) (entries : Entries) → Agrees g keys made entries → paths_of made ≡ operations (length g.nodes) g.links source → (node : ℕ) (cell : Cell ℕ) →
       slice_get cells node ≡ Some cell → cell_at g source made node ≡ cell_by entries cell
   same-cell made entries agrees all node cell is = by_cell cell (planned.cells_are node cell is)
     where
@@ -298,11 +299,14 @@ module _ (g : Graph) (source : ℕ) (keys : List Key) (distinct : AreDistinct ke
       (ap (λ n. map (cell_at g source last) (range_with_len 0 n)) (sym planned.one_each)
       ∙ cells-same (Cell Transition) (cell_at g source last) cells (cell_by all) 0 (λ node cell e. ap (cell_at g source last) (zero-add node) ∙ same-cell last all agrees is node cell e)))
 
+pub cells-made : (g : Graph) (source : ℕ) → IsEvaluated g source → (node : ℕ) → node < length g.nodes → CellIsMade g source node
+cells-made g source is node lt = by_path (path_at (length g.nodes) g.links source node) (path_at-stands g source is.graph is.source_is node lt)
+  where
+    by_path : (p : PathExpr) → Stands g (operations (length g.nodes) g.links source) p source node → IsMade g source p
+    by_path Zero h = tt
+    by_path One h = tt
+    by_path p h = h.0
+
 pub plans-evaluate : PlansEvaluate
 plans-evaluate g source keys order cells is distinct planned =
-    same-evaluation g source keys distinct order cells planned (operations-ready g source is.graph is.source_is) (λ node lt. made (path_at (length g.nodes) g.links source node) node (path_at-stands g source is.graph is.source_is node lt))
-  where
-    made : (p : PathExpr) (node : ℕ) → Stands g (operations (length g.nodes) g.links source) p source node → IsMade g source p
-    made Zero node h = tt
-    made One node h = tt
-    made p node h = h.0
+    same-evaluation g source keys distinct order cells planned (operations-ready g source is.graph is.source_is) (cells-made g source is)

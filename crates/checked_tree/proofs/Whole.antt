@@ -43,7 +43,7 @@ module _ (g : Graph) (source : ℕ) (is : IsEvaluated g source) where
   abbrev pub AllKnown : Made → Type 0
   AllKnown made = (p : PathExpr) → IsAmong p (paths_of made) → IsKnown g p (formula_at made p)
 
-  abbrev AllAlong : Made → Type 0
+  abbrev pub AllAlong : Made → Type 0
   AllAlong made = (p : PathExpr) → IsAmong p (paths_of made) → HoldsAlong g p (formula_at made p)
 
   pub link-within : (number : ℕ) → number < length g.links → ((link_at g number).from < length g.nodes) × ((link_at g number).to < length g.nodes)
@@ -113,7 +113,7 @@ module _ (g : Graph) (source : ℕ) (is : IsEvaluated g source) where
           subst (λ (f : Transition). HaveCanonicalRows f.cases) (sym (unwrap_or-slice_get g.leaves number nothing))
           (each-get (λ (f : Transition). HaveCanonicalRows f.cases) g.leaves number _ canonical (slice_get-get_or g.leaves number nothing within))
 
-      own-along : (path : PathExpr) → IsReady g (paths_of made) path → Always (HoldsAlong g path) (own g made path)
+      pub own-along : (path : PathExpr) → IsReady g (paths_of made) path → Always (HoldsAlong g path) (own g made path)
       unfolding leaf_formula sequence_formula join_formula
       own-along Zero ready = absurd ready
       own-along One ready = absurd ready
@@ -155,11 +155,11 @@ module _ (g : Graph) (source : ℕ) (is : IsEvaluated g source) where
   -- ---- all operations
 
   -- what is left is ready, and what is made is known and holds
-  record Keeps (rest : List PathExpr) (made : Made) : Type 0 where
-    ready : AreReady g (paths_of made) rest
-    parts : paths_of made ++ rest ≡ operations (length g.nodes) g.links source
-    known : AllKnown made
-    along : HaveCanonicalLeaves g → AreCanonicalMade made → AllAlong made
+  pub record Keeps (rest : List PathExpr) (made : Made) : Type 0 where
+    pub ready : AreReady g (paths_of made) rest
+    pub parts : paths_of made ++ rest ≡ operations (length g.nodes) g.links source
+    pub known : AllKnown made
+    pub along : HaveCanonicalLeaves g → AreCanonicalMade made → AllAlong made
 
   with_made-keeps : (path : PathExpr) (rest : List PathExpr) (made : Made) → Keeps (path ∷ rest) made → Always (Keeps rest) (with_made g made path)
   unfolding with_made
@@ -206,7 +206,7 @@ module _ (g : Graph) (source : ℕ) (is : IsEvaluated g source) where
     path-holds along p stand word h before after long run =
         along p stand.0 word before after h (long ∙ sym (ap (λ n. (vocabulary_at g n).columns) stand.1)) run
 
-    cell-holds : AllAlong made → (word : List ℕ) → IsWalk g.links source node word → (before after : List ℤ) → length before ≡ (vocabulary_at g source).columns →
+    pub cell-holds : AllAlong made → (word : List ℕ) → IsWalk g.links source node word → (before after : List ℤ) → length before ≡ (vocabulary_at g source).columns →
         IsRun g word before after → HoldsCell (cell_at g source made node) before after
     cell-holds along word walk before after long run =
         path-holds along node_path stands word ((language_is_walks (length g.nodes) g.links source node is.graph is.source_is below word).1 walk) before after long run

@@ -104,3 +104,10 @@ pub record AreFittedCells (g : Graph) (source : ℕ) (cells : List (Cell Transit
   pub one_each : length cells ≡ length g.nodes
   pub fits : (node : ℕ) (cell : Cell Transition) → slice_get cells node ≡ Some cell →
       FitsCell (vocabulary_at g source) (vocabulary_at g node) cell
+
+-- the cell of each node holds of each run along a walk from the source to it
+abbrev pub CellsHold : Graph → ℕ → List (Cell Transition) → Type 0
+CellsHold g source cells =
+    (node : ℕ) (cell : Cell Transition) → slice_get cells node ≡ Some cell → (word : List ℕ) →
+    IsWalk g.links source node word → (before after : List ℤ) → length before ≡ (vocabulary_at g source).columns →
+    IsRun g word before after → HoldsCell cell before after

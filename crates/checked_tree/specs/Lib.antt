@@ -21,4 +21,5 @@ pub mod ByNumber
 -- ---- words of proofs
 pub mod UnderWay
 pub mod Due
+pub mod Holding
 pub mod Ready

@@ -1,15 +1,16 @@
-ghost use Rattle.std.specs.Prelude.{◌≡◌, ◌<◌, [], length};
+ghost use Rattle.std.specs.Prelude.{◌≡◌, ◌<◌, [], length, IfOk};
 ghost use Rattle.posing.specs.Follows.{Follows};
+ghost use Rattle.polyhedra.specs.Laws.{HaveCanonicalRows};
 ghost use Rattle.recurrence.specs.Star.{star_of};
 ghost use Rattle.checked_tree.specs.Graph.{graph_of, bare, bare_links, link_at, leaf_at, vocabulary_at};
 ghost use Rattle.checked_tree.specs.Evaluation.{sequence_formula, join_formula};
-ghost use Rattle.checked_tree.specs.ByNumber.{link_formula, ends_by, formula_by, key_at, with_number};
+ghost use Rattle.checked_tree.specs.ByNumber.{link_formula, ends_by, entry_at, formula_by, key_at, with_number};
 ghost use Rattle.checked_tree.specs.Due.{AreDueInSequence, AreDueEither, IsDueLink, IsDueTurn, IsDue, IsNext};
 
 use crate::entry::Entry;
 use crate::key::Key;
 use crate::operations::{either, leaf, sequence};
-use crate::table::{ends_at, entry_at, with_entry};
+use crate::table::{ends_at, entry_at, see_cases, with_entry};
 use farkas_check::Oracle;
 use items::Items;
 use path_expr::Link;
@@ -200,12 +201,14 @@ pub(crate) fn with_number<O: Oracle>(
     log: &mut Log,
 ) -> Result<Items<Entry>, WorkError>
     requires { IsNext (graph_of links.now leaves.now nodes.now) keys.now entries number }
-    ensures { Follows O.asking oracle.old oracle.new log.old log.new result (with_number (graph_of links.now leaves.now nodes.now) keys.now entries number) }
+    ensures follows { Follows O.asking oracle.old oracle.new log.old log.new result (with_number (graph_of links.now leaves.now nodes.now) keys.now entries number) }
+    ensures canonical { IfOk result (λ next. HaveCanonicalRows (entry_at next number).formula.cases) }
 {
     let key = key_at(keys, number);
     let made = entries.as_slice();
     let ends = ends_by(links, made, key);
     let formula = formula_by(alloc, links, leaves, nodes, made, key, oracle, log)?;
+    see_cases(formula.cases());
     let entry = Entry {
         from: ends.from,
         to: ends.to,

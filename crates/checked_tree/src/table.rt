@@ -1,12 +1,33 @@
-ghost use Rattle.std.specs.Prelude.{◌≡◌, ◌<◌, length, map, replicate, slice_set, IfOk};
-ghost use Rattle.checked_tree.specs.Graph.{nothing};
+ghost use Rattle.std.specs.Prelude.{◌≡◌, ◌<◌, [], length, map, replicate, slice_set, IfOk};
+ghost use Rattle.polyhedra.specs.Laws.{HaveCanonicalRows};
+ghost use Rattle.checked_tree.specs.Graph.{bare_links, nothing};
+ghost use Rattle.checked_tree.specs.Law.{HaveCanonicalLeaves};
 ghost use Rattle.checked_tree.specs.ByNumber.{blank, entry_at, cell_by};
 
 use crate::entry::Entry;
 use items::Items;
+use linear_terms::{Case, see_rows};
 use path_expr::{Cell, Link};
 use std::alloc::{AllocError, Global};
 use transition_formula::Formula;
+
+/// Each case's rows have their monomials in print order, each once. It goes over the cases and has no part in an answer.
+pub(crate) fn see_cases(cases: &[Case])
+    ensures { HaveCanonicalRows cases.now }
+{
+    for case in cases {
+        see_rows(case.rows.as_slice());
+    }
+}
+
+/// So have those of each leaf.
+pub(crate) fn see_leaves(leaves: &[Formula])
+    ensures { HaveCanonicalLeaves (bare_links [] leaves.now) }
+{
+    for leaf in leaves {
+        see_cases(leaf.cases());
+    }
+}
 
 /// The formula that holds of nothing.
 fn nothing(alloc: Global) -> Formula
