@@ -1,11 +1,11 @@
 -- The laws of an evaluation, on the cells that it comes to.
-use Rattle.std.proofs.Common.{◌≡◌, ℕ, ◌<◌, List, length, map, Some, sym, ◌∙◌, subst}
-use Rattle.std.specs.List.{slice_get, range_with_len}
+use Rattle.std.proofs.Common.{◌≡◌, ℕ, ◌<◌, length, Some, sym, ◌∙◌, subst}
+use Rattle.std.specs.List.{slice_get}
 use Rattle.std.proofs.lemmas.List.FromFn.{length-map-range_with_len}
 use Rattle.std.proofs.lemmas.Option.{slice_get_within}
 use Rattle.path_expr.specs.declared.cell.Cell.{Cell}
 use Rattle.transition_formula.specs.Transition.{Transition}
-use Rattle.posing.specs.Posing.{Done, ◌>>=◌, Always}
+use Rattle.posing.specs.Posing.{Done, Always}
 use Rattle.posing.proofs.Paths.{always_bind}
 use Rattle.polyhedra.proofs.Tabled.{first_got}
 use Rattle.checked_tree.specs.Graph.{Graph, vocabulary_at}

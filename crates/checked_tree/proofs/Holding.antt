@@ -1,5 +1,5 @@
 -- Each step of the evaluation of a plan leaves entries that hold, and so the cells hold.
-use Rattle.std.proofs.Common.{◌≡◌, ◌<◌, ℕ, ℤ, zero, suc, List, [], ◌∷◌, ◌++◌, length, map, replicate, Some, refl, sym, ◌∙◌, ap, subst}
+use Rattle.std.proofs.Common.{◌≡◌, ◌<◌, ℕ, zero, suc, List, [], ◌∷◌, ◌++◌, length, map, replicate, Some, refl, sym, ◌∙◌, ap, subst}
 use Rattle.std.specs.Prelude.{slice_set}
 use Rattle.std.specs.List.{slice_get}
 use Rattle.std.proofs.lemmas.List.{append-nil}
@@ -16,7 +16,7 @@ use Rattle.recurrence.proofs.Starred.{always_both}
 use Rattle.checked_tree.specs.declared.entry.Entry.{Entry}
 use Rattle.checked_tree.specs.declared.key.Key.{Key}
 use Rattle.checked_tree.specs.Graph.{Graph}
-use Rattle.checked_tree.specs.Evaluation.{Made, own, with_entry, cell_at, paths_of}
+use Rattle.checked_tree.specs.Evaluation.{own, with_entry, cell_at, paths_of}
 use Rattle.checked_tree.specs.Law.{IsEvaluated, HoldsAlong, HoldsCell, HaveCanonicalLeaves, CellsHold}
 use Rattle.checked_tree.specs.Plan.{ArePathsOf, AreDistinct, IsPlanned}
 use Rattle.checked_tree.specs.ByNumber.{Entries, blank, entry_at, key_at, formula_by, entry_of, with_number, cell_by}

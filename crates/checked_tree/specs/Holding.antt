@@ -1,6 +1,5 @@
 -- The evaluation of a plan that is under way, whose formulas hold of runs.
-use Rattle.std.specs.Prelude.{◌≡◌, ℕ, ℤ, List, ◌++◌, length, Some}
-use Rattle.std.specs.List.{slice_get}
+use Rattle.std.specs.Prelude.{◌≡◌, ℕ, List, ◌++◌, length}
 use Rattle.path_expr.specs.declared.cell.Cell.{Cell}
 use Rattle.path_expr.specs.Operations.{operations}
 use Rattle.path_expr.specs.PathExpr.{PathExpr}
