@@ -1,5 +1,5 @@
 -- A text is accepted as one program at most, and one that is accepted is not refused: so all texts of the first form are analysed.
-use Rattle.std.proofs.Common.{◌≡◌, ℕ, ◌+◌, ◌≤◌, ◌⊎◌, true, false, List, length, Option, Some, inl, inr, sym, ap, subst, ◌∙◌, arith}
+use Rattle.std.proofs.Common.{◌≡◌, ℕ, ◌+◌, ◌≤◌, ◌⊎◌, true, false, List, length, Option, Some, Ok, inl, inr, sym, ap, subst, ◌∙◌, arith}
 use Rattle.std.proofs.lemmas.List.{take_all}
 use Rattle.std.specs.Prelude.{if◌then◌else◌, Bool}
 use Rattle.c_lexer.proofs.OneOutcome.{tokens_are_not_refused, tokens_are_one}
@@ -9,17 +9,20 @@ use Rattle.c_parser.specs.Reads.{Reads, ReadsWithinLimits}
 use Rattle.c_parser.specs.SourceItem.{SourceItem, source_items_of}
 use Rattle.syntax_tree.specs.declared.program.Program.{Program}
 use Rattle.syntax_tree.specs.declared.tree.Tree.{Tree}
+use Rattle.replay.specs.TraceText.{is_failed}
+use Rattle.wire.specs.declared.input.Input.{Input}
+use Rattle.wire.specs.Inputs.{input_of}
 use Rattle.typing.specs.Faults.{elaboration_of}
 use Rattle.cra.specs.declared.refusal.Refusal.{Refusal}
 use Rattle.cra.specs.declared.refusal.Refusal.TheVariants.{Lexing, Parsing, Typing, Memory}
 use Rattle.cra.specs.declared.reply.Reply.{Reply}
 use Rattle.cra.specs.declared.status.Status.{Status}
-use Rattle.cra.specs.declared.status.Status.TheVariants.{AllProved, SomeUnproved}
+use Rattle.cra.specs.declared.status.Status.TheVariants.{AllProved, SomeUnproved, NoneFailed, SomeFailed}
 use Rattle.cra.specs.Accepted.{Accepts, IsRefusedBy, Spells}
 use Rattle.cra.specs.FirstForm.{is_first_form}
 use Rattle.cra.specs.Input.{IsInput}
-use Rattle.cra.specs.Limits.{most_bytes}
-use Rattle.cra.specs.Replies.{IsReply, IsReplyToRead, IsReplyToText, IsReplyToWork, IsToAnalyse}
+use Rattle.cra.specs.Limits.{most_bytes, most_input}
+use Rattle.cra.specs.Replies.{IsReply, IsReplyToInput, IsReplyToOutcome, IsReplyToRead, IsReplyToText, IsReplyToValues, IsReplyToWork, IsToAnalyse, IsToReplay}
 use Rattle.cra.proofs.SameTrees.{elaborates-alike}
 
 pub reads-plainly : (tokens : List Token) (items : List SourceItem) → ReadsWithinLimits tokens items → Reads tokens items
@@ -48,9 +51,9 @@ not-refused text program (Typing fault) a is =
     cc
 not-refused text program Memory a is = absurd is
 
-whole-input : (all input : List ℕ) → length all ≤ most_bytes → IsInput most_bytes (Some all) input → input ≡ all
+whole-input : (limit : ℕ) (all input : List ℕ) → length all ≤ limit → IsInput limit (Some all) input → input ≡ all
 unfolding IsInput
-whole-input all input short is = is ∙ take_all (most_bytes + 1) all (omega arith)
+whole-input limit all input short is = is ∙ take_all (limit + 1) all (omega arith)
 
 zero-or-one : (all : Bool) (status : Status) → status ≡ (if all then AllProved else SomeUnproved) → (status ≡ AllProved) ⊎ (status ≡ SomeUnproved)
 zero-or-one true status e = inl e
@@ -69,6 +72,29 @@ analysed all program reply short a first (inr (fits, inr (inr (refusal, is, e)))
 pub complete : (words : List (List ℕ)) (before after : Option (List ℕ)) (reply : Reply) → IsToAnalyse words before → IsReply words before after reply
     → (reply.status ≡ AllProved) ⊎ (reply.status ≡ SomeUnproved)
 complete words before after reply a answer =
-    let read : IsReplyToRead before after reply = subst (λ work. IsReplyToWork work before after reply) a.asked answer in
-    let all = whole-input a.input read.input a.short (subst (λ before. IsInput most_bytes before read.input) a.whole read.is_input) in
+    let read : IsReplyToRead most_bytes IsReplyToText before after reply = subst (λ work. IsReplyToWork work before after reply) a.asked answer in
+    let all = whole-input most_bytes a.input read.input a.short (subst (λ before. IsInput most_bytes before read.input) a.whole read.is_input) in
     analysed a.input a.program reply a.short a.accepted a.first (subst (λ input. IsReplyToText input reply) all read.is_reply)
+
+-- ---- one execution on given values
+
+failed-or-not : (failed : Bool) (status : Status) → status ≡ (if failed then SomeFailed else NoneFailed) → (status ≡ NoneFailed) ⊎ (status ≡ SomeFailed)
+failed-or-not true status e = inr e
+failed-or-not false status e = inl e
+
+followed-text : (input : Input) (program : Program) (reply : Reply) → Accepts input.text program → IsReplyToInput input reply → (reply.status ≡ NoneFailed) ⊎ (reply.status ≡ SomeFailed)
+followed-text input program reply a (inl (other, trace, is, e)) = failed-or-not (is_failed trace.stop) reply.status (ap (λ r. r.status) e)
+followed-text input program reply a (inr (refusal, is, e)) = absurd (not-refused input.text program refusal a is)
+
+followed : (bytes : List ℕ) (input : Input) (program : Program) (reply : Reply) → length bytes ≤ most_input → input_of bytes ≡ Ok input → Accepts input.text program → IsReplyToValues bytes reply
+    → (reply.status ≡ NoneFailed) ⊎ (reply.status ≡ SomeFailed)
+followed bytes input program reply short shaped a (inl (long, is)) = absurd (omega arith)
+followed bytes input program reply short shaped a (inr (fits, outcome)) =
+    followed-text input program reply a (subst (λ outcome. IsReplyToOutcome outcome reply) shaped outcome)
+
+pub complete-replay : (words : List (List ℕ)) (before after : Option (List ℕ)) (reply : Reply) → IsToReplay words before → IsReply words before after reply
+    → (reply.status ≡ NoneFailed) ⊎ (reply.status ≡ SomeFailed)
+complete-replay words before after reply a answer =
+    let read : IsReplyToRead most_input IsReplyToValues before after reply = subst (λ work. IsReplyToWork work before after reply) a.asked answer in
+    let all = whole-input most_input a.bytes read.input a.short (subst (λ before. IsInput most_input before read.input) a.whole read.is_input) in
+    followed a.bytes a.input a.program reply a.short a.shaped a.accepted (subst (λ bytes. IsReplyToValues bytes reply) all read.is_reply)

@@ -8,6 +8,7 @@ pub mod SameTrees
 pub mod Inputs
 pub mod Outputs
 pub mod Refusals
+pub mod Replays
 -- Executions of a procedure without calls, branches and loops.
 pub mod Runs
 pub mod Executions

@@ -1,10 +1,26 @@
 -- The words that the program accepts.
-use Rattle.std.specs.Prelude.{ℕ, List, [], ◌∷◌, Option, None, Some, codes, if◌then◌else◌}
+use Rattle.std.specs.Prelude.{ℕ, List, [], ◌∷◌, Bool, true, false, Option, None, Some, codes, if◌then◌else◌}
 use Rattle.std.specs.Str.{bytes_eq}
 use Rattle.cra.specs.declared.words.Work.{Work}
-use Rattle.cra.specs.declared.words.Work.TheVariants.{Analyse}
+use Rattle.cra.specs.declared.words.Work.TheVariants.{Analyse, Replay, Help, Version}
 
--- What a command line asks for: the program's name and one command. Every other list of words asks for nothing.
+-- what one word asks for
+abbrev pub work_named : List ℕ → Option Work
+work_named word =
+    if bytes_eq word (codes "analyse") then Some Analyse
+    else (if bytes_eq word (codes "replay") then Some Replay
+    else (if bytes_eq word (codes "--help") then Some Help
+    else (if bytes_eq word (codes "--version") then Some Version else None)))
+
+-- What a command line asks for: the program's name and one word. Every other list of words asks for nothing.
 abbrev pub work_of : List (List ℕ) → Option Work
-work_of (name ∷ command ∷ []) = if bytes_eq command (codes "analyse") then Some Analyse else None
+work_of (name ∷ word ∷ []) = work_named word
 work_of _ = None
+
+-- whether the source is read for it
+abbrev pub reads_source : Option Work → Bool
+reads_source (Some Analyse) = true
+reads_source (Some Replay) = true
+reads_source (Some Help) = false
+reads_source (Some Version) = false
+reads_source None = false

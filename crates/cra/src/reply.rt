@@ -22,7 +22,8 @@ pub struct Reply {
     pub text: Items<u8>,
 }
 
-fn line(alloc: Global, status: Status, text: &[u8]) -> Result<Reply, AllocError>
+/// An answer that is known beforehand.
+pub fn line(alloc: Global, status: Status, text: &[u8]) -> Result<Reply, AllocError>
     ensures { IfOk result (λ reply. reply ≡ record { status = status; text = text.now }) }
 {
     let text = Items::from_slice(alloc, text)?;
@@ -34,11 +35,7 @@ pub fn wrong_words(alloc: Global) -> Result<Reply, AllocError>
     ensures reply { IfOk result (λ reply. reply ≡ wrong_words) }
     ensures status { IfOk result (λ reply. IsAnswer reply.status) }
 {
-    line(
-        alloc,
-        Status::WrongWords,
-        b"usage: cra analyse | certify | check | edit | sample N\n",
-    )
+    line(alloc, Status::WrongWords, b"usage: cra analyse | replay\n")
 }
 
 /// The answer that tells a report.
@@ -59,7 +56,7 @@ fn reply_of(alloc: Global, report: &Report) -> Result<Reply, AllocError>
 }
 
 /// The answer that tells why a text is refused.
-fn refused_reply(alloc: Global, text: &[u8], refusal: Refusal) -> Result<Reply, AllocError>
+pub fn refused_reply(alloc: Global, text: &[u8], refusal: Refusal) -> Result<Reply, AllocError>
     requires { length text.now ≤ most_bytes }
     ensures reply { IfOk result (λ reply. reply ≡ refused_reply text.now refusal) }
     ensures status { IfOk result (λ reply. IsAnswer reply.status) }

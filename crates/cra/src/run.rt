@@ -1,15 +1,17 @@
-ghost use Rattle.std.specs.Prelude.{◌≡◌, ◌≢◌, ◌⊎◌, None, Err, IfOk, map, string_bytes};
+ghost use Rattle.std.specs.Prelude.{◌≡◌, ◌≢◌, ◌⊎◌, false, Err, IfOk, map, string_bytes};
 ghost use Rattle.std.specs.Io.KnownBytes.{append_known};
 ghost use Rattle.whole_numbers.specs.Counters.{Rose};
 ghost use Rattle.cra.specs.Output.{TookPart};
 ghost use Rattle.cra.specs.declared.reply.Reply.{Reply as Answer};
-ghost use Rattle.cra.specs.Replies.{IsReply, IsToAnalyse};
+ghost use Rattle.cra.specs.Replies.{IsReply, IsToAnalyse, IsToReplay};
 ghost use Rattle.cra.specs.Status.{IsAnswer};
-ghost use Rattle.cra.specs.Words.{work_of};
+ghost use Rattle.cra.specs.Words.{reads_source, work_of};
 
+use crate::help::{help, version};
 use crate::input::{InputError, read_input};
-use crate::limits::{MOST_BYTES, PIECE};
+use crate::limits::{MOST_BYTES, MOST_INPUT, PIECE};
 use crate::output::write_all;
+use crate::replaying::reply_to_values;
 use crate::reply::{Reply, reply_to_text, wrong_words};
 use crate::status::Status;
 use crate::words::{Work, work_of};
@@ -20,7 +22,7 @@ use std::alloc::Global;
 fn compose<R: Source>(alloc: Global, words: &[String], source: &mut R) -> Result<Reply, InputError>
     ensures answer { IfOk result (IsReply (map string_bytes words.now) (R.left source.old) (R.left source.new)) }
     ensures status { IfOk result (λ reply. IsAnswer reply.status) }
-    ensures unread { work_of (map string_bytes words.now) ≡ None → source.new ≡ source.old }
+    ensures unread { reads_source (work_of (map string_bytes words.now)) ≡ false → source.new ≡ source.old }
     ensures failed { result ≡ Err InputError.Failed → Rose (R.faults source.old) (R.faults source.new) }
     ensures counted { result ≢ Err InputError.Failed → R.faults source.new ≡ R.faults source.old }
 {
@@ -30,6 +32,12 @@ fn compose<R: Source>(alloc: Global, words: &[String], source: &mut R) -> Result
             let input = read_input(alloc, source, MOST_BYTES, PIECE)?;
             Ok(reply_to_text(alloc, &input)?)
         }
+        Some(Work::Replay) => {
+            let input = read_input(alloc, source, MOST_INPUT, PIECE)?;
+            Ok(reply_to_values(alloc, &input)?)
+        }
+        Some(Work::Help) => Ok(help(alloc)?),
+        Some(Work::Version) => Ok(version(alloc)?),
     }
 }
 
@@ -45,11 +53,15 @@ pub fn run<R: Source, W: Sink>(
     // Every status but those of the source, the sink and memory is the answer to the words and to the input.
     ensures answered { IsAnswer result → (reply : Answer) × IsReply (map string_bytes words.now) (R.left source.old) (R.left source.new) reply
         × (result ≡ reply.status) × (W.taken sink.new ≡ append_known (W.taken sink.old) reply.text) }
-    ensures unread { work_of (map string_bytes words.now) ≡ None → source.new ≡ source.old }
+    ensures unread { reads_source (work_of (map string_bytes words.now)) ≡ false → source.new ≡ source.old }
 
     // A text of the form that is analysed has its report, where memory is not wanting and no count of faults rose.
     ensures complete { IsToAnalyse (map string_bytes words.now) (R.left source.old) → ¬ Rose (R.faults source.old) (R.faults source.new)
         → ¬ Rose (W.faults sink.old) (W.faults sink.new) → (result ≡ Status.AllProved) ⊎ (result ≡ Status.SomeUnproved) ⊎ (result ≡ Status.WantOfMemory) }
+
+    // An input whose text is accepted has its trace, where memory is not wanting and no count of faults rose.
+    ensures complete_replay { IsToReplay (map string_bytes words.now) (R.left source.old) → ¬ Rose (R.faults source.old) (R.faults source.new)
+        → ¬ Rose (W.faults sink.old) (W.faults sink.new) → (result ≡ Status.NoneFailed) ⊎ (result ≡ Status.SomeFailed) ⊎ (result ≡ Status.WantOfMemory) }
 
     // The source failed: exactly where its count of faults rose, and then nothing is written.
     ensures source_failed { result ≡ Status.SourceFailed → Rose (R.faults source.old) (R.faults source.new) × (sink.new ≡ sink.old) }

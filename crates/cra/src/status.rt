@@ -8,6 +8,12 @@ pub enum Status {
     AllProved,
     /// Some assertion is not proved.
     SomeUnproved,
+    /// An execution was followed, and no assertion failed in it.
+    NoneFailed,
+    /// An execution was followed, and ended at an assertion that failed.
+    SomeFailed,
+    /// The help or the version was told.
+    Told,
     /// The words ask for nothing.
     WrongWords,
     /// The text is refused.
@@ -17,6 +23,8 @@ pub enum Status {
     /// The sink failed.
     SinkFailed,
     WantOfMemory,
+    /// The input is no JSON text, or has a wrong shape.
+    WrongInput,
     /// The input is too long.
     TooLong,
 }
@@ -29,11 +37,15 @@ impl Status {
         match self {
             Status::AllProved => 0,
             Status::SomeUnproved => 1,
+            Status::NoneFailed => 0,
+            Status::SomeFailed => 1,
+            Status::Told => 0,
             Status::WrongWords => 2,
             Status::Refused => 3,
             Status::SourceFailed => 4,
             Status::SinkFailed => 5,
             Status::WantOfMemory => 6,
+            Status::WrongInput => 7,
             Status::TooLong => 9,
         }
     }

@@ -1,7 +1,7 @@
 use crate::laws::{
     accepted_is_not_refused, accepted_is_well_formed, accepted_once, assertions_ascend,
 };
-use crate::limits::MOST_BYTES;
+use crate::limits::{MOST_BYTES, MOST_INPUT};
 use crate::run::run;
 use crate::tables;
 use cra_io::{MemorySink, MemorySource};
@@ -9,7 +9,7 @@ use std::alloc::Global;
 use std::process::Abort;
 use std::test::Fail;
 
-const USAGE: &[u8] = b"usage: cra analyse | certify | check | edit | sample N\n";
+const USAGE: &[u8] = b"usage: cra analyse | replay\n";
 
 const TOO_LONG: &[u8] = b"input is too long\n";
 
@@ -61,6 +61,82 @@ const SPACED: &[u8] =
 
 const SPACED_REPORT: &[u8] =
     b"procedure main\ncase 1\n  $ret = $1\nassertion 1 at 3:2 proved\ntotal 1 proved, 0 unproved\n";
+
+// Inputs on which an execution is followed, each with its status and its output.
+const REPLAYS: [(&[u8], u8, &[u8]); 16] = [
+    (
+        b"{\"text\":\"int main(void) { int n = __VERIFIER_nondet_int(); assert(n >= 0); }\",\"values\":[\"-1\"],\"turns\":10}",
+        1,
+        b"any -1\nstopped: assertion 1 failed at 1:51 after 1 steps\n",
+    ),
+    (
+        b"{\"text\":\"int main(void) { int n = __VERIFIER_nondet_int(); assert(n >= 0); }\",\"values\":[\"2\"],\"turns\":10}",
+        0,
+        b"any 2\ncheck 1 holds\nstopped: main returned 0 after 2 steps\n",
+    ),
+    (
+        b"{\"text\":\"int main(void) { int n = __VERIFIER_nondet_int(); assert(n >= 0); }\",\"values\":[],\"turns\":10}",
+        0,
+        b"stopped: no value left after 0 steps\n",
+    ),
+    (
+        b"{\"text\":\"int inc(int x) { return x + 1; } int main(void) { return inc(4); }\",\"values\":[],\"turns\":100}",
+        0,
+        b"call inc(4)\nreturn 5\nstopped: main returned 5 after 5 steps\n",
+    ),
+    (
+        b"{\"text\":\"int inc(int x) { return x + 1; } int main(void) { return inc(4); }\",\"values\":[],\"turns\":4}",
+        0,
+        b"call inc(4)\nreturn 5\nstopped: turns spent after 4 steps\n",
+    ),
+    (
+        b"{\"text\":\"void v(int a, int b) { assume(a < b); } void main(void) { v(1, -2); }\",\"values\":[],\"turns\":9}",
+        0,
+        b"call v(1, -2)\nstopped: guard after 1 steps\n",
+    ),
+    (
+        b"{\"text\":\"int main(void) { int x = __VERIFIER_nondet_int(); return 3 - x * x; }\",\"values\":[\"18446744073709551616\"],\"turns\":9}",
+        0,
+        b"any 18446744073709551616\nstopped: wide 18446744073709551616 * 18446744073709551616 after 1 steps\n",
+    ),
+    (
+        b"{\"text\":\"void v(void) { } void main(void) { v(); }\",\"values\":[],\"turns\":9}",
+        0,
+        b"call v()\nreturn\nstopped: main returned after 2 steps\n",
+    ),
+    (
+        b"{\"text\":\"int main(void) { return 1 / (2 - 2); }\",\"values\":[],\"turns\":9}",
+        0,
+        b"stopped: division by zero after 0 steps\n",
+    ),
+    (
+        b"{\"text\":\"int main(void) { @ }\",\"values\":[],\"turns\":9}",
+        3,
+        b"refused byte at 1:18\n",
+    ),
+    (b"{\"text\":1", 7, b"input is not JSON\n"),
+    (b"[]", 7, b"input has a wrong shape at \n"),
+    (
+        b"{\"text\":\"\",\"values\":[\"01\"],\"turns\":1}",
+        7,
+        b"input has a wrong shape at /values/0\n",
+    ),
+    (
+        b"{\"text\":\"\",\"values\":[\"1\", 2],\"turns\":1}",
+        7,
+        b"input has a wrong shape at /values/1\n",
+    ),
+    (
+        b"{\"text\":\"@\",\"values\":[],\"turns\":100001}",
+        7,
+        b"input has a wrong shape at /turns\n",
+    ),
+    (
+        b"{\"text\":\"@\",\"values\":[]}",
+        7,
+        b"input has a wrong shape at /turns\n",
+    ),
+];
 
 /// How a run went: its status, and what its sink took.
 #[derive(Drop)]
@@ -121,6 +197,37 @@ fn reports(rt: HostRuntime) -> Result<(), Fail> {
         assert_eq!(rt; ended.status, status);
         assert_eq!(rt; ended.text.as_slice(), text);
     }
+    Ok(())
+}
+
+// Rows of outputs that an independent model of the rules gives.
+#[test]
+fn replays(rt: HostRuntime) -> Result<(), Fail> {
+    for (input, status, text) in REPLAYS {
+        let ended = run_on(rt.alloc(), &["cra", "replay"], input, GOOD)?;
+        assert_eq!(rt; ended.status, status);
+        assert_eq!(rt; ended.text.as_slice(), text);
+    }
+    Ok(())
+}
+
+// The source would fail, and is not read.
+#[test]
+fn help_and_version(rt: HostRuntime) -> Result<(), Fail> {
+    let outside = Outside {
+        failing_read: 0,
+        ..GOOD
+    };
+    let help = run_on(rt.alloc(), &["cra", "--help"], b"", outside)?;
+    assert_eq!(rt; help.status, 0);
+    assert!(rt;
+        help.text
+            .as_slice()
+            .starts_with(b"cra: a verified analyser of numeric C\n")
+    );
+    let version = run_on(rt.alloc(), &["cra", "--version"], b"", outside)?;
+    assert_eq!(rt; version.status, 0);
+    assert_eq!(rt; version.text.as_slice(), b"cra 0.1.0\n".as_slice());
     Ok(())
 }
 
@@ -227,11 +334,15 @@ fn refused_by_great_counts(rt: HostRuntime) -> Result<(), Fail> {
 
 #[test]
 fn other_words(rt: HostRuntime) -> Result<(), Fail> {
-    let all: [&[&str]; 5] = [
+    let all: [&[&str]; 9] = [
         &[],
         &["cra"],
         &["cra", "analyze"],
         &["cra", "analyse", "again"],
+        &["cra", "replay", "--help"],
+        &["cra", "--help", "replay"],
+        &["cra", "help"],
+        &["cra", "-h"],
         &["analyse", "cra"],
     ];
     for words in all {
@@ -249,6 +360,12 @@ fn lengths(rt: HostRuntime) -> Result<(), Fail> {
     let past = vec![in alloc; b' '; MOST_BYTES + 1]?;
     refused(alloc, &rt, &full, b"refused main at 1:1048577\n")?;
     let ended = run_on(alloc, &["cra", "analyse"], &past, GOOD)?;
+    assert_eq!(rt; ended.status, 9);
+    assert_eq!(rt; ended.text.as_slice(), TOO_LONG);
+    let ended = run_on(alloc, &["cra", "replay"], &past, GOOD)?;
+    assert_eq!(rt; ended.status, 7);
+    let past = vec![in alloc; b' '; MOST_INPUT + 1]?;
+    let ended = run_on(alloc, &["cra", "replay"], &past, GOOD)?;
     assert_eq!(rt; ended.status, 9);
     assert_eq!(rt; ended.text.as_slice(), TOO_LONG);
     Ok(())

@@ -1,10 +1,28 @@
 ghost use Rattle.std.specs.Prelude.{◌≡◌, map, string_bytes};
-ghost use Rattle.cra.specs.Words.{work_of};
+ghost use Rattle.cra.specs.Words.{work_named, work_of};
 
 /// What the words of a command line ask for.
 #[derive(Clone, Copy, Debug, PartialEq, Eq)]
 pub enum Work {
+    /// The report of a text.
     Analyse,
+    /// One execution of a text on given values.
+    Replay,
+    Help,
+    Version,
+}
+
+/// What one word asks for.
+fn work_named(word: &str) -> Option<Work>
+    ensures { result ≡ work_named word.now }
+{
+    match word {
+        "analyse" => Some(Work::Analyse),
+        "replay" => Some(Work::Replay),
+        "--help" => Some(Work::Help),
+        "--version" => Some(Work::Version),
+        _ => None,
+    }
 }
 
 /// What the words ask for. The first of them is the program's name.
@@ -12,7 +30,7 @@ pub fn work_of(words: &[String]) -> Option<Work>
     ensures { result ≡ work_of (map string_bytes words.now) }
 {
     match words {
-        [_, command] if command.as_str() == "analyse" => Some(Work::Analyse),
+        [_, word] => work_named(word.as_str()),
         _ => None,
     }
 }

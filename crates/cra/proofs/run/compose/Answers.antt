@@ -1,16 +1,15 @@
-use Rattle.std.proofs.Common.{◌≡◌, rules, List, ℕ, Option, Some, subst}
+use Rattle.std.proofs.Common.{◌≡◌, rules, List, ℕ, Option, Some, subst, sym}
 use Rattle.std.specs.Io.KnownBytes.{prepend_known}
 use Rattle.cra.specs.declared.reply.Reply.{Reply}
-use Rattle.cra.specs.declared.words.Work.{Work}
-use Rattle.cra.specs.declared.words.Work.TheVariants.{Analyse}
+use Rattle.cra.specs.declared.words.Work.TheVariants.{Analyse, Replay}
 use Rattle.cra.specs.Input.{IsInput}
-use Rattle.cra.specs.Limits.{most_bytes}
-use Rattle.cra.specs.Replies.{IsReplyToText, IsReplyToWork}
+use Rattle.cra.specs.Limits.{most_bytes, most_input}
+use Rattle.cra.specs.Replies.{IsReplyToRead, IsReplyToText, IsReplyToValues, IsReplyToWork}
 use Rattle.cra.proofs.run.compose.Goals as goal
 
-to-work : (work : Work) (before after : Option (List ℕ)) (input : List ℕ) (reply : Reply) → IsInput most_bytes before input → before ≡ prepend_known input after
-    → IsReplyToText input reply → IsReplyToWork (Some work) before after reply
-to-work Analyse before after input reply is front answer = record { input = input; is_input = is; is_front = front; is_reply = answer }
+to-read : (limit : ℕ) (Answers : List ℕ → Reply → Type 0) (before after : Option (List ℕ)) (input : List ℕ) (reply : Reply) → IsInput limit before input
+    → before ≡ prepend_known input after → Answers input reply → IsReplyToRead limit Answers before after reply
+to-read limit Answers before after input reply is front answer = record { input = input; is_input = is; is_front = front; is_reply = answer }
 
 pub returns-in_ok-reply_to_text-in-Some-Analyse-clause-answer :
     goal.returns-in_ok-reply_to_text-in-Some-Analyse-clause-answer
@@ -20,5 +19,18 @@ returns-in_ok-reply_to_text-in-Some-Analyse-clause-answer g c =
     let reply = c.in_ok-reply_to_text-in-Some-Analyse.field-0 in
     let is : IsInput most_bytes before c.deref.result.now = search rules in
     let front : before ≡ prepend_known c.deref.result.now after = search rules in
-    subst (λ work. IsReplyToWork work before after reply) c.in-Some-Analyse.ensures
-    (to-work c.in-Some-Analyse.field-0 before after c.deref.result.now reply is front c.in_ok-reply_to_text-in-Some-Analyse.ensures.reply)
+    let asked : c.in-Some-Analyse.field-0 ≡ Analyse = search rules in
+    subst (λ work. IsReplyToWork work before after reply) c.in-Some-Analyse.ensures (subst (λ work. IsReplyToWork (Some work) before after reply) (sym asked)
+    (to-read most_bytes IsReplyToText before after c.deref.result.now reply is front c.in_ok-reply_to_text-in-Some-Analyse.ensures.reply))
+
+pub returns-in_ok-reply_to_values-in-Some-Replay-clause-answer :
+    goal.returns-in_ok-reply_to_values-in-Some-Replay-clause-answer
+returns-in_ok-reply_to_values-in-Some-Replay-clause-answer g c =
+    let before = g.R.Source.left c.args.source.now in
+    let after = g.R.Source.left c.read_input-in-Some-Replay.new.source in
+    let reply = c.in_ok-reply_to_values-in-Some-Replay.field-0 in
+    let is : IsInput most_input before c.deref-in-Some-Replay.result.now = search rules in
+    let front : before ≡ prepend_known c.deref-in-Some-Replay.result.now after = search rules in
+    let asked : c.in-Some-Replay.field-0 ≡ Replay = search rules in
+    subst (λ work. IsReplyToWork work before after reply) c.in-Some-Replay.ensures (subst (λ work. IsReplyToWork (Some work) before after reply) (sym asked)
+    (to-read most_input IsReplyToValues before after c.deref-in-Some-Replay.result.now reply is front c.in_ok-reply_to_values-in-Some-Replay.ensures.reply))

@@ -1,7 +1,7 @@
 use Rattle.std.proofs.Common.{◌≡◌, ◌⊎◌, inl, inr}
 use Rattle.cra.specs.declared.status.Status.{Status}
-use Rattle.cra.specs.declared.status.Status.TheVariants.{AllProved, SomeUnproved, WantOfMemory}
-use Rattle.cra.proofs.Complete.{complete}
+use Rattle.cra.specs.declared.status.Status.TheVariants.{AllProved, SomeUnproved, NoneFailed, SomeFailed, WantOfMemory}
+use Rattle.cra.proofs.Complete.{complete, complete-replay}
 use Rattle.cra.proofs.run.run.Goals as goal
 
 or-memory : (status : Status) → (status ≡ AllProved) ⊎ (status ≡ SomeUnproved) → (status ≡ AllProved) ⊎ (status ≡ SomeUnproved) ⊎ (status ≡ WantOfMemory)
@@ -11,3 +11,12 @@ or-memory status (inr some) = inr (inl some)
 -- what was to be analysed has its report
 pub returns-in-Ok-write_all-clause-complete : goal.returns-in-Ok-write_all-clause-complete
 returns-in-Ok-write_all-clause-complete g c to_analyse source sink = or-memory c.in-Ok.reply.status (complete _ _ _ c.in-Ok.reply to_analyse c.in-Ok.ensures.answer)
+
+or-memory-too : (status : Status) → (status ≡ NoneFailed) ⊎ (status ≡ SomeFailed) → (status ≡ NoneFailed) ⊎ (status ≡ SomeFailed) ⊎ (status ≡ WantOfMemory)
+or-memory-too status (inl none) = inl none
+or-memory-too status (inr some) = inr (inl some)
+
+-- what was to be replayed has its trace
+pub returns-in-Ok-write_all-clause-complete_replay : goal.returns-in-Ok-write_all-clause-complete_replay
+returns-in-Ok-write_all-clause-complete_replay g c to_replay source sink =
+    or-memory-too c.in-Ok.reply.status (complete-replay _ _ _ c.in-Ok.reply to_replay c.in-Ok.ensures.answer)

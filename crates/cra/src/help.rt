@@ -1,0 +1,35 @@
+ghost use Rattle.std.specs.Prelude.{◌≡◌, IfOk};
+ghost use Rattle.cra.specs.Replies.{help, version};
+ghost use Rattle.cra.specs.Status.{IsAnswer};
+
+use crate::reply::{Reply, line};
+use crate::status::Status;
+use std::alloc::{AllocError, Global};
+
+/// What the words ask for, as a user reads it.
+const HELP: &[u8] = b"\
+cra: a verified analyser of numeric C
+
+usage: cra analyse | replay
+
+  analyse    reads the text of a program, and prints what is proved of it
+  replay     reads a text with values and turns as JSON, and prints one execution
+  --help     prints this
+  --version  prints the version
+";
+
+/// The answer to words that ask for help.
+pub fn help(alloc: Global) -> Result<Reply, AllocError>
+    ensures reply { IfOk result (λ reply. reply ≡ help) }
+    ensures status { IfOk result (λ reply. IsAnswer reply.status) }
+{
+    line(alloc, Status::Told, HELP)
+}
+
+/// The answer to words that ask for the version.
+pub fn version(alloc: Global) -> Result<Reply, AllocError>
+    ensures reply { IfOk result (λ reply. reply ≡ version) }
+    ensures status { IfOk result (λ reply. IsAnswer reply.status) }
+{
+    line(alloc, Status::Told, b"cra 0.1.0\n")
+}
