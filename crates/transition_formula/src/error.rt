@@ -24,10 +24,3 @@ impl<T: Drop> From<AllocFailed<T>> for FormulaError {
         FormulaError::Memory
     }
 }
-
-#[cfg(test)]
-impl From<std::fmt::Error> for FormulaError {
-    fn from(_e: std::fmt::Error) -> FormulaError {
-        FormulaError::Memory
-    }
-}
