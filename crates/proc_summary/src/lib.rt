@@ -1,0 +1,13 @@
+//! The flow of one procedure, which has a formula for each node that counts, and its summary: what holds between the
+//! globals and parameters at its entry and the globals and the returned value at its exit.
+#![tactic(auto)]
+
+mod flow;
+mod laws;
+mod stop;
+mod summary;
+
+pub use flow::{cells, flow};
+pub use laws::law_of_alike_procedures;
+pub use stop::{Flow, Stop};
+pub use summary::project;
