@@ -2,12 +2,14 @@
 //! globals and parameters at its entry and the globals and the returned value at its exit.
 #![tactic(auto)]
 
-mod flow;
 mod laws;
+mod nodes;
 mod stop;
+mod stops;
 mod summary;
 
-pub use flow::{cells, flow};
 pub use laws::law_of_alike_procedures;
+pub use nodes::cells;
 pub use stop::{Flow, Stop};
+pub use stops::flow;
 pub use summary::project;
