@@ -1,0 +1,2 @@
+-- procedures that nothing tells apart
+pub mod Alike

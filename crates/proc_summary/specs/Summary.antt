@@ -34,24 +34,25 @@ ends_of program p =
 
 -- the last column has the value, where there is one
 abbrev pub value_place : Bool → ℕ → List ℕ
-value_place true columns = columns - 1 ∷ []
+value_place true columns = (columns - 1) ∷ []
 value_place false columns = []
 
 -- the columns that are told at the exit: the globals, and the returned value if there is one
 abbrev pub exit_places : Ends → List ℕ
 exit_places ends = range_with_len 0 ends.globals ++ value_place ends.returns ends.full.columns
 
--- an exit that no way leads to has no case
-abbrev pub exit_formula : Ends → Option Transition → Transition
-exit_formula ends None = record { from = ends.full.columns; to = ends.full.columns; cases = [] }
-exit_formula ends (Some f) = f
+-- a formula over so many columns; an exit that no way leads to has no case
+abbrev pub exit_formula : ℕ → Option Transition → Transition
+exit_formula columns None = record { from = columns; to = columns; cases = [] }
+exit_formula columns (Some f) = f
 
--- the entry's other columns become auxiliaries, and the posts at the exit's columns alone stay
-abbrev pub exit_told : Ends → Transition → Transition
-exit_told ends f = with_posts (exit_places ends) (hidden ends.entry.columns f)
+-- the entry's other columns become auxiliaries, and the posts at some of the exit's columns alone stay
+abbrev pub told_of : ℕ → List ℕ → Transition → Transition
+told_of entry places f = with_posts places (hidden entry f)
 
 -- it is settled and fitted
 unfoldable pub summary_from : Ends → Option Transition → Posing Transition
 summary_from ends exit =
-    Noted (loss_notes (lost_in_hiding ends.entry.columns (exit_formula ends exit)))
-    (settled_and_fitted (exit_told ends (exit_formula ends exit)) ends.entry ends.exit)
+    let f : Transition = exit_formula ends.full.columns exit in
+    Noted (loss_notes (lost_in_hiding ends.entry.columns f))
+    (settled_and_fitted (told_of ends.entry.columns (exit_places ends) f) ends.entry ends.exit)
