@@ -1,0 +1,204 @@
+-- Candidates: rows over the pairs of entry and exit that may hold of all activations, and rounds that drop those
+-- that one more unfolding does not show.
+use Rattle.std.specs.Prelude.{ℕ, suc, ◌+◌, Bool, true, false, List, [], ◌∷◌, ◌++◌, Option, None, Some, Result, Ok, Err, length, map, option_to_list}
+use Rattle.std.specs.List.{filter_map, flat_map, range_with_len}
+use Rattle.std.specs.Option.{unwrap_or}
+use Rattle.items.specs.Gives as gives
+use Rattle.linear_terms.specs.declared.error.TermError.{TermError}
+use Rattle.linear_terms.specs.declared.row.Row.{Row}
+use Rattle.linear_terms.specs.declared.row.Case.{Case}
+use Rattle.linear_terms.specs.declared.row.Kind.TheVariants.{AtMost}
+use Rattle.linear_terms.specs.Expressions.{negation}
+use Rattle.linear_terms.specs.Operations.{substituted}
+use Rattle.linear_terms.specs.Polynomial.{Polynomial}
+use Rattle.linear_terms.specs.Replacement.{put_in}
+use Rattle.farkas_check.specs.declared.answer.Answer.{Answer}
+use Rattle.farkas_check.specs.declared.answer.Answer.TheVariants as answer
+use Rattle.farkas_check.specs.declared.answer.Limit.{Limit}
+use Rattle.farkas_check.specs.declared.question.Question.TheVariants.{Infeasible}
+use Rattle.farkas_check.specs.Columns.{columns}
+use Rattle.syntax_tree.specs.declared.program.Proc.{Proc}
+use Rattle.syntax_tree.specs.declared.program.Program.{Program}
+use Rattle.transition_formula.specs.declared.loss.Loss.{Loss}
+use Rattle.transition_formula.specs.Hiding.{hidden, own_auxiliaries}
+use Rattle.transition_formula.specs.Loss.{answered, losses_of}
+use Rattle.transition_formula.specs.Posts.{with_entries}
+use Rattle.transition_formula.specs.Rounds.{in_order}
+use Rattle.transition_formula.specs.Transition.{Transition}
+use Rattle.posing.specs.declared.note.Note.{Note}
+use Rattle.posing.specs.declared.note.Note.TheVariants as note
+use Rattle.posing.specs.declared.note.Witness.{Witness}
+use Rattle.posing.specs.declared.note.Witness.TheVariants as witness
+use Rattle.posing.specs.Logs.{loss_notes}
+use Rattle.posing.specs.Posing.{Posing, Done, Noted, answer_to, ◌>>=◌, each, until}
+use Rattle.polyhedra.specs.Bounds.{bounded_after}
+use Rattle.polyhedra.specs.Directions.{directions}
+use Rattle.leaf_cases.specs.Guard.{columns_of}
+use Rattle.leaf_cases.specs.Guard as cases
+use Rattle.proc_summary.specs.Flow.{cells_from, columns_of as state_columns, formula_at}
+use Rattle.proc_summary.specs.Subject.{subject_of}
+use Rattle.proc_summary.specs.Summary.{ends_of, summary_from}
+use Rattle.newton_rounds.specs.Members.{members_of, with_table}
+use Rattle.newton_rounds.specs.Pairs.{PairEnds}
+use Rattle.newton_rounds.specs.Closure.{ends_at, pair_ends, placed_from}
+
+-- ---- a candidate
+
+-- a formula's cases with the entry's columns before the posts, so that a pair's columns have values
+abbrev pub paired_case : ℕ → Case → Case
+paired_case from case = cases.with_posts (columns_of from ++ case.post) case
+
+-- the bounds of a formula in the directions of its pairs; without a case nothing is asked, and there is no row
+abbrev pub candidate_by : PairEnds → ℕ → List Case → Posing (List Row)
+candidate_by member from [] = Done []
+candidate_by member from (case ∷ more) =
+    each (bounded_after (map (paired_case from) (case ∷ more)) (columns_of member.pair.columns)) []
+    (directions member.pair)
+
+unfoldable pub candidate_of : PairEnds → Transition → Posing (List Row)
+candidate_of member f = candidate_by member f.from f.cases
+
+-- it as a formula: one case, in which the exit's columns are auxiliaries and posts
+abbrev pub candidate_formula : PairEnds → List Row → Transition
+candidate_formula member rows =
+    hidden member.ends.entry.columns
+    (with_entries (range_with_len member.ends.entry.columns member.ends.exit.columns)
+    record {
+      from = member.pair.columns;
+      to = 0;
+      cases = record { aux = 0; rows = rows; post = [] } ∷ [];
+    })
+
+abbrev pub table_of : List PairEnds → List (List Row) → List Transition
+table_of [] candidates = []
+table_of (member ∷ members) [] = []
+table_of (member ∷ members) (rows ∷ candidates) = candidate_formula member rows ∷ table_of members candidates
+
+-- ---- what refutes a row
+
+-- the row that holds where the candidate's row does not, over the entry and the posts of a case
+abbrev pub contrary : ℕ → Case → Row → Result Row TermError
+contrary from case row =
+    gives.◌>>=◌ (negation row.poly) (λ opposite.
+    gives.◌>>=◌ (substituted (put_in (columns_of from ++ case.post) (own_auxiliaries case.aux)) opposite.poly) (λ p.
+    Ok record { poly = p; kind = AtMost }))
+
+-- the case with that row; where it is lost, without it
+abbrev pub against : ℕ → Case → Row → Case
+against from case row =
+    record {
+      aux = case.aux;
+      rows = case.rows ++ option_to_list (answered (contrary from case row));
+      post = case.post;
+    }
+
+-- what was found so far against a row: the first point, and the limits of questions
+pub record Findings : Type 0 where
+  pub point : Option Witness
+  pub limits : List Limit
+
+abbrev pub with_point : Findings → Witness → Findings
+with_point found point = record { point = Some (unwrap_or found.point point); limits = found.limits }
+
+abbrev pub with_answer : Findings → List Row → Answer → Findings
+with_answer found rows (answer.No point) = with_point found (witness.Point (columns rows []) point)
+with_answer found rows (answer.Limit limit) = record { point = found.point; limits = found.limits ++ limit ∷ [] }
+with_answer found rows _ = found
+
+-- a case without rows is refuted by the point without numbers
+abbrev pub found_in : Findings → List Row → Posing Findings
+found_in found [] = Done (with_point found (witness.Point [] []))
+found_in found (row ∷ rows) =
+    answer_to (Infeasible (row ∷ rows)) >>= λ answer. Done (with_answer found (row ∷ rows) answer)
+
+abbrev pub found_left : Findings → Option Case → Posing Findings
+found_left found None = Done found
+found_left found (Some case) = found_in found case.rows
+
+-- one case with the contrary row, put in order; losses are noted before the question
+unfoldable pub with_case : ℕ → Row → Findings → Case → Posing Findings
+with_case from row found case =
+    Noted (loss_notes (losses_of (contrary from case row) ++ (in_order (against from case row)).losses))
+    (found_left found (in_order (against from case row)).left)
+
+-- limits that stand in no dropped note are noted by themselves
+abbrev pub limit_notes : List Limit → List Note
+limit_notes limits = map (λ limit. note.Limit limit) limits
+
+abbrev pub outcome_by : Option Witness → List Limit → Posing (Option Witness)
+outcome_by (Some point) limits = Noted (limit_notes limits) (Done (Some point))
+outcome_by None [] = Done None
+outcome_by None (limit ∷ limits) = Noted (limit_notes limits) (Done (Some (witness.Limit limit)))
+
+abbrev pub outcome : Findings → Posing (Option Witness)
+outcome found = outcome_by found.point found.limits
+
+-- what refutes a row of a candidate, over all cases of the formula that one more unfolding makes: the first point, else the first
+-- limit, if there is one
+unfoldable pub refuted : Transition → Row → Posing (Option Witness)
+refuted f row = each (with_case f.from row) record { point = None; limits = [] } f.cases >>= λ found. outcome found
+
+-- ---- a round
+
+-- a row with what refutes it
+pub record Judged : Type 0 where
+  pub row : Row
+  pub by : Option Witness
+
+unfoldable pub with_judged : Transition → List Judged → Row → Posing (List Judged)
+with_judged f made row = refuted f row >>= λ by. Done (made ++ record { row = row; by = by } ∷ [])
+
+-- the formula of a member as for a procedure that is not recursive, where calls of the group are read by the candidates
+unfoldable pub unfolded : Program → List (Option Transition) → Proc → Posing Transition
+unfolded program known p =
+    cells_from (subject_of program p known) 0 >>= λ cells.
+    summary_from (ends_of program p)
+    (formula_at (state_columns (subject_of program p known)) cells (subject_of program p known).exit)
+
+unfoldable pub with_round : Program → List (Option Transition) → List (List Judged) → Proc × List Row → Posing (List (List Judged))
+with_round program known made member =
+    unfolded program known member.0 >>= λ f.
+    each (with_judged f) [] member.1 >>= λ judged. Done (made ++ judged ∷ [])
+
+abbrev pub unless_refuted : Row → Option Witness → Option Row
+unless_refuted row None = Some row
+unless_refuted row (Some by) = None
+
+abbrev pub kept_row : Judged → Option Row
+kept_row judged = unless_refuted judged.row judged.by
+
+-- a dropped row is noted by the place of its procedure in the group
+abbrev pub dropped_by : ℕ → Row → Option Witness → List Note
+dropped_by place row None = []
+dropped_by place row (Some by) = note.Dropped place row by ∷ []
+
+abbrev pub dropped_in : ℕ × List Judged → List Note
+dropped_in member = flat_map (λ judged. dropped_by member.0 judged.row judged.by) member.1
+
+abbrev pub dropped_notes : List (List Judged) → List Note
+dropped_notes judged = flat_map dropped_in (placed_from 0 judged)
+
+abbrev pub some_note : List Note → Bool
+some_note [] = false
+some_note (n ∷ ns) = true
+
+abbrev pub members_with : List Proc → List (List Row) → List (Proc × List Row)
+members_with [] candidates = []
+members_with (p ∷ ps) [] = []
+members_with (p ∷ ps) (rows ∷ candidates) = (p, rows) ∷ members_with ps candidates
+
+-- all rows that are refuted are dropped together at its end; whether any was
+unfoldable pub round : Program → List ℕ → List (Option Transition) → List (List Row) → Posing (List (List Row) × Bool)
+round program procs known candidates =
+    each
+    (with_round program (with_table procs (table_of (map (pair_ends program) (members_of program procs)) candidates) known))
+    [] (members_with (members_of program procs) candidates) >>= λ judged.
+    Noted (dropped_notes judged) (Done (map (filter_map kept_row) judged, some_note (dropped_notes judged)))
+
+-- rounds until none is dropped: each but the last drops a row at least
+abbrev pub most_rounds : List (List Row) → ℕ
+most_rounds candidates = suc (length (flat_map (λ rows. rows) candidates))
+
+unfoldable pub kept_candidates : Program → List ℕ → List (Option Transition) → List (List Row) → Posing (List (List Row))
+kept_candidates program procs known candidates =
+    until (round program procs known) (most_rounds candidates) candidates

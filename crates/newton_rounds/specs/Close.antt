@@ -1,0 +1,41 @@
+-- The summaries of a recursive group.
+use Rattle.std.specs.Prelude.{ℕ, Bool, true, false, List, [], ◌∷◌, ◌++◌, Option, map}
+use Rattle.linear_terms.specs.declared.row.Row.{Row}
+use Rattle.syntax_tree.specs.declared.program.Proc.{Proc}
+use Rattle.syntax_tree.specs.declared.program.Program.{Program}
+use Rattle.transition_formula.specs.Transition.{Transition}
+use Rattle.posing.specs.Posing.{Posing, Done, ◌>>=◌, each}
+use Rattle.newton_rounds.specs.Members.{members_of}
+use Rattle.newton_rounds.specs.Pairs.{PairEnds}
+use Rattle.newton_rounds.specs.Closure.{pair_ends, bases_of, closure_of}
+use Rattle.newton_rounds.specs.Candidates.{candidate_of, kept_candidates, table_of}
+
+-- the candidate of each member, by its formula
+unfoldable pub with_candidate : List (List Row) → PairEnds × Transition → Posing (List (List Row))
+with_candidate made member = candidate_of member.0 member.1 >>= λ rows. Done (made ++ rows ∷ [])
+
+abbrev pub paired_up : List PairEnds → List Transition → List (PairEnds × Transition)
+paired_up [] table = []
+paired_up (member ∷ members) [] = []
+paired_up (member ∷ members) (f ∷ table) = (member, f) ∷ paired_up members table
+
+abbrev pub ends_of_members : Program → List ℕ → List PairEnds
+ends_of_members program procs = map (pair_ends program) (members_of program procs)
+
+-- where calls of the group may follow one another: two closures, the candidates of the second, and what stands of these
+unfoldable pub closed_by_rounds : Program → List ℕ → List (Option Transition) → List Transition → Posing (List Transition)
+closed_by_rounds program procs known bases =
+    closure_of program procs known bases [] >>= λ first.
+    closure_of program procs known bases first >>= λ second.
+    each with_candidate [] (paired_up (ends_of_members program procs) second) >>= λ candidates.
+    kept_candidates program procs known candidates >>= λ kept.
+    Done (table_of (ends_of_members program procs) kept)
+
+-- the closure of the empty table where the group is linear
+abbrev pub closed_from : Bool → Program → List ℕ → List (Option Transition) → List Transition → Posing (List Transition)
+closed_from true program procs known bases = closure_of program procs known bases []
+closed_from false program procs known bases = closed_by_rounds program procs known bases
+
+unfoldable pub closed_of : Bool → Program → List ℕ → List (Option Transition) → Posing (List Transition)
+closed_of linear program procs known =
+    bases_of program procs known >>= λ bases. closed_from linear program procs known bases

@@ -1,0 +1,177 @@
+-- The closure of a table: formulas of the members by one more unfolding of each chain of calls, where the group's
+-- calls on the way are read by the table.
+use Rattle.std.specs.Prelude.{ℕ, ◌+◌, ◌==◌, List, [], ◌∷◌, ◌++◌, false, not, Option, None, Some, length, map, slice_get}
+use Rattle.std.specs.List.{filter, flat_map, range_with_len}
+use Rattle.std.specs.Option.{unwrap_or}
+use Rattle.path_expr.specs.declared.cell.Cell.{Cell}
+use Rattle.path_expr.specs.declared.cell.Cell.TheVariants as known
+use Rattle.path_expr.specs.declared.link.Link.{Link}
+use Rattle.syntax_tree.specs.declared.program.Proc.{Proc}
+use Rattle.syntax_tree.specs.declared.program.Program.{Program}
+use Rattle.transition_formula.specs.declared.loss.Loss.{Loss}
+use Rattle.transition_formula.specs.Composition.{identity_of, sequence_of, lost_in_sequence}
+use Rattle.transition_formula.specs.Hiding.{hidden, lost_in_hiding}
+use Rattle.transition_formula.specs.Posts.{with_entries}
+use Rattle.transition_formula.specs.Transition.{Transition}
+use Rattle.posing.specs.Logs.{loss_notes}
+use Rattle.posing.specs.Posing.{Posing, Done, Noted, ◌>>=◌, each}
+use Rattle.polyhedra.specs.Vocabulary.{Vocabulary}
+use Rattle.checked_tree.specs.Evaluation.{evaluated, settled_and_fitted}
+use Rattle.checked_tree.specs.Graph.{Graph, graph_of}
+use Rattle.vocabularies.specs.Ends.{pair_of}
+use Rattle.proc_summary.specs.Flow.{cells_from, columns_of, formula_at}
+use Rattle.proc_summary.specs.Subject.{Subject, subject_of}
+use Rattle.proc_summary.specs.Summary.{Ends, ends_of}
+use Rattle.newton_rounds.specs.Members.{GroupCall, calls_of, calls_from, members_of, with_table}
+use Rattle.newton_rounds.specs.Pairs.{PairEnds, Stretch, base_from, lost_in_base, pair_formula, lost_in_pair}
+
+abbrev pub pair_ends : Program → Proc → PairEnds
+pair_ends program p = record { ends = ends_of program p; pair = pair_of program p }
+
+-- ---- the stretches of a group's calls
+
+-- from the end of a call to the exit
+unfoldable pub stretch_from : Subject → List (Cell Transition) → GroupCall → Posing Stretch
+stretch_from s starts call =
+    cells_from s call.to >>= λ ends.
+    Done record {
+      call = call;
+      before = formula_at (columns_of s) starts call.from;
+      after = formula_at (columns_of s) ends s.exit;
+    }
+
+unfoldable pub with_stretch : Subject → List (Cell Transition) → List Stretch → GroupCall → Posing (List Stretch)
+with_stretch s starts made call = stretch_from s starts call >>= λ stretch. Done (made ++ stretch ∷ [])
+
+-- those of one member: one evaluation from its entry, and one from the end of each call
+unfoldable pub with_member : Program → List ℕ → List (Option Transition) → List Stretch → ℕ × Proc → Posing (List Stretch)
+with_member program procs known made member =
+    cells_from (subject_of program member.1 known) 0 >>= λ starts.
+    each (with_stretch (subject_of program member.1 known) starts) made (calls_of procs member.0 member.1)
+
+-- the members with their places
+abbrev pub placed_from : {A : Type 0} → ℕ → List A → List (ℕ × A)
+placed_from place [] = []
+placed_from place (x ∷ xs) = (place, x) ∷ placed_from (place + 1) xs
+
+unfoldable pub stretches_of : Program → List ℕ → List (Option Transition) → Posing (List Stretch)
+stretches_of program procs known =
+    each (with_member program procs known) [] (placed_from 0 (members_of program procs))
+
+-- ---- the graph of the group
+
+-- the nodes are the members, by their places; the links are the calls of the group
+abbrev pub group_link : Stretch → Link
+group_link s = record { from = s.call.caller; to = s.call.callee }
+
+-- past the end there is nothing
+abbrev pub no_vocabulary : Vocabulary
+no_vocabulary = record { columns = 0; named = []; harvested = []; rule = 0; extra = [] }
+
+abbrev pub no_ends : Ends
+no_ends =
+    record { globals = 0; returns = false; full = no_vocabulary; entry = no_vocabulary; exit = no_vocabulary }
+
+abbrev pub no_pair : PairEnds
+no_pair = record { ends = no_ends; pair = no_vocabulary }
+
+abbrev pub ends_at : List PairEnds → ℕ → PairEnds
+ends_at members place = unwrap_or (slice_get members place) no_pair
+
+abbrev pub group_leaf : List PairEnds → Stretch → Transition
+group_leaf members s = pair_formula (ends_at members s.call.caller) (ends_at members s.call.callee) s
+
+abbrev pub lost_in_group_leaf : List PairEnds → Stretch → List Loss
+lost_in_group_leaf members s = lost_in_pair (ends_at members s.call.caller) (ends_at members s.call.callee) s
+
+abbrev pub group_graph : List PairEnds → List Stretch → Graph
+group_graph members stretches =
+    graph_of (map group_link stretches) (map (group_leaf members) stretches) (map (λ member. member.pair) members)
+
+-- ---- one member's formula
+
+-- from one pair to another: no case where no chain of calls leads, and the identity where none was made
+abbrev pub pair_cell : ℕ → ℕ → Cell Transition → Transition
+pair_cell from to known.Zero = record { from = from; to = to; cases = [] }
+pair_cell from to known.One = identity_of from
+pair_cell from to (known.Item f) = f
+
+-- a member first, and the others in order
+abbrev pub order_from : ℕ → ℕ → List ℕ
+order_from place count = place ∷ filter (λ n. not (n == place)) (range_with_len 0 count)
+
+-- the chains that end with a member, whose last activation calls no other of the group
+abbrev pub chain_end : List PairEnds → List Transition → List (Cell Transition) → ℕ → ℕ → Transition
+chain_end members bases cells place n =
+    sequence_of (pair_cell (ends_at members place).pair.columns (ends_at members n).pair.columns (unwrap_or (slice_get cells n) known.Zero))
+    (unwrap_or (slice_get bases n) record { from = (ends_at members n).pair.columns; to = 0; cases = [] })
+
+abbrev pub lost_in_chain_end : List PairEnds → List Transition → List (Cell Transition) → ℕ → ℕ → List Loss
+lost_in_chain_end members bases cells place n =
+    lost_in_sequence (pair_cell (ends_at members place).pair.columns (ends_at members n).pair.columns (unwrap_or (slice_get cells n) known.Zero))
+    (unwrap_or (slice_get bases n) record { from = (ends_at members n).pair.columns; to = 0; cases = [] })
+
+-- all chains from a member, over its pair
+abbrev pub chains_of : List PairEnds → List Transition → List (Cell Transition) → ℕ → Transition
+chains_of members bases cells place =
+    record {
+      from = (ends_at members place).pair.columns;
+      to = 0;
+      cases = flat_map (λ n. (chain_end members bases cells place n).cases) (order_from place (length members));
+    }
+
+abbrev pub lost_in_chains : List PairEnds → List Transition → List (Cell Transition) → ℕ → List Loss
+lost_in_chains members bases cells place =
+    flat_map (lost_in_chain_end members bases cells place) (order_from place (length members))
+
+-- the exit's columns become auxiliaries after the case's own, and these are the posts
+abbrev pub exits_told : PairEnds → Transition → Transition
+exits_told member f =
+    hidden member.ends.entry.columns (with_entries (range_with_len member.ends.entry.columns member.ends.exit.columns) f)
+
+abbrev pub lost_in_exits : PairEnds → Transition → List Loss
+lost_in_exits member f =
+    lost_in_hiding member.ends.entry.columns
+    (with_entries (range_with_len member.ends.entry.columns member.ends.exit.columns) f)
+
+unfoldable pub closed_by : List PairEnds → List Transition → ℕ → List (Cell Transition) → Posing Transition
+closed_by members bases place cells =
+    Noted
+    (loss_notes
+    (lost_in_chains members bases cells place
+    ++ lost_in_exits (ends_at members place) (chains_of members bases cells place)))
+    (settled_and_fitted (exits_told (ends_at members place) (chains_of members bases cells place))
+    (ends_at members place).ends.entry (ends_at members place).ends.exit)
+
+unfoldable pub closed_member : List PairEnds → List Stretch → List Transition → ℕ → Posing Transition
+closed_member members stretches bases place =
+    Noted (loss_notes (flat_map (lost_in_group_leaf members) stretches))
+    (evaluated (group_graph members stretches) place) >>= λ cells.
+    closed_by members bases place cells
+
+unfoldable pub with_closed : List PairEnds → List Stretch → List Transition → List Transition → ℕ → Posing (List Transition)
+with_closed members stretches bases made place =
+    closed_member members stretches bases place >>= λ f. Done (made ++ f ∷ [])
+
+-- ---- the closure
+
+unfoldable pub closure_of : Program → List ℕ → List (Option Transition) → List Transition → List Transition → Posing (List Transition)
+closure_of program procs known bases table =
+    stretches_of program procs (with_table procs table known) >>= λ stretches.
+    each (with_closed (map (pair_ends program) (members_of program procs)) stretches bases) []
+    (range_with_len 0 (length (members_of program procs)))
+
+-- ---- the bases
+
+-- what holds of the pairs of activations without a call of the group, by one evaluation from the entry
+unfoldable pub base_of : Program → List (Option Transition) → Proc → Posing Transition
+base_of program known p =
+    cells_from (subject_of program p known) 0 >>= λ cells.
+    Noted (loss_notes (lost_in_base (pair_ends program p) (formula_at (columns_of (subject_of program p known)) cells (subject_of program p known).exit)))
+    (Done (base_from (pair_ends program p) (formula_at (columns_of (subject_of program p known)) cells (subject_of program p known).exit)))
+
+unfoldable pub with_base : Program → List (Option Transition) → List Transition → Proc → Posing (List Transition)
+with_base program known made p = base_of program known p >>= λ base. Done (made ++ base ∷ [])
+
+unfoldable pub bases_of : Program → List ℕ → List (Option Transition) → Posing (List Transition)
+bases_of program procs known = each (with_base program (with_table procs [] known)) [] (members_of program procs)
