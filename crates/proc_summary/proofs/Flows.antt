@@ -72,6 +72,9 @@ module _ (program : Program) (proc : ℕ) (p : Proc) (known : List (Option Trans
   some-nodes : 0 < (own_graph p).nodes
   some-nodes = omega arith
 
+  pub some-graph : 0 < g.nodes
+  some-graph = subst (λ n. 0 < n) (sym (nodes-are program proc p known is g of)) some-nodes
+
   columns-of : (formed : IsWellFormed program) (are : AreKnown program known) → columns_of (subject_of program p known) ≡ width_of program p
   columns-of formed are = ap (λ (voc : Vocabulary). voc.columns) (vocabulary-is program proc p known is formed are 0 some-nodes) ∙ full-columns program p
 

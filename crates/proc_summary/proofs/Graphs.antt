@@ -37,7 +37,8 @@ use Rattle.checked_tree.specs.Graph as graphs
 use Rattle.checked_tree.specs.Law.{CellsHold, IsEnd, IsEvaluated, IsLeaf, IsRun}
 use Rattle.proc_summary.specs.Subject.{Subject, arc_leaf, graph_by, link_of, lost_in_arc, own_graph, subject_of}
 use Rattle.proc_summary.specs.Claims.{HoldsOfWalks}
-use Rattle.proc_summary.specs.Parts.{AreActsOf, IsFit, IsGraphOf, edge_leaf, edge_link, lost_in_edge}
+use Rattle.proc_summary.specs.declared.edges.Parts.{Parts}
+use Rattle.proc_summary.specs.Parts.{AreActsOf, ArePartsOf, IsFit, IsGraphOf, edge_leaf, edge_link, graph_of_parts, lost_in_edge}
 use Rattle.proc_summary.proofs.Below.{IsVocabulary-full, act-fits, act_of_edge, all_get, fits-solvable, leaf_few, leaf_holds, some_at}
 
 -- ---- lists of edges
@@ -179,6 +180,9 @@ full-end program p formed fit = record {
   few = subst (λ n. n ≤ 63) (sym (full-columns program p)) (narrow program p formed fit);
 }
 
+pub acts-are : (program : Program) (proc : ℕ) (g : Graph) → IsGraphOf program proc g → (edges : List Edge) → edges ≡ g.edges → AreActsOf program proc edges
+acts-are program proc g of edges same i d lt = act_of_edge program proc g edges i (get_or edges i d) of.same same lt (get_or_default edges i d (get_or edges i d) lt)
+
 -- ---- the subject of a procedure
 
 abbrev no_vocabulary : Vocabulary
@@ -213,9 +217,6 @@ module _ (program : Program) (proc : ℕ) (p : Proc) (known : List (Option Trans
     losses-are =
         flat-arcs (lost_in_edge program proc known) (lost_in_arc program p known) (λ edge. λ i. lost_in_leaf (columns-is i) (length program.globals) known (statement_of_act edge.act)) g.edges
         ∙ ap (flat_map (lost_in_arc program p known)) arcs-are
-
-  pub acts-are : (g : Graph) → IsGraphOf program proc g → (edges : List Edge) → edges ≡ g.edges → AreActsOf program proc edges
-  acts-are g of edges same i d lt = act_of_edge program proc g edges i (get_or edges i d) of.same same lt (get_or_default edges i d (get_or edges i d) lt)
 
   module _ (formed : IsWellFormed program) (are : AreKnown program known) where
     abbrev s : Subject
@@ -313,3 +314,42 @@ module _ (program : Program) (proc : ℕ) (p : Proc) (known : List (Option Trans
           let runs = walk-runs path source node before after long walk in
           hold node cell e (map (λ (stride : Stride). stride.edge) path) runs.0 before after
           (long ∙ sym (ap (λ (voc : Vocabulary). voc.columns) (vocabulary-is source lt) ∙ full-columns program p)) runs.1
+
+-- ---- for the code: what a subject is made from
+
+module _ (program : Program) (proc : ℕ) (p : Proc) (known : List (Option Transition)) (is : slice_get program.procs proc ≡ Some p) (g : Graph) (of : IsGraphOf program proc g) where
+  pub links-inside : IsGraph (own_graph p).nodes (subject_of program p known).links
+  links-inside =
+      let within = subst (λ n. All (λ (edge : Edge). (edge.from < n) × (edge.to < n)) g.edges) (nodes-are program proc p known is g of) of.edges in
+      subst (IsGraph (own_graph p).nodes) (links-are program proc p known is g of)
+      (All-map (λ (link : Link). (link.from < (own_graph p).nodes) × (link.to < (own_graph p).nodes)) edge_link g.edges within)
+
+  module _ (parts : Parts) (made : ArePartsOf (subject_of program p known) parts) where
+    pub graph-made : graph_of_parts parts ≡ graph_by (subject_of program p known)
+    graph-made = λ i. record { links = made.links i; leaves = made.leaves i; nodes = made.nodes i }
+
+    module _ (formed : IsWellFormed program) (are : AreKnown program known) (all : AllByRecursion IsFit parts.leaves) (source : ℕ) (lt : source < g.nodes) where
+      lt-own : source < (own_graph p).nodes
+      lt-own = subst (λ n. source < n) (nodes-are program proc p known is g of) lt
+
+      fit-own : AllByRecursion IsFit (subject_of program p known).leaves
+      fit-own = subst (AllByRecursion IsFit) made.leaves all
+
+      pub parts-evaluated : IsEvaluated (graph_of_parts parts) source
+      parts-evaluated = subst (λ h. IsEvaluated h source) (sym graph-made) (is-evaluated program proc p known is formed are fit-own links-inside source lt-own)
+
+      pub parts-hold : (cells : List (Cell Transition)) → CellsHold (graph_of_parts parts) source cells → HoldsOfWalks program p known source cells
+      parts-hold cells hold = holds-of-walks program proc p known is formed are fit-own links-inside source cells lt-own (subst (λ h. CellsHold h source cells) graph-made hold)
+
+    pub few-links : (formed : IsWellFormed program) → length parts.links < 2 ^ 32
+    few-links formed =
+        let few = few-arcs program p (proc-fit program proc p formed is) in
+        let long = length-map (own_graph p).arcs link_of in
+        subst (λ (links : List Link). length links < 2 ^ 32) (sym made.links) (omega (arith, few, long))
+
+    pub few-nodes : (formed : IsWellFormed program) → length parts.nodes < 2 ^ 32
+    few-nodes formed =
+        let fit : IsProcFit program p = proc-fit program proc p formed is in
+        let few = fit.nodes in
+        let long = length-replicate (own_graph p).nodes (full_of program p) in
+        subst (λ (nodes : List Vocabulary). length nodes < 2 ^ 32) (sym made.nodes) (omega (arith, few, long))

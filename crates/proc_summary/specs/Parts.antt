@@ -15,6 +15,7 @@ use Rattle.path_expr.specs.declared.link.Link.{Link}
 use Rattle.syntax_tree.specs.declared.program.Program.{Program}
 use Rattle.transition_formula.specs.declared.loss.Loss.{Loss}
 use Rattle.transition_formula.specs.Transition.{Transition, IsTransition, IsFitted}
+use Rattle.checked_tree.specs.Graph as graphs
 use Rattle.proc_summary.specs.declared.edges.Parts.{Parts}
 use Rattle.proc_summary.specs.declared.stop.Flow.{Flow}
 use Rattle.proc_summary.specs.declared.stop.Stop.{Stop}
@@ -53,6 +54,9 @@ pub record ArePartsOf (s : Subject) (parts : Parts) : Type 0 where
   pub leaves : parts.leaves ≡ s.leaves
   pub lost : parts.lost ≡ s.lost
   pub nodes : parts.nodes ≡ s.nodes
+
+abbrev pub graph_of_parts : Parts → graphs.Graph
+graph_of_parts parts = graphs.graph_of parts.links parts.leaves parts.nodes
 
 -- ---- the nodes that count, by the graph that was made
 
