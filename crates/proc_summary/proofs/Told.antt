@@ -215,6 +215,21 @@ module _ (program : Program) (proc : ℕ) (p : Proc) (formed : IsWellFormed prog
     fits = told-fit (entry_width program p) places (exit_formula (width_of program p) exit) (told-from exit h) (exit-fit exit h);
   }
 
+  -- ---- for the code, where columns and places are told by equations
+
+  module _ (columns entry : ℕ) (given : List ℕ) (exit : Option Transition) (wide : columns ≡ width_of program p) (first : entry ≡ entry_width program p) (same : given ≡ places) (fits : FitsIf (width_of program p) exit) where
+    pub told-as : IsToldFrom columns entry given exit
+    told-as =
+        subst (λ n. IsToldFrom n entry given exit) (sym wide)
+        (subst (λ n. IsToldFrom (width_of program p) n given exit) (sym first)
+        (subst (λ all. IsToldFrom (width_of program p) (entry_width program p) all exit) (sym same) (told-from exit fits)))
+
+    pub told-is : told_of entry given (exit_formula columns exit) ≡ told_of (entry_width program p) places (exit_formula (width_of program p) exit)
+    told-is = λ i. told_of (first i) (same i) (exit_formula (wide i) exit)
+
+  pub told-solved : (exit : Option Transition) → FitsIf (width_of program p) exit → AreSolvable (told_of (entry_width program p) places (exit_formula (width_of program p) exit)).cases
+  told-solved exit h = told-solvable (entry_width program p) places (exit_formula (width_of program p) exit) (told-from exit h) (exit-fit exit h)
+
   -- ---- the summary
 
   exits-are : (returns : Bool) (globals : ℕ) → globals + value_width returns ≡ (if returns then globals + 1 else globals)
