@@ -80,6 +80,13 @@ small-between from to f g h small = record {
 
 -- ---- a formula of which some is told
 
+pub hidden-few : (entry : ℕ) (places : List ℕ) (f : Transition) → IsToldBy entry places f → All (λ (case : Case). case.aux + (f.from - entry) + f.to < 2 ^ 32) f.cases
+hidden-few entry places f told =
+    let few = told.from_few in
+    let small = told.to_few in
+    All-from_recursion (λ (case : Case). case.aux + (f.from - entry) + f.to < 2 ^ 32) f.cases
+    (each-more (λ (case : Case). case.aux ≤ 64) (λ (case : Case). case.aux + (f.from - entry) + f.to < 2 ^ 32) (λ case le. omega (arith, le, few, small)) f.cases (fitted-few f.cases told.fitted))
+
 module _ (entry : ℕ) (places : List ℕ) (f : Transition) (told : IsToldBy entry places f) (fit : IsFit f) where
   pub told-fit : IsFit (told_of entry places f)
   told-fit = with_posts-fits places (hidden entry f) told.there (hidden-fits entry f.from f.to f.cases told.fewer fit)
@@ -90,13 +97,6 @@ module _ (entry : ℕ) (places : List ℕ) (f : Transition) (told : IsToldBy ent
       few-solvable entry (length places) (told_of entry places f).cases (omega (arith, short)) told-fit
       (All-from_recursion (λ (case : Case). case.aux < 2 ^ 31) (told_of entry places f).cases
       (told-few entry f.from f.to places f.cases told.from_few told.to_few fit (fitted-few f.cases told.fitted)))
-
-  pub hidden-few : All (λ (case : Case). case.aux + (f.from - entry) + f.to < 2 ^ 32) f.cases
-  hidden-few =
-      let few = told.from_few in
-      let small = told.to_few in
-      All-from_recursion (λ (case : Case). case.aux + (f.from - entry) + f.to < 2 ^ 32) f.cases
-      (each-more (λ (case : Case). case.aux ≤ 64) (λ (case : Case). case.aux + (f.from - entry) + f.to < 2 ^ 32) (λ case le. omega (arith, le, few, small)) f.cases (fitted-few f.cases told.fitted))
 
   pub told-holds : (before after : State) → Holds f before after → Holds (told_of entry places f) (take entry before) (numbers_at places after)
   told-holds before after h = with_posts-holds places (hidden entry f) (take entry before) after (hidden-holds entry f told.fewer fit before after h)
