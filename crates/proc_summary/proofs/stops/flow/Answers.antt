@@ -25,11 +25,11 @@ flow_in-requires g c =
 
 pub returns-in_err-cells-clause-follows : goal.returns-in_err-cells-clause-follows
 unfolding flow_from
-returns-in_err-cells-clause-follows g c = λ p is. error_first _ (c.in_err-cells.ensures.follows p is) refl c.from_residual.ensures.1
+returns-in_err-cells-clause-follows g c = λ p is. error_first _ (c.in_err-cells.ensures.follows p is) refl c.from_residual-in_err-cells.ensures.1
 
 pub returns-in_err-flow-clause-follows : goal.returns-in_err-flow-clause-follows
 unfolding flow_from
-returns-in_err-flow-clause-follows g c = λ p is. value_first _ (c.in_ok-cells.ensures.follows p is) refl (stops _ _ _ _ _ _ refl c.from_residual.ensures.1)
+returns-in_err-flow-clause-follows g c = λ p is. value_first _ (c.in_ok-cells.ensures.follows p is) refl (stops _ _ _ _ _ _ refl c.from_residual-in_err-flow.ensures.1)
 
 pub returns-clause-follows : goal.returns-clause-follows
 unfolding flow_from
