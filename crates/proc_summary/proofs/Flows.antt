@@ -1,19 +1,18 @@
 -- The flow of a procedure fits, and holds of activations.
-use Rattle.std.proofs.Common.{◌≡◌, ℕ, ℤ, ◌+◌, ◌-◌, ◌<◌, ◌≤◌, List, [], ◌∷◌, ◌++◌, length, map, Option, None, Some, refl, sym, ap, subst, ◌∙◌, arith, length-append}
-use Rattle.std.specs.Prelude.{All, replicate, slice_get, unwrap_or, get_or}
+use Rattle.std.proofs.Common.{◌≡◌, ℕ, ◌+◌, ◌-◌, ◌<◌, List, [], ◌∷◌, ◌++◌, length, map, Option, Some, refl, sym, ap, subst, ◌∙◌, arith, length-append}
+use Rattle.std.specs.Prelude.{All, slice_get, unwrap_or}
 use Rattle.std.specs.List.{AllByRecursion, flat_map}
 use Rattle.std.proofs.lemmas.List.{length-replicate, map-append, map-id}
-use Rattle.std.proofs.lemmas.List.Elements.{All-from_recursion, All-map, recursion_from_All}
+use Rattle.std.proofs.lemmas.List.Elements.{All-from_recursion, recursion_from_All}
 use Rattle.items.proofs.Each.{each-append, each-get, each-map}
 use Rattle.transition_formula.specs.Composition.{identity_of}
-use Rattle.transition_formula.specs.Meaning.{Holds}
 use Rattle.transition_formula.specs.Transition.{Transition}
 use Rattle.path_expr.specs.declared.cell.Cell.{Cell}
 use Rattle.path_expr.specs.declared.cell.Cell.TheVariants as found
 use Rattle.polyhedra.specs.Vocabulary.{Vocabulary}
 use Rattle.syntax_tree.specs.declared.program.Proc.{Proc}
 use Rattle.syntax_tree.specs.declared.program.Program.{Program}
-use Rattle.syntax_tree.specs.Code.{Statement, Call, code_of}
+use Rattle.syntax_tree.specs.Code.{code_of}
 use Rattle.syntax_tree.specs.Value.{State}
 use Rattle.syntax_tree.specs.WellFormed.{IsWellFormed, width_of}
 use Rattle.execution.specs.Execution.{Returns}
@@ -24,13 +23,12 @@ use Rattle.flow_graph.specs.declared.parts.Edge.{Edge}
 use Rattle.flow_graph.specs.declared.parts.Graph.{Graph}
 use Rattle.flow_graph.specs.FlowGraph.{Arc, CheckPlace, FlowGraph, exit_of}
 use Rattle.flow_graph.specs.Plain.{arc_of, check_of, statement_of_act}
-use Rattle.flow_graph.specs.Walks.{Stride, Walks, WalksTo}
+use Rattle.flow_graph.specs.Walks.{Stride, Walks}
 use Rattle.leaf_cases.specs.Conditions.{AreKnown, KnownCalls}
 use Rattle.leaf_cases.specs.Summaries.{AreMet, KnowsCallee}
 use Rattle.vocabularies.specs.Ends.{full_of}
 use Rattle.checked_tree.specs.Graph.{vocabulary_at}
 use Rattle.checked_tree.specs.Law.{AreFittedCells, FitsCell, HoldsCell}
-use Rattle.proc_summary.specs.declared.stop.Flow.{Flow}
 use Rattle.proc_summary.specs.declared.stop.Stop.{Stop}
 use Rattle.proc_summary.specs.Subject.{call_node, call_nodes, check_nodes, graph_by, own_graph, subject_of}
 use Rattle.proc_summary.specs.Flow.{columns_of, flow_in, formula_of, stop_at}

@@ -28,8 +28,8 @@ pub(crate) fn graph_of(alloc: Global, program: &Program, proc: u32) -> Result<Gr
     }
 }
 
-/// The edges of a procedure's graph as links, with the formula of each, what was lost in making these, and the vocabulary
-/// of each node.
+/// The edges of a procedure's graph as links, with the formula of each, what was lost in making these, and the
+/// vocabulary of each node.
 #[derive(Debug, Drop)]
 pub(crate) struct Parts {
     pub(crate) links: Items<Link>,
@@ -113,8 +113,8 @@ fn copies_of(alloc: Global, voc: &Vocabulary, count: u32) -> Result<Items<Vocabu
     Ok(copies)
 }
 
-/// Each formula has the posts and columns that it says, as its type keeps them. It goes over the formulas and has no part in
-/// an answer.
+/// Each formula has the posts and columns that it says, as its type keeps them. It goes over the formulas and has
+/// no part in an answer.
 fn see_fit(leaves: &[Formula])
     ensures { AllByRecursion IsFit leaves.now }
 {

@@ -20,8 +20,8 @@ use std::alloc::Global;
 use syntax_tree::Program;
 use transition_formula::Formula;
 
-/// What stands at each node of a procedure's graph, from a source among its nodes, by the known formulas of procedures; a
-/// call of one without a known formula leads nowhere.
+/// What stands at each node of a procedure's graph, from a source among its nodes, by the known formulas of
+/// procedures; a call of one without a known formula leads nowhere.
 #[tactic(auto, using(posing::proofs::Following::following))]
 pub fn cells<O: Oracle>(
     alloc: Global,

@@ -1,8 +1,7 @@
-use Rattle.std.proofs.Common.{◌≡◌, ◌++◌, List, ap, sym, subst, ◌∙◌, map, replicate}
+use Rattle.std.proofs.Common.{◌++◌, ap, ◌∙◌, map, replicate}
 use Rattle.std.specs.List.{flat_map}
 use Rattle.proc_summary.specs.Parts.{edge_leaf, edge_link, lost_in_edge}
 use Rattle.proc_summary.proofs.Graphs.{acts-are, leaves-are, links-are, losses-are, nodes-are}
-use Rattle.vocabularies.specs.Ends.{full_of}
 use Rattle.proc_summary.proofs.edges.parts_of.Goals as goal
 
 pub leaves_of-requires-clause-acts : goal.leaves_of-requires-clause-acts

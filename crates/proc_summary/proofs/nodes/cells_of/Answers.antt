@@ -1,9 +1,9 @@
-use Rattle.std.proofs.Common.{◌≡◌, ◌<◌, ◌^◌, ◌∙◌, Ok, Err, ap, length, refl, sym, subst}
+use Rattle.std.proofs.Common.{◌≡◌, ◌<◌, ◌^◌, ◌∙◌, Ok, Err, ap, length, sym, subst}
 use Rattle.std.specs.Prelude.{Result, IfOk}
 use Rattle.posing.specs.Logs.{loss_notes}
 use Rattle.posing.proofs.Steps.{in_other_words, notes_first}
 use Rattle.checked_tree.specs.Evaluation.{evaluated}
-use Rattle.checked_tree.specs.Graph.{Graph, graph_of}
+use Rattle.checked_tree.specs.Graph.{graph_of}
 use Rattle.checked_tree.specs.Law.{AreFittedCells, CellsHold, IsEvaluated}
 use Rattle.proc_summary.specs.Claims.{HoldsOfWalks}
 use Rattle.proc_summary.specs.Flow.{cells_from}

@@ -1,9 +1,6 @@
-use Rattle.std.proofs.Common.{◌≡◌, ◌<◌, ◌∙◌, ap, arith, refl, sym, subst}
+use Rattle.std.proofs.Common.{◌≡◌, ◌∙◌, refl, sym, subst}
 use Rattle.posing.proofs.Following.{stops}
 use Rattle.posing.proofs.Steps.{at_end, error_first, value_first}
-use Rattle.path_expr.specs.declared.cell.Cell.{Cell}
-use Rattle.transition_formula.specs.Transition.{Transition}
-use Rattle.proc_summary.specs.declared.stop.Flow.{Flow}
 use Rattle.proc_summary.specs.Claims.{FitsFlow, FlowHolds}
 use Rattle.proc_summary.specs.Flow.{flow_from, flow_in}
 use Rattle.proc_summary.specs.Parts.{graph_flow}
