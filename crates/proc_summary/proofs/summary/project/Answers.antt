@@ -1,5 +1,5 @@
-use Rattle.std.proofs.Common.{◌≡◌, ◌∙◌, Ok, Err, [], ◌++◌, ap, refl, sym, subst}
-use Rattle.std.specs.Prelude.{Result, IfOk}
+use Rattle.std.proofs.Common.{◌≡◌, ◌∙◌, [], ◌++◌, ap, sym, subst}
+use Rattle.std.proofs.lemmas.Result.{IfOk-weaker}
 use Rattle.transition_formula.specs.Meaning.{Covers}
 use Rattle.transition_formula.specs.Transition.{Transition, AreSolvable}
 use Rattle.posing.specs.Logs.{loss_notes}
@@ -85,13 +85,9 @@ returns-clause-follows g c = λ p is.
     notes_first c.in_ok-add_losses.ensures (ap loss_notes lost)
     (in_other_words (λ i. settled_and_fitted (told i) (c.in_ok-entry.ensures p is i) (c.in_ok-exit.ensures p is i)) c.settled_and_fitted.ensures.follows)
 
-if_ok-more : {A E : Type 0} (P Q : A → Type 0) (r : Result A E) → ((x : A) → P x → Q x) → IfOk r P → IfOk r Q
-if_ok-more P Q (Ok x) more h = more x h
-if_ok-more P Q (Err e) more h = tt
-
 pub returns-clause-known : goal.returns-clause-known
 returns-clause-known g c = λ p is.
-    if_ok-more (IsBetweenEnds c.in_ok-entry.entry c.in_ok-exit.exit) (IsKnown c.args.program.now p) c.settled_and_fitted.result
+    IfOk-weaker c.settled_and_fitted.result (IsBetweenEnds c.in_ok-entry.entry c.in_ok-exit.exit) (IsKnown c.args.program.now p)
     (λ made h. summary-known c.args.program.now c.args.proc p c.requires.formed is made
     (subst (λ voc. IsBetweenEnds voc (ends.exit_of c.args.program.now p) made) (c.in_ok-entry.ensures p is) (subst (λ voc. IsBetweenEnds c.in_ok-entry.entry voc made) (c.in_ok-exit.ensures p is) h)))
     c.settled_and_fitted.ensures.fits
@@ -108,6 +104,6 @@ returns-clause-met g c = λ holds.
         (c.columns_of-columns.ensures ∙ columns-is program c.args.proc p [] is)
         (c.columns.ensures.columns ∙ ap (λ (voc : Vocabulary). voc.columns) (c.in_ok-entry.ensures p is) ∙ entry-columns program c.args.proc p c.requires.formed is)
         (c.as_slice.ensures ∙ c.in_ok-places.ensures p is) fits in
-    if_ok-more (λ f. Covers f c.in_ok-told.told) (SummaryIsMet program c.args.proc) c.settled_and_fitted.result
+    IfOk-weaker c.settled_and_fitted.result (λ f. Covers f c.in_ok-told.told) (SummaryIsMet program c.args.proc)
     (λ f covers. summary-met program c.args.proc p c.requires.formed is c.args.flow.now f (c.requires.flow p is) holds (subst (Covers f) made covers))
     c.settled_and_fitted.ensures.covers

@@ -1,5 +1,4 @@
-use Rattle.std.proofs.Common.{Ok, Err, ◌∙◌}
-use Rattle.std.specs.Prelude.{Result, IfOk}
+use Rattle.std.proofs.lemmas.Result.{IfOk-weaker}
 use Rattle.posing.proofs.Steps.{value_has}
 use Rattle.polyhedra.specs.Laws.{IsSmall}
 use Rattle.checked_tree.specs.Law.{IsBetweenEnds, IsFrom}
@@ -13,13 +12,9 @@ fit-requires g c =
     (value_has (IsFrom c.args.from.now c.args.to.now) c.in_ok-settled.ensures.follows
     (settled-from c.args.from.now c.args.to.now c.requires.start c.requires.end c.args.f.now c.requires.between))
 
-if_ok-more : {A E : Type 0} (P Q : A → Type 0) (r : Result A E) → ((x : A) → P x → Q x) → IfOk r P → IfOk r Q
-if_ok-more P Q (Ok x) more h = more x h
-if_ok-more P Q (Err e) more h = tt
-
 pub returns-clause-fits : goal.returns-clause-fits
 returns-clause-fits g c =
-    if_ok-more (IsSmall c.in_ok-settled.settled) (IsBetweenEnds c.args.from.now c.args.to.now) c.fit.result
+    IfOk-weaker c.fit.result (IsSmall c.in_ok-settled.settled) (IsBetweenEnds c.args.from.now c.args.to.now)
     (λ made small. small-between c.args.from.now c.args.to.now c.in_ok-settled.settled made
     (value_has (IsFrom c.args.from.now c.args.to.now) c.in_ok-settled.ensures.follows
     (settled-from c.args.from.now c.args.to.now c.requires.start c.requires.end c.args.f.now c.requires.between)) small) c.fit.ensures.small

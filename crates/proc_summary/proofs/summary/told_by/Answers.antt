@@ -1,8 +1,6 @@
-use Rattle.std.proofs.Common.{◌<◌, ◌^◌, ◌∙◌, ap, arith, length, sym, subst, rules}
+use Rattle.std.proofs.Common.{◌<◌, arith, sym, subst}
 use Rattle.std.specs.Prelude.{All}
-use Rattle.transition_formula.specs.Posts.{with_posts}
-use Rattle.transition_formula.specs.Transition.{Transition, IsTransition}
-use Rattle.proc_summary.specs.Parts.{IsFit}
+use Rattle.transition_formula.specs.Transition.{Transition}
 use Rattle.proc_summary.proofs.Told.{hidden-few}
 use Rattle.proc_summary.proofs.summary.told_by.Goals as goal
 
