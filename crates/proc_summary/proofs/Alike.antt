@@ -350,13 +350,15 @@ alike_procs_are_one program other p q known others h =
     let e : exit_of (code_of p.body) ≡ exit_of (code_of q.body) = omega (arith, n) in
     let f : (own_graph p).nodes ≡ (own_graph q).nodes = omega (arith, n) in
     let arcs = arcs-alike same program other p q h in
-    let wide = width-alike same program other p q h in
-    ((λ i. record {
-      links = links-alike same (own_graph p).arcs (own_graph q).arcs arcs i;
-      leaves = ((λ j. map (λ (way : Arc). leaf_of (wide j) (h.globals j) known way.act) (own_graph p).arcs) ∙ leaves-alike (width_of other q) (length other.globals) known others (own_graph p).arcs (own_graph q).arcs arcs) i;
-      lost = ((λ j. flat_map (λ (way : Arc). lost_in_leaf (wide j) (h.globals j) known way.act) (own_graph p).arcs) ∙ losses-alike (width_of other q) (length other.globals) known others (own_graph p).arcs (own_graph q).arcs arcs) i;
-      nodes = replicate (f i) (full-alike same program other p q h i);
-      exit = e i;
-      checks = code-checks same 0 0 (code_of p.body) (code_of q.body) refl h.body i;
-      calls = calls-alike same (own_graph p).arcs (own_graph q).arcs arcs i;
-    }), ends-alike same program other p q h)
+    let wide = width-alike same program other p q h in (
+      (λ i. record {
+        links = links-alike same (own_graph p).arcs (own_graph q).arcs arcs i;
+        leaves = ((λ j. map (λ (way : Arc). leaf_of (wide j) (h.globals j) known way.act) (own_graph p).arcs) ∙ leaves-alike (width_of other q) (length other.globals) known others (own_graph p).arcs (own_graph q).arcs arcs) i;
+        lost = ((λ j. flat_map (λ (way : Arc). lost_in_leaf (wide j) (h.globals j) known way.act) (own_graph p).arcs) ∙ losses-alike (width_of other q) (length other.globals) known others (own_graph p).arcs (own_graph q).arcs arcs) i;
+        nodes = replicate (f i) (full-alike same program other p q h i);
+        exit = e i;
+        checks = code-checks same 0 0 (code_of p.body) (code_of q.body) refl h.body i;
+        calls = calls-alike same (own_graph p).arcs (own_graph q).arcs arcs i;
+      }),
+      ends-alike same program other p q h,
+    )

@@ -110,6 +110,7 @@ module _ (program : Program) (proc : ℕ) (p : Proc) (known : List (Option Trans
       one from (act.Set col value) lt = tt
       one from (act.Any col) lt = tt
       one from (act.Call q args into) lt = (lt, tt)
+
       within-each : (edges : List Edge) → AllByRecursion (λ (edge : Edge). (edge.from < (own_graph p).nodes) × (edge.to < (own_graph p).nodes)) edges → AllByRecursion (λ node. node < (own_graph p).nodes) (call_nodes (map arc_of edges))
       within-each [] h = tt
       within-each (edge ∷ edges) h = each-append (λ node. node < (own_graph p).nodes) (call_node edge.from (statement_of_act edge.act)) (call_nodes (map arc_of edges)) (one edge.from edge.act h.0.0) (within-each edges h.1)
@@ -169,10 +170,13 @@ module _ (program : Program) (proc : ℕ) (p : Proc) (known : List (Option Trans
             → Walks (Returns program) (length program.globals) (own_graph p).arcs node before path last final
             → Walks (KnownCalls known) (length program.globals) (own_graph p).arcs node before path last final
         walk-known node before [] last final walk = walk
-        walk-known node before (stride ∷ path) last final (way, is_way, from, relates, later) =
-            (way, is_way, from,
-            met_edges_are_known program known are met way.act (each-get (λ (w : Arc). KnowsCallee known w.act) (own_graph p).arcs stride.edge way knows is_way) before stride.state relates,
-            walk-known way.to stride.state path last final later)
+        walk-known node before (stride ∷ path) last final (way, is_way, from, relates, later) = (
+          way,
+          is_way,
+          from,
+          met_edges_are_known program known are met way.act (each-get (λ (w : Arc). KnowsCallee known w.act) (own_graph p).arcs stride.edge way knows is_way) before stride.state relates,
+          walk-known way.to stride.state path last final later,
+        )
 
         cell-holds : (cell : Cell Transition) (before after : State) → length before ≡ width → HoldsCell cell before after → HoldsIf (formula_of width cell) before after
         cell-holds found.Zero before after long h = h

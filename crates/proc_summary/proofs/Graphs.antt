@@ -76,7 +76,7 @@ mutual
       let one = few-code t (c + 1) a in
       let two = few-code t (e + 1) b in
       let all : length (statement_arcs t c (If cond a b)) ≡ length (code_arcs t (c + 1) a) + length (code_arcs t (e + 1) b) + 4 =
-          two-parts (arc c (c + 1) (Guard cond)) (arc c (e + 1) (unless cond)) (arc e (e + 1 + code_nodes b + 1) skip) (arc (e + 1 + code_nodes b) (e + 1 + code_nodes b + 1) skip) (code_arcs t (c + 1) a) (code_arcs t (e + 1) b) in
+      two-parts (arc c (c + 1) (Guard cond)) (arc c (e + 1) (unless cond)) (arc e (e + 1 + code_nodes b + 1) skip) (arc (e + 1 + code_nodes b) (e + 1 + code_nodes b + 1) skip) (code_arcs t (c + 1) a) (code_arcs t (e + 1) b) in
       omega (arith, one, two, all)
   few-statement t c (Loop pre cond body step false) =
       let test : ℕ = c + 1 + code_nodes pre in
@@ -87,7 +87,7 @@ mutual
       let two = few-code inner (test + 1) body in
       let three = few-code t (end_body + 1) step in
       let all : length (statement_arcs t c (Loop pre cond body step false)) ≡ length (code_arcs t (c + 1) pre) + length (code_arcs inner (test + 1) body) + length (code_arcs t (end_body + 1) step) + 5 =
-          three-parts (arc c (c + 1) skip) (arc test (test + 1) (Guard cond)) (arc end_body (end_body + 1) skip) (arc end_step (c + 1) skip) (arc test (end_step + 1) (unless cond)) (code_arcs t (c + 1) pre) (code_arcs inner (test + 1) body) (code_arcs t (end_body + 1) step) in
+      three-parts (arc c (c + 1) skip) (arc test (test + 1) (Guard cond)) (arc end_body (end_body + 1) skip) (arc end_step (c + 1) skip) (arc test (end_step + 1) (unless cond)) (code_arcs t (c + 1) pre) (code_arcs inner (test + 1) body) (code_arcs t (end_body + 1) step) in
       omega (arith, one, two, three, all)
   few-statement t c (Loop pre cond body step true) =
       let end_body : ℕ = c + 1 + code_nodes body in
@@ -96,7 +96,7 @@ mutual
       let one = few-code inner (c + 1) body in
       let two = few-code t (end_body + 1) pre in
       let all : length (statement_arcs t c (Loop pre cond body step true)) ≡ length (code_arcs inner (c + 1) body) + length (code_arcs t (end_body + 1) pre) + 4 =
-          two-parts (arc c (c + 1) skip) (arc end_body (end_body + 1) skip) (arc test (c + 1) (Guard cond)) (arc test (test + 1) (unless cond)) (code_arcs inner (c + 1) body) (code_arcs t (end_body + 1) pre) in
+      two-parts (arc c (c + 1) skip) (arc end_body (end_body + 1) skip) (arc test (c + 1) (Guard cond)) (arc test (test + 1) (unless cond)) (code_arcs inner (c + 1) body) (code_arcs t (end_body + 1) pre) in
       omega (arith, one, two, all)
   few-statement t c Break = omega arith
   few-statement t c Continue = omega arith
@@ -264,9 +264,9 @@ module _ (program : Program) (proc : ℕ) (p : Proc) (known : List (Option Trans
           let ends = leaf-ends (width_of program p) (length program.globals) known way.act in
           let between = all_get (λ link. (link.from < (own_graph p).nodes) × (link.to < (own_graph p).nodes)) s.links k (link_of way) inside (link-is k way e) in
           let from : (vocabulary_at (graph_by s) (link_at (graph_by s) k).from).columns ≡ width_of program p =
-              ap (λ (link : Link). (vocabulary_at (graph_by s) link.from).columns) (link-there k way e) ∙ ap (λ (voc : Vocabulary). voc.columns) (vocabulary-is way.from between.0) ∙ full-columns program p in
+          ap (λ (link : Link). (vocabulary_at (graph_by s) link.from).columns) (link-there k way e) ∙ ap (λ (voc : Vocabulary). voc.columns) (vocabulary-is way.from between.0) ∙ full-columns program p in
           let to : (vocabulary_at (graph_by s) (link_at (graph_by s) k).to).columns ≡ width_of program p =
-              ap (λ (link : Link). (vocabulary_at (graph_by s) link.to).columns) (link-there k way e) ∙ ap (λ (voc : Vocabulary). voc.columns) (vocabulary-is way.to between.1) ∙ full-columns program p in
+          ap (λ (link : Link). (vocabulary_at (graph_by s) link.to).columns) (link-there k way e) ∙ ap (λ (voc : Vocabulary). voc.columns) (vocabulary-is way.to between.1) ∙ full-columns program p in
           let here = leaf-there k way e in
           let thin = narrow program p formed fit in
           let few = leaf_few program (width_of program p) wide (omega (arith, thin)) known are way.act (act-fits program proc p way.act formed is (act-is k way e)) in
@@ -295,9 +295,10 @@ module _ (program : Program) (proc : ℕ) (p : Proc) (known : List (Option Trans
           → Holds (leaf_at (graph_by s) k) before after × (length after ≡ width_of program p)
       stride-runs k way before after e long relates =
           let f = arc_leaf program p known way in
-          let holds : Holds f before after = leaf_holds program (width_of program p) wide known are way.act (act-fits program proc p way.act formed is (act-is k way e)) before after long relates in
-          (subst (λ t. Holds t before after) (sym (leaf-there k way e)) holds,
-          length-after f before after (fit-leaf k way e) holds ∙ (leaf-ends (width_of program p) (length program.globals) known way.act).1)
+          let holds : Holds f before after = leaf_holds program (width_of program p) wide known are way.act (act-fits program proc p way.act formed is (act-is k way e)) before after long relates in (
+            subst (λ t. Holds t before after) (sym (leaf-there k way e)) holds,
+            length-after f before after (fit-leaf k way e) holds ∙ (leaf-ends (width_of program p) (length program.globals) known way.act).1,
+          )
 
       walk-runs : (path : List Stride) (node last : ℕ) (before after : State) → length before ≡ width_of program p
           → Walks (KnownCalls known) (length program.globals) (own_graph p).arcs node before path last after

@@ -254,7 +254,7 @@ module _ (program : Program) (proc : ℕ) (p : Proc) (formed : IsWellFormed prog
       let all = length-append globals args in
       let same : length (globals ++ args) ≡ entry_width program p = omega (arith, all, long, params) in
       let before : take (entry_width program p) (globals ++ (args ++ others)) ≡ globals ++ args =
-          ap (take (entry_width program p)) (sym (append_assoc globals args others)) ∙ (λ i. take (sym same i) ((globals ++ args) ++ others)) ∙ take-append_seam (globals ++ args) others in
+      ap (take (entry_width program p)) (sym (append_assoc globals args others)) ∙ (λ i. take (sym same i) ((globals ++ args) ++ others)) ∙ take-append_seam (globals ++ args) others in
       let wide : length final ≡ (full_of program p).columns = length-after f (globals ++ (args ++ others)) final h.fits holds ∙ h.to ∙ sym (full-columns program p) in
       let told = numbers-told p.returns (length program.globals) (full_of program p).columns final after value wide (subst (λ n. length program.globals ≤ n) (sym (full-columns program p)) (omega arith)) taken last in
       subst (λ b. Holds (told_of (entry_width program p) places f) b (exit_values p after value)) before
@@ -271,6 +271,7 @@ module _ (program : Program) (proc : ℕ) (p : Proc) (formed : IsWellFormed prog
     where
       some-one : {X : Type 0} {o : Option X} {x y : X} → o ≡ Some x → o ≡ Some y → x ≡ y
       some-one e f = cc
+
       go : (final : State) → WalksTo program proc globals args (exit_of (body_of (slice_get program.procs proc))) final × (take (length program.globals) final ≡ after) × (last_of final ≡ value)
           → exit_of (body_of (slice_get program.procs proc)) ≡ flow.exit.node → Holds g (globals ++ args) (exit_values q after value)
       go final (walk, taken, last) node =

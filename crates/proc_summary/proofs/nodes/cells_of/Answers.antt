@@ -16,7 +16,7 @@ pub evaluate-requires-clause-graph : goal.evaluate-requires-clause-graph
 evaluate-requires-clause-graph g c =
     let there = some_at c.args.program.now.procs c.args.proc c.requires.procedure in
     let same : graph_of c.as_slice-2.result.now c.as_slice-3.result.now c.as_slice-4.result.now ≡ graph_of_parts c.in_ok-parts.parts =
-        λ i. record { links = c.as_slice-2.ensures i; leaves = c.as_slice-3.ensures i; nodes = c.as_slice-4.ensures i } in
+    λ i. record { links = c.as_slice-2.ensures i; leaves = c.as_slice-3.ensures i; nodes = c.as_slice-4.ensures i } in
     subst (λ h. IsEvaluated h c.args.source) (sym same)
     (parts-evaluated c.args.program.now c.args.proc there.0 c.args.known.now there.1 c.args.graph.now c.requires.graph c.in_ok-parts.parts (c.in_ok-parts.ensures.made there.0 there.1) c.requires.formed c.requires.known c.in_ok-parts.ensures.fit c.args.source c.requires.source)
 
@@ -37,7 +37,7 @@ unfolding cells_from
 returns-clause-follows g c = λ p is.
     let made = c.in_ok-parts.ensures.made p is in
     let same : graph_of c.as_slice-2.result.now c.as_slice-3.result.now c.as_slice-4.result.now ≡ graph_of_parts c.in_ok-parts.parts =
-        λ i. record { links = c.as_slice-2.ensures i; leaves = c.as_slice-3.ensures i; nodes = c.as_slice-4.ensures i } in
+    λ i. record { links = c.as_slice-2.ensures i; leaves = c.as_slice-3.ensures i; nodes = c.as_slice-4.ensures i } in
     notes_first c.in_ok-add_losses.ensures (ap loss_notes (c.as_slice.ensures ∙ made.lost))
     (in_other_words (ap (λ h. evaluated h c.args.source) (same ∙ graph-made c.args.program.now c.args.proc p c.args.known.now is c.args.graph.now c.requires.graph c.in_ok-parts.parts made)) c.evaluate.ensures.follows)
 
@@ -45,7 +45,7 @@ pub returns-clause-fits : goal.returns-clause-fits
 returns-clause-fits g c = λ p is.
     let made = c.in_ok-parts.ensures.made p is in
     let same : graph_of c.as_slice-2.result.now c.as_slice-3.result.now c.as_slice-4.result.now ≡ graph_of_parts c.in_ok-parts.parts =
-        λ i. record { links = c.as_slice-2.ensures i; leaves = c.as_slice-3.ensures i; nodes = c.as_slice-4.ensures i } in
+    λ i. record { links = c.as_slice-2.ensures i; leaves = c.as_slice-3.ensures i; nodes = c.as_slice-4.ensures i } in
     subst (λ h. IfOk c.evaluate.result (AreFittedCells h c.args.source))
     (same ∙ graph-made c.args.program.now c.args.proc p c.args.known.now is c.args.graph.now c.requires.graph c.in_ok-parts.parts made) c.evaluate.ensures.fits
 
@@ -57,7 +57,7 @@ pub returns-clause-holds : goal.returns-clause-holds
 returns-clause-holds g c = λ p is.
     let made = c.in_ok-parts.ensures.made p is in
     let same : graph_of c.as_slice-2.result.now c.as_slice-3.result.now c.as_slice-4.result.now ≡ graph_of_parts c.in_ok-parts.parts =
-        λ i. record { links = c.as_slice-2.ensures i; leaves = c.as_slice-3.ensures i; nodes = c.as_slice-4.ensures i } in
+    λ i. record { links = c.as_slice-2.ensures i; leaves = c.as_slice-3.ensures i; nodes = c.as_slice-4.ensures i } in
     if_ok-more (CellsHold (graph_of c.as_slice-2.result.now c.as_slice-3.result.now c.as_slice-4.result.now) c.args.source) (HoldsOfWalks c.args.program.now p c.args.known.now c.args.source) c.evaluate.result
     (λ cells hold. parts-hold c.args.program.now c.args.proc p c.args.known.now is c.args.graph.now c.requires.graph c.in_ok-parts.parts made c.requires.formed c.requires.known c.in_ok-parts.ensures.fit c.args.source c.requires.source cells
     (subst (λ h. CellsHold h c.args.source cells) same hold)) c.evaluate.ensures.holds

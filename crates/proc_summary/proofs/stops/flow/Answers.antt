@@ -33,16 +33,16 @@ unfolding flow_from
 returns-clause-follows g c = λ p is.
     let program = c.args.program.now in
     let same : c.in_ok-flow.flow ≡ flow_in (subject_of program p c.args.known.now) c.in_ok-cells.cells =
-        c.in_ok-flow.ensures ∙ (λ i. graph_flow ((c.columns_of-columns.ensures ∙ columns-is program c.args.proc p c.args.known.now is) i) (c.as_slice.ensures i) c.in_ok-graph.graph)
-        ∙ flow-is program c.args.proc p c.args.known.now is c.in_ok-graph.graph c.in_ok-graph.ensures c.requires.formed c.requires.known c.in_ok-cells.cells in
+    c.in_ok-flow.ensures ∙ (λ i. graph_flow ((c.columns_of-columns.ensures ∙ columns-is program c.args.proc p c.args.known.now is) i) (c.as_slice.ensures i) c.in_ok-graph.graph)
+    ∙ flow-is program c.args.proc p c.args.known.now is c.in_ok-graph.graph c.in_ok-graph.ensures c.requires.formed c.requires.known c.in_ok-cells.cells in
     value_first _ (c.in_ok-cells.ensures.follows p is) refl (at_end same)
 
 pub returns-clause-fits : goal.returns-clause-fits
 returns-clause-fits g c = λ p is.
     let program = c.args.program.now in
     let same : c.in_ok-flow.flow ≡ flow_in (subject_of program p c.args.known.now) c.in_ok-cells.cells =
-        c.in_ok-flow.ensures ∙ (λ i. graph_flow ((c.columns_of-columns.ensures ∙ columns-is program c.args.proc p c.args.known.now is) i) (c.as_slice.ensures i) c.in_ok-graph.graph)
-        ∙ flow-is program c.args.proc p c.args.known.now is c.in_ok-graph.graph c.in_ok-graph.ensures c.requires.formed c.requires.known c.in_ok-cells.cells in
+    c.in_ok-flow.ensures ∙ (λ i. graph_flow ((c.columns_of-columns.ensures ∙ columns-is program c.args.proc p c.args.known.now is) i) (c.as_slice.ensures i) c.in_ok-graph.graph)
+    ∙ flow-is program c.args.proc p c.args.known.now is c.in_ok-graph.graph c.in_ok-graph.ensures c.requires.formed c.requires.known c.in_ok-cells.cells in
     subst (FitsFlow program p) (sym same)
     (flow-fits program c.args.proc p c.args.known.now is c.in_ok-graph.graph c.in_ok-graph.ensures c.requires.formed c.requires.known c.in_ok-cells.cells (c.in_ok-cells.ensures.fits p is))
 
@@ -53,7 +53,7 @@ returns-clause-holds g c = λ met.
     let p = there.0 in
     let is = there.1 in
     let same : c.in_ok-flow.flow ≡ flow_in (subject_of program p c.args.known.now) c.in_ok-cells.cells =
-        c.in_ok-flow.ensures ∙ (λ i. graph_flow ((c.columns_of-columns.ensures ∙ columns-is program c.args.proc p c.args.known.now is) i) (c.as_slice.ensures i) c.in_ok-graph.graph)
-        ∙ flow-is program c.args.proc p c.args.known.now is c.in_ok-graph.graph c.in_ok-graph.ensures c.requires.formed c.requires.known c.in_ok-cells.cells in
+    c.in_ok-flow.ensures ∙ (λ i. graph_flow ((c.columns_of-columns.ensures ∙ columns-is program c.args.proc p c.args.known.now is) i) (c.as_slice.ensures i) c.in_ok-graph.graph)
+    ∙ flow-is program c.args.proc p c.args.known.now is c.in_ok-graph.graph c.in_ok-graph.ensures c.requires.formed c.requires.known c.in_ok-cells.cells in
     subst (FlowHolds program c.args.proc) (sym same)
     (flow-holds program c.args.proc p c.args.known.now is c.in_ok-graph.graph c.in_ok-graph.ensures c.requires.formed c.requires.known c.in_ok-cells.cells (c.in_ok-cells.ensures.fits p is) (c.requires.callees p is) met (c.in_ok-cells.ensures.holds p is))

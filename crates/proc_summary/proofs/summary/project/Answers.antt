@@ -38,10 +38,10 @@ settled_and_fitted-requires-clause-between g c =
     let is = there.1 in
     let fits = (c.requires.flow p is).exit in
     let made : c.in_ok-told.told ≡ told_of (entry_width program p) (exit_places (ends_of program p)) (exit_formula (width_of program p) c.args.flow.now.exit.formula) =
-        c.in_ok-told.ensures.made ∙ told-is program c.args.proc p c.requires.formed is c.columns_of-columns.result c.columns.result c.as_slice.result.now c.args.flow.now.exit.formula
-        (c.columns_of-columns.ensures ∙ columns-is program c.args.proc p [] is)
-        (c.columns.ensures.columns ∙ ap (λ (voc : Vocabulary). voc.columns) (c.in_ok-entry.ensures p is) ∙ entry-columns program c.args.proc p c.requires.formed is)
-        (c.as_slice.ensures ∙ c.in_ok-places.ensures p is) fits in
+    c.in_ok-told.ensures.made ∙ told-is program c.args.proc p c.requires.formed is c.columns_of-columns.result c.columns.result c.as_slice.result.now c.args.flow.now.exit.formula
+    (c.columns_of-columns.ensures ∙ columns-is program c.args.proc p [] is)
+    (c.columns.ensures.columns ∙ ap (λ (voc : Vocabulary). voc.columns) (c.in_ok-entry.ensures p is) ∙ entry-columns program c.args.proc p c.requires.formed is)
+    (c.as_slice.ensures ∙ c.in_ok-places.ensures p is) fits in
     subst (λ voc. IsFrom voc c.in_ok-exit.exit c.in_ok-told.told) (sym (c.in_ok-entry.ensures p is))
     (subst (λ voc. IsFrom (entry_of program p) voc c.in_ok-told.told) (sym (c.in_ok-exit.ensures p is))
     (subst (IsFrom (entry_of program p) (ends.exit_of program p)) (sym made) (told-between program c.args.proc p c.requires.formed is c.args.flow.now.exit.formula fits)))
@@ -64,10 +64,10 @@ settled_and_fitted-requires-clause-solvable g c =
     let is = there.1 in
     let fits = (c.requires.flow p is).exit in
     let made : c.in_ok-told.told ≡ told_of (entry_width program p) (exit_places (ends_of program p)) (exit_formula (width_of program p) c.args.flow.now.exit.formula) =
-        c.in_ok-told.ensures.made ∙ told-is program c.args.proc p c.requires.formed is c.columns_of-columns.result c.columns.result c.as_slice.result.now c.args.flow.now.exit.formula
-        (c.columns_of-columns.ensures ∙ columns-is program c.args.proc p [] is)
-        (c.columns.ensures.columns ∙ ap (λ (voc : Vocabulary). voc.columns) (c.in_ok-entry.ensures p is) ∙ entry-columns program c.args.proc p c.requires.formed is)
-        (c.as_slice.ensures ∙ c.in_ok-places.ensures p is) fits in
+    c.in_ok-told.ensures.made ∙ told-is program c.args.proc p c.requires.formed is c.columns_of-columns.result c.columns.result c.as_slice.result.now c.args.flow.now.exit.formula
+    (c.columns_of-columns.ensures ∙ columns-is program c.args.proc p [] is)
+    (c.columns.ensures.columns ∙ ap (λ (voc : Vocabulary). voc.columns) (c.in_ok-entry.ensures p is) ∙ entry-columns program c.args.proc p c.requires.formed is)
+    (c.as_slice.ensures ∙ c.in_ok-places.ensures p is) fits in
     subst (λ (t : Transition). AreSolvable t.cases) (sym made) (told-solved program c.args.proc p c.requires.formed is c.args.flow.now.exit.formula fits)
 
 pub returns-clause-follows : goal.returns-clause-follows
@@ -79,9 +79,9 @@ returns-clause-follows g c = λ p is.
     let first : c.columns.result ≡ (entry_of program p).columns = c.columns.ensures.columns ∙ ap (λ (voc : Vocabulary). voc.columns) (c.in_ok-entry.ensures p is) in
     let same : c.as_slice.result.now ≡ exit_places (ends_of program p) = c.as_slice.ensures ∙ c.in_ok-places.ensures p is in
     let told : c.in_ok-told.told ≡ told_of (entry_of program p).columns (exit_places (ends_of program p)) (exit_formula (full_of program p).columns exit) =
-        c.in_ok-told.ensures.made ∙ (λ i. told_of (first i) (same i) (exit_formula (wide i) exit)) in
+    c.in_ok-told.ensures.made ∙ (λ i. told_of (first i) (same i) (exit_formula (wide i) exit)) in
     let lost : c.as_slice-2.result.now ≡ lost_in_hiding (entry_of program p).columns (exit_formula (full_of program p).columns exit) =
-        c.as_slice-2.ensures ∙ c.in_ok-told.ensures.noted ∙ ap (λ front. front ++ lost_in_hiding c.columns.result (exit_formula c.columns_of-columns.result exit)) c.new-lost.ensures ∙ (λ i. lost_in_hiding (first i) (exit_formula (wide i) exit)) in
+    c.as_slice-2.ensures ∙ c.in_ok-told.ensures.noted ∙ ap (λ front. front ++ lost_in_hiding c.columns.result (exit_formula c.columns_of-columns.result exit)) c.new-lost.ensures ∙ (λ i. lost_in_hiding (first i) (exit_formula (wide i) exit)) in
     notes_first c.in_ok-add_losses.ensures (ap loss_notes lost)
     (in_other_words (λ i. settled_and_fitted (told i) (c.in_ok-entry.ensures p is i) (c.in_ok-exit.ensures p is i)) c.settled_and_fitted.ensures.follows)
 
@@ -100,10 +100,10 @@ returns-clause-met g c = λ holds.
     let is = there.1 in
     let fits = (c.requires.flow p is).exit in
     let made : c.in_ok-told.told ≡ told_of (entry_width program p) (exit_places (ends_of program p)) (exit_formula (width_of program p) c.args.flow.now.exit.formula) =
-        c.in_ok-told.ensures.made ∙ told-is program c.args.proc p c.requires.formed is c.columns_of-columns.result c.columns.result c.as_slice.result.now c.args.flow.now.exit.formula
-        (c.columns_of-columns.ensures ∙ columns-is program c.args.proc p [] is)
-        (c.columns.ensures.columns ∙ ap (λ (voc : Vocabulary). voc.columns) (c.in_ok-entry.ensures p is) ∙ entry-columns program c.args.proc p c.requires.formed is)
-        (c.as_slice.ensures ∙ c.in_ok-places.ensures p is) fits in
+    c.in_ok-told.ensures.made ∙ told-is program c.args.proc p c.requires.formed is c.columns_of-columns.result c.columns.result c.as_slice.result.now c.args.flow.now.exit.formula
+    (c.columns_of-columns.ensures ∙ columns-is program c.args.proc p [] is)
+    (c.columns.ensures.columns ∙ ap (λ (voc : Vocabulary). voc.columns) (c.in_ok-entry.ensures p is) ∙ entry-columns program c.args.proc p c.requires.formed is)
+    (c.as_slice.ensures ∙ c.in_ok-places.ensures p is) fits in
     IfOk-weaker c.settled_and_fitted.result (λ f. Covers f c.in_ok-told.told) (SummaryIsMet program c.args.proc)
     (λ f covers. summary-met program c.args.proc p c.requires.formed is c.args.flow.now f (c.requires.flow p is) holds (subst (Covers f) made covers))
     c.settled_and_fitted.ensures.covers
