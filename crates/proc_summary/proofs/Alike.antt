@@ -1,16 +1,14 @@
 -- Alike procedures have one subject and the same ends.
-use Rattle.std.proofs.Common.{◌≡◌, ℕ, ◌+◌, List, [], ◌∷◌, ◌++◌, length, map, take, Bool, true, false, Option, refl, sym, ap, subst, ◌∙◌, arith}
-use Rattle.std.specs.Prelude.{replicate, slice_get}
+use Rattle.std.proofs.Common.{◌≡◌, ℕ, ◌+◌, List, [], ◌∷◌, ◌++◌, length, map, take, true, false, Option, refl, sym, ap, ◌∙◌, arith}
+use Rattle.std.specs.Prelude.{replicate}
 use Rattle.std.specs.List.{flat_map, range_with_len}
 use Rattle.std.proofs.lemmas.List.{length-map, map-append}
 use Rattle.linear_terms.specs.Equality.{poly_eq}
-use Rattle.linear_terms.specs.Polynomial.{Polynomial}
 use Rattle.polyhedra.specs.Directions.{distinct}
-use Rattle.polyhedra.specs.Vocabulary.{Vocabulary}
 use Rattle.syntax_tree.specs.declared.program.Column.{Column}
 use Rattle.syntax_tree.specs.declared.program.Proc.{Proc}
 use Rattle.syntax_tree.specs.declared.program.Program.{Program}
-use Rattle.syntax_tree.specs.Code.{Statement, Set, Any, Call, Guard, Check, If, Loop, Break, Continue, Return, Code, End, Then, code_of}
+use Rattle.syntax_tree.specs.Code.{Statement, Guard, Code, code_of}
 use Rattle.syntax_tree.specs.Nodes.{code_nodes, statement_nodes}
 use Rattle.syntax_tree.specs.WellFormed.{has_name, width_of}
 use Rattle.flow_graph.specs.declared.making.Targets.{Targets}
@@ -18,11 +16,11 @@ use Rattle.flow_graph.specs.FlowGraph.{Arc, CheckPlace, arc, checks_at, code_arc
 use Rattle.leaf_cases.specs.Edges.{known_call, leaf_of, lost_in_known_call, lost_in_leaf}
 use Rattle.transition_formula.specs.Transition.{Transition}
 use Rattle.vocabularies.specs.Harvest.{compared, compared_by, compared_in, harvest_of, most_terms}
-use Rattle.vocabularies.specs.Ends.{entry_of, entry_width, exit_width, full_of, named_from, named_if, named_of, terms_below, value_width}
+use Rattle.vocabularies.specs.Ends.{entry_of, full_of, named_from, named_if, terms_below, value_width}
 use Rattle.vocabularies.specs.Ends as ends
 use Rattle.proc_summary.specs.Alike.{AlikeProcsAreOne, AreAlike, AreAlikeProcs, AreAlikeStatements, AreKnownAlike, alike_anys, alike_breaks, alike_calls, alike_checks, alike_continues, alike_ends, alike_guards, alike_ifs, alike_loops, alike_more, alike_returns, alike_sets}
-use Rattle.proc_summary.specs.Subject.{Subject, arc_leaf, call_node, call_nodes, check_nodes, link_of, lost_in_arc, own_graph, subject_of}
-use Rattle.proc_summary.specs.Summary.{Ends, ends_of}
+use Rattle.proc_summary.specs.Subject.{call_node, call_nodes, check_nodes, link_of, own_graph}
+use Rattle.proc_summary.specs.Summary.{ends_of}
 
 -- ---- edges that lead between the same nodes and do what is alike
 
@@ -352,13 +350,15 @@ alike_procs_are_one program other p q known others h =
     let e : exit_of (code_of p.body) ≡ exit_of (code_of q.body) = omega (arith, n) in
     let f : (own_graph p).nodes ≡ (own_graph q).nodes = omega (arith, n) in
     let arcs = arcs-alike same program other p q h in
-    let wide = width-alike same program other p q h in
-    ((λ i. record {
-      links = links-alike same (own_graph p).arcs (own_graph q).arcs arcs i;
-      leaves = ((λ j. map (λ (way : Arc). leaf_of (wide j) (h.globals j) known way.act) (own_graph p).arcs) ∙ leaves-alike (width_of other q) (length other.globals) known others (own_graph p).arcs (own_graph q).arcs arcs) i;
-      lost = ((λ j. flat_map (λ (way : Arc). lost_in_leaf (wide j) (h.globals j) known way.act) (own_graph p).arcs) ∙ losses-alike (width_of other q) (length other.globals) known others (own_graph p).arcs (own_graph q).arcs arcs) i;
-      nodes = replicate (f i) (full-alike same program other p q h i);
-      exit = e i;
-      checks = code-checks same 0 0 (code_of p.body) (code_of q.body) refl h.body i;
-      calls = calls-alike same (own_graph p).arcs (own_graph q).arcs arcs i;
-    }), ends-alike same program other p q h)
+    let wide = width-alike same program other p q h in (
+      (λ i. record {
+        links = links-alike same (own_graph p).arcs (own_graph q).arcs arcs i;
+        leaves = ((λ j. map (λ (way : Arc). leaf_of (wide j) (h.globals j) known way.act) (own_graph p).arcs) ∙ leaves-alike (width_of other q) (length other.globals) known others (own_graph p).arcs (own_graph q).arcs arcs) i;
+        lost = ((λ j. flat_map (λ (way : Arc). lost_in_leaf (wide j) (h.globals j) known way.act) (own_graph p).arcs) ∙ losses-alike (width_of other q) (length other.globals) known others (own_graph p).arcs (own_graph q).arcs arcs) i;
+        nodes = replicate (f i) (full-alike same program other p q h i);
+        exit = e i;
+        checks = code-checks same 0 0 (code_of p.body) (code_of q.body) refl h.body i;
+        calls = calls-alike same (own_graph p).arcs (own_graph q).arcs arcs i;
+      }),
+      ends-alike same program other p q h,
+    )

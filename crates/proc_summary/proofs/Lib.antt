@@ -1,2 +1,8 @@
--- procedures that nothing tells apart
+-- ---- the subject of a procedure, its walks, and the nodes that count
+pub mod Graphs
+pub mod Flows
+-- ---- summaries
+pub mod Told
+-- ---- procedures that nothing tells apart
 pub mod Alike
+pub mod Below

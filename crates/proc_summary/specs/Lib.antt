@@ -15,3 +15,7 @@ pub mod Summary
 pub mod Claims
 -- procedures that nothing in a flow tells apart
 pub mod Alike
+-- ---- words of proofs
+
+-- what the code makes a subject from
+pub mod Parts

@@ -2,6 +2,8 @@
 //! globals and parameters at its entry and the globals and the returned value at its exit.
 #![tactic(auto)]
 
+mod columns;
+mod edges;
 mod laws;
 mod nodes;
 mod stop;

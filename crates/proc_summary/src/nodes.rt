@@ -7,8 +7,12 @@ ghost use Rattle.syntax_tree.specs.declared.program.Proc.{Proc as Procedure};
 ghost use Rattle.proc_summary.specs.Subject.{graph_by, own_graph, subject_of};
 ghost use Rattle.proc_summary.specs.Flow.{cells_from};
 ghost use Rattle.proc_summary.specs.Claims.{HoldsOfWalks};
+ghost use Rattle.proc_summary.specs.Parts.{IsGraphOf};
 
+use crate::edges::{graph_of, parts_of};
+use checked_tree::evaluate;
 use farkas_check::Oracle;
+use flow_graph::Graph;
 use items::Items;
 use path_expr::Cell;
 use polyhedra::{Log, WorkError};
@@ -16,8 +20,9 @@ use std::alloc::Global;
 use syntax_tree::Program;
 use transition_formula::Formula;
 
-/// What stands at each node of a procedure's graph, from a source among its nodes, by the known formulas of procedures; a
-/// call of one without a known formula leads nowhere.
+/// What stands at each node of a procedure's graph, from a source among its nodes, by the known formulas of
+/// procedures; a call of one without a known formula leads nowhere.
+#[tactic(auto, using(posing::proofs::Following::following))]
 pub fn cells<O: Oracle>(
     alloc: Global,
     program: &Program,
@@ -35,5 +40,40 @@ pub fn cells<O: Oracle>(
     ensures fits { (p : Procedure) → slice_get program.now.procs proc ≡ Some p → IfOk result (AreFittedCells (graph_by (subject_of program.now p known.now)) source) }
     ensures holds { (p : Procedure) → slice_get program.now.procs proc ≡ Some p → IfOk result (HoldsOfWalks program.now p known.now source) }
 {
-    Err(WorkError::Memory)
+    let graph = graph_of(alloc, program, proc)?;
+    cells_of(alloc, program, proc, &graph, known, source, oracle, log)
+}
+
+/// The same, by the procedure's graph.
+#[tactic(auto, using(posing::proofs::Following::following), unfolding(crate::specs::Flow::cells_from))]
+pub(crate) fn cells_of<O: Oracle>(
+    alloc: Global,
+    program: &Program,
+    proc: u32,
+    graph: &Graph,
+    known: &[Option<Formula>],
+    source: u32,
+    oracle: &mut O,
+    log: &mut Log,
+) -> Result<Items<Cell<Formula>>, WorkError>
+    requires formed { IsWellFormed program.now }
+    requires procedure { proc < length program.now.procs }
+    requires graph { IsGraphOf program.now proc graph.now }
+    requires known { AreKnown program.now known.now }
+    requires source { source < graph.now.nodes }
+    ensures follows { (p : Procedure) → slice_get program.now.procs proc ≡ Some p → Follows O.asking oracle.old oracle.new log.old log.new result (cells_from (subject_of program.now p known.now) source) }
+    ensures fits { (p : Procedure) → slice_get program.now.procs proc ≡ Some p → IfOk result (AreFittedCells (graph_by (subject_of program.now p known.now)) source) }
+    ensures holds { (p : Procedure) → slice_get program.now.procs proc ≡ Some p → IfOk result (HoldsOfWalks program.now p known.now source) }
+{
+    let parts = parts_of(alloc, program, proc, graph, known)?;
+    log.add_losses(alloc, parts.lost.as_slice())?;
+    evaluate(
+        alloc,
+        parts.links.as_slice(),
+        parts.leaves.as_slice(),
+        parts.nodes.as_slice(),
+        source,
+        oracle,
+        log,
+    )
 }

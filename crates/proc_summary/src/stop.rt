@@ -8,8 +8,8 @@ pub struct Stop {
     pub formula: Option<Formula>,
 }
 
-/// What a procedure comes to: its exit, its assertions in their order, and the nodes that its calls lead from, in the order
-/// of the edges.
+/// What a procedure comes to: its exit, its assertions in their order, and the nodes that its calls lead from, in the
+/// order of the edges.
 #[derive(Debug, Drop)]
 pub struct Flow {
     pub exit: Stop,

@@ -1,21 +1,30 @@
-ghost use Rattle.std.specs.Prelude.{◌≡◌, ◌<◌, Some, length, slice_get, IfOk};
+ghost use Rattle.std.specs.Prelude.{◌≡◌, ◌<◌, ◌++◌, Some, length, map, slice_get, IfOk, OnOk};
+ghost use Rattle.std.specs.List.{flat_map};
 ghost use Rattle.syntax_tree.specs.WellFormed.{IsWellFormed};
 ghost use Rattle.posing.specs.Follows.{Follows};
 ghost use Rattle.leaf_cases.specs.Conditions.{AreKnown};
 ghost use Rattle.leaf_cases.specs.Summaries.{AreMet};
 ghost use Rattle.syntax_tree.specs.declared.program.Proc.{Proc as Procedure};
 ghost use Rattle.proc_summary.specs.Subject.{subject_of};
-ghost use Rattle.proc_summary.specs.Flow.{flow_from};
+ghost use Rattle.proc_summary.specs.Flow.{flow_from, formula_of, stop_at};
 ghost use Rattle.proc_summary.specs.Claims.{FitsFlow, FlowHolds, KnowsCallees};
+ghost use Rattle.proc_summary.specs.Parts.{call_stop, check_stop, graph_flow};
 
-use crate::stop::Flow;
+use crate::columns::columns_of;
+use crate::edges::graph_of;
+use crate::nodes::cells_of;
+use crate::stop::{Flow, Stop};
 use farkas_check::Oracle;
+use flow_graph::{Act, CheckNode, Edge, Graph};
+use items::Items;
+use path_expr::Cell;
 use polyhedra::{Log, WorkError};
 use std::alloc::Global;
 use syntax_tree::Program;
-use transition_formula::Formula;
+use transition_formula::{Formula, FormulaError, identity};
 
 /// The flow of a procedure whose callees are known.
+#[tactic(auto, using(posing::proofs::Following::following), unfolding(crate::specs::Flow::flow_from))]
 pub fn flow<O: Oracle>(
     alloc: Global,
     program: &Program,
@@ -32,5 +41,114 @@ pub fn flow<O: Oracle>(
     ensures fits { (p : Procedure) → slice_get program.now.procs proc ≡ Some p → IfOk result (FitsFlow program.now p) }
     ensures holds { AreMet program.now known.now → IfOk result (FlowHolds program.now proc) }
 {
-    Err(WorkError::Memory)
+    let graph = graph_of(alloc, program, proc)?;
+    let columns = columns_of(program, proc);
+    let cells = cells_of(alloc, program, proc, &graph, known, 0, oracle, log)?;
+    let flow = flow_in(alloc, &graph, columns, cells.as_slice())?;
+    Ok(flow)
+}
+
+/// The formulas at the nodes that count.
+fn flow_in(
+    alloc: Global,
+    graph: &Graph,
+    columns: u32,
+    cells: &[Cell<Formula>],
+) -> Result<Flow, FormulaError>
+    requires { 0 < graph.now.nodes }
+    ensures { IfOk result (λ flow. flow ≡ graph_flow columns cells.now graph.now) }
+{
+    let exit = stop_at(alloc, columns, cells, graph.nodes - 1)?;
+    let checks = check_stops(alloc, columns, cells, graph.checks.as_slice())?;
+    let calls = call_stops(alloc, columns, cells, graph.edges.as_slice())?;
+    Ok(Flow {
+        exit,
+        checks,
+        calls,
+    })
+}
+
+fn check_stops(
+    alloc: Global,
+    columns: u32,
+    cells: &[Cell<Formula>],
+    checks: &[CheckNode],
+) -> Result<Items<Stop>, FormulaError>
+    ensures { IfOk result (λ stops. stops ≡ map (check_stop columns cells.now) checks.now) }
+{
+    let mut stops = Items::new(alloc);
+    for check in checks {
+        stops.push(stop_at(alloc, columns, cells, check.node)?)?;
+    }
+    Ok(stops)
+}
+
+fn call_stops(
+    alloc: Global,
+    columns: u32,
+    cells: &[Cell<Formula>],
+    edges: &[Edge],
+) -> Result<Items<Stop>, FormulaError>
+    ensures { IfOk result (λ stops. stops ≡ flat_map (call_stop columns cells.now) edges.now) }
+{
+    let mut stops = Items::new(alloc);
+    for edge in edges {
+        add_call_stop(alloc, columns, cells, edge, &mut stops)?;
+    }
+    Ok(stops)
+}
+
+/// Adds the node that a call leads from.
+fn add_call_stop(
+    alloc: Global,
+    columns: u32,
+    cells: &[Cell<Formula>],
+    edge: &Edge,
+    stops: &mut Items<Stop>,
+) -> Result<(), FormulaError>
+    ensures { OnOk result (stops.new ≡ stops.old ++ call_stop columns cells.now edge.now) }
+{
+    match edge.act {
+        Act::Call { .. } => {
+            stops.push(stop_at(alloc, columns, cells, edge.from)?)?;
+            Ok(())
+        }
+        Act::Guard(_) | Act::Set(_, _) | Act::Any(_) => Ok(()),
+    }
+}
+
+fn stop_at(
+    alloc: Global,
+    columns: u32,
+    cells: &[Cell<Formula>],
+    node: u32,
+) -> Result<Stop, FormulaError>
+    ensures { IfOk result (λ stop. stop ≡ stop_at columns cells.now node) }
+{
+    let formula = match cells.get(node as usize) {
+        Some(cell) => formula_of(alloc, columns, cell)?,
+        None => None,
+    };
+    Ok(Stop { node, formula })
+}
+
+/// A cell as a formula over so many columns: none where no way leads, and the identity where nothing was done.
+fn formula_of(
+    alloc: Global,
+    columns: u32,
+    cell: &Cell<Formula>,
+) -> Result<Option<Formula>, FormulaError>
+    ensures { IfOk result (λ formula. formula ≡ formula_of columns cell.now) }
+{
+    match cell {
+        Cell::Zero => Ok(None),
+        Cell::One => {
+            let same = identity(alloc, columns)?;
+            Ok(Some(same))
+        }
+        Cell::Item(f) => {
+            let copy = f.clone()?;
+            Ok(Some(copy))
+        }
+    }
 }

@@ -1,21 +1,31 @@
-ghost use Rattle.std.specs.Prelude.{◌≡◌, ◌<◌, Some, length, slice_get, IfOk};
+ghost use Rattle.std.specs.Prelude.{◌≡◌, ◌<◌, ◌++◌, Some, length, slice_get, IfOk, OnOk};
 ghost use Rattle.syntax_tree.specs.WellFormed.{IsWellFormed};
 ghost use Rattle.syntax_tree.specs.declared.program.Proc.{Proc as Procedure};
+ghost use Rattle.transition_formula.specs.Hiding.{lost_in_hiding};
+ghost use Rattle.transition_formula.specs.Meaning.{Covers};
+ghost use Rattle.transition_formula.specs.Transition.{AreSolvable};
 ghost use Rattle.posing.specs.Follows.{Follows};
 ghost use Rattle.leaf_cases.specs.Conditions.{IsKnown};
 ghost use Rattle.leaf_cases.specs.Summaries.{SummaryIsMet};
-ghost use Rattle.proc_summary.specs.Summary.{ends_of, summary_from};
+ghost use Rattle.checked_tree.specs.Evaluation.{settled_and_fitted};
+ghost use Rattle.checked_tree.specs.Law.{IsBetweenEnds, IsEnd, IsFrom};
+ghost use Rattle.proc_summary.specs.Summary.{ends_of, exit_formula, summary_from, told_of};
 ghost use Rattle.proc_summary.specs.Claims.{FitsFlow, FlowHolds};
+ghost use Rattle.proc_summary.specs.Parts.{IsToldBy, IsToldFrom};
 
+use crate::columns::{columns_of, exit_places};
 use crate::stop::Flow;
 use farkas_check::Oracle;
-use polyhedra::{Log, WorkError};
+use items::Items;
+use polyhedra::{Log, Vocabulary, WorkError, fit, settle};
 use std::alloc::Global;
 use syntax_tree::Program;
-use transition_formula::Formula;
+use transition_formula::{Formula, FormulaError, Loss, hidden, with_posts};
+use vocabularies::{entry, exit};
 
 /// The summary of a procedure by its flow: from the globals and parameters to the globals and the returned value, by at most
 /// 16 cases of at most 64 rows and 64 auxiliaries. It holds of all that the flow's exit holds of.
+#[tactic(auto, using(posing::proofs::Following::following), unfolding(crate::specs::Summary::summary_from))]
 pub fn project<O: Oracle>(
     alloc: Global,
     program: &Program,
@@ -31,5 +41,79 @@ pub fn project<O: Oracle>(
     ensures known { (p : Procedure) → slice_get program.now.procs proc ≡ Some p → IfOk result (IsKnown program.now p) }
     ensures met { FlowHolds program.now proc flow.now → IfOk result (SummaryIsMet program.now proc) }
 {
-    Err(WorkError::Memory)
+    let entry = entry(alloc, program, proc)?;
+    let exit = exit(alloc, program, proc)?;
+    let columns = columns_of(program, proc);
+    let places = exit_places(alloc, program, proc)?;
+    let mut lost = Items::new(alloc);
+    let told = told_of(
+        alloc,
+        columns,
+        entry.columns(),
+        places.as_slice(),
+        &flow.exit.formula,
+        &mut lost,
+    )?;
+    log.add_losses(alloc, lost.as_slice())?;
+    settled_and_fitted(alloc, &told, &entry, &exit, oracle, log)
+}
+
+/// What an exit's formula tells: the entry's columns past the first so many become auxiliaries, and the posts at some of the
+/// exit's columns alone stay. An exit that no way leads to has no case.
+fn told_of(
+    alloc: Global,
+    columns: u32,
+    entry: u32,
+    places: &[u32],
+    exit: &Option<Formula>,
+    lost: &mut Items<Loss>,
+) -> Result<Formula, FormulaError>
+    requires { IsToldFrom columns entry places.now exit.now }
+    ensures made { IfOk result (λ told. told ≡ told_of entry places.now (exit_formula columns exit.now)) }
+    ensures noted { OnOk result (lost.new ≡ lost.old ++ lost_in_hiding entry (exit_formula columns exit.now)) }
+{
+    match exit {
+        Some(f) => told_by(alloc, entry, places, f, lost),
+        None => {
+            let nothing = Formula::from_cases(columns, columns, Items::new(alloc));
+            told_by(alloc, entry, places, &nothing, lost)
+        }
+    }
+}
+
+fn told_by(
+    alloc: Global,
+    entry: u32,
+    places: &[u32],
+    f: &Formula,
+    lost: &mut Items<Loss>,
+) -> Result<Formula, FormulaError>
+    requires { IsToldBy entry places.now f.now }
+    ensures made { IfOk result (λ told. told ≡ told_of entry places.now f.now) }
+    ensures noted { OnOk result (lost.new ≡ lost.old ++ lost_in_hiding entry f.now) }
+{
+    let hidden = hidden(alloc, f, entry, lost)?;
+    with_posts(alloc, &hidden, places)
+}
+
+/// The formula settled, then fitted between two vocabularies. It holds of all that the formula holds of.
+#[tactic(auto, using(posing::proofs::Following::following), unfolding(checked_tree::specs::Evaluation::settled_and_fitted))]
+fn settled_and_fitted<O: Oracle>(
+    alloc: Global,
+    f: &Formula,
+    from: &Vocabulary,
+    to: &Vocabulary,
+    oracle: &mut O,
+    log: &mut Log,
+) -> Result<Formula, WorkError>
+    requires between { IsFrom from.now to.now f.now }
+    requires start { IsEnd from.now }
+    requires end { IsEnd to.now }
+    requires solvable { AreSolvable f.now.cases }
+    ensures follows { Follows O.asking oracle.old oracle.new log.old log.new result (settled_and_fitted f.now from.now to.now) }
+    ensures fits { IfOk result (IsBetweenEnds from.now to.now) }
+    ensures covers { IfOk result (λ g. Covers g f.now) }
+{
+    let settled = settle(alloc, f, oracle, log)?;
+    fit(alloc, &settled, from, to, oracle, log)
 }
