@@ -166,7 +166,7 @@ act-fits program proc p statement formed is act =
     let same = subst (λ (o : Option Proc). slice_get (flow_of (body_of o)).arcs act.place ≡ Some act.way) is act.is in
     subst (EdgeFits program width) act.does (each-get (Fit program width) (flow_of (code_of p.body)).arcs act.place act.way all same)
 
-pub some_at : {X : Type 0} (xs : List X) (k : ℕ) → k < length xs → (x : X) × (slice_get xs k ≡ Some x)
+some_at : {X : Type 0} (xs : List X) (k : ℕ) → k < length xs → (x : X) × (slice_get xs k ≡ Some x)
 some_at [] k lt = absurd (omega arith)
 some_at (x ∷ xs) zero lt = (x, refl)
 some_at (x ∷ xs) (suc k) lt = some_at xs k (omega arith)
