@@ -1,6 +1,6 @@
 -- The assertions of a well-formed program are conditions that fit, and each stands in one place.
-use Rattle.std.proofs.Common.{◌≡◌, ℕ, zero, suc, ◌+◌, ◌<◌, ◌≤◌, Bool, true, false, length, List, [], ◌∷◌, ◌++◌, Option, Some, None, refl, sym, ap, subst, ◌∙◌, arith}
-use Rattle.std.specs.Prelude.{IsTrue, All, ◌&&◌, ◌==◌, nat_le, slice_get, if◌then◌else◌}
+use Rattle.std.proofs.Common.{◌≡◌, ℕ, zero, suc, ◌+◌, ◌≤◌, Bool, true, false, length, List, [], ◌∷◌, ◌++◌, Option, Some, refl, sym, ap, ◌∙◌, arith}
+use Rattle.std.specs.Prelude.{IsTrue, ◌&&◌, ◌==◌, nat_le, slice_get, if◌then◌else◌}
 use Rattle.std.specs.List.{AllByRecursion}
 use Rattle.std.proofs.lemmas.Bool.{leb-true}
 use Rattle.std.proofs.lemmas.Bool.Decides.{Decides-eqb}
@@ -10,7 +10,6 @@ use Rattle.syntax_tree.specs.declared.program.Proc.{Proc}
 use Rattle.syntax_tree.specs.declared.program.Program.{Program}
 use Rattle.syntax_tree.specs.Code.{Statement, Set, Any, Call, Guard, Check, If, Loop, Break, Continue, Return, Code, End, Then, code_of}
 use Rattle.syntax_tree.specs.Nodes.{code_nodes, statement_nodes}
-use Rattle.syntax_tree.specs.Term.{Term}
 use Rattle.syntax_tree.specs.WellFormed.{cond_fits, statement_fits, code_fits, statement_checks, code_checks, procs_checks, width_of, IsProcFit, IsWellFormed}
 use Rattle.flow_graph.specs.FlowGraph.{CheckPlace, checks_at, code_checks_at, flow_of}
 
