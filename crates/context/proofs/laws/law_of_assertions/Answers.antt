@@ -1,0 +1,5 @@
+use Rattle.context.proofs.Sound.{never-fails}
+use Rattle.context.proofs.laws.law_of_assertions.Goals as goal
+
+pub returns : goal.returns
+returns c = never-fails
