@@ -11,7 +11,6 @@ use Rattle.syntax_tree.specs.declared.program.Program.{Program}
 use Rattle.syntax_tree.specs.Code.{Statement, Guard, Code, code_of}
 use Rattle.syntax_tree.specs.Nodes.{code_nodes, statement_nodes}
 use Rattle.syntax_tree.specs.WellFormed.{has_name, width_of}
-use Rattle.flow_graph.specs.declared.making.Targets.{Targets}
 use Rattle.flow_graph.specs.FlowGraph.{Arc, CheckPlace, arc, checks_at, code_arcs, code_checks_at, exit_of, inside, outermost, skip, statement_arcs, unless}
 use Rattle.leaf_cases.specs.Edges.{known_call, leaf_of, lost_in_known_call, lost_in_leaf}
 use Rattle.transition_formula.specs.Transition.{Transition}
@@ -62,11 +61,11 @@ module _ (same : ℕ → ℕ → Type 0) where
     code-nodes _ _ alike_ends = refl
     code-nodes _ _ (alike_more s o rest others h k) = let one = statement-nodes s o h in let two = code-nodes rest others k in omega (arith, one, two)
 
-  within : (t u : Targets) (a b c d : ℕ) → t ≡ u → a ≡ b → c ≡ d → inside t a c ≡ inside u b d
+  within : (t u : _) (a b c d : ℕ) → t ≡ u → a ≡ b → c ≡ d → inside t a c ≡ inside u b d
   within t u a b c d e f g = λ i. inside (e i) (f i) (g i)
 
   mutual
-    statement-arcs : (t u : Targets) (c d : ℕ) (s o : Statement) → t ≡ u → c ≡ d → AreAlikeStatements same s o
+    statement-arcs : (t u : _) (c d : ℕ) (s o : Statement) → t ≡ u → c ≡ d → AreAlikeStatements same s o
         → AreAlikeArcs same (statement_arcs t c s) (statement_arcs u d o)
     statement-arcs t u c d _ _ e f (alike_sets col value) = one-more c d (c + 1) (d + 1) _ _ [] [] f (omega (arith, f)) (alike_sets col value) no_arcs
     statement-arcs t u c d _ _ e f (alike_anys col) = one-more c d (c + 1) (d + 1) _ _ [] [] f (omega (arith, f)) (alike_anys col) no_arcs
@@ -106,8 +105,8 @@ module _ (same : ℕ → ℕ → Type 0) where
         let v : ℕ = x + 1 + code_nodes step in
         let w : ℕ = y + 1 + code_nodes step' in
         let vw : v ≡ w = omega (arith, xy, o) in
-        let inner : Targets = inside t (v + 1) (x + 1) in
-        let inner' : Targets = inside u (w + 1) (y + 1) in
+        let inner = inside t (v + 1) (x + 1) in
+        let inner' = inside u (w + 1) (y + 1) in
         let first : List Arc = arc c (c + 1) skip ∷ code_arcs t (c + 1) pre in
         let first' : List Arc = arc d (d + 1) skip ∷ code_arcs u (d + 1) pre' in
         let second : List Arc = arc a (a + 1) (Guard cond) ∷ code_arcs inner (a + 1) body in
@@ -132,8 +131,8 @@ module _ (same : ℕ → ℕ → Type 0) where
         let a : ℕ = x + 1 + code_nodes pre in
         let b : ℕ = y + 1 + code_nodes pre' in
         let ab : a ≡ b = omega (arith, xy, m) in
-        let inner : Targets = inside t (a + 1) (x + 1) in
-        let inner' : Targets = inside u (b + 1) (y + 1) in
+        let inner = inside t (a + 1) (x + 1) in
+        let inner' = inside u (b + 1) (y + 1) in
         let first : List Arc = arc c (c + 1) skip ∷ code_arcs inner (c + 1) body in
         let first' : List Arc = arc d (d + 1) skip ∷ code_arcs inner' (d + 1) body' in
         let second : List Arc = arc x (x + 1) skip ∷ code_arcs t (x + 1) pre in
@@ -145,11 +144,11 @@ module _ (same : ℕ → ℕ → Type 0) where
         (one-more c d (c + 1) (d + 1) _ _ _ _ f (omega (arith, f)) (alike_guards _) (code-arcs inner inner' (c + 1) (d + 1) body body' (within t u (a + 1) (b + 1) (x + 1) (y + 1) e (omega (arith, ab)) (omega (arith, xy))) (omega (arith, f)) k))
         (one-more x y (x + 1) (y + 1) _ _ _ _ xy (omega (arith, xy)) (alike_guards _) (code-arcs t u (x + 1) (y + 1) pre pre' e (omega (arith, xy)) h)))
         (one-more a b (c + 1) (d + 1) _ _ _ _ ab (omega (arith, f)) (alike_guards cond) (one-more a b (a + 1) (b + 1) _ _ [] [] ab (omega (arith, ab)) (alike_guards _) no_arcs))
-    statement-arcs t u c d _ _ e f alike_breaks = one-more c d t.break_to u.break_to _ _ [] [] f (ap (λ (r : Targets). r.break_to) e) (alike_guards _) no_arcs
-    statement-arcs t u c d _ _ e f alike_continues = one-more c d t.continue_to u.continue_to _ _ [] [] f (ap (λ (r : Targets). r.continue_to) e) (alike_guards _) no_arcs
-    statement-arcs t u c d _ _ e f alike_returns = one-more c d t.exit u.exit _ _ [] [] f (ap (λ (r : Targets). r.exit) e) (alike_guards _) no_arcs
+    statement-arcs t u c d _ _ e f alike_breaks = one-more c d t.break_to u.break_to _ _ [] [] f (λ i. (e i).break_to) (alike_guards _) no_arcs
+    statement-arcs t u c d _ _ e f alike_continues = one-more c d t.continue_to u.continue_to _ _ [] [] f (λ i. (e i).continue_to) (alike_guards _) no_arcs
+    statement-arcs t u c d _ _ e f alike_returns = one-more c d t.exit u.exit _ _ [] [] f (λ i. (e i).exit) (alike_guards _) no_arcs
 
-    code-arcs : (t u : Targets) (c d : ℕ) (a b : Code) → t ≡ u → c ≡ d → AreAlike same a b → AreAlikeArcs same (code_arcs t c a) (code_arcs u d b)
+    code-arcs : (t u : _) (c d : ℕ) (a b : Code) → t ≡ u → c ≡ d → AreAlike same a b → AreAlikeArcs same (code_arcs t c a) (code_arcs u d b)
     code-arcs t u c d _ _ e f alike_ends = no_arcs
     code-arcs t u c d _ _ e f (alike_more s o rest others h k) =
         let n = statement-nodes s o h in

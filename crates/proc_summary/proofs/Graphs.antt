@@ -23,7 +23,6 @@ use Rattle.syntax_tree.specs.Code.{Statement, Set, Any, Call, Guard, Check, If, 
 use Rattle.syntax_tree.specs.Nodes.{code_nodes, statement_nodes}
 use Rattle.syntax_tree.specs.Value.{State}
 use Rattle.syntax_tree.specs.WellFormed.{IsProcFit, IsWellFormed, width_of}
-use Rattle.flow_graph.specs.declared.making.Targets.{Targets}
 use Rattle.flow_graph.specs.declared.parts.Edge.{Edge}
 use Rattle.flow_graph.specs.declared.parts.Graph.{Graph}
 use Rattle.flow_graph.specs.FlowGraph.{Arc, FlowGraph, arc, body_of, code_arcs, exit_of, flow_of, graph_of, inside, outermost, skip, statement_arcs, unless}
@@ -65,7 +64,7 @@ three-parts x y z v w xs bs cs =
     let first = length-append (x ∷ xs) (y ∷ bs) in omega (arith, all, more, first)
 
 mutual
-  few-statement : (t : Targets) (c : ℕ) (s : Statement) → length (statement_arcs t c s) ≤ statement_nodes s + statement_nodes s
+  few-statement : (t : _) (c : ℕ) (s : Statement) → length (statement_arcs t c s) ≤ statement_nodes s + statement_nodes s
   few-statement t c (Set col value) = omega arith
   few-statement t c (Any col) = omega arith
   few-statement t c (Call proc args into) = omega arith
@@ -82,7 +81,7 @@ mutual
       let test : ℕ = c + 1 + code_nodes pre in
       let end_body : ℕ = test + 1 + code_nodes body in
       let end_step : ℕ = end_body + 1 + code_nodes step in
-      let inner : Targets = inside t (end_step + 1) (end_body + 1) in
+      let inner = inside t (end_step + 1) (end_body + 1) in
       let one = few-code t (c + 1) pre in
       let two = few-code inner (test + 1) body in
       let three = few-code t (end_body + 1) step in
@@ -92,7 +91,7 @@ mutual
   few-statement t c (Loop pre cond body step true) =
       let end_body : ℕ = c + 1 + code_nodes body in
       let test : ℕ = end_body + 1 + code_nodes pre in
-      let inner : Targets = inside t (test + 1) (end_body + 1) in
+      let inner = inside t (test + 1) (end_body + 1) in
       let one = few-code inner (c + 1) body in
       let two = few-code t (end_body + 1) pre in
       let all : length (statement_arcs t c (Loop pre cond body step true)) ≡ length (code_arcs inner (c + 1) body) + length (code_arcs t (end_body + 1) pre) + 4 =
@@ -102,7 +101,7 @@ mutual
   few-statement t c Continue = omega arith
   few-statement t c Return = omega arith
 
-  few-code : (t : Targets) (c : ℕ) (code : Code) → length (code_arcs t c code) ≤ code_nodes code + code_nodes code
+  few-code : (t : _) (c : ℕ) (code : Code) → length (code_arcs t c code) ≤ code_nodes code + code_nodes code
   few-code t c End = omega arith
   few-code t c (Then s rest) =
       let one = few-statement t c s in

@@ -28,7 +28,7 @@ pub(crate) fn name(alloc: Global, text: &str) -> Result<Name, Fail> {
 }
 
 /// A formula whose cases stand in lines.
-fn formula(alloc: Global, from: u32, to: u32, lines: &str) -> Result<Formula, Fail> {
+pub(crate) fn formula(alloc: Global, from: u32, to: u32, lines: &str) -> Result<Formula, Fail> {
     let mut cases = Items::new(alloc);
     for line in lines.lines() {
         cases.push(case(alloc, line)?)?;
