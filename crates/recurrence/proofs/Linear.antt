@@ -1,24 +1,74 @@
--- A combination of columns is the linear polynomial of its numbers.
-use Rattle.std.proofs.Common.{◌≡◌, List, [], ◌∷◌, ◌++◌, Bool, true, false, Ok, map, refl, sym, ap, ◌∙◌, append_assoc, append-nil, arith, ℤ, pos, ◌+ℤ◌, ◌*ℤ◌}
+-- A combination of columns is the linear polynomial of its numbers; only a number that is none of 128 bits hinders it.
+use Rattle.std.proofs.Common.{◌≡◌, List, [], ◌∷◌, ◌++◌, Bool, true, false, Result, Ok, Err, ◌⊎◌, inl, inr, map, refl, sym, ap, ◌∙◌, append_assoc, append-nil, arith, ℤ, pos, negsuc, ◌*ℤ◌, ◌^◌, SFits}
+use Rattle.std.specs.Int.{w128}
 use Rattle.std.specs.Prelude.{if◌then◌else◌}
 use Rattle.std.specs.List.{AllByRecursion}
 use Rattle.std.specs.Ordering.{int_eq, match_ordering}
 use Rattle.std.specs.declared.cmp.Ordering.TheVariants.{Greater}
+use Rattle.std.proofs.lemmas.Bool.{lt-ltb}
 use Rattle.std.proofs.lemmas.Int.{ints}
-use Rattle.items.specs.Gives.{◌>>=◌}
-use Rattle.items.proofs.Gives.{on_ok}
+use Rattle.whole_numbers.specs.Fits.{fits}
+use Rattle.items.specs.Gives.{◌>>=◌, lifted}
 use Rattle.items.proofs.Each.{each-append}
 use Rattle.linear_terms.specs.declared.col.Col.{Col}
-use Rattle.linear_terms.specs.Expressions.{◌⊠◌, ◌⊞◌, whole, coefficients, linear, sum_from, weighted}
+use Rattle.linear_terms.specs.declared.error.TermError.{TermError}
+use Rattle.linear_terms.specs.declared.error.TermError.TheVariants.{Wide, Degree}
+use Rattle.linear_terms.specs.Expressions.{Made, ◌⊠◌, ◌⊞◌, whole, coefficients, linear, sum_from, weighted}
 use Rattle.linear_terms.specs.Mono.{mono_cmp, in_order}
-use Rattle.linear_terms.specs.Operations.{kept, put, put_all, put_part, add_product, add_row, add_rows, product_of_polys, sum_of_polys, parts}
+use Rattle.linear_terms.specs.Operations.{kept, put, put_all, put_part, add_row, add_rows, product_of_polys, sum_of_polys, parts}
 use Rattle.linear_terms.specs.Polynomial.{Terms, Polynomial, constant_of, column_of}
-use Rattle.linear_terms.specs.TermError.{plus, times}
-use Rattle.linear_terms.proofs.Values.{plus-value, times-value}
+use Rattle.linear_terms.specs.TermError.{plus, times, wide}
 use Rattle.recurrence.specs.Words.{Ascend}
 
+-- ---- one number times one column
+
+-- a product that is known, or its operands
+abbrev product_or : ℤ → ℤ → ℤ → Bool → Result ℤ TermError
+product_or a b z fit = lifted wide (if fit then Ok z else Err record { left = a; right = b; times = true })
+
+abbrev sum_or : Bool → Result ℤ TermError
+sum_or fit = lifted wide (if fit then Ok (pos 0) else Err record { left = pos 0; right = pos 0; times = false })
+
+once : (n : ℤ) → n *ℤ pos 1 ≡ n
+once n = omega (arith, ints)
+
+never : (n : ℤ) → n *ℤ pos 0 ≡ pos 0
+never n = omega (arith, ints)
+
+fits-zero : fits (pos 0) ≡ true
+fits-zero = lt-ltb 0 (2 ^ 127) (omega arith)
+
+times-once : (n : ℤ) (fit : Bool) → fits n ≡ fit → times n (pos 1) ≡ product_or n (pos 1) n fit
+times-once n fit h = ap (λ z. product_or n (pos 1) z (fits z)) (once n) ∙ ap (product_or n (pos 1) n) h
+
+times-never : (n : ℤ) → times n (pos 0) ≡ Ok (pos 0)
+times-never n = ap (λ z. product_or n (pos 0) z (fits z)) (never n) ∙ ap (product_or n (pos 0) (pos 0)) fits-zero
+
+plus-zero : plus (pos 0) (pos 0) ≡ Ok (pos 0)
+plus-zero = ap sum_or fits-zero
+
+-- the rest of the product, once the column's own number is made
+abbrev after_number : ℤ → Col → Result ℤ TermError → Made
+after_number n c made =
+    ((made >>= λ a. put_part (in_order (c ∷ [])) a (constant_of (pos 0))) >>= λ q. add_row [] n (([], pos 0) ∷ []) q) >>= λ q. add_rows [] (parts (column_of c)) q
+
+-- the rest of it, once its constant is made
+abbrev after_constant : ℤ → Col → Result ℤ TermError → Made
+after_constant n c made =
+    ((made >>= λ z. put_part [] z record { terms = kept (c ∷ []) n []; rest = pos 0 }) >>= λ q. add_row [] n [] q) >>= λ q. add_rows [] (parts (column_of c)) q
+
+product-fits : (n : ℤ) (c : Col) → fits n ≡ true → product_of_polys (constant_of n) (column_of c) ≡ Ok record { terms = kept (c ∷ []) n []; rest = pos 0 }
+product-fits n c h =
+    ap (after_number n c) (times-once n true h) ∙ ap (after_constant n c) (times-never n)
+    ∙ ap (λ (made : Result ℤ TermError). made >>= λ r. Ok record { terms = kept (c ∷ []) n []; rest = r }) plus-zero
+
+product-wide : (n : ℤ) (c : Col) → fits n ≡ false → product_of_polys (constant_of n) (column_of c) ≡ Err (Wide n (pos 1) true)
+product-wide n c h = ap (after_number n c) (times-once n false h)
+
+-- ---- a sum of terms before the column
+
 -- each monomial stands in print order before a column
-abbrev pub AllBefore : Terms → Col → Type 0
+abbrev AllBefore : Terms → Col → Type 0
 AllBefore ts c = AllByRecursion (λ t. mono_cmp (c ∷ []) t.0 ≡ Greater) ts
 
 put-last : (c : Col) (n : ℤ) (ts : Terms) → AllBefore ts c → put (c ∷ []) n ts ≡ Ok (ts ++ kept (c ∷ []) n [])
@@ -41,45 +91,16 @@ kept-append c n xs = go (int_eq n (pos 0))
     go true = refl
     go false = refl
 
-same_product : (n a : ℤ) → a ≡ n *ℤ pos 1 → a ≡ n
-same_product n a e = omega (arith, ints)
-
-no_constant : (n z r x : ℤ) → z ≡ n *ℤ pos 0 → r ≡ x +ℤ z → x ≡ pos 0 → r ≡ pos 0
-no_constant n z r x e f g = omega (arith, ints)
-
--- a number times a column
-product-column : (n : ℤ) (c : Col) (q : Polynomial) → product_of_polys (constant_of n) (column_of c) ≡ Ok q → q ≡ record { terms = kept (c ∷ []) n []; rest = pos 0 }
-product-column n c q e =
-    on_ok (add_row [] n (parts (column_of c)) (constant_of (pos 0))) (λ made. add_rows [] (parts (column_of c)) made) q e (λ m1 e1 g1.
-    on_ok (add_product [] n (c ∷ []) (pos 1) (constant_of (pos 0))) (λ made. add_row [] n (([], pos 0) ∷ []) made) m1 e1 (λ m2 e2 g2.
-    on_ok (add_product [] n [] (pos 0) m2) (λ made. add_row [] n [] made) m1 g2 (λ m3 e3 g3.
-    on_ok (times n (pos 1)) (λ a. put_part (in_order (c ∷ [])) a (constant_of (pos 0))) m2 e2 (λ a ea fa.
-    on_ok (times n (pos 0)) (λ z. put_part [] z m2) m3 e3 (λ z ez fz.
-    on_ok (plus m2.rest z) (λ r. Ok record { terms = m2.terms; rest = r }) m3 fz (λ r er fr.
-    let one : record { terms = kept (c ∷ []) a []; rest = pos 0 } ≡ m2 = cc in
-    let two : record { terms = m2.terms; rest = r } ≡ m3 = cc in
-    let three : m3 ≡ m1 = cc in
-    let four : m1 ≡ q = cc in
-    let number : a ≡ n = same_product n a (times-value n (pos 1) a ea) in
-    let none : r ≡ pos 0 = no_constant n z r m2.rest (times-value n (pos 0) z ez) (plus-value m2.rest z r er) (ap (λ (p : Polynomial). p.rest) (sym one)) in
-    sym four ∙ sym three ∙ sym two ∙ (λ i. record { terms = (sym one i).terms; rest = none i }) ∙ ap (λ x. record { terms = kept (c ∷ []) x []; rest = pos 0 }) number))))))
-
-same_rest : (x r : ℤ) → r ≡ x +ℤ pos 0 → r ≡ x
-same_rest x r e = omega (arith, ints)
+-- the terms without a constant
+abbrev plain : Terms → Polynomial
+plain ts = record { terms = ts; rest = pos 0 }
 
 -- a sum so far with one more column
-with-column : (total next : Polynomial) (n : ℤ) (c : Col) → AllBefore total.terms c → Ok total ⊞ whole n ⊠ Ok (column_of c) ≡ Ok next
-    → next ≡ record { terms = total.terms ++ kept (c ∷ []) n []; rest = total.rest }
-with-column total next n c h e =
-    on_ok (product_of_polys (constant_of n) (column_of c)) (λ q. sum_of_polys total q) next e (λ q f g.
-    let is : q ≡ record { terms = kept (c ∷ []) n []; rest = pos 0 } = product-column n c q f in
-    let summed : sum_of_polys total record { terms = kept (c ∷ []) n []; rest = pos 0 } ≡ Ok next = ap (sum_of_polys total) (sym is) ∙ g in
-    on_ok (put_all total.terms (kept (c ∷ []) n [])) (λ ts. plus total.rest (pos 0) >>= λ r. Ok record { terms = ts; rest = r }) next summed (λ ts k l.
-    on_ok (plus total.rest (pos 0)) (λ r. Ok record { terms = ts; rest = r }) next l (λ r er fr.
-    let all : Ok ts ≡ Ok (total.terms ++ kept (c ∷ []) n []) = sym k ∙ put_all-last c n total.terms h in
-    let same : ts ≡ total.terms ++ kept (c ∷ []) n [] = cc in
-    let made : record { terms = ts; rest = r } ≡ next = cc in
-    sym made ∙ (λ i. record { terms = same i; rest = same_rest total.rest r (plus-value total.rest (pos 0) r er) i }))))
+with-column : (ts : Terms) (n : ℤ) (c : Col) → fits n ≡ true → AllBefore ts c → Ok (plain ts) ⊞ whole n ⊠ Ok (column_of c) ≡ Ok (plain (ts ++ kept (c ∷ []) n []))
+with-column ts n c fit h =
+    ap (λ (r : Made). r >>= λ q. sum_of_polys (plain ts) q) (product-fits n c fit)
+    ∙ ap (λ (r : Result Terms TermError). r >>= λ all. plus (pos 0) (pos 0) >>= λ z. Ok record { terms = all; rest = z }) (put_all-last c n ts h)
+    ∙ ap (λ (r : Result ℤ TermError). r >>= λ z. Ok record { terms = ts ++ kept (c ∷ []) n []; rest = z }) plus-zero
 
 -- the sum so far stands before the columns that are left
 still-before : (ts : Terms) (n : ℤ) (c d : Col) → AllBefore ts d → mono_cmp (d ∷ []) (c ∷ []) ≡ Greater → AllBefore (ts ++ kept (c ∷ []) n []) d
@@ -93,19 +114,60 @@ all-before : (ts : Terms) (n : ℤ) (c : Col) (cs : List Col) → AllByRecursion
 all-before ts n c [] h k = tt
 all-before ts n c (d ∷ cs) h k = (still-before ts n c d h.0 k.0, all-before ts n c cs h.1 k.1)
 
-sum_from-columns : (cs : List Col) (ns : List ℤ) (total p : Polynomial) → Ascend cs → AllByRecursion (AllBefore total.terms) cs → sum_from total ns (map column_of cs) ≡ Ok p
-    → p ≡ record { terms = total.terms ++ coefficients ns cs; rest = total.rest }
-sum_from-columns cs [] total p a h e = let same : total ≡ p = cc in sym same ∙ (λ i. record { terms = sym (append-nil total.terms) i; rest = total.rest })
-sum_from-columns [] (n ∷ ns) total p a h e = let same : total ≡ p = cc in sym same ∙ (λ i. record { terms = sym (append-nil total.terms) i; rest = total.rest })
-sum_from-columns (c ∷ cs) (n ∷ ns) total p a h e =
-    on_ok (Ok total ⊞ whole n ⊠ Ok (column_of c)) (λ next. sum_from next ns (map column_of cs)) p e (λ next f g.
-    let is : next ≡ record { terms = total.terms ++ kept (c ∷ []) n []; rest = total.rest } = with-column total next n c h.0 f in
-    sum_from-columns cs ns record { terms = total.terms ++ kept (c ∷ []) n []; rest = total.rest } p a.1 (all-before total.terms n c cs h.1 a.0) (ap (λ t. sum_from t ns (map column_of cs)) (sym is) ∙ g)
-    ∙ (λ i. record { terms = (append_assoc total.terms (kept (c ∷ []) n []) (coefficients ns cs) ∙ ap (λ xs. total.terms ++ xs) (kept-append c n (coefficients ns cs))) i; rest = total.rest }))
+-- ---- all numbers and columns
+
+-- the sum is made, or one of the numbers is none of 128 bits, and its product is told
+abbrev ComesTo : Made → Polynomial → Type 0
+ComesTo made p = (made ≡ Ok p) ⊎ ((n : ℤ) × (made ≡ Err (Wide n (pos 1) true)) × (fits n ≡ false))
+
+carried : (made more : Made) (p q : Polynomial) → made ≡ more → q ≡ p → ComesTo more q → ComesTo made p
+carried made more p q same is (inl e) = inl (same ∙ e ∙ ap (λ x. Ok x) is)
+carried made more p q same is (inr (n, e, f)) = inr (n, same ∙ e, f)
+
+sum_from-comes : (cs : List Col) (ns : List ℤ) (ts : Terms) → Ascend cs → AllByRecursion (AllBefore ts) cs → ComesTo (sum_from (plain ts) ns (map column_of cs)) (plain (ts ++ coefficients ns cs))
+sum_from-comes cs [] ts a h = inl (ap (λ xs. Ok (plain xs)) (sym (append-nil ts)))
+sum_from-comes [] (n ∷ ns) ts a h = inl (ap (λ xs. Ok (plain xs)) (sym (append-nil ts)))
+sum_from-comes (c ∷ cs) (n ∷ ns) ts a h = go (fits n) refl (sum_from-comes cs ns (ts ++ kept (c ∷ []) n []) a.1 (all-before ts n c cs h.1 a.0))
+  where
+    go : (b : Bool) → fits n ≡ b → ComesTo (sum_from (plain (ts ++ kept (c ∷ []) n [])) ns (map column_of cs)) (plain ((ts ++ kept (c ∷ []) n []) ++ coefficients ns cs))
+        → ComesTo (sum_from (plain ts) (n ∷ ns) (map column_of (c ∷ cs))) (plain (ts ++ coefficients (n ∷ ns) (c ∷ cs)))
+    go true fit rest =
+        carried (sum_from (plain ts) (n ∷ ns) (map column_of (c ∷ cs))) (sum_from (plain (ts ++ kept (c ∷ []) n [])) ns (map column_of cs))
+        (plain (ts ++ coefficients (n ∷ ns) (c ∷ cs))) (plain ((ts ++ kept (c ∷ []) n []) ++ coefficients ns cs))
+        (ap (λ (r : Made). r >>= λ next. sum_from next ns (map column_of cs)) (with-column ts n c fit h.0))
+        (ap plain (append_assoc ts (kept (c ∷ []) n []) (coefficients ns cs) ∙ ap (λ xs. ts ++ xs) (kept-append c n (coefficients ns cs)))) rest
+    go false fit rest =
+        inr (n, ap (λ (r : Made). (r >>= λ q. sum_of_polys (plain ts) q) >>= λ next. sum_from next ns (map column_of cs)) (product-wide n c fit), fit)
 
 none-before : (cs : List Col) → AllByRecursion (AllBefore []) cs
 none-before [] = tt
 none-before (c ∷ cs) = (tt, none-before cs)
 
-pub weighted-columns : (ns : List ℤ) (cs : List Col) (p : Polynomial) → Ascend cs → weighted ns (map column_of cs) ≡ Ok p → p ≡ linear ns cs
-weighted-columns ns cs p a e = sum_from-columns cs ns (constant_of (pos 0)) p a (none-before cs) e
+weighted-comes : (ns : List ℤ) (cs : List Col) → Ascend cs → ComesTo (weighted ns (map column_of cs)) (linear ns cs)
+weighted-comes ns cs a = sum_from-comes cs ns [] a (none-before cs)
+
+made-once : (made : Made) (p q : Polynomial) → made ≡ Ok p → ComesTo made q → q ≡ p
+made-once made p q e (inl f) = cc
+made-once made p q e (inr (n, f, g)) = cc
+
+pub weighted-made : (ns : List ℤ) (cs : List Col) (p : Polynomial) → Ascend cs → weighted ns (map column_of cs) ≡ Ok p → linear ns cs ≡ p
+weighted-made ns cs p a e = made-once (weighted ns (map column_of cs)) p (linear ns cs) e (weighted-comes ns cs a)
+
+not_degree : (made : Made) (q : Polynomial) → made ≡ Err Degree → ComesTo made q → ⊥
+not_degree made q e (inl f) = cc
+not_degree made q e (inr (n, f, g)) = cc
+
+pub weighted-not_degree : (ns : List ℤ) (cs : List Col) → Ascend cs → weighted ns (map column_of cs) ≡ Err Degree → ⊥
+weighted-not_degree ns cs a e = not_degree (weighted ns (map column_of cs)) (linear ns cs) e (weighted-comes ns cs a)
+
+fits-number : (z : ℤ) → SFits w128 z → fits z ≡ true
+fits-number (pos n) h = lt-ltb n (2 ^ 127) h.sfits
+fits-number (negsuc n) h = lt-ltb n (2 ^ 127) h.sfits
+
+not_wide : (made : Made) (q : Polynomial) (left right : ℤ) (product : Bool) → made ≡ Err (Wide left right product) → fits left ≡ true → ComesTo made q → ⊥
+not_wide made q left right product e fit (inl f) = cc
+not_wide made q left right product e fit (inr (n, f, g)) = cc
+
+pub weighted-not_wide : (ns : List ℤ) (cs : List Col) (left right : ℤ) (product : Bool) → Ascend cs → SFits w128 left → weighted ns (map column_of cs) ≡ Err (Wide left right product) → ⊥
+weighted-not_wide ns cs left right product a fit e =
+    not_wide (weighted ns (map column_of cs)) (linear ns cs) left right product e (fits-number left fit) (weighted-comes ns cs a)

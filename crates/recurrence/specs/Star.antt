@@ -28,7 +28,8 @@ use Rattle.recurrence.specs.Progressions.{progressions, bounded_progression}
 
 -- ---- columns of the second case
 
--- the column that has a variable's number after the turns: auxiliaries from n on stand for the modified ones, and another stays
+-- the column that has a variable's number after the turns: auxiliaries from n on stand for the modified ones,
+-- and another stays
 abbrev pub after_from : ℕ → List ℕ → ℕ → Col
 after_from n [] v = At v
 after_from n (u ∷ us) v = if u == v then Aux n else after_from (n + 1) us v
@@ -94,6 +95,7 @@ star_by body voc (case ∷ cases) =
     turns body voc >>= finished >>= λ left.
     Done (joined (identity_of body.from) record { from = body.from; to = body.to; cases = option_to_list left })
 
--- the identity where the body has no case; else the identity, and the second case put in order, thinned and cut, if anything is left of it
+-- the identity where the body has no case; else the identity, and the second case put in order, thinned and
+-- cut, if anything is left of it
 unfoldable pub star_of : Transition → Vocabulary → Posing Transition
 star_of body voc = star_by body voc body.cases

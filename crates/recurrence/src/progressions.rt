@@ -120,8 +120,8 @@ fn are_zero(numbers: &[i128]) -> bool
 
 // ---- one progression
 
-/// The greatest value of `up` times the change of a variable less `by` times a term is asked; where there is one, it gives a row
-/// behind the others.
+/// The greatest value of `up` times the change of a variable less `by` times a term is asked; where there is
+/// one, it gives a row behind the others.
 fn with_progression<O: Oracle>(
     alloc: Global,
     rows: Items<Row>,

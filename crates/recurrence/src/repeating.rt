@@ -14,11 +14,12 @@ use polyhedra::{Log, Vocabulary, WorkError, finish};
 use std::alloc::{AllocError, Global};
 use transition_formula::{Formula, FormulaError, identity, join};
 
-/// What any number of turns of the body do: the identity, and a case of one and more turns, from recurrences and bounds that the
-/// answers give. It holds of the first and the last of every list of states of which the body links each to the next.
+/// What any number of turns of the body do: the identity, and a case of one and more turns, from recurrences
+/// and bounds that the answers give. It holds of the first and the last of every list of states of which the
+/// body links each to the next.
 ///
-/// The questions are those of `star_of`; what is lost is noted. Source: Farzan and Kincaid, Compositional Recurrence Analysis,
-/// FMCAD 2015.
+/// The questions are those of `star_of`; what is lost is noted. Source: Farzan and Kincaid, Compositional
+/// Recurrence Analysis, FMCAD 2015.
 pub fn star<O: Oracle>(
     alloc: Global,
     body: &Formula,
@@ -34,7 +35,8 @@ pub fn star<O: Oracle>(
     repeated(alloc, body, voc, oracle, log)
 }
 
-/// The identity where the body has no case; else the identity, and what is left of the second case in order, thinned and cut.
+/// The identity where the body has no case; else the identity, and what is left of the second case in order,
+/// thinned and cut.
 #[tactic(auto, using(posing::proofs::Following::following), unfolding(crate::specs::Star::star_of))]
 fn repeated<O: Oracle>(
     alloc: Global,

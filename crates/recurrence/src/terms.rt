@@ -136,11 +136,27 @@ pub(crate) fn term_of(
     })
 }
 
-/// The linear polynomial that has numbers at columns, which stand in print order.
+/// The linear polynomial that has numbers at columns, which stand in print order. No step of it leaves 128 bits.
+fn combination_of_columns(
+    alloc: Global,
+    numbers: &[i128],
+    columns: &[Poly],
+) -> Result<Poly, TermError>
+    ensures { (cs : List Col) → Ascend cs → columns.now ≡ map column_of cs → Gives cause (λ p. p) result (Ok (linear numbers.now cs)) }
+{
+    match combination(alloc, numbers, columns) {
+        Ok(poly) => Ok(poly),
+        Err(TermError::Wide { left, right, times }) => Err(TermError::Wide { left, right, times }),
+        Err(TermError::Degree) => Err(TermError::Degree),
+        Err(TermError::Memory) => Err(TermError::Memory),
+    }
+}
+
+/// The linear polynomial that has numbers at columns, which stand in print order; its one error is want of memory.
 pub(crate) fn linear(alloc: Global, numbers: &[i128], columns: &[Poly]) -> Result<Poly, AllocError>
     ensures { (cs : List Col) → Ascend cs → columns.now ≡ map column_of cs → IfOk result (λ p. p ≡ linear numbers.now cs) }
 {
-    match combination(alloc, numbers, columns) {
+    match combination_of_columns(alloc, numbers, columns) {
         Ok(poly) => Ok(poly),
         Err(_memory) => Err(AllocError),
     }

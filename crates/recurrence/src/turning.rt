@@ -1,4 +1,4 @@
-ghost use Rattle.std.specs.Prelude.{◌≡◌, ◌<◌, ◌^◌, ◌++◌, ◌∷◌, [], ℕ, List, map, fold, length, IfOk, OnOk};
+ghost use Rattle.std.specs.Prelude.{◌≡◌, ◌<◌, ◌^◌, ◌++◌, ◌∷◌, [], ℕ, List, Ok, map, fold, length, IfOk, OnOk};
 ghost use Rattle.std.specs.List.{filter_map, flat_map, list_any};
 ghost use Rattle.items.specs.Gives.{Gives};
 ghost use Rattle.linear_terms.specs.declared.col.Col.TheVariants.{Aux};
@@ -214,12 +214,19 @@ fn with_some_turn(
     Ok(all)
 }
 
-/// 1 less a column.
+/// 1 less a column. No step of it leaves 128 bits.
+fn less_column(alloc: Global, col: Col) -> Result<Poly, TermError>
+    ensures { Gives cause (λ p. p) result (Ok (turn_row col).poly) }
+{
+    let count = Poly::column(alloc, col)?;
+    difference(alloc, &Poly::constant(alloc, 1), &count)
+}
+
+/// 1 less a column; its one error is want of memory.
 fn one_less(alloc: Global, col: Col) -> Result<Poly, AllocError>
     ensures { IfOk result (λ p. p ≡ (turn_row col).poly) }
 {
-    let count = column(alloc, col)?;
-    match difference(alloc, &Poly::constant(alloc, 1), &count) {
+    match less_column(alloc, col) {
         Ok(poly) => Ok(poly),
         Err(_memory) => Err(AllocError),
     }
