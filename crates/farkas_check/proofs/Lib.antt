@@ -5,7 +5,7 @@ pub mod Farkas
 mod Bounds
 -- Stratum: ties make a relation vanish on a case, spots show that there are no others, and the lines are a reduced basis.
 mod Basis
-mod Vanishing
+pub mod Vanishing
 mod Spots
 mod Elimination
 mod Differences

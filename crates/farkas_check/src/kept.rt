@@ -71,7 +71,7 @@ fn positive_ratios(numbers: &[Ratio])
     }
 }
 
-fn canonical_stratum(stratum: &Stratum)
+pub fn canonical_stratum(stratum: &Stratum)
     ensures { IsCanonicalStratum stratum.now.cases stratum.now.lower }
 {
     canonical_cases(stratum.cases());

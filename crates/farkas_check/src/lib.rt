@@ -21,9 +21,11 @@ mod ties;
 
 pub use answer::{Answer, Cert, Limit};
 pub use columns::{case_columns, stratum_columns};
-pub use kept::{canonical_goals, canonical_rows, canonicity, positivity};
+pub use kept::{canonical_goals, canonical_rows, canonical_stratum, canonicity, positivity};
 pub use oracle::{AskError, Oracle};
-pub use passing::{goals_outcome, rows_outcome, test, test_width, truth_of_passing};
+pub use passing::{
+    goals_outcome, rows_outcome, stratum_outcome, test, test_width, truth_of_passing,
+};
 pub use question::{Goal, Question};
-pub use ratio::{Ratio, exactness_of_ratios};
+pub use ratio::{Ratio, common_multiple, exactness_of_ratios};
 pub use stratum::{Change, Relation, Spot, Stratum, Tie};

@@ -102,7 +102,7 @@ pub fn goals_outcome(goals: &[Goal], answer: &Answer) -> Result<bool, Wide>
 }
 
 /// The same of an answer to the question Stratum.
-fn stratum_outcome(stratum: &Stratum, answer: &Answer) -> Result<bool, Wide>
+pub fn stratum_outcome(stratum: &Stratum, answer: &Answer) -> Result<bool, Wide>
     ensures { result ≡ outcome (question.Stratum stratum.now) answer.now }
 {
     match answer {

@@ -127,7 +127,7 @@ impl Ratio {
 
 /// The least common multiple of two positive numbers, or the product that leaves 128 bits.
 #[tactic(auto, using(crate::proofs::Lowest::lowest))]
-fn common_multiple(left: i128, right: i128) -> Result<i128, Wide>
+pub fn common_multiple(left: i128, right: i128) -> Result<i128, Wide>
     requires left { pos 0 <ℤ left }
     requires right { pos 0 <ℤ right }
     ensures multiple { result ≡ common_multiple left right }
