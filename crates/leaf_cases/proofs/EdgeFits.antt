@@ -160,22 +160,34 @@ all-few j k to firsts seconds h l lt i d below m e within =
     let one = All-from_recursion (λ (case : Case). case.aux ≤ j) firsts h i d below in
     let other = All-from_recursion (λ (case : Case). case.aux ≤ k) seconds l m e within in omega arith
 
+-- arguments have few auxiliaries
+arguments_few : (columns : ℕ) (args : List Term) → IsTrue (all_columns_below columns args) → joint_operators args ≤ 200000 → AllByRecursion (λ case. case.aux ≤ 800000) (arguments_of args).cases
+arguments_few columns args h few = wider (4 * joint_operators args) (arguments_of args).cases (omega arith) (few-sit columns (4 * joint_operators args) (arguments_of args).cases (arguments-sit columns args h))
+  where
+    wider : (m : ℕ) (cases : List Case) → m ≤ 800000 → AllByRecursion (λ case. case.aux ≤ m) cases → AllByRecursion (λ case. case.aux ≤ 800000) cases
+    wider m [] le h = tt
+    wider m (case ∷ cases) le h = let one = h.0 in (omega arith, wider m cases le h.1)
+
+pub entering_few : (columns globals : ℕ) (args : List Term) (f : Transition) → IsTrue (all_columns_below columns args) → joint_operators args ≤ 200000 → f ≡ entering columns globals (length args) (arguments_of args).cases
+    → All (λ (case : Case). case.aux < 2 ^ 31) f.cases
+entering_few columns globals args f h few is =
+    subst (λ (g : Transition). All (λ (case : Case). case.aux < 2 ^ 31) g.cases) (sym is)
+    (All-from_recursion (λ (case : Case). case.aux < 2 ^ 31) (entering columns globals (length args) (arguments_of args).cases).cases
+    (each-aux (λ n. n < 2 ^ 31) (λ case. columns_of globals ++ case.post) (arguments_of args).cases (smaller (arguments_of args).cases (arguments_few columns args h few))))
+  where
+    smaller : (cases : List Case) → AllByRecursion (λ case. case.aux ≤ 800000) cases → AllByRecursion (λ case. case.aux < 2 ^ 31) cases
+    smaller [] h = tt
+    smaller (case ∷ cases) h = let one = h.0 in (omega arith, smaller cases h.1)
+
 pub call_few : (columns globals : ℕ) (args : List Term) (into : Option ℕ) (f a b : Transition) → IsTrue (all_columns_below columns args) → joint_operators args ≤ 200000 → columns ≤ 1000 → globals ≤ columns → All (λ (case : Case). case.aux ≤ 64) f.cases
     → a ≡ entering columns globals (length args) (arguments_of args).cases → b ≡ cut (awaited globals into) f → AreFew a b
 call_few columns globals args into f a b h few narrow le known e g =
     subst (λ (x : Transition). AreFew x b) (sym e)
     (subst (λ (x : Transition). AreFew (entering columns globals (length args) (arguments_of args).cases) x) (sym g)
     (all-few 800000 64 (awaited globals into) (entering columns globals (length args) (arguments_of args).cases).cases (cut (awaited globals into) f).cases
-    (each-aux (λ n. n ≤ 800000) (λ case. columns_of globals ++ case.post) (arguments_of args).cases (wider (few-sit columns (4 * joint_operators args) (arguments_of args).cases (arguments-sit columns args h))))
+    (each-aux (λ n. n ≤ 800000) (λ case. columns_of globals ++ case.post) (arguments_of args).cases (arguments_few columns args h few))
     (each-aux (λ n. n ≤ 64) (λ case. take (awaited globals into) case.post) f.cases (recursion_from_All (λ (case : Case). case.aux ≤ 64) f.cases known)) (most into)))
   where
-    wider-by : (m : ℕ) (cases : List Case) → m ≤ 800000 → AllByRecursion (λ case. case.aux ≤ m) cases → AllByRecursion (λ case. case.aux ≤ 800000) cases
-    wider-by m [] le h = tt
-    wider-by m (case ∷ cases) le h = let one = h.0 in (omega arith, wider-by m cases le h.1)
-
-    wider : AllByRecursion (λ case. case.aux ≤ 4 * joint_operators args) (arguments_of args).cases → AllByRecursion (λ case. case.aux ≤ 800000) (arguments_of args).cases
-    wider s = wider-by (4 * joint_operators args) (arguments_of args).cases (omega arith) s
-
     most : (into : Option ℕ) → 800000 + 64 + awaited globals into < 2 ^ 32
     most None = omega arith
     most (Some col) = omega arith

@@ -11,6 +11,7 @@ use Rattle.linear_terms.specs.Value.{Valuation, value_of}
 use Rattle.syntax_tree.specs.Term.{Term}
 use Rattle.syntax_tree.specs.Code.{Set, Any, Call}
 use Rattle.syntax_tree.specs.WellFormed.{columns_below, all_columns_below}
+use Rattle.execution.specs.Step.{values_of}
 use Rattle.flow_graph.specs.Walks.{CallRelates, EdgeRelates}
 use Rattle.flow_graph.specs.Walks as walks
 use Rattle.transition_formula.specs.Composition.{lost_in_sequence}
@@ -214,6 +215,16 @@ pub record CallAsks (columns globals : ℕ) (args : List Term) (into : Option �
   pub asked : awaited globals into ≤ f.to
   pub leaves : (f.to ≡ globals) ⊎ (f.to ≡ globals + 1)
 
+-- from a state to the globals and the values of arguments
+pub entering_holds : (columns globals : ℕ) (args : List Term) → globals ≤ columns → IsTrue (all_columns_below columns args) → (s vs : List ℤ) → length s ≡ columns → values_of args s ≡ Some vs
+    → Holds (entering columns globals (length args) (arguments_of args).cases) s (take globals s ++ vs)
+entering_holds columns globals args le below s vs long are =
+    record {
+      enters = long;
+      some = posted-hold (λ case. columns_of globals ++ case.post) s (λ z. take globals s ++ z) (entering-reads columns globals s le long) (arguments_of args).cases vs
+          ((arguments-mean columns args below).least s vs (record { are = are }));
+    }
+
 module _ (columns globals : ℕ) (args : List Term) (into : Option ℕ) (known : List (Option Transition)) (proc : ℕ) (f : Transition) (asks : CallAsks columns globals args into known proc f) where
   first-fits : IsTransition columns (globals + length args) (entering columns globals (length args) (arguments_of args).cases).cases
   first-fits = entering_fits columns globals (length args) (arguments_of args).cases (entering columns globals (length args) (arguments_of args).cases).cases asks.widths (arguments-fit columns args asks.below) refl
@@ -234,10 +245,7 @@ module _ (columns globals : ℕ) (args : List Term) (into : Option ℕ) (known :
       let vs = r.values in
       let returns = r.returns in
       let same_left : length r.left ≡ globals = returns.same ∙ length-take-le globals s (shorter s long) in
-      let means = arguments-mean columns args asks.below in
-      let held = means.least s vs (record { are = r.are }) in
-      let first : Holds (entering columns globals (length args) (arguments_of args).cases) s (take globals s ++ vs) =
-      record { enters = long; some = posted-hold (λ case. columns_of globals ++ case.post) s (λ z. take globals s ++ z) (entering-reads columns globals s asks.widths long) (arguments_of args).cases vs held } in
+      let first = entering_holds columns globals args asks.widths asks.below s vs long r.are in
       let callee : Holds f (take globals s ++ vs) (take f.to l) = subst (λ (g : Transition). Holds g (take globals s ++ vs) (take g.to l)) (known-same returns.formula returns.is) returns.holds in
       let second : Holds (cut k f) (take globals s ++ vs) (take k (take f.to l)) =
       record { enters = callee.enters; some = posted-hold (λ case. take k case.post) (take globals s ++ vs) (λ z. take k z) (cut-reads k (take globals s ++ vs)) f.cases (take f.to l) callee.some } in

@@ -1,7 +1,9 @@
-ghost use Rattle.std.specs.Prelude.{◌≡◌, ◌+◌, ◌≤◌, ◌<◌, ◌^◌, ◌++◌, All, length, map, take, drop, IfOk, OnOk, IsTrue};
+ghost use Rattle.std.specs.Prelude.{◌≡◌, ◌+◌, ◌≤◌, ◌<◌, ◌^◌, ◌++◌, ℤ, List, Some, All, length, map, take, drop, IfOk, OnOk, IsTrue};
 ghost use Rattle.syntax_tree.specs.declared.limits.TheConstants.{MOST_OPERATORS};
 ghost use Rattle.syntax_tree.specs.Term.{term_of};
 ghost use Rattle.syntax_tree.specs.WellFormed.{all_columns_below, into_fits, joint_operators};
+ghost use Rattle.execution.specs.Step.{values_of};
+ghost use Rattle.transition_formula.specs.Meaning.{Holds};
 ghost use Rattle.transition_formula.specs.Transition.{IsTransition};
 ghost use Rattle.leaf_cases.specs.Edges.{arguments_of, awaited, call_of, cut, entering, leaving_case, lost_in_call, received};
 ghost use Rattle.leaf_cases.specs.Guard.{with_posts};
@@ -45,6 +47,32 @@ pub(crate) fn call(
     let after = cut(alloc, awaited(widths.globals, into), callee)?;
     let made = seq(alloc, &before, &after, losses)?;
     let formula = leaving(alloc, widths, into, made.cases())?;
+    Ok(formula)
+}
+
+/// What a call does before its callee begins: from the caller's state, whose first columns are the globals, to the
+/// globals and the values of the arguments. What is lost is noted after the losses that are there. After an error more
+/// may be noted.
+pub fn call_entry(
+    alloc: Global,
+    columns: u32,
+    globals: u32,
+    args: &[Core],
+    losses: &mut Items<Loss>,
+) -> Result<Formula, FormulaError>
+    requires globals { globals ≤ columns }
+    requires narrow { columns ≤ 1000 }
+    requires few_arguments { length args.now ≤ 8 }
+    requires below { IsTrue (all_columns_below columns (map term_of args.now)) }
+    requires operators { joint_operators (map term_of args.now) ≤ MOST_OPERATORS }
+    ensures exact { IfOk result (λ f. f ≡ entering columns globals (length args.now) (arguments_of (map term_of args.now)).cases) }
+    ensures noted { OnOk result (losses.new ≡ losses.old ++ (arguments_of (map term_of args.now)).lost) }
+    ensures few { IfOk result (λ f. All (λ case. case.aux < 2 ^ 31) f.cases) }
+    ensures at_least { (state values : List ℤ) → IfOk result (λ f. length state ≡ columns → values_of (map term_of args.now) state ≡ Some values → Holds f state (take globals state ++ values)) }
+{
+    let values = arguments(alloc, args, losses)?;
+    let widths = Widths { columns, globals };
+    let formula = entering(alloc, widths, args.len() as u32, values.as_slice())?;
     Ok(formula)
 }
 

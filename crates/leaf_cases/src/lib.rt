@@ -14,6 +14,7 @@ mod laws;
 mod listed;
 mod step;
 
+pub use call::call_entry;
 pub use edge::leaf;
 pub use guard::{falsity, truth};
 pub use laws::met_calls_are_known;
