@@ -13,5 +13,5 @@ mod summary;
 pub use laws::law_of_alike_procedures;
 pub use nodes::cells;
 pub use stop::{Flow, Stop};
-pub use stops::flow;
-pub use summary::project;
+pub use stops::{flow, formula_at};
+pub use summary::{exit_summary, project};

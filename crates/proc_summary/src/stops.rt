@@ -6,7 +6,7 @@ ghost use Rattle.leaf_cases.specs.Conditions.{AreKnown};
 ghost use Rattle.leaf_cases.specs.Summaries.{AreMet};
 ghost use Rattle.syntax_tree.specs.declared.program.Proc.{Proc as Procedure};
 ghost use Rattle.proc_summary.specs.Subject.{subject_of};
-ghost use Rattle.proc_summary.specs.Flow.{flow_from, formula_of, stop_at};
+ghost use Rattle.proc_summary.specs.Flow.{flow_from, formula_at, formula_of, stop_at};
 ghost use Rattle.proc_summary.specs.Claims.{FitsFlow, FlowHolds, KnowsCallees};
 ghost use Rattle.proc_summary.specs.Parts.{call_stop, check_stop, graph_flow};
 
@@ -125,11 +125,23 @@ fn stop_at(
 ) -> Result<Stop, FormulaError>
     ensures { IfOk result (λ stop. stop ≡ stop_at columns cells.now node) }
 {
-    let formula = match cells.get(node as usize) {
-        Some(cell) => formula_of(alloc, columns, cell)?,
-        None => None,
-    };
+    let formula = formula_at(alloc, columns, cells, node)?;
     Ok(Stop { node, formula })
+}
+
+/// The formula at a node, by what stands at each: over so many columns, and none where no way leads.
+pub fn formula_at(
+    alloc: Global,
+    columns: u32,
+    cells: &[Cell<Formula>],
+    node: u32,
+) -> Result<Option<Formula>, FormulaError>
+    ensures { IfOk result (λ formula. formula ≡ formula_at columns cells.now node) }
+{
+    match cells.get(node as usize) {
+        Some(cell) => formula_of(alloc, columns, cell),
+        None => Ok(None),
+    }
 }
 
 /// A cell as a formula over so many columns: none where no way leads, and the identity where nothing was done.

@@ -1,5 +1,6 @@
 ghost use Rattle.std.specs.Prelude.{◌≡◌, ◌<◌, ◌++◌, Some, length, slice_get, IfOk, OnOk};
-ghost use Rattle.syntax_tree.specs.WellFormed.{IsWellFormed};
+ghost use Rattle.syntax_tree.specs.WellFormed.{IsWellFormed, width_of};
+ghost use Rattle.vocabularies.specs.Ends.{entry_width};
 ghost use Rattle.syntax_tree.specs.declared.program.Proc.{Proc as Procedure};
 ghost use Rattle.transition_formula.specs.Hiding.{lost_in_hiding};
 ghost use Rattle.transition_formula.specs.Meaning.{Covers};
@@ -9,8 +10,8 @@ ghost use Rattle.leaf_cases.specs.Conditions.{IsKnown};
 ghost use Rattle.leaf_cases.specs.Summaries.{SummaryIsMet};
 ghost use Rattle.checked_tree.specs.Evaluation.{settled_and_fitted};
 ghost use Rattle.checked_tree.specs.Law.{IsBetweenEnds, IsEnd, IsFrom};
-ghost use Rattle.proc_summary.specs.Summary.{ends_of, exit_formula, summary_from, told_of};
-ghost use Rattle.proc_summary.specs.Claims.{FitsFlow, FlowHolds};
+ghost use Rattle.proc_summary.specs.Summary.{ends_of, exit_formula, exit_places, summary_from, told_of};
+ghost use Rattle.proc_summary.specs.Claims.{FitsFlow, FitsIf, FlowHolds};
 ghost use Rattle.proc_summary.specs.Parts.{IsToldBy, IsToldFrom};
 
 use crate::columns::{columns_of, exit_places};
@@ -21,11 +22,10 @@ use polyhedra::{Log, Vocabulary, WorkError, fit, settle};
 use std::alloc::Global;
 use syntax_tree::Program;
 use transition_formula::{Formula, FormulaError, Loss, hidden, with_posts};
-use vocabularies::{entry, exit};
+use vocabularies::entry;
 
 /// The summary of a procedure by its flow: from the globals and parameters to the globals and the returned value, by at most
 /// 16 cases of at most 64 rows and 64 auxiliaries. It holds of all that the flow's exit holds of.
-#[tactic(auto, using(posing::proofs::Following::following), unfolding(crate::specs::Summary::summary_from))]
 pub fn project<O: Oracle>(
     alloc: Global,
     program: &Program,
@@ -41,21 +41,41 @@ pub fn project<O: Oracle>(
     ensures known { (p : Procedure) → slice_get program.now.procs proc ≡ Some p → IfOk result (IsKnown program.now p) }
     ensures met { FlowHolds program.now proc flow.now → IfOk result (SummaryIsMet program.now proc) }
 {
-    let entry = entry(alloc, program, proc)?;
-    let exit = exit(alloc, program, proc)?;
+    exit_summary(alloc, program, proc, &flow.exit.formula, oracle, log)
+}
+
+/// The same by the formula of the exit alone; an exit without one is one that no way leads to.
+#[tactic(auto, using(posing::proofs::Following::following), unfolding(crate::specs::Summary::summary_from))]
+pub fn exit_summary<O: Oracle>(
+    alloc: Global,
+    program: &Program,
+    proc: u32,
+    exit: &Option<Formula>,
+    oracle: &mut O,
+    log: &mut Log,
+) -> Result<Formula, WorkError>
+    requires formed { IsWellFormed program.now }
+    requires procedure { proc < length program.now.procs }
+    requires exit { (p : Procedure) → slice_get program.now.procs proc ≡ Some p → FitsIf (width_of program.now p) exit.now }
+    ensures follows { (p : Procedure) → slice_get program.now.procs proc ≡ Some p → Follows O.asking oracle.old oracle.new log.old log.new result (summary_from (ends_of program.now p) exit.now) }
+    ensures known { (p : Procedure) → slice_get program.now.procs proc ≡ Some p → IfOk result (IsKnown program.now p) }
+    ensures covers { (p : Procedure) → slice_get program.now.procs proc ≡ Some p → IfOk result (λ f. Covers f (told_of (entry_width program.now p) (exit_places (ends_of program.now p)) (exit_formula (width_of program.now p) exit.now))) }
+{
+    let start = entry(alloc, program, proc)?;
+    let end = vocabularies::exit(alloc, program, proc)?;
     let columns = columns_of(program, proc);
     let places = exit_places(alloc, program, proc)?;
     let mut lost = Items::new(alloc);
     let told = told_of(
         alloc,
         columns,
-        entry.columns(),
+        start.columns(),
         places.as_slice(),
-        &flow.exit.formula,
+        exit,
         &mut lost,
     )?;
     log.add_losses(alloc, lost.as_slice())?;
-    settled_and_fitted(alloc, &told, &entry, &exit, oracle, log)
+    settled_and_fitted(alloc, &told, &start, &end, oracle, log)
 }
 
 /// What an exit's formula tells: the entry's columns past the first so many become auxiliaries, and the posts at some of the

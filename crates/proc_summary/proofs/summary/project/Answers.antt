@@ -1,96 +1,15 @@
-use Rattle.std.proofs.Common.{◌≡◌, ◌∙◌, [], ◌++◌, ap, sym, subst}
 use Rattle.std.proofs.lemmas.Result.{IfOk-weaker}
 use Rattle.transition_formula.specs.Meaning.{Covers}
-use Rattle.transition_formula.specs.Transition.{Transition, AreSolvable}
-use Rattle.posing.specs.Logs.{loss_notes}
-use Rattle.posing.proofs.Steps.{in_other_words, notes_first}
-use Rattle.polyhedra.specs.Vocabulary.{Vocabulary}
-use Rattle.transition_formula.specs.Hiding.{lost_in_hiding}
 use Rattle.syntax_tree.specs.WellFormed.{width_of}
-use Rattle.vocabularies.specs.Ends.{entry_of, entry_width, full_of}
-use Rattle.vocabularies.specs.Ends as ends
-use Rattle.leaf_cases.specs.Conditions.{IsKnown}
+use Rattle.vocabularies.specs.Ends.{entry_width}
 use Rattle.leaf_cases.specs.Summaries.{SummaryIsMet}
-use Rattle.checked_tree.specs.Evaluation.{settled_and_fitted}
-use Rattle.checked_tree.specs.Law.{IsBetweenEnds, IsEnd, IsFrom}
-use Rattle.proc_summary.specs.Summary.{ends_of, exit_formula, exit_places, summary_from, told_of}
+use Rattle.proc_summary.specs.Summary.{ends_of, exit_formula, exit_places, told_of}
 use Rattle.proc_summary.proofs.Below.{some_at}
-use Rattle.proc_summary.proofs.Graphs.{columns-is, full-columns}
-use Rattle.proc_summary.proofs.Told.{entry-columns, entry-end, exit-end, summary-known, summary-met, told-as, told-between, told-is, told-solved}
+use Rattle.proc_summary.proofs.Told.{summary-met}
 use Rattle.proc_summary.proofs.summary.project.Goals as goal
 
-pub told_of-requires : goal.told_of-requires
-told_of-requires g c =
-    let program = c.args.program.now in
-    let there = some_at program.procs c.args.proc c.requires.procedure in
-    let p = there.0 in
-    let is = there.1 in
-    told-as program c.args.proc p c.requires.formed is c.columns_of-columns.result c.columns.result c.as_slice.result.now c.args.flow.now.exit.formula
-    (c.columns_of-columns.ensures ∙ columns-is program c.args.proc p [] is)
-    (c.columns.ensures.columns ∙ ap (λ (voc : Vocabulary). voc.columns) (c.in_ok-entry.ensures p is) ∙ entry-columns program c.args.proc p c.requires.formed is)
-    (c.as_slice.ensures ∙ c.in_ok-places.ensures p is) (c.requires.flow p is).exit
-
-pub settled_and_fitted-requires-clause-between : goal.settled_and_fitted-requires-clause-between
-settled_and_fitted-requires-clause-between g c =
-    let program = c.args.program.now in
-    let there = some_at program.procs c.args.proc c.requires.procedure in
-    let p = there.0 in
-    let is = there.1 in
-    let fits = (c.requires.flow p is).exit in
-    let made : c.in_ok-told.told ≡ told_of (entry_width program p) (exit_places (ends_of program p)) (exit_formula (width_of program p) c.args.flow.now.exit.formula) =
-    c.in_ok-told.ensures.made ∙ told-is program c.args.proc p c.requires.formed is c.columns_of-columns.result c.columns.result c.as_slice.result.now c.args.flow.now.exit.formula
-    (c.columns_of-columns.ensures ∙ columns-is program c.args.proc p [] is)
-    (c.columns.ensures.columns ∙ ap (λ (voc : Vocabulary). voc.columns) (c.in_ok-entry.ensures p is) ∙ entry-columns program c.args.proc p c.requires.formed is)
-    (c.as_slice.ensures ∙ c.in_ok-places.ensures p is) fits in
-    subst (λ voc. IsFrom voc c.in_ok-exit.exit c.in_ok-told.told) (sym (c.in_ok-entry.ensures p is))
-    (subst (λ voc. IsFrom (entry_of program p) voc c.in_ok-told.told) (sym (c.in_ok-exit.ensures p is))
-    (subst (IsFrom (entry_of program p) (ends.exit_of program p)) (sym made) (told-between program c.args.proc p c.requires.formed is c.args.flow.now.exit.formula fits)))
-
-pub settled_and_fitted-requires-clause-start : goal.settled_and_fitted-requires-clause-start
-settled_and_fitted-requires-clause-start g c =
-    let there = some_at c.args.program.now.procs c.args.proc c.requires.procedure in
-    subst IsEnd (sym (c.in_ok-entry.ensures there.0 there.1)) (entry-end c.args.program.now c.args.proc there.0 c.requires.formed there.1)
-
-pub settled_and_fitted-requires-clause-end : goal.settled_and_fitted-requires-clause-end
-settled_and_fitted-requires-clause-end g c =
-    let there = some_at c.args.program.now.procs c.args.proc c.requires.procedure in
-    subst IsEnd (sym (c.in_ok-exit.ensures there.0 there.1)) (exit-end c.args.program.now c.args.proc there.0 c.requires.formed there.1)
-
-pub settled_and_fitted-requires-clause-solvable : goal.settled_and_fitted-requires-clause-solvable
-settled_and_fitted-requires-clause-solvable g c =
-    let program = c.args.program.now in
-    let there = some_at program.procs c.args.proc c.requires.procedure in
-    let p = there.0 in
-    let is = there.1 in
-    let fits = (c.requires.flow p is).exit in
-    let made : c.in_ok-told.told ≡ told_of (entry_width program p) (exit_places (ends_of program p)) (exit_formula (width_of program p) c.args.flow.now.exit.formula) =
-    c.in_ok-told.ensures.made ∙ told-is program c.args.proc p c.requires.formed is c.columns_of-columns.result c.columns.result c.as_slice.result.now c.args.flow.now.exit.formula
-    (c.columns_of-columns.ensures ∙ columns-is program c.args.proc p [] is)
-    (c.columns.ensures.columns ∙ ap (λ (voc : Vocabulary). voc.columns) (c.in_ok-entry.ensures p is) ∙ entry-columns program c.args.proc p c.requires.formed is)
-    (c.as_slice.ensures ∙ c.in_ok-places.ensures p is) fits in
-    subst (λ (t : Transition). AreSolvable t.cases) (sym made) (told-solved program c.args.proc p c.requires.formed is c.args.flow.now.exit.formula fits)
-
-pub returns-clause-follows : goal.returns-clause-follows
-unfolding summary_from
-returns-clause-follows g c = λ p is.
-    let program = c.args.program.now in
-    let exit = c.args.flow.now.exit.formula in
-    let wide : c.columns_of-columns.result ≡ (full_of program p).columns = c.columns_of-columns.ensures ∙ columns-is program c.args.proc p [] is ∙ sym (full-columns program p) in
-    let first : c.columns.result ≡ (entry_of program p).columns = c.columns.ensures.columns ∙ ap (λ (voc : Vocabulary). voc.columns) (c.in_ok-entry.ensures p is) in
-    let same : c.as_slice.result.now ≡ exit_places (ends_of program p) = c.as_slice.ensures ∙ c.in_ok-places.ensures p is in
-    let told : c.in_ok-told.told ≡ told_of (entry_of program p).columns (exit_places (ends_of program p)) (exit_formula (full_of program p).columns exit) =
-    c.in_ok-told.ensures.made ∙ (λ i. told_of (first i) (same i) (exit_formula (wide i) exit)) in
-    let lost : c.as_slice-2.result.now ≡ lost_in_hiding (entry_of program p).columns (exit_formula (full_of program p).columns exit) =
-    c.as_slice-2.ensures ∙ c.in_ok-told.ensures.noted ∙ ap (λ front. front ++ lost_in_hiding c.columns.result (exit_formula c.columns_of-columns.result exit)) c.new-lost.ensures ∙ (λ i. lost_in_hiding (first i) (exit_formula (wide i) exit)) in
-    notes_first c.in_ok-add_losses.ensures (ap loss_notes lost)
-    (in_other_words (λ i. settled_and_fitted (told i) (c.in_ok-entry.ensures p is i) (c.in_ok-exit.ensures p is i)) c.settled_and_fitted.ensures.follows)
-
-pub returns-clause-known : goal.returns-clause-known
-returns-clause-known g c = λ p is.
-    IfOk-weaker c.settled_and_fitted.result (IsBetweenEnds c.in_ok-entry.entry c.in_ok-exit.exit) (IsKnown c.args.program.now p)
-    (λ made h. summary-known c.args.program.now c.args.proc p c.requires.formed is made
-    (subst (λ voc. IsBetweenEnds voc (ends.exit_of c.args.program.now p) made) (c.in_ok-entry.ensures p is) (subst (λ voc. IsBetweenEnds c.in_ok-entry.entry voc made) (c.in_ok-exit.ensures p is) h)))
-    c.settled_and_fitted.ensures.fits
+pub exit_summary-requires-clause-exit : goal.exit_summary-requires-clause-exit
+exit_summary-requires-clause-exit g c = λ p is. (c.requires.flow p is).exit
 
 pub returns-clause-met : goal.returns-clause-met
 returns-clause-met g c = λ holds.
@@ -98,12 +17,6 @@ returns-clause-met g c = λ holds.
     let there = some_at program.procs c.args.proc c.requires.procedure in
     let p = there.0 in
     let is = there.1 in
-    let fits = (c.requires.flow p is).exit in
-    let made : c.in_ok-told.told ≡ told_of (entry_width program p) (exit_places (ends_of program p)) (exit_formula (width_of program p) c.args.flow.now.exit.formula) =
-    c.in_ok-told.ensures.made ∙ told-is program c.args.proc p c.requires.formed is c.columns_of-columns.result c.columns.result c.as_slice.result.now c.args.flow.now.exit.formula
-    (c.columns_of-columns.ensures ∙ columns-is program c.args.proc p [] is)
-    (c.columns.ensures.columns ∙ ap (λ (voc : Vocabulary). voc.columns) (c.in_ok-entry.ensures p is) ∙ entry-columns program c.args.proc p c.requires.formed is)
-    (c.as_slice.ensures ∙ c.in_ok-places.ensures p is) fits in
-    IfOk-weaker c.settled_and_fitted.result (λ f. Covers f c.in_ok-told.told) (SummaryIsMet program c.args.proc)
-    (λ f covers. summary-met program c.args.proc p c.requires.formed is c.args.flow.now f (c.requires.flow p is) holds (subst (Covers f) made covers))
-    c.settled_and_fitted.ensures.covers
+    IfOk-weaker c.exit_summary.result (λ f. Covers f (told_of (entry_width program p) (exit_places (ends_of program p)) (exit_formula (width_of program p) c.args.flow.now.exit.formula))) (SummaryIsMet program c.args.proc)
+    (λ f covers. summary-met program c.args.proc p c.requires.formed is c.args.flow.now f (c.requires.flow p is) holds covers)
+    (c.exit_summary.ensures.covers p is)
