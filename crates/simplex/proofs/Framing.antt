@@ -26,7 +26,7 @@ at_front [] ys d k h = absurd (omega arith)
 at_front (x ∷ xs) ys d zero h = refl
 at_front (x ∷ xs) ys d (suc k) h = at_front xs ys d k (omega arith)
 
-after_front : {X : Type 0} (xs ys : List X) (d : X) (k : ℕ) → get_or (xs ++ ys) (length xs + k) d ≡ get_or ys k d
+pub after_front : {X : Type 0} (xs ys : List X) (d : X) (k : ℕ) → get_or (xs ++ ys) (length xs + k) d ≡ get_or ys k d
 after_front [] ys d k = let e : 0 + k ≡ k = omega arith in ap (λ (n : ℕ). get_or ys n d) e
 after_front (x ∷ xs) ys d k = let e : length (x ∷ xs) + k ≡ suc (length xs + k) = omega arith in ap (λ (n : ℕ). get_or (x ∷ xs ++ ys) n d) e ∙ after_front xs ys d k
 
@@ -36,11 +36,11 @@ long (x ∷ xs) ys = let e : length (xs ++ ys) ≡ length xs + length ys = long 
 
 -- ---- unit columns
 
-units_to-length : (n place : ℕ) → length (units_to n place) ≡ n
+pub units_to-length : (n place : ℕ) → length (units_to n place) ≡ n
 units_to-length zero place = refl
 units_to-length (suc n) place = long (units_to n place) ((cond (nat_eq n place) (pos 1) (pos 0)) ∷ []) ∙ (let e : length (units_to n place) ≡ n = units_to-length n place in omega (arith, e))
 
-units_to-at : (n place k : ℕ) → k < n → get_or (units_to n place) k (pos 0) ≡ cond (nat_eq k place) (pos 1) (pos 0)
+pub units_to-at : (n place k : ℕ) → k < n → get_or (units_to n place) k (pos 0) ≡ cond (nat_eq k place) (pos 1) (pos 0)
 units_to-at zero place k h = absurd (omega arith)
 units_to-at (suc n) place k h = ⊎_elim (λ (same : k ≡ n). last same) (λ other. at_front (units_to n place) ((cond (nat_eq n place) (pos 1) (pos 0)) ∷ []) (pos 0) k (let e : length (units_to n place) ≡ n = units_to-length n place in omega (arith, e, h, other)) ∙ units_to-at n place k (omega (arith, h, other))) (cases_eq k n)
   where
@@ -52,11 +52,11 @@ units_to-at (suc n) place k h = ⊎_elim (λ (same : k ≡ n). last same) (λ ot
         ∙ after_front (units_to n place) ((cond (nat_eq n place) (pos 1) (pos 0)) ∷ []) (pos 0) 0
         ∙ ap (λ (m : ℕ). cond (nat_eq m place) (pos 1) (pos 0)) (sym same)
 
-units_from-length : (first n : ℕ) → length (units_from first n) ≡ n
+pub units_from-length : (first n : ℕ) → length (units_from first n) ≡ n
 units_from-length first zero = refl
 units_from-length first (suc n) = long (units_from first n) ((first + n) ∷ []) ∙ (let e : length (units_from first n) ≡ n = units_from-length first n in omega (arith, e))
 
-units_from-at : (first n k : ℕ) → k < n → get_or (units_from first n) k 0 ≡ first + k
+pub units_from-at : (first n k : ℕ) → k < n → get_or (units_from first n) k 0 ≡ first + k
 units_from-at first zero k h = absurd (omega arith)
 units_from-at first (suc n) k h = ⊎_elim (λ (same : k ≡ n). last same) (λ other. at_front (units_from first n) ((first + n) ∷ []) 0 k (let e : length (units_from first n) ≡ n = units_from-length first n in omega (arith, e, h, other)) ∙ units_from-at first n k (omega (arith, h, other))) (cases_eq k n)
   where

@@ -24,14 +24,14 @@ use Rattle.farkas_check.specs.declared.question.Goal.{Goal}
 use Rattle.farkas_check.specs.declared.question.Question.TheVariants.{Infeasible, Sup}
 use Rattle.simplex.specs.Refusal.{LeavesBits}
 
-product-leaves : (a b : ℤ) (w : Step.Wide) → product_of a b ≡ Err w → LeavesBits w
+pub product-leaves : (a b : ℤ) (w : Step.Wide) → product_of a b ≡ Err w → LeavesBits w
 product-leaves a b w e = go (fits (a *ℤ b)) refl e
   where
     go : (t : Bool) → fits (a *ℤ b) ≡ t → cond t (Ok (a *ℤ b)) (Err record { left = a; right = b; times = true }) ≡ Err w → LeavesBits w
     go true f g = cc
     go false f g = let same : record { left = a; right = b; times = true } ≡ w = cc in subst LeavesBits same f
 
-sum-leaves : (a b : ℤ) (w : Step.Wide) → sum_of a b ≡ Err w → LeavesBits w
+pub sum-leaves : (a b : ℤ) (w : Step.Wide) → sum_of a b ≡ Err w → LeavesBits w
 sum-leaves a b w e = go (fits (a +ℤ b)) refl e
   where
     go : (t : Bool) → fits (a +ℤ b) ≡ t → cond t (Ok (a +ℤ b)) (Err record { left = a; right = b; times = false }) ≡ Err w → LeavesBits w
@@ -65,12 +65,12 @@ sums_at-leaves rows by (c ∷ cs) w e =
     on_err (sum_from (number_at c) (pos 0) rows by) (λ s. sums_at rows by cs >>= λ more. numbers_ok (s ∷ more)) w e (λ f. sum_from-leaves (number_at c) (pos 0) rows by w f)
     (λ s f g. on_err (sums_at rows by cs) (λ more. numbers_ok (s ∷ more)) w g (λ h. sums_at-leaves rows by cs w h) (λ more h k. cc))
 
-and_then-leaves : (part others : Result Bool Step.Wide) (w : Step.Wide) → (part ≡ Err w → LeavesBits w) → (others ≡ Err w → LeavesBits w) → and_then part others ≡ Err w → LeavesBits w
+pub and_then-leaves : (part others : Result Bool Step.Wide) (w : Step.Wide) → (part ≡ Err w → LeavesBits w) → (others ≡ Err w → LeavesBits w) → and_then part others ≡ Err w → LeavesBits w
 and_then-leaves (Ok true) others w p q e = q e
 and_then-leaves (Ok false) others w p q e = cc
 and_then-leaves (Err v) others w p q e = p e
 
-sum_of_multiples-leaves : (rows : List Row) (by : List ℤ) (cs : List (List Col)) (w : Step.Wide) → sum_of_multiples rows by cs ≡ Err w → LeavesBits w
+pub sum_of_multiples-leaves : (rows : List Row) (by : List ℤ) (cs : List (List Col)) (w : Step.Wide) → sum_of_multiples rows by cs ≡ Err w → LeavesBits w
 sum_of_multiples-leaves rows by cs w e =
     on_err (sums_at rows by cs) (λ numbers. constant_sum rows by >>= λ rest. form_ok (record { numbers = numbers; rest = rest })) w e (λ h. sums_at-leaves rows by cs w h)
     (λ numbers h k. on_err (constant_sum rows by) (λ rest. form_ok (record { numbers = numbers; rest = rest })) w k (λ l. sum_from-leaves constant_in (pos 0) rows by w l) (λ rest l m. cc))
@@ -82,12 +82,12 @@ yes-leaves rows by w e =
 
 -- ---- values
 
-ratio_product-leaves : (a b : Fraction) (w : Step.Wide) → ratio_product a b ≡ Err w → LeavesBits w
+pub ratio_product-leaves : (a b : Fraction) (w : Step.Wide) → ratio_product a b ≡ Err w → LeavesBits w
 ratio_product-leaves a b w e =
     on_err (product_of a.num b.num) (λ num. product_of a.den b.den >>= λ den. ratio_ok (lowest_terms num den)) w e (λ f. product-leaves a.num b.num w f)
     (λ num f g. on_err (product_of a.den b.den) (λ den. ratio_ok (lowest_terms num den)) w g (λ h. product-leaves a.den b.den w h) (λ den h k. cc))
 
-ratio_sum-leaves : (a b : Fraction) (w : Step.Wide) → ratio_sum a b ≡ Err w → LeavesBits w
+pub ratio_sum-leaves : (a b : Fraction) (w : Step.Wide) → ratio_sum a b ≡ Err w → LeavesBits w
 ratio_sum-leaves a b w e =
     on_err (common_multiple a.den b.den) (λ den. product_of a.num (int_div den a.den) >>= λ left. product_of b.num (int_div den b.den) >>= λ right. sum_of left right >>= λ num. ratio_ok (lowest_terms num den)) w e
     (λ f. product-leaves (int_div a.den (pos (gcd_of (unsigned_abs a.den) (unsigned_abs b.den)))) b.den w f)
@@ -101,11 +101,11 @@ value_from-leaves at total (t ∷ ts) w e =
     on_err (ratio_product (whole t.1) (at t.0)) (λ part. ratio_sum total part >>= λ next. value_from at next ts) w e (λ f. ratio_product-leaves (whole t.1) (at t.0) w f)
     (λ part f g. on_err (ratio_sum total part) (λ next. value_from at next ts) w g (λ h. ratio_sum-leaves total part w h) (λ next h k. value_from-leaves at next ts w k))
 
-ratio_value-leaves : (at : List Col → Fraction) (p : Polynomial) (w : Step.Wide) → ratio_value at p ≡ Err w → LeavesBits w
+pub ratio_value-leaves : (at : List Col → Fraction) (p : Polynomial) (w : Step.Wide) → ratio_value at p ≡ Err w → LeavesBits w
 ratio_value-leaves at p w e =
     on_err (slope_at at p) (λ terms. ratio_sum terms (whole p.rest)) w e (λ f. value_from-leaves at (whole (pos 0)) p.terms w f) (λ terms f g. ratio_sum-leaves terms (whole p.rest) w g)
 
-meets-leaves : (value : Polynomial → Result Fraction Step.Wide) (rows : List Row) (w : Step.Wide) → ((p : Polynomial) → value p ≡ Err w → LeavesBits w) → meets value rows ≡ Err w → LeavesBits w
+pub meets-leaves : (value : Polynomial → Result Fraction Step.Wide) (rows : List Row) (w : Step.Wide) → ((p : Polynomial) → value p ≡ Err w → LeavesBits w) → meets value rows ≡ Err w → LeavesBits w
 meets-leaves value [] w v e = cc
 meets-leaves value (row ∷ rows) w v e =
     and_then-leaves (value row.poly >>= λ r. bool_ok (is_within row.kind r.num)) (meets value rows) w

@@ -11,6 +11,8 @@ pub mod Roundings
 pub mod CalmGoals
 pub mod Cases
 pub mod Widths
+pub mod BasisLeaves
+pub mod Bases
 -- Calm: tableaux of a calm frame are small, and a step that leaves 128 bits shows that a frame is not small.
 pub mod Calmness
 pub mod Refusing
@@ -21,6 +23,9 @@ pub mod Comparisons
 pub mod Memory
 -- The search: equations, inequalities and turns, from the frame of the rows on.
 pub mod Framing
+pub mod SpotFrames
+pub mod Denominators
+pub mod Echelons
 pub mod Eliminations
 pub mod Settles
 -- Suprema: what an objective comes to at the corners and along the rays of its rows.

@@ -117,7 +117,7 @@ factor_small z s d p e =
     let is : unsigned_abs z * unsigned_abs s ≡ unsigned_abs d = sym (unsigned_abs-mul z s) ∙ ap unsigned_abs e in omega (arith, more, is)
 
 -- a division without rest
-quotient_is : (z d q : ℤ) → pos 0 <ℤ d → z ≡ q *ℤ d → int_div z d ≡ q
+pub quotient_is : (z d q : ℤ) → pos 0 <ℤ d → z ≡ q *ℤ d → int_div z d ≡ q
 quotient_is z (pos n) q p e =
     *ℤ_cancel (int_div z (pos n)) q (pos n) p
     (int_div-*ℤ z n (subst (λ (m : ℕ). n ∣ m) (sym (ap unsigned_abs e ∙ unsigned_abs-mul q (pos n))) (dvd-mul_left n (unsigned_abs q))) ∙ e)

@@ -1,5 +1,6 @@
 -- What the raise of an objective over the rows of a case comes to.
 use Rattle.std.specs.Prelude.{◌≡◌, ◌≢◌, ◌⊎◌, not, take, drop, get_or, Result, Ok, ℕ, ◌+◌, ◌<◌, ℤ, pos, negsuc, ◌*ℤ◌, ◌<ℤ◌, List, [], ◌∷◌, ◌++◌, length, Bool, true}
+use Rattle.linear_terms.specs.declared.col.Col.{Col}
 use Rattle.linear_terms.specs.declared.row.Kind.{Kind}
 use Rattle.linear_terms.specs.declared.row.Kind.TheVariants.{AtMost}
 use Rattle.linear_terms.specs.declared.row.Row.{Row}
@@ -27,9 +28,12 @@ use Rattle.simplex.specs.declared.tableau.Tableau.{Tableau}
 abbrev pub with_goal : List Row → Polynomial → List Row
 with_goal rows p = rows ++ record { poly = p; kind = AtMost } ∷ []
 
--- the frame of a case has one line more, that of its objective
+-- the frame of rows over columns has one line more, that of the objective
+abbrev pub frame_over : List (List Col) → List Row → Polynomial → Framed
+frame_over cs rows p = record { units = length cs + 1; rows = length rows; frame = numbers_of (framed cs (with_goal rows p)) }
+
 abbrev pub goal_frame : Goal → Framed
-goal_frame goal = record { units = length (goal_columns goal) + 1; rows = length goal.rows; frame = numbers_of (framed (goal_columns goal) (with_goal goal.rows goal.objective)) }
+goal_frame goal = frame_over (goal_columns goal) goal.rows goal.objective
 
 -- the corner makes the rows true, and no column lets the objective grow
 pub record IsTopped (over : Framed) (constants : ℕ) (kinds : List Kind) (enters : List Bool) (t : Tableau) : Type 0 where
@@ -79,5 +83,8 @@ SupremumAt over constants kinds budget (supremum.Bound cert point) =
 SupremumAt over constants kinds budget (supremum.Unbounded point ray) =
     (t : Tableau) × ((enters : List Bool) × ((column : ℕ) × ((up : Bool) × (IsOpened over constants kinds enters column up t × IsCornerOf t constants constants point × IsRayOf t column up constants ray))))
 
+abbrev pub IsSupremumOver : List (List Col) → List Row → Polynomial → ℕ → Supremum → Type 0
+IsSupremumOver cs rows p budget found = SupremumAt (frame_over cs rows p) (length cs) (kinds_of (with_goal rows p)) budget found
+
 abbrev pub IsSupremumOf : Goal → ℕ → Supremum → Type 0
-IsSupremumOf goal budget found = SupremumAt (goal_frame goal) (length (goal_columns goal)) (kinds_of (with_goal goal.rows goal.objective)) budget found
+IsSupremumOf goal budget found = IsSupremumOver (goal_columns goal) goal.rows goal.objective budget found

@@ -1,4 +1,4 @@
-ghost use Rattle.std.specs.Prelude.{◌≡◌, ◌≢◌, ◌+◌, ◌<◌, ◌<ℤ◌, pos, ℕ, length, get_or, MatchOption, IfOk, IfErr};
+ghost use Rattle.std.specs.Prelude.{◌≡◌, ◌≢◌, ◌+◌, ◌<◌, ◌≤◌, ◌<ℤ◌, pos, ℕ, length, get_or, MatchOption, IfOk, IfErr};
 ghost use Rattle.simplex.specs.Exchange.{IsTableauOf};
 ghost use Rattle.farkas_check.specs.Relations.{entry};
 ghost use Rattle.simplex.specs.Raise.{Framed};
@@ -69,7 +69,7 @@ fn lowest_number(line: &[i128], constants: usize, column: usize) -> Result<Ratio
 }
 
 /// The first line that chooses a column.
-fn line_choosing(chosen: &[usize], column: usize) -> Option<usize>
+pub(crate) fn line_choosing(chosen: &[usize], column: usize) -> Option<usize>
     ensures { IsLineChoosing chosen.now column result }
 {
     for (line, own) in chosen.iter().enumerate() {
@@ -91,7 +91,7 @@ pub(crate) fn ray(
 ) -> Result<Items<Ratio>, Stop>
     ghost over: { Framed }
     requires tableau { IsTableauOf over.units over.frame t.now }
-    requires units { constants < over.units }
+    requires units { constants ≤ over.units }
     requires column { column < over.units + length t.now.lines }
     ensures ray { IfOk result (λ ray. IsRayOf t.now column up constants ray) }
     ensures refusal { IfErr result IsRefusal }

@@ -68,7 +68,11 @@ fn coefficients(alloc: Global, row: &Row, columns: &[Mono]) -> Result<Items<i128
 }
 
 /// A line with its numbers at the unit columns.
-fn with_units(line: Items<i128>, place: usize, count: usize) -> Result<Items<i128>, AllocError>
+pub(crate) fn with_units(
+    line: Items<i128>,
+    place: usize,
+    count: usize,
+) -> Result<Items<i128>, AllocError>
     ensures { IfOk result (λ made. made ≡ line ++ units_to count place) }
 {
     let mut made = line;
@@ -79,7 +83,11 @@ fn with_units(line: Items<i128>, place: usize, count: usize) -> Result<Items<i12
 }
 
 /// The unit columns.
-fn units_from(alloc: Global, first: usize, count: usize) -> Result<Items<usize>, AllocError>
+pub(crate) fn units_from(
+    alloc: Global,
+    first: usize,
+    count: usize,
+) -> Result<Items<usize>, AllocError>
     requires { first + count < 2 ^ 64 }
     ensures { IfOk result (λ made. made ≡ units_from first count) }
 {

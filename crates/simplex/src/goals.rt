@@ -171,7 +171,7 @@ fn case_supremum(
 }
 
 /// The place of a case in 32 bits. There are no more cases in a calm question.
-fn case_number(place: usize) -> Result<u32, Wide>
+pub(crate) fn case_number(place: usize) -> Result<u32, Wide>
     ensures number { IfOk result (λ case. case ≡ place) }
     ensures far { IfErr result (λ step. LeavesBits step × (2 ^ 32 ≤ place)) }
 {

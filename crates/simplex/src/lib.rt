@@ -7,19 +7,26 @@
 
 mod answering;
 mod corner;
+mod differences;
 mod frame;
 mod gauss;
 mod goals;
+mod questions;
 mod raise;
 mod search;
+mod spots;
 mod stop;
+mod strata;
 mod supremum;
 mod tableau;
+mod values;
 
 pub use answering::infeasible;
 pub use goals::sup;
+pub use questions::answer;
 pub use raise::{RaiseEnd, Turn};
 pub use search::{Found, TurnEnd};
 pub use stop::Stop;
+pub use strata::stratum;
 pub use supremum::{Supremum, Top, supremum_of};
 pub use tableau::Tableau;

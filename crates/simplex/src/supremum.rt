@@ -6,7 +6,7 @@ ghost use Rattle.linear_terms.specs.declared.row.Kind.{Kind};
 ghost use Rattle.simplex.specs.Raise.{Framed};
 ghost use Rattle.simplex.specs.Refusal.{IsRefusal, IsRefusalIn};
 ghost use Rattle.simplex.specs.Search.{IsFlat, IsMet, IsSolving, IsCornerOf};
-ghost use Rattle.simplex.specs.Suprema.{with_goal, goal_frame, IsSupremumOf, TopAt, SupremumAt, certificate_of, IsRayOf};
+ghost use Rattle.simplex.specs.Suprema.{with_goal, frame_over, goal_frame, IsSupremumOver, IsSupremumOf, TopAt, SupremumAt, certificate_of, IsRayOf};
 
 use crate::corner::{corner, ray};
 use crate::frame::{framed, kinds_of};
@@ -17,7 +17,7 @@ use crate::tableau::line_multiple;
 use crate::{RaiseEnd, Stop, Tableau};
 use farkas_check::{Cert, Goal, Ratio, case_columns};
 use items::Items;
-use linear_terms::{Kind, Poly, Row};
+use linear_terms::{Kind, Mono, Poly, Row};
 use std::alloc::{AllocError, Global};
 
 /// What the raise of an objective over the corners of a case comes to.
@@ -71,9 +71,23 @@ pub fn supremum_of(alloc: Global, goal: &Goal, budget: u128) -> Result<Supremum,
 {
     let rows = goal.rows.as_slice();
     let columns = case_columns(alloc, rows, goal.objective.terms())?;
-    let all = with_goal(alloc, rows, &goal.objective)?;
+    supremum_over(alloc, columns.as_slice(), rows, &goal.objective, budget)
+}
+
+/// The same of rows and an objective over columns, among which are theirs.
+pub(crate) fn supremum_over(
+    alloc: Global,
+    columns: &[Mono],
+    rows: &[Row],
+    objective: &Poly,
+    budget: u128,
+) -> Result<Supremum, Stop>
+    ensures supremum { IfOk result (λ found. IsSupremumOver columns.now rows.now objective.now budget found) }
+    ensures refusal { IfErr result (IsRefusalIn (frame_over columns.now rows.now objective.now) (length rows.now + 1)) }
+{
+    let all = with_goal(alloc, rows, objective)?;
     let kinds = kinds_of(alloc, all.as_slice())?;
-    let t = framed(alloc, all.as_slice(), columns.as_slice())?;
+    let t = framed(alloc, all.as_slice(), columns)?;
     topped(
         alloc,
         t,

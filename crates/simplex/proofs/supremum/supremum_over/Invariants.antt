@@ -1,6 +1,6 @@
 use Rattle.std.proofs.Common.{◌+◌}
 use Rattle.simplex.specs.Exchange.{numbers_of}
-use Rattle.simplex.proofs.supremum.supremum_of.Given as goal
+use Rattle.simplex.proofs.supremum.supremum_over.Given as goal
 
 abbrev pub ghost-topped : goal.ghost-topped
 ghost-topped a = record { units = a.constants + 1; rows = a.count; frame = numbers_of a.t }

@@ -1,0 +1,341 @@
+ghost use Rattle.std.specs.Prelude.{◌≡◌, ◌+◌, ◌<◌, ◌≤◌, ◌^◌, ◌<ℤ◌, ℕ, pos, length, get_or, MatchOption, IfOk, IfErr, IsTrue};
+ghost use Rattle.farkas_check.specs.Relations.{entry, is_reduced};
+ghost use Rattle.simplex.specs.Exchange.{numbers_of, IsTableauOf};
+ghost use Rattle.simplex.specs.Raise.{Framed};
+ghost use Rattle.simplex.specs.Refusal.{LeavesBits, IsRefusal};
+ghost use Rattle.simplex.specs.Spots.{entries_to, spot_row, spot_rows, spots_framed, IsSpotTableau, AreSpots, IsLastColumn, IsRelationOf, AreRelations};
+
+use crate::corner::{line_choosing, ray};
+use crate::differences::Strata;
+use crate::frame::{units_from, with_units};
+use crate::values::{common_denominator, numerators_over, value_at};
+use crate::{Stop, Tableau};
+use farkas_check::{Ratio, Spot};
+use items::Items;
+use linear_terms::{Mono, Poly};
+use std::alloc::{AllocError, Global};
+use whole_numbers::{Wide, product};
+
+/// Spots, each with its line under the unknowns and the number by which that line's values were multiplied, and a
+/// tableau of these lines that chooses an unknown in each.
+#[derive(Debug, Drop)]
+pub(crate) struct Spots {
+    pub(crate) spots: Items<Spot>,
+    pub(crate) lines: Items<Items<i128>>,
+    pub(crate) scales: Items<i128>,
+    pub(crate) tableau: Tableau,
+}
+
+/// Minus the value of a polynomial at a point.
+fn minus_value(columns: &[Mono], point: &[Ratio], poly: &Poly) -> Result<Ratio, Wide>
+    ensures { IfErr result LeavesBits }
+{
+    let value = value_at(columns, point, poly)?;
+    value.product(&Ratio::whole(-1))
+}
+
+/// What a relation's difference has at a point under each unknown: the values of the terms, minus those of the lower
+/// terms, and -1.
+fn side_values(
+    alloc: Global,
+    columns: &[Mono],
+    point: &[Ratio],
+    terms: &[Poly],
+    lower: &[Poly],
+) -> Result<Items<Ratio>, Stop>
+    ensures { IfErr result IsRefusal }
+{
+    let mut made = Items::new(alloc);
+    for term in terms {
+        made.push(value_at(columns, point, term)?)?;
+    }
+    for term in lower {
+        made.push(minus_value(columns, point, term)?)?;
+    }
+    made.push(Ratio::whole(-1))?;
+    Ok(made)
+}
+
+/// The number at a place; 0 past the last.
+fn entry(numbers: &[i128], place: usize) -> i128
+    ensures { result ≡ entry numbers.now place }
+{
+    if place < numbers.len() {
+        numbers[place]
+    } else {
+        0
+    }
+}
+
+/// The line of a spot in its frame.
+fn spot_row(
+    alloc: Global,
+    count: usize,
+    all: usize,
+    place: usize,
+    line: &[i128],
+) -> Result<Items<i128>, AllocError>
+    ensures { IfOk result (λ made. made ≡ spot_row count all place line.now) }
+{
+    let mut made = Items::new(alloc);
+    for unknown in 0..count {
+        made.push(entry(line, unknown))?;
+    }
+    with_units(made, place, all)
+}
+
+/// The lines of the frame of spots.
+fn spot_rows(
+    alloc: Global,
+    count: usize,
+    lines: &[Items<i128>],
+) -> Result<Items<Items<i128>>, AllocError>
+    ensures { IfOk result (λ made. made ≡ spot_rows count (length lines.now) 0 lines.now) }
+{
+    let mut made = Items::new(alloc);
+    for (place, line) in lines.iter().enumerate() {
+        made.push(spot_row(alloc, count, lines.len(), place, line.as_slice())?)?;
+    }
+    Ok(made)
+}
+
+/// The last of the first columns at which a line is not 0.
+fn last_column(line: &[i128], count: usize) -> Option<usize>
+    requires { count ≤ length line.now }
+    ensures { IsLastColumn line.now count result }
+{
+    let mut found = None;
+    for column in 0..count {
+        if line[column] != 0 {
+            found = Some(column);
+        }
+    }
+    found
+}
+
+/// Chooses in a line the last unknown at which it is not 0.
+fn with_last(
+    alloc: Global,
+    t: Tableau,
+    count: usize,
+    lines: &[Items<i128>],
+    line: usize,
+) -> Result<Tableau, Stop>
+    ghost units: { ℕ }
+    requires units { units ≡ count }
+    requires tableau { IsSpotTableau count lines.now t }
+    requires here { line < length lines.now }
+    ensures tableau { IfOk result (λ made. IsSpotTableau count lines.now made) }
+    ensures refusal { IfErr result IsRefusal }
+{
+    let _lines = lines;
+    match last_column(t.lines[line].as_slice(), count) {
+        Some(column) => {
+            let made = t.exchange(alloc, line, column)?;
+            Ok(made)
+        }
+        None => Ok(t),
+    }
+}
+
+/// The tableau of the frame of spots that chooses the unit columns.
+fn spots_framed(alloc: Global, count: usize, lines: &[Items<i128>]) -> Result<Tableau, AllocError>
+    requires { count + length lines.now < 2 ^ 64 }
+    ensures { IfOk result (λ t. t ≡ spots_framed count lines.now) }
+{
+    let made = spot_rows(alloc, count, lines)?;
+    let chosen = units_from(alloc, count, lines.len())?;
+    Ok(Tableau {
+        lines: made,
+        chosen,
+    })
+}
+
+/// The tableau of spots: from the frame of their lines on, each line in order chooses the last unknown at which it is
+/// not 0.
+fn spot_tableau(alloc: Global, count: usize, lines: &[Items<i128>]) -> Result<Tableau, Stop>
+    requires { count + length lines.now < 2 ^ 64 }
+    ensures tableau { IfOk result (λ t. IsSpotTableau count lines.now t) }
+    ensures refusal { IfErr result IsRefusal }
+{
+    let mut t = spots_framed(alloc, count, lines)?;
+    for line in 0..lines.len() {
+        t = with_last(alloc, t, count, lines, line)?;
+    }
+    Ok(t)
+}
+
+/// No spots.
+pub(crate) fn no_spots(alloc: Global) -> Spots
+    ensures { (count : ℕ) → AreSpots count result }
+{
+    Spots {
+        spots: Items::new(alloc),
+        lines: Items::new(alloc),
+        scales: Items::new(alloc),
+        tableau: Tableau {
+            lines: Items::new(alloc),
+            chosen: Items::new(alloc),
+        },
+    }
+}
+
+/// One more spot, of a case with these terms.
+pub(crate) fn with_spot(
+    alloc: Global,
+    strata: &Strata<'_>,
+    known: Spots,
+    terms: &[Poly],
+    spot: Spot,
+) -> Result<Spots, Stop>
+    requires known { AreSpots strata.now.count known }
+    requires few { strata.now.count < 2 ^ 61 }
+    ensures spots { IfOk result (λ made. AreSpots strata.now.count made) }
+    ensures refusal { IfErr result IsRefusal }
+{
+    let values = side_values(
+        alloc,
+        strata.columns,
+        spot.at.as_slice(),
+        terms,
+        strata.lower,
+    )?;
+    let scale = common_denominator(values.as_slice())?;
+    let line = numerators_over(alloc, &scale, values.as_slice())?;
+    more_spots(alloc, strata.count, known, spot, line, scale)
+}
+
+fn more_spots(
+    alloc: Global,
+    count: usize,
+    known: Spots,
+    spot: Spot,
+    line: Items<i128>,
+    scale: i128,
+) -> Result<Spots, Stop>
+    requires known { AreSpots count known }
+    requires few { count < 2 ^ 61 }
+    ensures spots { IfOk result (λ made. AreSpots count made) }
+    ensures refusal { IfErr result IsRefusal }
+{
+    let Spots {
+        mut spots,
+        mut lines,
+        mut scales,
+        tableau: _before,
+    } = known;
+    spots.push(spot)?;
+    lines.push(line)?;
+    scales.push(scale)?;
+    let tableau = spot_tableau(alloc, count, lines.as_slice())?;
+    Ok(Spots {
+        spots,
+        lines,
+        scales,
+        tableau,
+    })
+}
+
+/// The relation of an unknown that no line chooses: there it has the least common denominator of the tableau's multiples
+/// in its column, at the chosen unknowns minus their numerators, and 0 elsewhere.
+pub(crate) fn relation_of(
+    alloc: Global,
+    count: usize,
+    known: &Spots,
+    unknown: usize,
+) -> Result<Items<i128>, Stop>
+    ghost over: { Framed }
+    requires tableau { IsTableauOf over.units over.frame known.now.tableau }
+    requires units { over.units ≡ count }
+    requires unknown { unknown < count }
+    ensures count { IfOk result (λ numbers. length numbers ≡ count) }
+    ensures relation { IfOk result (λ numbers. IsRelationOf count known.now.tableau unknown numbers) }
+    ensures refusal { IfErr result IsRefusal }
+{
+    let ratios = ray(alloc, &known.tableau, count, unknown, true)?;
+    let scale = common_denominator(ratios.as_slice())?;
+    numerators_over(alloc, &scale, ratios.as_slice())
+}
+
+/// The relations of the unknowns before one, and its own where no line chooses it.
+fn with_unknown(
+    alloc: Global,
+    count: usize,
+    known: &Spots,
+    made: Items<Items<i128>>,
+    unknown: usize,
+) -> Result<Items<Items<i128>>, Stop>
+    requires known { AreSpots count known.now }
+    requires before { AreRelations count known.now.tableau unknown made }
+    requires unknown { unknown < count }
+    ensures relations { IfOk result (λ made. AreRelations count known.now.tableau (unknown + 1) made) }
+    ensures refusal { IfErr result IsRefusal }
+{
+    let mut made = made;
+    match line_choosing(known.tableau.chosen.as_slice(), unknown) {
+        Some(_line) => Ok(made),
+        None => {
+            let relation = relation_of(alloc, count, known, unknown)?;
+            made.push(relation)?;
+            Ok(made)
+        }
+    }
+}
+
+/// The relations of all unknowns that no line chooses, in order.
+pub(crate) fn relations_of(
+    alloc: Global,
+    count: usize,
+    known: &Spots,
+) -> Result<Items<Items<i128>>, Stop>
+    requires known { AreSpots count known.now }
+    ensures relations { IfOk result (λ made. AreRelations count known.now.tableau count made) }
+    ensures reduced { IfOk result (λ made. IsTrue (is_reduced made)) }
+    ensures refusal { IfErr result IsRefusal }
+{
+    let mut made = Items::new(alloc);
+    for unknown in 0..count {
+        made = with_unknown(alloc, count, known, made, unknown)?;
+    }
+    Ok(made)
+}
+
+/// Multiples of the spots' differences whose sum is 1 at the unknown that a line chooses, and 0 at the other chosen ones.
+fn unit_multiples(
+    alloc: Global,
+    count: usize,
+    line: &[i128],
+    unknown: usize,
+    scales: &[i128],
+) -> Result<Items<Ratio>, Stop>
+    requires unknown { unknown < length line.now }
+    requires wide { count + length scales.now ≤ length line.now }
+    requires positive { pos 0 <ℤ entry line.now unknown }
+    ensures refusal { IfErr result IsRefusal }
+{
+    let mut made = Items::new(alloc);
+    for (spot, scale) in scales.iter().enumerate() {
+        let number = product(line[count + spot], *scale)?;
+        made.push(Ratio::lowest(number, line[unknown]))?;
+    }
+    Ok(made)
+}
+
+/// Those multiples for each chosen unknown in order.
+pub(crate) fn unit_lists(
+    alloc: Global,
+    count: usize,
+    known: &Spots,
+) -> Result<Items<Items<Ratio>>, Stop>
+    requires known { AreSpots count known.now }
+    ensures refusal { IfErr result IsRefusal }
+{
+    let mut made = Items::new(alloc);
+    for unknown in 0..count {
+        if let Some(line) = line_choosing(known.tableau.chosen.as_slice(), unknown) {
+            let own = known.tableau.lines[line].as_slice();
+            made.push(unit_multiples(alloc, count, own, unknown, known.scales.as_slice())?)?;
+        }
+    }
+    Ok(made)
+}
