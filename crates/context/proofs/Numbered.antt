@@ -13,7 +13,7 @@ use Rattle.syntax_tree.specs.Nodes.{code_nodes, statement_nodes}
 use Rattle.syntax_tree.specs.WellFormed.{cond_fits, statement_fits, code_fits, statement_checks, code_checks, procs_checks, width_of, IsProcFit, IsWellFormed}
 use Rattle.flow_graph.specs.FlowGraph.{CheckPlace, checks_at, code_checks_at, flow_of}
 
-two : (a b : Bool) → IsTrue (a && b) → IsTrue a × IsTrue b
+pub two : (a b : Bool) → IsTrue (a && b) → IsTrue a × IsTrue b
 two true true h = (refl, refl)
 two true false h = absurd (cc)
 two false b h = absurd (cc)

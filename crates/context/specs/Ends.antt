@@ -1,5 +1,5 @@
 -- What is asked of where an assertion stands, and of the formulas that lead there.
-use Rattle.std.specs.Prelude.{◌≡◌, ◌<◌, ◌≤◌, ◌^◌, ℕ, ℤ, IsTrue, All, List, [], ◌++◌, Option, length}
+use Rattle.std.specs.Prelude.{◌≡◌, ◌<◌, ◌≤◌, ℕ, ℤ, IsTrue, All, List, [], ◌++◌, Option, length}
 use Rattle.checked_tree.specs.Law.{IsEnd}
 use Rattle.execution.specs.Step.{IsFalseIn}
 use Rattle.syntax_tree.specs.Term.{Term}
@@ -10,7 +10,7 @@ use Rattle.transition_formula.specs.Transition.{Transition, IsTransition}
 use Rattle.proc_summary.specs.Claims.{HoldsIf}
 use Rattle.context.specs.declared.place.Place.{Place}
 
--- the vocabularies have these columns, at most 63, and the columns that are told are among them
+-- the vocabularies have these columns, at most 63, and the columns that are told are among them, at most 63 too
 pub record IsPlace (place : Place) : Type 0 where
   pub entry : place.entry ≤ place.columns
   pub start_columns : place.start.columns ≡ 0
@@ -18,7 +18,7 @@ pub record IsPlace (place : Place) : Type 0 where
   pub start : IsEnd place.start
   pub full : IsEnd place.full
   pub shown : All (λ column. column < place.columns) place.shown
-  pub few : length place.shown < 2 ^ 31
+  pub few : length place.shown ≤ 63
 
 -- an expression that is a condition in states of so many columns
 pub record IsCondition (columns : ℕ) (cond : Term) : Type 0 where

@@ -18,3 +18,6 @@ pub mod Laws
 
 -- the graph of entries, and what is made of it
 pub mod Entries
+-- what the code makes of it, and what it asks for that
+pub mod Made
+pub mod Callers

@@ -1,10 +1,19 @@
-//! The verdict on an assertion: whether it can fail, by the cases in which it would.
+//! Entries of procedures and verdicts on assertions: the globals and parameters with which a procedure may begin, and
+//! whether an assertion can fail, by the cases in which it would.
 #![tactic(auto)]
 
+mod assertion;
+mod callings;
+mod edges;
+mod entry_formulas;
+mod graphs;
 mod judging;
 mod laws;
+mod nodes;
 mod place;
 mod stand;
 
+pub use assertion::verdict;
+pub use entry_formulas::entries;
 pub use judging::judged;
 pub use laws::law_of_assertions;

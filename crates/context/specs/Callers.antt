@@ -1,0 +1,8 @@
+-- What is asked of a procedure whose calls are made links.
+use Rattle.std.specs.Prelude.{◌≤◌}
+use Rattle.context.specs.declared.callings.Caller.{Caller}
+use Rattle.context.specs.Made.{AreWidths}
+
+pub record IsCaller (caller : Caller) : Type 0 where
+  pub few : caller.number ≤ 256
+  pub widths : AreWidths caller.widths

@@ -1,0 +1,253 @@
+ghost use Rattle.std.specs.Prelude.{◌≡◌, ◌<◌, ◌≤◌, ◌+◌, ◌^◌, All, Ok, Some, length, map, slice_get, IfOk};
+ghost use Rattle.std.specs.List.{range_with_len};
+ghost use Rattle.syntax_tree.specs.Term.{term_of};
+ghost use Rattle.syntax_tree.specs.WellFormed.{IsWellFormed};
+ghost use Rattle.syntax_tree.specs.declared.program.Proc.{Proc as Procedure};
+ghost use Rattle.execution.specs.Execution.{Fails};
+ghost use Rattle.flow_graph.specs.FlowGraph.{CheckPlace};
+ghost use Rattle.linear_terms.specs.declared.col.Col.TheVariants.{Aux};
+ghost use Rattle.linear_terms.specs.Polynomial.{column_of};
+ghost use Rattle.transition_formula.specs.Transition.{AreSolvable};
+ghost use Rattle.posing.specs.Follows.{Follows};
+ghost use Rattle.posing.specs.Logs.{Adds, loss_notes};
+ghost use Rattle.vocabularies.specs.Ends.{entry_width};
+ghost use Rattle.proc_summary.specs.declared.stop.Stop.{Stop};
+ghost use Rattle.proc_summary.specs.Claims.{FitsFlow, FitsIf, FlowHolds, IsBetweenStates};
+ghost use Rattle.proc_summary.specs.Subject.{own_graph};
+ghost use Rattle.report.specs.declared.verdict.Verdict.TheVariants.{Proved};
+ghost use Rattle.context.specs.Claims.{EntryHolds, FitsVerdict, IsEntryIf, IsRefuted};
+ghost use Rattle.context.specs.Ends.{HasFew, HoldsAfter, HoldsBegun, HoldsFailing, IsCondition, IsFromStart, IsPlace, NoneFails, NoneFailsAt};
+ghost use Rattle.context.specs.Verdicts.{begun_of, extended, extended_case, failed_from, failing_of, lost_in_failing, place_of, reached_from, shown_of, verdict_of};
+
+use crate::graphs::graph_of;
+use crate::judging::judged;
+use crate::place::{Place, place_of};
+use crate::stand::stand_of;
+use farkas_check::Oracle;
+use items::Items;
+use leaf_cases::falsity;
+use linear_terms::{Case, Col, Poly};
+use polyhedra::{fit, settle};
+use posing::{Log, WorkError};
+use proc_summary::Flow;
+use report::Verdict;
+use std::alloc::Global;
+use syntax_tree::{Core, Program};
+use transition_formula::{Formula, FormulaError, seq, with_posts};
+
+/// The verdict on an assertion of a procedure, by the entry of the procedure and its flow. Proved says that no
+/// execution from `main` fails there, where the entry holds of the activations on a stack from `main` and the flow of
+/// those of its procedure, as long as the answers are true. Unproved carries the first case with a point, and the
+/// point, which makes its rows true; UnprovedLimit the first with a limit, where no case has a point. The case tells
+/// the globals and the named columns. What is lost is noted before the next question.
+///
+/// # Errors
+///
+/// A question that the oracle refused, or want of memory.
+pub fn verdict<O: Oracle>(
+    alloc: Global,
+    program: &Program,
+    proc: u32,
+    check: u32,
+    entry: &Option<Formula>,
+    flow: &Flow,
+    oracle: &mut O,
+    log: &mut Log,
+) -> Result<Verdict, WorkError>
+    requires formed { IsWellFormed program.now }
+    requires procedure { proc < length program.now.procs }
+    requires assertion { check < length flow.now.checks }
+    requires flow { (p : Procedure) → slice_get program.now.procs proc ≡ Some p → FitsFlow program.now p flow.now }
+    requires entry { (p : Procedure) → slice_get program.now.procs proc ≡ Some p → IsEntryIf (entry_width program.now p) entry.now }
+    ensures follows { (p : Procedure) (at : CheckPlace) (stop : Stop) → slice_get program.now.procs proc ≡ Some p → slice_get (own_graph p).checks check ≡ Some at → slice_get flow.now.checks check ≡ Some stop → Follows O.asking oracle.old oracle.new log.old log.new result (verdict_of (place_of program.now p) at.cond entry.now stop.formula) }
+    ensures sound { (p : Procedure) (at : CheckPlace) → slice_get program.now.procs proc ≡ Some p → slice_get (own_graph p).checks check ≡ Some at → EntryHolds program.now proc entry.now → FlowHolds program.now proc flow.now → result ≡ Ok Proved → Fails program.now at.number → ⊥ }
+    ensures refuted { IfOk result IsRefuted }
+    ensures fits { (p : Procedure) → slice_get program.now.procs proc ≡ Some p → IfOk result (FitsVerdict (length (shown_of program.now p))) }
+{
+    let stand = &flow.checks.as_slice()[check as usize].formula;
+    let graph = graph_of(alloc, program, proc)?;
+    let cond = &graph.checks.as_slice()[check as usize].cond;
+    let place = place_of(alloc, program, proc)?;
+    verdict_at(alloc, &place, cond, entry, stand, oracle, log)
+}
+
+/// The same by the assertion's condition, and by the formula of where it stands.
+#[tactic(auto, using(posing::proofs::Following::following), unfolding(crate::specs::Verdicts::verdict_of))]
+fn verdict_at<O: Oracle>(
+    alloc: Global,
+    place: &Place,
+    cond: &Core,
+    entry: &Option<Formula>,
+    stand: &Option<Formula>,
+    oracle: &mut O,
+    log: &mut Log,
+) -> Result<Verdict, WorkError>
+    requires place { IsPlace place.now }
+    requires cond { IsCondition place.now.columns (term_of cond.now) }
+    requires entry { IsEntryIf place.now.entry entry.now }
+    requires stand { FitsIf place.now.columns stand.now }
+    ensures follows { Follows O.asking oracle.old oracle.new log.old log.new result (verdict_of place.now (term_of cond.now) entry.now stand.now) }
+    ensures sound { result ≡ Ok Proved → NoneFails place.now (term_of cond.now) entry.now stand.now }
+    ensures refuted { IfOk result IsRefuted }
+    ensures fits { IfOk result (FitsVerdict (length place.now.shown)) }
+{
+    let begun = begun_of(alloc, place, entry)?;
+    let stand = stand_of(alloc, place.columns, stand)?;
+    let f = reached(alloc, place, &begun, &stand, oracle, log)?;
+    failed(alloc, place, cond, &f, oracle, log)
+}
+
+/// From the start to the procedure's entry, with any numbers in the other columns.
+fn begun_of(alloc: Global, place: &Place, entry: &Option<Formula>) -> Result<Formula, FormulaError>
+    requires place { IsPlace place.now }
+    requires entry { IsEntryIf place.now.entry entry.now }
+    ensures exact { IfOk result (λ f. f ≡ begun_of place.now entry.now) }
+    ensures fits { IfOk result (IsFromStart place.now.columns) }
+    ensures few { IfOk result (HasFew 127) }
+    ensures holds { IfOk result (HoldsBegun place.now.columns entry.now) }
+{
+    match entry {
+        Some(f) => {
+            let made = extended(alloc, place.columns, f)?;
+            Ok(made)
+        }
+        None => Ok(Formula::from_cases(0, place.columns, Items::new(alloc))),
+    }
+}
+
+/// The formula with as many posts as that, of which the further ones may be any numbers.
+fn extended(alloc: Global, columns: u32, f: &Formula) -> Result<Formula, FormulaError>
+    requires more { f.now.to ≤ columns }
+    requires few { HasFew 64 f.now }
+    requires narrow { columns ≤ 63 }
+    ensures { IfOk result (λ g. g ≡ extended columns f.now) }
+{
+    let more = columns - f.to();
+    let cases = extended_cases(alloc, more, f.cases())?;
+    Ok(Formula::from_cases(f.from(), columns, cases))
+}
+
+fn extended_cases(alloc: Global, more: u32, cases: &[Case]) -> Result<Items<Case>, FormulaError>
+    requires few { All (λ case. case.aux ≤ 64) cases.now }
+    requires narrow { more ≤ 63 }
+    ensures { IfOk result (λ made. made ≡ map (extended_case more) cases.now) }
+{
+    let mut made = Items::new(alloc);
+    for case in cases {
+        made.push(extended_case(alloc, more, case)?)?;
+    }
+    Ok(made)
+}
+
+/// The case with so many posts more, each a new auxiliary.
+fn extended_case(alloc: Global, more: u32, case: &Case) -> Result<Case, FormulaError>
+    requires { case.now.aux + more < 2 ^ 32 }
+    ensures { IfOk result (λ c. c ≡ extended_case more case.now) }
+{
+    let rows = case.rows.clone()?;
+    let mut post = case.post.clone()?;
+    post.append(auxiliaries(alloc, case.aux, more)?)?;
+    Ok(Case {
+        aux: case.aux + more,
+        rows,
+        post,
+    })
+}
+
+/// So many auxiliaries from a number on.
+fn auxiliaries(alloc: Global, first: u32, count: u32) -> Result<Items<Poly>, FormulaError>
+    requires { first + count < 2 ^ 32 }
+    ensures { IfOk result (λ made. made ≡ map (λ n. column_of (Aux n)) (range_with_len first count)) }
+{
+    let mut made = Items::new(alloc);
+    for number in first..first + count {
+        made.push(auxiliary(alloc, number)?)?;
+    }
+    Ok(made)
+}
+
+fn auxiliary(alloc: Global, number: u32) -> Result<Poly, FormulaError>
+    ensures { IfOk result (λ p. p ≡ column_of (Aux number)) }
+{
+    match Poly::column(alloc, Col::Aux(number)) {
+        Ok(poly) => Ok(poly),
+        Err(_) => Err(FormulaError::Memory),
+    }
+}
+
+/// One formula and then the other, settled and fitted; losses are noted before the first question.
+#[tactic(auto, using(posing::proofs::Following::following), unfolding(crate::specs::Verdicts::reached_from, checked_tree::specs::Evaluation::settled_and_fitted))]
+fn reached<O: Oracle>(
+    alloc: Global,
+    place: &Place,
+    begun: &Formula,
+    stand: &Formula,
+    oracle: &mut O,
+    log: &mut Log,
+) -> Result<Formula, WorkError>
+    requires place { IsPlace place.now }
+    requires begun { IsFromStart place.now.columns begun.now }
+    requires few { HasFew 127 begun.now }
+    requires stand { IsBetweenStates place.now.columns stand.now }
+    ensures follows { Follows O.asking oracle.old oracle.new log.old log.new result (reached_from place.now begun.now stand.now) }
+    ensures fits { IfOk result (IsFromStart place.now.columns) }
+    ensures few { IfOk result (HasFew 64) }
+    ensures holds { IfOk result (HoldsAfter begun.now stand.now) }
+{
+    let mut losses = Items::new(alloc);
+    let f = seq(alloc, begun, stand, &mut losses)?;
+    log.add_losses(alloc, losses.as_slice())?;
+    let settled = settle(alloc, &f, oracle, log)?;
+    fit(alloc, &settled, &place.start, &place.full, oracle, log)
+}
+
+/// The verdict on the cases in which the condition is false.
+#[tactic(auto, using(posing::proofs::Following::following), unfolding(crate::specs::Verdicts::failed_from))]
+fn failed<O: Oracle>(
+    alloc: Global,
+    place: &Place,
+    cond: &Core,
+    f: &Formula,
+    oracle: &mut O,
+    log: &mut Log,
+) -> Result<Verdict, WorkError>
+    requires place { IsPlace place.now }
+    requires cond { IsCondition place.now.columns (term_of cond.now) }
+    requires formula { IsFromStart place.now.columns f.now }
+    requires few { HasFew 64 f.now }
+    ensures follows { Follows O.asking oracle.old oracle.new log.old log.new result (failed_from place.now (term_of cond.now) f.now) }
+    ensures sound { result ≡ Ok Proved → NoneFailsAt (term_of cond.now) f.now }
+    ensures refuted { IfOk result IsRefuted }
+    ensures fits { IfOk result (FitsVerdict (length place.now.shown)) }
+{
+    let failing = failing(alloc, place, cond, f, log)?;
+    judged(alloc, failing.cases(), oracle, log)
+}
+
+/// The formula where the condition is false, with the posts of the columns that are told; what is lost is noted.
+fn failing(
+    alloc: Global,
+    place: &Place,
+    cond: &Core,
+    f: &Formula,
+    log: &mut Log,
+) -> Result<Formula, FormulaError>
+    requires place { IsPlace place.now }
+    requires cond { IsCondition place.now.columns (term_of cond.now) }
+    requires formula { IsFromStart place.now.columns f.now }
+    requires few { HasFew 64 f.now }
+    ensures noted { Adds (loss_notes (lost_in_failing place.now (term_of cond.now) f.now)) log.old log.new result }
+    ensures exact { IfOk result (λ g. g ≡ failing_of place.now (term_of cond.now) f.now) }
+    ensures solvable { IfOk result (λ g. AreSolvable g.cases) }
+    ensures fits { IfOk result (IsFromStart (length place.now.shown)) }
+    ensures holds { IfOk result (HoldsFailing place.now.shown (term_of cond.now) f.now) }
+{
+    let mut losses = Items::new(alloc);
+    let falsity = falsity(alloc, cond, place.columns, &mut losses)?;
+    let whole = seq(alloc, f, &falsity, &mut losses)?;
+    let told = with_posts(alloc, &whole, place.shown.as_slice())?;
+    let _ = falsity.cases();
+    let _ = told.cases();
+    log.add_losses(alloc, losses.as_slice())?;
+    Ok(told)
+}
