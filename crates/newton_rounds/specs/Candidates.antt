@@ -38,6 +38,8 @@ use Rattle.leaf_cases.specs.Guard as cases
 use Rattle.proc_summary.specs.Flow.{cells_from, columns_of as state_columns, formula_at}
 use Rattle.proc_summary.specs.Subject.{subject_of}
 use Rattle.proc_summary.specs.Summary.{ends_of, summary_from}
+use Rattle.newton_rounds.specs.declared.findings.Findings.{Findings}
+use Rattle.newton_rounds.specs.declared.dropping.Judged.{Judged}
 use Rattle.newton_rounds.specs.Members.{members_of, with_table}
 use Rattle.newton_rounds.specs.Pairs.{PairEnds}
 use Rattle.newton_rounds.specs.Closure.{ends_at, pair_ends, placed_from}
@@ -92,11 +94,7 @@ against from case row =
       post = case.post;
     }
 
--- what was found so far against a row: the first point, and the limits of questions
-pub record Findings : Type 0 where
-  pub point : Option Witness
-  pub limits : List Limit
-
+-- with a point: the first stays
 abbrev pub with_point : Findings → Witness → Findings
 with_point found point = record { point = Some (unwrap_or found.point point); limits = found.limits }
 
@@ -139,11 +137,6 @@ unfoldable pub refuted : Transition → Row → Posing (Option Witness)
 refuted f row = each (with_case f.from row) record { point = None; limits = [] } f.cases >>= λ found. outcome found
 
 -- ---- a round
-
--- a row with what refutes it
-pub record Judged : Type 0 where
-  pub row : Row
-  pub by : Option Witness
 
 unfoldable pub with_judged : Transition → List Judged → Row → Posing (List Judged)
 with_judged f made row = refuted f row >>= λ by. Done (made ++ record { row = row; by = by } ∷ [])

@@ -1,13 +1,11 @@
 -- The summaries of a recursive group.
 use Rattle.std.specs.Prelude.{ℕ, Bool, true, false, List, [], ◌∷◌, ◌++◌, Option, map}
 use Rattle.linear_terms.specs.declared.row.Row.{Row}
-use Rattle.syntax_tree.specs.declared.program.Proc.{Proc}
 use Rattle.syntax_tree.specs.declared.program.Program.{Program}
 use Rattle.transition_formula.specs.Transition.{Transition}
 use Rattle.posing.specs.Posing.{Posing, Done, ◌>>=◌, each}
-use Rattle.newton_rounds.specs.Members.{members_of}
 use Rattle.newton_rounds.specs.Pairs.{PairEnds}
-use Rattle.newton_rounds.specs.Closure.{pair_ends, bases_of, closure_of}
+use Rattle.newton_rounds.specs.Closure.{bases_of, closure_of, ends_of_members}
 use Rattle.newton_rounds.specs.Candidates.{candidate_of, kept_candidates, table_of}
 
 -- the candidate of each member, by its formula
@@ -18,9 +16,6 @@ abbrev pub paired_up : List PairEnds → List Transition → List (PairEnds × T
 paired_up [] table = []
 paired_up (member ∷ members) [] = []
 paired_up (member ∷ members) (f ∷ table) = (member, f) ∷ paired_up members table
-
-abbrev pub ends_of_members : Program → List ℕ → List PairEnds
-ends_of_members program procs = map (pair_ends program) (members_of program procs)
 
 -- where calls of the group may follow one another: two closures, the candidates of the second, and what stands of these
 unfoldable pub closed_by_rounds : Program → List ℕ → List (Option Transition) → List Transition → Posing (List Transition)

@@ -22,41 +22,51 @@ use Rattle.vocabularies.specs.Ends.{pair_of}
 use Rattle.proc_summary.specs.Flow.{cells_from, columns_of, formula_at}
 use Rattle.proc_summary.specs.Subject.{Subject, subject_of}
 use Rattle.proc_summary.specs.Summary.{Ends, ends_of}
+use Rattle.newton_rounds.specs.declared.calls.Sides.{Sides}
 use Rattle.newton_rounds.specs.Members.{GroupCall, calls_of, calls_from, members_of, with_table}
 use Rattle.newton_rounds.specs.Pairs.{PairEnds, Stretch, base_from, lost_in_base, pair_formula, lost_in_pair}
 
 abbrev pub pair_ends : Program → Proc → PairEnds
 pair_ends program p = record { ends = ends_of program p; pair = pair_of program p }
 
--- ---- the stretches of a group's calls
+abbrev pub ends_of_members : Program → List ℕ → List PairEnds
+ends_of_members program procs = map (pair_ends program) (members_of program procs)
 
--- from the end of a call to the exit
-unfoldable pub stretch_from : Subject → List (Cell Transition) → GroupCall → Posing Stretch
-stretch_from s starts call =
+-- ---- both sides of a group's calls
+
+-- one evaluation from the end of a call: what holds from the entry to where it begins, and from where it ends to the exit
+unfoldable pub sides_from : Subject → List (Cell Transition) → GroupCall → Posing Sides
+sides_from s starts call =
     cells_from s call.to >>= λ ends.
     Done record {
-      call = call;
       before = formula_at (columns_of s) starts call.from;
       after = formula_at (columns_of s) ends s.exit;
     }
 
-unfoldable pub with_stretch : Subject → List (Cell Transition) → List Stretch → GroupCall → Posing (List Stretch)
-with_stretch s starts made call = stretch_from s starts call >>= λ stretch. Done (made ++ stretch ∷ [])
+unfoldable pub with_sides : Subject → List (Cell Transition) → List Sides → GroupCall → Posing (List Sides)
+with_sides s starts made call = sides_from s starts call >>= λ sides. Done (made ++ sides ∷ [])
 
 -- those of one member: one evaluation from its entry, and one from the end of each call
-unfoldable pub with_member : Program → List ℕ → List (Option Transition) → List Stretch → ℕ × Proc → Posing (List Stretch)
+unfoldable pub with_member : Program → List ℕ → List (Option Transition) → List Sides → ℕ × Proc → Posing (List Sides)
 with_member program procs known made member =
     cells_from (subject_of program member.1 known) 0 >>= λ starts.
-    each (with_stretch (subject_of program member.1 known) starts) made (calls_of procs member.0 member.1)
+    each (with_sides (subject_of program member.1 known) starts) made (calls_of procs member.0 member.1)
 
 -- the members with their places
 abbrev pub placed_from : {A : Type 0} → ℕ → List A → List (ℕ × A)
 placed_from place [] = []
 placed_from place (x ∷ xs) = (place, x) ∷ placed_from (place + 1) xs
 
-unfoldable pub stretches_of : Program → List ℕ → List (Option Transition) → Posing (List Stretch)
-stretches_of program procs known =
+unfoldable pub sides_of : Program → List ℕ → List (Option Transition) → Posing (List Sides)
+sides_of program procs known =
     each (with_member program procs known) [] (placed_from 0 (members_of program procs))
+
+-- the calls with their sides
+abbrev pub stretches_with : List GroupCall → List Sides → List Stretch
+stretches_with [] sides = []
+stretches_with (call ∷ calls) [] = []
+stretches_with (call ∷ calls) (one ∷ sides) =
+    record { call = call; before = one.before; after = one.after } ∷ stretches_with calls sides
 
 -- ---- the graph of the group
 
@@ -157,9 +167,11 @@ with_closed members stretches bases made place =
 
 unfoldable pub closure_of : Program → List ℕ → List (Option Transition) → List Transition → List Transition → Posing (List Transition)
 closure_of program procs known bases table =
-    stretches_of program procs (with_table procs table known) >>= λ stretches.
-    each (with_closed (map (pair_ends program) (members_of program procs)) stretches bases) []
-    (range_with_len 0 (length (members_of program procs)))
+    sides_of program procs (with_table procs table known) >>= λ sides.
+    each
+    (with_closed (ends_of_members program procs)
+    (stretches_with (calls_from procs 0 (members_of program procs)) sides) bases)
+    [] (range_with_len 0 (length (members_of program procs)))
 
 -- ---- the bases
 

@@ -18,3 +18,4 @@ pub mod Close
 pub mod Claims
 -- ---- words of proofs
 pub mod Reached
+pub mod Shapes

@@ -1,0 +1,16 @@
+use Rattle.std.proofs.Common.{◌∙◌, ap, get_or, length, refl}
+use Rattle.std.proofs.lemmas.List.{length-set}
+use Rattle.newton_rounds.proofs.Tabled.{one-placed}
+use Rattle.newton_rounds.proofs.tables.with_table.Goals as goal
+
+pub loop-place-preserved : goal.loop-place-preserved
+loop-place-preserved c =
+    let procs = c.args.procs.now in
+    let place = c.loop-place.place in
+    let all = c.loop-place.all.items in
+    record {
+      long = ap length c.replaced-all.ensures ∙ length-set all (get_or procs place 0) c.in_ok-f.f ∙ c.loop-place.invariant.long;
+      made =
+          one-placed place (get_or procs place 0) procs c.args.table.now all c.replaced-all.result.items c.in_ok-f.f c.loop-place-test.true refl c.in_ok-f.ensures c.replaced-all.ensures
+          ∙ c.loop-place.invariant.made;
+    }

@@ -1,0 +1,10 @@
+use farkas_check::Limit;
+use items::Items;
+use posing::Witness;
+
+/// What was found so far against a row: the first point, and the limits of questions.
+#[derive(Debug, Drop)]
+pub(crate) struct Findings {
+    pub(crate) point: Option<Witness>,
+    pub(crate) limits: Items<Limit>,
+}
