@@ -1,1 +1,1 @@
-pub mod Vocabularies
+pub mod NamedColumns
