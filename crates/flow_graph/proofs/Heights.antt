@@ -134,7 +134,7 @@ module _ (program : Program) where
             (subst (λ a. ReturnsOver (ReturnsWithin program n) program proc globals args a (value_in w acts.final)) acts.now_is tree),
       )
 
-  over-returns : (proc : ℕ) (globals args after : State) (value : ℤ) → ReturnsOver (Returns program) program proc globals args after value → Returns program proc globals args after value
+  pub over-returns : (proc : ℕ) (globals args after : State) (value : ℤ) → ReturnsOver (Returns program) program proc globals args after value → Returns program proc globals args after value
   over-returns proc globals args after value r =
       (returns_are_walks program proc globals args after value).1 (
         r.final,

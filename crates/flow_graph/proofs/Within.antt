@@ -48,7 +48,7 @@ at_within body node items at =
     let within = slice_get_within (all_items body) node items at in
     let all = items_length body [] ([] ∷ []) in omega arith
 
-arcs_within : (body : Code) (k : ℕ) (way : Arc) → slice_get (flow_of body).arcs k ≡ Some way → (way.from < graph_nodes body) × (way.to < graph_nodes body)
+pub arcs_within : (body : Code) (k : ℕ) (way : Arc) → slice_get (flow_of body).arcs k ≡ Some way → (way.from < graph_nodes body) × (way.to < graph_nodes body)
 arcs_within body k way is =
     let why = each_get (Explained (At body)) (flow_of body).arcs k way (body_explained body) is in
     (at_within body way.from why.items why.there, at_within body way.to why.to why.comes)

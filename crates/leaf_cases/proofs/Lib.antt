@@ -20,3 +20,5 @@ pub mod Sitting
 pub mod Moved
 pub mod Shapes
 pub mod Stated
+-- ---- rows of edges are canonical
+pub mod CanonicalLeaves

@@ -13,11 +13,11 @@ use Rattle.leaf_cases.specs.Conditions.{exits_of}
 use Rattle.leaf_cases.specs.Summaries.{MetCallsAreKnown, MetEdgesAreKnown, if_returned}
 
 -- a return keeps the number of globals
-returns-globals : (program : Program) (proc : ℕ) (globals args after : State) (value : ℤ) → Returns program proc globals args after value → length after ≡ length globals
+pub returns-globals : (program : Program) (proc : ℕ) (globals args after : State) (value : ℤ) → Returns program proc globals args after value → length after ≡ length globals
 returns-globals program proc globals args after value r =
     globals_stay program r.first (record { globals = after; frames = r.frame ∷ [] }) r.steps r.runs ∙ ap (λ c. length c.globals) r.begins.first_is
 
-exits_are : (returns : Bool) (globals : ℕ) (left : List ℤ) (value : ℤ) → length left ≡ globals
+pub exits_are : (returns : Bool) (globals : ℕ) (left : List ℤ) (value : ℤ) → length left ≡ globals
     → take (if returns then globals + 1 else globals) (left ++ value ∷ []) ≡ if_returned returns left value
 exits_are true globals left value e = take_all (globals + 1) (left ++ value ∷ []) (let sum = length-append left (value ∷ []) in omega (arith, sum, e))
 exits_are false globals left value e = subst (λ n. take n (left ++ value ∷ []) ≡ left) e (take-append_seam left (value ∷ []))

@@ -103,14 +103,14 @@ module _ (entry : ℕ) (places : List ℕ) (f : Transition) (told : IsToldBy ent
 
 -- ---- the numbers that are told
 
-numbers-range : (a n : ℕ) (xs : List ℤ) → a + n ≤ length xs → numbers_at (range_with_len a n) xs ≡ take n (drop a xs)
+pub numbers-range : (a n : ℕ) (xs : List ℤ) → a + n ≤ length xs → numbers_at (range_with_len a n) xs ≡ take n (drop a xs)
 numbers-range a zero xs le = refl
 numbers-range a (suc n) xs le =
     let more = numbers-range (a + 1) n xs (omega (arith, le)) in
     sym (ap (take (suc n)) (drop_more xs a (pos 0) (omega (arith, le))) ∙ (λ i. sym (unwrap_or-slice_get xs a (pos 0)) i ∷ sym more i))
 
 -- the globals, and the last number where it is returned
-numbers-told : (returns : Bool) (globals columns : ℕ) (final after : List ℤ) (value : ℤ) → length final ≡ columns → globals ≤ columns → take globals final ≡ after → last_of final ≡ value
+pub numbers-told : (returns : Bool) (globals columns : ℕ) (final after : List ℤ) (value : ℤ) → length final ≡ columns → globals ≤ columns → take globals final ≡ after → last_of final ≡ value
     → numbers_at (range_with_len 0 globals ++ value_place returns columns) final ≡ if_returned returns after value
 numbers-told false globals columns final after value long le taken last =
     ap (λ places. numbers_at places final) (append-nil (range_with_len 0 globals)) ∙ numbers-range 0 globals final (omega (arith, long, le)) ∙ taken
@@ -246,7 +246,7 @@ module _ (program : Program) (proc : ℕ) (p : Proc) (formed : IsWellFormed prog
   }
 
   -- what the exit holds of is told
-  exit-told : (exit : Option Transition) → FitsIf (width_of program p) exit → (globals args others final after : State) (value : ℤ) → length globals ≡ length program.globals → length args ≡ p.params
+  pub exit-told : (exit : Option Transition) → FitsIf (width_of program p) exit → (globals args others final after : State) (value : ℤ) → length globals ≡ length program.globals → length args ≡ p.params
       → HoldsIf exit (globals ++ (args ++ others)) final → take (length program.globals) final ≡ after → last_of final ≡ value
       → Holds (told_of (entry_width program p) places (exit_formula (width_of program p) exit)) (globals ++ args) (exit_values p after value)
   exit-told None h globals args others final after value long params holds taken last = absurd holds
