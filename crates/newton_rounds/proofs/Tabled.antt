@@ -11,7 +11,7 @@ use Rattle.transition_formula.specs.Transition.{Transition}
 use Rattle.leaf_cases.specs.Conditions.{AreKnown, IsKnown}
 use Rattle.newton_rounds.specs.Members.{with_table}
 
-set-get : {X : Type 0} (xs : List X) (i j : ℕ) (x y : X) → slice_get (slice_set xs i x) j ≡ Some y → ((i ≡ j) × (x ≡ y)) ⊎ (slice_get xs j ≡ Some y)
+pub set-get : {X : Type 0} (xs : List X) (i j : ℕ) (x y : X) → slice_get (slice_set xs i x) j ≡ Some y → ((i ≡ j) × (x ≡ y)) ⊎ (slice_get xs j ≡ Some y)
 set-get [] i j x y e = inr e
 set-get (z ∷ xs) zero zero x y e = inl (refl, ap (λ o. unwrap_or o x) e)
 set-get (z ∷ xs) zero (suc j) x y e = inr e

@@ -107,8 +107,11 @@ pair_cell from to known.One = identity_of from
 pair_cell from to (known.Item f) = f
 
 -- a member first, and the others in order
+abbrev pub others_in : ℕ → List ℕ → List ℕ
+others_in place places = filter (λ n. not (n == place)) places
+
 abbrev pub order_from : ℕ → ℕ → List ℕ
-order_from place count = place ∷ filter (λ n. not (n == place)) (range_with_len 0 count)
+order_from place count = place ∷ others_in place (range_with_len 0 count)
 
 -- the chains that end with a member, whose last activation calls no other of the group
 abbrev pub chain_end : List PairEnds → List Transition → List (Cell Transition) → ℕ → ℕ → Transition

@@ -12,10 +12,13 @@ pub mod Equating
 pub mod Pairs
 pub mod Closure
 -- rows that may hold of all activations, and rounds that drop others
+pub mod Passing
 pub mod Candidates
 -- the summaries, and what they say of executions
 pub mod Close
 pub mod Claims
+pub mod Laws
 -- ---- words of proofs
 pub mod Reached
 pub mod Shapes
+pub mod Between

@@ -1,5 +1,6 @@
 -- What the parts of a closure are like: ends of procedures, and calls between them.
-use Rattle.std.specs.Prelude.{◌≡◌, ◌<◌, ◌≤◌, ◌+◌, ◌++◌, ◌^◌, ℕ, All, IsTrue, List, Option, None, Some, length, map}
+use Rattle.std.specs.Prelude.{◌≡◌, ◌<◌, ◌≤◌, ◌+◌, ◌++◌, ◌∷◌, [], ◌^◌, ℕ, All, IsTrue, List, Option, None, Some, length, map}
+use Rattle.std.specs.List.{AllByRecursion}
 use Rattle.transition_formula.specs.declared.loss.Loss.{Loss}
 use Rattle.transition_formula.specs.Hiding.{lost_in_hiding}
 use Rattle.flow_graph.specs.FlowGraph.{exit_of}
@@ -22,6 +23,7 @@ use Rattle.newton_rounds.specs.Members.{GroupCall}
 use Rattle.newton_rounds.specs.declared.calls.GroupCall as own
 use Rattle.newton_rounds.specs.declared.calls.Sides.{Sides}
 use Rattle.newton_rounds.specs.Pairs.{PairEnds, Stretch, lost_along, stations_of}
+use Rattle.newton_rounds.specs.Closure.{ends_at}
 
 -- how many columns the ends of a procedure have
 pub record AreEnds (m : PairEnds) : Type 0 where
@@ -60,6 +62,35 @@ plain_call call =
 
 abbrev pub stretch_of : own.GroupCall → Sides → Stretch
 stretch_of call sides = record { call = plain_call call; before = sides.before; after = sides.after }
+
+-- ---- calls of a group, and what stands at both sides of them
+
+-- a call from a member to a member
+pub record IsCallIn (members : List PairEnds) (call : GroupCall) : Type 0 where
+  pub caller : call.caller < length members
+  pub callee : call.callee < length members
+  pub enters : (ends_at members call.callee).ends.entry.columns ≡ (ends_at members call.caller).ends.globals + length call.args
+  pub is : IsCallFrom (ends_at members call.caller) call
+
+-- between states of so many columns
+pub record FitSides (columns : ℕ) (sides : Sides) : Type 0 where
+  pub before : FitsIf columns sides.before
+  pub after : FitsIf columns sides.after
+
+-- so many stand behind others
+pub record AddSides (columns count : ℕ) (made all : List Sides) : Type 0 where
+  pub more : List Sides
+  pub is : all ≡ made ++ more
+  pub many : length more ≡ count
+  pub fit : AllByRecursion (FitSides columns) more
+
+-- both sides of each call, between the states of its caller
+abbrev pub FitCalls : List PairEnds → List GroupCall → List Sides → Type 0
+FitCalls members [] [] = Unit {0}
+FitCalls members [] (one ∷ sides) = ⊥
+FitCalls members (call ∷ calls) [] = ⊥
+FitCalls members (call ∷ calls) (one ∷ sides) =
+    FitSides (ends_at members call.caller).ends.full.columns one × FitCalls members calls sides
 
 -- ---- what refutes a row
 

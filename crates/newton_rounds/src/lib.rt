@@ -1,8 +1,12 @@
-//! The summaries of recursive groups: whether a call of the group can follow another in one activation, and formulas of pairs
-//! of entry and exit.
+//! The summaries of recursive groups: whether a call of the group can follow another in one activation.
 #![tactic(auto)]
 
+mod bases;
 mod calls;
+mod candidates;
+mod chains;
+mod closing;
+mod closure;
 mod dropping;
 mod ends;
 mod equating;
@@ -10,8 +14,14 @@ mod findings;
 mod linear;
 mod pairs;
 mod reaching;
+mod refuting;
 mod returning;
+mod rounds;
+mod sides;
 mod stations;
+mod stretching;
 mod tables;
 
+pub use closing::close;
 pub use linear::is_linear;
+pub use tables::with_table;

@@ -6,7 +6,7 @@ use std::alloc::{AllocError, Global};
 use transition_formula::Formula;
 
 /// The known formulas, with those of a table for these procedures; a procedure past the table's end is unknown.
-pub(crate) fn with_table(
+pub fn with_table(
     alloc: Global,
     procs: &[u32],
     table: &[Formula],

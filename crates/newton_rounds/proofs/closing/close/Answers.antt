@@ -1,0 +1,11 @@
+use Rattle.newton_rounds.specs.Claims.{AreMetMembers}
+use Rattle.newton_rounds.proofs.PassingLaws.{passing-result}
+use Rattle.newton_rounds.proofs.SummariesMet.{summaries-met}
+use Rattle.newton_rounds.proofs.closing.close.Goals as goal
+
+pub returns-clause-met : goal.returns-clause-met
+returns-clause-met g c = λ met knows tells.
+    let program = c.args.program.now in
+    let procs = c.args.procs.now in
+    passing-result (AreMetMembers program procs) c.closed_of.result c.closed_of.ensures.follows
+    (summaries-met program procs c.args.known.now c.args.linear c.requires.formed c.requires.there c.requires.few c.requires.known met knows tells)

@@ -1,0 +1,111 @@
+ghost use Rattle.std.specs.Prelude.{◌≡◌, ◌<◌, [], All, Some, length, slice_get, IfOk};
+ghost use Rattle.syntax_tree.specs.WellFormed.{IsWellFormed};
+ghost use Rattle.syntax_tree.specs.declared.program.Proc.{Proc as Procedure};
+ghost use Rattle.posing.specs.Follows.{Follows};
+ghost use Rattle.posing.specs.Posing.{each};
+ghost use Rattle.leaf_cases.specs.Conditions.{AreKnown};
+ghost use Rattle.newton_rounds.specs.Between.{AddsBase, AreBases, GoesBetween};
+ghost use Rattle.newton_rounds.specs.Closure.{base_of, bases_of, ends_of_members, pair_ends, with_base};
+ghost use Rattle.newton_rounds.specs.Members.{members_of};
+
+use crate::ends::pair_ends;
+use crate::pairs::base_from;
+use crate::sides::{columns_of, graph_of};
+use crate::tables::with_table;
+use farkas_check::Oracle;
+use items::Items;
+use posing::{Log, WorkError};
+use proc_summary::{cells, formula_at};
+use std::alloc::Global;
+use syntax_tree::Program;
+use transition_formula::Formula;
+
+/// What holds of the pairs of activations without a call of the group, for each of its procedures.
+#[tactic(auto, using(posing::proofs::Following::following), unfolding(crate::specs::Closure::bases_of))]
+pub(crate) fn bases_of<O: Oracle>(
+    alloc: Global,
+    program: &Program,
+    procs: &[u32],
+    known: &[Option<Formula>],
+    oracle: &mut O,
+    log: &mut Log,
+) -> Result<Items<Formula>, WorkError>
+    requires formed { IsWellFormed program.now }
+    requires there { All (λ proc. proc < length program.now.procs) procs.now }
+    requires known { AreKnown program.now known.now }
+    ensures follows { Follows O.asking oracle.old oracle.new log.old log.new result (bases_of program.now procs.now known.now) }
+    ensures fits { IfOk result (AreBases (ends_of_members program.now procs.now)) }
+{
+    let others = with_table(alloc, procs, &[], known)?;
+    bases_by(alloc, program, procs, others.as_slice(), oracle, log)
+}
+
+fn bases_by<O: Oracle>(
+    alloc: Global,
+    program: &Program,
+    procs: &[u32],
+    known: &[Option<Formula>],
+    oracle: &mut O,
+    log: &mut Log,
+) -> Result<Items<Formula>, WorkError>
+    requires formed { IsWellFormed program.now }
+    requires there { All (λ proc. proc < length program.now.procs) procs.now }
+    requires known { AreKnown program.now known.now }
+    ensures follows { Follows O.asking oracle.old oracle.new log.old log.new result (each (with_base program.now known.now) [] (members_of program.now procs.now)) }
+    ensures fits { IfOk result (AreBases (ends_of_members program.now procs.now)) }
+{
+    let mut made = Items::new(alloc);
+    for proc in procs {
+        made = with_base(alloc, program, *proc, known, made, oracle, log)?;
+    }
+    Ok(made)
+}
+
+#[tactic(auto, using(posing::proofs::Following::following), unfolding(crate::specs::Closure::with_base))]
+fn with_base<O: Oracle>(
+    alloc: Global,
+    program: &Program,
+    proc: u32,
+    known: &[Option<Formula>],
+    made: Items<Formula>,
+    oracle: &mut O,
+    log: &mut Log,
+) -> Result<Items<Formula>, WorkError>
+    requires formed { IsWellFormed program.now }
+    requires procedure { proc < length program.now.procs }
+    requires known { AreKnown program.now known.now }
+    ensures follows { (p : Procedure) → slice_get program.now.procs proc ≡ Some p → Follows O.asking oracle.old oracle.new log.old log.new result (with_base program.now known.now made p) }
+    ensures fits { (p : Procedure) → slice_get program.now.procs proc ≡ Some p → IfOk result (AddsBase (pair_ends program.now p) made) }
+{
+    let base = base_of(alloc, program, proc, known, oracle, log)?;
+    let mut all = made;
+    all.push(base)?;
+    Ok(all)
+}
+
+/// One evaluation from the entry.
+#[tactic(auto, using(posing::proofs::Following::following), unfolding(crate::specs::Closure::base_of))]
+fn base_of<O: Oracle>(
+    alloc: Global,
+    program: &Program,
+    proc: u32,
+    known: &[Option<Formula>],
+    oracle: &mut O,
+    log: &mut Log,
+) -> Result<Formula, WorkError>
+    requires formed { IsWellFormed program.now }
+    requires procedure { proc < length program.now.procs }
+    requires known { AreKnown program.now known.now }
+    ensures follows { (p : Procedure) → slice_get program.now.procs proc ≡ Some p → Follows O.asking oracle.old oracle.new log.old log.new result (base_of program.now known.now p) }
+    ensures goes { (p : Procedure) → slice_get program.now.procs proc ≡ Some p → IfOk result (GoesBetween 1000 (pair_ends program.now p).pair.columns 0) }
+{
+    let columns = columns_of(program, proc);
+    let graph = graph_of(alloc, program, proc)?;
+    let ends = pair_ends(alloc, program, proc)?;
+    let cells = cells(alloc, program, proc, known, 0, oracle, log)?;
+    let exit = formula_at(alloc, columns, cells.as_slice(), graph.nodes - 1)?;
+    let mut lost = Items::new(alloc);
+    let base = base_from(alloc, &ends, &exit, &mut lost)?;
+    log.add_losses(alloc, lost.as_slice())?;
+    Ok(base)
+}

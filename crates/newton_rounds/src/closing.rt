@@ -1,0 +1,144 @@
+ghost use Rattle.std.specs.Prelude.{◌≡◌, ◌<◌, ◌≤◌, [], All, length, IfOk, IsTrue};
+ghost use Rattle.std.specs.List.{AllByRecursion};
+ghost use Rattle.syntax_tree.specs.WellFormed.{IsWellFormed};
+ghost use Rattle.posing.specs.Follows.{Follows};
+ghost use Rattle.posing.specs.Posing.{each};
+ghost use Rattle.leaf_cases.specs.Conditions.{AreKnown};
+ghost use Rattle.leaf_cases.specs.Summaries.{AreMet};
+ghost use Rattle.newton_rounds.specs.Claims.{AreKnownMembers, AreMetMembers};
+ghost use Rattle.newton_rounds.specs.Close.{closed_by_rounds, closed_of, paired_up, with_candidate};
+ghost use Rattle.newton_rounds.specs.Closure.{ends_of_members};
+ghost use Rattle.newton_rounds.specs.Laws.{KnowsOthers};
+ghost use Rattle.newton_rounds.specs.Members.{IsLinear};
+ghost use Rattle.newton_rounds.specs.Between.{AreBases, AreCandidates, AreSummaries, IsMember, IsSummary};
+
+use crate::bases::bases_of;
+use crate::candidates::{candidate_of, table_of};
+use crate::closure::closure_of;
+use crate::ends::{PairEnds, ends_of_members};
+use crate::rounds::kept_candidates;
+use farkas_check::Oracle;
+use items::Items;
+use linear_terms::Row;
+use posing::{Log, WorkError};
+use std::alloc::Global;
+use syntax_tree::Program;
+use transition_formula::Formula;
+
+/// The summaries of a recursive group, in the order of its procedures. `linear` says whether no call of the group can follow
+/// another in one activation. Where the known formulas are met and each other callee is known, each summary is met.
+pub fn close<O: Oracle>(
+    alloc: Global,
+    program: &Program,
+    procs: &[u32],
+    known: &[Option<Formula>],
+    linear: bool,
+    oracle: &mut O,
+    log: &mut Log,
+) -> Result<Items<Formula>, WorkError>
+    requires formed { IsWellFormed program.now }
+    requires there { All (λ proc. proc < length program.now.procs) procs.now }
+    requires few { length procs.now ≤ length program.now.procs }
+    requires known { AreKnown program.now known.now }
+    ensures follows { Follows O.asking oracle.old oracle.new log.old log.new result (closed_of linear program.now procs.now known.now) }
+    ensures known { IfOk result (AreKnownMembers program.now procs.now) }
+    ensures met { AreMet program.now known.now → KnowsOthers program.now procs.now known.now → (IsTrue linear → IsLinear program.now procs.now) → IfOk result (AreMetMembers program.now procs.now) }
+{
+    closed_of(alloc, program, procs, known, linear, oracle, log)
+}
+
+/// The same, of which it is not yet said that the summaries are met.
+#[tactic(auto, using(posing::proofs::Following::following), unfolding(crate::specs::Close::closed_of))]
+fn closed_of<O: Oracle>(
+    alloc: Global,
+    program: &Program,
+    procs: &[u32],
+    known: &[Option<Formula>],
+    linear: bool,
+    oracle: &mut O,
+    log: &mut Log,
+) -> Result<Items<Formula>, WorkError>
+    requires formed { IsWellFormed program.now }
+    requires there { All (λ proc. proc < length program.now.procs) procs.now }
+    requires few { length procs.now ≤ length program.now.procs }
+    requires known { AreKnown program.now known.now }
+    ensures follows { Follows O.asking oracle.old oracle.new log.old log.new result (closed_of linear program.now procs.now known.now) }
+    ensures known { IfOk result (AreKnownMembers program.now procs.now) }
+{
+    let bases = bases_of(alloc, program, procs, known, oracle, log)?;
+    let bases = bases.as_slice();
+    if linear {
+        closure_of(alloc, program, procs, known, bases, &[], oracle, log)
+    } else {
+        closed_by_rounds(alloc, program, procs, known, bases, oracle, log)
+    }
+}
+
+/// Two closures, the candidates of the second, and what stands of these.
+#[tactic(auto, using(posing::proofs::Following::following), unfolding(crate::specs::Close::closed_by_rounds))]
+fn closed_by_rounds<O: Oracle>(
+    alloc: Global,
+    program: &Program,
+    procs: &[u32],
+    known: &[Option<Formula>],
+    bases: &[Formula],
+    oracle: &mut O,
+    log: &mut Log,
+) -> Result<Items<Formula>, WorkError>
+    requires formed { IsWellFormed program.now }
+    requires there { All (λ proc. proc < length program.now.procs) procs.now }
+    requires few { length procs.now ≤ length program.now.procs }
+    requires known { AreKnown program.now known.now }
+    requires bases { AreBases (ends_of_members program.now procs.now) bases.now }
+    ensures follows { Follows O.asking oracle.old oracle.new log.old log.new result (closed_by_rounds program.now procs.now known.now bases.now) }
+    ensures fits { IfOk result (AreSummaries (ends_of_members program.now procs.now)) }
+{
+    let members = ends_of_members(alloc, program, procs)?;
+    let members = members.as_slice();
+    let first = closure_of(alloc, program, procs, known, bases, &[], oracle, log)?;
+    let table = first.as_slice();
+    let second = closure_of(alloc, program, procs, known, bases, table, oracle, log)?;
+    let candidates = candidates_of(alloc, members, second.as_slice(), oracle, log)?;
+    let kept = kept_candidates(alloc, program, procs, known, candidates, oracle, log)?;
+    Ok(table_of(alloc, members, kept.as_slice())?)
+}
+
+/// The candidate of each procedure, by its formula.
+#[tactic(auto, using(posing::proofs::Following::following))]
+fn candidates_of<O: Oracle>(
+    alloc: Global,
+    members: &[PairEnds],
+    table: &[Formula],
+    oracle: &mut O,
+    log: &mut Log,
+) -> Result<Items<Items<Row>>, WorkError>
+    requires members { AllByRecursion IsMember members.now }
+    requires table { AreSummaries members.now table.now }
+    ensures follows { Follows O.asking oracle.old oracle.new log.old log.new result (each with_candidate [] (paired_up members.now table.now)) }
+    ensures over { IfOk result (AreCandidates members.now) }
+{
+    let mut made = Items::new(alloc);
+    for (place, member) in members.iter().enumerate() {
+        made = with_candidate(alloc, made, member, &table[place], oracle, log)?;
+    }
+    Ok(made)
+}
+
+#[tactic(auto, using(posing::proofs::Following::following), unfolding(crate::specs::Close::with_candidate))]
+fn with_candidate<O: Oracle>(
+    alloc: Global,
+    made: Items<Items<Row>>,
+    member: &PairEnds,
+    f: &Formula,
+    oracle: &mut O,
+    log: &mut Log,
+) -> Result<Items<Items<Row>>, WorkError>
+    requires member { IsMember member.now }
+    requires summary { IsSummary member.now f.now }
+    ensures { Follows O.asking oracle.old oracle.new log.old log.new result (with_candidate made (member.now, f.now)) }
+{
+    let rows = candidate_of(alloc, member, f, oracle, log)?;
+    let mut all = made;
+    all.push(rows)?;
+    Ok(all)
+}

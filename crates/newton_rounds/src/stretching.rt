@@ -1,0 +1,63 @@
+ghost use Rattle.std.specs.Prelude.{◌≡◌, ◌++◌, IfOk, OnOk};
+ghost use Rattle.newton_rounds.specs.Pairs.{along, lost_in_pair, pair_formula, stations_of};
+ghost use Rattle.newton_rounds.specs.Shapes.{IsStretchBetween, lost_on_the_way, stretch_of};
+
+use crate::calls::{GroupCall, Sides};
+use crate::ends::{PairEnds, numbers_from};
+use crate::equating::equated;
+use crate::pairs::{entry_told, exit_formula};
+use crate::returning::call_exit;
+use crate::stations::{call_entry, carrying};
+use items::Items;
+use std::alloc::Global;
+use transition_formula::{Formula, FormulaError, Loss, seq, with_posts};
+
+/// The formulas between the stations of a call, one after another. The losses of each are noted where it is made, those of
+/// the sequences behind them.
+fn along(
+    alloc: Global,
+    caller: &PairEnds,
+    callee: &PairEnds,
+    call: &GroupCall,
+    sides: &Sides,
+    lost: &mut Items<Loss>,
+) -> Result<Formula, FormulaError>
+    requires { IsStretchBetween caller.now callee.now (stretch_of call.now sides.now) }
+    ensures made { IfOk result (λ f. f ≡ along (stations_of caller.now callee.now (stretch_of call.now sides.now))) }
+    ensures noted { OnOk result (lost.new ≡ lost.old ++ lost_on_the_way caller.now callee.now (stretch_of call.now sides.now)) }
+{
+    let columns = caller.full.columns();
+    let entry = caller.globals + call.args.len() as u32;
+    let exit = callee.exit.columns();
+    let first = entry_told(alloc, caller, &sides.before, lost)?;
+    let second = call_entry(alloc, caller, call, lost)?;
+    let third = call_exit(alloc, columns, caller.globals, call.into, entry, exit)?;
+    let rest = exit_formula(alloc, columns, &sides.after)?;
+    let fourth = carrying(alloc, columns, entry + exit, &rest)?;
+    let entered = seq(alloc, &first, &second, lost)?;
+    let returned = seq(alloc, &entered, &third, lost)?;
+    seq(alloc, &returned, &fourth, lost)
+}
+
+/// The formula of a call, from the caller's pair to the callee's. Each loss is noted after those that are there. After an error
+/// more may be noted.
+pub(crate) fn pair_formula(
+    alloc: Global,
+    caller: &PairEnds,
+    callee: &PairEnds,
+    call: &GroupCall,
+    sides: &Sides,
+    lost: &mut Items<Loss>,
+) -> Result<Formula, FormulaError>
+    requires { IsStretchBetween caller.now callee.now (stretch_of call.now sides.now) }
+    ensures made { IfOk result (λ f. f ≡ pair_formula caller.now callee.now (stretch_of call.now sides.now)) }
+    ensures noted { OnOk result (lost.new ≡ lost.old ++ lost_in_pair caller.now callee.now (stretch_of call.now sides.now)) }
+{
+    let whole = along(alloc, caller, callee, call, sides, lost)?;
+    let told = caller.exit_places(alloc)?;
+    let first = caller.entry.columns();
+    let equal = equated(alloc, &whole, first, told.as_slice(), lost)?;
+    let width = caller.globals + call.args.len() as u32 + callee.exit.columns();
+    let places = numbers_from(alloc, caller.full.columns(), width)?;
+    with_posts(alloc, &equal, places.as_slice())
+}
