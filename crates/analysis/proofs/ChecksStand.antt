@@ -1,0 +1,135 @@
+-- Where assertions stand.
+--     check-next, checks-end, proc-next     loops over the assertions of a graph, and over procedures
+--     check-is                              the assertion of a number stands there
+--     check-none                            one that stands nowhere never fails
+use Rattle.std.proofs.Common.{◌≡◌, ℕ, zero, suc, ◌+◌, ◌<◌, ◌≤◌, Bool, true, false, cond, List, [], ◌∷◌, ◌++◌, length, map, drop, get_or, refl, sym, ap, subst, ◌∙◌, append_assoc, append-nil, arith}
+use Rattle.std.specs.Prelude.{◌==◌, None, Some, slice_get}
+use Rattle.std.specs.List.{AllByRecursion, find}
+use Rattle.std.proofs.lemmas.Bool.{false≢true}
+use Rattle.std.proofs.lemmas.Bool.Decides.{Decides-eqb}
+use Rattle.std.proofs.lemmas.List.{drop_all, drop_more}
+use Rattle.std.proofs.lemmas.Option.{get_or_from_slice_get}
+use Rattle.items.proofs.Each.{each-append, each-back, each-front}
+use Rattle.syntax_tree.specs.declared.program.Proc.{Proc}
+use Rattle.syntax_tree.specs.declared.program.Program.{Program}
+use Rattle.syntax_tree.specs.Code.{Check}
+use Rattle.syntax_tree.specs.Value.{State}
+use Rattle.execution.specs.Machine.{Do, Frame, Item}
+use Rattle.execution.specs.Execution.{Fails}
+use Rattle.flow_graph.specs.declared.parts.CheckNode.{CheckNode}
+use Rattle.flow_graph.specs.FlowGraph.{CheckPlace, body_of, flow_of, graph_of}
+use Rattle.flow_graph.specs.Plain.{check_of}
+use Rattle.flow_graph.specs.Stack.{Beginning, StandsOver}
+use Rattle.flow_graph.specs.Walks.{Stands, WalksTo}
+use Rattle.flow_graph.proofs.StackChain.{failures_are_in_chains}
+use Rattle.flow_graph.proofs.Theorems.{checks_are_walks}
+use Rattle.proc_summary.specs.Subject.{own_graph}
+use Rattle.context.specs.Claims.{start_of_main}
+use Rattle.analysis.specs.declared.standing.CheckAt.{CheckAt}
+use Rattle.analysis.specs.Claims.{IsCheckOf}
+use Rattle.analysis.specs.Judging.{check_with, checks_from, checks_of}
+
+-- ---- loops
+
+-- one more assertion of a graph
+pub check-next : (proc i : ℕ) (checks : List CheckNode) (check : CheckNode) (made next whole : List CheckAt) → i < length checks → check ≡ get_or checks i check
+    → made ++ checks_from proc i (map check_of (drop i checks)) ≡ whole → next ≡ made ++ record { number = check.number; proc = proc; check = i } ∷ []
+    → next ++ checks_from proc (i + 1) (map check_of (drop (i + 1) checks)) ≡ whole
+check-next proc i checks check made next whole lt is so_far more =
+    let rest = checks_from proc (i + 1) (map check_of (drop (i + 1) checks)) in
+    let split : drop i checks ≡ check ∷ drop (i + 1) checks = drop_more checks i check lt ∙ ap (λ c. c ∷ drop (i + 1) checks) (sym is) in
+    ap (λ l. l ++ rest) more ∙ append_assoc made (record { number = check.number; proc = proc; check = i } ∷ []) rest
+    ∙ ap (λ l. made ++ checks_from proc i (map check_of l)) (sym split) ∙ so_far
+
+pub checks-end : (proc i : ℕ) (checks : List CheckNode) (made whole : List CheckAt) → length checks ≤ i → made ++ checks_from proc i (map check_of (drop i checks)) ≡ whole → made ≡ whole
+checks-end proc i checks made whole end so_far =
+    sym (append-nil made) ∙ ap (λ l. made ++ checks_from proc i (map check_of l)) (sym (drop_all i checks end)) ∙ so_far
+
+-- those of one more procedure
+pub proc-next : (program : Program) (i : ℕ) (p : Proc) (made next whole : List CheckAt) → i < length program.procs → slice_get program.procs i ≡ Some p
+    → made ++ checks_of i (drop i program.procs) ≡ whole → next ≡ made ++ checks_from i 0 (graph_of program i).checks → next ++ checks_of (i + 1) (drop (i + 1) program.procs) ≡ whole
+proc-next program i p made next whole lt is so_far more =
+    let rest = checks_of (i + 1) (drop (i + 1) program.procs) in
+    let split : drop i program.procs ≡ p ∷ drop (i + 1) program.procs = drop_more program.procs i p lt ∙ ap (λ x. x ∷ drop (i + 1) program.procs) (get_or_from_slice_get program.procs i p p is) in
+    ap (λ l. l ++ rest) more ∙ append_assoc made (checks_from i 0 (graph_of program i).checks) rest
+    ∙ (λ j. made ++ (checks_from i 0 (flow_of (body_of (is j))).checks ++ rest))
+    ∙ ap (λ l. made ++ checks_of i l) (sym split) ∙ so_far
+
+-- ---- the assertion of a number
+
+-- what holds of all, and of the one that is found
+find-some : {X : Type 0} (P : X → Type 0) (test : X → Bool) (xs : List X) (x : X) → AllByRecursion P xs → find test xs ≡ Some x → P x × (test x ≡ true)
+find-some P test [] x all e = absurd (cc e)
+find-some {X = X} P test (y ∷ xs) x all e = go (test y) refl e (find-some P test xs x all.1)
+  where
+    go : (b : Bool) → test y ≡ b → cond b (Some y) (find test xs) ≡ Some x → (find test xs ≡ Some x → P x × (test x ≡ true)) → P x × (test x ≡ true)
+    go true is here more = let same : y ≡ x = cc here in (subst P same all.0, ap test (sym same) ∙ is)
+    go false is later more = more later
+
+find-none : {X : Type 0} (test : X → Bool) (xs : List X) → find test xs ≡ None → AllByRecursion (λ x. test x ≡ false) xs
+find-none test [] e = tt
+find-none test (y ∷ xs) e = go (test y) refl e (find-none test xs)
+  where
+    go : (b : Bool) → test y ≡ b → cond b (Some y) (find test xs) ≡ None → (find test xs ≡ None → AllByRecursion (λ x. test x ≡ false) xs) → AllByRecursion (λ x. test x ≡ false) (y ∷ xs)
+    go true is here more = absurd (cc here)
+    go false is later more = (is, more later)
+
+module _ (program : Program) where
+  -- those of a procedure stand there
+  of-proc : (proc : ℕ) (p : Proc) → slice_get program.procs proc ≡ Some p → (check : ℕ) (checks : List CheckPlace)
+      → ((k : ℕ) (at : CheckPlace) → slice_get checks k ≡ Some at → slice_get (own_graph p).checks (check + k) ≡ Some at) → AllByRecursion (IsCheckOf program) (checks_from proc check checks)
+  of-proc proc p is check [] there = tt
+  of-proc proc p is check (at ∷ checks) there = (
+    record { p = p; is = is; at = at; at_is = subst (λ n. slice_get (own_graph p).checks n ≡ Some at) (omega arith) (there 0 at refl); number = refl },
+    of-proc proc p is (check + 1) checks (λ k other e. subst (λ n. slice_get (own_graph p).checks n ≡ Some other) (omega arith) (there (suc k) other e)),
+  )
+
+  of-procs : (proc : ℕ) (procs : List Proc) → ((k : ℕ) (p : Proc) → slice_get procs k ≡ Some p → slice_get program.procs (proc + k) ≡ Some p) → AllByRecursion (IsCheckOf program) (checks_of proc procs)
+  of-procs proc [] there = tt
+  of-procs proc (p ∷ procs) there =
+      let is : slice_get program.procs proc ≡ Some p = subst (λ n. slice_get program.procs n ≡ Some p) (omega arith) (there 0 p refl) in
+      each-append (IsCheckOf program) (checks_from proc 0 (own_graph p).checks) (checks_of (proc + 1) procs)
+      (of-proc proc p is 0 (own_graph p).checks (λ k at e. subst (λ n. slice_get (own_graph p).checks n ≡ Some at) (omega arith) e))
+      (of-procs (proc + 1) procs (λ k q e. subst (λ n. slice_get program.procs n ≡ Some q) (omega arith) (there (suc k) q e)))
+
+  pub check-is : (number : ℕ) (c : CheckAt) → check_with number (checks_of 0 program.procs) ≡ Some c → IsCheckOf program c × (c.number ≡ number)
+  check-is number c e =
+      let parts = find-some (IsCheckOf program) (λ (c : CheckAt). c.number == number) (checks_of 0 program.procs) c (of-procs 0 program.procs (λ k p e. subst (λ n. slice_get program.procs n ≡ Some p) (omega arith) e)) e in
+      (parts.0, (Decides-eqb c.number number).0 parts.1)
+
+-- what holds of the numbers of all
+told-in : (R : ℕ → Type 0) (proc check : ℕ) (checks : List CheckPlace) → AllByRecursion (λ (c : CheckAt). R c.number) (checks_from proc check checks)
+    → (k : ℕ) (at : CheckPlace) → slice_get checks k ≡ Some at → R at.number
+told-in R proc check [] all k at e = absurd (cc e)
+told-in R proc check (c ∷ checks) all zero at e = let same : c ≡ at = cc e in subst (λ (x : CheckPlace). R x.number) same all.0
+told-in R proc check (c ∷ checks) all (suc k) at e = told-in R proc (check + 1) checks all.1 k at e
+
+told-of : (R : ℕ → Type 0) (proc : ℕ) (procs : List Proc) → AllByRecursion (λ (c : CheckAt). R c.number) (checks_of proc procs)
+    → (j : ℕ) (p : Proc) → slice_get procs j ≡ Some p → (k : ℕ) (at : CheckPlace) → slice_get (own_graph p).checks k ≡ Some at → R at.number
+told-of R proc [] all j p is k at e = absurd (cc is)
+told-of R proc (q ∷ procs) all zero p is k at e =
+    let same : p ≡ q = cc is in
+    told-in R proc 0 (own_graph q).checks (each-front (λ (c : CheckAt). R c.number) (checks_from proc 0 (own_graph q).checks) (checks_of (proc + 1) procs) all) k at
+    (subst (λ (o : Proc). slice_get (own_graph o).checks k ≡ Some at) same e)
+told-of R proc (q ∷ procs) all (suc j) p is k at e =
+    told-of R (proc + 1) procs (each-back (λ (c : CheckAt). R c.number) (checks_from proc 0 (own_graph q).checks) (checks_of (proc + 1) procs) all) j p is k at e
+
+stands-top : (program : Program) (bottom top : Beginning) (globals : State) (items : List Item) (frame : Frame) (below : List Frame) → StandsOver program bottom top globals items frame below → Stands program top.proc top.globals top.args items (globals ++ frame.own)
+stands-top program bottom top globals items frame [] h = h.2
+stands-top program bottom top globals items frame (caller ∷ below) h = h.1
+
+pub check-none : (program : Program) (number : ℕ) → check_with number (checks_of 0 program.procs) ≡ None → Fails program number → ⊥
+check-none program number e fails =
+    let found = failures_are_in_chains program number fails in
+    let chain = found.chain in
+    let top : Beginning = chain.top in
+    let final : State = found.config.globals ++ chain.frame.own in
+    let stands = stands-top program (start_of_main program) top found.config.globals chain.frame.items chain.frame chain.below chain.stands in
+    let here_at : Stands program top.proc top.globals top.args (Do (Check number found.cond) ∷ found.rest) final = subst (λ items. Stands program top.proc top.globals top.args items final) found.next stands in
+    let walk = (checks_are_walks program top.proc top.globals top.args number found.cond final).0 (found.rest, here_at) in
+    let place : CheckPlace = walk.0 in
+    let w : WalksTo program top.proc top.globals top.args place.node final = walk.5 in
+    let is_place : slice_get (own_graph w.callee).checks walk.1 ≡ Some place = subst (λ o. slice_get (flow_of (body_of o)).checks walk.1 ≡ Some place) w.is walk.2 in
+    let other : (place.number == number) ≡ false =
+    told-of (λ n. (n == number) ≡ false) 0 program.procs (find-none (λ (c : CheckAt). c.number == number) (checks_of 0 program.procs) e) top.proc w.callee w.is walk.1 place is_place in
+    absurd (false≢true (sym other ∙ (Decides-eqb place.number number).1 walk.3))

@@ -1,0 +1,5 @@
+use Rattle.vocabularies.proofs.Columns.{range-next}
+use Rattle.analysis.proofs.judging.first_numbers.Goals as goal
+
+pub loop-number-preserved : goal.loop-number-preserved
+loop-number-preserved c = range-next c.loop-number.number c.loop-number.numbers c.push.new.self c.loop-number.invariant c.in_ok-push.ensures.ok

@@ -1,0 +1,53 @@
+-- The analysis of a program: groups of procedures in their order, then entries, then assertions.
+use Rattle.std.specs.Prelude.{List, [], ◌∷◌, ◌++◌, Option, None, Some, take}
+use Rattle.syntax_tree.specs.declared.program.Proc.{Proc}
+use Rattle.syntax_tree.specs.declared.program.Program.{Program}
+use Rattle.transition_formula.specs.Transition.{Transition}
+use Rattle.posing.specs.declared.note.Note.{Note}
+use Rattle.posing.specs.Posing.{Posing, Done, ◌>>=◌}
+use Rattle.report.specs.declared.blocks.ProcBlock.{ProcBlock}
+use Rattle.report.specs.declared.blocks.Report.{Report}
+use Rattle.context.specs.Entries.{entries_from}
+use Rattle.analysis.specs.declared.places.TextPlace.{TextPlace}
+use Rattle.analysis.specs.declared.planning.Planned.{Planned}
+use Rattle.analysis.specs.declared.found.Found.{Found}
+use Rattle.analysis.specs.Apart.{apart}
+use Rattle.analysis.specs.Found.{found_by, flows_in}
+use Rattle.analysis.specs.Judging.{column_names, global_names, judged_by}
+
+-- ---- the procedures' blocks
+
+-- `before` names the globals and the parameters, `after` the globals
+abbrev pub block_of : Program → Proc → Transition → List Note → ProcBlock
+block_of program p formula notes =
+    record {
+      name = p.name;
+      before = global_names program ++ column_names (take p.params p.columns);
+      after = global_names program;
+      formula = formula;
+      notes = notes;
+    }
+
+abbrev pub block_onto : Program → Proc → Option Transition → List Note → List ProcBlock → List ProcBlock
+block_onto program p None notes blocks = blocks
+block_onto program p (Some f) notes blocks = block_of program p f notes ∷ blocks
+
+abbrev pub blocks_by : Program → List Proc → List (Option Transition) → List (List Note) → List ProcBlock
+blocks_by program (p ∷ procs) (f ∷ known) (notes ∷ others) = block_onto program p f notes (blocks_by program procs known others)
+blocks_by program _ _ _ = []
+
+-- ---- the whole
+
+unfoldable pub report_by : Program → List TextPlace → Found → List (Option Transition) → List Note → Posing Report
+report_by program places found entries notes =
+    judged_by program places entries (flows_in found) >>= λ judged.
+    Done record { procs = blocks_by program program.procs found.known found.notes; notes = notes; judged = judged }
+
+unfoldable pub ended_by : Program → List TextPlace → Found → Posing Report
+ended_by program places found =
+    apart (entries_from program (flows_in found)) >>= λ entries.
+    report_by program places found entries.0 entries.1
+
+-- by the plan of the program
+unfoldable pub analysed : Program → List TextPlace → List Planned → Posing Report
+analysed program places plan = found_by program plan >>= λ found. ended_by program places found

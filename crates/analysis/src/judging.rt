@@ -1,0 +1,248 @@
+ghost use Rattle.std.specs.Prelude.{◌≡◌, ◌<◌, ◌≤◌, ◌+◌, ◌^◌, ◌++◌, Some, length, slice_get, IfOk, OnOk};
+ghost use Rattle.std.specs.List.{range_with_len};
+ghost use Rattle.syntax_tree.specs.WellFormed.{IsWellFormed};
+ghost use Rattle.syntax_tree.specs.declared.program.Proc.{Proc as Procedure};
+ghost use Rattle.execution.specs.Execution.{Fails};
+ghost use Rattle.flow_graph.specs.FlowGraph.{CheckPlace};
+ghost use Rattle.posing.specs.Follows.{Follows};
+ghost use Rattle.vocabularies.specs.Ends.{entry_width, named_from};
+ghost use Rattle.proc_summary.specs.declared.stop.Stop.{Stop};
+ghost use Rattle.proc_summary.specs.Claims.{FitsFlow, FlowHolds};
+ghost use Rattle.proc_summary.specs.Subject.{own_graph};
+ghost use Rattle.report.specs.declared.verdict.Verdict.TheVariants.{Proved};
+ghost use Rattle.context.specs.Claims.{AreEntries, AreFlows, EntriesHold, EntryHolds, FlowsHold, IsEntryIf};
+ghost use Rattle.context.specs.Verdicts.{place_of, shown_of, verdict_of};
+ghost use Rattle.analysis.specs.Apart.{apart};
+ghost use Rattle.analysis.specs.Judging.{asserted, asserted_by, checks_of, column_names, global_names, judged_by, judged_of, place_in, unreached, with_judged};
+ghost use Rattle.analysis.specs.Claims.{AddsJudged, AreJudged, IsCheckOf, IsJudged};
+
+use crate::names::{add_names, global_names};
+use crate::places::{TextPlace, place_in};
+use crate::standing::{CheckAt, check_with, checks_of};
+use context::verdict;
+use farkas_check::Oracle;
+use items::Items;
+use posing::{Log, Note, WorkError};
+use proc_summary::Flow;
+use report::{Judged, Verdict};
+use std::alloc::{AllocError, Global};
+use std::mem;
+use syntax_tree::{Column, Name, Program};
+use transition_formula::Formula;
+
+/// A verdict on each assertion, in the order of the text.
+pub(crate) fn judged_by<O: Oracle>(
+    alloc: Global,
+    program: &Program,
+    places: &[TextPlace],
+    entries: &[Option<Formula>],
+    flows: &[Flow],
+    oracle: &mut O,
+    log: &mut Log,
+) -> Result<Items<Judged>, WorkError>
+    requires formed { IsWellFormed program.now }
+    requires entries { AreEntries program.now entries.now }
+    requires flows { AreFlows program.now flows.now }
+    ensures follows { Follows O.asking oracle.old oracle.new log.old log.new result (judged_by program.now places.now entries.now flows.now) }
+    ensures sound { EntriesHold program.now entries.now → FlowsHold program.now flows.now → IfOk result (AreJudged program.now) }
+{
+    let checks = checks_of(alloc, program)?;
+    let checks = checks.as_slice();
+    let mut made = Items::new(alloc);
+    for n in 0..program.checks.len() as u32 {
+        made = with_judged(
+            alloc,
+            program,
+            places,
+            checks,
+            entries,
+            flows,
+            made,
+            n + 1,
+            oracle,
+            log,
+        )?;
+    }
+    Ok(made)
+}
+
+/// The verdict on the assertion of a number, behind others.
+#[tactic(auto, using(posing::proofs::Following::following), unfolding(crate::specs::Judging::with_judged))]
+fn with_judged<O: Oracle>(
+    alloc: Global,
+    program: &Program,
+    places: &[TextPlace],
+    checks: &[CheckAt],
+    entries: &[Option<Formula>],
+    flows: &[Flow],
+    made: Items<Judged>,
+    number: u32,
+    oracle: &mut O,
+    log: &mut Log,
+) -> Result<Items<Judged>, WorkError>
+    requires formed { IsWellFormed program.now }
+    requires checks { checks.now ≡ checks_of 0 program.now.procs }
+    requires entries { AreEntries program.now entries.now }
+    requires flows { AreFlows program.now flows.now }
+    requires number { 1 ≤ number }
+    ensures follows { Follows O.asking oracle.old oracle.new log.old log.new result (with_judged program.now places.now entries.now flows.now made number) }
+    ensures added { IfOk result (AddsJudged program.now entries.now flows.now made number) }
+{
+    let judged = judged_of(
+        alloc, program, places, checks, entries, flows, number, oracle, log,
+    )?;
+    let mut all = made;
+    all.push(judged)?;
+    Ok(all)
+}
+
+/// One that stands in no graph is not come to.
+fn judged_of<O: Oracle>(
+    alloc: Global,
+    program: &Program,
+    places: &[TextPlace],
+    checks: &[CheckAt],
+    entries: &[Option<Formula>],
+    flows: &[Flow],
+    number: u32,
+    oracle: &mut O,
+    log: &mut Log,
+) -> Result<Judged, WorkError>
+    requires formed { IsWellFormed program.now }
+    requires checks { checks.now ≡ checks_of 0 program.now.procs }
+    requires entries { AreEntries program.now entries.now }
+    requires flows { AreFlows program.now flows.now }
+    requires number { 1 ≤ number }
+    ensures follows { Follows O.asking oracle.old oracle.new log.old log.new result (judged_of (place_in places.now number) (asserted program.now entries.now flows.now number)) }
+    ensures sound { EntriesHold program.now entries.now → FlowsHold program.now flows.now → IfOk result (IsJudged program.now number) }
+{
+    let at = place_in(places, number);
+    match check_with(number, checks) {
+        Some(check) => judged_at(alloc, program, at, check, entries, flows, oracle, log),
+        None => Ok(unreached(alloc, at)),
+    }
+}
+
+fn unreached(alloc: Global, at: TextPlace) -> Judged
+    ensures { result ≡ unreached at }
+{
+    Judged {
+        at: at.at,
+        line: at.line,
+        column: at.column,
+        named: Items::new(alloc),
+        shown: Items::new(alloc),
+        verdict: Verdict::Proved,
+        notes: Items::new(alloc),
+    }
+}
+
+/// The verdict on one assertion, with the notes of finding it.
+#[tactic(auto, using(posing::proofs::Following::following), unfolding(crate::specs::Judging::judged_of))]
+fn judged_at<O: Oracle>(
+    alloc: Global,
+    program: &Program,
+    at: TextPlace,
+    check: CheckAt,
+    entries: &[Option<Formula>],
+    flows: &[Flow],
+    oracle: &mut O,
+    log: &mut Log,
+) -> Result<Judged, WorkError>
+    requires formed { IsWellFormed program.now }
+    requires check { IsCheckOf program.now check }
+    requires entries { AreEntries program.now entries.now }
+    requires flows { AreFlows program.now flows.now }
+    ensures follows { Follows O.asking oracle.old oracle.new log.old log.new result (judged_of at (asserted_by program.now entries.now flows.now check)) }
+    ensures sound { EntriesHold program.now entries.now → FlowsHold program.now flows.now → IfOk result (IsJudged program.now check.number) }
+{
+    let CheckAt { proc, check, .. } = check;
+    let named = named_columns(alloc, program, proc)?;
+    let shown = shown_columns(alloc, program, proc)?;
+    let entry = &entries[proc as usize];
+    let flow = &flows[proc as usize];
+    let (verdict, notes) = verdict_apart(alloc, program, proc, check, entry, flow, oracle, log)?;
+    Ok(Judged {
+        at: at.at,
+        line: at.line,
+        column: at.column,
+        named,
+        shown,
+        verdict,
+        notes,
+    })
+}
+
+/// The verdict and its notes. The log gains the answers, and no notes.
+fn verdict_apart<O: Oracle>(
+    alloc: Global,
+    program: &Program,
+    proc: u32,
+    check: u32,
+    entry: &Option<Formula>,
+    flow: &Flow,
+    oracle: &mut O,
+    log: &mut Log,
+) -> Result<(Verdict, Items<Note>), WorkError>
+    requires formed { IsWellFormed program.now }
+    requires procedure { proc < length program.now.procs }
+    requires assertion { check < length flow.now.checks }
+    requires flow { (p : Procedure) → slice_get program.now.procs proc ≡ Some p → FitsFlow program.now p flow.now }
+    requires entry { (p : Procedure) → slice_get program.now.procs proc ≡ Some p → IsEntryIf (entry_width program.now p) entry.now }
+    ensures follows { (p : Procedure) (at : CheckPlace) (stop : Stop) → slice_get program.now.procs proc ≡ Some p → slice_get (own_graph p).checks check ≡ Some at → slice_get flow.now.checks check ≡ Some stop → Follows O.asking oracle.old oracle.new log.old log.new result (apart (verdict_of (place_of program.now p) at.cond entry.now stop.formula)) }
+    ensures sound { (p : Procedure) (at : CheckPlace) → slice_get program.now.procs proc ≡ Some p → slice_get (own_graph p).checks check ≡ Some at → EntryHolds program.now proc entry.now → FlowHolds program.now proc flow.now → IfOk result (λ made. made.0 ≡ Proved → ¬ Fails program.now at.number) }
+{
+    let others = mem::replace(&mut log.notes, Items::new(alloc));
+    let result = verdict(alloc, program, proc, check, entry, flow, oracle, log);
+    let notes = mem::replace(&mut log.notes, others);
+    Ok((result?, notes))
+}
+
+fn named_columns(alloc: Global, program: &Program, proc: u32) -> Result<Items<Name>, AllocError>
+    requires { proc < length program.now.procs }
+    ensures { (p : Procedure) → slice_get program.now.procs proc ≡ Some p → IfOk result (λ names. names ≡ global_names program.now ++ column_names p.columns) }
+{
+    let columns = program.procs.as_slice()[proc as usize].columns.as_slice();
+    let mut names = global_names(alloc, program)?;
+    add_names(columns, &mut names)?;
+    Ok(names)
+}
+
+/// The numbers of the globals, and those of the columns that have a name.
+fn shown_columns(alloc: Global, program: &Program, proc: u32) -> Result<Items<u32>, AllocError>
+    requires formed { IsWellFormed program.now }
+    requires procedure { proc < length program.now.procs }
+    ensures { (p : Procedure) → slice_get program.now.procs proc ≡ Some p → IfOk result (λ shown. shown ≡ shown_of program.now p) }
+{
+    let globals = program.globals.len() as u32;
+    let columns = program.procs.as_slice()[proc as usize].columns.as_slice();
+    let mut shown = first_numbers(alloc, globals)?;
+    add_named(globals, columns, &mut shown)?;
+    Ok(shown)
+}
+
+/// The numbers below one.
+fn first_numbers(alloc: Global, count: u32) -> Result<Items<u32>, AllocError>
+    ensures { IfOk result (λ numbers. numbers ≡ range_with_len 0 count) }
+{
+    let mut numbers = Items::new(alloc);
+    for number in 0..count {
+        numbers.push(number)?;
+    }
+    Ok(numbers)
+}
+
+/// Adds the numbers, from one on, of the columns that have a name.
+fn add_named(first: u32, columns: &[Column], numbers: &mut Items<u32>) -> Result<(), AllocError>
+    requires { first + length columns.now < 2 ^ 32 }
+    ensures { OnOk result (numbers.new ≡ numbers.old ++ named_from first columns.now) }
+{
+    let mut number = first;
+    for column in columns {
+        if column.name.is_some() {
+            numbers.push(number)?;
+        }
+        number += 1;
+    }
+    Ok(())
+}

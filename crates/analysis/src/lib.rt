@@ -1,0 +1,19 @@
+//! The analysis of a program: the summaries of its procedures, group by group, then the entries of procedures, and then a
+//! verdict on each assertion, put together as a report.
+#![tactic(auto)]
+
+mod blocks;
+mod found;
+mod judging;
+mod names;
+mod parts;
+mod places;
+mod planning;
+mod standing;
+mod whole;
+
+pub use found::Found;
+pub use parts::{Part, part_of};
+pub use places::TextPlace;
+pub use planning::{GroupKind, Planned, plan};
+pub use whole::{analyse, ended_by};

@@ -1,0 +1,123 @@
+ghost use Rattle.std.specs.Prelude.{◌≡◌, List, IfOk};
+ghost use Rattle.std.specs.List.{filter_map};
+ghost use Rattle.syntax_tree.specs.WellFormed.{IsWellFormed};
+ghost use Rattle.posing.specs.Follows.{Follows};
+ghost use Rattle.context.specs.Claims.{AreEntries, AreFlows, EntriesHold, FlowsHold};
+ghost use Rattle.context.specs.Entries.{entries_from};
+ghost use Rattle.report.specs.Claims.{ClaimsAreMet};
+ghost use Rattle.analysis.specs.declared.planning.Planned.{Planned as PlannedGroup};
+ghost use Rattle.analysis.specs.Analysis.{analysed, ended_by};
+ghost use Rattle.analysis.specs.Apart.{apart};
+ghost use Rattle.analysis.specs.Claims.{FitsFound, FoundIsMet, HasAll};
+ghost use Rattle.analysis.specs.Plan.{IsPlan};
+
+use crate::blocks::blocks_by;
+use crate::found::{Found, found_by};
+use crate::judging::judged_by;
+use crate::places::TextPlace;
+use crate::planning::plan;
+use context::entries;
+use farkas_check::Oracle;
+use items::Items;
+use posing::{Log, Note, WorkError};
+use proc_summary::Flow;
+use report::Report;
+use std::alloc::{AllocError, Global};
+use std::mem;
+use syntax_tree::Program;
+use transition_formula::Formula;
+
+/// The report of a program, whose assertions stand at these places of its text. The log gains the answers that were taken,
+/// in the order of their questions, and no notes: these stand in the report.
+#[tactic(auto, using(posing::proofs::Following::following), unfolding(crate::specs::Analysis::analysed))]
+pub fn analyse<O: Oracle>(
+    alloc: Global,
+    program: &Program,
+    places: &[TextPlace],
+    oracle: &mut O,
+    log: &mut Log,
+) -> Result<Report, WorkError>
+    requires formed { IsWellFormed program.now }
+    ensures follows { (plan : List PlannedGroup) → IsPlan program.now plan → Follows O.asking oracle.old oracle.new log.old log.new result (analysed program.now places.now plan) }
+    ensures planned { IfOk result (λ report. (plan : List PlannedGroup) × IsPlan program.now plan) }
+    ensures kept { log.new.notes ≡ log.old.notes }
+    ensures met { IfOk result (ClaimsAreMet program.now) }
+{
+    let plan = plan(alloc, program)?;
+    let found = found_by(alloc, program, plan.as_slice(), oracle, log)?;
+    ended_by(alloc, program, places, found, oracle, log)
+}
+
+/// The same by what is found of all procedures.
+#[tactic(auto, using(posing::proofs::Following::following), unfolding(crate::specs::Analysis::ended_by, crate::specs::Analysis::report_by))]
+pub fn ended_by<O: Oracle>(
+    alloc: Global,
+    program: &Program,
+    places: &[TextPlace],
+    found: Found,
+    oracle: &mut O,
+    log: &mut Log,
+) -> Result<Report, WorkError>
+    requires formed { IsWellFormed program.now }
+    requires found { FitsFound program.now found }
+    requires all { HasAll program.now found }
+    ensures follows { Follows O.asking oracle.old oracle.new log.old log.new result (ended_by program.now places.now found) }
+    ensures met { FoundIsMet program.now found → IfOk result (ClaimsAreMet program.now) }
+{
+    let Found {
+        known,
+        flows,
+        notes,
+    } = found;
+    let procs = blocks_by(alloc, program, known.as_slice(), notes.as_slice())?;
+    let flows = flows_in(alloc, flows)?;
+    let (entries, own) = entries_apart(alloc, program, flows.as_slice(), oracle, log)?;
+    let judged = judged_by(
+        alloc,
+        program,
+        places,
+        entries.as_slice(),
+        flows.as_slice(),
+        oracle,
+        log,
+    )?;
+    Ok(Report {
+        procs,
+        notes: own,
+        judged,
+    })
+}
+
+/// The entries, and the notes of finding them. The log gains the answers, and no notes.
+fn entries_apart<O: Oracle>(
+    alloc: Global,
+    program: &Program,
+    flows: &[Flow],
+    oracle: &mut O,
+    log: &mut Log,
+) -> Result<(Items<Option<Formula>>, Items<Note>), WorkError>
+    requires formed { IsWellFormed program.now }
+    requires flows { AreFlows program.now flows.now }
+    ensures follows { Follows O.asking oracle.old oracle.new log.old log.new result (apart (entries_from program.now flows.now)) }
+    ensures fits { IfOk result (λ made. AreEntries program.now made.0) }
+    ensures holds { FlowsHold program.now flows.now → IfOk result (λ made. EntriesHold program.now made.0) }
+{
+    let others = mem::replace(&mut log.notes, Items::new(alloc));
+    let result = entries(alloc, program, flows, oracle, log);
+    let notes = mem::replace(&mut log.notes, others);
+    Ok((result?, notes))
+}
+
+/// The flows that are found.
+fn flows_in(alloc: Global, flows: Items<Option<Flow>>) -> Result<Items<Flow>, AllocError>
+    ensures { IfOk result (λ all. all ≡ filter_map (λ flow. flow) flows) }
+{
+    let mut all = Items::new(alloc);
+    for flow in flows {
+        match flow {
+            Some(flow) => all.push(flow)?,
+            None => {}
+        }
+    }
+    Ok(all)
+}
