@@ -1,0 +1,3 @@
+-- ---- what must be believed: the words that clauses of public calls cite
+
+pub mod Found

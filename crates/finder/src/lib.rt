@@ -1,0 +1,6 @@
+//! What answers the questions of the analysis: a searcher that never declines one.
+#![tactic(auto)]
+
+mod finder;
+
+pub use finder::Finder;
