@@ -1,10 +1,10 @@
 -- An oracle that hands out listed answers, each where it passes.
-use Rattle.std.specs.Prelude.{ℕ, Option, None, Some, List, [], ◌∷◌, length, drop, map, slice_index, slice_index_or}
+use Rattle.std.specs.Prelude.{◌≡◌, ℕ, false, Option, None, Some, List, [], ◌∷◌, length, drop, map, slice_index, slice_index_or}
 use Rattle.farkas_check.specs.declared.answer.Answer.{Answer}
 use Rattle.farkas_check.specs.declared.answer.Answer.TheVariants.{Limit}
 use Rattle.farkas_check.specs.declared.answer.Limit.TheVariants.{Pivots}
 use Rattle.farkas_check.specs.declared.question.Question.{Question}
-use Rattle.farkas_check.specs.Tested.{Passes}
+use Rattle.farkas_check.specs.Tested.{passes}
 
 -- what is seen of it: the answers that it has left in order, how many were taken, how often it refused
 pub record Replayed : Type 0 where
@@ -33,4 +33,4 @@ left_from answers (Some places) taken = map (answer_at answers) (drop taken plac
 -- no answer is left, or the next one does not pass
 abbrev pub IsMissing : List Answer → Question → Type 0
 IsMissing [] question = Unit {0}
-IsMissing (answer ∷ answers) question = ¬ Passes question answer
+IsMissing (answer ∷ answers) question = passes question answer ≡ false
