@@ -1,5 +1,5 @@
--- A text is accepted as one program at most, and one that is accepted is not refused: so all texts of the first form are analysed.
-use Rattle.std.proofs.Common.{◌≡◌, ℕ, ◌+◌, ◌≤◌, ◌⊎◌, true, false, List, length, Option, Some, Ok, inl, inr, sym, ap, subst, ◌∙◌, arith}
+-- A text is accepted as one program at most, and one that is accepted is not refused: so each is analysed.
+use Rattle.std.proofs.Common.{◌≡◌, ℕ, ◌+◌, ◌≤◌, ◌⊎◌, true, false, List, length, Option, Some, Ok, inl, inr, refl, sym, ap, subst, ◌∙◌, arith}
 use Rattle.std.proofs.lemmas.List.{take_all}
 use Rattle.std.specs.Prelude.{if◌then◌else◌, Bool}
 use Rattle.c_lexer.proofs.OneOutcome.{tokens_are_not_refused, tokens_are_one}
@@ -17,12 +17,11 @@ use Rattle.cra.specs.declared.refusal.Refusal.{Refusal}
 use Rattle.cra.specs.declared.refusal.Refusal.TheVariants.{Lexing, Parsing, Typing, Memory}
 use Rattle.cra.specs.declared.reply.Reply.{Reply}
 use Rattle.cra.specs.declared.status.Status.{Status}
-use Rattle.cra.specs.declared.status.Status.TheVariants.{AllProved, SomeUnproved, NoneFailed, SomeFailed}
+use Rattle.cra.specs.declared.status.Status.TheVariants.{AllProved, SomeUnproved, NoneFailed, SomeFailed, Certified, TooLong}
 use Rattle.cra.specs.Accepted.{Accepts, IsRefusedBy, Spells}
-use Rattle.cra.specs.FirstForm.{is_first_form}
 use Rattle.cra.specs.Input.{IsInput}
 use Rattle.cra.specs.Limits.{most_bytes, most_input}
-use Rattle.cra.specs.Replies.{IsReply, IsReplyToInput, IsReplyToOutcome, IsReplyToRead, IsReplyToText, IsReplyToValues, IsReplyToWork, IsToAnalyse, IsToReplay}
+use Rattle.cra.specs.Replies.{IsReply, IsReplyToInput, IsReplyToOutcome, IsReplyToRead, IsReplyToSource, IsReplyToText, IsReplyToValues, IsReplyToWork, IsToAnalyse, IsToCertify, IsToReplay, output_too_long}
 use Rattle.cra.proofs.SameTrees.{elaborates-alike}
 
 pub reads-plainly : (tokens : List Token) (items : List SourceItem) → ReadsWithinLimits tokens items → Reads tokens items
@@ -59,22 +58,38 @@ zero-or-one : (all : Bool) (status : Status) → status ≡ (if all then AllProv
 zero-or-one true status e = inl e
 zero-or-one false status e = inr e
 
-analysed : (all : List ℕ) (program : Program) (reply : Reply) → length all ≤ most_bytes → Accepts all program → is_first_form program ≡ true → IsReplyToText all reply
+analysed : (all : List ℕ) (program : Program) (reply : Reply) → length all ≤ most_bytes → Accepts all program → IsReplyToText all reply
     → (reply.status ≡ AllProved) ⊎ (reply.status ≡ SomeUnproved)
-analysed all program reply short a first (inl (long, is)) = absurd (omega arith)
-analysed all program reply short a first (inr (fits, inl (report, is, e))) = zero-or-one _ reply.status (ap (λ r. r.status) e)
-analysed all program reply short a first (inr (fits, inr (inl (left_out, e)))) =
-    let same = accepted-once all program left_out.program a left_out.accepted in
-    let not : is_first_form program ≡ false = subst (λ p. is_first_form p ≡ false) (sym same) left_out.other in
-    cc
-analysed all program reply short a first (inr (fits, inr (inr (refusal, is, e)))) = absurd (not-refused all program refusal a is)
+analysed all program reply short a (inl (long, is)) = absurd (omega arith)
+analysed all program reply short a (inr (fits, inl (report, answers, is, e))) = zero-or-one _ reply.status (ap (λ r. r.status) e)
+analysed all program reply short a (inr (fits, inr (refusal, is, e))) = absurd (not-refused all program refusal a is)
 
 pub complete : (words : List (List ℕ)) (before after : Option (List ℕ)) (reply : Reply) → IsToAnalyse words before → IsReply words before after reply
     → (reply.status ≡ AllProved) ⊎ (reply.status ≡ SomeUnproved)
 complete words before after reply a answer =
     let read : IsReplyToRead most_bytes IsReplyToText before after reply = subst (λ work. IsReplyToWork work before after reply) a.asked answer in
     let all = whole-input most_bytes a.input read.input a.short (subst (λ before. IsInput most_bytes before read.input) a.whole read.is_input) in
-    analysed a.input a.program reply a.short a.accepted a.first (subst (λ input. IsReplyToText input reply) all read.is_reply)
+    analysed a.input a.program reply a.short a.accepted (subst (λ input. IsReplyToText input reply) all read.is_reply)
+
+-- ---- certificate files
+
+within-or-not : (within : Bool) (status : Status) (told : Reply) → told.status ≡ Certified → status ≡ Reply.status (if within then told else output_too_long)
+    → (status ≡ Certified) ⊎ (status ≡ TooLong)
+within-or-not true status told is e = inl (e ∙ is)
+within-or-not false status told is e = inr e
+
+certified : (all : List ℕ) (program : Program) (reply : Reply) → length all ≤ most_bytes → Accepts all program → IsReplyToSource all reply
+    → (reply.status ≡ Certified) ⊎ (reply.status ≡ TooLong)
+certified all program reply short a (inl (long, is)) = absurd (omega arith)
+certified all program reply short a (inr (fits, inl (file, is, e))) = within-or-not _ reply.status _ refl (ap (λ r. r.status) e)
+certified all program reply short a (inr (fits, inr (refusal, is, e))) = absurd (not-refused all program refusal a is)
+
+pub complete-certify : (words : List (List ℕ)) (before after : Option (List ℕ)) (reply : Reply) → IsToCertify words before → IsReply words before after reply
+    → (reply.status ≡ Certified) ⊎ (reply.status ≡ TooLong)
+complete-certify words before after reply a answer =
+    let read : IsReplyToRead most_bytes IsReplyToSource before after reply = subst (λ work. IsReplyToWork work before after reply) a.asked answer in
+    let all = whole-input most_bytes a.input read.input a.short (subst (λ before. IsInput most_bytes before read.input) a.whole read.is_input) in
+    certified a.input a.program reply a.short a.accepted (subst (λ input. IsReplyToSource input reply) all read.is_reply)
 
 -- ---- one execution on given values
 

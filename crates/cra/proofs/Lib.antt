@@ -1,5 +1,4 @@
--- Main theorems: the claims of a report are met, a text is accepted once and as a well-formed program, and its assertions ascend.
-pub mod ClaimsMet
+-- Main theorems: a text is accepted once and as a well-formed program, and its assertions ascend.
 pub mod Complete
 pub mod Shapes
 pub mod Ascending
@@ -9,23 +8,10 @@ pub mod Inputs
 pub mod Outputs
 pub mod Refusals
 pub mod Replays
--- Executions of a procedure without calls, branches and loops.
-pub mod Runs
-pub mod Executions
-pub mod Bodies
--- What is known of the columns behind each statement, and that it is so.
-pub mod Values
-pub mod Columns
-pub mod Steps
-pub mod Standing
-pub mod Sound
-pub mod Posts
--- That no step leaves 128 bits.
-pub mod Bounds
-pub mod Reached
-pub mod Covered
-pub mod Ready
--- Cases that are put in order, and points that refute.
-pub mod Points
-pub mod Ordered
-pub mod Canonical
+-- Places of a text, one after another.
+pub mod Places
+-- Rules, and what the analysis under listed answers comes to.
+pub mod Rules
+pub mod Checks
+-- What the stated analysis of a text came to.
+pub mod Statements

@@ -7,8 +7,10 @@ pub mod Status
 pub mod Place
 pub mod Accepted
 pub mod Refused
-pub mod FirstForm
-pub mod Analysis
 pub mod Stated
+pub mod Certified
+pub mod Rules
+pub mod Checked
 pub mod Replies
+pub mod Outcomes
 pub mod Laws

@@ -1,7 +1,12 @@
 -- What a run answers to its words and its input.
-use Rattle.std.specs.Prelude.{◌≡◌, ℕ, ◌<◌, ◌≤◌, ◌⊎◌, ◌==◌, ◌-◌, true, false, List, [], ◌++◌, length, Option, None, Some, Result, Ok, Err, codes, decimal, if◌then◌else◌}
+use Rattle.std.specs.Prelude.{◌≡◌, ◌≢◌, ℕ, ◌<◌, ◌≤◌, ◌⊎◌, ◌==◌, ◌+◌, ◌-◌, true, false, List, [], ◌++◌, length, nat_eq, nat_lt, Option, None, Some, Result, Ok, Err, codes, decimal, if◌then◌else◌}
+use Rattle.std.specs.List.{common_prefix_len}
+use Rattle.std.specs.Str.{bytes_eq}
 use Rattle.std.specs.Io.KnownBytes.{prepend_known}
+use Rattle.farkas_check.specs.declared.answer.Answer.{Answer}
 use Rattle.syntax_tree.specs.declared.program.Program.{Program}
+use Rattle.posing.specs.Posing.{Posed, Finished, Stuck}
+use Rattle.posing.specs.Replay.{stopped_at}
 use Rattle.execution.specs.Execution.{Fails}
 use Rattle.replay.specs.declared.printing.Place.{Place}
 use Rattle.replay.specs.declared.trace.Stop.{Stop}
@@ -9,35 +14,40 @@ use Rattle.replay.specs.declared.trace.Stop.TheVariants.{Failed}
 use Rattle.replay.specs.declared.trace.Trace.{Trace}
 use Rattle.replay.specs.Chosen.{IsTrace}
 use Rattle.replay.specs.TraceText.{failed_at, is_failed, trace_text}
+use Rattle.wire.specs.declared.certificate.Certificate.{Certificate}
 use Rattle.wire.specs.declared.error.WireError.{WireError}
 use Rattle.wire.specs.declared.error.WireError.TheVariants as wrong
 use Rattle.wire.specs.declared.input.Input.{Input}
+use Rattle.wire.specs.Files.{certificate_of}
 use Rattle.wire.specs.Inputs.{input_of}
 use Rattle.cra.specs.declared.reply.Reply.{Reply}
 use Rattle.report.specs.declared.blocks.Report.{Report}
 use Rattle.cra.specs.declared.status.Status.{Status}
 use Rattle.cra.specs.declared.status.Status.TheVariants as ended
 use Rattle.cra.specs.declared.words.Work.{Work}
-use Rattle.cra.specs.declared.words.Work.TheVariants.{Analyse, Replay, Help, Version}
+use Rattle.cra.specs.declared.words.Work.TheVariants.{Analyse, Certify, Check, Renew, Replay, Help, Version}
 use Rattle.cra.specs.declared.refusal.Refusal.{Refusal}
 use Rattle.cra.specs.Accepted.{Accepts, IsRefusedBy}
-use Rattle.cra.specs.FirstForm.{is_first_form}
 use Rattle.cra.specs.Refused.{refusal_line, refusal_text}
-use Rattle.report.specs.Claims.{ClaimsAreMet}
 use Rattle.cra.specs.Input.{IsInput}
-use Rattle.cra.specs.Limits.{most_bytes, most_input}
+use Rattle.cra.specs.Limits.{most_bytes, most_file, most_input}
 use Rattle.cra.specs.Place.{column_at, line_at}
-use Rattle.cra.specs.Stated.{IsReportOf}
+use Rattle.cra.specs.Stated.{IsAnalysed}
+use Rattle.cra.specs.Certified.{IsCertified, file_text}
+use Rattle.cra.specs.Checked.{IsChecked, answers_of}
 use Rattle.report.specs.Text.{proved_count, text_of}
 use Rattle.cra.specs.Words.{work_of}
 
 abbrev pub wrong_words : Reply
-wrong_words = record { status = ended.WrongWords; text = codes "usage: cra analyse | replay\n" }
+wrong_words = record { status = ended.WrongWords; text = codes "usage: cra analyse | certify | check | renew | replay\n" }
 
 abbrev pub help_text : List ℕ
 help_text =
-    codes "cra: a verified analyser of numeric C\n\nusage: cra analyse | replay\n\n"
+    codes "cra: a verified analyser of numeric C\n\nusage: cra analyse | certify | check | renew | replay\n\n"
     ++ codes "  analyse    reads the text of a program, and prints what is proved of it\n"
+    ++ codes "  certify    reads the text of a program, and prints its report with all that shows it, as JSON\n"
+    ++ codes "  check      reads a certificate file, and prints whether its answers show its report\n"
+    ++ codes "  renew      reads a certificate file, and where it passes prints one that is made anew\n"
     ++ codes "  replay     reads a text with values and turns as JSON, and prints one execution\n"
     ++ codes "  --help     prints this\n"
     ++ codes "  --version  prints the version\n"
@@ -51,10 +61,6 @@ version = record { status = ended.Told; text = codes "cra 0.1.0\n" }
 abbrev pub too_long : Reply
 too_long = record { status = ended.TooLong; text = codes "input is too long\n" }
 
--- the answer to a text that the analysis does not reach yet
-abbrev pub not_yet : Reply
-not_yet = record { status = ended.Refused; text = codes "refused notyet\n" }
-
 -- the answer to a text that is refused
 abbrev pub refused_reply : List ℕ → Refusal → Reply
 refused_reply text refusal = record { status = ended.Refused; text = refusal_text text (refusal_line refusal) }
@@ -66,31 +72,34 @@ reply_of report = record {
   text = text_of report;
 }
 
--- The text is accepted, its program is of the form that is analysed so far, and the report is the stated one, whose
--- claims are met.
-pub record IsAnalysed (text : List ℕ) (report : Report) : Type 0 where
-  pub program : Program
-  pub accepted : Accepts text program
-  pub first : is_first_form program ≡ true
-  pub stated : IsReportOf text program report
-  pub met : ClaimsAreMet program report
-
--- the text is accepted, and its program is of another form
-pub record IsLeftOut (text : List ℕ) : Type 0 where
-  pub program : Program
-  pub accepted : Accepts text program
-  pub other : is_first_form program ≡ false
-
 -- a text that is accepted is answered with the text of its report, and every other text with the reason of its refusal
 abbrev pub IsReplyToShort : List ℕ → Reply → Type 0
 IsReplyToShort text reply =
-    ((report : Report) × IsAnalysed text report × (reply ≡ reply_of report))
-    ⊎ (IsLeftOut text × (reply ≡ not_yet))
+    ((report : Report) × (answers : List Answer) × IsAnalysed text answers report × (reply ≡ reply_of report))
     ⊎ ((refusal : Refusal) × IsRefusedBy text refusal × (reply ≡ refused_reply text refusal))
 
 abbrev pub IsReplyToText : List ℕ → Reply → Type 0
 IsReplyToText input reply =
     ((most_bytes < length input) × (reply ≡ too_long)) ⊎ ((length input ≤ most_bytes) × IsReplyToShort input reply)
+
+-- ---- the certificate file of a text
+
+abbrev pub output_too_long : Reply
+output_too_long = record { status = ended.TooLong; text = codes "output is too long\n" }
+
+-- how a file is written, and a newline, where both are within the limit
+abbrev pub file_reply : List ℕ → Reply
+file_reply file = if nat_lt (length file) most_file then record { status = ended.Certified; text = file ++ codes "\n" } else output_too_long
+
+-- a text that is accepted is answered with its certificate file, and every other text with the reason of its refusal
+abbrev pub IsReplyToCertify : List ℕ → Reply → Type 0
+IsReplyToCertify text reply =
+    ((file : Certificate) × IsCertified text file × (reply ≡ file_reply (file_text file)))
+    ⊎ ((refusal : Refusal) × IsRefusedBy text refusal × (reply ≡ refused_reply text refusal))
+
+abbrev pub IsReplyToSource : List ℕ → Reply → Type 0
+IsReplyToSource input reply =
+    ((most_bytes < length input) × (reply ≡ too_long)) ⊎ ((length input ≤ most_bytes) × IsReplyToCertify input reply)
 
 -- ---- one execution on given values
 
@@ -141,6 +150,62 @@ abbrev pub IsReplyToValues : List ℕ → Reply → Type 0
 IsReplyToValues bytes reply =
     ((most_input < length bytes) × (reply ≡ too_long)) ⊎ ((length bytes ≤ most_input) × IsReplyToOutcome (input_of bytes) reply)
 
+-- ---- whether a certificate file passes
+
+abbrev pub passed : Reply
+passed = record { status = ended.CheckPassed; text = codes "check passed\n" }
+
+-- why it does not, by a number
+abbrev pub failed : List ℕ → ℕ → List ℕ → Reply
+failed before number after = record { status = ended.CheckFailed; text = codes "check failed: " ++ before ++ decimal number ++ after ++ codes "\n" }
+
+-- a report that was made, against the one that is told: they are one, or differ behind the bytes that both begin with
+abbrev pub compared_reply : List ℕ → List ℕ → Reply
+compared_reply made told = if bytes_eq made told then passed else failed (codes "report differs at byte ") (common_prefix_len nat_eq made told) []
+
+-- a report was made, and so many answers are left
+abbrev pub finished_reply : List ℕ → List ℕ → ℕ → Reply
+finished_reply made told left = if left == 0 then compared_reply made told else failed [] left (codes " answers left")
+
+-- An answer is missing or does not pass, answers are left, or the report differs; else the file passes.
+abbrev pub posed_reply : List Answer → List ℕ → Posed Report → Reply
+posed_reply answers told (Stuck question left) = failed (codes "answer ") (stopped_at answers left + 1) []
+posed_reply answers told (Finished report notes left) = finished_reply (text_of report) told (length left)
+
+abbrev pub IsReplyToChecked : Certificate → Reply → Type 0
+IsReplyToChecked file reply =
+    ((posed : Posed Report) × IsChecked file posed × (reply ≡ posed_reply (answers_of file) file.report posed))
+    ⊎ ((refusal : Refusal) × IsRefusedBy file.text refusal × (reply ≡ refused_reply file.text refusal))
+
+-- What is wrong with the file comes before what is wrong with its text.
+abbrev pub IsReplyToCertificate : Result Certificate WireError → Reply → Type 0
+IsReplyToCertificate (Ok file) reply = IsReplyToChecked file reply
+IsReplyToCertificate (Err fault) reply = reply ≡ wrong_input fault
+
+abbrev pub IsReplyToFile : List ℕ → Reply → Type 0
+IsReplyToFile bytes reply =
+    ((most_file < length bytes) × (reply ≡ too_long)) ⊎ ((length bytes ≤ most_file) × IsReplyToCertificate (certificate_of bytes) reply)
+
+-- ---- a certificate file made anew
+
+-- Where the check passed, the certificate file of the text is the reply, and else the reply of the check is.
+abbrev pub IsRenewedBy : List ℕ → Reply → Reply → Type 0
+IsRenewedBy text checked reply =
+    ((checked.status ≡ ended.CheckPassed) × IsReplyToCertify text reply) ⊎ ((checked.status ≢ ended.CheckPassed) × (reply ≡ checked))
+
+pub record IsRenewed (file : Certificate) (reply : Reply) : Type 0 where
+  pub checked : Reply
+  pub is_checked : IsReplyToChecked file checked
+  pub is_renewed : IsRenewedBy file.text checked reply
+
+abbrev pub IsReplyToOldCertificate : Result Certificate WireError → Reply → Type 0
+IsReplyToOldCertificate (Ok file) reply = IsRenewed file reply
+IsReplyToOldCertificate (Err fault) reply = reply ≡ wrong_input fault
+
+abbrev pub IsReplyToOldFile : List ℕ → Reply → Type 0
+IsReplyToOldFile bytes reply =
+    ((most_file < length bytes) × (reply ≡ too_long)) ⊎ ((length bytes ≤ most_file) × IsReplyToOldCertificate (certificate_of bytes) reply)
+
 -- ---- what is read
 
 -- The input is read up to one byte past a limit, and is a front of what the source had before; the reply answers it.
@@ -155,6 +220,9 @@ IsReplyToWork None before after reply = (reply ≡ wrong_words) × (after ≡ be
 IsReplyToWork (Some Help) before after reply = (reply ≡ help) × (after ≡ before)
 IsReplyToWork (Some Version) before after reply = (reply ≡ version) × (after ≡ before)
 IsReplyToWork (Some Analyse) before after reply = IsReplyToRead most_bytes IsReplyToText before after reply
+IsReplyToWork (Some Certify) before after reply = IsReplyToRead most_bytes IsReplyToSource before after reply
+IsReplyToWork (Some Check) before after reply = IsReplyToRead most_file IsReplyToFile before after reply
+IsReplyToWork (Some Renew) before after reply = IsReplyToRead most_file IsReplyToOldFile before after reply
 IsReplyToWork (Some Replay) before after reply = IsReplyToRead most_input IsReplyToValues before after reply
 
 -- What a run replies, where its source has some bytes left before it and others after it. Words that ask for nothing are
@@ -162,8 +230,7 @@ IsReplyToWork (Some Replay) before after reply = IsReplyToRead most_input IsRepl
 abbrev pub IsReply : List (List ℕ) → Option (List ℕ) → Option (List ℕ) → Reply → Type 0
 IsReply words before after reply = IsReplyToWork (work_of words) before after reply
 
--- The words ask for the analysis of all that the source has: a text within the limit that is accepted, and whose program
--- is of the form that is analysed so far.
+-- The words ask for the analysis of all that the source has: a text within the limit that is accepted.
 pub record IsToAnalyse (words : List (List ℕ)) (left : Option (List ℕ)) : Type 0 where
   pub asked : work_of words ≡ Some Analyse
   pub input : List ℕ
@@ -171,7 +238,15 @@ pub record IsToAnalyse (words : List (List ℕ)) (left : Option (List ℕ)) : Ty
   pub short : length input ≤ most_bytes
   pub program : Program
   pub accepted : Accepts input program
-  pub first : is_first_form program ≡ true
+
+-- The words ask for the certificate file of all that the source has: a text within the limit that is accepted.
+pub record IsToCertify (words : List (List ℕ)) (left : Option (List ℕ)) : Type 0 where
+  pub asked : work_of words ≡ Some Certify
+  pub input : List ℕ
+  pub whole : left ≡ Some input
+  pub short : length input ≤ most_bytes
+  pub program : Program
+  pub accepted : Accepts input program
 
 -- The words ask for one execution on all that the source has: an input within the limit that has its shape, and whose
 -- text is accepted.

@@ -10,9 +10,12 @@ use std::alloc::{AllocError, Global};
 const HELP: &[u8] = b"\
 cra: a verified analyser of numeric C
 
-usage: cra analyse | replay
+usage: cra analyse | certify | check | renew | replay
 
   analyse    reads the text of a program, and prints what is proved of it
+  certify    reads the text of a program, and prints its report with all that shows it, as JSON
+  check      reads a certificate file, and prints whether its answers show its report
+  renew      reads a certificate file, and where it passes prints one that is made anew
   replay     reads a text with values and turns as JSON, and prints one execution
   --help     prints this
   --version  prints the version

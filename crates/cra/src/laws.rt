@@ -1,4 +1,5 @@
 ghost use Rattle.cra.specs.Laws.{AcceptedIsNotRefused, AcceptedIsWellFormed, AcceptedOnce, AssertionsAscend};
+ghost use Rattle.cra.specs.Rules.{ClaimsKnowNoRule, RulesAreFree};
 
 /// A text is accepted as one program at most.
 pub fn accepted_once()
@@ -18,4 +19,14 @@ pub fn accepted_is_well_formed()
 /// The assertions of a program are numbered in the order of their places.
 pub fn assertions_ascend()
     ensures { AssertionsAscend }
+{}
+
+/// A program is well formed under each rule.
+pub fn rules_are_free()
+    ensures { RulesAreFree }
+{}
+
+/// Claims that are met under a rule are met.
+pub fn claims_know_no_rule()
+    ensures { ClaimsKnowNoRule }
 {}

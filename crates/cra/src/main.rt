@@ -9,19 +9,17 @@ use std::io::ErrorKind;
 use std::process::ExitCode;
 use std::{env, io};
 
-mod analysis;
-mod early;
-mod findings;
-mod first_form;
+mod certifying;
+mod checking;
 mod help;
 mod input;
-mod known;
 mod laws;
 mod limits;
 mod output;
 mod place;
 mod reading;
 mod refusal;
+mod renewing;
 mod replaying;
 mod reply;
 mod run;
@@ -31,7 +29,6 @@ mod tables;
 #[cfg(test)]
 mod tests;
 mod text;
-mod verdict;
 mod words;
 
 /// The words of the command line. Where the system gives words that are no text, there are none.

@@ -1,4 +1,4 @@
-ghost use Rattle.std.specs.Prelude.{◌≡◌, ◌≤◌, ◌++◌, length, IfOk};
+ghost use Rattle.std.specs.Prelude.{◌≡◌, ◌≤◌, length, IfOk};
 ghost use Rattle.cra.specs.Accepted.{Accepts};
 ghost use Rattle.cra.specs.Limits.{most_bytes};
 ghost use Rattle.cra.specs.Replies.{IsReplyToInput, IsReplyToValues, place_of, status_of, trace_reply, wrong_input, wrong_text};
@@ -11,27 +11,13 @@ use crate::reading::read;
 use crate::refusal::Refusal;
 use crate::reply::{Reply, line, refused_reply};
 use crate::status::Status;
-use crate::text::Text;
+use crate::text::between;
 use items::Items;
 use itoa::Buffer;
 use replay::{Place, Stop, Trace, failed_at, failed_stop_fails, follow, is_failed, print};
 use std::alloc::{AllocError, Global};
 use syntax_tree::Program;
 use wire::{Input, WireError, read_replay};
-
-/// A text between two others.
-fn between(alloc: Global, before: &[u8], text: &[u8], after: &[u8]) -> Result<Vec<u8>, AllocError>
-    ensures { IfOk result (λ whole. whole.items ≡ before.now ++ text.now ++ after.now) }
-{
-    let mut whole = Text {
-        bytes: Vec::new(alloc),
-    };
-    whole.put(before)?;
-    whole.put(text)?;
-    whole.put(after)?;
-    let Text { bytes } = whole;
-    Ok(bytes)
-}
 
 /// What is wrong with an input. Want of memory is nothing wrong.
 fn wrong_text(alloc: Global, error: &WireError) -> Result<Vec<u8>, AllocError>
@@ -54,7 +40,7 @@ fn wrong_text(alloc: Global, error: &WireError) -> Result<Vec<u8>, AllocError>
 }
 
 /// The answer to an input with which something is wrong.
-fn wrong_input(alloc: Global, error: &WireError) -> Result<Reply, AllocError>
+pub fn wrong_input(alloc: Global, error: &WireError) -> Result<Reply, AllocError>
     ensures reply { IfOk result (λ reply. reply ≡ wrong_input error.now) }
     ensures status { IfOk result (λ reply. IsAnswer reply.status) }
 {

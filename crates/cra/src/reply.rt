@@ -1,16 +1,21 @@
 ghost use Rattle.std.specs.Prelude.{◌≡◌, ◌≤◌, length, IfOk};
 ghost use Rattle.cra.specs.Accepted.{Accepts};
 ghost use Rattle.cra.specs.Limits.{most_bytes};
+ghost use Rattle.cra.specs.Stated.{IsAnalysed};
 ghost use Rattle.cra.specs.Replies.{IsReplyToShort, IsReplyToText, refused_reply, reply_of, wrong_words};
 ghost use Rattle.cra.specs.Status.{IsAnswer};
 
-use crate::analysis::analyse;
-use crate::first_form::is_first_form;
+use crate::laws::{accepted_is_well_formed, assertions_ascend};
 use crate::limits::MOST_BYTES;
+use crate::place::places_of;
 use crate::reading::read;
 use crate::refusal::{Refusal, refusal_text};
 use crate::status::Status;
+use analysis::analyse;
+use farkas_check::Answer;
+use finder::Finder;
 use items::Items;
+use posing::Log;
 use report::{Report, print, unproved};
 use std::alloc::{AllocError, Global};
 use syntax_tree::Program;
@@ -35,7 +40,11 @@ pub fn wrong_words(alloc: Global) -> Result<Reply, AllocError>
     ensures reply { IfOk result (λ reply. reply ≡ wrong_words) }
     ensures status { IfOk result (λ reply. IsAnswer reply.status) }
 {
-    line(alloc, Status::WrongWords, b"usage: cra analyse | replay\n")
+    line(
+        alloc,
+        Status::WrongWords,
+        b"usage: cra analyse | certify | check | renew | replay\n",
+    )
 }
 
 /// The answer that tells a report.
@@ -68,6 +77,28 @@ pub fn refused_reply(alloc: Global, text: &[u8], refusal: Refusal) -> Result<Rep
     })
 }
 
+/// The report of a program that a text spells, and the answers to its questions. The finder refuses no question, so the one
+/// error is want of memory.
+pub fn report_of(
+    alloc: Global,
+    text: &[u8],
+    program: &Program,
+) -> Result<(Report, Items<Answer>), AllocError>
+    requires short { length text.now ≤ most_bytes }
+    requires accepted { Accepts text.now program.now }
+    ensures { IfOk result (λ made. IsAnalysed text.now made.1 made.0) }
+{
+    accepted_is_well_formed();
+    assertions_ascend();
+    let places = places_of(alloc, text, program.checks.as_slice())?;
+    let mut finder = Finder::new();
+    let mut log = Log::new(alloc);
+    match analyse(alloc, program, places.as_slice(), &mut finder, &mut log) {
+        Ok(report) => Ok((report, log.answers)),
+        Err(_) => Err(AllocError),
+    }
+}
+
 /// The answer to a program that a text spells.
 fn reply_to_program(alloc: Global, text: &[u8], program: &Program) -> Result<Reply, AllocError>
     requires short { length text.now ≤ most_bytes }
@@ -75,13 +106,8 @@ fn reply_to_program(alloc: Global, text: &[u8], program: &Program) -> Result<Rep
     ensures reply { IfOk result (IsReplyToShort text.now) }
     ensures status { IfOk result (λ reply. IsAnswer reply.status) }
 {
-    if !is_first_form(alloc, program)? {
-        return line(alloc, Status::Refused, b"refused notyet\n");
-    }
-    match analyse(alloc, text, program) {
-        Ok(report) => reply_of(alloc, &report),
-        Err(_) => Err(AllocError),
-    }
+    let (report, _) = report_of(alloc, text, program)?;
+    reply_of(alloc, &report)
 }
 
 /// The answer to a text.

@@ -3,14 +3,17 @@ ghost use Rattle.std.specs.Io.KnownBytes.{append_known};
 ghost use Rattle.whole_numbers.specs.Counters.{Rose};
 ghost use Rattle.cra.specs.Output.{TookPart};
 ghost use Rattle.cra.specs.declared.reply.Reply.{Reply as Answer};
-ghost use Rattle.cra.specs.Replies.{IsReply, IsToAnalyse, IsToReplay};
+ghost use Rattle.cra.specs.Replies.{IsReply, IsToAnalyse, IsToCertify, IsToReplay};
 ghost use Rattle.cra.specs.Status.{IsAnswer};
 ghost use Rattle.cra.specs.Words.{reads_source, work_of};
 
+use crate::certifying::reply_to_source;
+use crate::checking::reply_to_file;
 use crate::help::{help, version};
 use crate::input::{InputError, read_input};
-use crate::limits::{MOST_BYTES, MOST_INPUT, PIECE};
+use crate::limits::{MOST_BYTES, MOST_FILE, MOST_INPUT, PIECE};
 use crate::output::write_all;
+use crate::renewing::reply_to_old_file;
 use crate::replaying::reply_to_values;
 use crate::reply::{Reply, reply_to_text, wrong_words};
 use crate::status::Status;
@@ -31,6 +34,18 @@ fn compose<R: Source>(alloc: Global, words: &[String], source: &mut R) -> Result
         Some(Work::Analyse) => {
             let input = read_input(alloc, source, MOST_BYTES, PIECE)?;
             Ok(reply_to_text(alloc, &input)?)
+        }
+        Some(Work::Certify) => {
+            let input = read_input(alloc, source, MOST_BYTES, PIECE)?;
+            Ok(reply_to_source(alloc, &input)?)
+        }
+        Some(Work::Check) => {
+            let input = read_input(alloc, source, MOST_FILE, PIECE)?;
+            Ok(reply_to_file(alloc, &input)?)
+        }
+        Some(Work::Renew) => {
+            let input = read_input(alloc, source, MOST_FILE, PIECE)?;
+            Ok(reply_to_old_file(alloc, &input)?)
         }
         Some(Work::Replay) => {
             let input = read_input(alloc, source, MOST_INPUT, PIECE)?;
@@ -55,9 +70,13 @@ pub fn run<R: Source, W: Sink>(
         × (result ≡ reply.status) × (W.taken sink.new ≡ append_known (W.taken sink.old) reply.text) }
     ensures unread { reads_source (work_of (map string_bytes words.now)) ≡ false → source.new ≡ source.old }
 
-    // A text of the form that is analysed has its report, where memory is not wanting and no count of faults rose.
+    // A text that is accepted has its report, where memory is not wanting and no count of faults rose.
     ensures complete { IsToAnalyse (map string_bytes words.now) (R.left source.old) → ¬ Rose (R.faults source.old) (R.faults source.new)
         → ¬ Rose (W.faults sink.old) (W.faults sink.new) → (result ≡ Status.AllProved) ⊎ (result ≡ Status.SomeUnproved) ⊎ (result ≡ Status.WantOfMemory) }
+
+    // So has its certificate file, which is written where it is within the limit.
+    ensures complete_certify { IsToCertify (map string_bytes words.now) (R.left source.old) → ¬ Rose (R.faults source.old) (R.faults source.new)
+        → ¬ Rose (W.faults sink.old) (W.faults sink.new) → (result ≡ Status.Certified) ⊎ (result ≡ Status.TooLong) ⊎ (result ≡ Status.WantOfMemory) }
 
     // An input whose text is accepted has its trace, where memory is not wanting and no count of faults rose.
     ensures complete_replay { IsToReplay (map string_bytes words.now) (R.left source.old) → ¬ Rose (R.faults source.old) (R.faults source.new)

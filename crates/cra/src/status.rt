@@ -12,6 +12,12 @@ pub enum Status {
     NoneFailed,
     /// An execution was followed, and ended at an assertion that failed.
     SomeFailed,
+    /// The certificate file of a text was told.
+    Certified,
+    /// A certificate file passed.
+    CheckPassed,
+    /// An answer of a certificate file does not pass, answers are left over, or its report is another.
+    CheckFailed,
     /// The help or the version was told.
     Told,
     /// The words ask for nothing.
@@ -25,7 +31,7 @@ pub enum Status {
     WantOfMemory,
     /// The input is no JSON text, or has a wrong shape.
     WrongInput,
-    /// The input is too long.
+    /// The input is too long, or the output would be.
     TooLong,
 }
 
@@ -39,6 +45,9 @@ impl Status {
             Status::SomeUnproved => 1,
             Status::NoneFailed => 0,
             Status::SomeFailed => 1,
+            Status::Certified => 0,
+            Status::CheckPassed => 0,
+            Status::CheckFailed => 8,
             Status::Told => 0,
             Status::WrongWords => 2,
             Status::Refused => 3,

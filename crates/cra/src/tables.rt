@@ -61,21 +61,32 @@ refused many parameters at 1:59: int f(int a,int b,int c,int d,int e,int f,int g
 refused many cases at 1:25: int main(void) { return (1<2)+(1<2)+(1<2)+(1<2)+(1<2)+(1<2)+(1<2)+(1<2)+(1<2); }
 ";
 
-/// Texts that are accepted, just outside the form that is analysed so far.
-pub(crate) const LEFT_OUT: &str = "\
-refused notyet: int main(void) {}
-refused notyet: int main(void) { assert(0 <= 0); assert(0 <= 0); }
-refused notyet: int main(void) { assert(0 < 0); }
-refused notyet: int main(void) { assert(0 >= 0); }
-refused notyet: int main(void) { assert(0); }
-refused notyet: int main(void) { assert(0 <= -1); }
-refused notyet: int main(void) { assert(0 <= 2 * 3); }
-refused notyet: int main(void) { assert(0 <= 1+1+1+1+1+1+1+1+1); }
-refused notyet: int main(void) { assert(0 <= 1); return 0; }
-refused notyet: int main(void) { if (1) ; assert(0 <= 1); }
-refused notyet: int g; int main(void) { assert(0 <= 1); }
-refused notyet: void f(void) { } int main(void) { assert(0 <= 1); }
-refused notyet: int main(void) { int a=1;int b=1;int c=1;int d=1;int e=1;int f=1;int g=1;int h=1;int i=1; assert(0 <= 1); }
-refused notyet: int main(void) { int x = x; assert(0 <= 1); }
-refused notyet: int main(void) { assume(0 <= 1); assert(0 <= 1); }
+/// Certificate files that pass.
+pub(crate) const CHECK_PASSED: &str = "\
+check passed | {\"answers\":[],\"report\":\"procedure main\\ncase 1\\n  $ret = $1\\ntotal 0 proved, 0 unproved\\n\",\"text\":\"int main(void){}\"}
+check passed | {\"answers\":[],\"order\":[],\"report\":\"procedure main\\ncase 1\\n  $ret = $1\\ntotal 0 proved, 0 unproved\\n\",\"text\":\"int main(void){}\",\"version\":2}
+check passed | {\"answers\":[{\"point\":[\"0\",\"0\"]},{\"point\":[\"1\",\"0\"]}],\"order\":[0,0,0,0,1],\"report\":\"procedure main\\ncase 1\\n  $1 - $2 <= 0\\n  $ret = $3\\nassertion 1 at 4:3 unproved\\n  -$1 + $2 + 1 <= 0\\n  a = $1\\n  b = $2\\n  point $1 = 1, $2 = 0\\ntotal 0 proved, 1 unproved\\n\",\"text\":\"int main(void) {\\n  int a = __VERIFIER_nondet_int();\\n  int b = __VERIFIER_nondet_int();\\n  assert(a <= b);\\n}\\n\",\"version\":2}
+check passed | {\"answers\":[{\"point\":[\"0\",\"0\"]},{\"point\":[\"0\",\"0\"]},{\"point\":[\"0\",\"0\"]},{\"point\":[\"0\",\"0\"]},{\"point\":[\"1\",\"0\"]}],\"report\":\"procedure main\\ncase 1\\n  $1 - $2 <= 0\\n  $ret = $3\\nassertion 1 at 4:3 unproved\\n  -$1 + $2 + 1 <= 0\\n  a = $1\\n  b = $2\\n  point $1 = 1, $2 = 0\\ntotal 0 proved, 1 unproved\\n\",\"text\":\"int main(void) {\\n  int a = __VERIFIER_nondet_int();\\n  int b = __VERIFIER_nondet_int();\\n  assert(a <= b);\\n}\\n\"}
+";
+
+/// Certificate files that do not pass.
+pub(crate) const CHECK_FAILED: &str = "\
+check failed: 1 answers left | {\"answers\":[{\"limit\":\"pivots\"}],\"report\":\"\",\"text\":\"int main(void){}\"}
+check failed: report differs at byte 0 | {\"answers\":[],\"order\":[],\"report\":\"Procedure main\\ncase 1\\n  $ret = $1\\ntotal 0 proved, 0 unproved\\n\",\"text\":\"int main(void){}\",\"version\":2}
+check failed: report differs at byte 22 | {\"answers\":[],\"order\":[],\"report\":\"procedure main\\ncase 1\\n\",\"text\":\"int main(void){}\",\"version\":2}
+check failed: answer 5 | {\"answers\":[{\"point\":[\"0\",\"0\"]},{\"point\":[\"1\",\"0\"]}],\"order\":[0,0,0,0],\"report\":\"procedure main\\ncase 1\\n  $1 - $2 <= 0\\n  $ret = $3\\nassertion 1 at 4:3 unproved\\n  -$1 + $2 + 1 <= 0\\n  a = $1\\n  b = $2\\n  point $1 = 1, $2 = 0\\ntotal 0 proved, 1 unproved\\n\",\"text\":\"int main(void) {\\n  int a = __VERIFIER_nondet_int();\\n  int b = __VERIFIER_nondet_int();\\n  assert(a <= b);\\n}\\n\",\"version\":2}
+check failed: 2 answers left | {\"answers\":[{\"point\":[\"0\",\"0\"]},{\"point\":[\"1\",\"0\"]}],\"order\":[0,0,0,0,1,1,0],\"report\":\"procedure main\\ncase 1\\n  $1 - $2 <= 0\\n  $ret = $3\\nassertion 1 at 4:3 unproved\\n  -$1 + $2 + 1 <= 0\\n  a = $1\\n  b = $2\\n  point $1 = 1, $2 = 0\\ntotal 0 proved, 1 unproved\\n\",\"text\":\"int main(void) {\\n  int a = __VERIFIER_nondet_int();\\n  int b = __VERIFIER_nondet_int();\\n  assert(a <= b);\\n}\\n\",\"version\":2}
+check failed: answer 3 | {\"answers\":[{\"point\":[\"0\",\"0\"]},{\"point\":[\"1\",\"0\"]},{\"point\":[\"0\"]}],\"order\":[0,0,2,0,1],\"report\":\"procedure main\\ncase 1\\n  $1 - $2 <= 0\\n  $ret = $3\\nassertion 1 at 4:3 unproved\\n  -$1 + $2 + 1 <= 0\\n  a = $1\\n  b = $2\\n  point $1 = 1, $2 = 0\\ntotal 0 proved, 1 unproved\\n\",\"text\":\"int main(void) {\\n  int a = __VERIFIER_nondet_int();\\n  int b = __VERIFIER_nondet_int();\\n  assert(a <= b);\\n}\\n\",\"version\":2}
+check failed: answer 2 | {\"answers\":[{\"point\":[\"0\",\"0\"]},{\"point\":[\"1\",\"0\"]}],\"order\":[0,0,0,0,1],\"report\":\"procedure main\\ncase 1\\n  $1 - $2 <= 0\\n  $ret = $3\\nassertion 1 at 4:3 unproved\\n  -$1 + $2 + 1 <= 0\\n  a = $1\\n  b = $2\\n  point $1 = 1, $2 = 0\\ntotal 0 proved, 1 unproved\\n\",\"text\":\"int main(void) {\\n  int a = __VERIFIER_nondet_int();\\n  int b = __VERIFIER_nondet_int();\\n  assert(a <= b);\\n}\\n\",\"version\":1}
+";
+
+/// Inputs that are no certificate files.
+pub(crate) const CHECKED_WRONG: &str = "\
+input has a wrong shape at /answers/0/point/0 | {\"answers\":[{\"point\":[\"2/4\"]}],\"report\":\"\",\"text\":\"\"}
+input has a wrong shape at /text | {\"answers\":[],\"report\":\"\"}
+version 3 is not known | {\"version\":3}
+input has a wrong shape at /version | {\"version\":\"2\"}
+input has a wrong shape at /order/0 | {\"answers\":[],\"order\":[0],\"report\":\"procedure main\\ncase 1\\n  $ret = $1\\ntotal 0 proved, 0 unproved\\n\",\"text\":\"int main(void){}\",\"version\":2}
+input has a wrong shape at  | []
+input is not JSON | {
 ";

@@ -1,5 +1,6 @@
 use crate::laws::{
     accepted_is_not_refused, accepted_is_well_formed, accepted_once, assertions_ascend,
+    claims_know_no_rule, rules_are_free,
 };
 use crate::limits::{MOST_BYTES, MOST_INPUT};
 use crate::run::run;
@@ -9,7 +10,7 @@ use std::alloc::Global;
 use std::process::Abort;
 use std::test::Fail;
 
-const USAGE: &[u8] = b"usage: cra analyse | replay\n";
+const USAGE: &[u8] = b"usage: cra analyse | certify | check | renew | replay\n";
 
 const TOO_LONG: &[u8] = b"input is too long\n";
 
@@ -35,7 +36,7 @@ const WIDE: &[u8] =
     b"int main(void){int a=__VERIFIER_nondet_int();int b=a+a-3;int c=b-a+9223372036854775807;\nassert(c+2<=b-1+a);}";
 
 const WIDE_REPORT: &[u8] =
-    b"procedure main\ncase 1\n  -$1 + 4611686018427387905 <= 0\n  $ret = $2\nassertion 1 at 2:1 unproved\n  $1 - 4611686018427387904 <= 0\n  a = $1\n  b = 2*$1 - 3\n  c = $1 + 9223372036854775804\n  point $1 = 0\ntotal 0 proved, 1 unproved\n";
+    b"procedure main\ncase 1\n  -$1 + 4611686018427387905 <= 0\n  $ret = $2\nassertion 1 at 2:1 unproved\n  $1 - 4611686018427387904 <= 0\n  a = $1\n  b = 2*$1 - 3\n  c = $1 + 9223372036854775804\n  point $1 = 4611686018427387904\ntotal 0 proved, 1 unproved\n";
 
 const PLAIN: &[u8] = b"int main(void) { assert(0 <= 0); }";
 
@@ -61,6 +62,40 @@ const SPACED: &[u8] =
 
 const SPACED_REPORT: &[u8] =
     b"procedure main\ncase 1\n  $ret = $1\nassertion 1 at 3:2 proved\ntotal 1 proved, 0 unproved\n";
+
+// A sum of a progression in a loop.
+const SUM: &[u8] =
+    b"int main(void) {\n  int n = __VERIFIER_nondet_int();\n  int i = 0;\n  int s = 0;\n  assume(n >= 0);\n  while (i < n) {\n    s += i;\n    i++;\n  }\n  assert(2 * s == n * n - n);\n}\n";
+
+const SUM_REPORT: &[u8] =
+    b"procedure main\ncase 1\n  $ret = $1\ncase 2\n  -$2 + 1 <= 0\n  $2*$2 - 2*$1 - $2 = 0\n  $ret = $3\nassertion 1 at 10:3 proved\ntotal 1 proved, 0 unproved\n";
+
+// The same by recursion.
+const TRIANGLE: &[u8] =
+    b"int sum(int n) { if (n <= 0) return 0; return n + sum(n - 1); }\nint main(void) {\n  int m = __VERIFIER_nondet_int();\n  assume(m >= 0);\n  assert(2 * sum(m) == m * m + m);\n}\n";
+
+const TRIANGLE_REPORT: &[u8] =
+    b"procedure sum\ncase 1\n  n <= 0\n  $ret = 0\ncase 2\n  n*n + n - 2*$1 = 0\n  -n + 1 <= 0\n  n - $1 <= 0\n  $ret = $1\nprocedure main\ncase 1\n  $ret = $1\ncase 2\n  -$1 + 1 <= 0\n  $1*$1 + $1 - 2*$2 = 0\n  $1 - $2 <= 0\n  $ret = $3\nassertion 1 at 5:3 proved\ntotal 1 proved, 0 unproved\n";
+
+// A global that is set back behind a call, and an assertion that fails in the fourth activation.
+const BALANCED: &[u8] =
+    b"int g;\nvoid f(int n) { assert(g <= 2); if (n <= 0) return; g = g + 1; f(n - 1); g = g - 1; }\nint main(void) { f(3); }\n";
+
+const BALANCED_REPORT: &[u8] =
+    b"procedure f\ncase 1\n  g - 2 <= 0\n  n <= 0\n  g' = g\ncase 2\n  -n + 1 <= 0\n  g + n - 2 <= 0\n  g' = g\nprocedure main\ncase 1\n  g + 1 <= 0\n  g' = g\n  $ret = $1\nassertion 1 at 2:17 unproved\n  g = 3\n  n = 0\n  point none\ntotal 0 proved, 1 unproved\n";
+
+// A call that is never made.
+const ERROR: &[u8] =
+    b"void reach_error(void) { assert(0); }\nint main(void) {\n  int x = 0;\n  int y = 0;\n  while (x < 100) {\n    x = x + 1;\n    y = y + 2;\n  }\n  if (y != 200) reach_error();\n  return 0;\n}\n";
+
+const ERROR_REPORT: &[u8] =
+    b"procedure reach_error\nnone\nprocedure main\ncase 1\n  $ret = 0\nassertion 1 at 1:26 proved\ntotal 1 proved, 0 unproved\n";
+
+// A quotient is cut off towards zero.
+const QUOTIENT: &[u8] = b"int main(void) {\n  assert(7 / -2 == -4);\n}\n";
+
+const QUOTIENT_REPORT: &[u8] =
+    b"procedure main\nnone\nassertion 1 at 2:3 unproved\n  point none\ntotal 0 proved, 1 unproved\n";
 
 // Inputs on which an execution is followed, each with its status and its output.
 const REPLAYS: [(&[u8], u8, &[u8]); 16] = [
@@ -138,6 +173,18 @@ const REPLAYS: [(&[u8], u8, &[u8]); 16] = [
     ),
 ];
 
+// Texts and their certificate files, that an independent model of the rules gives.
+const CERTIFICATES: [(&[u8], &[u8]); 2] = [
+    (
+        b"int main(void){}",
+        b"{\"answers\":[],\"order\":[],\"report\":\"procedure main\\ncase 1\\n  $ret = $1\\ntotal 0 proved, 0 unproved\\n\",\"text\":\"int main(void){}\",\"version\":2}\n",
+    ),
+    (
+        PLAIN,
+        b"{\"answers\":[],\"order\":[],\"report\":\"procedure main\\ncase 1\\n  $ret = $1\\nassertion 1 at 1:18 proved\\ntotal 1 proved, 0 unproved\\n\",\"text\":\"int main(void) { assert(0 <= 0); }\",\"version\":2}\n",
+    ),
+];
+
 /// How a run went: its status, and what its sink took.
 #[derive(Drop)]
 struct Ended {
@@ -172,7 +219,7 @@ fn run_on(alloc: Global, words: &[&str], input: &[u8], outside: Outside) -> Resu
         most,
         [outside.failing_read].to_vec(alloc)?,
     );
-    let mut sink = MemorySink::new(alloc, 1000, most, [outside.failing_write].to_vec(alloc)?)?;
+    let mut sink = MemorySink::new(alloc, 20_000, most, [outside.failing_write].to_vec(alloc)?)?;
     let status = run(alloc, &given, &mut source, &mut sink).code();
     Ok(Ended {
         status,
@@ -191,11 +238,64 @@ fn reports(rt: HostRuntime) -> Result<(), Fail> {
         (AGAIN, 1, AGAIN_REPORT),
         (HIDDEN, 1, HIDDEN_REPORT),
         (SPACED, 0, SPACED_REPORT),
+        (SUM, 0, SUM_REPORT),
+        (TRIANGLE, 0, TRIANGLE_REPORT),
+        (BALANCED, 1, BALANCED_REPORT),
+        (ERROR, 0, ERROR_REPORT),
+        (QUOTIENT, 1, QUOTIENT_REPORT),
     ];
     for (input, status, text) in cases {
         let ended = run_on(rt.alloc(), &["cra", "analyse"], input, GOOD)?;
         assert_eq!(rt; ended.status, status);
         assert_eq!(rt; ended.text.as_slice(), text);
+    }
+    Ok(())
+}
+
+#[test]
+fn certificates(rt: HostRuntime) -> Result<(), Fail> {
+    for (input, file) in CERTIFICATES {
+        let ended = run_on(rt.alloc(), &["cra", "certify"], input, GOOD)?;
+        assert_eq!(rt; ended.status, 0);
+        assert_eq!(rt; ended.text.as_slice(), file);
+    }
+    Ok(())
+}
+
+/// Whether each input of a table is answered by `check` with this status and the line that stands before it.
+fn checked(alloc: Global, rt: &impl Abort, status: u8, table: &str) -> Result<(), Fail> {
+    for row in table.lines() {
+        let (line, file) = row.split_once(" | ").ok_or("no row")?;
+        let line = format!(in alloc; "{line}\n")?;
+        let ended = run_on(alloc, &["cra", "check"], file.as_bytes(), GOOD)?;
+        assert_eq!(rt; ended.status, status);
+        assert_eq!(rt; ended.text.as_slice(), line.as_bytes());
+    }
+    Ok(())
+}
+
+// Rows of files and outputs that an independent model of the rules gives.
+#[test]
+fn checks(rt: HostRuntime) -> Result<(), Fail> {
+    let alloc = rt.alloc();
+    checked(alloc, &rt, 0, tables::CHECK_PASSED)?;
+    checked(alloc, &rt, 8, tables::CHECK_FAILED)?;
+    checked(alloc, &rt, 7, tables::CHECKED_WRONG)
+}
+
+#[test]
+fn certificates_pass(rt: HostRuntime) -> Result<(), Fail> {
+    for input in [
+        PROVED, UNPROVED, FALSE, WIDE, AGAIN, HIDDEN, SUM, TRIANGLE, BALANCED, ERROR, QUOTIENT,
+    ] {
+        let file = run_on(rt.alloc(), &["cra", "certify"], input, GOOD)?;
+        assert_eq!(rt; file.status, 0);
+        let ended = run_on(rt.alloc(), &["cra", "check"], &file.text, GOOD)?;
+        assert_eq!(rt; ended.status, 0);
+        assert_eq!(rt; ended.text.as_slice(), b"check passed\n".as_slice());
+        let again = run_on(rt.alloc(), &["cra", "renew"], &file.text, GOOD)?;
+        assert_eq!(rt; again.status, 0);
+        assert_eq!(rt; again.text.as_slice(), file.text.as_slice());
     }
     Ok(())
 }
@@ -295,11 +395,6 @@ fn refused_by_elaboration(rt: HostRuntime) -> Result<(), Fail> {
     check(alloc, &rt, tables::REFUSED_BY_NAMES)?;
     check(alloc, &rt, tables::REFUSED_BY_CALLS)?;
     check(alloc, &rt, tables::REFUSED_BY_COUNTS)
-}
-
-#[test]
-fn left_out(rt: HostRuntime) -> Result<(), Fail> {
-    check(rt.alloc(), &rt, tables::LEFT_OUT)
 }
 
 // Each limit that a short text does not pass.
@@ -416,4 +511,6 @@ fn laws(_rt: HostRuntime) {
     accepted_is_not_refused();
     accepted_is_well_formed();
     assertions_ascend();
+    rules_are_free();
+    claims_know_no_rule();
 }

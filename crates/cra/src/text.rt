@@ -1,7 +1,7 @@
-ghost use Rattle.std.specs.Prelude.{◌≡◌, ◌++◌, OnOk, decimal};
+ghost use Rattle.std.specs.Prelude.{◌≡◌, ◌++◌, IfOk, OnOk, decimal};
 
 use itoa::Buffer;
-use std::alloc::AllocError;
+use std::alloc::{AllocError, Global};
 
 /// A text that is being made.
 #[derive(Debug, Drop)]
@@ -21,4 +21,23 @@ impl Text {
     {
         self.put(Buffer::new().format(n).as_bytes())
     }
+}
+
+/// A text between two others.
+pub(crate) fn between(
+    alloc: Global,
+    before: &[u8],
+    text: &[u8],
+    after: &[u8],
+) -> Result<Vec<u8>, AllocError>
+    ensures { IfOk result (λ whole. whole.items ≡ before.now ++ text.now ++ after.now) }
+{
+    let mut whole = Text {
+        bytes: Vec::new(alloc),
+    };
+    whole.put(before)?;
+    whole.put(text)?;
+    whole.put(after)?;
+    let Text { bytes } = whole;
+    Ok(bytes)
 }

@@ -6,6 +6,12 @@ ghost use Rattle.cra.specs.Words.{work_named, work_of};
 pub enum Work {
     /// The report of a text.
     Analyse,
+    /// The certificate file of a text.
+    Certify,
+    /// Whether a certificate file passes.
+    Check,
+    /// The certificate file of the text of one that passes.
+    Renew,
     /// One execution of a text on given values.
     Replay,
     Help,
@@ -18,6 +24,9 @@ fn work_named(word: &str) -> Option<Work>
 {
     match word {
         "analyse" => Some(Work::Analyse),
+        "certify" => Some(Work::Certify),
+        "check" => Some(Work::Check),
+        "renew" => Some(Work::Renew),
         "replay" => Some(Work::Replay),
         "--help" => Some(Work::Help),
         "--version" => Some(Work::Version),

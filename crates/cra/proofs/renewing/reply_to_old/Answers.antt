@@ -1,0 +1,13 @@
+use Rattle.std.proofs.Common.{◌≡◌, rules, IfOk, List, ℕ, subst}
+use Rattle.cra.specs.Replies.{IsRenewed, IsRenewedBy}
+use Rattle.cra.proofs.Checks.{where-ok}
+use Rattle.cra.proofs.renewing.reply_to_old.Goals as goal
+
+pub returns-clause-reply : goal.returns-clause-reply
+returns-clause-reply c =
+    let file = c.args.file in
+    let checked = c.in_ok-checked.checked in
+    let text : c.as_bytes.result.now ≡ file.text = search rules in
+    let renewed = subst (λ (text : List ℕ). IfOk c.renewed.result (IsRenewedBy text checked)) text c.renewed.ensures.reply in
+    where-ok c.renewed.result (IsRenewedBy file.text checked) (IsRenewed file)
+    (λ reply is. record { checked = checked; is_checked = c.in_ok-checked.ensures.reply; is_renewed = is }) renewed

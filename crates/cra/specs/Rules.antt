@@ -1,0 +1,25 @@
+-- The rule by which iterations are summed up is that of a file's version, and no execution knows it.
+use Rattle.std.specs.Prelude.{ℕ, ◌≤◌}
+use Rattle.syntax_tree.specs.declared.program.Program.{Program}
+use Rattle.syntax_tree.specs.WellFormed.{IsWellFormed}
+use Rattle.report.specs.declared.blocks.Report.{Report}
+use Rattle.report.specs.Claims.{ClaimsAreMet}
+use Rattle.wire.specs.declared.certificate.Version.{Version}
+use Rattle.wire.specs.declared.certificate.Version.TheVariants.{First, Second}
+
+abbrev pub rule_of : Version → ℕ
+rule_of First = 1
+rule_of Second = 2
+
+-- a program with another rule
+abbrev pub with_rule : ℕ → Program → Program
+with_rule rule program =
+    record { globals = program.globals; procs = program.procs; main = program.main; checks = program.checks; rule = rule }
+
+-- a program is well formed under each rule that there is
+abbrev pub RulesAreFree : Type 0
+RulesAreFree = (program : Program) (rule : ℕ) → IsWellFormed program → 1 ≤ rule → rule ≤ 3 → IsWellFormed (with_rule rule program)
+
+-- claims that are met under a rule are met
+abbrev pub ClaimsKnowNoRule : Type 0
+ClaimsKnowNoRule = (program : Program) (rule : ℕ) (report : Report) → ClaimsAreMet (with_rule rule program) report → ClaimsAreMet program report

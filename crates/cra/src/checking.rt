@@ -1,0 +1,236 @@
+ghost use Rattle.std.specs.Prelude.{◌≡◌, ◌<◌, ◌≤◌, ◌+◌, ◌-◌, true, false, [], drop, IfOk, IsTrue, codes, length, map, nat_eq};
+ghost use Rattle.std.specs.List.{common_prefix_len};
+ghost use Rattle.c_lexer.specs.Laws.{ascends_from};
+ghost use Rattle.syntax_tree.specs.WellFormed.{IsWellFormed};
+ghost use Rattle.report.specs.Text.{text_of};
+ghost use Rattle.wire.specs.Written.{IsOrder, IsWritable};
+ghost use Rattle.cra.specs.Accepted.{Accepts};
+ghost use Rattle.cra.specs.Checked.{answers_in};
+ghost use Rattle.cra.specs.Limits.{most_bytes};
+ghost use Rattle.cra.specs.Outcomes.{IsReplyOfPosed};
+ghost use Rattle.cra.specs.Replies.{IsReplyToChecked, IsReplyToFile, compared_reply, failed, finished_reply};
+ghost use Rattle.cra.specs.Rules.{rule_of, with_rule};
+ghost use Rattle.cra.specs.Stated.{text_place};
+ghost use Rattle.cra.specs.Status.{IsAnswer};
+
+use crate::laws::{
+    accepted_is_well_formed, assertions_ascend, claims_know_no_rule, rules_are_free,
+};
+use crate::limits::MOST_FILE;
+use crate::place::places_of;
+use crate::reading::read;
+use crate::refusal::Refusal;
+use crate::replaying::wrong_input;
+use crate::reply::{Reply, line, refused_reply};
+use crate::status::Status;
+use crate::text::Text;
+use analysis::{analyse, plan};
+use farkas_check::Answer;
+use items::Items;
+use posing::{Log, WorkError};
+use report::{Report, print};
+use std::alloc::{AllocError, Global};
+use syntax_tree::Program;
+use wire::{Certificate, Replay, Version, WireError, read_certificate};
+
+/// The answer to a file that does not pass.
+fn failed(alloc: Global, before: &[u8], number: u128, after: &[u8]) -> Result<Reply, AllocError>
+    ensures reply { IfOk result (λ reply. reply ≡ failed before.now number after.now) }
+    ensures status { IfOk result (λ reply. IsAnswer reply.status) }
+{
+    let mut text = Text {
+        bytes: Vec::new(alloc),
+    };
+    text.put(b"check failed: ")?;
+    text.put(before)?;
+    text.put_count(number)?;
+    text.put(after)?;
+    text.put(b"\n")?;
+    let Text { bytes } = text;
+    Ok(Reply {
+        status: Status::CheckFailed,
+        text: Items::from_vec(bytes),
+    })
+}
+
+/// Whether both have the same byte at a place.
+fn same_at(one: &[u8], other: &[u8], at: usize) -> bool
+    ensures more { result ≡ true → at < length one.now }
+    ensures next { result ≡ true → common_prefix_len nat_eq (drop at one.now) (drop at other.now) ≡ 1 + common_prefix_len nat_eq (drop (at + 1) one.now) (drop (at + 1) other.now) }
+    ensures end { result ≡ false → common_prefix_len nat_eq (drop at one.now) (drop at other.now) ≡ 0 }
+{
+    match (one.get(at), other.get(at)) {
+        (Some(byte), Some(beside)) => *byte == *beside,
+        _ => false,
+    }
+}
+
+/// How many bytes two texts have in common from the front on.
+fn common_len(one: &[u8], other: &[u8]) -> usize
+    ensures { result ≡ common_prefix_len nat_eq one.now other.now }
+{
+    let mut len = 0;
+    while same_at(one, other, len) {
+        len += 1;
+    }
+    len
+}
+
+/// The answer by a report that was made and the one that is told.
+fn compared_reply(alloc: Global, made: &[u8], told: &[u8]) -> Result<Reply, AllocError>
+    ensures reply { IfOk result (λ reply. reply ≡ compared_reply made.now told.now) }
+    ensures status { IfOk result (λ reply. IsAnswer reply.status) }
+{
+    if made == told {
+        return line(alloc, Status::CheckPassed, b"check passed\n");
+    }
+    failed(
+        alloc,
+        b"report differs at byte ",
+        common_len(made, told) as u128,
+        b"",
+    )
+}
+
+/// The answer by a report that was made, where so many answers are left.
+fn finished_reply(
+    alloc: Global,
+    made: &Report,
+    told: &[u8],
+    left: usize,
+) -> Result<Reply, AllocError>
+    ensures reply { IfOk result (λ reply. reply ≡ finished_reply (text_of made.now) told.now left) }
+    ensures status { IfOk result (λ reply. IsAnswer reply.status) }
+{
+    if left == 0 {
+        let made = print(alloc, made)?;
+        return compared_reply(alloc, &made, told);
+    }
+    failed(alloc, b"", left as u128, b" answers left")
+}
+
+/// The answer where the analysis came to a question without an answer that passes: so many are left of all.
+fn stuck_reply(alloc: Global, all: usize, left: usize) -> Result<Reply, AllocError>
+    ensures reply { IfOk result (λ reply. reply ≡ failed (codes "answer ") (all - left + 1) []) }
+    ensures status { IfOk result (λ reply. IsAnswer reply.status) }
+{
+    let number = all.saturating_sub(left) as u128 + 1;
+    failed(alloc, b"answer ", number, b"")
+}
+
+/// The answer by what the analysis of a program of a text comes to under the answers of a replay.
+fn posed_reply(
+    alloc: Global,
+    text: &[u8],
+    program: &Program,
+    replay: Replay,
+    told: &[u8],
+) -> Result<Reply, AllocError>
+    requires short { length text.now ≤ most_bytes }
+    requires formed { IsWellFormed program.now }
+    requires ascend { IsTrue (ascends_from 0 program.now.checks) }
+    ensures reply { IfOk result (IsReplyOfPosed program.now (map (text_place text.now) program.now.checks) replay.left told.now) }
+    ensures status { IfOk result (λ reply. IsAnswer reply.status) }
+{
+    let mut replay = replay;
+    let all = replay.left();
+    let places = places_of(alloc, text, program.checks.as_slice())?;
+    let Ok(_) = plan(alloc, program) else {
+        return Err(AllocError);
+    };
+    let mut log = Log::new(alloc);
+    match analyse(alloc, program, places.as_slice(), &mut replay, &mut log) {
+        Ok(made) => finished_reply(alloc, &made, told, replay.left()),
+        Err(WorkError::Refused) => stuck_reply(alloc, all, replay.left()),
+        Err(WorkError::Memory) => Err(AllocError),
+    }
+}
+
+/// A program with another rule.
+fn with_rule(program: Program, rule: u32) -> Program
+    ensures { result ≡ with_rule rule program }
+{
+    let mut program = program;
+    program.rule = rule;
+    program
+}
+
+/// The rule of a file of a version.
+fn rule_of(version: Version) -> u32
+    ensures rule { result ≡ rule_of version }
+    ensures first { 1 ≤ result }
+    ensures last { result ≤ 3 }
+{
+    match version {
+        Version::First => 1,
+        Version::Second => 2,
+    }
+}
+
+/// The replay of the answers of a file of a version, in the order of the questions that they are for.
+fn replay_of(version: Version, answers: Items<Answer>, order: Items<usize>) -> Replay
+    requires { IsOrder version (length answers) order }
+    ensures { result.left ≡ answers_in version answers order }
+{
+    match version {
+        Version::First => Replay::new(answers),
+        Version::Second => Replay::shared(answers, order),
+    }
+}
+
+/// The answer to a file whose text spells a program.
+fn reply_to_accepted(
+    alloc: Global,
+    file: Certificate,
+    program: Program,
+) -> Result<Reply, AllocError>
+    requires writable { IsWritable file }
+    requires accepted { Accepts file.text program }
+    ensures reply { IfOk result (IsReplyToChecked file) }
+    ensures status { IfOk result (λ reply. IsAnswer reply.status) }
+{
+    accepted_is_well_formed();
+    assertions_ascend();
+    rules_are_free();
+    claims_know_no_rule();
+    let Certificate {
+        version,
+        text,
+        report,
+        answers,
+        order,
+    } = file;
+    let program = with_rule(program, rule_of(version));
+    let replay = replay_of(version, answers, order);
+    let text = text.as_str().as_bytes();
+    posed_reply(alloc, text, &program, replay, report.as_str().as_bytes())
+}
+
+/// The answer to a file.
+pub fn reply_to_checked(alloc: Global, file: Certificate) -> Result<Reply, AllocError>
+    requires { IsWritable file }
+    ensures reply { IfOk result (IsReplyToChecked file) }
+    ensures status { IfOk result (λ reply. IsAnswer reply.status) }
+{
+    let text = file.text.as_str().as_bytes();
+    match read(alloc, text) {
+        Ok(program) => reply_to_accepted(alloc, file, program),
+        Err(Refusal::Memory) => Err(AllocError),
+        Err(refusal) => refused_reply(alloc, text, refusal),
+    }
+}
+
+/// The answer to bytes that are to be checked as a certificate file.
+pub fn reply_to_file(alloc: Global, bytes: &[u8]) -> Result<Reply, AllocError>
+    ensures reply { IfOk result (IsReplyToFile bytes.now) }
+    ensures status { IfOk result (λ reply. IsAnswer reply.status) }
+{
+    if bytes.len() > MOST_FILE {
+        return line(alloc, Status::TooLong, b"input is too long\n");
+    }
+    match read_certificate(alloc, bytes) {
+        Ok(file) => reply_to_checked(alloc, file),
+        Err(WireError::Memory) => Err(AllocError),
+        Err(error) => wrong_input(alloc, &error),
+    }
+}
