@@ -11,57 +11,18 @@ use items::Items;
 use leaf_cases::{falsity, leaf, met_calls_are_known, truth};
 use linear_terms::{Case, Poly};
 use polynomial_texts::case;
-use std::alloc::Global;
+use std::alloc::{AllocError, Global};
 use std::fmt::Write;
-use std::process::Abort;
-use std::test::Fail;
 use syntax_tree::{Core, Proc, Program};
-use transition_formula::{Formula, FormulaError, Loss};
-
-/// Procedures of which the first is `f`; the one case of the known formula of the second, if there is one; and the formulas of the
-/// edges of `f`, but for those that do nothing. A case is how many auxiliaries it has, its rows, and its posts but for those that
-/// are their column. What was lost stands behind a formula.
-const LEAVES: &str = "\
-int x; int y; void f(void) { assume(x < y); assume(!(x < y)); assume(x <= y); assume(!(x <= y)); } void main(void) {}
--
-0 | x0 - x1 + 1 <= 0 / 0 | -x0 + x1 <= 0 / 0 | x0 - x1 <= 0 / 0 | -x0 + x1 + 1 <= 0
-int x; int y; void f(void) { assume(x > y); assume(!(x > y)); assume(x >= y); assume(!(x >= y)); } void main(void) {}
--
-0 | -x0 + x1 + 1 <= 0 / 0 | x0 - x1 <= 0 / 0 | -x0 + x1 <= 0 / 0 | x0 - x1 + 1 <= 0
-int x; int y; void f(void) { assume(x == y); assume(!(x == y)); assume(x != y); assume(!(x != y)); } void main(void) {}
--
-0 | x0 - x1 = 0 / 0 | x0 - x1 + 1 <= 0 or 0 | -x0 + x1 + 1 <= 0 / 0 | x0 - x1 + 1 <= 0 or 0 | -x0 + x1 + 1 <= 0 / 0 | x0 - x1 = 0
-int x; int y; void f(void) { assume(-x); assume(!x); assume(!+x); assume(!(x * y)); } void main(void) {}
--
-0 | -x0 + 1 <= 0 or 0 | x0 + 1 <= 0 / 0 | x0 = 0 / 0 | x0 = 0 / 0 | x0*x1 = 0
-int x; int y; void f(void) { assume(x < 3 && y); assume(!(x < 3 && y)); assume(!(x < 3 || y)); } void main(void) {}
--
-0 | x0 - 2 <= 0 | x1 + 1 <= 0 or 0 | x0 - 2 <= 0 | -x1 + 1 <= 0 / 0 | -x0 + 3 <= 0 or 0 | x0 - 2 <= 0 | x1 = 0 / 0 | -x0 + 3 <= 0 | x1 = 0
-int x; int y; void f(void) { assume(!((x < y) + 1)); } void main(void) {}
--
-0 | x0 - x1 + 1 <= 0 | 2 = 0 or 0 | -x0 + x1 <= 0 | 1 = 0
-int x; void f(void) { assume(!(x % 2)); } void main(void) {}
--
-2 | x0 - 2*$1 - $2 = 0 | -1 <= 0 | -x0 <= 0 | -$2 <= 0 | $2 - 1 <= 0 | $2 = 0 or 2 | x0 - 2*$1 - $2 = 0 | -1 <= 0 | x0 + 1 <= 0 | -$2 - 1 <= 0 | $2 <= 0 | $2 = 0 or 2 | x0 - 2*$1 - $2 = 0 | 3 <= 0 | -x0 <= 0 | -$2 <= 0 | $2 + 3 <= 0 | $2 = 0 or 2 | x0 - 2*$1 - $2 = 0 | 3 <= 0 | x0 + 1 <= 0 | -$2 + 3 <= 0 | $2 <= 0 | $2 = 0
-int x; int y; void f(void) { assume(9223372036854775807 * 9223372036854775807 * (x + x + x) < y); y = x * x * x * x * x; } void main(void) {}
--
-1 | -x1 + $1 + 1 <= 0 ! 85070591730234615847396907784232501249 * 3 / 1 ; x1 = $1 ! degree
-int x; int y; void f(void) { assume(x * x * x < y * y + x * x * y * y * y); } void main(void) {}
--
-1 | x0*x0*x0 - x1*x1 - $1 + 1 <= 0 ! degree
-int f(void) { int x; x = x - 2; x = __VERIFIER_nondet_int(); f(); } void main(void) {}
--
-1 ; x0 = $1 / 0 ; x0 = x0 - 2 / 1 ; x0 = $1 / nothing
-int x; int f(int y, int z) { z = g(y + 1); return z; } int g(int n) { return n; } void main(void) {}
-0 | x1 - 5 <= 0 ; x0 + x1 ; 2*x1
-0 | x1 - 4 <= 0 ; x0 = x0 + x1 + 1 ; x2 = 2*x1 + 2 / 0 ; x3 = x2
-int x; int f(int y) { g(y); } int g(int n) { return n; } void main(void) {}
-1 | x1 - $1 <= 0 | x0*$1 - 4 = 0 ; x0*x1*$1 ; $1
-1 | x1 - $1 <= 0 | x0*$1 - 4 = 0 ; x0 = x0*x1*$1
-";
+use transition_formula::{Formula, Loss};
 
 /// A post, unless it is the column.
-fn show_post(alloc: Global, out: &mut String, column: usize, post: &Poly) -> Result<(), Fail> {
+fn show_post(
+    alloc: Global,
+    out: &mut String,
+    column: usize,
+    post: &Poly,
+) -> Result<(), AllocError> {
     let text = format!(in alloc; "{post}")?;
     let own = format!(in alloc; "x{column}")?;
     if text.as_str() != own.as_str() {
@@ -70,7 +31,8 @@ fn show_post(alloc: Global, out: &mut String, column: usize, post: &Poly) -> Res
     Ok(())
 }
 
-fn show_case(alloc: Global, out: &mut String, case: &Case) -> Result<(), Fail> {
+/// How many auxiliaries a case has, its rows, and its posts but for those that are their column.
+fn show_case(alloc: Global, out: &mut String, case: &Case) -> Result<(), AllocError> {
     write!(out, "{}", case.aux)?;
     for row in case.rows.as_slice() {
         write!(out, " | {row}")?;
@@ -81,40 +43,42 @@ fn show_case(alloc: Global, out: &mut String, case: &Case) -> Result<(), Fail> {
     Ok(())
 }
 
-fn show_losses(out: &mut String, losses: &[Loss]) -> Result<(), Fail> {
-    for loss in losses {
-        match loss {
-            Loss::Wide { left, right, times } => {
-                let mark = if *times { "*" } else { "+" };
-                write!(out, " ! {left} {mark} {right}")?;
-            }
-            Loss::Degree => write!(out, " ! degree")?,
+fn show_loss(out: &mut String, loss: Loss) -> Result<(), AllocError> {
+    match loss {
+        Loss::Wide { left, right, times } => {
+            let mark = if times { "*" } else { "+" };
+            write!(out, " ! {left} {mark} {right}")
         }
+        Loss::Degree => write!(out, " ! degree"),
+    }
+}
+
+fn show_cases(alloc: Global, out: &mut String, cases: &[Case]) -> Result<(), AllocError> {
+    let mut mark = "";
+    for case in cases {
+        write!(out, "{mark}")?;
+        show_case(alloc, out, case)?;
+        mark = " or ";
     }
     Ok(())
 }
 
-/// A formula and what was lost, or that there is no memory.
-fn shown(
+/// A formula and what was lost.
+fn show_formula(
     alloc: Global,
-    formula: Result<Formula, FormulaError>,
+    out: &mut String,
+    formula: &Formula,
     losses: &[Loss],
-) -> Result<String, Fail> {
-    let Ok(formula) = formula else {
-        return Err("no memory".into());
-    };
-    let mut out = String::new(alloc);
-    let mut mark = "";
-    for case in formula.cases() {
-        write!(out, "{mark}")?;
-        show_case(alloc, &mut out, case)?;
-        mark = " or ";
-    }
-    if formula.cases().is_empty() {
+) -> Result<(), AllocError> {
+    let cases = formula.cases();
+    if cases.is_empty() {
         write!(out, "nothing")?;
     }
-    show_losses(&mut out, losses)?;
-    Ok(out)
+    show_cases(alloc, out, cases)?;
+    for loss in losses {
+        show_loss(out, *loss)?;
+    }
+    Ok(())
 }
 
 fn have_few(cases: &[Case]) -> bool
@@ -166,20 +130,21 @@ fn are_known(program: &Program, known: &[Option<Formula>]) -> bool
 }
 
 /// The formula of an edge of the first procedure.
-fn edge(
+fn show_edge(
     alloc: Global,
+    out: &mut String,
     program: &Program,
     act: &Act,
     known: &[Option<Formula>],
-) -> Result<String, Fail>
+) -> Option<()>
     requires formed { IsWellFormed program.now }
     requires procedure { 0 < length program.now.procs }
     requires edge { IsActOf program.now 0 (statement_of_act act.now) }
     requires known { AreKnown program.now known.now }
 {
     let mut losses = Items::new(alloc);
-    let formula = leaf(alloc, program, 0, act, known, &mut losses);
-    shown(alloc, formula, losses.as_slice())
+    let formula = leaf(alloc, program, 0, act, known, &mut losses).ok()?;
+    show_formula(alloc, out, &formula, losses.as_slice()).ok()
 }
 
 fn is_skip(act: &Act) -> bool {
@@ -187,86 +152,83 @@ fn is_skip(act: &Act) -> bool {
 }
 
 /// The formulas of the edges of the first procedure, but for those that do nothing.
-fn edges(alloc: Global, program: &Program, known: &[Option<Formula>]) -> Result<String, Fail> {
+fn edges(alloc: Global, program: &Program, known: &[Option<Formula>]) -> Option<String> {
     if !program.is_well_formed() || program.procs.is_empty() || !are_known(program, known) {
-        return Err("no program".into());
+        return None;
     }
-    let graph = graph(alloc, program, 0)?;
+    let Ok(graph) = graph(alloc, program, 0) else {
+        return None;
+    };
     let mut out = String::new(alloc);
     for edge_of in graph.edges.as_slice() {
         if !is_skip(&edge_of.act) {
             if !out.is_empty() {
-                write!(out, " / ")?;
+                write!(out, " / ").ok()?;
             }
-            let text = edge(alloc, program, &edge_of.act, known)?;
-            write!(out, "{text}")?;
+            show_edge(alloc, &mut out, program, &edge_of.act, known)?;
         }
     }
-    Ok(out)
+    Some(out)
 }
 
 /// What is known of the procedures: of the second, this case.
-fn known_of(alloc: Global, program: &Program, text: &str) -> Result<Items<Option<Formula>>, Fail> {
+fn known_of(alloc: Global, program: &Program, text: &str) -> Option<Items<Option<Formula>>> {
     let mut known = Items::new(alloc);
     for n in 0..program.procs.len() {
-        let mut formula = None;
-        if n == 1 && text != "-" {
-            formula = formula_of(alloc, program, &program.procs[n], text)?;
-        }
-        known.push(formula)?;
-    }
-    Ok(known)
-}
-
-fn formula_of(
-    alloc: Global,
-    program: &Program,
-    proc: &Proc,
-    text: &str,
-) -> Result<Option<Formula>, Fail> {
-    let globals = u32::try_from(program.globals.len())?;
-    let from = globals.checked_add(proc.params).ok_or("many columns")?;
-    let exits = if proc.returns { 1 } else { 0 };
-    let to = globals.checked_add(exits).ok_or("many columns")?;
-    let Ok(case) = case(alloc, text) else {
-        return Err("no case".into());
-    };
-    let mut cases = Items::new(alloc);
-    cases.push(case)?;
-    Ok(Formula::new(from, to, cases))
-}
-
-/// Whether the edges of each program of a table have the formulas that stand behind it, and the table has so many.
-fn check_leaves(alloc: Global, rt: &impl Abort, table: &str, count: usize) -> Result<(), Fail> {
-    let lines = table.lines().collect::<Vec<&str>>(alloc)?;
-    assert_eq!(rt; lines.len() / 3, count);
-    for row in lines.chunks(3) {
-        let [text, known, expected] = row else {
-            return Err("no row".into());
+        let formula = if n == 1 && text != "-" {
+            Some(formula_of(alloc, program, &program.procs[n], text)?)
+        } else {
+            None
         };
-        let program = program_of(alloc, text)?;
-        let known = known_of(alloc, &program, known)?;
-        let found = edges(alloc, &program, known.as_slice())?;
-        assert_eq!(rt; found.as_str(), *expected, "{text}");
+        known.push(formula).ok()?;
     }
-    Ok(())
+    Some(known)
 }
 
-#[test]
-fn leaves(rt: HostRuntime) -> Result<(), Fail> {
-    check_leaves(rt.alloc(), &rt, LEAVES, 12)
+fn formula_of(alloc: Global, program: &Program, proc: &Proc, text: &str) -> Option<Formula> {
+    let globals = u32::try_from(program.globals.len()).ok()?;
+    let from = globals.checked_add(proc.params)?;
+    let exits = if proc.returns { 1 } else { 0 };
+    let to = globals.checked_add(exits)?;
+    let case = case(alloc, text).ok()?;
+    let mut cases = Items::new(alloc);
+    cases.push(case).ok()?;
+    Formula::new(from, to, cases)
 }
 
-#[test]
-fn truth_and_falsity(rt: HostRuntime) -> Result<(), Fail> {
-    met_calls_are_known();
-    let alloc = rt.alloc();
+/// Procedures, and the one case of the known formula of the second, if there is one.
+pub(crate) fn edges_text(alloc: Global, given: &str, known: &str) -> Option<String> {
+    let program = program_of(alloc, given)?;
+    let known = known_of(alloc, &program, known)?;
+    edges(alloc, &program, known.as_slice())
+}
+
+/// Where a number is true.
+fn truth_text(alloc: Global, number: i128) -> Option<String> {
     let mut losses = Items::new(alloc);
-    let made = truth(alloc, &Core::Lit(0), 0, &mut losses);
-    let made = shown(alloc, made, losses.as_slice())?;
-    assert_eq!(rt; made.as_str(), "0 | 1 <= 0 or 0 | 1 <= 0");
-    let made = falsity(alloc, &Core::Lit(0), 0, &mut losses);
-    let made = shown(alloc, made, losses.as_slice())?;
-    assert_eq!(rt; made.as_str(), "0 | 0 = 0");
-    Ok(())
+    let made = truth(alloc, &Core::Lit(number), 0, &mut losses).ok()?;
+    let mut out = String::new(alloc);
+    show_formula(alloc, &mut out, &made, losses.as_slice()).ok()?;
+    Some(out)
+}
+
+/// Where a number is false.
+fn falsity_text(alloc: Global, number: i128) -> Option<String> {
+    let mut losses = Items::new(alloc);
+    let made = falsity(alloc, &Core::Lit(number), 0, &mut losses).ok()?;
+    let mut out = String::new(alloc);
+    show_formula(alloc, &mut out, &made, losses.as_slice()).ok()?;
+    Some(out)
+}
+
+/// Where a number is true, and where it is false.
+pub(crate) fn literal_text(alloc: Global, given: &str) -> Option<String> {
+    let number = given.parse::<i128>().ok()?;
+    let is_true = truth_text(alloc, number)?;
+    let is_false = falsity_text(alloc, number)?;
+    format!(in alloc; "{is_true} / {is_false}").ok()
+}
+
+pub(crate) fn laws() {
+    met_calls_are_known();
 }

@@ -1,58 +1,14 @@
 //! The paths of graphs, as path expressions and as texts.
-ghost use Rattle.std.specs.Prelude.{◌≡◌, ◌≤◌, false, IsSome, IsTrue, IfErr};
+ghost use Rattle.std.specs.Prelude.{◌≡◌, ◌≤◌, false, IsSome, IfErr};
 ghost use Rattle.whole_numbers.specs.Counters.{Rose};
-ghost use Rattle.path_expr.specs.Walks.{IsGraph};
 
+use crate::links::{is_graph, links_of};
 use path_expr::{Algebra, Cell, Link, Path, PlainPaths, ReachError, paths_are_walks, reach};
-use std::alloc::Global;
+use std::alloc::{AllocError, Global};
 use std::fmt::Write;
-use std::process::Abort;
-use std::test::Fail;
 
-// Each operation of the plain paths.
-#[test]
-fn plain_paths(rt: HostRuntime) -> Result<(), Fail> {
-    paths_are_walks();
-    let alloc = rt.alloc();
-    let mut plain = PlainPaths;
-    let body = plain.edge(alloc, 0)?;
-    let out = plain.edge(alloc, 1)?;
-    let turns = plain.star(alloc, &body)?;
-    let round = plain.seq(alloc, &turns, &out)?;
-    let either = plain.join(alloc, &round, &body)?;
-    let again = plain.copy(alloc, &either)?;
-    assert!(rt; again == either);
-    assert!(rt; again.copy(alloc)? != round);
-    assert!(rt; Path::Zero != Path::One);
-    Ok(())
-}
-
-// A while loop: into its head, round its body, and out of it; node 3 is never reached.
-#[test]
-fn plain_paths_round_a_loop(rt: HostRuntime) -> Result<(), Fail> {
-    let alloc = rt.alloc();
-    let links = [
-        Link { from: 0, to: 1 },
-        Link { from: 1, to: 1 },
-        Link { from: 1, to: 2 },
-    ];
-    let mut plain = PlainPaths;
-    let cells = reach(alloc, &mut plain, 4, links.as_slice(), 0)?;
-    assert_eq!(rt; cells.len(), 4);
-    assert!(rt; cells[0] == Cell::One);
-    assert!(rt; cells[3] == Cell::Zero);
-    let into = plain.edge(alloc, 0)?;
-    let body = plain.edge(alloc, 1)?;
-    let out = plain.edge(alloc, 2)?;
-    let turns = plain.star(alloc, &body)?;
-    let head = plain.seq(alloc, &into, &turns)?;
-    let after = plain.seq(alloc, &head, &out)?;
-    assert!(rt; cells[1] == Cell::Item(head));
-    assert!(rt; cells[2] == Cell::Item(after));
-    Ok(())
-}
-
-// An algebra of expressions as texts. It refuses each call after so many, and keeps what the first of these was to make.
+// An algebra of expressions as texts. It refuses each call after so many, and keeps what the first of these was to
+// make.
 #[derive(Drop)]
 struct Texts {
     left: u32,
@@ -127,94 +83,98 @@ impl Algebra for Texts {
     }
 }
 
-/// Links with a blank between two, as `0>1`.
-fn links_of(alloc: Global, text: &str) -> Result<Vec<Link>, Fail> {
-    let mut links = Vec::new(alloc);
-    for link in text.split(' ') {
-        let (from, to) = link.split_once(">").ok_or("no link")?;
-        links.push(Link {
-            from: from.parse::<u32>()?,
-            to: to.parse::<u32>()?,
-        })?;
+fn show_cell(out: &mut String, cell: &Cell<String>) -> Result<(), AllocError> {
+    match cell {
+        Cell::Zero => write!(out, "0 "),
+        Cell::One => write!(out, "1 "),
+        Cell::Item(text) => write!(out, "{text} "),
     }
-    Ok(links)
 }
 
-fn is_graph(nodes: u32, links: &[Link]) -> bool
-    ensures { IsTrue result → IsGraph nodes links.now }
-{
-    links
-        .iter()
-        .all(|link| link.from < nodes && link.to < nodes)
-}
-
-/// The texts of the four nodes of a graph, which is a source and links, with a blank between two, or `refused`.
-fn texts_of(alloc: Global, texts: &mut Texts, graph: &str) -> Result<String, Fail> {
-    let (source, links) = graph.split_once(": ").ok_or("no source")?;
-    let links = links_of(alloc, links)?;
-    let source = source.parse::<u32>()?;
-    if !is_graph(4, links.as_slice()) || source >= 4 || links.len() > 9 {
-        return Err("no graph".into());
-    }
+fn cells_text(alloc: Global, cells: &[Cell<String>]) -> Option<String> {
     let mut out = String::new(alloc);
-    let mut mark = "";
-    match reach(alloc, texts, 4, links.as_slice(), source) {
-        Ok(cells) => {
-            for cell in &cells {
-                match cell {
-                    Cell::Zero => write!(out, "{mark}0")?,
-                    Cell::One => write!(out, "{mark}1")?,
-                    Cell::Item(text) => write!(out, "{mark}{text}")?,
-                }
-                mark = " ";
-            }
-        }
-        Err(ReachError::Algebra(false)) => write!(out, "refused")?,
-        Err(_) => return Err("memory".into()),
+    for cell in cells {
+        show_cell(&mut out, cell).ok()?;
     }
-    Ok(out)
+    Some(out)
 }
 
-/// A source and links, and the texts. Two branches that meet, the one by either of two links; a loop in a loop; and node 2 as
-/// the source, with a node that is never reached.
-const TEXTS: &str = "\
-0: 0>1 0>2 1>3 2>3 2>3
-1 0 1 ((02)|(1(3|4)))
-0: 0>1 1>2 2>1 2>3 3>0
-((0(12)*)(1(34)))* ((((0(12)*)(1(34)))*0)(12)*) (((((0(12)*)(1(34)))*0)(12)*)1) ((((((0(12)*)(1(34)))*0)(12)*)1)3)
-2: 2>0 2>0 0>1 0>0 3>3
-((0|1)3*) (((0|1)3*)2) 1 0
-";
-
-/// Whether the nodes of each graph of a table have the texts that stand behind it, and the table has so many.
-fn check_texts(alloc: Global, rt: &impl Abort, table: &str, count: usize) -> Result<(), Fail> {
-    let lines = table.lines().collect::<Vec<&str>>(alloc)?;
-    assert_eq!(rt; lines.len() / 2, count);
-    for row in lines.chunks(2) {
-        let [graph, expected] = row else {
-            return Err("no row".into());
-        };
-        let mut texts = Texts::new(100);
-        let found = texts_of(alloc, &mut texts, graph)?;
-        assert_eq!(rt; found.as_str(), *expected, "{graph}");
+/// The texts of the nodes of a graph, or the call that was refused.
+fn texts_of(alloc: Global, texts: &mut Texts, links: &[Link], source: u32) -> Option<String> {
+    if !is_graph(4, links) || source >= 4 || links.len() > 9 {
+        return None;
     }
-    Ok(())
+    match reach(alloc, texts, 4, links, source) {
+        Ok(cells) => cells_text(alloc, cells.as_slice()),
+        Err(ReachError::Algebra(false)) => refusal_text(alloc, texts),
+        Err(_) => None,
+    }
 }
 
-#[test]
-fn reaches_in_texts(rt: HostRuntime) -> Result<(), Fail> {
-    check_texts(rt.alloc(), &rt, TEXTS, 3)
+fn refusal_text(alloc: Global, texts: &Texts) -> Option<String> {
+    let refused = texts.refused.as_deref()?;
+    format!(in alloc; "refused {refused}, {}", texts.faults).ok()
 }
 
-// Where a call is refused, it is the first that was not answered, and no other comes after it.
-#[test]
-fn stops_at_a_refusal(rt: HostRuntime) -> Result<(), Fail> {
-    for (calls, wanted) in [(2, "2"), (7, "(12)"), (8, "(12)*"), (9, "(0(12)*)")] {
-        let mut texts = Texts::new(calls);
-        let found = texts_of(rt.alloc(), &mut texts, "0: 0>1 1>2 2>1 2>3 3>0")?;
-        assert_eq!(rt; found.as_str(), "refused");
-        assert_eq!(rt; texts.refused.as_deref(), Some(wanted));
-        assert_eq!(rt; texts.faults, 1);
+/// A source and links of a graph of four nodes, and how many calls are answered.
+pub(crate) fn reach_text(alloc: Global, given: &str, calls: &str) -> Option<String> {
+    let calls = calls.parse::<u32>().ok()?;
+    let (source, links) = given.split_once(": ")?;
+    let links = links_of(alloc, links)?;
+    let source = source.parse::<u32>().ok()?;
+    let mut texts = Texts::new(calls);
+    texts_of(alloc, &mut texts, links.as_slice(), source)
+}
+
+/// A loop's turns, and then the way out of it.
+fn round_and_out(alloc: Global, body: &Path, out: &Path) -> Option<Path> {
+    let mut plain = PlainPaths;
+    let turns = plain.star(alloc, body).ok()?;
+    plain.seq(alloc, &turns, out).ok()
+}
+
+/// Whether copies are equal, and others are not.
+fn are_copied(alloc: Global) -> Option<bool> {
+    let mut plain = PlainPaths;
+    let body = plain.edge(alloc, 0).ok()?;
+    let out = plain.edge(alloc, 1).ok()?;
+    let round = round_and_out(alloc, &body, &out)?;
+    let either = plain.join(alloc, &round, &body).ok()?;
+    let again = plain.copy(alloc, &either).ok()?;
+    Some(again == either && again != round && Path::Zero != Path::One)
+}
+
+/// The paths into the head of a loop by link 0, round its body by link 1, and out of it by link 2.
+fn loop_paths(alloc: Global) -> Option<(Path, Path)> {
+    let mut plain = PlainPaths;
+    let into = plain.edge(alloc, 0).ok()?;
+    let body = plain.edge(alloc, 1).ok()?;
+    let out = plain.edge(alloc, 2).ok()?;
+    let turns = plain.star(alloc, &body).ok()?;
+    let head = plain.seq(alloc, &into, &turns).ok()?;
+    let after = plain.seq(alloc, &head, &out).ok()?;
+    Some((head, after))
+}
+
+/// Whether the nodes of such a graph have these paths; node 3 is never reached.
+fn are_loop_paths(alloc: Global, links: &[Link]) -> Option<bool> {
+    if !is_graph(4, links) || links.len() > 9 {
+        return None;
     }
-    Ok(())
+    let (head, after) = loop_paths(alloc)?;
+    let cells = reach(alloc, &mut PlainPaths, 4, links, 0).ok()?;
+    let wanted = [Cell::One, Cell::Item(head), Cell::Item(after), Cell::Zero];
+    Some(cells.as_slice() == wanted.as_slice())
+}
+
+/// Links of a loop.
+pub(crate) fn plain_text(alloc: Global, given: &str) -> Option<String> {
+    let links = links_of(alloc, given)?;
+    let copied = are_copied(alloc)?;
+    let reached = are_loop_paths(alloc, links.as_slice())?;
+    format!(in alloc; "{copied} {reached}").ok()
+}
+
+pub(crate) fn laws() {
+    paths_are_walks();
 }
