@@ -17,7 +17,7 @@ pub(crate) fn outcome(alloc: Global, kind: &str, given: &str) -> Option<String> 
 }
 
 /// The formula between so many columns whose cases stand between slashes.
-fn formula(alloc: Global, from: u32, to: u32, text: &str) -> Option<Formula> {
+pub(crate) fn formula(alloc: Global, from: u32, to: u32, text: &str) -> Option<Formula> {
     let mut cases = Items::new(alloc);
     for part in text.split('/') {
         cases.push(case(alloc, part).ok()?).ok()?;
@@ -46,14 +46,14 @@ fn write_loss(text: &mut String, loss: Loss) -> Result<(), AllocError> {
     }
 }
 
-fn write_losses(text: &mut String, losses: &[Loss]) -> Result<(), AllocError> {
+pub(crate) fn write_losses(text: &mut String, losses: &[Loss]) -> Result<(), AllocError> {
     for loss in losses {
         write_loss(text, *loss)?;
     }
     Ok(())
 }
 
-fn write_formula(text: &mut String, formula: &Formula) -> Result<(), AllocError> {
+pub(crate) fn write_formula(text: &mut String, formula: &Formula) -> Result<(), AllocError> {
     let mut mark = "";
     for case in formula.cases() {
         write!(text, "{mark}")?;

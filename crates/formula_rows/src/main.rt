@@ -4,6 +4,7 @@
 #![tactic(auto)]
 
 mod closed_forms;
+mod columns;
 mod formulas;
 mod numbered;
 mod parts;
@@ -24,6 +25,11 @@ fn outcome(alloc: Global, row: &str) -> Option<String> {
     match kind {
         "closed form" | "sum bound" => closed_forms::outcome(alloc, kind, given),
         "order" | "sequence" | "choice" => formulas::outcome(alloc, kind, given),
+        "hidden" | "posts" | "entries" | "raised" | "equated" | "copy" => {
+            columns::outcome(alloc, kind, given)
+        }
+        "same" => columns::sameness(alloc, given),
+        "fitted" => columns::fitness(alloc, given),
         "monomial" | "parts" | "equal rows" | "equal cases" => parts::outcome(alloc, kind, given),
         _ => polynomials::outcome(alloc, kind, given),
     }

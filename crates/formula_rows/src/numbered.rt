@@ -1,5 +1,5 @@
 //! Whether auxiliaries are numbered below a count, and few.
-ghost use Rattle.std.specs.Prelude.{◌≡◌, ◌+◌, ◌<◌, ◌^◌, nat_lt, All, IsTrue};
+ghost use Rattle.std.specs.Prelude.{◌≡◌, ◌+◌, ◌-◌, ◌<◌, ◌≤◌, ◌^◌, nat_lt, All, IsTrue};
 ghost use Rattle.std.specs.List.{list_all};
 ghost use Rattle.linear_terms.specs.Auxiliaries.{is_numbered};
 ghost use Rattle.transition_formula.specs.Transition.{every_column};
@@ -39,6 +39,24 @@ pub(crate) fn posts_are_numbered(posts: &[Poly], aux: u32) -> bool
     ensures { result ≡ list_all (every_column (is_numbered aux)) posts.now }
 {
     posts.iter().all(|post| poly_is_numbered(post, aux))
+}
+
+/// Whether the auxiliaries are surely few enough to hide entry columns.
+pub(crate) fn hide_few(cases: &[Case], from: u32, n: u32, to: u32) -> bool
+    requires { n ≤ from }
+    ensures { IsTrue result → All (λ case. case.aux + (from - n) + to < 2 ^ 32) cases.now }
+{
+    if from >= 1000 || to >= 1000 {
+        return false;
+    }
+    have_few(cases)
+}
+
+/// Whether each place is below an end.
+pub(crate) fn are_below(places: &[u32], end: u32) -> bool
+    ensures { IsTrue result → All (λ place. place < end) places.now }
+{
+    places.iter().all(|place| *place < end)
 }
 
 fn have_few(cases: &[Case]) -> bool

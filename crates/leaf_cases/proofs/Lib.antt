@@ -11,6 +11,7 @@ pub mod Expressions
 pub mod Meant
 pub mod Made
 pub mod Stepped
+pub mod StepsTell
 pub mod Together
 pub mod Quotients
 -- ---- how many cases and auxiliaries there are, and which columns they have

@@ -11,7 +11,8 @@ use Rattle.linear_terms.specs.Row.{RowHolds, RowsHold}
 use Rattle.linear_terms.specs.Value.{Valuation, value_of}
 use Rattle.transition_formula.specs.Loss.{losses_of}
 use Rattle.transition_formula.specs.Meaning.{numbers, HoldsAt, HoldsCase, HoldsSome}
-use Rattle.transition_formula.proofs.Values.{column-value, noted-some, none-of}
+use Rattle.transition_formula.proofs.Telling.{lost-some}
+use Rattle.transition_formula.proofs.Values.{column-value, none-of}
 use Rattle.transition_formula.proofs.Meanings.{some-either, some-left, some-right}
 use Rattle.leaf_cases.specs.declared.division.Part.{Part}
 use Rattle.leaf_cases.specs.declared.division.Part.TheVariants.{Quotient, Remainder}
@@ -26,6 +27,7 @@ use Rattle.leaf_cases.specs.Steps as steps
 use Rattle.leaf_cases.specs.Steps.{operand, value_at, test_at, test_claim, division_at, part_at, made_at, lost_at, with_number}
 use Rattle.leaf_cases.proofs.Quotients.{IsDivision, Falls, division_falls, splits-divide}
 use Rattle.leaf_cases.proofs.Sitting.{Sits}
+use Rattle.leaf_cases.proofs.StepsTell.{value_at-tells, test_at-tells, division-tells}
 use Rattle.leaf_cases.proofs.Stepped.{AllSay, AllWithin, claims-hold, claims-held, first_of, second_of, operand-value, calculated_number, tested_number, part_number, StepGives, value-says, test-says, division_numbers, division-says, splits-within, within-splits}
 use Rattle.leaf_cases.proofs.Together.{extended, extended-more, extended-holds}
 
@@ -137,7 +139,7 @@ module _ (case : Case) (s y : List ℤ) where
           let x = map (value_of w) case.post in
           let says = value-says w (operand 0 case) (operand 1 case) (first_of x) (second_of x) (operand-value w case x 0 at) (operand-value w case x 1 at) arithmetic in
           record { numbers_are = x; holds = (aux, at); gives = sym k.posts ∙ one-value w p (calculated_number arithmetic (first_of x) (second_of x)) (says.is p f) }
-      go (Err d) f n k = absurd (noted-some d n)
+      go (Err d) f n k = absurd (lost-some (value_at arithmetic (operand 0 case) (operand 1 case)) d (value_at-tells arithmetic (operand 0 case) (operand 1 case)) f n)
 
   test-held : (relation : Relation) → lost_of (test_claim relation case ∷ []) ≡ [] → HoldsCase (limited case 0 (test_claim relation case ∷ []) []) s y → From case (Test relation) s y
   test-held relation none (aux, k) =
@@ -146,7 +148,7 @@ module _ (case : Case) (s y : List ℤ) where
       let at = before-limited w case 0 claims [] y k in
       let x = map (value_of w) case.post in
       let says = test-says w (operand 0 case) (operand 1 case) (first_of x) (second_of x) (operand-value w case x 0 at) (operand-value w case x 1 at) relation in
-      let within = claims-held w claims (tested_number relation (first_of x) (second_of x) ∷ []) (says, tt) none (rows-limited w case 0 claims [] y k) in
+      let within = claims-held w claims (tested_number relation (first_of x) (second_of x) ∷ []) (test_at-tells relation (operand 0 case) (operand 1 case), tt) (says, tt) none (rows-limited w case 0 claims [] y k) in
       record { numbers_are = x; holds = (aux, at); gives = (within.0, sym k.posts) }
 
   division-held : (part : Part) (divisor dividend : Bool) → (let signs : Signs = record { divisor = divisor; dividend = dividend } in lost_of (division_at signs case)) ≡ []
@@ -163,7 +165,8 @@ module _ (case : Case) (s y : List ℤ) where
       let q = w (Aux case.aux) in
       let r = w (Aux (case.aux + 1)) in
       let says = division-says w signs (operand 0 case) (operand 1 case) (column_of (Aux case.aux)) (column_of (Aux (case.aux + 1))) a b q r (operand-value w case x 0 at) (operand-value w case x 1 at) (column-value w (Aux case.aux)) (column-value w (Aux (case.aux + 1))) in
-      let within = claims-held w claims (division_numbers divisor dividend a b q r) says none (rows-limited w case 2 claims post y k) in
+      let within = claims-held w claims (division_numbers divisor dividend a b q r)
+      (division-tells signs (operand 0 case) (operand 1 case) (column_of (Aux case.aux)) (column_of (Aux (case.aux + 1)))) says none (rows-limited w case 2 claims post y k) in
       let is = splits-divide divisor dividend a b q r (within-splits a b q r divisor dividend within) in
       record { numbers_are = x; holds = (aux, at); gives = (is.some, sym k.posts ∙ one-value w (column_of (Aux (part_at part case.aux))) (part_number part a b) (column-value w (Aux (part_at part case.aux)) ∙ part_is part a b q r w refl refl is)) }
     where

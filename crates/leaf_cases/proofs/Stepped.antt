@@ -14,7 +14,8 @@ use Rattle.linear_terms.proofs.Values.{sum_of_polys-value, multiple_of-value, pr
 use Rattle.transition_formula.specs.Composition.{row_of}
 use Rattle.transition_formula.specs.Loss.{losses_of}
 use Rattle.transition_formula.specs.Meaning.{HoldsAt}
-use Rattle.transition_formula.proofs.Values.{noted-some, none-of}
+use Rattle.transition_formula.proofs.Telling.{lost-some}
+use Rattle.transition_formula.proofs.Values.{none-of}
 use Rattle.leaf_cases.specs.declared.division.Part.{Part}
 use Rattle.leaf_cases.specs.declared.division.Part.TheVariants.{Quotient, Remainder}
 use Rattle.leaf_cases.specs.declared.division.Signs.{Signs}
@@ -28,6 +29,7 @@ use Rattle.leaf_cases.specs.Claims.{Answer, Claim, rows_of, lost_of}
 use Rattle.leaf_cases.specs.Division.{one, minus_one, equation, divisor_sign, dividend_sign, lower_bound, upper_bound, division}
 use Rattle.leaf_cases.specs.Steps.{one_more, operand, value_at, test_at, kind_of}
 use Rattle.leaf_cases.proofs.Quotients.{Splits}
+use Rattle.leaf_cases.proofs.StepsTell.{AllTell}
 
 -- ---- answers and their numbers
 
@@ -88,17 +90,17 @@ claims-hold w (claim ∷ claims) (z ∷ zs) h k = go claim.poly refl (claims-hol
     go (Ok p) e rest = (subst (IsWithin claim.kind) (sym (h.0.is p e)) k.0, rest)
     go (Err d) e rest = rest
 
-pub claims-held : (w : Valuation) (claims : List Claim) (zs : List ℤ) → AllSay w claims zs → lost_of claims ≡ [] → RowsHold w (rows_of claims) → AllWithin claims zs
-claims-held w [] [] h none k = tt
-claims-held w [] (z ∷ zs) h none k = absurd h
-claims-held w (claim ∷ claims) [] h none k = absurd h
-claims-held w (claim ∷ claims) (z ∷ zs) h none k =
+pub claims-held : (w : Valuation) (claims : List Claim) (zs : List ℤ) → AllTell claims → AllSay w claims zs → lost_of claims ≡ [] → RowsHold w (rows_of claims) → AllWithin claims zs
+claims-held w [] [] tells h none k = tt
+claims-held w [] (z ∷ zs) tells h none k = absurd h
+claims-held w (claim ∷ claims) [] tells h none k = absurd h
+claims-held w (claim ∷ claims) (z ∷ zs) tells h none k =
     let parts = none-of (losses_of claim.poly) (lost_of claims) none in
-    go claim.poly refl parts.0 k (λ rest. claims-held w claims zs h.1 parts.1 rest)
+    go claim.poly refl parts.0 k (λ rest. claims-held w claims zs tells.1 h.1 parts.1 rest)
   where
     go : (r : Answer) → claim.poly ≡ r → losses_of r ≡ [] → RowsHold w (cons_option (row_of claim.kind r) (rows_of claims)) → (RowsHold w (rows_of claims) → AllWithin claims zs) → AllWithin (claim ∷ claims) (z ∷ zs)
     go (Ok p) e n held ih = (subst (IsWithin claim.kind) (h.0.is p e) held.0, ih held.1)
-    go (Err d) e n held ih = absurd (noted-some d n)
+    go (Err d) e n held ih = absurd (lost-some claim.poly d tells.0 e n)
 
 -- ---- the values of operands
 

@@ -1,27 +1,19 @@
 -- Rows and values that are added to a case, where they have an answer.
-use Rattle.std.specs.Prelude.{ℕ, ◌+◌, List, [], ◌∷◌, ◌++◌, Option, None, Some, Result, Ok, Err}
+use Rattle.std.specs.Prelude.{ℕ, ◌+◌, List, [], ◌∷◌, ◌++◌, Result, Ok, Err}
 use Rattle.std.specs.List.{filter_map, flat_map}
 use Rattle.linear_terms.specs.declared.col.Col.TheVariants.{Aux}
 use Rattle.linear_terms.specs.declared.error.TermError.{TermError}
-use Rattle.linear_terms.specs.declared.error.TermError.TheVariants.{Wide, Degree, Memory}
 use Rattle.linear_terms.specs.declared.row.Kind.{Kind}
 use Rattle.linear_terms.specs.declared.row.Row.{Row}
 use Rattle.linear_terms.specs.declared.row.Case.{Case}
 use Rattle.linear_terms.specs.Polynomial.{Polynomial, column_of}
 use Rattle.transition_formula.specs.declared.loss.Loss.{Loss}
-use Rattle.transition_formula.specs.declared.loss.Loss.TheVariants as lost
 use Rattle.transition_formula.specs.Loss.{losses_of}
 use Rattle.transition_formula.specs.Composition.{row_of}
 
 -- a polynomial, or the step of its making that leaves 128 bits or passes degree 4
 abbrev pub Answer : Type 0
 Answer = Result Polynomial TermError
-
--- the loss that an error of an operation is; want of memory is none
-abbrev pub loss_of : TermError → Option Loss
-loss_of (Wide left right times) = Some (lost.Wide left right times)
-loss_of Degree = Some lost.Degree
-loss_of Memory = None
 
 -- a row that is to be added
 pub record Claim : Type 0 where

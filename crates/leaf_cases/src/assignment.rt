@@ -7,7 +7,6 @@ ghost use Rattle.leaf_cases.specs.Expression.{lists_of};
 ghost use Rattle.leaf_cases.specs.Guard.{with_posts};
 ghost use Rattle.leaf_cases.specs.Steps.{operand};
 
-use crate::claims::column;
 use crate::expression::{Sought, cases_of};
 use crate::guard::{columns_below, formula};
 use crate::step::operand;
@@ -15,7 +14,7 @@ use items::Items;
 use linear_terms::{Case, Col, Poly};
 use std::alloc::Global;
 use syntax_tree::Core;
-use transition_formula::{Formula, FormulaError, Loss};
+use transition_formula::{Formula, FormulaError, Loss, column};
 
 /// Sets a column to the value of an expression. What is lost is noted.
 pub(crate) fn set(

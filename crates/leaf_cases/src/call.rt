@@ -1,4 +1,4 @@
-ghost use Rattle.std.specs.Prelude.{◌≡◌, ◌+◌, ◌≤◌, ◌<◌, ◌^◌, ◌++◌, ℤ, List, Some, All, length, map, take, drop, IfOk, OnOk, IsTrue};
+ghost use Rattle.std.specs.Prelude.{◌≡◌, ◌+◌, ◌≤◌, ◌<◌, ◌^◌, ◌++◌, ℤ, List, Some, All, length, map, take, drop, IfOk, OnOk, OnErr, IsTrue};
 ghost use Rattle.syntax_tree.specs.declared.limits.TheConstants.{MOST_OPERATORS};
 ghost use Rattle.syntax_tree.specs.Term.{term_of};
 ghost use Rattle.syntax_tree.specs.WellFormed.{all_columns_below, into_fits, joint_operators};
@@ -51,8 +51,8 @@ pub(crate) fn call(
 }
 
 /// What a call does before its callee begins: from the caller's state, whose first columns are the globals, to the
-/// globals and the values of the arguments. What is lost is noted after the losses that are there. After an error more
-/// may be noted.
+/// globals and the values of the arguments. What is lost is noted after the losses that are there; after an error nothing
+/// is noted.
 pub fn call_entry(
     alloc: Global,
     columns: u32,
@@ -67,12 +67,15 @@ pub fn call_entry(
     requires operators { joint_operators (map term_of args.now) ≤ MOST_OPERATORS }
     ensures exact { IfOk result (λ f. f ≡ entering columns globals (length args.now) (arguments_of (map term_of args.now)).cases) }
     ensures noted { OnOk result (losses.new ≡ losses.old ++ (arguments_of (map term_of args.now)).lost) }
+    ensures kept { OnErr result (losses.new ≡ losses.old) }
     ensures few { IfOk result (λ f. All (λ case. case.aux < 2 ^ 31) f.cases) }
     ensures at_least { (state values : List ℤ) → IfOk result (λ f. length state ≡ columns → values_of (map term_of args.now) state ≡ Some values → Holds f state (take globals state ++ values)) }
 {
-    let values = arguments(alloc, args, losses)?;
+    let mut lost = Items::new(alloc);
+    let values = arguments(alloc, args, &mut lost)?;
     let widths = Widths { columns, globals };
     let formula = entering(alloc, widths, args.len() as u32, values.as_slice())?;
+    losses.append(lost)?;
     Ok(formula)
 }
 

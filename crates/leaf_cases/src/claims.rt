@@ -1,37 +1,12 @@
-ghost use Rattle.std.specs.Prelude.{◌≡◌, ◌≢◌, ◌<◌, ◌^◌, ◌++◌, [], ◌∷◌, Ok, Err, IfOk, OnOk};
-ghost use Rattle.items.specs.Gives.{Gives};
-ghost use Rattle.linear_terms.specs.declared.col.Col.TheVariants.{Aux};
+ghost use Rattle.std.specs.Prelude.{◌≡◌, ◌≢◌, ◌<◌, ◌^◌, ◌++◌, [], ◌∷◌, Err, IfOk, OnOk};
 ghost use Rattle.linear_terms.specs.declared.error.TermError.TheVariants.{Memory};
-ghost use Rattle.linear_terms.specs.Polynomial.{column_of};
-ghost use Rattle.linear_terms.specs.TermError.{cause};
 ghost use Rattle.transition_formula.specs.Loss.{noted, losses_of};
-ghost use Rattle.leaf_cases.specs.Claims.{loss_of, rows_of, lost_of, valued};
+ghost use Rattle.leaf_cases.specs.Claims.{rows_of, valued};
 
 use items::Items;
 use linear_terms::{Case, Col, Kind, Poly, Row, TermError};
 use std::alloc::Global;
-use transition_formula::{FormulaError, Loss};
-
-/// One column as a polynomial.
-pub(crate) fn column(alloc: Global, col: Col) -> Result<Poly, FormulaError>
-    ensures { IfOk result (λ p. p ≡ column_of col) }
-{
-    match Poly::column(alloc, col) {
-        Ok(poly) => Ok(poly),
-        Err(_) => Err(FormulaError::Memory),
-    }
-}
-
-/// The loss that an error of an operation is. Want of memory is none.
-fn loss_of(error: TermError) -> Option<Loss>
-    ensures { result ≡ loss_of error }
-{
-    match error {
-        TermError::Wide { left, right, times } => Some(Loss::Wide { left, right, times }),
-        TermError::Degree => Some(Loss::Degree),
-        TermError::Memory => None,
-    }
-}
+use transition_formula::{FormulaError, Loss, column, loss_of};
 
 /// Notes an error of an operation; want of memory is an error here too.
 fn note(error: TermError, losses: &mut Items<Loss>) -> Result<(), FormulaError>

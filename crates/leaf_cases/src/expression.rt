@@ -6,7 +6,6 @@ ghost use Rattle.leaf_cases.specs.Listed.{AreFew, together, either};
 ghost use Rattle.leaf_cases.specs.Steps.{with_number, cases_by, lost_by};
 ghost use Rattle.leaf_cases.specs.Expression.{known, of_number, lists_of, sign_lists, operator_lists, calculated, compared, comparison, opposite, tests_of, sought_in};
 
-use crate::claims::column;
 use crate::division::Part;
 use crate::listed::both;
 use crate::step::{Arithmetic, Relation, Step, cases_by, numbered};
@@ -14,7 +13,7 @@ use items::Items;
 use linear_terms::{Case, Col, Poly};
 use std::alloc::Global;
 use syntax_tree::{Core, Op, Sign};
-use transition_formula::{FormulaError, Loss};
+use transition_formula::{FormulaError, Loss, column};
 
 /// What is sought of an expression.
 #[derive(Clone, Copy)]

@@ -8,13 +8,12 @@ ghost use Rattle.transition_formula.specs.Transition.{IsTransition};
 ghost use Rattle.leaf_cases.specs.Expression.{lists_of};
 ghost use Rattle.leaf_cases.specs.Guard.{AreCovered, columns_of, guard_of, with_posts};
 
-use crate::claims::column;
 use crate::expression::{Sought, cases_of};
 use items::Items;
 use linear_terms::{Case, Col, Poly};
 use std::alloc::Global;
 use syntax_tree::Core;
-use transition_formula::{Formula, FormulaError, Loss};
+use transition_formula::{Formula, FormulaError, Loss, column};
 
 /// Says that an expression is true, and that nothing changes. What is lost is noted after the losses that
 /// are there: a lost row is left out, and a lost value may be any number. After an error nothing is noted.

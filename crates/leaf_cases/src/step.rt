@@ -9,12 +9,12 @@ ghost use Rattle.leaf_cases.specs.Claims.{limited, lost_of, valued};
 ghost use Rattle.leaf_cases.specs.Listed.{AreFew};
 ghost use Rattle.leaf_cases.specs.Steps.{one_more, operand, with_number, value_at, test_at, test_claim, kind_of, part_at, division_at, made_at, lost_at, cases_by, lost_by};
 
-use crate::claims::{column, push_claim, valued, with_value};
+use crate::claims::{push_claim, valued, with_value};
 use crate::division::{Division, Part, Signs};
 use items::Items;
 use linear_terms::{Case, Col, Kind, Poly, TermError, add, difference, mul, scale};
 use std::alloc::Global;
-use transition_formula::{FormulaError, Loss};
+use transition_formula::{FormulaError, Loss, column};
 
 /// A step whose value is a polynomial.
 #[derive(Clone, Copy)]

@@ -10,9 +10,10 @@ use Rattle.linear_terms.specs.declared.error.TermError.TheVariants as error
 use Rattle.linear_terms.specs.declared.row.Case.{Case}
 use Rattle.linear_terms.specs.Equality.{poly_eq}
 use Rattle.linear_terms.specs.Expressions.{Made, or_zero}
-use Rattle.linear_terms.specs.Polynomial.{constant_of}
+use Rattle.linear_terms.specs.Polynomial.{column_of, constant_of}
 use Rattle.transition_formula.specs.Loss.{losses_of}
 use Rattle.transition_formula.specs.Transition.{Transition}
+use Rattle.transition_formula.proofs.Telling.{Tells, difference_of_polys-tells}
 use Rattle.farkas_check.specs.declared.stratum.Change.{Change}
 use Rattle.polyhedra.specs.declared.changes.Moves.{Moves}
 use Rattle.polyhedra.specs.Changes.{poly_at, change, is_zero, is_modified, is_exact, modified, moving, changes_in, changes_of}
@@ -21,6 +22,10 @@ use Rattle.polyhedra.proofs.Lists.{each-filter}
 use Rattle.polyhedra.proofs.Tabled.{first_got}
 
 -- ---- variables that move
+
+change-tells : (one : Bool) (case : Case) (v : ℕ) → Tells (change one case v)
+change-tells true case v = difference_of_polys-tells (poly_at case.post v) (column_of (At v))
+change-tells false case v = λ e. cc
 
 module _ (one : Bool) (n v : ℕ) (low : v < n) where
   fault-at : (case : Case) → fault_at (table_of one n case).faults (At v) ≡ fault_of (change one case v)
@@ -48,14 +53,14 @@ module _ (one : Bool) (n v : ℕ) (low : v < n) where
   -- the loss in the first case that has one
   pub first_loss : (cases : List Case) → take 1 (flat_map (λ case. losses_of (change one case v)) cases) ≡ losses_at (first_of (map (table_of one n) cases) v)
   first_loss [] = refl
-  first_loss (case ∷ cases) = by_made (change one case v) (first_loss cases) ∙ ap (λ o. losses_at (or_else o (first_of (map (table_of one n) cases) v))) (sym (fault-at case))
+  first_loss (case ∷ cases) = by_made (change one case v) (change-tells one case v) (first_loss cases) ∙ ap (λ o. losses_at (or_else o (first_of (map (table_of one n) cases) v))) (sym (fault-at case))
     where
-      by_made : (m : Made) → take 1 (flat_map (λ case. losses_of (change one case v)) cases) ≡ losses_at (first_of (map (table_of one n) cases) v)
+      by_made : (m : Made) → Tells m → take 1 (flat_map (λ case. losses_of (change one case v)) cases) ≡ losses_at (first_of (map (table_of one n) cases) v)
           → take 1 (losses_of m ++ flat_map (λ case. losses_of (change one case v)) cases) ≡ losses_at (or_else (fault_of m) (first_of (map (table_of one n) cases) v))
-      by_made (Ok p) rest = rest
-      by_made (Err (error.Wide left right times)) rest = refl
-      by_made (Err error.Degree) rest = refl
-      by_made (Err error.Memory) rest = refl
+      by_made (Ok p) tells rest = rest
+      by_made (Err (error.Wide left right times)) tells rest = refl
+      by_made (Err error.Degree) tells rest = refl
+      by_made (Err error.Memory) tells rest = absurd (tells refl)
 
   pub is_modified-tables : (cases : List Case) → is_moved_in (map (table_of one n) cases) v ≡ is_modified one cases v
   is_modified-tables [] = refl

@@ -25,6 +25,7 @@ use Rattle.transition_formula.specs.Transition.{Transition, every_column, every_
 use Rattle.transition_formula.proofs.Covered.{both, both_true, lost, Carries, substituted-carries, rows_by-covered, posts_by-covered, posts_by-length}
 use Rattle.transition_formula.proofs.Fitting.{Fitting, fitting, from_fitting, below-true, true-below, columns_pass, test_of_get}
 use Rattle.transition_formula.proofs.Meanings.{both_aux, first_aux, second_aux, lost_aux}
+use Rattle.transition_formula.proofs.Telling.{substituted-tells}
 use Rattle.transition_formula.proofs.Values.{Keeps, lost_values, column-value, value-agrees, none-of, rows_by-hold, rows_by-held, posts_by-values, posts_by-kept}
 
 -- ---- what is put in
@@ -80,6 +81,7 @@ module _ (n from : ℕ) (case : Case) (v w : Valuation) (seen : IsSeen n from ca
 
   hiding-keeps : Keeps (hiding n from case) (is_below from case.aux) v w
   hiding-keeps = record {
+    tells = substituted-tells (put_in (entries_hidden n from case.aux) (own_auxiliaries case.aux));
     value = λ p q e h.
         substituted-value w (put_in (entries_hidden n from case.aux) (own_auxiliaries case.aux)) p q e
         ∙ value-agrees (λ c. value_of w (put_in (entries_hidden n from case.aux) (own_auxiliaries case.aux) c)) v (is_below from case.aux) seen-column p h;

@@ -8,13 +8,16 @@ pub mod Truths
 pub mod HiddenColumns
 pub mod Meanings
 pub mod Meeting
+pub mod PostsAsEntries
 pub mod Sequences
 pub mod SomePosts
+pub mod Telling
 pub mod Values
 -- ---- which columns results have, and which formulas can be put in order
 pub mod Carried
 pub mod Covered
 pub mod Few
+pub mod FewAuxiliaries
 pub mod Fitted
 pub mod Fitting
 pub mod Kept

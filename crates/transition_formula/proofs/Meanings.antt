@@ -21,6 +21,7 @@ use Rattle.transition_formula.specs.Composition.{identity_of, joined, lost_by, r
 use Rattle.transition_formula.proofs.Covered.{both}
 use Rattle.transition_formula.proofs.Fitting.{Fitting, fitting, below-true, true-below}
 use Rattle.transition_formula.proofs.Sequences.{later}
+use Rattle.transition_formula.proofs.Telling.{substituted-tells}
 use Rattle.transition_formula.proofs.Values.{Keeps, lost_values, column-value, value-agrees, rows-agree, posts-agree, none-of, rows_by-hold, rows_by-held, posts_by-values, posts_by-kept}
 
 -- ---- choice
@@ -100,6 +101,7 @@ module _ (from between to : ℕ) (first second : Case) (f : Fitting from between
   pub after-keeps : Keeps (after_case first second) (is_below between second.aux) (numbers middle aux2) w
   after-keeps =
       record {
+        tells = substituted-tells (put_in first.post (later first second));
         value = λ p q e h. substituted-value w (put_in first.post (later first second)) p q e ∙ value-agrees (λ c. value_of w (put_in first.post (later first second) c)) (numbers middle aux2) (is_below between second.aux) seen p h;
       }
 

@@ -14,7 +14,8 @@ use Rattle.transition_formula.specs.Loss.{noted}
 use Rattle.transition_formula.specs.Rows.{with_normal, normal_rows, each_once, opposites_met, tidied}
 use Rattle.transition_formula.proofs.Tidied.{EachRow}
 use Rattle.transition_formula.proofs.Truths.{once_met-hold, once_met-held}
-use Rattle.transition_formula.proofs.Values.{noted-some, none-of}
+use Rattle.transition_formula.proofs.Telling.{Tells, lost-some, normal_form-tells}
+use Rattle.transition_formula.proofs.Values.{none-of}
 
 abbrev pub AreCanonicalEach : List Row → Type 0
 AreCanonicalEach rows = EachRow (λ p. IsCanonical p.terms) rows
@@ -36,17 +37,17 @@ module _ (at : Valuation) where
 
   normal-held : (rows : List Row) → AreCanonicalEach rows → (normal_rows rows).losses ≡ [] → AreTrueLeft at (normal_rows rows).rows → RowsHold at rows
   normal-held [] canonical none h = tt
-  normal-held (row ∷ rows) canonical none h = go (normal_form row) (λ n e. normal_form-SaysAsMuch at row n canonical.0 e) none h (λ n l. normal-held rows canonical.1 n l)
+  normal-held (row ∷ rows) canonical none h = go (normal_form row) (normal_form-tells row) (λ n e. normal_form-SaysAsMuch at row n canonical.0 e) none h (λ n l. normal-held rows canonical.1 n l)
     where
       kept : (r : Row) (o : Option (List Row)) → SaysAsMuch at row (Kept r) → AreTrueLeft at (option_map (λ rows. r ∷ rows) o) → (AreTrueLeft at o → RowsHold at rows) → RowsHold at (row ∷ rows)
       kept r None s l ih = absurd l
       kept r (Some more) s l ih = (s.0 l.0, ih l.1)
 
-      go : (n : Result Normal TermError) → ((m : Normal) → n ≡ Ok m → SaysAsMuch at row m) → (with_normal n (normal_rows rows)).losses ≡ [] → AreTrueLeft at (with_normal n (normal_rows rows)).rows → ((normal_rows rows).losses ≡ [] → AreTrueLeft at (normal_rows rows).rows → RowsHold at rows) → RowsHold at (row ∷ rows)
-      go (Err e) says n l ih = absurd (noted-some e (none-of (noted e) (normal_rows rows).losses n).0)
-      go (Ok (Constant true)) says n l ih = ((says (Constant true) refl).0 refl, ih n l)
-      go (Ok (Constant false)) says n l ih = absurd l
-      go (Ok (Kept r)) says n l ih = kept r (normal_rows rows).rows (says (Kept r) refl) l (ih n)
+      go : (n : Result Normal TermError) → Tells n → ((m : Normal) → n ≡ Ok m → SaysAsMuch at row m) → (with_normal n (normal_rows rows)).losses ≡ [] → AreTrueLeft at (with_normal n (normal_rows rows)).rows → ((normal_rows rows).losses ≡ [] → AreTrueLeft at (normal_rows rows).rows → RowsHold at rows) → RowsHold at (row ∷ rows)
+      go (Err e) tells says n l ih = absurd (lost-some (Err e) e tells refl (none-of (noted e) (normal_rows rows).losses n).0)
+      go (Ok (Constant true)) tells says n l ih = ((says (Constant true) refl).0 refl, ih n l)
+      go (Ok (Constant false)) tells says n l ih = absurd l
+      go (Ok (Kept r)) tells says n l ih = kept r (normal_rows rows).rows (says (Kept r) refl) l (ih n)
 
   -- ---- with each once and the opposite ones met
 

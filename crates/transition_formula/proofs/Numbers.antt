@@ -59,7 +59,7 @@ auxiliary_is : (n end : ℕ) (c : Col) → IsTrue (is_auxiliary n c) → IsTrue 
 auxiliary_is n end (At m) h k = cc
 auxiliary_is n end (Aux m) h k = let same = (Decides-eqb m n).0 h in subst (λ x. x < end) same (true-below m end k)
 
-occurs-below : (n end : ℕ) (p : Polynomial) → IsTrue (occurs n p) → IsTrue (every_column (is_numbered end) p) → n < end
+pub occurs-below : (n end : ℕ) (p : Polynomial) → IsTrue (occurs n p) → IsTrue (every_column (is_numbered end) p) → n < end
 occurs-below n end p h k =
     met_by (λ t. has_auxiliary n t.0) (λ t. list_all (is_numbered end) t.0) p.terms h k (λ t e f. met_by (is_auxiliary n) (is_numbered end) t.0 e f (λ c. auxiliary_is n end c))
 

@@ -38,7 +38,8 @@ use Rattle.transition_formula.proofs.Covered.{both, test_from_columns}
 use Rattle.transition_formula.proofs.Meanings.{not-below}
 use Rattle.transition_formula.proofs.Numbers.{Numbered, numbered}
 use Rattle.transition_formula.proofs.Rounding.{AllNumbered, found_at, test_got, test_removed}
-use Rattle.transition_formula.proofs.Values.{Keeps, lost_values, column-value, value-agrees, none-of, noted-some, rows_by-hold, rows_by-held, posts_by-values, posts_by-kept}
+use Rattle.transition_formula.proofs.Telling.{lost-some, solution-tells, with_solution-tells}
+use Rattle.transition_formula.proofs.Values.{Keeps, lost_values, column-value, value-agrees, none-of, rows_by-hold, rows_by-held, posts_by-values, posts_by-kept}
 
 -- ---- the one term that has the auxiliary
 
@@ -315,7 +316,7 @@ module _ (case : Case) (n : ℕ) (q : Polynomial) (all : Numbered case) (before 
         go false e = column-value (numbers before (with_lost_aux values)) (Aux m) ∙ sym (old values (Aux m) h)
 
     put-keeps : Keeps op (is_numbered case.aux) (numbers before aux) (numbers before (with_lost_aux values))
-    put-keeps = record { value = λ p r e h. go (occurs n p) p r e h }
+    put-keeps = record { tells = with_solution-tells n q; value = λ p r e h. go (occurs n p) p r e h }
       where
         go : (b : Bool) (p r : Polynomial) → cond b (substituted (put_for n q) p) (Ok p) ≡ Ok r → IsTrue (every_column (is_numbered case.aux) p) → value_of (numbers before (with_lost_aux values)) r ≡ value_of (numbers before aux) p
         go true p r e h =
@@ -357,7 +358,7 @@ module _ (case : Case) (n : ℕ) (q : Polynomial) (all : Numbered case) (before 
       go false = column-value (numbers before aux) (Aux m)
 
   back-keeps : Keeps op (is_numbered case.aux) (numbers before with_solved_aux) (numbers before aux)
-  back-keeps = record { value = λ p r e h. go (occurs n p) p r refl e h }
+  back-keeps = record { tells = with_solution-tells n q; value = λ p r e h. go (occurs n p) p r refl e h }
     where
       go : (b : Bool) (p r : Polynomial) → occurs n p ≡ b → cond b (substituted (put_for n q) p) (Ok p) ≡ Ok r → IsTrue (every_column (is_numbered case.aux) p) → value_of (numbers before aux) r ≡ value_of (numbers before with_solved_aux) p
       go true p r f e h =
@@ -426,7 +427,7 @@ module _ (case : Case) (place n : ℕ) (row : Row) (all : AllNumbered case) (can
   solved-held = go (solution row.poly n) refl
     where
       go : (r : Result Polynomial TermError) → solution row.poly n ≡ r → lost_with_solved r n left ≡ [] → HoldsCase (with_solved r n left) before after → HoldsCase case before after
-      go (Err x) e none h = absurd (noted-some x none)
+      go (Err x) e none h = absurd (lost-some (solution row.poly n) x (solution-tells row.poly n) e none)
       go (Ok q) e none (aux, h) =
           let solved = with_solved_aux left n q left_numbered before after aux in
           let back = put-held left n q left_numbered before after aux none h in

@@ -23,7 +23,7 @@ value_there at [] place = refl
 value_there at (p ∷ posts) zero = refl
 value_there at (p ∷ posts) (suc place) = value_there at posts place
 
-values_there : (at : Valuation) (places : List ℕ) (posts : List Polynomial) → map (value_of at) (posts_at places posts) ≡ numbers_at places (map (value_of at) posts)
+pub values_there : (at : Valuation) (places : List ℕ) (posts : List Polynomial) → map (value_of at) (posts_at places posts) ≡ numbers_at places (map (value_of at) posts)
 values_there at [] posts = refl
 values_there at (place ∷ places) posts = λ i. value_there at posts place i ∷ values_there at places posts i
 

@@ -6,16 +6,16 @@ use Rattle.std.proofs.lemmas.Int.{ints}
 use Rattle.linear_terms.specs.declared.col.Col.{Col}
 use Rattle.linear_terms.specs.declared.col.Col.TheVariants.{Aux}
 use Rattle.linear_terms.specs.declared.error.TermError.{TermError}
-use Rattle.linear_terms.specs.declared.error.TermError.TheVariants.{Wide, Degree, Memory}
 use Rattle.linear_terms.specs.declared.row.Row.{Row}
 use Rattle.linear_terms.specs.Polynomial.{Terms, Polynomial, column_of}
 use Rattle.linear_terms.specs.Row.{RowHolds, IsWithin}
 use Rattle.linear_terms.specs.Value.{Valuation, mono_value, terms_value, value_of}
 use Rattle.linear_terms.proofs.Columns.{EachColumn}
-use Rattle.transition_formula.specs.Loss.{noted, answered, losses_of}
+use Rattle.transition_formula.specs.Loss.{answered, losses_of}
 use Rattle.transition_formula.specs.Transition.{every_column}
 use Rattle.transition_formula.specs.Composition.{Operation, row_of, rows_by, filled, posts_by}
 use Rattle.transition_formula.proofs.Covered.{both, columns_from_test}
+use Rattle.transition_formula.proofs.Telling.{Tells, lost-some}
 
 pub column-value : (at : Valuation) (c : Col) → value_of at (column_of c) ≡ at c
 column-value at c = go (at c)
@@ -47,12 +47,7 @@ module _ (v w : Valuation) (test : Col → Bool) (agree : (c : Col) → IsTrue (
   posts-agree [] h = refl
   posts-agree (p ∷ posts) h = let parts = both (every_column test p) (list_all (every_column test) posts) h in λ i. value-agrees p parts.0 i ∷ posts-agree posts parts.1 i
 
--- ---- a loss is noted
-
-pub noted-some : (e : TermError) → noted e ≡ [] → ⊥
-noted-some (Wide left right times) h = cc
-noted-some Degree h = cc
-noted-some Memory h = cc
+-- ---- where nothing was lost
 
 front-none : {X : Type 0} (xs ys : List X) → xs ++ ys ≡ [] → (xs ≡ []) × (ys ≡ [])
 front-none [] ys e = (refl, e)
@@ -63,8 +58,9 @@ none-of = front-none
 
 -- ---- operations
 
--- what the operation answers has under w the value that its operand has under v
+-- what the operation answers has under w the value that its operand has under v, and it is never want of memory
 pub record Keeps (f : Operation) (test : Col → Bool) (v w : Valuation) : Type 0 where
+  pub tells : (p : Polynomial) → Tells (f p)
   pub value : (p q : Polynomial) → f p ≡ Ok q → IsTrue (every_column test p) → value_of w q ≡ value_of v p
 
 -- the values of the posts that are lost
@@ -101,7 +97,7 @@ module _ (f : Operation) (test : Col → Bool) (v w : Valuation) (keeps : Keeps 
       go : (r : Result Polynomial TermError) → f row.poly ≡ r → IsTrue (every_column test row.poly) → losses_of r ≡ [] → AllByRecursion (RowHolds w) (cons_option (row_of row.kind r) (rows_by f rows))
           → (AllByRecursion (RowHolds w) (rows_by f rows) → AllByRecursion (RowHolds v) rows) → RowHolds v row × AllByRecursion (RowHolds v) rows
       go (Ok q) e c l held ih = (subst (IsWithin row.kind) (keeps.value row.poly q e c) held.0, ih held.1)
-      go (Err d) e c l held ih = absurd (noted-some d l)
+      go (Err d) e c l held ih = absurd (lost-some (f row.poly) d (keeps.tells row.poly) e l)
 
   pub posts_by-values : (next : ℕ) (posts : List Polynomial) → IsTrue (list_all (every_column test) posts) → NumbersFrom w next (lost_values f v posts)
       → map (value_of w) (posts_by f next posts) ≡ map (value_of v) posts
@@ -130,4 +126,4 @@ module _ (f : Operation) (test : Col → Bool) (v w : Valuation) (keeps : Keeps 
       go : (r : Result Polynomial TermError) → f p ≡ r → IsTrue (every_column test p) → losses_of r ≡ [] → map (value_of w) (posts_by f next posts) ≡ map (value_of v) posts
           → map (value_of w) (filled next (answered r ∷ map (λ q. answered (f q)) posts)) ≡ map (value_of v) (p ∷ posts)
       go (Ok q) e c l later = λ i. keeps.value p q e c i ∷ later i
-      go (Err d) e c l later = absurd (noted-some d l)
+      go (Err d) e c l later = absurd (lost-some (f p) d (keeps.tells p) e l)

@@ -1,6 +1,7 @@
 pub use Rattle.items.specs.Gives
 -- ---- what must be believed: the words of the clauses of public calls
 pub mod Composition
+pub mod Equating
 pub mod Hiding
 pub mod Loss
 pub mod Meaning

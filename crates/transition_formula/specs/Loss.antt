@@ -5,12 +5,17 @@ use Rattle.linear_terms.specs.declared.error.TermError.TheVariants.{Wide, Degree
 use Rattle.transition_formula.specs.declared.loss.Loss.{Loss}
 use Rattle.transition_formula.specs.declared.loss.Loss.TheVariants as lost
 
--- What is noted of a step that has no answer. Want of memory is no answer of an operation on plain polynomials; it stands here so
--- that nothing is left out without a note.
+-- the loss that an error of an operation is; want of memory is none, and no operation on plain polynomials answers it
+abbrev pub loss_of : TermError → Option Loss
+loss_of (Wide left right times) = Some (lost.Wide left right times)
+loss_of Degree = Some lost.Degree
+loss_of Memory = None
+
+-- what is noted of a step that has no answer
 abbrev pub noted : TermError → List Loss
 noted (Wide left right times) = lost.Wide left right times ∷ []
 noted Degree = lost.Degree ∷ []
-noted Memory = lost.Degree ∷ []
+noted Memory = []
 
 -- the answer of an operation, if it has one
 abbrev pub answered : {A : Type 0} → Result A TermError → Option A

@@ -40,7 +40,7 @@ pub(crate) fn columns_below(alloc: Global, columns: u32) -> Result<Items<Poly>, 
 }
 
 /// One column as a polynomial.
-pub(crate) fn column(alloc: Global, col: Col) -> Result<Poly, FormulaError>
+pub fn column(alloc: Global, col: Col) -> Result<Poly, FormulaError>
     ensures { IfOk result (λ p. p ≡ column_of col) }
 {
     match Poly::column(alloc, col) {

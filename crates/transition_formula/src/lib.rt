@@ -3,6 +3,7 @@
 #![tactic(auto)]
 
 mod compose;
+mod equating;
 mod equations;
 mod error;
 mod formula;
@@ -16,11 +17,12 @@ mod solution;
 mod solving;
 mod tidy;
 
-pub use compose::{identity, join};
+pub use compose::{column, identity, join};
+pub use equating::{equated, raised};
 pub use error::FormulaError;
 pub use formula::Formula;
 pub use hiding::hidden;
-pub use loss::Loss;
+pub use loss::{Loss, loss_of, note};
 pub use posts::{with_entries, with_posts};
 pub use sequence::seq;
 pub use solving::{Solved, solve};

@@ -1,6 +1,6 @@
 ghost use Rattle.std.specs.Prelude.{◌≡◌, ◌++◌, Some, OnOk};
 ghost use Rattle.linear_terms.specs.TermError.{cause};
-ghost use Rattle.transition_formula.specs.Loss.{noted};
+ghost use Rattle.transition_formula.specs.Loss.{loss_of, noted};
 
 use crate::FormulaError;
 use items::Items;
@@ -19,16 +19,27 @@ pub enum Loss {
     Degree,
 }
 
+/// The loss that an error of an operation is. Want of memory is none.
+pub fn loss_of(error: TermError) -> Option<Loss>
+    ensures { result ≡ loss_of error }
+{
+    match error {
+        TermError::Wide { left, right, times } => Some(Loss::Wide { left, right, times }),
+        TermError::Degree => Some(Loss::Degree),
+        TermError::Memory => None,
+    }
+}
+
 /// Notes an error of an operation; want of memory is an error here too.
-pub(crate) fn note(error: TermError, losses: &mut Items<Loss>) -> Result<(), FormulaError>
+pub fn note(error: TermError, losses: &mut Items<Loss>) -> Result<(), FormulaError>
     ensures noted { OnOk result (losses.new ≡ losses.old ++ noted error) }
     ensures told { OnOk result (cause error ≡ Some error) }
 {
-    let loss = match error {
-        TermError::Wide { left, right, times } => Loss::Wide { left, right, times },
-        TermError::Degree => Loss::Degree,
-        TermError::Memory => return Err(FormulaError::Memory),
-    };
-    losses.push(loss)?;
-    Ok(())
+    match loss_of(error) {
+        Some(loss) => {
+            losses.push(loss)?;
+            Ok(())
+        }
+        None => Err(FormulaError::Memory),
+    }
 }

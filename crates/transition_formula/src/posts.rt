@@ -49,7 +49,11 @@ fn case_with_posts(alloc: Global, case: &Case, places: &[u32]) -> Result<Case, F
     })
 }
 
-fn posts_at(alloc: Global, posts: &[Poly], places: &[u32]) -> Result<Items<Poly>, FormulaError>
+pub(crate) fn posts_at(
+    alloc: Global,
+    posts: &[Poly],
+    places: &[u32],
+) -> Result<Items<Poly>, FormulaError>
     requires { All (λ place. place < length posts.now) places.now }
     ensures { IfOk result (λ made. made ≡ posts_at places.now posts.now) }
 {

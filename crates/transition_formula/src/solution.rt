@@ -1,4 +1,4 @@
-ghost use Rattle.std.specs.Prelude.{◌≡◌, ◌+◌, ◌<◌, ◌++◌, Some, length, slice_get, count_by, IfOk, OnOk};
+ghost use Rattle.std.specs.Prelude.{◌≡◌, ◌+◌, ◌<◌, ◌^◌, ◌++◌, Some, length, slice_get, count_by, IfOk, OnOk};
 ghost use Rattle.std.specs.List.{flat_map, remove};
 ghost use Rattle.std.specs.Option.{is_none};
 ghost use Rattle.linear_terms.specs.declared.row.Row.{Row};
@@ -25,7 +25,8 @@ pub(crate) fn without_equation(
     aux: u32,
     losses: &mut Items<Loss>,
 ) -> Result<Case, FormulaError>
-    requires { place < length case.rows }
+    requires there { place < length case.rows }
+    requires few { (row : Row) → slice_get case.rows place ≡ Some row → (with_solved (solution row.poly aux) aux (record { aux = case.aux; rows = remove case.rows place; post = case.post })).aux < 2 ^ 32 }
     ensures exact { (row : Row) → slice_get case.rows place ≡ Some row → IfOk result (λ made. made ≡ with_solved (solution row.poly aux) aux (record { aux = case.aux; rows = remove case.rows place; post = case.post })) }
     ensures noted { (row : Row) → slice_get case.rows place ≡ Some row → OnOk result (losses.new ≡ losses.old ++ lost_with_solved (solution row.poly aux) aux (record { aux = case.aux; rows = remove case.rows place; post = case.post })) }
 {
@@ -70,6 +71,7 @@ impl Solution {
         posts: &[Poly],
         losses: &mut Items<Loss>,
     ) -> Result<Case, FormulaError>
+        requires { count + count_by (λ p. is_none (answered (with_solution self.now.aux self.now.by p))) posts.now < 2 ^ 32 }
         ensures exact { IfOk result (λ made. made ≡ by (with_solution self.now.aux self.now.by) (record { aux = count; rows = rows.now; post = posts.now })) }
         ensures noted { OnOk result (losses.new ≡ losses.old ++ lost_by (with_solution self.now.aux self.now.by) (record { aux = count; rows = rows.now; post = posts.now })) }
     {
@@ -128,6 +130,7 @@ impl Solution {
         count: u32,
         losses: &mut Items<Loss>,
     ) -> Result<(u32, Items<Poly>), FormulaError>
+        requires { count + count_by (λ p. is_none (answered (with_solution self.now.aux self.now.by p))) posts.now < 2 ^ 32 }
         ensures made { IfOk result (λ made. made.1 ≡ posts_by (with_solution self.now.aux self.now.by) count posts.now) }
         ensures count { IfOk result (λ made. made.0 ≡ count + count_by (λ p. is_none (answered (with_solution self.now.aux self.now.by p))) posts.now) }
         ensures noted { OnOk result (losses.new ≡ losses.old ++ flat_map (λ p. losses_of (with_solution self.now.aux self.now.by p)) posts.now) }
@@ -139,7 +142,7 @@ impl Solution {
                 poly
             } else {
                 let lost = column(alloc, Col::Aux(aux))?;
-                aux = next_number(aux)?;
+                aux += 1;
                 lost
             };
             made.push(poly)?;
@@ -164,15 +167,5 @@ impl Solution {
                 Ok(None)
             }
         }
-    }
-}
-
-/// The number after one. A case with more auxiliaries than have numbers does not fit into memory.
-fn next_number(number: u32) -> Result<u32, FormulaError>
-    ensures { IfOk result (λ n. n ≡ number + 1) }
-{
-    match number.checked_add(1) {
-        Some(next) => Ok(next),
-        None => Err(FormulaError::Memory),
     }
 }

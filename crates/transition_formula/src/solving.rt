@@ -41,6 +41,7 @@ pub fn solve(alloc: Global, case: &Case, losses: &mut Items<Loss>) -> Result<Sol
 
 fn in_order(alloc: Global, case: &Case, losses: &mut Items<Loss>) -> Result<Solved, FormulaError>
     requires numbered { IsTrue (every_column_of (is_numbered case.now.aux) case.now) }
+    requires few { case.now.aux + length case.now.post < 2 ^ 32 }
     ensures exact { IfOk result (λ made. made ≡ solved (in_order case.now).left) }
     ensures noted { OnOk result (losses.new ≡ losses.old ++ (in_order case.now).losses) }
 {

@@ -10,6 +10,7 @@ use Rattle.transition_formula.specs.Renumbering.{renumbered_case}
 use Rattle.transition_formula.specs.Rows.{tidied}
 use Rattle.transition_formula.specs.Order.{first_equation, solution}
 use Rattle.transition_formula.specs.Rounds.{Ordered, rounds, after_losses, in_order, with_rows, with_solved, lost_with_solved}
+use Rattle.transition_formula.proofs.FewAuxiliaries.{HasRoom, first-room, room-few, solved-room, tidied-room}
 use Rattle.transition_formula.proofs.Rounding.{Leaves, Comes, IsTidied, AllNumbered, found_at, mapped_none, mapped_some, tidied-numbered, solved-numbered, first_equation-row, round_false, round_last, round_next, rounds_done}
 use Rattle.transition_formula.proofs.solving.in_order.Goals as goal
 
@@ -27,6 +28,7 @@ loop-round-init c =
     record {
       same = λ i. after_losses c.args.losses.now (rounds (all i) (same i));
       numbered = subst AllNumbered (sym same) c.requires.numbered;
+      room = subst (HasRoom case.aux (length case.post)) (sym same) (first-room case c.requires.numbered);
     }
 
 came_false : (end at : ℕ) (left : Case) (whole : Ordered) (start noted noted2 : List Loss) (o : Option Case) → at < end → Leaves noted (rounds (end - at) left) start whole → o ≡ None → o ≡ option_map (with_rows left) (tidied left.rows).rows → noted2 ≡ noted ++ (tidied left.rows).losses → Comes whole start False noted2
@@ -59,9 +61,24 @@ returns-in_default-first_equation-clause-noted c =
     (mapped_some c.loop-round.left c.in-Some.tidied (sym c.in-Some.is ∙ c.in_ok-tidied.ensures.exact)) c.in_ok-tidied.ensures.noted
     (sym c.in_default-first_equation.is ∙ c.first_equation.ensures ∙ ap first_equation c.as_slice.ensures) c.in_ok-made.ensures).losses
 
-pub without_equation-requires : goal.without_equation-requires
-without_equation-requires c =
+pub without_equation-requires-clause-there : goal.without_equation-requires-clause-there
+without_equation-requires-clause-there c =
     (first_equation-row c.in-Some.tidied.rows c.in-Some-first_equation.place c.in-Some-first_equation.aux (sym c.in-Some-first_equation.is ∙ c.first_equation.ensures ∙ ap first_equation c.as_slice.ensures)).0
+
+-- the case after a round has room
+came_room : (case left made : Case) (place n : ℕ) (row : Row) → IsTidied left made → HasRoom case.aux (length case.post) left → found_at place n ≡ first_equation made.rows → Some row ≡ slice_get made.rows place
+    → HasRoom case.aux (length case.post) (with_solved (solution row.poly n) n (with_rows made (remove made.rows place)))
+came_room case left made place n row t room found is = solved-room case.aux (length case.post) made place n row found is (tidied-room case.aux (length case.post) left made t room)
+
+pub without_equation-requires-clause-few : goal.without_equation-requires-clause-few
+without_equation-requires-clause-few c row is =
+    let case = c.args.case.now in
+    let made = c.in-Some.tidied in
+    let place = c.in-Some-first_equation.place in
+    let n = c.in-Some-first_equation.aux in
+    let found : found_at place n ≡ first_equation made.rows = sym c.in-Some-first_equation.is ∙ c.first_equation.ensures ∙ ap first_equation c.as_slice.ensures in
+    room-few case.aux (length case.post) (with_solved (solution row.poly n) n (with_rows made (remove made.rows place)))
+    (came_room case c.loop-round.left made place n row (mapped_some c.loop-round.left made (sym c.in-Some.is ∙ c.in_ok-tidied.ensures.exact)) c.loop-round.invariant.room found (sym is)) c.requires.few
 
 came_next : (end at : ℕ) (left made next : Case) (place n : ℕ) (row : Row) (whole : Ordered) (start noted noted2 noted3 : List Loss) → at < end → Leaves noted (rounds (end - at) left) start whole → AllNumbered left → IsTidied left made → noted2 ≡ noted ++ (tidied left.rows).losses
     → found_at place n ≡ first_equation made.rows → Some row ≡ slice_get made.rows place → next ≡ with_solved (solution row.poly n) n (with_rows made (remove made.rows place))
@@ -87,6 +104,9 @@ loop-round-preserved c =
     record {
       same = both.0;
       numbered = both.1;
+      room =
+          subst (HasRoom c.args.case.now.aux (length c.args.case.now.post)) (sym (c.in_ok-left-2.ensures.exact row (sym there.1.1)))
+          (came_room c.args.case.now c.loop-round.left made place n row (mapped_some c.loop-round.left made (sym c.in-Some.is ∙ c.in_ok-tidied.ensures.exact)) c.loop-round.invariant.room found there.1.1);
     }
 
 pub renumbered_case-requires-2 : goal.renumbered_case-requires-2
