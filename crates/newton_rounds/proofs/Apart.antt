@@ -1,5 +1,5 @@
 -- A group without a call that follows another.
-use Rattle.std.proofs.Common.{◌≡◌, ℕ, zero, suc, ◌+◌, ◌<◌, Bool, true, false, not, ◌&&◌, if◌then◌else◌, List, [], ◌∷◌, length, map, get_or, refl, sym, ap, subst, ◌∙◌, ◌↔◌, arith}
+use Rattle.std.proofs.Common.{◌≡◌, ℕ, zero, suc, ◌<◌, Bool, true, false, not, if◌then◌else◌, List, [], ◌∷◌, map, refl, sym, ap, subst, ◌∙◌, ◌↔◌, arith}
 use Rattle.std.specs.Prelude.{All, IsTrue}
 use Rattle.std.specs.List.{AllByRecursion, Contains, list_all}
 use Rattle.std.proofs.lemmas.Bool.{false≢true, and_parts, and_from}
@@ -11,18 +11,18 @@ use Rattle.flow_graph.specs.FlowGraph.{Arc}
 use Rattle.flow_graph.specs.Plain.{arc_of}
 use Rattle.proc_summary.specs.Subject.{link_of}
 use Rattle.newton_rounds.specs.Members.{AreApart, calls_in, is_call_to}
-use Rattle.newton_rounds.specs.Reached.{IsReached, TellsReached, is_marked}
+use Rattle.newton_rounds.specs.Reached.{TellsReached, is_marked}
 
 -- ---- elements
 
-element_of_map : (f : Arc → ℕ) (ways : List Arc) (way : Arc) → Contains ways way → Contains (map f ways) (f way)
+pub element_of_map : {X : Type 0} (f : Arc → X) (ways : List Arc) (way : Arc) → Contains ways way → Contains (map f ways) (f way)
 element_of_map f [] way c = absurd (let lt = c.1 in omega (arith, lt))
 element_of_map f (w ∷ ways) way (zero, lt, e) = (zero, omega arith, ap f e)
 element_of_map f (w ∷ ways) way (suc k, lt, e) =
     let more = element_of_map f ways way (k, omega (arith, lt), e) in
     (suc more.0, (let less = more.1 in omega (arith, less)), more.2)
 
-from_element_of_map : (f : Arc → ℕ) (ways : List Arc) (n : ℕ) → Contains (map f ways) n → (way : Arc) × (Contains ways way × (f way ≡ n))
+pub from_element_of_map : {X : Type 0} (f : Arc → X) (ways : List Arc) (n : X) → Contains (map f ways) n → (way : Arc) × (Contains ways way × (f way ≡ n))
 from_element_of_map f [] n c = absurd (let lt = c.1 in omega (arith, lt))
 from_element_of_map f (w ∷ ways) n (zero, lt, e) = (w, ((zero, omega arith, refl), e))
 from_element_of_map f (w ∷ ways) n (suc k, lt, e) =

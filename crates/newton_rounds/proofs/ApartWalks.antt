@@ -1,33 +1,21 @@
 -- A walk of a member makes no call of its group, or its first one stands between two parts; in a linear group there is no other.
 use Rattle.std.proofs.Common.{◌≡◌, ◌⊎◌, inl, inr, ℕ, zero, suc, ◌+◌, Bool, true, false, List, [], ◌∷◌, map, Option, None, Some, refl, sym, ap, subst, ◌∙◌, arith}
-use Rattle.std.specs.Prelude.{◌==◌, slice_get, slice_set, if◌then◌else◌}
+use Rattle.std.specs.Prelude.{◌==◌, slice_get, if◌then◌else◌}
 use Rattle.std.specs.List.{Contains}
 use Rattle.std.specs.Option.{option_map}
 use Rattle.std.proofs.lemmas.Bool.{eq-eqb}
 use Rattle.std.proofs.lemmas.Option.{slice_get-map}
 use Rattle.path_expr.specs.Walks.{IsWalk}
-use Rattle.polyhedra.proofs.Lists.{same_number}
 use Rattle.syntax_tree.specs.Value.{State}
 use Rattle.transition_formula.specs.Transition.{Transition}
 use Rattle.flow_graph.specs.FlowGraph.{Arc}
 use Rattle.flow_graph.specs.Walks.{CallMeaning, EdgeRelates, Stride, Walks}
 use Rattle.proc_summary.specs.Subject.{link_of}
 use Rattle.newton_rounds.specs.Members.{AreApart, calls_in, is_call_to, place_of, with_table}
+use Rattle.newton_rounds.proofs.MemberTables.{table-leaves}
 use Rattle.newton_rounds.proofs.ToldCalls.{TellsCall, edge-told}
 
 -- ---- places in the group
-
-pub place-is : (n : ℕ) (ms : List ℕ) (k : ℕ) → place_of n ms ≡ Some k → slice_get ms k ≡ Some n
-place-is n [] k e = absurd (cc)
-place-is n (m ∷ ms) k e = go (n == m) refl (place_of n ms) (λ j f. place-is n ms j f) e
-  where
-    go : (b : Bool) → (n == m) ≡ b → (o : Option ℕ) → ((j : ℕ) → o ≡ Some j → slice_get ms j ≡ Some n) → (if b then Some 0 else option_map (λ place. place + 1) o) ≡ Some k → slice_get (m ∷ ms) k ≡ Some n
-    go true same o later f = let at : 0 ≡ k = cc in subst (λ j. slice_get (m ∷ ms) j ≡ Some n) at (ap Some (sym (same_number n m same)))
-    go false differs None later f = absurd (cc)
-    go false differs (Some j) later f =
-        let at : j + 1 ≡ k = cc in
-        let next : suc j ≡ k = omega (arith, at) in
-        subst (λ i. slice_get (m ∷ ms) i ≡ Some n) next (later j refl)
 
 pub no-place : (n : ℕ) (ms : List ℕ) → place_of n ms ≡ None → (k : ℕ) → slice_get ms k ≡ Some n → ⊥
 no-place n [] e zero f = absurd (cc)
@@ -158,19 +146,4 @@ module _ (procs : List ℕ) (calls others : CallMeaning) (globals : ℕ) (arcs :
 -- ---- what is known without a table
 
 pub with-none : (procs : List ℕ) (known : List (Option Transition)) (c : ℕ) → place_of c procs ≡ None → slice_get (with_table procs [] known) c ≡ slice_get known c
-with-none [] known c e = refl
-with-none (q ∷ procs) known c e = go (c == q) refl (place_of c procs) refl e (λ f. with-none procs (slice_set known q None) c f)
-  where
-    other : (xs : List (Option Transition)) (i j : ℕ) → (i ≡ j → ⊥) → slice_get (slice_set xs i None) j ≡ slice_get xs j
-    other [] i j differs = refl
-    other (x ∷ xs) zero zero differs = absurd (differs refl)
-    other (x ∷ xs) zero (suc j) differs = refl
-    other (x ∷ xs) (suc i) zero differs = refl
-    other (x ∷ xs) (suc i) (suc j) differs = other xs i j (λ same. differs (ap suc same))
-
-    go : (b : Bool) → (c == q) ≡ b → (o : Option ℕ) → place_of c procs ≡ o → (if b then Some 0 else option_map (λ place. place + 1) o) ≡ None
-        → (place_of c procs ≡ None → slice_get (with_table procs [] (slice_set known q None)) c ≡ slice_get (slice_set known q None) c) → slice_get (with_table procs [] (slice_set known q None)) c ≡ slice_get known c
-    go true same o f g later = absurd (cc)
-    go false differs (Some j) f g later = absurd (cc)
-    go false differs None f g later =
-        later f ∙ other known q c (λ same. let equal : (c == q) ≡ true = eq-eqb c q (sym same) in absurd (cc))
+with-none procs known c e = table-leaves procs [] known c (no-place c procs e)

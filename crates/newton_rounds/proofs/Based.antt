@@ -4,16 +4,16 @@ use Rattle.std.specs.Prelude.{All, Option}
 use Rattle.std.specs.List.{AllByRecursion}
 use Rattle.items.proofs.Each.{each-map}
 use Rattle.linear_terms.specs.declared.row.Case.{Case}
+use Rattle.transition_formula.specs.Equating.{equated, equated_case}
 use Rattle.transition_formula.specs.Posts.{case_with_posts}
 use Rattle.transition_formula.specs.Transition.{Transition, IsTransition}
+use Rattle.transition_formula.proofs.PostsAsEntries.{equated-fits}
 use Rattle.transition_formula.proofs.SomePosts.{with_posts-fits}
 use Rattle.proc_summary.specs.Claims.{FitsIf}
 use Rattle.proc_summary.specs.Summary.{exit_places}
 use Rattle.newton_rounds.specs.Between.{GoesBetween}
-use Rattle.newton_rounds.specs.Equating.{equated, equated_case}
 use Rattle.newton_rounds.specs.Pairs.{PairEnds, base_from, entry_told}
 use Rattle.newton_rounds.specs.Shapes.{AreEnds}
-use Rattle.newton_rounds.proofs.Equated.{equated-fits}
 use Rattle.newton_rounds.proofs.Placed.{pair-holds}
 use Rattle.newton_rounds.proofs.Told.{told-fits, told-has, told-there, told-to}
 

@@ -15,9 +15,11 @@ use Rattle.syntax_tree.specs.declared.program.Program.{Program}
 use Rattle.syntax_tree.specs.Code.{code_of}
 use Rattle.syntax_tree.specs.Value.{State}
 use Rattle.syntax_tree.specs.WellFormed.{IsWellFormed, width_of}
+use Rattle.transition_formula.specs.Equating.{equated, equated_case}
 use Rattle.transition_formula.specs.Meaning.{Holds}
 use Rattle.transition_formula.specs.Posts.{case_with_posts, numbers_at}
 use Rattle.transition_formula.specs.Transition.{IsTransition, Transition}
+use Rattle.transition_formula.proofs.PostsAsEntries.{equated-fits}
 use Rattle.transition_formula.proofs.SomePosts.{with_posts-fits}
 use Rattle.flow_graph.specs.FlowGraph.{exit_of}
 use Rattle.flow_graph.specs.Heights.{ReturnsOver}
@@ -32,13 +34,11 @@ use Rattle.proc_summary.proofs.Graphs.{full-columns, length-after}
 use Rattle.proc_summary.proofs.Told.{entry-columns, numbers-told}
 use Rattle.newton_rounds.specs.Between.{GoesBetween}
 use Rattle.newton_rounds.specs.Closure.{base_of, pair_ends, with_base}
-use Rattle.newton_rounds.specs.Equating.{equated, equated_case}
 use Rattle.newton_rounds.specs.Members.{members_of}
 use Rattle.newton_rounds.specs.Pairs.{PairEnds, base_from, entry_told}
 use Rattle.newton_rounds.specs.Shapes.{AreEnds}
 use Rattle.newton_rounds.proofs.Called.{AreThere}
 use Rattle.newton_rounds.proofs.CanonicalOrder.{IsCanonicalFormula}
-use Rattle.newton_rounds.proofs.Equated.{equated-fits}
 use Rattle.newton_rounds.proofs.Matched.{IsBehind, each-match}
 use Rattle.newton_rounds.proofs.MemberTables.{IsProcedure, each-member}
 use Rattle.newton_rounds.proofs.Numbered.{HasFew, few-more, states-of}

@@ -1,5 +1,5 @@
 -- The calls of a group lead from a member to a member, with arguments that can be made.
-use Rattle.std.proofs.Common.{◌≡◌, ℕ, zero, suc, ◌+◌, ◌<◌, ◌≤◌, Bool, true, false, List, [], ◌∷◌, ◌++◌, length, get_or, map, refl, sym, ap, subst, ◌∙◌, arith}
+use Rattle.std.proofs.Common.{◌≡◌, ℕ, zero, suc, ◌+◌, ◌<◌, Bool, true, false, List, [], ◌∷◌, ◌++◌, length, get_or, map, refl, sym, ap, subst, ◌∙◌, arith}
 use Rattle.std.specs.Prelude.{All, IsTrue, Option, None, Some, option_to_list, ◌==◌, if◌then◌else◌}
 use Rattle.std.specs.List.{AllByRecursion, flat_map, slice_get}
 use Rattle.std.specs.Option.{option_map, unwrap_or}
@@ -11,7 +11,6 @@ use Rattle.items.proofs.Each.{each-append, each-flat_map}
 use Rattle.syntax_tree.specs.declared.program.Proc.{Proc}
 use Rattle.syntax_tree.specs.declared.program.Program.{Program}
 use Rattle.syntax_tree.specs.Code.{Statement, Set, Any, Call, Guard, Check, If, Loop, Break, Continue, Return}
-use Rattle.syntax_tree.specs.Term.{Term}
 use Rattle.syntax_tree.specs.WellFormed.{IsWellFormed, all_columns_below, width_of}
 use Rattle.flow_graph.specs.declared.parts.Edge.{Edge}
 use Rattle.flow_graph.specs.declared.parts.Graph.{Graph}
@@ -36,17 +35,8 @@ each-got P (x ∷ xs) at = (at 0 x refl, each-got P xs (λ k y e. at (suc k) y e
 pub number-at : (ns : List ℕ) (i : ℕ) → i < length ns → slice_get ns i ≡ Some (get_or ns i 0)
 number-at ns i lt = let at = some_at ns i lt in subst (λ n. slice_get ns i ≡ Some n) (sym (get_or_from_slice_get ns i at.0 0 at.1)) at.1
 
-placed-within : (n : ℕ) (ms : List ℕ) (k : ℕ) → place_of n ms ≡ Some k → k < length ms
-placed-within n [] k e = absurd (cc e)
-placed-within n (m ∷ ms) k e = go (n == m) (place_of n ms) (λ j f. placed-within n ms j f) e
-  where
-    go : (same : Bool) (o : Option ℕ) → ((j : ℕ) → o ≡ Some j → j < length ms) → (if same then Some 0 else option_map (λ place. place + 1) o) ≡ Some k → k < length (m ∷ ms)
-    go true o below e = let at : 0 ≡ k = cc in omega (arith, at)
-    go false None below e = absurd (cc e)
-    go false (Some j) below e = let at : j + 1 ≡ k = cc in let lt = below j refl in omega (arith, at, lt)
-
 -- the number stands there
-placed-at : (n : ℕ) (ms : List ℕ) (k : ℕ) → place_of n ms ≡ Some k → slice_get ms k ≡ Some n
+pub placed-at : (n : ℕ) (ms : List ℕ) (k : ℕ) → place_of n ms ≡ Some k → slice_get ms k ≡ Some n
 placed-at n [] k e = absurd (cc e)
 placed-at n (m ∷ ms) k e = go (n == m) refl (place_of n ms) (λ j f. placed-at n ms j f) e
   where
@@ -56,6 +46,9 @@ placed-at n (m ∷ ms) k e = go (n == m) refl (place_of n ms) (λ j f. placed-at
     go false t (Some j) at e =
         let next : j + 1 ≡ k = cc in let more : suc j ≡ j + 1 = omega arith in
         subst (λ i. slice_get (m ∷ ms) i ≡ Some n) next (subst (λ i. slice_get (m ∷ ms) i ≡ Some n) more (at j refl))
+
+placed-within : (n : ℕ) (ms : List ℕ) (k : ℕ) → place_of n ms ≡ Some k → k < length ms
+placed-within n ms k e = slice_get_within ms k n (placed-at n ms k e)
 
 entry-columns : (program : Program) (p : Proc) → (pair_ends program p).ends.entry.columns ≡ length program.globals + p.params
 unfolding entry_of

@@ -1,7 +1,7 @@
 -- One round: what it keeps, and that rows are true of one more unfolding where it drops none.
-use Rattle.std.proofs.Common.{◌≡◌, ℕ, suc, ◌+◌, ◌≤◌, ℤ, List, [], ◌∷◌, ◌++◌, length, map, Option, None, Some, refl, sym, ap, subst, append-nil, append_assoc, length-append, arith}
+use Rattle.std.proofs.Common.{◌≡◌, ℕ, ◌+◌, ◌≤◌, ℤ, List, [], ◌∷◌, ◌++◌, length, map, Option, None, Some, refl, sym, subst, append-nil, append_assoc, arith}
 use Rattle.std.specs.Prelude.{IsTrue, slice_get}
-use Rattle.std.specs.List.{AllByRecursion, cons_option, filter_map, flat_map}
+use Rattle.std.specs.List.{AllByRecursion, AllZip, cons_option, filter_map, flat_map}
 use Rattle.std.proofs.lemmas.List.Elements.{All-from_recursion}
 use Rattle.items.proofs.Each.{each-both, each-more, each_from_test}
 use Rattle.linear_terms.specs.declared.row.Row.{Row}
@@ -33,6 +33,7 @@ use Rattle.newton_rounds.proofs.MemberTables.{IsProcedure}
 use Rattle.newton_rounds.proofs.PassingLaws.{passing-always, passing-bind, passing-each, passing-weaker}
 use Rattle.newton_rounds.proofs.Placed.{exit-few}
 use Rattle.newton_rounds.proofs.Entailed.{Entails, pair_numbers, refuted-entails}
+use Rattle.newton_rounds.proofs.Rounded.{AreOf, kept-over}
 use Rattle.newton_rounds.proofs.Unfolded.{IsUnfolded, unfolded-tells}
 use Rattle.newton_rounds.proofs.Widths.{ends-are}
 
@@ -51,32 +52,12 @@ judged-more P Q more [] (j ∷ js) h = absurd h
 judged-more P Q more (row ∷ rows) [] h = absurd h
 judged-more P Q more (row ∷ rows) (j ∷ js) h = (h.0, (λ e. more row (h.1 e)), judged-more P Q more rows js h.2)
 
-judged-long : (True : Row → Type 0) (rows : List Row) (js : List Judged) → AreJudged True rows js → length js ≡ length rows
-judged-long True [] [] h = refl
-judged-long True [] (j ∷ js) h = absurd h
-judged-long True (row ∷ rows) [] h = absurd h
-judged-long True (row ∷ rows) (j ∷ js) h = ap suc (judged-long True rows js h.2)
-
--- what is kept has what all rows have
-pub kept-have : (True Q : Row → Type 0) (rows : List Row) (js : List Judged) → AreJudged True rows js → AllByRecursion Q rows → AllByRecursion Q (filter_map kept_row js)
-kept-have True Q [] [] h all = tt
-kept-have True Q [] (j ∷ js) h all = absurd h
-kept-have True Q (row ∷ rows) [] h all = absurd h
-kept-have True Q (row ∷ rows) (j ∷ js) h all = go j.by (kept-have True Q rows js h.2 all.1)
-  where
-    go : (by : Option Witness) → AllByRecursion Q (filter_map kept_row js) → AllByRecursion Q (cons_option (unless_refuted j.row by) (filter_map kept_row js))
-    go None later = (subst Q (sym h.0) all.0, later)
-    go (Some w) later = later
-
--- each row is kept, or a note says that it is dropped
-kept-count : (place : ℕ) (js : List Judged) → length (filter_map kept_row js) + length (dropped_in (place, js)) ≡ length js
-kept-count place [] = omega arith
-kept-count place (j ∷ js) = go j.by (kept-count place js)
-  where
-    go : (by : Option Witness) → length (filter_map kept_row js) + length (dropped_in (place, js)) ≡ length js
-        → length (cons_option (unless_refuted j.row by) (filter_map kept_row js)) + length (dropped_by place j.row by ++ dropped_in (place, js)) ≡ suc (length js)
-    go None later = omega (arith, later)
-    go (Some w) later = omega (arith, later)
+-- it is judged itself
+judged-of : (True : Row → Type 0) (rows : List Row) (js : List Judged) → AreJudged True rows js → AreOf rows js
+judged-of True [] [] h = tt
+judged-of True [] (j ∷ js) h = absurd h
+judged-of True (row ∷ rows) [] h = absurd h
+judged-of True (row ∷ rows) (j ∷ js) h = (h.0, judged-of True rows js h.2)
 
 -- where no note says so, all are kept and true
 kept-all : (True : Row → Type 0) (place : ℕ) (rows : List Row) (js : List Judged) → AreJudged True rows js → dropped_in (place, js) ≡ [] → (filter_map kept_row js ≡ rows) × AllByRecursion True rows
@@ -138,10 +119,6 @@ module _ (f : Transition) (columns : ℕ) (canonical : IsCanonicalFormula f) (re
       (passing-each (RowsLeft rows) (with_judged f) [] rows (λ row rest made k. row-judged rows row rest made k) (are, λ js h. h))
 
 -- ---- the members of a round
-
--- how many rows there are
-abbrev pub total : List (List Row) → ℕ
-total candidates = length (flat_map (λ rows. rows) candidates)
 
 module _ (program : Program) (formed : IsWellFormed program) where
   abbrev pub columns_of_pair : Proc → ℕ
@@ -230,23 +207,15 @@ module _ (program : Program) (formed : IsWellFormed program) where
     kept-candidates (p ∷ ps) [] jss h k = absurd h
     kept-candidates (p ∷ ps) (rows ∷ candidates) [] h k = absurd k
     kept-candidates (p ∷ ps) (rows ∷ candidates) (js ∷ jss) h k =
-        (kept-have (IsTrueOf known p) (IsPairRow (columns_of_pair p)) rows js k.0 h.0, kept-candidates ps candidates jss h.1 k.1)
+        (kept-over (IsPairRow (columns_of_pair p)) rows js (judged-of (IsTrueOf known p) rows js k.0) h.0, kept-candidates ps candidates jss h.1 k.1)
 
-    pub kept-total : (place : ℕ) (ps : List Proc) (candidates : List (List Row)) (jss : List (List Judged)) → AreCandidates ps candidates → AreAllJudged (members_with ps candidates) jss
-        → total (map (filter_map kept_row) jss) + length (flat_map dropped_in (placed_from place jss)) ≡ total candidates
-    kept-total place [] [] [] h k = omega arith
-    kept-total place [] [] (js ∷ jss) h k = absurd k
-    kept-total place [] (rows ∷ candidates) jss h k = absurd h
-    kept-total place (p ∷ ps) [] jss h k = absurd h
-    kept-total place (p ∷ ps) (rows ∷ candidates) [] h k = absurd k
-    kept-total place (p ∷ ps) (rows ∷ candidates) (js ∷ jss) h k =
-        let one = kept-count place js in
-        let same = judged-long (IsTrueOf known p) rows js k.0 in
-        let more = kept-total (place + 1) ps candidates jss h.1 k.1 in
-        let left = length-append (filter_map kept_row js) (flat_map (λ rows. rows) (map (filter_map kept_row) jss)) in
-        let notes = length-append (dropped_in (place, js)) (flat_map dropped_in (placed_from (place + 1) jss)) in
-        let all = length-append rows (flat_map (λ rows. rows) candidates) in
-        omega (arith, one, same, more, left, notes, all)
+    pub all-of : (ps : List Proc) (candidates : List (List Row)) (jss : List (List Judged)) → AreCandidates ps candidates → AreAllJudged (members_with ps candidates) jss → AllZip AreOf candidates jss
+    all-of [] [] [] h k = tt
+    all-of [] [] (js ∷ jss) h k = absurd k
+    all-of [] (rows ∷ candidates) jss h k = absurd h
+    all-of (p ∷ ps) [] jss h k = absurd h
+    all-of (p ∷ ps) (rows ∷ candidates) [] h k = absurd k
+    all-of (p ∷ ps) (rows ∷ candidates) (js ∷ jss) h k = (judged-of (IsTrueOf known p) rows js k.0, all-of ps candidates jss h.1 k.1)
 
     both-none : {X : Type 0} (xs ys : List X) → xs ++ ys ≡ [] → (xs ≡ []) × (ys ≡ [])
     both-none [] ys e = (refl, e)

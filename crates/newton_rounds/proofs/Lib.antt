@@ -5,13 +5,14 @@ pub mod Apart
 -- what is proved in the crates below
 pub mod Below
 -- ---- which columns formulas of pairs have, and how many auxiliaries
-pub mod Equated
 pub mod Placed
 pub mod Posted
 pub mod Numbered
 pub mod Opposite
 pub mod Told
 pub mod Stretched
+-- ---- two lists whose elements belong together
+pub mod Zipped
 -- ---- the ends of procedures, and known formulas
 pub mod Widths
 pub mod Tabled
@@ -67,3 +68,6 @@ pub mod SummariesMet
 pub mod Refuted
 -- ---- bases
 pub mod Based
+-- ---- groups that nothing tells apart
+pub mod AlikeMembers
+pub mod Alike

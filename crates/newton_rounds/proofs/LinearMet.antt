@@ -41,11 +41,11 @@ use Rattle.newton_rounds.specs.Laws.{CallsMember, KnowsOthers}
 use Rattle.newton_rounds.specs.Members.{AreApart, GroupCall, IsLinear, calls_from, is_call_to, members_of, place_of, with_table}
 use Rattle.newton_rounds.specs.Pairs.{PairEnds, Stretch, pair_formula}
 use Rattle.newton_rounds.specs.Shapes.{FitCalls, FitSides, IsCallIn, IsStretchBetween}
-use Rattle.newton_rounds.proofs.ApartWalks.{IsSplit, no-place, place-is, split-apart, with-none}
+use Rattle.newton_rounds.proofs.ApartWalks.{IsSplit, no-place, split-apart, with-none}
 use Rattle.newton_rounds.proofs.BasesMet.{IsBase, bases-true, entry-front, exits-long, exits-told}
 use Rattle.newton_rounds.proofs.Below.{some_at}
-use Rattle.newton_rounds.proofs.Called.{AreThere, calls-in, columns-at, ends-at, ends-many, member-at}
-use Rattle.newton_rounds.proofs.CallPlaces.{call-found, leaf-found, link-found, sides-found, the_call}
+use Rattle.newton_rounds.proofs.Called.{AreThere, calls-in, columns-at, ends-at, ends-many, member-at, placed-at}
+use Rattle.newton_rounds.proofs.CallPlaces.{HasSides, call-found, leaf-found, link-found, sides-found, the_call}
 use Rattle.newton_rounds.proofs.CanonicalEvaluations.{rows-canonical}
 use Rattle.newton_rounds.proofs.CanonicalOrder.{IsCanonicalFormula}
 use Rattle.newton_rounds.proofs.ClosedMet.{IsClosed, LeadsToBase, closed-holds}
@@ -59,18 +59,9 @@ use Rattle.newton_rounds.proofs.SidesMet.{IsSide, IsSideOf, sides-true}
 use Rattle.newton_rounds.proofs.Tabled.{untabled-known}
 use Rattle.newton_rounds.proofs.ToldCalls.{TellsCall}
 use Rattle.newton_rounds.proofs.Unfolded.{IsCanonicalExit, before-long, own-callee, own-walk}
+use Rattle.newton_rounds.proofs.Zipped.{some-one, zipped-at}
 
--- ---- elements that match
-
-match-at : {A B : Type 0} (P : A → B → Type 0) (xs : List A) (ys : List B) → AllZip P xs ys → (k : ℕ) (x : A) → slice_get xs k ≡ Some x → (y : B) × (slice_get ys k ≡ Some y) × P x y
-match-at P [] ys h k x e = absurd (none k e)
-  where
-    none : (n : ℕ) → slice_get [] n ≡ Some x → ⊥
-    none zero e = cc
-    none (suc n) e = cc
-match-at P (a ∷ xs) [] h k x e = absurd h
-match-at P (a ∷ xs) (y ∷ ys) h zero x e = let same : a ≡ x = cc in (y, refl, subst (λ b. P b y) same h.0)
-match-at P (a ∷ xs) (y ∷ ys) h (suc k) x e = match-at P xs ys h.1 k x e
+-- ---- places
 
 range-at : (a count k : ℕ) → k < count → slice_get (range_with_len a count) k ≡ Some (a + k)
 range-at a zero k lt = absurd (omega (arith, lt))
@@ -86,9 +77,6 @@ state-long width (Some f) fit before after h = length-after f before after fit.f
 received-long : (into : Option ℕ) (value : ℤ) (state : State) → length (walks.received into value state) ≡ length state
 received-long None value state = refl
 received-long (Some col) value state = length-set state col value
-
-some-one : {X : Type 0} {o : Option X} {x y : X} → o ≡ Some x → o ≡ Some y → x ≡ y
-some-one e f = cc
 
 module _ (program : Program) (procs : List ℕ) (known : List (Option Transition)) (formed : IsWellFormed program) (there : AreThere program procs) (few : length procs ≤ length program.procs) (are : AreKnown program known) where
   abbrev ps : List Proc
@@ -237,6 +225,9 @@ module _ (program : Program) (procs : List ℕ) (known : List (Option Transition
         member-here : slice_get ps place ≡ Some p
         member-here = member-at program procs place proc p there at is
 
+        caller_is : ends_at members place ≡ pair_ends program p
+        caller_is = ends-at program procs there place proc p at is
+
         arcs-told : (k : ℕ) (way : Arc) → slice_get arcs k ≡ Some way → is_call_to procs way.act ≡ false → TellsCall LedToBase (KnownCalls untold) way.act
         arcs-told k way e none = plain-told way.act (each-get (λ (w : Arc). CallsMember procs w.act ⊎ KnowsCallee known w.act) arcs k way (knows place proc p at is) e) none
 
@@ -264,7 +255,7 @@ module _ (program : Program) (procs : List ℕ) (known : List (Option Transition
           -- without a call of the group its base holds
           by-base : (path : List Stride) → Walks (KnownCalls untold) (length program.globals) arcs 0 before path (exit_of (code_of p.body)) r.final → Leads place pair
           by-base path walk =
-              let base = match-at (IsBase program untold) ps bases bases_fine place p member-here in
+              let base = zipped-at (IsBase program untold) ps bases bases_fine place p member-here in
               let over : ReturnsOver (KnownCalls untold) program proc globals args after value = record {
                 width = r.width;
                 callee = r.callee;
@@ -291,65 +282,112 @@ module _ (program : Program) (procs : List ℕ) (known : List (Option Transition
               }
 
           -- with one its pair leads to the pair of the callee
-          by-call : (s : IsSplit procs LedToBase (KnownCalls untold) (length program.globals) arcs arcs-told (KnownCalls untold) 0 before (exit_of (code_of p.body)) r.final) (c : ℕ) (values : List Term) (into : Option ℕ) (callee : ℕ)
-              → place_of c procs ≡ Some callee → s.way.act ≡ Call c values into → CallRelates LedToBase (length program.globals) c values into s.there s.back → Leads place pair
-          by-call s c terms into callee of_group does relates =
-              let call_returns = returned c (take (length program.globals) s.there) relates.values relates.left relates.value relates.returns in
-              let q = call_returns.begins.entered.callee in
-              let q_is = call_returns.begins.entered.is in
-              let q_at = place-is c procs callee of_group in
-              let tail = led c (take (length program.globals) s.there) relates.values relates.left relates.value relates.returns callee q q_at q_is in
-              let zero_more : 0 + place ≡ place = omega arith in
-              let found = call-found procs callee c terms into s.way does of_group 0 place s.edge ps p member-here s.is in
-              let call = the_call place callee s.way terms into in
-              let found_at : slice_get calls found.0 ≡ Some call = found.1 ∙ ap (λ n. Some (the_call n callee s.way terms into)) zero_more in
-              let has = sides-found IsOwnSide calls sides sides_fine found.0 call found_at in
-              let side : IsSide program p untold call has.one = has.fine p member-here in
-              let st : Stretch = record { call = call; before = has.one.before; after = has.one.after } in
-              let in_group = each-get (IsStretchIn members) stretches found.0 st group.calls has.stretch in
-              let caller_is : ends_at members place ≡ pair_ends program p = ends-at program procs there place proc p at is in
-              let callee_is : ends_at members callee ≡ pair_ends program q = ends-at program procs there callee c q q_at q_is in
-              let between : IsStretchBetween (pair_ends program p) (pair_ends program q) st =
-              subst (λ m. IsStretchBetween m (pair_ends program q) st) caller_is (subst (λ m. IsStretchBetween (ends_at members place) m st) callee_is in_group.is) in
-              let there_long : length s.there ≡ width_of program p = state-long (width_of program p) has.one.before side.fit_before before s.there (side.leads s.path before s.there wide s.first) in
-              let short : length relates.left ≡ length program.globals =
-              returns-globals program c (take (length program.globals) s.there) relates.values relates.left relates.value call_returns ∙ call_returns.begins.width in
-              let dropped = length-drop (length program.globals) s.there in
-              let joined = length-append relates.left (drop (length program.globals) s.there) in
-              let received = received-long into relates.value (relates.left ++ drop (length program.globals) s.there) in
-              let back_long : length s.back ≡ width_of program p = ap length relates.after_is ∙ received ∙ omega (arith, joined, dropped, short, there_long) in
-              let stops = side.goes_on s.more s.back r.final back_long s.second in
-              let final_long : length r.final ≡ (pair_ends program p).ends.full.columns = state-long (width_of program p) has.one.after side.fit_after s.back r.final stops ∙ sym (full-columns program p) in
-              let fits : CallFits program (width_of program p) c terms into = subst (EdgeFits program (width_of program p)) does (act-fits program proc p s.way.act formed is (act-at s.edge s.way s.is)) in
-              let callee_same : fits.callee ≡ q = some-one fits.is q_is in
-              let called : IsCalled (pair_ends program p) (pair_ends program q) st between before s.there relates.values relates.left s.back r.final (exit_values p after value) relates.value q.returns =
-              record {
-                starts = side.leads s.path before s.there wide s.first;
-                are = relates.are;
-                many = call_returns.begins.entered.params ∙ sym (ap (λ (x : Proc). x.params) callee_same) ∙ fits.params;
-                short = short;
-                wide = exit-long q.returns relates.left relates.value (length program.globals) short ∙ sym (exit-columns program c q formed q_is);
-                awaits = subst (λ (x : Proc). IsTrue (x.returns || not (is_some into))) callee_same fits.returns;
-                back_is = relates.after_is;
-                stops = stops;
-                told = exits-told program untold formed untold-known proc p is r.final after value final_long r.after_is r.value_is;
-                long = exits-long program untold formed untold-known proc p is r.final after value final_long r.after_is r.value_is;
-              } in
-              let answer = (take (length program.globals) s.there ++ relates.values) ++ exit_values q relates.left relates.value in
-              let held : Holds (pair_formula (pair_ends program p) (pair_ends program q) st) pair answer =
-              subst (λ front. Holds (pair_formula (pair_ends program p) (pair_ends program q) st) (front ++ exit_values p after value) answer) (entry-front program untold formed untold-known proc p is globals args r.others r.width params)
-              (pair-holds (pair_ends program p) (pair_ends program q) st between before s.there relates.values relates.left s.back r.final (exit_values p after value) relates.value q.returns called) in
-              let leaf : leaf_at (group_graph members stretches) found.0 ≡ pair_formula (pair_ends program p) (pair_ends program q) st =
-              leaf-found members stretches found.0 st has.stretch ∙ (λ i. pair_formula (caller_is i) (callee_is i) st) in
-              record {
-                last = tail.last;
-                within = tail.within;
-                word = found.0 ∷ tail.word;
-                end = tail.end;
-                walk = (callee, link-found stretches found.0 st has.stretch, tail.walk);
-                run = (answer, subst (λ f. Holds f pair answer) (sym leaf) held, tail.run);
-                base = tail.base;
-              }
+          module _ (s : IsSplit procs LedToBase (KnownCalls untold) (length program.globals) arcs arcs-told (KnownCalls untold) 0 before (exit_of (code_of p.body)) r.final) (c : ℕ) (terms : List Term) (into : Option ℕ) (callee : ℕ) (of_group : place_of c procs ≡ Some callee) (does : s.way.act ≡ Call c terms into) (relates : CallRelates LedToBase (length program.globals) c terms into s.there s.back) where
+            abbrev passed : State
+            passed = take (length program.globals) s.there
+
+            callee_returns : Returns program c passed relates.values relates.left relates.value
+            callee_returns = returned c passed relates.values relates.left relates.value relates.returns
+
+            abbrev q : Proc
+            q = callee_returns.begins.entered.callee
+
+            abbrev answer : List ℤ
+            answer = (passed ++ relates.values) ++ exit_values q relates.left relates.value
+
+            q_is : slice_get program.procs c ≡ Some q
+            q_is = callee_returns.begins.entered.is
+
+            tail : Leads callee answer
+            tail = led c passed relates.values relates.left relates.value relates.returns callee q (placed-at c procs callee of_group) q_is
+
+            abbrev call : GroupCall
+            call = the_call place callee s.way terms into
+
+            call-listed : (k : ℕ) × (slice_get calls k ≡ Some call)
+            call-listed =
+                let found = call-found procs callee c terms into s.way does of_group 0 place s.edge ps p member-here s.is in
+                let same : 0 + place ≡ place = omega arith in
+                (found.0, found.1 ∙ ap (λ n. Some (the_call n callee s.way terms into)) same)
+
+            has : HasSides IsOwnSide calls sides call-listed.0 call
+            has = sides-found IsOwnSide calls sides sides_fine call-listed.0 call call-listed.1
+
+            side : IsSide program p untold call has.one
+            side = has.fine p member-here
+
+            abbrev st : Stretch
+            st = record { call = call; before = has.one.before; after = has.one.after }
+
+            callee_is : ends_at members callee ≡ pair_ends program q
+            callee_is = ends-at program procs there callee c q (placed-at c procs callee of_group) q_is
+
+            between : IsStretchBetween (pair_ends program p) (pair_ends program q) st
+            between =
+                subst (λ m. IsStretchBetween m (pair_ends program q) st) caller_is
+                (subst (λ m. IsStretchBetween (ends_at members place) m st) callee_is (each-get (IsStretchIn members) stretches call-listed.0 st group.calls has.stretch).is)
+
+            -- ---- states of the caller
+
+            short : length relates.left ≡ length program.globals
+            short = returns-globals program c passed relates.values relates.left relates.value callee_returns ∙ callee_returns.begins.width
+
+            starts : HoldsIf has.one.before before s.there
+            starts = side.leads s.path before s.there wide s.first
+
+            back_long : length s.back ≡ width_of program p
+            back_long =
+                let there_long = state-long (width_of program p) has.one.before side.fit_before before s.there starts in
+                let dropped = length-drop (length program.globals) s.there in
+                let joined = length-append relates.left (drop (length program.globals) s.there) in
+                ap length relates.after_is ∙ received-long into relates.value (relates.left ++ drop (length program.globals) s.there) ∙ omega (arith, joined, dropped, short, there_long)
+
+            stops : HoldsIf has.one.after s.back r.final
+            stops = side.goes_on s.more s.back r.final back_long s.second
+
+            final_long : length r.final ≡ (pair_ends program p).ends.full.columns
+            final_long = state-long (width_of program p) has.one.after side.fit_after s.back r.final stops ∙ sym (full-columns program p)
+
+            -- ---- the call is of the pair
+
+            fits : CallFits program (width_of program p) c terms into
+            fits = subst (EdgeFits program (width_of program p)) does (act-fits program proc p s.way.act formed is (act-at s.edge s.way s.is))
+
+            called : IsCalled (pair_ends program p) (pair_ends program q) st between before s.there relates.values relates.left s.back r.final (exit_values p after value) relates.value q.returns
+            called =
+                let same : fits.callee ≡ q = some-one fits.is q_is in
+                record {
+                  starts = starts;
+                  are = relates.are;
+                  many = callee_returns.begins.entered.params ∙ sym (ap (λ (x : Proc). x.params) same) ∙ fits.params;
+                  short = short;
+                  wide = exit-long q.returns relates.left relates.value (length program.globals) short ∙ sym (exit-columns program c q formed q_is);
+                  awaits = subst (λ (x : Proc). IsTrue (x.returns || not (is_some into))) same fits.returns;
+                  back_is = relates.after_is;
+                  stops = stops;
+                  told = exits-told program untold formed untold-known proc p is r.final after value final_long r.after_is r.value_is;
+                  long = exits-long program untold formed untold-known proc p is r.final after value final_long r.after_is r.value_is;
+                }
+
+            held : Holds (pair_formula (pair_ends program p) (pair_ends program q) st) pair answer
+            held =
+                subst (λ front. Holds (pair_formula (pair_ends program p) (pair_ends program q) st) (front ++ exit_values p after value) answer) (entry-front program untold formed untold-known proc p is globals args r.others r.width params)
+                (pair-holds (pair_ends program p) (pair_ends program q) st between before s.there relates.values relates.left s.back r.final (exit_values p after value) relates.value q.returns called)
+
+            leaf : leaf_at (group_graph members stretches) call-listed.0 ≡ pair_formula (pair_ends program p) (pair_ends program q) st
+            leaf = leaf-found members stretches call-listed.0 st has.stretch ∙ (λ i. pair_formula (caller_is i) (callee_is i) st)
+
+            by-call : Leads place pair
+            by-call =
+                record {
+                  last = tail.last;
+                  within = tail.within;
+                  word = call-listed.0 ∷ tail.word;
+                  end = tail.end;
+                  walk = (callee, link-found stretches call-listed.0 st has.stretch, tail.walk);
+                  run = (answer, subst (λ f. Holds f pair answer) (sym leaf) held, tail.run);
+                  base = tail.base;
+                }
 
           led-here : Leads place pair
           led-here =
@@ -412,7 +450,7 @@ module _ (program : Program) (procs : List ℕ) (known : List (Option Transition
           let many = ends-many program procs there in
           let mapped = length-map ps (pair_ends program) in
           let within : place < length members = subst (λ n. place < n) (sym many) (slice_get_within procs place proc at) in
-          let found = match-at ClosedAt (range_with_len 0 (length ps)) table h place place (range-at 0 (length ps) place (subst (λ n. place < n) mapped within) ∙ ap Some (omega arith)) in
+          let found = zipped-at ClosedAt (range_with_len 0 (length ps)) table h place place (range-at 0 (length ps) place (subst (λ n. place < n) mapped within) ∙ ap Some (omega arith)) in
           let same : found.0 ≡ f = some-one found.1 g in
           let ends : ends_at members place ≡ pair_ends program p = ends-at program procs there place proc p at is in
           let r = returns in

@@ -6,6 +6,7 @@ use Rattle.std.proofs.lemmas.List.{length-set}
 use Rattle.syntax_tree.specs.declared.program.Proc.{Proc}
 use Rattle.syntax_tree.specs.declared.program.Program.{Program}
 use Rattle.transition_formula.specs.Transition.{Transition}
+use Rattle.newton_rounds.specs.Alike.{StandOnce}
 use Rattle.newton_rounds.specs.Members.{members_of, with_table}
 use Rattle.newton_rounds.proofs.Below.{some_at}
 use Rattle.newton_rounds.proofs.Called.{AreThere}
@@ -14,7 +15,8 @@ use Rattle.newton_rounds.proofs.Tabled.{set-get}
 -- ---- members
 
 module _ (program : Program) where
-  first-member : (proc : ℕ) (procs : List ℕ) (p : Proc) → slice_get program.procs proc ≡ Some p → members_of program (proc ∷ procs) ≡ p ∷ members_of program procs
+  -- a procedure of the group, and then the others
+  pub first-member : (proc : ℕ) (procs : List ℕ) (p : Proc) → slice_get program.procs proc ≡ Some p → members_of program (proc ∷ procs) ≡ p ∷ members_of program procs
   first-member proc procs p there = ap (λ o. option_to_list o ++ members_of program procs) there
 
   -- each member is a procedure of the program
@@ -36,6 +38,13 @@ set-same : {X : Type 0} (xs : List X) (i : ℕ) (x : X) → i < length xs → sl
 set-same [] i x lt = absurd (omega (arith, lt))
 set-same (y ∷ xs) zero x lt = refl
 set-same (y ∷ xs) (suc i) x lt = set-same xs i x (omega (arith, lt))
+
+set-other : {X : Type 0} (xs : List X) (i j : ℕ) (x : X) → (i ≡ j → ⊥) → slice_get (slice_set xs i x) j ≡ slice_get xs j
+set-other [] i j x differs = refl
+set-other (y ∷ xs) zero zero x differs = absurd (differs refl)
+set-other (y ∷ xs) zero (suc j) x differs = refl
+set-other (y ∷ xs) (suc i) zero x differs = refl
+set-other (y ∷ xs) (suc i) (suc j) x differs = set-other xs i j x (λ same. differs (ap suc same))
 
 set-known : (known : List (Option Transition)) (i proc : ℕ) (f : Transition) → IsKnownAt known proc → IsKnownAt (slice_set known i (Some f)) proc
 set-known [] i proc f h = h
@@ -93,3 +102,38 @@ table-either (q ∷ procs) (g ∷ table) known proc f e = go (table-either procs
         → ((place : ℕ) × (slice_get (q ∷ procs) place ≡ Some proc) × (slice_get (g ∷ table) place ≡ Some f)) ⊎ (slice_get known proc ≡ Some (Some f))
     go (inl there) = inl (suc there.0, there.1, there.2)
     go (inr h) = older (set-get known q proc (Some g) (Some f) h)
+
+-- what is known of a procedure outside is left as it was
+pub table-leaves : (procs : List ℕ) (table : List Transition) (known : List (Option Transition)) (proc : ℕ) → ((place : ℕ) → slice_get procs place ≡ Some proc → ⊥)
+    → slice_get (with_table procs table known) proc ≡ slice_get known proc
+table-leaves [] table known proc none = refl
+table-leaves (q ∷ procs) [] known proc none =
+    table-leaves procs [] (slice_set known q None) proc (λ place. none (suc place)) ∙ set-other known q proc None (λ same. none 0 (ap Some same))
+table-leaves (q ∷ procs) (f ∷ table) known proc none =
+    table-leaves procs table (slice_set known q (Some f)) proc (λ place. none (suc place)) ∙ set-other known q proc (Some f) (λ same. none 0 (ap Some same))
+
+-- and of each member, if it stands once, the table's formula for its place is known
+pub table-tells : (procs : List ℕ) (table : List Transition) (known : List (Option Transition)) (place proc : ℕ) → StandOnce procs → slice_get procs place ≡ Some proc → proc < length known
+    → slice_get (with_table procs table known) proc ≡ Some (slice_get table place)
+table-tells [] table known place proc once e lt = absurd (none place e)
+  where
+    none : (n : ℕ) → slice_get [] n ≡ Some proc → ⊥
+    none n e = cc
+table-tells (q ∷ procs) table known place proc once e lt =
+    go place table e (λ o more k f. table-tells procs more (slice_set known q o) k proc rest f (subst (λ n. proc < n) (sym (length-set known q o)) lt))
+  where
+    rest : StandOnce procs
+    rest a b n x y = let same = once (suc a) (suc b) n x y in omega (arith, same)
+
+    first : (o : Option Transition) (more : List Transition) → q ≡ proc → slice_get (with_table procs more (slice_set known q o)) proc ≡ Some o
+    first o more same =
+        table-leaves procs more (slice_set known q o) proc (λ k f. let both = once 0 (suc k) proc (ap Some same) f in omega (arith, both))
+        ∙ ap (slice_get (slice_set known q o)) (sym same) ∙ set-same known q o (subst (λ n. n < length known) (sym same) lt)
+
+    go : (k : ℕ) (all : List Transition) → slice_get (q ∷ procs) k ≡ Some proc
+        → ((o : Option Transition) (more : List Transition) (j : ℕ) → slice_get procs j ≡ Some proc → slice_get (with_table procs more (slice_set known q o)) proc ≡ Some (slice_get more j))
+        → slice_get (with_table (q ∷ procs) all known) proc ≡ Some (slice_get all k)
+    go zero [] f later = first None [] cc
+    go zero (g ∷ all) f later = first (Some g) all cc
+    go (suc k) [] f later = later None [] k f
+    go (suc k) (g ∷ all) f later = later (Some g) all k f

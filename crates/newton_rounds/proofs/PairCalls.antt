@@ -15,6 +15,7 @@ use Rattle.linear_terms.specs.Value.{Valuation, value_of}
 use Rattle.syntax_tree.specs.Term.{Term}
 use Rattle.syntax_tree.specs.WellFormed.{all_columns_below}
 use Rattle.execution.specs.Step.{values_of}
+use Rattle.transition_formula.specs.Equating.{equated}
 use Rattle.transition_formula.specs.Composition.{sequence_of}
 use Rattle.transition_formula.specs.Meaning.{Holds, HoldsSome, numbers}
 use Rattle.transition_formula.specs.Posts.{numbers_at}
@@ -22,6 +23,7 @@ use Rattle.transition_formula.specs.Transition.{IsTransition, Transition, fits, 
 use Rattle.transition_formula.proofs.Covered.{both}
 use Rattle.transition_formula.proofs.Fitting.{fitting}
 use Rattle.transition_formula.proofs.Meanings.{sequence-holds}
+use Rattle.transition_formula.proofs.PostsAsEntries.{StandFrom, equated-holds}
 use Rattle.transition_formula.proofs.SomePosts.{with_posts-holds}
 use Rattle.transition_formula.proofs.Values.{column-value, posts-agree, rows-agree}
 use Rattle.flow_graph.specs.Walks as walks
@@ -35,13 +37,12 @@ use Rattle.proc_summary.specs.Claims.{HoldsIf}
 use Rattle.proc_summary.specs.Summary.{exit_formula, exit_places}
 use Rattle.proc_summary.proofs.Graphs.{length-after}
 use Rattle.proc_summary.proofs.Told.{numbers-range}
-use Rattle.newton_rounds.specs.Equating.{equated}
 use Rattle.newton_rounds.specs.Pairs.{PairEnds, Stretch, along, call_entry, call_exit, callee_width, carrying, carrying_case, columns_from, entered_case, exit_columns, pair_formula, returned, Stations, stations_of}
 use Rattle.newton_rounds.specs.Shapes.{IsStretchBetween}
 use Rattle.checked_tree.proofs.Between.{sequence-canonical}
 use Rattle.newton_rounds.proofs.CanonicalEvaluations.{formula-canonical, rows-canonical}
 use Rattle.newton_rounds.proofs.CanonicalOrder.{IsCanonicalFormula}
-use Rattle.newton_rounds.proofs.PairMeanings.{StandFrom, entry_told-holds, equated-canonical, equated-holds, longer-agree, posts-canonical, told-canonical, told-stand, whole-holds}
+use Rattle.newton_rounds.proofs.PairMeanings.{entry_told-holds, equated-canonical, longer-agree, posts-canonical, told-canonical, told-stand, whole-holds}
 use Rattle.newton_rounds.proofs.Paired.{after, entered-fits, first-fits, fourth-fits, returned-fits, second-fits, third-fits}
 use Rattle.newton_rounds.proofs.Unfolded.{IsCanonicalExit}
 use Rattle.newton_rounds.proofs.Placed.{places-below}

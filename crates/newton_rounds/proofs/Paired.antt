@@ -6,9 +6,11 @@ use Rattle.std.proofs.lemmas.List.FromFn.{length-range_with_len}
 use Rattle.items.proofs.Each.{each-map}
 use Rattle.linear_terms.specs.declared.row.Case.{Case}
 use Rattle.transition_formula.specs.Composition.{sequence_of}
+use Rattle.transition_formula.specs.Equating.{equated, equated_case}
 use Rattle.transition_formula.specs.Posts.{case_with_posts}
 use Rattle.transition_formula.specs.Transition.{Transition, IsTransition, every_column, is_below}
 use Rattle.transition_formula.proofs.Fitting.{sequence-fits}
+use Rattle.transition_formula.proofs.PostsAsEntries.{equated-fits}
 use Rattle.transition_formula.proofs.SomePosts.{with_posts-fits}
 use Rattle.leaf_cases.specs.Edges.{arguments_of}
 use Rattle.leaf_cases.specs.Guard.{columns_of, with_posts}
@@ -17,10 +19,8 @@ use Rattle.leaf_cases.proofs.EdgeFits.{few-sit}
 use Rattle.proc_summary.specs.Claims.{IsBetweenStates}
 use Rattle.proc_summary.specs.Summary.{exit_formula, exit_places}
 use Rattle.newton_rounds.specs.Between.{GoesBetween}
-use Rattle.newton_rounds.specs.Equating.{equated, equated_case}
 use Rattle.newton_rounds.specs.Pairs.{PairEnds, Stretch, along, call_entry, callee_width, columns_from, entered_case, pair_formula, stations_of}
 use Rattle.newton_rounds.specs.Shapes.{AreEnds, IsStretchBetween}
-use Rattle.newton_rounds.proofs.Equated.{equated-fits}
 use Rattle.newton_rounds.proofs.Numbered.{HasFew, few-more, sequence-few, states-few, states-of}
 use Rattle.newton_rounds.proofs.Placed.{exit-few, pair-holds}
 use Rattle.newton_rounds.proofs.Posted.{appended, carrying-fits, columns-covered, columns-length, exit-fits, fronted-few, posted-fits}

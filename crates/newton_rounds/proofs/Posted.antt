@@ -11,12 +11,12 @@ use Rattle.linear_terms.specs.Polynomial.{Polynomial, column_of}
 use Rattle.transition_formula.specs.Transition.{every_column, fits, is_below, IsTransition}
 use Rattle.transition_formula.proofs.Covered.{both, both_true, test_from_columns}
 use Rattle.transition_formula.proofs.Fitting.{Fitting, below-true, columns_pass, fitting, from_fitting, test_of_get}
+use Rattle.transition_formula.proofs.PostsAsEntries.{raised-fits}
 use Rattle.leaf_cases.specs.Edges.{received}
 use Rattle.leaf_cases.specs.Guard.{with_posts}
 use Rattle.leaf_cases.specs.Guard as cases
 use Rattle.leaf_cases.specs.Steps.{operand}
 use Rattle.newton_rounds.specs.Pairs.{call_exit, carrying_case, columns_from, exit_columns, returned}
-use Rattle.newton_rounds.proofs.Equated.{raised-fits}
 
 -- ---- other posts
 

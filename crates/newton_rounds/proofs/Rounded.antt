@@ -1,14 +1,14 @@
 -- What a round keeps: rows over the pairs of members, of which some may be dropped.
-use Rattle.std.proofs.Common.{◌≡◌, ℕ, zero, suc, ◌+◌, ◌-◌, ◌<◌, ◌≤◌, ◌^◌, Bool, true, false, length, length-append, drop, map, List, [], ◌∷◌, ◌++◌, get_or, refl, sym, ap, subst, ◌∙◌, arith}
-use Rattle.std.specs.Prelude.{All, IsTrue, Result, Ok, Err, IsErrAnd, Option, None, Some, not, if◌then◌else◌, ◌↔◌}
-use Rattle.std.specs.List.{AllByRecursion, AllZip, cons_option, filter_map, flat_map, list_all, slice_get}
+use Rattle.std.proofs.Common.{◌≡◌, ℕ, zero, suc, ◌+◌, ◌-◌, ◌<◌, ◌≤◌, Bool, true, false, length, length-append, drop, map, List, [], ◌∷◌, ◌++◌, get_or, refl, sym, ap, subst, ◌∙◌, arith}
+use Rattle.std.specs.Prelude.{IsTrue, Result, Ok, Err, IsErrAnd, Option, None, Some, not, if◌then◌else◌, ◌↔◌}
+use Rattle.std.specs.List.{AllByRecursion, AllZip, cons_option, filter_map, flat_map, slice_get}
 use Rattle.std.proofs.lemmas.Bool.{false≢true}
 use Rattle.std.proofs.lemmas.List.{drop_all, drop_more}
 use Rattle.std.proofs.lemmas.List.Elements.{All-from_recursion, recursion_from_All}
 use Rattle.items.proofs.Each.{each-any, each-both, each-more, each_from_test}
 use Rattle.linear_terms.specs.declared.row.Case.{Case}
 use Rattle.linear_terms.specs.declared.row.Row.{Row}
-use Rattle.transition_formula.specs.Transition.{IsTransition, Transition, every_column, fits, is_below}
+use Rattle.transition_formula.specs.Transition.{Transition, fits}
 use Rattle.transition_formula.proofs.Fitting.{fitting}
 use Rattle.posing.specs.declared.note.Note.{Note}
 use Rattle.posing.specs.declared.note.Witness.{Witness}
@@ -29,7 +29,7 @@ use Rattle.newton_rounds.specs.declared.dropping.Judged.{Judged}
 use Rattle.newton_rounds.specs.Between.{AreCandidates, AreSummaries, FitTable, IsFewer, IsRowOver, IsSummary, row_count}
 use Rattle.newton_rounds.specs.Candidates.{dropped_by, dropped_in, dropped_notes, kept_row, most_rounds, members_with, refuted, round, some_note, table_of, unfolded, unless_refuted, with_judged, with_round}
 use Rattle.newton_rounds.specs.Claims.{AreKnownMembers}
-use Rattle.newton_rounds.specs.Closure.{ends_at, ends_of_members, pair_ends, placed_from}
+use Rattle.newton_rounds.specs.Closure.{ends_of_members, pair_ends, placed_from}
 use Rattle.newton_rounds.specs.Members.{members_of, with_table}
 use Rattle.newton_rounds.specs.Pairs.{PairEnds}
 use Rattle.newton_rounds.specs.Shapes.{IsOverPairs, IsRefutable}
@@ -149,7 +149,7 @@ rows-judged program known ps candidates e =
 
 -- ---- rows that are kept
 
-kept-over : (P : Row → Type 0) (rows : List Row) (judged : List Judged) → AreOf rows judged → AllByRecursion P rows → AllByRecursion P (filter_map kept_row judged)
+pub kept-over : (P : Row → Type 0) (rows : List Row) (judged : List Judged) → AreOf rows judged → AllByRecursion P rows → AllByRecursion P (filter_map kept_row judged)
 kept-over P [] [] h k = tt
 kept-over P [] (j ∷ judged) h k = absurd h
 kept-over P (row ∷ rows) [] h k = absurd h
@@ -186,7 +186,7 @@ each-counted place (row ∷ rows) (j ∷ judged) h = go j.by (each-counted place
     go None e = omega (arith, e)
     go (Some by) e = omega (arith, e)
 
-all-counted : (place : ℕ) (candidates : List (List Row)) (judged : List (List Judged)) → AllZip AreOf candidates judged
+pub all-counted : (place : ℕ) (candidates : List (List Row)) (judged : List (List Judged)) → AllZip AreOf candidates judged
     → row_count (map (filter_map kept_row) judged) + length (flat_map dropped_in (placed_from place judged)) ≡ row_count candidates
 all-counted place [] [] h = refl
 all-counted place [] (js ∷ judged) h = absurd h

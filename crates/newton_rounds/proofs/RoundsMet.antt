@@ -30,6 +30,7 @@ use Rattle.leaf_cases.specs.Summaries.{AreMet, KnowsCallee, exit_values, if_retu
 use Rattle.leaf_cases.proofs.MetCalls.{exits_are, returns-globals}
 use Rattle.proc_summary.specs.Subject.{own_graph}
 use Rattle.proc_summary.proofs.Graphs.{graph-is}
+use Rattle.newton_rounds.specs.Between.{row_count}
 use Rattle.newton_rounds.specs.Candidates.{candidate_formula, candidate_of, dropped_notes, kept_candidates, kept_row, members_with, most_rounds, round, some_note, table_of, with_round}
 use Rattle.newton_rounds.specs.Claims.{AreMetMembers}
 use Rattle.newton_rounds.specs.Close.{closed_by_rounds, paired_up, with_candidate}
@@ -41,13 +42,15 @@ use Rattle.newton_rounds.specs.Passing.{AlwaysPassing}
 use Rattle.newton_rounds.proofs.Called.{AreThere, member-at, members-many}
 use Rattle.newton_rounds.proofs.CandidateFormulas.{candidate-holds, candidate-known, table-at, table-long}
 use Rattle.newton_rounds.proofs.CandidateRows.{ArePairRows, candidate-rows}
-use Rattle.newton_rounds.proofs.JudgedRows.{AreAllJudged, AreCandidates, AreTrueOf, IsTrueOf, all-judged, all-ready, kept-candidates, kept-total, kept-true, total}
+use Rattle.newton_rounds.proofs.JudgedRows.{AreAllJudged, AreCandidates, AreTrueOf, IsTrueOf, all-judged, all-of, all-ready, kept-candidates, kept-true}
 use Rattle.newton_rounds.proofs.MemberTables.{IsKnownAt, each-member, table-either, table-keeps, table-knows}
 use Rattle.newton_rounds.proofs.PassingLaws.{IsRound, passing-always, passing-bind, passing-until}
 use Rattle.newton_rounds.proofs.Entailed.{pair_numbers}
 use Rattle.newton_rounds.proofs.Tabled.{AreFor, tabled-known}
 use Rattle.newton_rounds.proofs.ToldCalls.{TellsArcs, TellsCall, returns-told}
+use Rattle.newton_rounds.proofs.Rounded.{all-counted, rows-counted}
 use Rattle.newton_rounds.proofs.Widths.{ends-are}
+use Rattle.newton_rounds.proofs.Zipped.{some-one}
 
 -- ---- as many formulas as members
 
@@ -194,18 +197,18 @@ module _ (program : Program) (procs : List ℕ) (known : List (Option Transition
   unnoted (n ∷ ns) e = absurd (cc)
 
   round-kept : (candidates : List (List Row)) → AreCandidates program formed ps candidates
-      → AlwaysPassing (IsRound (AreCandidates program formed ps) AreSettled total candidates) (round program procs known candidates)
+      → AlwaysPassing (IsRound (AreCandidates program formed ps) AreSettled row_count candidates) (round program procs known candidates)
   unfolding round
   round-kept candidates over =
       let fine = with-known candidates over in
-      passing-bind (AreAllJudged program formed (known_with candidates) fine (members_with ps candidates)) (IsRound (AreCandidates program formed ps) AreSettled total candidates)
+      passing-bind (AreAllJudged program formed (known_with candidates) fine (members_with ps candidates)) (IsRound (AreCandidates program formed ps) AreSettled row_count candidates)
       (each (with_round program (known_with candidates)) [] (members_with ps candidates)) (λ judged. Noted (dropped_notes judged) (Done (map (filter_map kept_row) judged, some_note (dropped_notes judged))))
       (all-judged program formed (known_with candidates) fine (members_with ps candidates) (all-ready program formed (known_with candidates) fine ps candidates (each-member program procs there) over))
       (λ judged h. record {
         keeps = kept-candidates program formed (known_with candidates) fine ps candidates judged over h;
         falls = λ e.
             let some = noted (dropped_notes judged) e in
-            let count = kept-total program formed (known_with candidates) fine 0 ps candidates judged over h in
+            let count = all-counted 0 candidates judged (all-of program formed (known_with candidates) fine ps candidates judged over h) in
             omega (arith, some, count);
         good = λ e.
             let all = kept-true program formed (known_with candidates) fine 0 ps candidates judged over h (unnoted (dropped_notes judged) e) in
@@ -216,7 +219,8 @@ module _ (program : Program) (procs : List ℕ) (known : List (Option Transition
       → AlwaysPassing (λ kept. AreCandidates program formed ps kept × AreSettled kept) (kept_candidates program procs known candidates)
   unfolding kept_candidates
   candidates-settled candidates over =
-      passing-until (AreCandidates program formed ps) AreSettled total (round program procs known) (most_rounds candidates) candidates round-kept (omega arith) over
+      let many = rows-counted candidates in
+      passing-until (AreCandidates program formed ps) AreSettled row_count (round program procs known) (most_rounds candidates) candidates round-kept (omega (arith, many)) over
 
   -- ---- settled candidates are met
 
@@ -230,9 +234,6 @@ module _ (program : Program) (procs : List ℕ) (known : List (Option Transition
     returned : {proc : ℕ} {globals args after : State} {value : ℤ} → RowsTrue proc globals args after value → Returns program proc globals args after value
     unfolding RowsTrue
     returned both = both.0
-
-    some-one : {X : Type 0} {o : Option X} {x y : X} → o ≡ Some x → o ≡ Some y → x ≡ y
-    some-one e f = cc
 
     -- the formula that the candidate is holds of it
     formula-true : (proc : ℕ) (globals args after : State) (value : ℤ) → RowsTrue proc globals args after value → (place : ℕ) (p : Proc) (f : Transition) → slice_get procs place ≡ Some proc → slice_get program.procs proc ≡ Some p

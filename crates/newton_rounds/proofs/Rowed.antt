@@ -1,33 +1,27 @@
 -- Candidates are rows over the pairs of members, and as formulas they are summaries.
-use Rattle.std.proofs.Common.{◌≡◌, ℕ, zero, suc, ◌+◌, ◌<◌, ◌≤◌, ◌^◌, length, drop, map, List, [], ◌∷◌, ◌++◌, true, ℤ, refl, sym, ap, subst, ◌∙◌, arith}
-use Rattle.std.specs.Prelude.{All, IsTrue, get_or}
-use Rattle.std.specs.List.{AllByRecursion, range_with_len}
+use Rattle.std.proofs.Common.{◌≡◌, ℕ, zero, suc, ◌+◌, ◌<◌, length, drop, map, List, [], ◌∷◌, true, refl, sym, ap, subst, ◌∙◌, arith}
+use Rattle.std.specs.Prelude.{All, get_or}
+use Rattle.std.specs.List.{AllByRecursion}
 use Rattle.std.proofs.lemmas.List.{drop_more}
-use Rattle.items.proofs.Each.{each-any, each-map, each-more, test_from_each}
-use Rattle.linear_terms.specs.declared.col.Col.TheVariants.{At}
+use Rattle.items.proofs.Each.{each-more, test_from_each}
 use Rattle.linear_terms.specs.declared.row.Case.{Case}
 use Rattle.linear_terms.specs.declared.row.Row.{Row}
-use Rattle.linear_terms.specs.Expressions.{whole}
-use Rattle.linear_terms.specs.Polynomial.{Polynomial, column_of}
-use Rattle.linear_terms.proofs.Canonical.{IsCanonical-column}
-use Rattle.transition_formula.specs.Transition.{IsTransition, Transition, every_column, fits, is_below}
+use Rattle.transition_formula.specs.Transition.{Transition, every_column, fits, is_below}
 use Rattle.transition_formula.proofs.Covered.{both_true}
-use Rattle.transition_formula.proofs.Fitting.{below-true, from_fitting}
-use Rattle.posing.specs.Posing.{Posing, Done, each, Always}
+use Rattle.transition_formula.proofs.Fitting.{from_fitting}
+use Rattle.posing.specs.Posing.{Done, each, Always}
 use Rattle.posing.proofs.Paths.{always_weaker}
-use Rattle.polyhedra.specs.Bounds.{IsCovered, IsCoveredByPosts, after_row, bounded_after, put_in_for}
+use Rattle.polyhedra.specs.Bounds.{IsCovered, IsCoveredByPosts, bounded_after}
 use Rattle.polyhedra.specs.Directions.{directions}
 use Rattle.polyhedra.proofs.Covering.{directions-covered, directions-covered_by_posts}
-use Rattle.polyhedra.proofs.Rows.{IsSound, IsSoundRow, at_most-sound, difference-sound, put_in_for-sound, whole-sound}
-use Rattle.polyhedra.proofs.Shaped.{bounded-keeps, each-keeps}
 use Rattle.leaf_cases.specs.Guard.{columns_of}
 use Rattle.newton_rounds.specs.Between.{AreCandidates, AreSummaries, GoesBetween, IsMember, IsRowOver, IsSummary}
 use Rattle.newton_rounds.specs.Candidates.{candidate_by, candidate_formula, candidate_of, paired_case, table_of}
 use Rattle.newton_rounds.specs.Closure.{ends_at}
 use Rattle.newton_rounds.specs.Pairs.{PairEnds}
+use Rattle.newton_rounds.proofs.CandidateRows.{ArePairRows, IsPairRow, candidate-rows}
 use Rattle.newton_rounds.proofs.Chained.{exits-few, exits-go}
 use Rattle.newton_rounds.proofs.Numbered.{few-more}
-use Rattle.newton_rounds.proofs.Placed.{range-below}
 use Rattle.newton_rounds.proofs.Posted.{columns-length, fronted-fits}
 
 -- ---- what is asked for a candidate
@@ -51,28 +45,10 @@ module _ (m : PairEnds) (is : IsMember m) where
 
 -- ---- the rows
 
-module _ (n : ℕ) where
-  columns-sound : AllByRecursion (IsSound (is_below n 0)) (columns_of n)
-  columns-sound =
-      each-map (λ v. v < n) (IsSound (is_below n 0)) (λ v. column_of (At v)) (λ v lt. record { canonical = IsCanonical-column (At v ∷ []); passes = ((below-true v n lt, tt), tt) })
-      (range_with_len 0 n) (range-below 0 n n (omega arith))
-
-  bounds-over : (cases : List Case) (ds : List Polynomial) → Always (AllByRecursion (IsRowOver n)) (each (bounded_after cases (columns_of n)) [] ds)
-  bounds-over cases ds =
-      always_weaker (AllByRecursion (IsSoundRow (is_below n 0))) (AllByRecursion (IsRowOver n)) (each (bounded_after cases (columns_of n)) [] ds)
-      (λ rows h. each-more (IsSoundRow (is_below n 0)) (IsRowOver n) (λ row k. k.passes) rows h)
-      (each-keeps (IsSoundRow (is_below n 0)) (λ d. Unit {0}) (bounded_after cases (columns_of n)) [] ds
-      (λ rows d any h. bounded-keeps (IsSoundRow (is_below n 0)) cases (λ case. put_in_for case.post d) (after_row (columns_of n) d) rows
-      (λ most. at_most-sound (is_below n 0) _ (difference-sound (is_below n 0) (put_in_for (columns_of n) d) (whole most) (put_in_for-sound (is_below n 0) (columns_of n) d columns-sound) (whole-sound (is_below n 0) most))) h)
-      (each-any (λ d. Unit {0}) (λ d. tt) ds) tt)
-
 pub candidate-over : (m : PairEnds) (f : Transition) → Always (AllByRecursion (IsRowOver m.pair.columns)) (candidate_of m f)
-unfolding candidate_of
-candidate-over m f = go f.cases
-  where
-    go : (cases : List Case) → Always (AllByRecursion (IsRowOver m.pair.columns)) (candidate_by m f.from cases)
-    go [] = tt
-    go (case ∷ more) = bounds-over m.pair.columns (map (paired_case f.from) (case ∷ more)) (directions m.pair)
+candidate-over m f =
+    always_weaker (ArePairRows m.pair.columns) (AllByRecursion (IsRowOver m.pair.columns)) (candidate_of m f)
+    (λ rows h. each-more (IsPairRow m.pair.columns) (IsRowOver m.pair.columns) (λ row k. k.below) rows h) (candidate-rows m f)
 
 -- ---- candidates as formulas
 

@@ -27,6 +27,7 @@ use Rattle.newton_rounds.proofs.Matched.{AreBehind, IsBehind, each-behind}
 use Rattle.newton_rounds.proofs.Below.{some_at}
 use Rattle.newton_rounds.proofs.Unfolded.{AreTrueAt, IsCanonicalExit, cells-true}
 use Rattle.newton_rounds.proofs.Widths.{columns-are, some-nodes}
+use Rattle.newton_rounds.proofs.Zipped.{some-one}
 
 -- a call between nodes of its caller's graph
 abbrev pub IsBetweenNodes : Proc → GroupCall → Type 0
@@ -129,9 +130,6 @@ module _ (program : Program) (procs : List ℕ) (known : List (Option Transition
   abbrev StandAt : ℕ → List Proc → Type 0
   StandAt place [] = Unit {0}
   StandAt place (p ∷ ps) = ((proc : ℕ) × (slice_get program.procs proc ≡ Some p)) × (slice_get (members_of program procs) place ≡ Some p) × StandAt (place + 1) ps
-
-  some-one : {X : Type 0} {o : Option X} {x y : X} → o ≡ Some x → o ≡ Some y → x ≡ y
-  some-one e f = cc
 
   own-sides : (place : ℕ) (p : Proc) → slice_get (members_of program procs) place ≡ Some p → (call : GroupCall) (one : Sides) → call.caller ≡ place → IsSide program p known call one → IsSideOf call one
   own-sides place p at call one same h q e =

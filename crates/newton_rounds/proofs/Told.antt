@@ -5,11 +5,11 @@ use Rattle.linear_terms.specs.declared.row.Case.{Case}
 use Rattle.transition_formula.specs.Hiding.{hidden, hidden_case}
 use Rattle.transition_formula.specs.Transition.{Transition, IsTransition}
 use Rattle.transition_formula.proofs.HiddenColumns.{hidden-fits}
+use Rattle.transition_formula.proofs.PostsAsEntries.{raised-fits}
 use Rattle.proc_summary.specs.Claims.{FitsIf, IsBetweenStates}
 use Rattle.proc_summary.specs.Summary.{exit_formula, exit_places}
 use Rattle.newton_rounds.specs.Pairs.{PairEnds, entry_told}
 use Rattle.newton_rounds.specs.Shapes.{AreEnds}
-use Rattle.newton_rounds.proofs.Equated.{raised-fits}
 use Rattle.newton_rounds.proofs.Numbered.{HasFew, few-more, hidden-few, hiding-few, states-few, states-of}
 use Rattle.newton_rounds.proofs.Placed.{pair-holds, places-below}
 

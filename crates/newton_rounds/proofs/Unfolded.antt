@@ -41,6 +41,7 @@ use Rattle.newton_rounds.proofs.CanonicalEvaluations.{AreCanonicalCells, AreTrue
 use Rattle.newton_rounds.proofs.CanonicalOrder.{IsCanonicalCase, IsCanonicalFormula, rows_by-canonical}
 use Rattle.newton_rounds.proofs.LeafFits.{graph-evaluated, leaves-canonical, leaves-fit, links-inside}
 use Rattle.newton_rounds.proofs.Widths.{columns-are, some-nodes, states-at}
+use Rattle.newton_rounds.proofs.Zipped.{some-one}
 
 -- ---- rows of what is told
 
@@ -141,9 +142,6 @@ module _ (program : Program) (proc : ℕ) (p : Proc) (known : List (Option Trans
       (settled_and_fitted-covers (entry_of program p) (ends.exit_of program p) start end told between (rows-canonical told fine) (told-solved program proc p formed is exit fit)))))
 
   -- ---- activations
-
-  some-one : {X : Type 0} {o : Option X} {x y : X} → o ≡ Some x → o ≡ Some y → x ≡ y
-  some-one e f = cc
 
   module _ (calls : CallMeaning) (globals args after : State) (value : ℤ) (r : ReturnsOver calls program proc globals args after value) where
     abbrev before : State

@@ -8,7 +8,6 @@ pub use Rattle.leaf_cases.specs.Summaries
 -- the members of a group and the calls between them
 pub mod Members
 -- formulas of pairs of entry and exit, and the closure of a table
-pub mod Equating
 pub mod Pairs
 pub mod Closure
 -- rows that may hold of all activations, and rounds that drop others
@@ -18,6 +17,8 @@ pub mod Candidates
 pub mod Close
 pub mod Claims
 pub mod Laws
+-- groups that nothing in their summaries tells apart
+pub mod Alike
 -- ---- words of proofs
 pub mod Reached
 pub mod Shapes

@@ -6,9 +6,9 @@ use Rattle.linear_terms.specs.declared.col.Col.TheVariants.{At, Aux}
 use Rattle.linear_terms.specs.declared.row.Case.{Case}
 use Rattle.linear_terms.specs.Polynomial.{Polynomial, column_of}
 use Rattle.syntax_tree.specs.Term.{Term}
+use Rattle.transition_formula.specs.Equating.{equated, lost_in_equating, raised}
 use Rattle.transition_formula.specs.declared.loss.Loss.{Loss}
 use Rattle.transition_formula.specs.Composition.{sequence_of, lost_in_sequence}
-use Rattle.newton_rounds.specs.Equating.{equated, lost_in_equating, raised}
 use Rattle.transition_formula.specs.Hiding.{hidden, lost_in_hiding}
 use Rattle.transition_formula.specs.Posts.{with_posts}
 use Rattle.transition_formula.specs.Transition.{Transition}

@@ -9,8 +9,8 @@ mod closing;
 mod closure;
 mod dropping;
 mod ends;
-mod equating;
 mod findings;
+mod laws;
 mod linear;
 mod pairs;
 mod reaching;
@@ -23,5 +23,6 @@ mod stretching;
 mod tables;
 
 pub use closing::close;
+pub use laws::law_of_alike_groups;
 pub use linear::is_linear;
 pub use tables::with_table;

@@ -6,11 +6,12 @@ ghost use Rattle.newton_rounds.specs.Pairs.{base_from, columns_from, entry_told,
 ghost use Rattle.newton_rounds.specs.Shapes.{AreEnds};
 
 use crate::ends::PairEnds;
-use crate::equating::{column, equated, raised};
 use items::Items;
 use linear_terms::{Col, Poly};
 use std::alloc::{AllocError, Global};
-use transition_formula::{Formula, FormulaError, Loss, hidden, with_posts};
+use transition_formula::{
+    Formula, FormulaError, Loss, column, equated, hidden, raised, with_posts,
+};
 
 // ---- the activations without a call of the group
 
@@ -42,7 +43,7 @@ pub(crate) fn entry_told(
 {
     let whole = exit_formula(alloc, member.full.columns(), f)?;
     let told = hidden(alloc, &whole, member.entry.columns(), lost)?;
-    Ok(raised(alloc, &told, member.pair.columns())?)
+    raised(&told, member.pair.columns())
 }
 
 /// What holds of the pairs of activations without a call of the group, by the formula of the exit. Each loss is noted after those

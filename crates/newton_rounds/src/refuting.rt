@@ -11,7 +11,6 @@ ghost use Rattle.leaf_cases.specs.Guard.{columns_of};
 ghost use Rattle.newton_rounds.specs.Candidates.{against, contrary, found_in, found_left, limit_notes, outcome, outcome_by, refuted, with_answer, with_case, with_point};
 ghost use Rattle.newton_rounds.specs.Shapes.{IsOverPairs, IsRefutable, kept_of};
 
-use crate::equating::note;
 use crate::findings::Findings;
 use crate::pairs::add_copies;
 use farkas_check::{Answer, Limit, Oracle, Question, case_columns};
@@ -19,7 +18,7 @@ use items::Items;
 use linear_terms::{Case, Col, Kind, Mono, Poly, Row, TermError, negation, subst};
 use posing::{Log, Note, Witness, WorkError, ask};
 use std::alloc::{AllocError, Global};
-use transition_formula::{Formula, FormulaError, Loss, Solved, solve};
+use transition_formula::{Formula, FormulaError, Loss, Solved, note, solve};
 
 /// What refutes a row of a candidate, over all cases of the formula that one more unfolding makes: the first point, else the
 /// first limit, if there is one.

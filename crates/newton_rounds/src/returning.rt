@@ -3,12 +3,11 @@ ghost use Rattle.leaf_cases.specs.Division.{zero};
 ghost use Rattle.leaf_cases.specs.Edges.{received};
 ghost use Rattle.newton_rounds.specs.Pairs.{call_exit, exit_columns, returned};
 
-use crate::equating::column;
 use crate::pairs::{add_copies, columns_from};
 use items::Items;
 use linear_terms::{Case, Col, Poly};
 use std::alloc::{AllocError, Global};
-use transition_formula::{Formula, FormulaError};
+use transition_formula::{Formula, FormulaError, column};
 
 /// Where a call has returned: the callee's exit in new auxiliaries. These are put into the caller's columns; the callee's entry is
 /// carried along, and its exit stands behind it.

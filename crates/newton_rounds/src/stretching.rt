@@ -4,13 +4,12 @@ ghost use Rattle.newton_rounds.specs.Shapes.{IsStretchBetween, lost_on_the_way, 
 
 use crate::calls::{GroupCall, Sides};
 use crate::ends::{PairEnds, numbers_from};
-use crate::equating::equated;
 use crate::pairs::{entry_told, exit_formula};
 use crate::returning::call_exit;
 use crate::stations::{call_entry, carrying};
 use items::Items;
 use std::alloc::Global;
-use transition_formula::{Formula, FormulaError, Loss, seq, with_posts};
+use transition_formula::{Formula, FormulaError, Loss, equated, seq, with_posts};
 
 /// The formulas between the stations of a call, one after another. The losses of each are noted where it is made, those of
 /// the sequences behind them.

@@ -1,4 +1,4 @@
--- Alike procedures have one subject and the same ends.
+-- Alike procedures have one subject, the same ends and the same pairs of entry and exit.
 use Rattle.std.proofs.Common.{◌≡◌, ℕ, ◌+◌, List, [], ◌∷◌, ◌++◌, length, map, take, true, false, Option, refl, sym, ap, ◌∙◌, arith}
 use Rattle.std.specs.Prelude.{replicate}
 use Rattle.std.specs.List.{flat_map, range_with_len}
@@ -15,20 +15,51 @@ use Rattle.flow_graph.specs.FlowGraph.{Arc, CheckPlace, arc, checks_at, code_arc
 use Rattle.leaf_cases.specs.Edges.{known_call, leaf_of, lost_in_known_call, lost_in_leaf}
 use Rattle.transition_formula.specs.Transition.{Transition}
 use Rattle.vocabularies.specs.Harvest.{compared, compared_by, compared_in, harvest_of, most_terms}
-use Rattle.vocabularies.specs.Ends.{entry_of, full_of, named_from, named_if, terms_below, value_width}
+use Rattle.vocabularies.specs.Ends.{entry_of, full_of, named_from, named_if, pair_of, terms_below, value_width}
 use Rattle.vocabularies.specs.Ends as ends
 use Rattle.proc_summary.specs.Alike.{AlikeProcsAreOne, AreAlike, AreAlikeProcs, AreAlikeStatements, AreKnownAlike, alike_anys, alike_breaks, alike_calls, alike_checks, alike_continues, alike_ends, alike_guards, alike_ifs, alike_loops, alike_more, alike_returns, alike_sets}
 use Rattle.proc_summary.specs.Subject.{call_node, call_nodes, check_nodes, link_of, own_graph}
 use Rattle.proc_summary.specs.Summary.{ends_of}
 
+-- ---- procedures that are called, alike in a wider sense
+
+module _ (same wider : ℕ → ℕ → Type 0) (widens : (proc other : ℕ) → same proc other → wider proc other) where
+  mutual
+    statement-wider : (s o : Statement) → AreAlikeStatements same s o → AreAlikeStatements wider s o
+    statement-wider _ _ (alike_sets col value) = alike_sets col value
+    statement-wider _ _ (alike_anys col) = alike_anys col
+    statement-wider _ _ (alike_calls proc other args into h) = alike_calls proc other args into (widens proc other h)
+    statement-wider _ _ (alike_guards cond) = alike_guards cond
+    statement-wider _ _ (alike_checks number other cond) = alike_checks number other cond
+    statement-wider _ _ (alike_ifs cond a b c d h k) = alike_ifs cond a b c d (code-wider a c h) (code-wider b d k)
+    statement-wider _ _ (alike_loops pre pre' cond body step body' step' first h k l) =
+        alike_loops pre pre' cond body step body' step' first (code-wider pre pre' h) (code-wider body body' k) (code-wider step step' l)
+    statement-wider _ _ alike_breaks = alike_breaks
+    statement-wider _ _ alike_continues = alike_continues
+    statement-wider _ _ alike_returns = alike_returns
+
+    code-wider : (a b : Code) → AreAlike same a b → AreAlike wider a b
+    code-wider _ _ alike_ends = alike_ends
+    code-wider _ _ (alike_more s o rest others h k) = alike_more s o rest others (statement-wider s o h) (code-wider rest others k)
+
+  pub procs-wider : (program other : Program) (p q : Proc) → AreAlikeProcs same program other p q → AreAlikeProcs wider program other p q
+  procs-wider program other p q h = record {
+    globals = h.globals;
+    rule = h.rule;
+    params = h.params;
+    returns = h.returns;
+    named = h.named;
+    body = code-wider (code_of p.body) (code_of q.body) h.body;
+  }
+
 -- ---- edges that lead between the same nodes and do what is alike
 
-record IsAlikeArc (same : ℕ → ℕ → Type 0) (a b : Arc) : Type 0 where
-  from : a.from ≡ b.from
-  to : a.to ≡ b.to
-  act : AreAlikeStatements same a.act b.act
+pub record IsAlikeArc (same : ℕ → ℕ → Type 0) (a b : Arc) : Type 0 where
+  pub from : a.from ≡ b.from
+  pub to : a.to ≡ b.to
+  pub act : AreAlikeStatements same a.act b.act
 
-data AreAlikeArcs (same : ℕ → ℕ → Type 0) : List Arc → List Arc → Type 0 where
+pub data AreAlikeArcs (same : ℕ → ℕ → Type 0) : List Arc → List Arc → Type 0 where
   no_arcs : AreAlikeArcs same [] []
   more_arcs : (a b : Arc) (xs bs : List Arc) → IsAlikeArc same a b → AreAlikeArcs same xs bs → AreAlikeArcs same (a ∷ xs) (b ∷ bs)
 
@@ -222,7 +253,7 @@ module _ (same : ℕ → ℕ → Type 0) where
 
   -- ---- links, and the nodes that calls lead from
 
-  links-alike : (xs bs : List Arc) → AreAlikeArcs same xs bs → map link_of xs ≡ map link_of bs
+  pub links-alike : (xs bs : List Arc) → AreAlikeArcs same xs bs → map link_of xs ≡ map link_of bs
   links-alike _ _ no_arcs = refl
   links-alike _ _ (more_arcs a b xs bs one h) = λ i. record { from = one.from i; to = one.to i } ∷ links-alike xs bs h i
 
@@ -331,10 +362,21 @@ module _ (same : ℕ → ℕ → Type 0) (program other : Program) (p q : Proc) 
     extra = [];
   }
 
-  ends-alike : ends_of program p ≡ ends_of other q
+  -- of pairs of entry and exit
+  pub pair-alike : pair_of program p ≡ pair_of other q
+  unfolding pair_of
+  pair-alike = λ i. record {
+    columns = h.globals i + h.params i + (h.globals i + value_width (h.returns i));
+    named = range_with_len 0 (h.globals i + h.params i + (h.globals i + value_width (h.returns i)));
+    harvested = terms_below (h.globals i + h.params i) (harvest-alike i);
+    rule = h.rule i;
+    extra = [];
+  }
+
+  pub ends-alike : ends_of program p ≡ ends_of other q
   ends-alike = λ i. record { globals = h.globals i; returns = h.returns i; full = full-alike i; entry = entry-alike i; exit = exit-alike i }
 
-  arcs-alike : AreAlikeArcs same (own_graph p).arcs (own_graph q).arcs
+  pub arcs-alike : AreAlikeArcs same (own_graph p).arcs (own_graph q).arcs
   arcs-alike =
       let n = code-nodes same (code_of p.body) (code_of q.body) h.body in
       let e : exit_of (code_of p.body) ≡ exit_of (code_of q.body) = omega (arith, n) in

@@ -3,11 +3,11 @@ use Rattle.std.specs.Prelude.{All, IfOk, OnOk}
 use Rattle.std.specs.List.{range_with_len}
 use Rattle.std.proofs.lemmas.List.{length-map}
 use Rattle.syntax_tree.specs.Term.{term_of}
+use Rattle.transition_formula.specs.Equating.{equated, lost_in_equating}
 use Rattle.transition_formula.specs.declared.loss.Loss.{Loss}
 use Rattle.transition_formula.specs.Posts.{with_posts}
 use Rattle.transition_formula.specs.Transition.{Transition}
 use Rattle.proc_summary.specs.Summary.{exit_places}
-use Rattle.newton_rounds.specs.Equating.{equated, lost_in_equating}
 use Rattle.newton_rounds.specs.Pairs.{PairEnds, along, callee_width, stations_of}
 use Rattle.newton_rounds.specs.Shapes.{stretch_of}
 use Rattle.newton_rounds.proofs.Placed.{pair-holds}
@@ -37,7 +37,7 @@ with_posts-requires-clause-there c =
     let caller = c.args.caller.now in
     let callee = c.args.callee.now in
     let to : c.in_ok-equal.equal.to ≡ (along (stations_of caller callee s)).to =
-    ap (λ (t : Transition). t.to) c.in_ok-equal.ensures.made ∙ ap (λ (t : Transition). t.to) c.in_ok-whole.ensures.made in
+    ap (λ (t : Transition). t.to) c.in_ok-equal.ensures.exact ∙ ap (λ (t : Transition). t.to) c.in_ok-whole.ensures.made in
     let wide = c.columns-2.ensures.columns ∙ ap (λ (m : PairEnds). m.ends.full.columns) c.caller.view_is in
     let globals = ap (λ (m : PairEnds). m.ends.globals) c.caller.view_is in
     let exit = c.columns.ensures.columns ∙ ap (λ (m : PairEnds). m.ends.exit.columns) c.callee.view_is in

@@ -1,0 +1,7 @@
+//! Each law is the contract of a function that does nothing.
+ghost use Rattle.newton_rounds.specs.Alike.{AlikeGroupsAreOne};
+
+/// Groups that are alike are both linear or neither, and have one computation of their summaries.
+pub fn law_of_alike_groups()
+    ensures { AlikeGroupsAreOne }
+{}
