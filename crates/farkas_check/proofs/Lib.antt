@@ -6,9 +6,9 @@ mod Bounds
 -- Stratum: ties make a relation vanish on a case, spots show that there are no others, and the lines are a reduced basis.
 mod Basis
 pub mod Vanishing
-mod Spots
+pub mod Spots
 mod Elimination
-mod Differences
+pub mod Differences
 -- Points: ratios in lowest terms, the values that they give, and polynomials as sums over columns.
 pub mod Lowest
 pub mod PointValues

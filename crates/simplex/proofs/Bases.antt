@@ -1,16 +1,21 @@
 -- The answer of a stratum question, from what the search finds.
-use Rattle.std.proofs.Common.{◌≡◌, ◌⊎◌, ℕ, zero, suc, ◌+◌, ◌<◌, Bool, true, List, [], ◌∷◌, length, map, Ok, Err, Some, ap, subst, ◌∙◌, ⊎_elim, inl, inr}
-use Rattle.std.specs.Prelude.{slice_get, ◌-◌, ◌^◌}
+use Rattle.std.proofs.Common.{◌≡◌, ◌⊎◌, ℕ, zero, suc, ◌+◌, ◌<◌, Bool, true, false, List, [], ◌∷◌, length, map, Result, Ok, Err, Some, refl, ap, subst, ◌∙◌, ⊎_elim, inl, inr}
+use Rattle.std.specs.Prelude.{slice_get, ◌-◌, ◌^◌, ◌&&◌}
+use Rattle.std.specs.List.{list_all}
+use Rattle.std.proofs.lemmas.Bool.{false≢true}
 use Rattle.std.proofs.lemmas.List.Elements.{recursion_from_All}
 use Rattle.linear_terms.specs.declared.col.Col.{Col}
 use Rattle.whole_numbers.specs.declared.wide.Wide as Step
 use Rattle.farkas_check.specs.Frames.{choose, choice_count}
 use Rattle.farkas_check.specs.Kept.{IsCanonicalChange, IsCanonicalStratum, HasPositive}
-use Rattle.farkas_check.specs.Relations.{Changes, stratum_columns, case_monos}
+use Rattle.farkas_check.specs.Parts.{and_then}
+use Rattle.farkas_check.specs.Relations.{Changes, stratum_columns, case_monos, unknown_count, numbers_of, is_reduced, free_places}
+use Rattle.farkas_check.specs.Stratum.{has_unknowns, all_of, tested_relation, tested_spot, tested_free, spot_side}
 use Rattle.farkas_check.specs.Sizes.{IsDead}
 use Rattle.farkas_check.specs.Tested.{outcome}
 use Rattle.farkas_check.specs.declared.answer.Answer.{Answer}
 use Rattle.farkas_check.specs.declared.answer.Answer.TheVariants as answer
+use Rattle.farkas_check.specs.declared.answer.Limit.{Limit}
 use Rattle.farkas_check.specs.declared.answer.Limit.TheVariants as limit
 use Rattle.farkas_check.specs.declared.question.Question.TheVariants.{Stratum}
 use Rattle.farkas_check.specs.declared.stratum.Change.{Change}
@@ -28,6 +33,7 @@ use Rattle.simplex.proofs.Emptiness.{no_point_over}
 use Rattle.simplex.proofs.Framing.{kinds-length}
 use Rattle.simplex.proofs.Leaves.{limit_of}
 use Rattle.simplex.proofs.Objectives.{more_rows}
+use Rattle.simplex.proofs.SpotPoints.{all_honest, spots_honest}
 
 mapped_place : (cases : List Change) (l : ℕ) (case : Change) → slice_get cases l ≡ Some case → slice_get (map (λ (c : Change). c.rows) cases) l ≡ Some case.rows
 mapped_place [] l case e = cc
@@ -71,10 +77,42 @@ wide_stratum asked step k leaves = record {
 pub untested_stratum : (asked : Changes) (a : Answer) (step : Step.Wide) → IsCanonicalStratum asked.cases asked.lower → outcome (Stratum asked) a ≡ Err step → IsStratumAnswer asked (answer.Limit (limit.Wide step.left step.right step.times))
 untested_stratum asked a step k e = wide_stratum asked step k (stratum-leaves asked a step e)
 
-pub found_stratum : (asked : Changes) (a : Answer) → IsCanonicalStratum asked.cases asked.lower → HasPositive a → IsFoundOver (stratum_columns asked.cases asked.lower) (2 ^ 127 - 1) asked.cases a → outcome (Stratum asked) a ≡ Ok true → IsStratumAnswer asked a
-found_stratum asked a k p h e = record { passes = record { canonical = k; positive = p; passed = e }; pivots = pivots_of a h }
+-- no part of the test of what is found is false
+found_honest : (asked : Changes) (a : Answer) (b : Bool) → IsCanonicalStratum asked.cases asked.lower → IsFoundOver (stratum_columns asked.cases asked.lower) (2 ^ 127 - 1) asked.cases asked.lower a → outcome (Stratum asked) a ≡ Ok b → b ≡ true
+found_honest asked (answer.Yes by) b k h e = absurd h
+found_honest asked (answer.No point) b k h e = absurd h
+found_honest asked (answer.Bound at certs case point) b k h e = absurd h
+found_honest asked (answer.Unbounded case point ray) b k h e = absurd h
+found_honest asked (answer.Limit l) b k h e = pivots l h.0 e
   where
-    pivots_of : (a : Answer) → IsFoundOver (stratum_columns asked.cases asked.lower) (2 ^ 127 - 1) asked.cases a → PivotsOver (2 ^ 127 - 1) asked a
+    pivots : (l : Limit) → l ≡ limit.Pivots → outcome (Stratum asked) (answer.Limit l) ≡ Ok b → b ≡ true
+    pivots (limit.Wide left right times) f g = cc
+    pivots limit.Pivots f g = cc
+found_honest asked (answer.Basis relations spots free) b k h e = counted (list_all (has_unknowns asked.cases asked.lower) relations && is_reduced (map numbers_of relations)) (both h.counts h.reduced) e
+  where
+    cs : List (List Col)
+    cs = stratum_columns asked.cases asked.lower
+
+    both : {p q : Bool} → p ≡ true → q ≡ true → p && q ≡ true
+    both {p} {q} f g = rw (f, g) refl
+
+    after : (first others : Result Bool Step.Wide) → ((c : Bool) → first ≡ Ok c → c ≡ true) → ((c : Bool) → others ≡ Ok c → c ≡ true) → (c : Bool) → and_then first others ≡ Ok c → c ≡ true
+    after (Ok true) others f g c i = g c i
+    after (Ok false) others f g c i = absurd (false≢true (f false refl))
+    after (Err w) others f g c i = cc
+
+    counted : (q : Bool) → q ≡ true → and_then (bool_ok q) (and_then (all_of (tested_relation cs asked.cases asked.lower) relations) (and_then (all_of (tested_spot cs asked.cases) spots) (tested_free (spot_side cs asked.cases asked.lower) spots (free_places (map numbers_of relations) (unknown_count asked.cases asked.lower)) free))) ≡ Ok b → b ≡ true
+    counted true f g =
+        after (all_of (tested_relation cs asked.cases asked.lower) relations) (and_then (all_of (tested_spot cs asked.cases) spots) (tested_free (spot_side cs asked.cases asked.lower) spots (free_places (map numbers_of relations) (unknown_count asked.cases asked.lower)) free))
+        (λ c i. all_honest (tested_relation cs asked.cases asked.lower) relations c h.tied i)
+        (after (all_of (tested_spot cs asked.cases) spots) (tested_free (spot_side cs asked.cases asked.lower) spots (free_places (map numbers_of relations) (unknown_count asked.cases asked.lower)) free)
+        (λ c i. spots_honest asked.cases asked.lower spots c k h.points i) h.free_too) b g
+    counted false f g = cc
+
+pub found_stratum : (asked : Changes) (a : Answer) (b : Bool) → IsCanonicalStratum asked.cases asked.lower → HasPositive a → IsFoundOver (stratum_columns asked.cases asked.lower) (2 ^ 127 - 1) asked.cases asked.lower a → outcome (Stratum asked) a ≡ Ok b → IsStratumAnswer asked a
+found_stratum asked a b k p h e = record { passes = record { canonical = k; positive = p; passed = e ∙ ap (λ (c : Bool). bool_ok c) (found_honest asked a b k h e) }; pivots = pivots_of a h }
+  where
+    pivots_of : (a : Answer) → IsFoundOver (stratum_columns asked.cases asked.lower) (2 ^ 127 - 1) asked.cases asked.lower a → PivotsOver (2 ^ 127 - 1) asked a
     pivots_of (answer.Yes by) h e = cc
     pivots_of (answer.No point) h e = cc
     pivots_of (answer.Bound at certs case point) h e = cc

@@ -16,7 +16,7 @@ use Rattle.farkas_check.specs.Parts.{and_then}
 use Rattle.farkas_check.specs.Points.{ratio_at, ratio_value, meets}
 use Rattle.farkas_check.specs.Ratios.{Fraction, whole, common_multiple, ratio_product, ratio_sum}
 use Rattle.farkas_check.specs.Relations.{Changes, Side, Term, Lower, One, sides, numbers_of, stratum_columns, unknown_count, with_side, with_sides, coefficient_at, rest_of, difference_numbers, difference_form, is_reduced, free_places}
-use Rattle.farkas_check.specs.Stratum.{all_of, multiples_of, multiple_of, scaled_up, scaled_down, tested_multiple, tested_half, tested_tie, tested_relation, rows_of, spot_value, tested_spot, ratio_side_at, spots_from, is_exactly, unit_at, tested_at, tested_unit, tested_free, spot_side, has_unknowns, tested_basis, terms_of}
+use Rattle.farkas_check.specs.Stratum.{all_of, multiples_of, multiple_of, scaled_up, scaled_down, tested_multiple, tested_half, tested_tie, tested_relation, rows_of, spot_value, tested_spot, minus_value, ratio_side_at, spots_from, is_exactly, unit_at, tested_at, tested_unit, tested_free, spot_side, has_unknowns, tested_basis, terms_of}
 use Rattle.farkas_check.specs.Tested.{outcome}
 use Rattle.farkas_check.specs.declared.answer.Answer.{Answer}
 use Rattle.farkas_check.specs.declared.answer.Answer.TheVariants as answer
@@ -165,6 +165,9 @@ tested_free-leaves value spots others free w f e =
 spot_side-leaves : (cs : List (List Col)) (cases : List Change) (lower : List Polynomial) (spot : Spot) (place : ℕ) (w : Step.Wide) → spot_side cs cases lower spot place ≡ Err w → LeavesBits w
 unfolding spot_side
 spot_side-leaves cs cases lower spot place w e = ratio_side_at-leaves (spot_value cs spot) (sides (terms_of cases spot.case) lower) place w (λ p g. ratio_value-leaves (ratio_at cs spot.at) p w g) e
+
+pub minus-width : (cs : List (List Col)) (point : List Fraction) (p : Polynomial) (r : Result Fraction Step.Wide) → r ≡ minus_value (ratio_value (ratio_at cs point)) p → IfErr r LeavesBits
+minus-width cs point p r e = width_of r (minus_value (ratio_value (ratio_at cs point)) p) e (λ w f. ratio_side_at-leaves (ratio_value (ratio_at cs point)) (Lower p ∷ []) zero w (λ q g. ratio_value-leaves (ratio_at cs point) q w g) f)
 
 -- ---- all
 

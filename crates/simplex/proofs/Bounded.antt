@@ -27,7 +27,7 @@ use Rattle.farkas_check.specs.declared.answer.Cert.{Cert}
 use Rattle.farkas_check.proofs.Farkas.{bool_ok, total, sums, form_of, on_sum}
 use Rattle.simplex.specs.Exchange.{numbers_of, choices_of, line_multiple, IsTableauOf}
 use Rattle.simplex.specs.Rows.{kinds_of, kind_at, framed}
-use Rattle.simplex.specs.Suprema.{with_goal, goal_frame, certificate_of, IsTopped}
+use Rattle.simplex.specs.Suprema.{with_goal, frame_over, goal_frame, certificate_of, IsTopped}
 use Rattle.simplex.specs.declared.tableau.Tableau.{Tableau}
 use Rattle.simplex.proofs.Certificates.{each_of, total-is, all_multipliers, framed-column, framed-constant}
 use Rattle.simplex.proofs.Framing.{kinds-length}
@@ -112,7 +112,7 @@ less_value scale rest less z e =
     (λ left f g. on_ok (product_of less (negsuc 0)) (λ right. sum_of left right) z g
     (λ right h k. sum_of-value left right z k ∙ ap (λ x. x +ℤ right) (product_of-value scale rest left f) ∙ ap (λ x. scale *ℤ rest +ℤ x) (product_of-value less (negsuc 0) right h)))
 
-equal_lists : (f g : List Col → ℤ) (cs : List (List Col)) → ((j : ℕ) → j < length cs → f (get_or cs j []) ≡ g (get_or cs j [])) → pointwise int_eq (map f cs) (map g cs) ≡ true
+pub equal_lists : (f g : List Col → ℤ) (cs : List (List Col)) → ((j : ℕ) → j < length cs → f (get_or cs j []) ≡ g (get_or cs j [])) → pointwise int_eq (map f cs) (map g cs) ≡ true
 equal_lists f g [] h = refl
 equal_lists f g (c ∷ cs) h = both (int_eq (f c) (g c)) ((Decides-int_eq (f c) (g c)).1 (h 0 (omega arith))) (equal_lists f g cs (λ j k. h (suc j) (omega (arith, k))))
   where
@@ -149,43 +149,45 @@ kind_before [] p l h = absurd (omega (arith, h))
 kind_before (row ∷ rows) p zero h = refl
 kind_before (row ∷ rows) p (suc l) h = kind_before rows p l (omega (arith, h))
 
--- what the test of a certificate asks but for the bound
-pub record IsCertified (goal : Goal) (cert : Cert) : Type 0 where
-  pub each : length cert.by ≡ length goal.rows
-  pub multipliers : are_multipliers goal.rows cert.by ≡ true
+-- what a certificate is worth, read at the columns and at the constant
+pub record IsCertifiedOver (cs : List (List Col)) (rows : List Row) (p : Polynomial) (cert : Cert) : Type 0 where
+  pub each : length cert.by ≡ length rows
+  pub multipliers : are_multipliers rows cert.by ≡ true
   pub scale : pos 0 <ℤ cert.scale
-  pub sum : (b : Bool) → tested_sum goal cert ≡ Ok b → b ≡ true
+  pub columns : (j : ℕ) → j < length cs → total (coefficient_at (get_or cs j [])) rows cert.by ≡ cert.scale *ℤ coefficient_in p.terms (get_or cs j [])
+  pub constant : total constant_in rows cert.by ≡ cert.scale *ℤ p.rest +ℤ cert.sum *ℤ negsuc 0
 
-pub certified : (goal : Goal) (enters : List Bool) (t : Tableau) (cert : Cert) → IsTopped (goal_frame goal) (length (goal_columns goal)) (kinds_of (with_goal goal.rows goal.objective)) enters t → certificate_of (length (goal_columns goal)) (length goal.rows) (get_or t.lines (length goal.rows) []) ≡ Ok cert → IsCertified goal cert
-certified goal enters t cert top e = record {
+pub certified_over : (cs : List (List Col)) (rows : List Row) (p : Polynomial) (enters : List Bool) (t : Tableau) (cert : Cert) → IsTopped (frame_over cs rows p) (length cs) (kinds_of (with_goal rows p)) enters t → certificate_of (length cs) (length rows) (get_or t.lines (length rows) []) ≡ Ok cert → IsCertifiedOver cs rows p cert
+certified_over cs rows p enters t cert top e = record {
   each = each;
-  multipliers = both (length cert.by == length goal.rows) (eq-eqb (length cert.by) (length goal.rows) each) (all_multipliers goal.rows cert.by signs);
-  scale = subst (λ (z : ℤ). pos 0 <ℤ z) (sym c.scale) (subst (λ (j : ℕ). pos 0 <ℤ numbers_of t (length goal.rows) j) own (s.is.own (length goal.rows) inside));
-  sum = λ b f. sum_honest goal cert b at_columns at_constant f;
+  multipliers = both (length cert.by == length rows) (eq-eqb (length cert.by) (length rows) each) (all_multipliers rows cert.by signs);
+  scale = subst (λ (z : ℤ). pos 0 <ℤ z) (sym c.scale) (subst (λ (j : ℕ). pos 0 <ℤ numbers_of t (length rows) j) own (s.is.own (length rows) inside));
+  columns = at_columns;
+  constant = at_constant;
 }
   where
-    s : IsTableauOf (length (goal_columns goal) + 1) (numbers_of (framed (goal_columns goal) (with_goal goal.rows goal.objective))) t
+    s : IsTableauOf (length cs + 1) (numbers_of (framed cs (with_goal rows p))) t
     s = top.met.placed.marked.sized.tableau
 
-    many : length t.lines ≡ length goal.rows + 1
-    many = sym top.met.placed.marked.sized.many ∙ kinds-length (with_goal goal.rows goal.objective) ∙ more_rows goal.rows goal.objective
+    many : length t.lines ≡ length rows + 1
+    many = sym top.met.placed.marked.sized.many ∙ kinds-length (with_goal rows p) ∙ more_rows rows p
 
-    inside : length goal.rows < length t.lines
+    inside : length rows < length t.lines
     inside = omega (arith, many)
 
-    own : choices_of t (length goal.rows) ≡ length (goal_columns goal) + 1 + length goal.rows
-    own = top.met.placed.marked.waiting (length goal.rows) inside (top.met.placed.marked.sized.goals (length goal.rows) (omega arith) inside) (top.met.placed.out (length goal.rows) (omega arith) inside)
+    own : choices_of t (length rows) ≡ length cs + 1 + length rows
+    own = top.met.placed.marked.waiting (length rows) inside (top.met.placed.marked.sized.goals (length rows) (omega arith) inside) (top.met.placed.out (length rows) (omega arith) inside)
 
-    c : IsCertificate (length (goal_columns goal)) (length goal.rows) (get_or t.lines (length goal.rows) []) cert
-    c = certificate-is (length (goal_columns goal)) (length goal.rows) (get_or t.lines (length goal.rows) []) cert e
+    c : IsCertificate (length cs) (length rows) (get_or t.lines (length rows) []) cert
+    c = certificate-is (length cs) (length rows) (get_or t.lines (length rows) []) cert e
 
-    each : length cert.by ≡ length goal.rows
-    each = c.each ∙ length-take-le (length goal.rows) (drop (length (goal_columns goal) + 1) (get_or t.lines (length goal.rows) [])) long_enough
+    each : length cert.by ≡ length rows
+    each = c.each ∙ length-take-le (length rows) (drop (length cs + 1) (get_or t.lines (length rows) [])) long_enough
       where
-        long_enough : length goal.rows ≤ length (drop (length (goal_columns goal) + 1) (get_or t.lines (length goal.rows) []))
+        long_enough : length rows ≤ length (drop (length cs + 1) (get_or t.lines (length rows) []))
         long_enough =
-            let w : length (get_or t.lines (length goal.rows) []) ≡ length (goal_columns goal) + 1 + length t.lines = s.shape.wide (length goal.rows) inside in
-            let d : length (drop (length (goal_columns goal) + 1) (get_or t.lines (length goal.rows) [])) ≡ length (get_or t.lines (length goal.rows) []) - (length (goal_columns goal) + 1) = length-drop (length (goal_columns goal) + 1) (get_or t.lines (length goal.rows) []) in
+            let w : length (get_or t.lines (length rows) []) ≡ length cs + 1 + length t.lines = s.shape.wide (length rows) inside in
+            let d : length (drop (length cs + 1) (get_or t.lines (length rows) [])) ≡ length (get_or t.lines (length rows) []) - (length cs + 1) = length-drop (length cs + 1) (get_or t.lines (length rows) []) in
             omega (arith, w, d, many)
 
     minus_zero : (a z : ℤ) → z ≡ pos 0 → a -ℤ z ≡ a
@@ -194,24 +196,37 @@ certified goal enters t cert top e = record {
     minus : (a z : ℤ) → a -ℤ z ≡ a +ℤ z *ℤ negsuc 0
     minus a z = omega (arith, ints)
 
-    at_columns : (j : ℕ) → j < length (goal_columns goal) → total (coefficient_at (get_or (goal_columns goal) j [])) goal.rows cert.by ≡ cert.scale *ℤ coefficient_in goal.objective.terms (get_or (goal_columns goal) j [])
+    at_columns : (j : ℕ) → j < length cs → total (coefficient_at (get_or cs j [])) rows cert.by ≡ cert.scale *ℤ coefficient_in p.terms (get_or cs j [])
     at_columns j h =
-        cert_total (goal_columns goal) goal.rows goal.objective t cert (coefficient_at (get_or (goal_columns goal) j [])) j s many c each (omega (arith, h)) (λ l. framed-column (goal_columns goal) (with_goal goal.rows goal.objective) j l h)
-        ∙ minus_zero (cert.scale *ℤ coefficient_in goal.objective.terms (get_or (goal_columns goal) j [])) (numbers_of t (length goal.rows) j) (top.flat j h)
+        cert_total cs rows p t cert (coefficient_at (get_or cs j [])) j s many c each (omega (arith, h)) (λ l. framed-column cs (with_goal rows p) j l h)
+        ∙ minus_zero (cert.scale *ℤ coefficient_in p.terms (get_or cs j [])) (numbers_of t (length rows) j) (top.flat j h)
 
-    at_constant : total constant_in goal.rows cert.by ≡ cert.scale *ℤ goal.objective.rest +ℤ cert.sum *ℤ negsuc 0
+    at_constant : total constant_in rows cert.by ≡ cert.scale *ℤ p.rest +ℤ cert.sum *ℤ negsuc 0
     at_constant =
-        cert_total (goal_columns goal) goal.rows goal.objective t cert constant_in (length (goal_columns goal)) s many c each (omega arith) (λ l. framed-constant (goal_columns goal) (with_goal goal.rows goal.objective) l)
-        ∙ ap (λ z. cert.scale *ℤ goal.objective.rest -ℤ z) (sym c.sum) ∙ minus (cert.scale *ℤ goal.objective.rest) cert.sum
+        cert_total cs rows p t cert constant_in (length cs) s many c each (omega arith) (λ l. framed-constant cs (with_goal rows p) l)
+        ∙ ap (λ z. cert.scale *ℤ p.rest -ℤ z) (sym c.sum) ∙ minus (cert.scale *ℤ p.rest) cert.sum
 
     up : (z : ℤ) → pos 0 ≤ℤ (negsuc 0 *ℤ z) → pos 0 ≤ℤ (z *ℤ negsuc 0)
     up z h = omega (arith, ints, h)
 
-    signs : (l : ℕ) → l < length goal.rows → kind_at (kinds_of goal.rows) l ≡ AtMost → pos 0 ≤ℤ get_or cert.by l (pos 0)
+    signs : (l : ℕ) → l < length rows → kind_at (kinds_of rows) l ≡ AtMost → pos 0 ≤ℤ get_or cert.by l (pos 0)
     signs l h k =
         subst (λ (z : ℤ). pos 0 ≤ℤ z) (sym (c.by l h))
-        (up (numbers_of t (length goal.rows) (length (goal_columns goal) + 1 + l))
-        (top.best (length (goal_columns goal) + 1 + l) (subst (λ (n : ℕ). length (goal_columns goal) + 1 + l < n) (sym top.met.placed.marked.wide) (omega (arith, h, many))) (top.met.kept l h (kind_before goal.rows goal.objective l h ∙ k))))
+        (up (numbers_of t (length rows) (length cs + 1 + l))
+        (top.best (length cs + 1 + l) (subst (λ (n : ℕ). length cs + 1 + l < n) (sym top.met.placed.marked.wide) (omega (arith, h, many))) (top.met.kept l h (kind_before rows p l h ∙ k))))
 
-    both : (x : Bool) → x ≡ true → list_all (λ (p : Row × ℤ). is_multiplier p.0.kind p.1) (zip goal.rows cert.by) ≡ true → x && list_all (λ (p : Row × ℤ). is_multiplier p.0.kind p.1) (zip goal.rows cert.by) ≡ true
+    both : (x : Bool) → x ≡ true → list_all (λ (p : Row × ℤ). is_multiplier p.0.kind p.1) (zip rows cert.by) ≡ true → x && list_all (λ (p : Row × ℤ). is_multiplier p.0.kind p.1) (zip rows cert.by) ≡ true
     both x f g = rw (f, g) refl
+
+-- what the test of a certificate asks but for the bound
+pub record IsCertified (goal : Goal) (cert : Cert) : Type 0 where
+  pub each : length cert.by ≡ length goal.rows
+  pub multipliers : are_multipliers goal.rows cert.by ≡ true
+  pub scale : pos 0 <ℤ cert.scale
+  pub sum : (b : Bool) → tested_sum goal cert ≡ Ok b → b ≡ true
+
+pub certified : (goal : Goal) (enters : List Bool) (t : Tableau) (cert : Cert) → IsTopped (goal_frame goal) (length (goal_columns goal)) (kinds_of (with_goal goal.rows goal.objective)) enters t → certificate_of (length (goal_columns goal)) (length goal.rows) (get_or t.lines (length goal.rows) []) ≡ Ok cert → IsCertified goal cert
+certified goal enters t cert top e = of_parts (certified_over (goal_columns goal) goal.rows goal.objective enters t cert top e)
+  where
+    of_parts : IsCertifiedOver (goal_columns goal) goal.rows goal.objective cert → IsCertified goal cert
+    of_parts c = record { each = c.each; multipliers = c.multipliers; scale = c.scale; sum = λ b f. sum_honest goal cert b c.columns c.constant f }

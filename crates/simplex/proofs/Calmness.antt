@@ -110,43 +110,45 @@ share_of t k = share (length t.lines) (λ k. numbers_of t k (choices_of t k)) k
 abbrev pub multiple_of : Tableau → ℕ → ℕ → ℤ
 multiple_of t k j = numbers_of t k j *ℤ share_of t k
 
-pub is_tableau : (cs : List (List Col)) (rows : List Row) (t : Tableau) → length t.lines ≡ length rows → IsTableauOf (length cs + 1) (numbers_of (framed cs rows)) t → IsTableau (frame_of cs (row_polys rows [])) t.chosen (whole_over t) (multiple_of t)
-is_tableau cs rows t many s = record {
-  each = s.shape.choices ∙ many ∙ sym (lines-length cs rows);
-  within = all_from (λ c. c < width (frame_of cs (row_polys rows []))) t.chosen (λ i h. subst (λ (n : ℕ). choices_of t i < length cs + 1 + n) (many ∙ sym (lines-length cs rows)) (s.within i (subst (λ (n : ℕ). i < n) s.shape.choices h)));
+-- the numbers of a frame, by lines and columns
+abbrev pub HasNumbers : Frame → (ℕ → ℕ → ℤ) → Type 0
+HasNumbers f frame = (l j : ℕ) → l < line_count f → j < width f → number_in f l j ≡ frame l j
+
+pub is_tableau : (f : Frame) (frame : ℕ → ℕ → ℤ) (t : Tableau) → HasNumbers f frame → length t.lines ≡ line_count f → IsTableauOf f.units frame t → IsTableau f t.chosen (whole_over t) (multiple_of t)
+is_tableau f frame t numbers many s = record {
+  each = s.shape.choices ∙ many;
+  within = all_from (λ c. c < width f) t.chosen (λ i h. subst (λ (n : ℕ). choices_of t i < f.units + n) many (s.within i (subst (λ (n : ℕ). i < n) s.shape.choices h)));
   positive = over-positive (length t.lines) (λ k. numbers_of t k (choices_of t k)) (λ k h. s.is.own k h);
-  writes = λ l j h k. writes l j (subst (λ (n : ℕ). l < n) (lines-length cs rows) h) (subst (λ (n : ℕ). j < length cs + 1 + n) (lines-length cs rows) k);
+  writes = λ l j h k. writes l j h k;
 }
   where
-    m : ℕ
-    m = length t.lines
-
-    frame : ℕ → ℕ → ℤ
-    frame = numbers_of (framed cs rows)
-
     level : (a b : ℤ) → a -ℤ b ≡ pos 0 → a ≡ b
     level a b e = omega (arith, ints, e)
 
-    in_frame : (i : ℕ) → i < length rows → choices_of t i < length cs + 1 + length rows
-    in_frame i h = subst (λ (n : ℕ). choices_of t i < length cs + 1 + n) many (s.within i (subst (λ (n : ℕ). i < n) (sym many) h))
+    in_frame : (i : ℕ) → i < line_count f → choices_of t i < width f
+    in_frame i h = subst (λ (n : ℕ). choices_of t i < f.units + n) many (s.within i (subst (λ (n : ℕ). i < n) (sym many) h))
 
-    written : (l j : ℕ) → l < length rows → j < length cs + 1 + length rows → frame l j *ℤ whole_over t ≡ sum_below (length t.lines) (λ k. frame l (choices_of t k) *ℤ multiple_of t k j)
+    written : (l j : ℕ) → l < line_count f → j < width f → frame l j *ℤ whole_over t ≡ sum_below (length t.lines) (λ k. frame l (choices_of t k) *ℤ multiple_of t k j)
     written l j h k =
         level (frame l j *ℤ whole_over t) (sum_below (length t.lines) (λ k. frame l (choices_of t k) *ℤ multiple_of t k j))
-        (sym (moved-sum (length t.lines) (length cs + 1 + length t.lines) (numbers_of t) (choices_of t) j (frame l) inside (λ i g. s.within i g))
-        ∙ moved-solves (length t.lines) (length cs + 1) (length cs + 1 + length t.lines) frame (numbers_of t) (choices_of t) j s.is inside (λ i g. s.within i g) l (subst (λ (n : ℕ). l < n) (sym many) h))
+        (sym (moved-sum (length t.lines) (f.units + length t.lines) (numbers_of t) (choices_of t) j (frame l) inside (λ i g. s.within i g))
+        ∙ moved-solves (length t.lines) f.units (f.units + length t.lines) frame (numbers_of t) (choices_of t) j s.is inside (λ i g. s.within i g) l (subst (λ (n : ℕ). l < n) (sym many) h))
       where
-        inside : j < length cs + 1 + length t.lines
-        inside = subst (λ (n : ℕ). j < length cs + 1 + n) (sym many) k
+        inside : j < f.units + length t.lines
+        inside = subst (λ (n : ℕ). j < f.units + n) (sym many) k
 
-    writes : (l j : ℕ) → l < length rows → j < length cs + 1 + length rows → whole_over t *ℤ number_in (frame_of cs (row_polys rows [])) l j ≡ sum_below (line_count (frame_of cs (row_polys rows []))) (λ k. multiple_of t k j *ℤ number_in (frame_of cs (row_polys rows [])) l (get_or t.chosen k 0))
+    writes : (l j : ℕ) → l < line_count f → j < width f → whole_over t *ℤ number_in f l j ≡ sum_below (line_count f) (λ k. multiple_of t k j *ℤ number_in f l (get_or t.chosen k 0))
     writes l j h k =
-        ap (λ z. whole_over t *ℤ z) (frame_numbers cs rows l j h k)
+        ap (λ z. whole_over t *ℤ z) (numbers l j h k)
         ∙ *ℤ_comm (whole_over t) (frame l j)
         ∙ written l j h k
-        ∙ sum_below-same (length t.lines) (λ i. frame l (choices_of t i) *ℤ multiple_of t i j) (λ i. multiple_of t i j *ℤ number_in (frame_of cs (row_polys rows [])) l (get_or t.chosen i 0))
-        (λ i g. *ℤ_comm (frame l (choices_of t i)) (multiple_of t i j) ∙ ap (λ z. multiple_of t i j *ℤ z) (sym (frame_numbers cs rows l (choices_of t i) h (in_frame i (subst (λ (n : ℕ). i < n) many g)))))
-        ∙ ap (λ (n : ℕ). sum_below n (λ i. multiple_of t i j *ℤ number_in (frame_of cs (row_polys rows [])) l (get_or t.chosen i 0))) (many ∙ sym (lines-length cs rows))
+        ∙ sum_below-same (length t.lines) (λ i. frame l (choices_of t i) *ℤ multiple_of t i j) (λ i. multiple_of t i j *ℤ number_in f l (get_or t.chosen i 0))
+        (λ i g. *ℤ_comm (frame l (choices_of t i)) (multiple_of t i j) ∙ ap (λ z. multiple_of t i j *ℤ z) (sym (numbers l (choices_of t i) h (in_frame i (subst (λ (n : ℕ). i < n) many g)))))
+        ∙ ap (λ (n : ℕ). sum_below n (λ i. multiple_of t i j *ℤ number_in f l (get_or t.chosen i 0))) many
+
+-- the frame of rows
+row_numbers : (cs : List (List Col)) (rows : List Row) → HasNumbers (frame_of cs (row_polys rows [])) (numbers_of (framed cs rows))
+row_numbers cs rows l j h k = frame_numbers cs rows l j (subst (λ (n : ℕ). l < n) (lines-length cs rows) h) (subst (λ (n : ℕ). j < length cs + 1 + n) (lines-length cs rows) k)
 
 -- ---- lines
 
@@ -175,19 +177,16 @@ no_line (l ∷ ls) (suc i) j h = no_line ls i j (omega (arith, h))
 nothing_small : (z : ℤ) (n : ℕ) → z ≡ pos 0 → unsigned_abs z ≤ n
 nothing_small z n e = omega (arith, ints, e)
 
-pub small_frame : (n : ℕ) (cs : List (List Col)) (rows : List Row) → IsCalmUpTo n (frame_of cs (row_polys rows [])) → IsSmallFrame n (framed_by cs rows) (length rows)
-small_frame n cs rows calm t many s primitive i j =
-    ⊎_elim (λ (h : i < length t.lines). ⊎_elim (λ (k : j < length cs + 1 + length t.lines). inside i j h k) (λ (k : length cs + 1 + length t.lines ≤ j). nothing_small (numbers_of t i j) n (outside t (length cs + 1 + length t.lines) i j s.shape.wide k h)) (cases_lt j (length cs + 1 + length t.lines)))
+pub small_frame_of : (n : ℕ) (f : Frame) (frame : ℕ → ℕ → ℤ) (rows : ℕ) → HasNumbers f frame → IsCalmUpTo n f → IsSmallFrame n (record { units = f.units; rows = rows; frame = frame }) (line_count f)
+small_frame_of n f frame rows same calm t many s primitive i j =
+    ⊎_elim (λ (h : i < length t.lines). ⊎_elim (λ (k : j < f.units + length t.lines). inside i j h k) (λ (k : f.units + length t.lines ≤ j). nothing_small (numbers_of t i j) n (outside t (f.units + length t.lines) i j s.shape.wide k h)) (cases_lt j (f.units + length t.lines)))
     (λ (h : length t.lines ≤ i). nothing_small (numbers_of t i j) n (no_line t.lines i j h)) (cases_lt i (length t.lines))
   where
-    f : Frame
-    f = frame_of cs (row_polys rows [])
-
-    inside : (i j : ℕ) → i < length t.lines → j < length cs + 1 + length t.lines → unsigned_abs (numbers_of t i j) ≤ n
+    inside : (i j : ℕ) → i < length t.lines → j < f.units + length t.lines → unsigned_abs (numbers_of t i j) ≤ n
     inside i j h k = smaller (unsigned_abs (numbers_of t i j)) (unsigned_abs (share_of t i)) common n size_above bound (le_of_dvd size_above (subst (λ x. common ∣ x) (ap (λ x. x * unsigned_abs (share_of t i)) (primitive i h) ∙ one-mul (unsigned_abs (share_of t i))) divides))
       where
-        wide : length cs + 1 + length t.lines ≡ width f
-        wide = ap (λ x. length cs + 1 + x) (many ∙ sym (lines-length cs rows))
+        wide : f.units + length t.lines ≡ width f
+        wide = ap (λ x. f.units + x) (many)
 
         numbers : List ℤ
         numbers = whole_over t ∷ map (multiple_of t i) (places (width f))
@@ -199,17 +198,20 @@ small_frame n cs rows calm t many s primitive i j =
         size_above = positive_size (share_of t i) (share-positive (length t.lines) (λ k. numbers_of t k (choices_of t k)) i (λ o p. s.is.own o p))
 
         is_up_to : AreUpTo n numbers
-        is_up_to = calm.lines t.chosen (whole_over t) (multiple_of t) (is_tableau cs rows t many s) i (subst (λ (x : ℕ). i < x) (many ∙ sym (lines-length cs rows)) h)
+        is_up_to = calm.lines t.chosen (whole_over t) (multiple_of t) (is_tableau f frame t same many s) i (subst (λ (x : ℕ). i < x) (many) h)
 
         bound : unsigned_abs (numbers_of t i j) * unsigned_abs (share_of t i) ≤ n * common
         bound = subst (λ x. x ≤ n * common) (unsigned_abs-mul (numbers_of t i j) (share_of t i)) (at_place (λ z. unsigned_abs z ≤ n * common) (multiple_of t i) (width f) j is_up_to.1 (subst (λ (x : ℕ). j < x) wide k))
 
         each : (q : ℕ) → common ∣ (unsigned_abs (numbers_of t i q) * unsigned_abs (share_of t i))
-        each q = ⊎_elim (λ (g : q < length cs + 1 + length t.lines). subst (λ x. common ∣ x) (unsigned_abs-mul (numbers_of t i q) (share_of t i)) (at_place (λ z. common ∣ unsigned_abs z) (multiple_of t i) (width f) q (divided_each common numbers (DividesEach-gcd_of_all numbers)).1 (subst (λ (x : ℕ). q < x) wide g)))
-            (λ (g : length cs + 1 + length t.lines ≤ q). subst (λ x. common ∣ x) (sym (ap (λ z. unsigned_abs z * unsigned_abs (share_of t i)) (outside t (length cs + 1 + length t.lines) i q s.shape.wide g h) ∙ zero-mul (unsigned_abs (share_of t i)))) (dvd-zero common)) (cases_lt q (length cs + 1 + length t.lines))
+        each q = ⊎_elim (λ (g : q < f.units + length t.lines). subst (λ x. common ∣ x) (unsigned_abs-mul (numbers_of t i q) (share_of t i)) (at_place (λ z. common ∣ unsigned_abs z) (multiple_of t i) (width f) q (divided_each common numbers (DividesEach-gcd_of_all numbers)).1 (subst (λ (x : ℕ). q < x) wide g)))
+            (λ (g : f.units + length t.lines ≤ q). subst (λ x. common ∣ x) (sym (ap (λ z. unsigned_abs z * unsigned_abs (share_of t i)) (outside t (f.units + length t.lines) i q s.shape.wide g h) ∙ zero-mul (unsigned_abs (share_of t i)))) (dvd-zero common)) (cases_lt q (f.units + length t.lines))
 
         divides : common ∣ (gcd_of_all (get_or t.lines i []) * unsigned_abs (share_of t i))
         divides = divides_all common (unsigned_abs (share_of t i)) (get_or t.lines i []) size_above each
+
+pub small_frame : (n : ℕ) (cs : List (List Col)) (rows : List Row) → IsCalmUpTo n (frame_of cs (row_polys rows [])) → IsSmallFrame n (framed_by cs rows) (length rows)
+small_frame n cs rows calm = subst (λ (count : ℕ). IsSmallFrame n (framed_by cs rows) count) (lines-length cs rows) (small_frame_of n (frame_of cs (row_polys rows [])) (numbers_of (framed cs rows)) (length rows) (row_numbers cs rows) calm)
 
 -- ---- columns
 
@@ -224,8 +226,8 @@ pub record HasSmallColumn (n : ℕ) (t : Tableau) (column : ℕ) : Type 0 where
   pub bottom_small : unsigned_abs bottom ≤ n
   pub top_small : (k : ℕ) → k < length t.lines → unsigned_abs (top k) ≤ n
 
-pub small_column : (n : ℕ) (cs : List (List Col)) (rows : List Row) (t : Tableau) (column : ℕ) → IsCalmUpTo n (frame_of cs (row_polys rows [])) → length t.lines ≡ length rows → IsTableauOf (length cs + 1) (numbers_of (framed cs rows)) t → column < length cs + 1 + length t.lines → HasSmallColumn n t column
-small_column n cs rows t column calm many s inside = record {
+pub small_column_of : (n : ℕ) (f : Frame) (frame : ℕ → ℕ → ℤ) (t : Tableau) (column : ℕ) → HasNumbers f frame → IsCalmUpTo n f → length t.lines ≡ line_count f → IsTableauOf f.units frame t → column < f.units + length t.lines → HasSmallColumn n t column
+small_column_of n f frame t column same calm all_lines s inside = record {
   bottom = int_div (whole_over t) (pos common);
   top = λ k. int_div (multiple_of t k column) (pos common);
   common = pos common;
@@ -236,12 +238,6 @@ small_column n cs rows t column calm many s inside = record {
   top_small = λ k h. below (int_div (multiple_of t k column) (pos common)) (multiple_of t k column) (int_div-*ℤ (multiple_of t k column) common (divided k h)) (at_place (λ z. unsigned_abs z ≤ n * common) (λ i. multiple_of t i column) (line_count f) k is_up_to.1 (subst (λ (x : ℕ). k < x) all_lines h));
 }
   where
-    f : Frame
-    f = frame_of cs (row_polys rows [])
-
-    all_lines : length t.lines ≡ line_count f
-    all_lines = many ∙ sym (lines-length cs rows)
-
     numbers : List ℤ
     numbers = whole_over t ∷ map (λ k. multiple_of t k column) (places (line_count f))
 
@@ -254,7 +250,7 @@ small_column n cs rows t column calm many s inside = record {
     not_zero : (z : ℤ) → pos 0 <ℤ z → z ≡ pos 0 → ⊥
     not_zero z h e = omega (arith, ints, h, e)
 
-    common_above : 0 < gcd_of_all (whole_over t ∷ map (λ k. multiple_of t k column) (places (line_count (frame_of cs (row_polys rows [])))))
+    common_above : 0 < gcd_of_all (whole_over t ∷ map (λ k. multiple_of t k column) (places (line_count f)))
     common_above = gcd_of_all-positive (whole_over t) (map (λ k. multiple_of t k column) (places (line_count f))) (not_zero (whole_over t) over_above)
 
     each_divided : AllByRecursion (λ z. common ∣ unsigned_abs z) numbers
@@ -264,10 +260,13 @@ small_column n cs rows t column calm many s inside = record {
     divided k h = at_place (λ z. common ∣ unsigned_abs z) (λ i. multiple_of t i column) (line_count f) k each_divided.1 (subst (λ (x : ℕ). k < x) all_lines h)
 
     is_up_to : AreUpTo n numbers
-    is_up_to = calm.columns t.chosen (whole_over t) (multiple_of t) (is_tableau cs rows t many s) column (subst (λ (x : ℕ). column < length cs + 1 + x) all_lines inside)
+    is_up_to = calm.columns t.chosen (whole_over t) (multiple_of t) (is_tableau f frame t same all_lines s) column (subst (λ (x : ℕ). column < f.units + x) all_lines inside)
 
     below : (q z : ℤ) → q *ℤ pos common ≡ z → unsigned_abs z ≤ n * common → unsigned_abs q ≤ n
     below q z e h = smaller (unsigned_abs q) common common n common_above (subst (λ (x : ℕ). x ≤ n * common) (ap unsigned_abs (sym e) ∙ unsigned_abs-mul q (pos common)) h) (omega arith)
+
+pub small_column : (n : ℕ) (cs : List (List Col)) (rows : List Row) (t : Tableau) (column : ℕ) → IsCalmUpTo n (frame_of cs (row_polys rows [])) → length t.lines ≡ length rows → IsTableauOf (length cs + 1) (numbers_of (framed cs rows)) t → column < length cs + 1 + length t.lines → HasSmallColumn n t column
+small_column n cs rows t column calm many s inside = small_column_of n (frame_of cs (row_polys rows [])) (numbers_of (framed cs rows)) t column (row_numbers cs rows) calm (many ∙ sym (lines-length cs rows)) s inside
 
 -- what the point or the ray of a column has at a column that it does not grow, over the least common denominator
 pub moved_part : (n : ℕ) (t : Tableau) (column : ℕ) → HasSmallColumn n t column → ℕ → ℤ

@@ -52,7 +52,7 @@ at_place P [] l x h e = cc
 at_place P (y ∷ xs) zero x h e = let same : y ≡ x = cc in subst P same h.0
 at_place P (y ∷ xs) (suc l) x h e = at_place P xs l x h.1 e
 
-one_more : {X : Type 0} (xs : List X) (x y : X) (l : ℕ) → slice_get (xs ++ x ∷ []) l ≡ Some y → (slice_get xs l ≡ Some y) ⊎ ((l ≡ length xs) × (x ≡ y))
+pub one_more : {X : Type 0} (xs : List X) (x y : X) (l : ℕ) → slice_get (xs ++ x ∷ []) l ≡ Some y → (slice_get xs l ≡ Some y) ⊎ ((l ≡ length xs) × (x ≡ y))
 one_more [] x y zero e = inr (refl, cc)
 one_more [] x y (suc l) e = cc
 one_more (z ∷ xs) x y zero e = inl e

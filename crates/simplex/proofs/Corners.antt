@@ -34,18 +34,18 @@ single (suc n) f c h e =
         right : (z : ℤ) → z +ℤ pos 0 ≡ z
         right z = omega (arith, ints)
 
-plus : (n : ℕ) (f g : ℕ → ℤ) → sum_below n (λ j. f j +ℤ g j) ≡ sum_below n f +ℤ sum_below n g
+pub plus : (n : ℕ) (f g : ℕ → ℤ) → sum_below n (λ j. f j +ℤ g j) ≡ sum_below n f +ℤ sum_below n g
 plus zero f g = refl
 plus (suc n) f g = ap (λ z. z +ℤ (f n +ℤ g n)) (plus n f g) ∙ swap (sum_below n f) (sum_below n g) (f n) (g n)
   where
     swap : (a b c d : ℤ) → a +ℤ b +ℤ (c +ℤ d) ≡ a +ℤ c +ℤ (b +ℤ d)
     swap a b c d = omega (arith, ints)
 
-swapped : (n m : ℕ) (f : ℕ → ℕ → ℤ) → sum_below n (λ j. sum_below m (λ k. f j k)) ≡ sum_below m (λ k. sum_below n (λ j. f j k))
+pub swapped : (n m : ℕ) (f : ℕ → ℕ → ℤ) → sum_below n (λ j. sum_below m (λ k. f j k)) ≡ sum_below m (λ k. sum_below n (λ j. f j k))
 swapped zero m f = sym (none m (λ k. pos 0) (λ j h. refl))
 swapped (suc n) m f = ap (λ z. z +ℤ sum_below m (λ k. f n k)) (swapped n m f) ∙ sym (plus m (λ k. sum_below n (λ j. f j k)) (f n))
 
-factored : (n : ℕ) (c : ℤ) (f : ℕ → ℤ) → c *ℤ sum_below n f ≡ sum_below n (λ j. c *ℤ f j)
+pub factored : (n : ℕ) (c : ℤ) (f : ℕ → ℤ) → c *ℤ sum_below n f ≡ sum_below n (λ j. c *ℤ f j)
 factored zero c f = times_zero c
 factored (suc n) c f = *ℤ-+ℤ c (sum_below n f) (f n) ∙ ap (λ z. z +ℤ c *ℤ f n) (factored n c f)
 

@@ -8,7 +8,6 @@ use Rattle.items.specs.Gives.{◌>>=◌}
 use Rattle.items.proofs.Gives.{on_ok}
 use Rattle.whole_numbers.specs.Divisors.{gcd_of, gcd_of_all}
 use Rattle.whole_numbers.specs.Fits.{product_of}
-use Rattle.whole_numbers.specs.declared.wide.Wide as Step
 use Rattle.whole_numbers.proofs.CommonDivisors.{DividesEach, DividesEach-gcd_of_all}
 use Rattle.whole_numbers.proofs.Quotients.{int_div-*ℤ}
 use Rattle.whole_numbers.proofs.Ring.{ring, *ℤ_cancel, *ℤ_assoc, one-*ℤ, product_of-value}

@@ -16,7 +16,7 @@ use Rattle.simplex.specs.Exchange.{cause, numbers_of, choices_of, exchange, IsTa
 use Rattle.simplex.specs.Frames.{IsCleared, is_chosen}
 use Rattle.simplex.specs.Search.{IsLineChoosing}
 use Rattle.simplex.specs.declared.spots.Spots.{Spots}
-use Rattle.simplex.specs.Spots.{AreSpots, EndsAtChoices, IsSpotTableau, IsRelationOf, AreRelations, spots_framed, common_denominator, numerators_over}
+use Rattle.simplex.specs.Spots.{AreSpots, EndsAtChoices, IsSpotTableau, IsRelationOf, HasPivot, AreRelations, spots_framed, common_denominator, numerators_over}
 use Rattle.simplex.specs.Suprema.{SlopeAt, IsRayOf}
 use Rattle.whole_numbers.specs.Divisors.{gcd_of_all}
 use Rattle.simplex.specs.declared.tableau.Tableau.{Tableau}
@@ -81,7 +81,7 @@ lowest_each : (rs : List Fraction) → ((j : ℕ) → j < length rs → IsLowest
 lowest_each [] f = tt
 lowest_each (r ∷ rs) f = (f 0 (omega arith), lowest_each rs (λ j h. f (suc j) (omega (arith, h))))
 
-numerator_at : (m : ℤ) (rs : List Fraction) (ns : List ℤ) (j : ℕ) → AreNumerators m rs ns → j < length ns → entry ns j *ℤ (get_or rs j (whole (pos 0))).den ≡ (get_or rs j (whole (pos 0))).num *ℤ m
+pub numerator_at : (m : ℤ) (rs : List Fraction) (ns : List ℤ) (j : ℕ) → AreNumerators m rs ns → j < length ns → entry ns j *ℤ (get_or rs j (whole (pos 0))).den ≡ (get_or rs j (whole (pos 0))).num *ℤ m
 numerator_at m [] ns j a h = absurd (let e : length ns ≡ 0 = ap length a in omega (arith, e, h))
 numerator_at m (r ∷ rs) [] j a h = absurd a
 numerator_at m (r ∷ rs) (n ∷ ns) zero a h = a.0
@@ -167,10 +167,17 @@ no_relations count t = record {
   within = λ i h. absurd (omega (arith, h));
   free = λ i k h g. absurd (omega (arith, h));
   rising = λ i j h g. absurd (omega (arith, g));
+  all = λ u h none. absurd (omega (arith, h));
 }
 
-pub relations-skip : (count : ℕ) (t : Tableau) (place : ℕ) (relations : List (List ℤ)) → AreRelations count t place relations → AreRelations count t (place + 1) relations
-relations-skip count t place relations a = record { each = a.each; within = λ i h. let b : pivot (get_or relations i []) < place = a.within i h in omega (arith, b); free = a.free; rising = a.rising }
+pub relations-skip : (count : ℕ) (t : Tableau) (place line : ℕ) (relations : List (List ℤ)) → line < length t.lines → choices_of t line ≡ place → AreRelations count t place relations → AreRelations count t (place + 1) relations
+relations-skip count t place line relations here own a = record {
+  each = a.each;
+  within = λ i h. let b : pivot (get_or relations i []) < place = a.within i h in omega (arith, b);
+  free = a.free;
+  rising = a.rising;
+  all = λ u h none. ⊎_elim (λ (same : u ≡ place). absurd (none line here (own ∙ sym same))) (λ other. a.all u (omega (arith, h, other)) none) (cases_eq u place);
+}
 
 pub relations-more : (count units : ℕ) (frame : ℕ → ℕ → ℤ) (t : Tableau) (place : ℕ) (relations : List (List ℤ)) (ns : List ℤ) → IsTableauOf units frame t → EndsAtChoices count t → place < count → ((k : ℕ) → k < length t.lines → choices_of t k ≢ place) → IsRelationOf count t place ns
     → AreRelations count t place relations → AreRelations count t (place + 1) (relations ++ ns ∷ [])
@@ -181,10 +188,20 @@ relations-more count units frame t place relations ns s ends here none r a = rec
   rising = λ i j h g. by_place (λ xs. pivot (get_or (relations ++ ns ∷ []) i []) < pivot xs) j g
       (λ f. let before : i < length relations = omega (arith, h, f) in subst (λ (xs : List ℤ). pivot xs < pivot (get_or relations j [])) (sym (at_front relations (ns ∷ []) [] i before)) (a.rising i j h f))
       (let before : i < length relations = in_front i j h g in subst (λ (xs : List ℤ). pivot xs < pivot ns) (sym (at_front relations (ns ∷ []) [] i before)) (let b : pivot (get_or relations i []) < place = a.within i before in omega (arith, b, own)));
+  all = λ u h apart. ⊎_elim (λ (same : u ≡ place). last_pivot u same) (λ other. front_pivot u (a.all u (omega (arith, h, other)) apart)) (cases_eq u place);
 }
   where
     own : pivot ns ≡ place
     own = relation-pivot count units frame t place ns s ends here r
+
+    longer : length (relations ++ ns ∷ []) ≡ length relations + 1
+    longer = long relations (ns ∷ [])
+
+    last_pivot : (u : ℕ) → u ≡ place → HasPivot u (relations ++ ns ∷ [])
+    last_pivot u same = (length relations, (omega (arith, longer), (let f : length relations ≡ length relations + 0 = omega arith in ap (λ (n : ℕ). pivot (get_or (relations ++ ns ∷ []) n [])) f ∙ ap pivot (after_front relations (ns ∷ []) [] 0)) ∙ own ∙ sym same))
+
+    front_pivot : (u : ℕ) → HasPivot u relations → HasPivot u (relations ++ ns ∷ [])
+    front_pivot u p = let h : p.0 < length relations = p.1.0 in (p.0, (omega (arith, longer, h), ap pivot (at_front relations (ns ∷ []) [] p.0 h) ∙ p.1.1))
 
     in_front : (i j : ℕ) → i < j → j < length (relations ++ ns ∷ []) → i < length relations
     in_front i j h g = let e : length (relations ++ ns ∷ []) ≡ length relations + 1 = long relations (ns ∷ []) in omega (arith, e, h, g)

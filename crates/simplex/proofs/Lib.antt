@@ -13,8 +13,19 @@ pub mod Cases
 pub mod Widths
 pub mod BasisLeaves
 pub mod Bases
+pub mod SpotPoints
+pub mod Related
+pub mod Courses
+pub mod HonestTies
+pub mod Signed
+pub mod Coefficients
+pub mod Units
+pub mod Independent
+pub mod Apart
+pub mod Further
 -- Calm: tableaux of a calm frame are small, and a step that leaves 128 bits shows that a frame is not small.
 pub mod Calmness
+pub mod CalmSpots
 pub mod Refusing
 pub mod Primitive
 pub mod Bounds

@@ -4,7 +4,6 @@ use Rattle.std.specs.Prelude.{nat_eq, Result, Ok, Err, IfOk, int_div}
 use Rattle.items.specs.Gives.{◌>>=◌, Gives}
 use Rattle.items.proofs.Gives.{on_ok}
 use Rattle.whole_numbers.specs.Fits.{product_of}
-use Rattle.whole_numbers.specs.declared.wide.Wide as Step
 use Rattle.std.proofs.lemmas.Int.{ints}
 use Rattle.std.proofs.lemmas.Bool.{cases_eq, eq-eqb, ne_eqb}
 use Rattle.std.proofs.Math.IntN.{zero-*ℤ}

@@ -52,7 +52,7 @@ use Rattle.simplex.proofs.Widths.{IsRatio, EachRatio, IsRatio-nothing, sum_from-
 
 -- ---- terms and columns
 
-coefficient-before : (m : List Col) (ts : Terms) → Before m ts → coefficient_in ts m ≡ pos 0
+pub coefficient-before : (m : List Col) (ts : Terms) → Before m ts → coefficient_in ts m ≡ pos 0
 coefficient-before m [] b = refl
 coefficient-before m (t ∷ ts) b = rw (ap is_eq (reversed m t.0 Less b.0)) (coefficient-before m ts b.1)
 

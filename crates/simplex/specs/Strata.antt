@@ -1,18 +1,29 @@
 -- What the search of a stratum question comes to, and what its answer owes.
-use Rattle.std.specs.Prelude.{◌≡◌, ◌⊎◌, ℕ, ◌+◌, ◌-◌, ◌^◌, ◌<◌, List, length, slice_get, Some, ⊤}
+use Rattle.std.specs.Prelude.{◌≡◌, ◌⊎◌, ℕ, ◌+◌, ◌*◌, ◌-◌, ◌^◌, ◌<◌, ◌≤◌, ℤ, pos, Bool, true, Ok, IsTrue, List, map, length, slice_get, Some}
+use Rattle.std.specs.List.{AllByRecursion, list_all}
 use Rattle.linear_terms.specs.declared.col.Col.{Col}
 use Rattle.linear_terms.specs.declared.row.Row.{Row}
 use Rattle.linear_terms.specs.Polynomial.{Polynomial}
 use Rattle.farkas_check.specs.Frames.{choice_count}
-use Rattle.farkas_check.specs.Relations.{Changes, stratum_columns}
+use Rattle.farkas_check.specs.Kept.{IsCanonicalStratum}
+use Rattle.farkas_check.specs.Relations.{Changes, stratum_columns, term_count, unknown_count, have_equally_many, numbers_of, is_reduced, free_places}
 use Rattle.farkas_check.specs.Sizes.{IsDead}
+use Rattle.farkas_check.specs.Points.{ratio_at, ratio_value}
+use Rattle.farkas_check.specs.Ratios.{Fraction}
+use Rattle.farkas_check.specs.Stratum.{has_unknowns, tested_relation, tested_free, spot_side}
 use Rattle.farkas_check.specs.Tested.{Passes}
 use Rattle.farkas_check.specs.declared.answer.Answer.{Answer}
 use Rattle.farkas_check.specs.declared.answer.Answer.TheVariants as answer
 use Rattle.farkas_check.specs.declared.answer.Limit.TheVariants as limit
 use Rattle.farkas_check.specs.declared.question.Question.TheVariants.{Stratum}
 use Rattle.farkas_check.specs.declared.stratum.Change.{Change}
+use Rattle.farkas_check.specs.declared.stratum.Relation.{Relation}
+use Rattle.farkas_check.specs.declared.stratum.Spot.{Spot}
+use Rattle.simplex.specs.Points.{IsPointOf, IsSpotAt}
+use Rattle.simplex.specs.Relations.{HasCounts}
 use Rattle.simplex.specs.Suprema.{IsSupremumOver}
+use Rattle.simplex.specs.Ties.{IsHonestHalf, IsHonestTie, AreTies}
+use Rattle.simplex.specs.declared.differences.Strata.{Strata}
 use Rattle.simplex.specs.declared.differences.Half.{Half}
 use Rattle.simplex.specs.declared.differences.Half.TheVariants as half
 use Rattle.simplex.specs.declared.differences.Bond.{Bond}
@@ -21,8 +32,11 @@ use Rattle.simplex.specs.declared.strata.Verdict.{Verdict}
 use Rattle.simplex.specs.declared.strata.Verdict.TheVariants as verdict
 use Rattle.simplex.specs.declared.strata.Course.{Course}
 use Rattle.simplex.specs.declared.strata.Course.TheVariants as course
-use Rattle.simplex.specs.Spots.{AreSpots}
+use Rattle.simplex.specs.declared.strata.Known.{Known}
+use Rattle.simplex.specs.Spots.{sums_of, AreSpots, AreSpotLines, AreRelations, IsApart}
 use Rattle.simplex.specs.declared.supremum.Supremum.TheVariants as supremum
+
+-- ---- cases without an answer
 
 -- a polynomial's supremum over the rows has no answer: no point makes them true, or the turns are used up
 pub record HasNoEnd (cs : List (List Col)) (budget : ℕ) (rows : List Row) : Type 0 where
@@ -36,33 +50,106 @@ pub record HasEndlessCase (cs : List (List Col)) (budget : ℕ) (cases : List Ch
   pub is : slice_get cases place ≡ Some case
   pub endless : HasNoEnd cs budget case.rows
 
-abbrev pub HalfAt : List (List Col) → ℕ → List Row → Half → Type 0
-HalfAt cs budget rows (half.Tied cert) = ⊤
-HalfAt cs budget rows (half.Apart at) = ⊤
-HalfAt cs budget rows half.Pivots = HasNoEnd cs budget rows
+-- ---- what the search knows
 
-abbrev pub BondAt : List (List Col) → ℕ → List Row → Bond → Type 0
-BondAt cs budget rows (bond.Tied tie) = ⊤
-BondAt cs budget rows (bond.Apart at) = ⊤
-BondAt cs budget rows bond.Pivots = HasNoEnd cs budget rows
+-- the question's own columns, terms and unknowns
+pub record IsAsked (s : Strata) : Type 0 where
+  pub columns : s.columns.now ≡ stratum_columns s.cases.now s.lower.now
+  pub canonical : IsCanonicalStratum s.cases.now s.lower.now
+  pub even : IsTrue (have_equally_many s.cases.now)
+  pub terms : s.terms ≡ term_count s.cases.now
 
-abbrev pub VerdictAt : List (List Col) → ℕ → List Change → Verdict → Type 0
-VerdictAt cs budget cases (verdict.Tied ties) = ⊤
-VerdictAt cs budget cases (verdict.Apart place at) = place < length cases
-VerdictAt cs budget cases verdict.Pivots = HasEndlessCase cs budget cases
+-- one of the cases
+pub record IsCaseOf (s : Strata) (case : Change) : Type 0 where
+  pub place : ℕ
+  pub is : slice_get s.cases.now place ≡ Some case
+
+-- a relation with a number for each term and each lower term, and with a tie for each case
+pub record IsTiedRelation (s : Strata) (relation : Relation) : Type 0 where
+  pub counts : HasCounts s.terms (length s.lower.now) relation
+  pub ties : AreTies s.columns.now s.lower.now (numbers_of relation) s.cases.now (length s.cases.now) relation.ties
+
+-- Spots that are points of their cases, and relations that are tied in each case. Where no spot came since the unknowns began
+-- to have their turns, the relations are those of all unknowns before the next.
+pub record AreKnown (s : Strata) (known : Known) : Type 0 where
+  pub spots : AreSpots s.count known.spots
+  pub points : AllByRecursion (IsSpotAt s.columns.now s.cases.now) known.spots.spots
+  pub lines : AreSpotLines s.columns.now s.cases.now s.lower.now known.spots.spots known.spots.lines known.spots.scales
+  pub relations : AllByRecursion (IsTiedRelation s) known.relations
+  pub next : known.next ≤ s.count
+  pub start : known.start ≤ length known.spots.lines
+  pub round : known.start ≡ length known.spots.lines → AreRelations s.count known.spots.tableau known.next (map numbers_of known.relations)
+
+-- A bound on the turns that are left: one for each unknown that has not had its turn, for each spot that may still come, and
+-- for the end, and as many turns anew as there may be spots more than at the start.
+abbrev pub turns_left : ℕ → Known → ℕ
+turns_left count known = (count - known.next) + (count - length known.spots.lines) + 1 + (count - known.start) * (count + 1)
+
+-- ---- what a search comes to
+
+-- a point at which an objective is not 0: this one, or where it is 0 here, one further along a ray
+pub record IsFurther (cs : List (List Col)) (p : Polynomial) (point ray at : List Fraction) : Type 0 where
+  pub value : Fraction
+  pub is : ratio_value (ratio_at cs point) p ≡ Ok value
+  pub way : ((at ≡ point) × (value.num ≡ pos 0 → ⊥)) ⊎ ((sums_of point ray ≡ Ok at) × (value.num ≡ pos 0))
+
+-- a point of a case at which the difference of a relation is not 0
+pub record IsApartIn (s : Strata) (numbers : List ℤ) (case : Change) (at : List Fraction) : Type 0 where
+  pub point : IsPointOf s.columns.now case.rows at
+  pub apart : IsApart s.columns.now case.terms s.lower.now (length numbers) numbers at
+
+-- such a point of the case at a place
+pub record IsApartAt (s : Strata) (numbers : List ℤ) (place : ℕ) (at : List Fraction) : Type 0 where
+  pub case : Change
+  pub is : slice_get s.cases.now place ≡ Some case
+  pub point : IsApartIn s numbers case at
+
+abbrev pub HalfAt : Strata → List ℤ → Change → Bool → Half → Type 0
+HalfAt s numbers case up (half.Tied cert) = IsHonestHalf s.columns.now s.lower.now numbers case up cert
+HalfAt s numbers case up (half.Apart at) = IsApartIn s numbers case at
+HalfAt s numbers case up half.Pivots = HasNoEnd s.columns.now s.budget case.rows
+
+abbrev pub BondAt : Strata → List ℤ → Change → Bond → Type 0
+BondAt s numbers case (bond.Tied tie) = IsHonestTie s.columns.now s.lower.now numbers case tie
+BondAt s numbers case (bond.Apart at) = IsApartIn s numbers case at
+BondAt s numbers case bond.Pivots = HasNoEnd s.columns.now s.budget case.rows
+
+abbrev pub VerdictAt : Strata → List ℤ → Verdict → Type 0
+VerdictAt s numbers (verdict.Tied ties) = AreTies s.columns.now s.lower.now numbers s.cases.now (length s.cases.now) ties
+VerdictAt s numbers (verdict.Apart place at) = IsApartAt s numbers place at
+VerdictAt s numbers verdict.Pivots = HasEndlessCase s.columns.now s.budget s.cases.now
+
+-- no part of the test of a relation is false
+abbrev pub IsHonestRelation : List (List Col) → List Change → List Polynomial → Relation → Type 0
+IsHonestRelation cs cases lower relation = (b : Bool) → tested_relation cs cases lower relation ≡ Ok b → b ≡ true
+
+-- no part of the test of the unknowns that are no pivot is false
+abbrev pub IsHonestFree : List (List Col) → List Change → List Polynomial → List Relation → List Spot → List (List Fraction) → Type 0
+IsHonestFree cs cases lower relations spots free = (b : Bool) → tested_free (spot_side cs cases lower) spots (free_places (map numbers_of relations) (unknown_count cases lower)) free ≡ Ok b → b ≡ true
+
+-- a basis of relations in reduced echelon form that are tied in each case, and spots that are points of their cases
+pub record IsBasisOver (cs : List (List Col)) (cases : List Change) (lower : List Polynomial) (relations : List Relation) (spots : List Spot) (free : List (List Fraction)) : Type 0 where
+  pub counts : IsTrue (list_all (has_unknowns cases lower) relations)
+  pub reduced : IsTrue (is_reduced (map numbers_of relations))
+  pub tied : AllByRecursion (IsHonestRelation cs cases lower) relations
+  pub points : AllByRecursion (IsSpotAt cs cases) spots
+  pub free_too : IsHonestFree cs cases lower relations spots free
 
 -- what is found: a basis, or a case without an answer
-abbrev pub IsFoundOver : List (List Col) → ℕ → List Change → Answer → Type 0
-IsFoundOver cs budget cases (answer.Basis relations spots free) = ⊤
-IsFoundOver cs budget cases (answer.Limit l) = (l ≡ limit.Pivots) × HasEndlessCase cs budget cases
-IsFoundOver cs budget cases (answer.Yes by) = ⊥
-IsFoundOver cs budget cases (answer.No point) = ⊥
-IsFoundOver cs budget cases (answer.Bound at certs case point) = ⊥
-IsFoundOver cs budget cases (answer.Unbounded case point ray) = ⊥
+abbrev pub IsFoundOver : List (List Col) → ℕ → List Change → List Polynomial → Answer → Type 0
+IsFoundOver cs budget cases lower (answer.Basis relations spots free) = IsBasisOver cs cases lower relations spots free
+IsFoundOver cs budget cases lower (answer.Limit l) = (l ≡ limit.Pivots) × HasEndlessCase cs budget cases
+IsFoundOver cs budget cases lower (answer.Yes by) = ⊥
+IsFoundOver cs budget cases lower (answer.No point) = ⊥
+IsFoundOver cs budget cases lower (answer.Bound at certs case point) = ⊥
+IsFoundOver cs budget cases lower (answer.Unbounded case point ray) = ⊥
 
-abbrev pub CourseAt : List (List Col) → ℕ → ℕ → List Change → Course → Type 0
-CourseAt cs budget count cases (course.On known) = AreSpots count known.spots
-CourseAt cs budget count cases (course.End a) = IsFoundOver cs budget cases a
+abbrev pub IsFoundIn : Strata → Answer → Type 0
+IsFoundIn s a = IsFoundOver s.columns.now s.budget s.cases.now s.lower.now a
+
+abbrev pub CourseAt : Strata → Known → Course → Type 0
+CourseAt s before (course.On known) = AreKnown s known × (turns_left s.count known < turns_left s.count before)
+CourseAt s before (course.End a) = IsFoundIn s a
 
 -- ---- what the answer owes
 

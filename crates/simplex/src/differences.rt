@@ -1,17 +1,23 @@
-ghost use Rattle.std.specs.Prelude.{ℕ, List, IfOk, IfErr};
-ghost use Rattle.linear_terms.specs.declared.col.Col.{Col};
-ghost use Rattle.linear_terms.specs.declared.row.Row.{Row};
+ghost use Rattle.std.specs.Prelude.{◌≡◌, ◌+◌, ℤ, pos, List, length, Bool, true, Ok, IfOk, IfErr};
+ghost use Rattle.farkas_check.specs.declared.stratum.Change.{Change};
+ghost use Rattle.simplex.specs.Differences.{with_multiple, with_multiples, IsDifferenceOf};
+ghost use Rattle.simplex.specs.Points.{IsPointOf};
+ghost use Rattle.simplex.specs.Raise.{sign_of};
 ghost use Rattle.simplex.specs.Refusal.{IsRefusal};
-ghost use Rattle.simplex.specs.Strata.{HalfAt, BondAt};
+ghost use Rattle.simplex.specs.Spots.{IsApart};
+ghost use Rattle.simplex.specs.Strata.{IsAsked, IsCaseOf, IsFurther, HalfAt, BondAt};
+ghost use Rattle.simplex.specs.Ties.{IsHonestHalf};
+ghost use Rattle.simplex.specs.declared.differences.Strata.{Strata};
 
 use crate::Stop;
+use crate::spots::entry;
 use crate::supremum::{Supremum, supremum_over};
+use crate::tableau::line_multiple;
 use crate::values::{sums_of, value_at};
 use farkas_check::{Cert, Change, Ratio, Tie};
 use items::Items;
-use linear_terms::{Mono, Poly, combination};
-use std::alloc::{AllocError, Global};
-use whole_numbers::product;
+use linear_terms::{Mono, Poly, add, scale};
+use std::alloc::Global;
 
 /// A stratum question, its columns, how many terms a case has and how many unknowns there are, and how many turns a
 /// raise may take.
@@ -43,53 +49,68 @@ pub(crate) enum Bond {
     Pivots,
 }
 
-/// The terms of a case, the lower terms and 1: what stands at the unknowns.
-fn side_polys(alloc: Global, terms: &[Poly], lower: &[Poly]) -> Result<Items<Poly>, AllocError> {
-    let mut made = Items::new(alloc);
-    for term in terms {
-        made.push(term.clone()?)?;
-    }
-    for term in lower {
-        made.push(term.clone()?)?;
-    }
-    made.push(Poly::constant(alloc, 1))?;
-    Ok(made)
-}
-
-/// The sign of a term or of what is subtracted, in a difference or in minus the difference.
-fn sign_of(term: bool, up: bool) -> i128 {
-    if term == up { 1 } else { -1 }
-}
-
-/// The numbers of a relation with their signs, in its difference or in minus the difference.
-fn signed_numbers(
-    alloc: Global,
-    numbers: &[i128],
-    terms: usize,
-    up: bool,
-) -> Result<Items<i128>, Stop>
-    ensures { IfErr result IsRefusal }
+/// 1 or -1.
+fn sign_of(up: bool) -> i128
+    ensures { result ≡ sign_of up }
 {
-    let mut made = Items::new(alloc);
-    for (place, number) in numbers.iter().enumerate() {
-        made.push(product(*number, sign_of(place < terms, up))?)?;
+    if up { 1 } else { -1 }
+}
+
+/// A polynomial with a multiple of another one.
+fn with_multiple(alloc: Global, total: &Poly, number: i128, poly: &Poly) -> Result<Poly, Stop>
+    ensures exact { IfOk result (λ p. with_multiple total.now number poly.now ≡ Ok p) }
+    ensures refusal { IfErr result IsRefusal }
+{
+    let part = scale(alloc, poly, number)?;
+    Ok(add(alloc, total, &part)?)
+}
+
+/// A polynomial with multiples of others.
+fn with_multiples(
+    alloc: Global,
+    first: Poly,
+    numbers: &[i128],
+    polys: &[Poly],
+) -> Result<Poly, Stop>
+    ensures exact { IfOk result (λ p. with_multiples first numbers.now polys.now ≡ Ok p) }
+    ensures refusal { IfErr result IsRefusal }
+{
+    let mut total = first;
+    let mut numbers = numbers;
+    let mut polys = polys;
+    while let Some((number, more_numbers)) = numbers.split_first()
+        && let Some((poly, more_polys)) = polys.split_first()
+    {
+        total = with_multiple(alloc, &total, *number, poly)?;
+        numbers = more_numbers;
+        polys = more_polys;
     }
-    Ok(made)
+    Ok(total)
 }
 
 /// The difference of a relation in a case, or minus the difference.
 fn difference_in(
     alloc: Global,
+    strata: &Strata<'_>,
     case: &Change,
-    lower: &[Poly],
     numbers: &[i128],
     up: bool,
 ) -> Result<Poly, Stop>
-    ensures { IfErr result IsRefusal }
+    requires asked { IsAsked strata.now }
+    requires case { IsCaseOf strata.now case.now }
+    requires count { strata.now.count ≡ strata.now.terms + length strata.now.lower.now + 1 }
+    requires numbers { length numbers.now ≡ strata.now.count }
+    ensures difference { IfOk result (IsDifferenceOf case.now.terms strata.now.lower.now numbers.now up) }
+    ensures refusal { IfErr result IsRefusal }
 {
-    let signed = signed_numbers(alloc, numbers, case.terms.len(), up)?;
-    let sides = side_polys(alloc, case.terms.as_slice(), lower)?;
-    Ok(combination(alloc, signed.as_slice(), sides.as_slice())?)
+    let (first, last) = numbers.split_at(strata.terms);
+    let own = line_multiple(alloc, first, sign_of(up))?;
+    let others = line_multiple(alloc, last, sign_of(!up))?;
+    let zero = Poly::constant(alloc, 0);
+    let terms = with_multiples(alloc, zero, own.as_slice(), case.terms.as_slice())?;
+    let sides = with_multiples(alloc, terms, others.as_slice(), strata.lower)?;
+    let rest = Poly::constant(alloc, entry(others.as_slice(), strata.lower.len()));
+    Ok(add(alloc, &sides, &rest)?)
 }
 
 /// A point at which the objective is not 0: this one, or where it is 0 here, one further along a ray on which it grows.
@@ -100,7 +121,8 @@ fn point_apart(
     point: Items<Ratio>,
     ray: Items<Ratio>,
 ) -> Result<Items<Ratio>, Stop>
-    ensures { IfErr result IsRefusal }
+    ensures point { IfOk result (IsFurther columns.now objective.now point ray) }
+    ensures refusal { IfErr result IsRefusal }
 {
     let value = value_at(columns, point.as_slice(), objective)?;
     if value.num() != 0 {
@@ -117,10 +139,14 @@ fn half_of(
     numbers: &[i128],
     up: bool,
 ) -> Result<Half, Stop>
-    ensures half { IfOk result (HalfAt strata.now.columns.now strata.now.budget case.now.rows) }
+    requires asked { IsAsked strata.now }
+    requires case { IsCaseOf strata.now case.now }
+    requires count { strata.now.count ≡ strata.now.terms + length strata.now.lower.now + 1 }
+    requires numbers { length numbers.now ≡ strata.now.count }
+    ensures half { IfOk result (HalfAt strata.now numbers.now case.now up) }
     ensures refusal { IfErr result IsRefusal }
 {
-    let objective = difference_in(alloc, case, strata.lower, numbers, up)?;
+    let objective = difference_in(alloc, strata, case, numbers, up)?;
     let found = supremum_over(
         alloc,
         strata.columns,
@@ -141,7 +167,9 @@ fn half_of(
 
 /// A bound of 0 ties; else the point that reaches the bound is one at which the objective is not 0.
 fn half_below(cert: Cert, point: Items<Ratio>) -> Half
-    ensures { (cs : List (List Col)) (budget : ℕ) (rows : List Row) → HalfAt cs budget rows result }
+    ensures { (strata : Strata) (numbers : List ℤ) (case : Change) (up : Bool) → IsPointOf strata.columns.now case.rows point
+        → ((cert.sum ≡ pos 0 → ⊥) → IsApart strata.columns.now case.terms strata.lower.now (length numbers) numbers point)
+        → (cert.sum ≡ pos 0 → IsHonestHalf strata.columns.now strata.lower.now numbers case up cert) → HalfAt strata numbers case up result }
 {
     if cert.sum == 0 {
         Half::Tied(cert)
@@ -157,7 +185,11 @@ pub(crate) fn bond_of(
     case: &Change,
     numbers: &[i128],
 ) -> Result<Bond, Stop>
-    ensures bond { IfOk result (BondAt strata.now.columns.now strata.now.budget case.now.rows) }
+    requires asked { IsAsked strata.now }
+    requires case { IsCaseOf strata.now case.now }
+    requires count { strata.now.count ≡ strata.now.terms + length strata.now.lower.now + 1 }
+    requires numbers { length numbers.now ≡ strata.now.count }
+    ensures bond { IfOk result (BondAt strata.now numbers.now case.now) }
     ensures refusal { IfErr result IsRefusal }
 {
     match half_of(alloc, strata, case, numbers, true)? {
@@ -174,7 +206,12 @@ fn bond_with(
     numbers: &[i128],
     up: Cert,
 ) -> Result<Bond, Stop>
-    ensures bond { IfOk result (BondAt strata.now.columns.now strata.now.budget case.now.rows) }
+    requires asked { IsAsked strata.now }
+    requires case { IsCaseOf strata.now case.now }
+    requires count { strata.now.count ≡ strata.now.terms + length strata.now.lower.now + 1 }
+    requires numbers { length numbers.now ≡ strata.now.count }
+    requires up { IsHonestHalf strata.now.columns.now strata.now.lower.now numbers.now case.now true up }
+    ensures bond { IfOk result (BondAt strata.now numbers.now case.now) }
     ensures refusal { IfErr result IsRefusal }
 {
     match half_of(alloc, strata, case, numbers, false)? {
@@ -184,7 +221,12 @@ fn bond_with(
     }
 }
 
-fn tie_of(up: Cert, down: Cert) -> Tie {
+fn tie_of(up: Cert, down: Cert) -> Tie
+    ensures up_scale { result.up_scale ≡ up.scale }
+    ensures up { result.up ≡ up.by }
+    ensures down_scale { result.down_scale ≡ down.scale }
+    ensures down { result.down ≡ down.by }
+{
     Tie {
         up_scale: up.scale,
         up: up.by,

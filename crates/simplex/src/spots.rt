@@ -1,9 +1,13 @@
-ghost use Rattle.std.specs.Prelude.{◌≡◌, ◌+◌, ◌<◌, ◌≤◌, ◌^◌, ◌<ℤ◌, ℕ, pos, length, get_or, MatchOption, IfOk, IfErr, IsTrue};
+ghost use Rattle.std.specs.Prelude.{◌≡◌, ◌++◌, ◌∷◌, [], ◌+◌, ◌<◌, ◌≤◌, ◌^◌, ◌<ℤ◌, ℕ, pos, length, get_or, MatchOption, IfOk, IfErr, IsTrue};
+ghost use Rattle.items.specs.Gives.{Gives};
+ghost use Rattle.farkas_check.specs.Points.{ratio_at, ratio_value};
 ghost use Rattle.farkas_check.specs.Relations.{entry, is_reduced};
-ghost use Rattle.simplex.specs.Exchange.{numbers_of, IsTableauOf};
+ghost use Rattle.farkas_check.specs.Stratum.{minus_value};
+ghost use Rattle.simplex.specs.Exchange.{cause, numbers_of, IsTableauOf};
 ghost use Rattle.simplex.specs.Raise.{Framed};
 ghost use Rattle.simplex.specs.Refusal.{LeavesBits, IsRefusal};
-ghost use Rattle.simplex.specs.Spots.{entries_to, spot_row, spot_rows, spots_framed, IsSpotTableau, AreSpots, IsLastColumn, IsRelationOf, AreRelations};
+ghost use Rattle.simplex.specs.Spots.{values_of, AreSideValues, HasMoreLine, AreIndependent, IsNewPoint, ChoosesUnknowns, entries_to, spot_row, spot_rows, spots_framed, IsSpotTableau, AreSpots, IsLastColumn, IsRelationOf, AreRelations};
+ghost use Rattle.simplex.specs.Spots.{unit_multiple, multiples_from, AreUnitLists, chosen_below};
 
 use crate::corner::{line_choosing, ray};
 use crate::differences::Strata;
@@ -26,12 +30,65 @@ pub(crate) struct Spots {
     pub(crate) tableau: Tableau,
 }
 
-/// Minus the value of a polynomial at a point.
+/// The value of a polynomial at a point times -1.
 fn minus_value(columns: &[Mono], point: &[Ratio], poly: &Poly) -> Result<Ratio, Wide>
-    ensures { IfErr result LeavesBits }
+    ensures exact { result ≡ minus_value (ratio_value (ratio_at columns.now point.now)) poly.now }
+    ensures width { IfErr result LeavesBits }
+{
+    let value = turned_value(columns, point, poly)?;
+    Ok(value)
+}
+
+fn turned_value(columns: &[Mono], point: &[Ratio], poly: &Poly) -> Result<Ratio, Wide>
+    ensures { result ≡ minus_value (ratio_value (ratio_at columns.now point.now)) poly.now }
 {
     let value = value_at(columns, point, poly)?;
     value.product(&Ratio::whole(-1))
+}
+
+/// The values of terms at a point.
+fn term_values(
+    alloc: Global,
+    columns: &[Mono],
+    point: &[Ratio],
+    terms: &[Poly],
+) -> Result<Items<Ratio>, Stop>
+    ensures exact { Gives cause (λ made. made) result (values_of (ratio_value (ratio_at columns.now point.now)) terms.now) }
+    ensures refusal { IfErr result IsRefusal }
+{
+    let mut made = Items::new(alloc);
+    for term in terms {
+        made.push(value_at(columns, point, term)?)?;
+    }
+    Ok(made)
+}
+
+/// The values of lower terms at a point times -1.
+fn lower_values(
+    alloc: Global,
+    columns: &[Mono],
+    point: &[Ratio],
+    lower: &[Poly],
+) -> Result<Items<Ratio>, Stop>
+    ensures exact { Gives cause (λ made. made) result (values_of (minus_value (ratio_value (ratio_at columns.now point.now))) lower.now) }
+    ensures refusal { IfErr result IsRefusal }
+{
+    let mut made = Items::new(alloc);
+    for term in lower {
+        made.push(minus_value(columns, point, term)?)?;
+    }
+    Ok(made)
+}
+
+/// Ratios, and others behind them.
+fn both_values(first: Items<Ratio>, others: &[Ratio]) -> Result<Items<Ratio>, AllocError>
+    ensures { IfOk result (λ made. made ≡ first ++ others.now) }
+{
+    let mut made = first;
+    for value in others {
+        made.push(*value)?;
+    }
+    Ok(made)
 }
 
 /// What a relation's difference has at a point under each unknown: the values of the terms, minus those of the lower
@@ -43,21 +100,17 @@ fn side_values(
     terms: &[Poly],
     lower: &[Poly],
 ) -> Result<Items<Ratio>, Stop>
-    ensures { IfErr result IsRefusal }
+    ensures values { IfOk result (AreSideValues columns.now point.now terms.now lower.now) }
+    ensures refusal { IfErr result IsRefusal }
 {
-    let mut made = Items::new(alloc);
-    for term in terms {
-        made.push(value_at(columns, point, term)?)?;
-    }
-    for term in lower {
-        made.push(minus_value(columns, point, term)?)?;
-    }
-    made.push(Ratio::whole(-1))?;
-    Ok(made)
+    let own = term_values(alloc, columns, point, terms)?;
+    let mut others = lower_values(alloc, columns, point, lower)?;
+    others.push(Ratio::whole(-1))?;
+    Ok(both_values(own, others.as_slice())?)
 }
 
 /// The number at a place; 0 past the last.
-fn entry(numbers: &[i128], place: usize) -> i128
+pub(crate) fn entry(numbers: &[i128], place: usize) -> i128
     ensures { result ≡ entry numbers.now place }
 {
     if place < numbers.len() {
@@ -125,7 +178,10 @@ fn with_last(
     requires units { units ≡ count }
     requires tableau { IsSpotTableau count lines.now t }
     requires here { line < length lines.now }
+    requires before { ChoosesUnknowns count line t }
+    requires independent { AreIndependent count lines.now }
     ensures tableau { IfOk result (λ made. IsSpotTableau count lines.now made) }
+    ensures chosen { IfOk result (ChoosesUnknowns count (line + 1)) }
     ensures refusal { IfErr result IsRefusal }
 {
     let _lines = lines;
@@ -154,8 +210,10 @@ fn spots_framed(alloc: Global, count: usize, lines: &[Items<i128>]) -> Result<Ta
 /// The tableau of spots: from the frame of their lines on, each line in order chooses the last unknown at which it is
 /// not 0.
 fn spot_tableau(alloc: Global, count: usize, lines: &[Items<i128>]) -> Result<Tableau, Stop>
-    requires { count + length lines.now < 2 ^ 64 }
+    requires wide { count + length lines.now < 2 ^ 64 }
+    requires independent { AreIndependent count lines.now }
     ensures tableau { IfOk result (λ t. IsSpotTableau count lines.now t) }
+    ensures chosen { IfOk result (ChoosesUnknowns count (length lines.now)) }
     ensures refusal { IfErr result IsRefusal }
 {
     let mut t = spots_framed(alloc, count, lines)?;
@@ -167,7 +225,10 @@ fn spot_tableau(alloc: Global, count: usize, lines: &[Items<i128>]) -> Result<Ta
 
 /// No spots.
 pub(crate) fn no_spots(alloc: Global) -> Spots
-    ensures { (count : ℕ) → AreSpots count result }
+    ensures none { result.spots ≡ [] }
+    ensures lines { result.lines ≡ [] }
+    ensures scales { result.scales ≡ [] }
+    ensures spots { (count : ℕ) → AreSpots count result }
 {
     Spots {
         spots: Items::new(alloc),
@@ -190,6 +251,9 @@ pub(crate) fn with_spot(
 ) -> Result<Spots, Stop>
     requires known { AreSpots strata.now.count known }
     requires few { strata.now.count < 2 ^ 61 }
+    requires apart { IsNewPoint strata.now.columns.now spot.at terms.now strata.now.lower.now strata.now.count known.lines }
+    ensures more { IfOk result (λ made. made.spots ≡ known.spots ++ spot ∷ []) }
+    ensures line { IfOk result (HasMoreLine strata.now.columns.now spot.at terms.now strata.now.lower.now known) }
     ensures spots { IfOk result (λ made. AreSpots strata.now.count made) }
     ensures refusal { IfErr result IsRefusal }
 {
@@ -215,6 +279,10 @@ fn more_spots(
 ) -> Result<Spots, Stop>
     requires known { AreSpots count known }
     requires few { count < 2 ^ 61 }
+    requires independent { AreIndependent count (known.lines ++ line ∷ []) }
+    ensures more { IfOk result (λ made. made.spots ≡ known.spots ++ spot ∷ []) }
+    ensures lines { IfOk result (λ made. made.lines ≡ known.lines ++ line ∷ []) }
+    ensures scales { IfOk result (λ made. made.scales ≡ known.scales ++ scale ∷ []) }
     ensures spots { IfOk result (λ made. AreSpots count made) }
     ensures refusal { IfErr result IsRefusal }
 {
@@ -311,14 +379,51 @@ fn unit_multiples(
     requires unknown { unknown < length line.now }
     requires wide { count + length scales.now ≤ length line.now }
     requires positive { pos 0 <ℤ entry line.now unknown }
+    ensures exact { Gives cause (λ made. made) result (multiples_from line.now (entry line.now unknown) count scales.now) }
     ensures refusal { IfErr result IsRefusal }
 {
     let mut made = Items::new(alloc);
     for (spot, scale) in scales.iter().enumerate() {
-        let number = product(line[count + spot], *scale)?;
-        made.push(Ratio::lowest(number, line[unknown]))?;
+        made.push(unit_multiple(line, count + spot, unknown, scale)?)?;
     }
     Ok(made)
+}
+
+fn unit_multiple(line: &[i128], place: usize, unknown: usize, scale: &i128) -> Result<Ratio, Wide>
+    requires unknown { unknown < length line.now }
+    requires place { place < length line.now }
+    requires positive { pos 0 <ℤ entry line.now unknown }
+    ensures exact { result ≡ unit_multiple line.now (entry line.now unknown) place scale.now }
+    ensures width { IfErr result LeavesBits }
+{
+    let number = product(line[place], *scale)?;
+    Ok(Ratio::lowest(number, line[unknown]))
+}
+
+/// The multiples for the chosen unknowns before one, and its own where a line chooses it.
+fn with_unit(
+    alloc: Global,
+    count: usize,
+    known: &Spots,
+    made: Items<Items<Ratio>>,
+    unknown: usize,
+) -> Result<Items<Items<Ratio>>, Stop>
+    requires known { AreSpots count known.now }
+    requires before { AreUnitLists count known.now (chosen_below known.now.tableau unknown) made }
+    requires unknown { unknown < count }
+    ensures lists { IfOk result (AreUnitLists count known.now (chosen_below known.now.tableau (unknown + 1))) }
+    ensures refusal { IfErr result IsRefusal }
+{
+    let mut made = made;
+    match line_choosing(known.tableau.chosen.as_slice(), unknown) {
+        Some(line) => {
+            let own = known.tableau.lines[line].as_slice();
+            let by = unit_multiples(alloc, count, own, unknown, known.scales.as_slice())?;
+            made.push(by)?;
+            Ok(made)
+        }
+        None => Ok(made),
+    }
 }
 
 /// Those multiples for each chosen unknown in order.
@@ -328,14 +433,12 @@ pub(crate) fn unit_lists(
     known: &Spots,
 ) -> Result<Items<Items<Ratio>>, Stop>
     requires known { AreSpots count known.now }
+    ensures lists { IfOk result (AreUnitLists count known.now (chosen_below known.now.tableau count)) }
     ensures refusal { IfErr result IsRefusal }
 {
     let mut made = Items::new(alloc);
     for unknown in 0..count {
-        if let Some(line) = line_choosing(known.tableau.chosen.as_slice(), unknown) {
-            let own = known.tableau.lines[line].as_slice();
-            made.push(unit_multiples(alloc, count, own, unknown, known.scales.as_slice())?)?;
-        }
+        made = with_unit(alloc, count, known, made, unknown)?;
     }
     Ok(made)
 }

@@ -1,19 +1,22 @@
-ghost use Rattle.std.specs.Prelude.{◌≡◌, ◌+◌, ◌-◌, ◌^◌, ◌<◌, ◌≤◌, ℕ, pos, length, slice_get, IfOk, IfErr};
+ghost use Rattle.std.specs.Prelude.{◌≡◌, ◌++◌, ◌∷◌, [], ◌+◌, ◌-◌, ◌^◌, ◌<◌, ◌≤◌, ℕ, pos, length, map, slice_get, false, IfOk, IfErr, IsTrue};
 ghost use Rattle.farkas_check.specs.Kept.{IsCanonicalStratum};
 ghost use Rattle.farkas_check.specs.Meaning.{IsLimit, IsTight};
-ghost use Rattle.farkas_check.specs.Relations.{unknown_count, stratum_columns};
+ghost use Rattle.farkas_check.specs.Relations.{term_count, have_equally_many, numbers_of, stratum_columns};
+ghost use Rattle.farkas_check.specs.Stratum.{terms_of};
 ghost use Rattle.farkas_check.specs.Tested.{Passes};
 ghost use Rattle.farkas_check.specs.declared.question.Question.TheVariants as question;
 ghost use Rattle.simplex.specs.Refusal.{LeavesBits, IsRefusal};
-ghost use Rattle.simplex.specs.Spots.{AreSpots};
-ghost use Rattle.simplex.specs.Strata.{HasEndlessCase, VerdictAt, CourseAt, IsFoundOver, PivotsOver, IsStratumAnswer};
+ghost use Rattle.simplex.specs.Relations.{IsRelationWith};
+ghost use Rattle.simplex.specs.Points.{IsPointAt};
+ghost use Rattle.simplex.specs.Spots.{AreSpots, AreRelations, IsNewPoint, IsUnchosen};
+ghost use Rattle.simplex.specs.Strata.{IsAsked, AreKnown, VerdictAt, CourseAt, IsFoundOver, IsFoundIn, PivotsOver, IsStratumAnswer};
 
 use crate::Stop;
 use crate::answering::limit_of;
 use crate::corner::line_choosing;
 use crate::differences::{Bond, Strata, bond_of};
 use crate::goals::case_number;
-use crate::spots::{Spots, no_spots, relation_of, relations_of, unit_lists, with_spot};
+use crate::spots::{Spots, entry, no_spots, relation_of, relations_of, unit_lists, with_spot};
 use farkas_check::{
     Answer, Change, Limit, Ratio, Relation, Spot, Stratum, Tie, canonical_stratum, positivity,
     stratum_columns, stratum_outcome, truth_of_passing,
@@ -23,10 +26,12 @@ use linear_terms::{Mono, Poly};
 use std::alloc::{AllocError, Global};
 use whole_numbers::Wide;
 
-/// Spots, and the relations of the unknowns before `next` that no spot refutes, each tied in all cases.
+/// Spots, and the relations of the unknowns before `next` that no spot refutes, each tied in all cases. There were `start`
+/// spots when the unknowns began to have their turns.
 #[derive(Debug, Drop)]
 pub(crate) struct Known {
     pub(crate) next: usize,
+    pub(crate) start: usize,
     pub(crate) relations: Items<Relation>,
     pub(crate) spots: Spots,
 }
@@ -49,8 +54,8 @@ pub(crate) enum Course {
 /// Answers which relations between the terms and the lower terms are true at each point of each case: the reduced
 /// basis, with what ties each of its relations to 0 in each case, and spots that show that there are no others. The
 /// answer passes the test of its question; it is `Pivots` only where a case has no points, or more choices of columns
-/// than turns. That a basis which is found never fails its test, so that each other limit has a step behind it, is not
-/// proved.
+/// than turns, and each other limit names a product or sum that leaves 128 bits. That such a limit comes only where the
+/// question is not calm is not proved.
 pub fn stratum(alloc: Global, asked: &Stratum) -> Result<Answer, AllocError>
     ensures passes { IfOk result (λ a. Passes (question.Stratum asked.now) a) }
     ensures tight { IfOk result (λ a. (IsLimit a → ⊥) → IsTight (question.Stratum asked.now) a) }
@@ -82,27 +87,23 @@ fn step_of_strata(asked: &Stratum, step: &Wide) -> Answer
     limit_of(step)
 }
 
-/// The answer where it passes its test, and else the first step of the test that leaves 128 bits. Where a part of the test
-/// is false, of which no case is known, the limit names a sum that is no step of it.
+/// The answer where it passes its test, and else the first step of the test that leaves 128 bits.
 fn tested_basis(asked: &Stratum, found: Answer) -> Answer
     requires canonical { IsCanonicalStratum asked.now.cases asked.now.lower }
-    requires found { IsFoundOver (stratum_columns asked.now.cases asked.now.lower) (2 ^ 127 - 1) asked.now.cases found }
+    requires found { IsFoundOver (stratum_columns asked.now.cases asked.now.lower) (2 ^ 127 - 1) asked.now.cases asked.now.lower found }
     ensures { IsStratumAnswer asked.now result }
 {
     positivity(&found);
     match stratum_outcome(asked, &found) {
-        Ok(true) => found,
-        Ok(false) => limit_of(&Wide {
-            left: i128::MAX,
-            right: 1,
-            times: false,
-        }),
+        Ok(_holds) => found,
         Err(step) => limit_of(&step),
     }
 }
 
 fn searched_strata(alloc: Global, asked: &Stratum, budget: u128) -> Result<Answer, Stop>
-    ensures found { IfOk result (λ a. IsFoundOver (stratum_columns asked.now.cases asked.now.lower) budget asked.now.cases a) }
+    requires turns { 2 ^ 124 ≤ budget }
+    requires canonical { IsCanonicalStratum asked.now.cases asked.now.lower }
+    ensures found { IfOk result (λ a. IsFoundOver (stratum_columns asked.now.cases asked.now.lower) budget asked.now.cases asked.now.lower a) }
     ensures refusal { IfErr result IsRefusal }
 {
     let columns = stratum_columns(alloc, asked)?;
@@ -132,7 +133,12 @@ fn basis_over(
     lower: &[Poly],
     budget: u128,
 ) -> Result<Answer, Stop>
-    ensures found { IfOk result (IsFoundOver columns.now budget cases.now) }
+    requires turns { 2 ^ 124 ≤ budget }
+    requires columns { columns.now ≡ stratum_columns cases.now lower.now }
+    requires canonical { IsCanonicalStratum cases.now lower.now }
+    requires even { IsTrue (have_equally_many cases.now) }
+    requires terms { length terms.now ≡ term_count cases.now }
+    ensures found { IfOk result (IsFoundOver columns.now budget cases.now lower.now) }
     ensures refusal { IfErr result IsRefusal }
 {
     let strata = Strata {
@@ -146,15 +152,19 @@ fn basis_over(
     basis_of(alloc, &strata)
 }
 
-/// The basis that the search comes to. It takes a turn for each unknown and each spot, and one for the end.
+/// The basis that the search comes to. There are no more spots than unknowns, and the unknowns have their turns anew only
+/// after a spot more, so the search ends before its turns are used up.
 fn basis_of(alloc: Global, strata: &Strata<'_>) -> Result<Answer, Stop>
     requires count { strata.now.count ≡ strata.now.terms + length strata.now.lower.now + 1 }
     requires few { strata.now.count < 2 ^ 61 }
-    ensures found { IfOk result (λ a. IsFoundOver strata.now.columns.now strata.now.budget strata.now.cases.now a) }
+    requires turns { 2 ^ 124 ≤ strata.now.budget }
+    requires asked { IsAsked strata.now }
+    ensures found { IfOk result (IsFoundIn strata.now) }
     ensures refusal { IfErr result IsRefusal }
 {
     let mut known = Known {
         next: 0,
+        start: 0,
         relations: Items::new(alloc),
         spots: no_spots(alloc),
     };
@@ -164,18 +174,22 @@ fn basis_of(alloc: Global, strata: &Strata<'_>) -> Result<Answer, Stop>
             Course::End(answer) => return Ok(answer),
         }
     }
-    basis_with(alloc, strata, known)
+    unreachable!()
 }
 
 /// The basis of the relations that are known.
 fn basis_with(alloc: Global, strata: &Strata<'_>, known: Known) -> Result<Answer, Stop>
-    requires known { AreSpots strata.now.count known.spots }
-    ensures found { IfOk result (λ a. IsFoundOver strata.now.columns.now strata.now.budget strata.now.cases.now a) }
+    requires asked { IsAsked strata.now }
+    requires count { strata.now.count ≡ strata.now.terms + length strata.now.lower.now + 1 }
+    requires all { AreRelations strata.now.count known.spots.tableau strata.now.count (map numbers_of known.relations) }
+    requires known { AreKnown strata.now known }
+    ensures found { IfOk result (IsFoundIn strata.now) }
     ensures refusal { IfErr result IsRefusal }
 {
     let free = unit_lists(alloc, strata.count, &known.spots)?;
     let Known {
         next: _,
+        start: _,
         relations,
         spots,
     } = known;
@@ -190,16 +204,31 @@ fn basis_with(alloc: Global, strata: &Strata<'_>, known: Known) -> Result<Answer
 fn course_of(alloc: Global, strata: &Strata<'_>, known: Known) -> Result<Course, Stop>
     requires count { strata.now.count ≡ strata.now.terms + length strata.now.lower.now + 1 }
     requires few { strata.now.count < 2 ^ 61 }
-    requires known { AreSpots strata.now.count known.spots }
-    ensures course { IfOk result (CourseAt strata.now.columns.now strata.now.budget strata.now.count strata.now.cases.now) }
+    requires asked { IsAsked strata.now }
+    requires known { AreKnown strata.now known }
+    ensures course { IfOk result (CourseAt strata.now known) }
     ensures refusal { IfErr result IsRefusal }
 {
     if strata.count <= known.next {
         return end_of(alloc, strata, known);
     }
-    if line_choosing(known.spots.tableau.chosen.as_slice(), known.next).is_some() {
-        return Ok(Course::On(with_next(known)));
+    match line_choosing(known.spots.tableau.chosen.as_slice(), known.next) {
+        Some(_line) => Ok(Course::On(with_next(known))),
+        None => tested_unknown(alloc, strata, known),
     }
+}
+
+/// What the test of the next unknown's relation leads to.
+fn tested_unknown(alloc: Global, strata: &Strata<'_>, known: Known) -> Result<Course, Stop>
+    requires count { strata.now.count ≡ strata.now.terms + length strata.now.lower.now + 1 }
+    requires few { strata.now.count < 2 ^ 61 }
+    requires asked { IsAsked strata.now }
+    requires known { AreKnown strata.now known }
+    requires next { known.next < strata.now.count }
+    requires free { IsUnchosen known.spots.tableau known.next }
+    ensures course { IfOk result (CourseAt strata.now known) }
+    ensures refusal { IfErr result IsRefusal }
+{
     let numbers = relation_of(alloc, strata.count, &known.spots, known.next)?;
     match verdict_of(alloc, strata, numbers.as_slice())? {
         Verdict::Tied(ties) => {
@@ -214,25 +243,55 @@ fn course_of(alloc: Global, strata: &Strata<'_>, known: Known) -> Result<Course,
 
 /// The basis, where the relations are those of all spots; else the unknowns have their turns once more.
 fn end_of(alloc: Global, strata: &Strata<'_>, known: Known) -> Result<Course, Stop>
-    requires known { AreSpots strata.now.count known.spots }
-    ensures course { IfOk result (CourseAt strata.now.columns.now strata.now.budget strata.now.count strata.now.cases.now) }
+    requires next { strata.now.count ≤ known.next }
+    requires asked { IsAsked strata.now }
+    requires count { strata.now.count ≡ strata.now.terms + length strata.now.lower.now + 1 }
+    requires known { AreKnown strata.now known }
+    ensures course { IfOk result (CourseAt strata.now known) }
     ensures refusal { IfErr result IsRefusal }
 {
-    let last = relations_of(alloc, strata.count, &known.spots)?;
-    let own = number_lists(alloc, known.relations.as_slice())?;
-    if own == last {
+    if is_settled(alloc, strata, &known)? {
         let answer = basis_with(alloc, strata, known)?;
         return Ok(Course::End(answer));
     }
+    let start = known.spots.lines.len();
     Ok(Course::On(Known {
         next: 0,
+        start,
         relations: Items::new(alloc),
         spots: known.spots,
     }))
 }
 
+/// Whether the relations are those of all spots. They are where no spot came while the unknowns had their turns.
+fn is_settled(alloc: Global, strata: &Strata<'_>, known: &Known) -> Result<bool, Stop>
+    requires known { AreKnown strata.now known.now }
+    requires next { strata.now.count ≤ known.now.next }
+    ensures all { IfOk result (λ settled. IsTrue settled → AreRelations strata.now.count known.now.spots.tableau strata.now.count (map numbers_of known.now.relations)) }
+    ensures more { IfOk result (λ settled. settled ≡ false → known.now.start ≡ length known.now.spots.lines → ⊥) }
+    ensures refusal { IfErr result IsRefusal }
+{
+    if known.start == known.spots.lines.len() {
+        return Ok(true);
+    }
+    has_last_relations(alloc, strata.count, known)
+}
+
+/// Whether the relations are those of all spots.
+fn has_last_relations(alloc: Global, count: usize, known: &Known) -> Result<bool, Stop>
+    requires known { AreSpots count known.now.spots }
+    ensures all { IfOk result (λ same. IsTrue same → AreRelations count known.now.spots.tableau count (map numbers_of known.now.relations)) }
+    ensures refusal { IfErr result IsRefusal }
+{
+    let last = relations_of(alloc, count, &known.spots)?;
+    let own = number_lists(alloc, known.relations.as_slice())?;
+    Ok(own == last)
+}
+
 /// The numbers of relations.
-fn number_lists(alloc: Global, relations: &[Relation]) -> Result<Items<Items<i128>>, AllocError> {
+fn number_lists(alloc: Global, relations: &[Relation]) -> Result<Items<Items<i128>>, AllocError>
+    ensures { IfOk result (λ made. made ≡ map numbers_of relations.now) }
+{
     let mut made = Items::new(alloc);
     for relation in relations {
         made.push(numbers_of(alloc, relation)?)?;
@@ -240,29 +299,43 @@ fn number_lists(alloc: Global, relations: &[Relation]) -> Result<Items<Items<i12
     Ok(made)
 }
 
-fn numbers_of(alloc: Global, relation: &Relation) -> Result<Items<i128>, AllocError> {
-    let mut made = Items::new(alloc);
-    for number in &relation.a {
-        made.push(*number)?;
-    }
-    for number in &relation.b {
-        made.push(*number)?;
-    }
+/// The numbers of a relation.
+fn numbers_of(alloc: Global, relation: &Relation) -> Result<Items<i128>, AllocError>
+    ensures { IfOk result (λ made. made ≡ numbers_of relation.now) }
+{
+    let first = Items::from_slice(alloc, relation.a.as_slice())?;
+    let mut made = joined(first, relation.b.as_slice())?;
     made.push(relation.c)?;
+    Ok(made)
+}
+
+/// Numbers, and others behind them.
+fn joined(first: Items<i128>, others: &[i128]) -> Result<Items<i128>, AllocError>
+    ensures { IfOk result (λ made. made ≡ first ++ others.now) }
+{
+    let mut made = first;
+    for number in others {
+        made.push(*number)?;
+    }
     Ok(made)
 }
 
 fn with_next(known: Known) -> Known
     requires { known.next < 2 ^ 61 }
-    ensures { result.spots ≡ known.spots }
+    ensures next { result.next ≡ known.next + 1 }
+    ensures start { result.start ≡ known.start }
+    ensures spots { result.spots ≡ known.spots }
+    ensures relations { result.relations ≡ known.relations }
 {
     let Known {
         next,
+        start,
         relations,
         spots,
     } = known;
     Known {
         next: next + 1,
+        start,
         relations,
         spots,
     }
@@ -270,16 +343,21 @@ fn with_next(known: Known) -> Known
 
 fn with_relation(known: Known, relation: Relation) -> Result<Known, AllocError>
     requires { known.next < 2 ^ 61 }
-    ensures { IfOk result (λ made. made.spots ≡ known.spots) }
+    ensures next { IfOk result (λ made. made.next ≡ known.next + 1) }
+    ensures start { IfOk result (λ made. made.start ≡ known.start) }
+    ensures spots { IfOk result (λ made. made.spots ≡ known.spots) }
+    ensures relations { IfOk result (λ made. made.relations ≡ known.relations ++ relation ∷ []) }
 {
     let Known {
         next,
+        start,
         mut relations,
         spots,
     } = known;
     relations.push(relation)?;
     Ok(Known {
         next: next + 1,
+        start,
         relations,
         spots,
     })
@@ -294,14 +372,17 @@ fn spot_added(
     at: Items<Ratio>,
 ) -> Result<Course, Stop>
     requires few { strata.now.count < 2 ^ 61 }
-    requires known { AreSpots strata.now.count known.spots }
-    requires here { place < length strata.now.cases.now }
-    ensures course { IfOk result (CourseAt strata.now.columns.now strata.now.budget strata.now.count strata.now.cases.now) }
+    requires asked { IsAsked strata.now }
+    requires known { AreKnown strata.now known }
+    requires point { IsPointAt strata.now.columns.now strata.now.cases.now place at }
+    requires apart { IsNewPoint strata.now.columns.now at (terms_of strata.now.cases.now place) strata.now.lower.now strata.now.count known.spots.lines }
+    ensures course { IfOk result (CourseAt strata.now known) }
     ensures refusal { IfErr result IsRefusal }
 {
     let case = case_number(place)?;
     let Known {
         next,
+        start,
         relations,
         spots,
     } = known;
@@ -309,6 +390,7 @@ fn spot_added(
     let spots = with_spot(alloc, strata, spots, terms, Spot { case, at })?;
     Ok(Course::On(Known {
         next,
+        start,
         relations,
         spots,
     }))
@@ -316,7 +398,10 @@ fn spot_added(
 
 /// Tests a relation case by case.
 fn verdict_of(alloc: Global, strata: &Strata<'_>, numbers: &[i128]) -> Result<Verdict, Stop>
-    ensures verdict { IfOk result (VerdictAt strata.now.columns.now strata.now.budget strata.now.cases.now) }
+    requires asked { IsAsked strata.now }
+    requires count { strata.now.count ≡ strata.now.terms + length strata.now.lower.now + 1 }
+    requires numbers { length numbers.now ≡ strata.now.count }
+    ensures verdict { IfOk result (VerdictAt strata.now numbers.now) }
     ensures refusal { IfErr result IsRefusal }
 {
     let mut ties = Items::new(alloc);
@@ -338,15 +423,16 @@ fn relation_with(
     ties: Items<Tie>,
 ) -> Result<Relation, AllocError>
     requires { length numbers.now ≡ strata.now.terms + length strata.now.lower.now + 1 }
+    ensures { IfOk result (λ made. IsRelationWith strata.now.terms (length strata.now.lower.now) numbers.now ties made) }
 {
     let (first, rest) = numbers.split_at(strata.terms);
-    let (second, last) = rest.split_at(strata.lower.len());
+    let (second, _last) = rest.split_at(strata.lower.len());
     let a = Items::from_slice(alloc, first)?;
     let b = Items::from_slice(alloc, second)?;
     Ok(Relation {
         a,
         b,
-        c: last[0],
+        c: entry(numbers, strata.terms + strata.lower.len()),
         ties,
     })
 }

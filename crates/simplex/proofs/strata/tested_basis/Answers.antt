@@ -3,9 +3,9 @@ use Rattle.simplex.specs.Strata.{IsStratumAnswer}
 use Rattle.simplex.proofs.Bases.{found_stratum, untested_stratum}
 use Rattle.simplex.proofs.strata.tested_basis.Goals as goal
 
-pub returns-in-Ok-true : goal.returns-in-Ok-true
-returns-in-Ok-true c = found_stratum c.args.asked.now c.args.found c.requires.canonical (search rules) c.requires.found (search rules)
+pub returns-in-Ok : goal.returns-in-Ok
+returns-in-Ok c = found_stratum c.args.asked.now c.args.found c.in-Ok._holds c.requires.canonical (search rules) c.requires.found (search rules)
 
 pub returns-in-Err : goal.returns-in-Err
 returns-in-Err c =
-    subst (λ a. IsStratumAnswer c.args.asked.now a) (sym c.limit_of-in-Err.ensures) (untested_stratum c.args.asked.now c.args.found c.in-Err.step c.requires.canonical (search rules))
+    subst (λ a. IsStratumAnswer c.args.asked.now a) (sym c.limit_of.ensures) (untested_stratum c.args.asked.now c.args.found c.in-Err.step c.requires.canonical (search rules))
