@@ -1,7 +1,6 @@
 -- What a call that writes does.
 use Rattle.std.specs.Prelude.{◌≡◌, ℕ, List, ◌++◌, Result, OnOk}
-use Rattle.report.specs.declared.text.Text.{Text}
 
 -- it puts more bytes behind those of a text
-abbrev pub Appends : {A E : Type 0} → Text → Text → Result A E → List ℕ → Type 0
-Appends old new result more = OnOk result (new.bytes.items ≡ old.bytes.items ++ more)
+abbrev pub Appends : {A E : Type 0} → List ℕ → List ℕ → Result A E → List ℕ → Type 0
+Appends old new result more = OnOk result (new ≡ old ++ more)

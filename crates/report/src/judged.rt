@@ -20,7 +20,7 @@ impl Text {
         ensures { Appends self.old self.new result (post_lines [] (shown_at named.now shown.now) 0 posts.now) }
     {
         for (i, post) in posts.iter().enumerate() {
-            self.put(b"  ")?;
+            self.put("  ")?;
             self.put_shown_at(named, shown, i)?;
             self.put_post(&[], post)?;
         }
@@ -57,20 +57,20 @@ impl Text {
         ensures { Appends self.old self.new result (verdict_text named.now shown.now verdict.now) }
     {
         match verdict {
-            Verdict::Proved => self.put(b" proved\n"),
+            Verdict::Proved => self.put(" proved\n"),
             Verdict::Unproved { case, point } => {
-                self.put(b" unproved\n")?;
+                self.put(" unproved\n")?;
                 self.put_refuting(named, shown, case)?;
-                self.put(b"  ")?;
+                self.put("  ")?;
                 self.put_case_point(alloc, &case.rows, point)?;
-                self.put(b"\n")
+                self.put("\n")
             }
             Verdict::UnprovedLimit { case, limit } => {
-                self.put(b" unproved\n")?;
+                self.put(" unproved\n")?;
                 self.put_refuting(named, shown, case)?;
-                self.put(b"  ")?;
+                self.put("  ")?;
                 self.put_limit(limit)?;
-                self.put(b"\n")
+                self.put("\n")
             }
         }
     }
@@ -85,11 +85,11 @@ impl Text {
     ) -> Result<(), AllocError>
         ensures { Appends self.old self.new result (judged_text blocks.now number judged.now) }
     {
-        self.put(b"assertion ")?;
+        self.put("assertion ")?;
         self.put_count(number as u128)?;
-        self.put(b" at ")?;
+        self.put(" at ")?;
         self.put_count(judged.line as u128)?;
-        self.put(b":")?;
+        self.put(":")?;
         self.put_count(judged.column as u128)?;
         self.put_verdict(alloc, &judged.named, &judged.shown, &judged.verdict)?;
         self.put_notes(alloc, blocks, &judged.notes)

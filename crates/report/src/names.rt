@@ -8,7 +8,19 @@ use crate::ProcBlock;
 use crate::text::Text;
 use items::Items;
 use std::alloc::{AllocError, Global};
+use std::str;
 use syntax_tree::Name;
+
+/// The letters of a name, which are ASCII.
+#[tactic(auto, using(crate::proofs::Letters::letters))]
+pub(crate) fn letters(name: &Name) -> &str
+    ensures { result.now ≡ name.now }
+{
+    match str::from_utf8(name.as_slice()) {
+        Ok(text) => text,
+        Err(_) => unreachable!(),
+    }
+}
 
 impl Text {
     /// A column's name, with its number where an earlier column has the same name.
@@ -21,10 +33,10 @@ impl Text {
         ensures { Appends self.old self.new result (shown_name names.now number i) }
     {
         if let Some(name) = names.get(i) {
-            self.put(name.as_slice())?;
+            self.put(letters(name))?;
         }
         if stands_before(names, i) {
-            self.put(b"#")?;
+            self.put("#")?;
             self.put_count(number as u128)?;
         }
         Ok(())
@@ -35,10 +47,10 @@ impl Text {
     {
         match after.get(i) {
             Some(name) => {
-                self.put(name.as_slice())?;
-                self.put(b"'")
+                self.put(letters(name))?;
+                self.put("'")
             }
-            None => self.put(b"$ret"),
+            None => self.put("$ret"),
         }
     }
 
@@ -83,23 +95,15 @@ fn stands_before(names: &[Name], i: usize) -> bool
     is_among(&names[..i], &names[i])
 }
 
-fn shown_name(
-    alloc: Global,
-    names: &[Name],
-    number: usize,
-    i: usize,
-) -> Result<Items<u8>, AllocError>
+fn shown_name(alloc: Global, names: &[Name], number: usize, i: usize) -> Result<Text, AllocError>
     ensures { IfOk result (λ name. name ≡ shown_name names.now number i) }
 {
-    let mut text = Text {
-        bytes: Vec::new(alloc),
-    };
+    let mut text = Text::new(alloc);
     text.put_shown(names, number, i)?;
-    let Text { bytes } = text;
-    Ok(Items::from_vec(bytes))
+    Ok(text)
 }
 
-fn entry_names(alloc: Global, before: &[Name]) -> Result<Items<Items<u8>>, AllocError>
+fn entry_names(alloc: Global, before: &[Name]) -> Result<Items<Text>, AllocError>
     ensures { IfOk result (λ names. names ≡ entry_names before.now) }
 {
     let mut names = Items::new(alloc);
@@ -110,32 +114,42 @@ fn entry_names(alloc: Global, before: &[Name]) -> Result<Items<Items<u8>>, Alloc
 }
 
 /// A global's name at the exit.
-fn primed(alloc: Global, name: &Name) -> Result<Items<u8>, AllocError>
+fn primed(alloc: Global, name: &Name) -> Result<Text, AllocError>
     ensures { IfOk result (λ primed. primed ≡ name.now ++ codes "'") }
 {
-    let mut primed = Items::from_slice(alloc, name.as_slice())?;
-    primed.push(b'\'')?;
+    let mut primed = Text::new(alloc);
+    primed.put(letters(name))?;
+    primed.put("'")?;
     Ok(primed)
+}
+
+/// The name of the returned value.
+fn returned(alloc: Global) -> Result<Text, AllocError>
+    ensures { IfOk result (λ name. name ≡ codes "$ret") }
+{
+    let mut name = Text::new(alloc);
+    name.put("$ret")?;
+    Ok(name)
 }
 
 /// The names, and behind them those of the columns at the exit.
 fn with_exit_names(
     alloc: Global,
-    names: Items<Items<u8>>,
+    names: Items<Text>,
     after: &[Name],
-) -> Result<Items<Items<u8>>, AllocError>
+) -> Result<Items<Text>, AllocError>
     ensures { IfOk result (λ all. all ≡ names ++ exit_names after.now) }
 {
     let mut all = names;
     for name in after {
         all.push(primed(alloc, name)?)?;
     }
-    all.push(Items::from_slice(alloc, b"$ret")?)?;
+    all.push(returned(alloc)?)?;
     Ok(all)
 }
 
 /// The names that a procedure's rows have: its columns at the entry, and behind these those at the exit.
-pub(crate) fn column_names(alloc: Global, block: &ProcBlock) -> Result<Items<Items<u8>>, AllocError>
+pub(crate) fn column_names(alloc: Global, block: &ProcBlock) -> Result<Items<Text>, AllocError>
     ensures { IfOk result (λ names. names ≡ column_names block.now) }
 {
     let names = entry_names(alloc, &block.before)?;
@@ -147,7 +161,7 @@ pub(crate) fn names_of(
     alloc: Global,
     blocks: &[ProcBlock],
     proc: u32,
-) -> Result<Items<Items<u8>>, AllocError>
+) -> Result<Items<Text>, AllocError>
     ensures { IfOk result (λ names. names ≡ names_of blocks.now proc) }
 {
     match blocks.get(proc as usize) {

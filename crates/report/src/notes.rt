@@ -7,7 +7,6 @@ use crate::ProcBlock;
 use crate::names::names_of;
 use crate::text::Text;
 use farkas_check::Limit;
-use items::Items;
 use linear_terms::Row;
 use posing::{Note, Witness};
 use std::alloc::{AllocError, Global};
@@ -19,10 +18,10 @@ impl Text {
     {
         match limit {
             Limit::Wide { left, right, times } => {
-                self.put(b"limit ")?;
+                self.put("limit ")?;
                 self.put_wide(*left, *right, *times)
             }
-            Limit::Pivots => self.put(b"limit pivots"),
+            Limit::Pivots => self.put("limit pivots"),
         }
     }
 
@@ -31,11 +30,11 @@ impl Text {
     {
         match loss {
             Loss::Wide { left, right, times } => self.put_wide(*left, *right, *times),
-            Loss::Degree => self.put(b"degree"),
+            Loss::Degree => self.put("degree"),
         }
     }
 
-    fn put_witness(&mut self, names: &[Items<u8>], by: &Witness) -> Result<(), AllocError>
+    fn put_witness(&mut self, names: &[Text], by: &Witness) -> Result<(), AllocError>
         ensures { Appends self.old self.new result (witness_text names.now by.now) }
     {
         match by {
@@ -44,21 +43,16 @@ impl Text {
         }
     }
 
-    fn put_dropped(
-        &mut self,
-        names: &[Items<u8>],
-        row: &Row,
-        by: &Witness,
-    ) -> Result<(), AllocError>
+    fn put_dropped(&mut self, names: &[Text], row: &Row, by: &Witness) -> Result<(), AllocError>
         ensures { Appends self.old self.new result (codes "dropped " ++ row_text names.now row.now ++ codes " " ++ witness_text names.now by.now) }
     {
-        self.put(b"dropped ")?;
+        self.put("dropped ")?;
         self.put_row(names, row)?;
-        self.put(b" ")?;
+        self.put(" ")?;
         self.put_witness(names, by)
     }
 
-    fn put_counted(&mut self, what: &[u8], n: u32, of: &[u8]) -> Result<(), AllocError>
+    fn put_counted(&mut self, what: &str, n: u32, of: &str) -> Result<(), AllocError>
         ensures { Appends self.old self.new result (what.now ++ decimal n ++ of.now) }
     {
         self.put(what)?;
@@ -76,14 +70,14 @@ impl Text {
     {
         match note {
             Note::Loss(loss) => self.put_loss(loss),
-            Note::Squash(n) => self.put_counted(b"squash ", *n, b" cases"),
-            Note::Cut(n) => self.put_counted(b"cut ", *n, b" rows"),
+            Note::Squash(n) => self.put_counted("squash ", *n, " cases"),
+            Note::Cut(n) => self.put_counted("cut ", *n, " rows"),
             Note::Limit(limit) => self.put_limit(limit),
             Note::Dropped { proc, row, by } => {
                 let names = names_of(alloc, blocks, *proc)?;
                 self.put_dropped(&names, row, by)
             }
-            Note::Facets => self.put(b"facets beyond"),
+            Note::Facets => self.put("facets beyond"),
         }
     }
 
@@ -97,9 +91,9 @@ impl Text {
         ensures { Appends self.old self.new result (flat_map (note_line blocks.now) notes.now) }
     {
         for note in notes {
-            self.put(b"note ")?;
+            self.put("note ")?;
             self.put_note(alloc, blocks, note)?;
-            self.put(b"\n")?;
+            self.put("\n")?;
         }
         Ok(())
     }

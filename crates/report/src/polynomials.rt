@@ -4,33 +4,32 @@ ghost use Rattle.report.specs.Appends.{Appends};
 
 use crate::text::Text;
 use farkas_check::Ratio;
-use items::Items;
 use linear_terms::{Col, Kind, Mono, Poly, Row};
 use std::alloc::AllocError;
 
 impl Text {
-    pub(crate) fn put_name(&mut self, names: &[Items<u8>], i: usize) -> Result<(), AllocError>
+    pub(crate) fn put_name(&mut self, names: &[Text], i: usize) -> Result<(), AllocError>
         ensures { Appends self.old self.new result (name_at names.now i) }
     {
         match names.get(i) {
-            Some(name) => self.put(name.as_slice()),
+            Some(name) => self.put(name.as_str()),
             None => Ok(()),
         }
     }
 
-    fn put_column(&mut self, names: &[Items<u8>], col: Col) -> Result<(), AllocError>
+    fn put_column(&mut self, names: &[Text], col: Col) -> Result<(), AllocError>
         ensures { Appends self.old self.new result (column_text names.now col) }
     {
         match col {
             Col::At(number) => self.put_name(names, number as usize),
             Col::Aux(number) => {
-                self.put(b"$")?;
+                self.put("$")?;
                 self.put_count(number as u128 + 1)
             }
         }
     }
 
-    fn put_mono(&mut self, names: &[Items<u8>], columns: &[Col]) -> Result<(), AllocError>
+    fn put_mono(&mut self, names: &[Text], columns: &[Col]) -> Result<(), AllocError>
         ensures { Appends self.old self.new result (mono_text names.now columns.now) }
     {
         let Some((first, more)) = columns.split_first() else {
@@ -38,18 +37,13 @@ impl Text {
         };
         self.put_column(names, *first)?;
         for col in more {
-            self.put(b"*")?;
+            self.put("*")?;
             self.put_column(names, *col)?;
         }
         Ok(())
     }
 
-    fn put_factor(
-        &mut self,
-        names: &[Items<u8>],
-        columns: &[Col],
-        n: u128,
-    ) -> Result<(), AllocError>
+    fn put_factor(&mut self, names: &[Text], columns: &[Col], n: u128) -> Result<(), AllocError>
         ensures { Appends self.old self.new result (factor_text names.now columns.now n) }
     {
         if columns.is_empty() {
@@ -57,7 +51,7 @@ impl Text {
         }
         if n != 1 {
             self.put_count(n)?;
-            self.put(b"*")?;
+            self.put("*")?;
         }
         self.put_mono(names, columns)
     }
@@ -66,16 +60,16 @@ impl Text {
         ensures { Appends self.old self.new result (sign_text first negative) }
     {
         match (first, negative) {
-            (true, true) => self.put(b"-"),
+            (true, true) => self.put("-"),
             (true, false) => Ok(()),
-            (false, true) => self.put(b" - "),
-            (false, false) => self.put(b" + "),
+            (false, true) => self.put(" - "),
+            (false, false) => self.put(" + "),
         }
     }
 
     fn put_term(
         &mut self,
-        names: &[Items<u8>],
+        names: &[Text],
         first: bool,
         columns: &[Col],
         number: i128,
@@ -86,7 +80,7 @@ impl Text {
         self.put_factor(names, columns, number.unsigned_abs())
     }
 
-    fn put_terms(&mut self, names: &[Items<u8>], terms: &[(Mono, i128)]) -> Result<(), AllocError>
+    fn put_terms(&mut self, names: &[Text], terms: &[(Mono, i128)]) -> Result<(), AllocError>
         ensures { Appends self.old self.new result (terms_text names.now terms.now) }
     {
         let Some(((mono, number), more)) = terms.split_first() else {
@@ -101,7 +95,7 @@ impl Text {
 
     fn put_rest(
         &mut self,
-        names: &[Items<u8>],
+        names: &[Text],
         terms: &[(Mono, i128)],
         rest: i128,
     ) -> Result<(), AllocError>
@@ -116,46 +110,41 @@ impl Text {
         }
     }
 
-    pub(crate) fn put_poly(&mut self, names: &[Items<u8>], poly: &Poly) -> Result<(), AllocError>
+    pub(crate) fn put_poly(&mut self, names: &[Text], poly: &Poly) -> Result<(), AllocError>
         ensures { Appends self.old self.new result (poly_text names.now poly.now) }
     {
         self.put_terms(names, poly.terms())?;
         self.put_rest(names, poly.terms(), poly.rest())
     }
 
-    pub(crate) fn put_row(&mut self, names: &[Items<u8>], row: &Row) -> Result<(), AllocError>
+    pub(crate) fn put_row(&mut self, names: &[Text], row: &Row) -> Result<(), AllocError>
         ensures { Appends self.old self.new result (row_text names.now row.now) }
     {
         self.put_poly(names, &row.poly)?;
         self.put(match row.kind {
-            Kind::AtMost => b" <= 0",
-            Kind::Equal => b" = 0",
+            Kind::AtMost => " <= 0",
+            Kind::Equal => " = 0",
         })
     }
 
-    fn put_value(
-        &mut self,
-        names: &[Items<u8>],
-        mono: &Mono,
-        value: &Ratio,
-    ) -> Result<(), AllocError>
+    fn put_value(&mut self, names: &[Text], mono: &Mono, value: &Ratio) -> Result<(), AllocError>
         ensures { Appends self.old self.new result (value_text names.now mono.now value.now) }
     {
         self.put_mono(names, mono.columns())?;
-        self.put(b" = ")?;
+        self.put(" = ")?;
         self.put_ratio(value)
     }
 
     fn put_more_values(
         &mut self,
-        names: &[Items<u8>],
+        names: &[Text],
         of: &[Mono],
         at: &[Ratio],
     ) -> Result<(), AllocError>
         ensures { Appends self.old self.new result (more_values names.now of.now at.now) }
     {
         for (mono, value) in of.iter().zip(at) {
-            self.put(b", ")?;
+            self.put(", ")?;
             self.put_value(names, mono, value)?;
         }
         Ok(())
@@ -164,7 +153,7 @@ impl Text {
     /// A point: a number for each monomial.
     pub(crate) fn put_point(
         &mut self,
-        names: &[Items<u8>],
+        names: &[Text],
         of: &[Mono],
         at: &[Ratio],
     ) -> Result<(), AllocError>
@@ -172,11 +161,11 @@ impl Text {
     {
         match (of, at) {
             ([mono, more @ ..], [value, others @ ..]) => {
-                self.put(b"point ")?;
+                self.put("point ")?;
                 self.put_value(names, mono, value)?;
                 self.put_more_values(names, more, others)
             }
-            _ => self.put(b"point none"),
+            _ => self.put("point none"),
         }
     }
 }

@@ -1,4 +1,4 @@
-ghost use Rattle.std.specs.Prelude.{◌≡◌, ◌-◌, ◌++◌, ◌+◌, IfOk, length};
+ghost use Rattle.std.specs.Prelude.{◌≡◌, ◌-◌, ◌++◌, ◌+◌, IfOk, IsUtf8, length};
 ghost use Rattle.std.specs.List.{count_by, flat_map};
 ghost use Rattle.report.specs.Text.{is_proof, is_proved, judged_from, proc_text, proved_count, text_of, total_text};
 ghost use Rattle.report.specs.Appends.{Appends};
@@ -35,11 +35,11 @@ impl Text {
         ensures { Appends self.old self.new result (total_text judged.now) }
     {
         let proved = proved_count(judged);
-        self.put(b"total ")?;
+        self.put("total ")?;
         self.put_count(proved as u128)?;
-        self.put(b" proved, ")?;
+        self.put(" proved, ")?;
         self.put_count((judged.len() - proved) as u128)?;
-        self.put(b" unproved\n")
+        self.put(" unproved\n")
     }
 }
 
@@ -78,17 +78,15 @@ pub fn unproved(report: &Report) -> usize
     report.judged.len() - proved_count(&report.judged)
 }
 
-/// The text of a report, in ASCII where its names are. It takes time in proportion to the text.
+/// The text of a report. It takes time in proportion to the text.
 pub fn print(alloc: Global, report: &Report) -> Result<Vec<u8>, AllocError>
-    ensures { IfOk result (λ text. text.items ≡ text_of report.now) }
+    ensures bytes { IfOk result (λ text. text.items ≡ text_of report.now) }
+    ensures utf8 { IfOk result (λ text. IsUtf8 text.items) }
 {
-    let mut text = Text {
-        bytes: Vec::new(alloc),
-    };
+    let mut text = Text::new(alloc);
     text.put_procs(alloc, &report.procs)?;
     text.put_notes(alloc, &report.procs, &report.notes)?;
     text.put_assertions(alloc, &report.procs, &report.judged)?;
     text.put_total(&report.judged)?;
-    let Text { bytes } = text;
-    Ok(bytes)
+    Ok(text.into_bytes())
 }

@@ -6,3 +6,4 @@ pub mod Places
 pub mod PlainData
 pub mod Replaying
 pub mod DistinctAnswers
+pub mod Newlines

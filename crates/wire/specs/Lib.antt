@@ -9,3 +9,4 @@ pub mod Inputs
 pub mod Written
 pub mod Replays
 pub mod Sharing
+pub mod Newlines

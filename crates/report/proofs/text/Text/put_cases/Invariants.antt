@@ -4,4 +4,4 @@ use Rattle.report.proofs.text.Text.put_cases.Given as goal
 
 abbrev pub invariant-loop-i : goal.invariant-loop-i
 invariant-loop-i l =
-    l.self.bytes.items ++ cases_from l.names l.after (l.i + 1) (drop l.i l.cases) ≡ l.fn.self.bytes.items ++ cases_from l.names l.after 1 l.cases
+    l.self ++ cases_from l.names l.after (l.i + 1) (drop l.i l.cases) ≡ l.fn.self ++ cases_from l.names l.after 1 l.cases

@@ -4,5 +4,5 @@ use Rattle.report.proofs.text.Text.put_exits.Given as goal
 
 abbrev pub invariant-loop-i : goal.invariant-loop-i
 invariant-loop-i l =
-    l.self.bytes.items ++ post_lines l.names (exit_name l.after) l.i (drop l.i l.posts)
-    ≡ l.fn.self.bytes.items ++ post_lines l.names (exit_name l.after) 0 l.posts
+    l.self ++ post_lines l.names (exit_name l.after) l.i (drop l.i l.posts)
+    ≡ l.fn.self ++ post_lines l.names (exit_name l.after) 0 l.posts

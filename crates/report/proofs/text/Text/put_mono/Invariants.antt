@@ -5,5 +5,5 @@ use Rattle.report.proofs.text.Text.put_mono.Given as goal
 
 abbrev pub invariant-loop-col : goal.invariant-loop-col
 invariant-loop-col l =
-    l.self.bytes.items ++ flat_map (λ y. codes "*" ++ column_text l.names y) (drop l.col-index l.more)
-    ≡ l.initial.self.bytes.items ++ flat_map (λ y. codes "*" ++ column_text l.names y) l.more
+    l.self ++ flat_map (λ y. codes "*" ++ column_text l.names y) (drop l.col-index l.more)
+    ≡ l.initial.self ++ flat_map (λ y. codes "*" ++ column_text l.names y) l.more

@@ -4,4 +4,4 @@ use Rattle.report.proofs.text.Text.put_more_values.Given as goal
 
 abbrev pub invariant-loop-mono : goal.invariant-loop-mono
 invariant-loop-mono l =
-    l.self.bytes.items ++ more_values l.names l.mono-iterator.a.rest.now l.mono-iterator.b.rest.now ≡ l.fn.self.bytes.items ++ more_values l.names l.of l.at
+    l.self ++ more_values l.names l.mono-iterator.a.rest.now l.mono-iterator.b.rest.now ≡ l.fn.self ++ more_values l.names l.of l.at

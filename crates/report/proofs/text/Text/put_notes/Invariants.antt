@@ -5,5 +5,5 @@ use Rattle.report.proofs.text.Text.put_notes.Given as goal
 
 abbrev pub invariant-loop-note : goal.invariant-loop-note
 invariant-loop-note l =
-    l.self.bytes.items ++ flat_map (note_line l.blocks) (drop l.note-index l.notes)
-    ≡ l.fn.self.bytes.items ++ flat_map (note_line l.blocks) l.notes
+    l.self ++ flat_map (note_line l.blocks) (drop l.note-index l.notes)
+    ≡ l.fn.self ++ flat_map (note_line l.blocks) l.notes

@@ -5,5 +5,5 @@ use Rattle.report.proofs.text.Text.put_procs.Given as goal
 
 abbrev pub invariant-loop-block : goal.invariant-loop-block
 invariant-loop-block l =
-    l.self.bytes.items ++ flat_map (proc_text l.blocks) (drop l.block-index l.blocks)
-    ≡ l.fn.self.bytes.items ++ flat_map (proc_text l.blocks) l.blocks
+    l.self ++ flat_map (proc_text l.blocks) (drop l.block-index l.blocks)
+    ≡ l.fn.self ++ flat_map (proc_text l.blocks) l.blocks

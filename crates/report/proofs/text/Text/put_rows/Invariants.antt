@@ -5,4 +5,4 @@ use Rattle.report.proofs.text.Text.put_rows.Given as goal
 
 abbrev pub invariant-loop-row : goal.invariant-loop-row
 invariant-loop-row l =
-    l.self.bytes.items ++ flat_map (row_line l.names) (drop l.row-index l.rows) ≡ l.fn.self.bytes.items ++ flat_map (row_line l.names) l.rows
+    l.self ++ flat_map (row_line l.names) (drop l.row-index l.rows) ≡ l.fn.self ++ flat_map (row_line l.names) l.rows

@@ -5,5 +5,5 @@ use Rattle.report.proofs.text.Text.put_terms.Given as goal
 
 abbrev pub invariant-loop-mono : goal.invariant-loop-mono
 invariant-loop-mono l =
-    l.self.bytes.items ++ flat_map (term_text l.names false) (drop l.mono-index l.more)
-    ≡ l.initial.self.bytes.items ++ flat_map (term_text l.names false) l.more
+    l.self ++ flat_map (term_text l.names false) (drop l.mono-index l.more)
+    ≡ l.initial.self ++ flat_map (term_text l.names false) l.more
