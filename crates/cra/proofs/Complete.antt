@@ -1,56 +1,22 @@
--- A text is accepted as one program at most, and one that is accepted is not refused: so each is analysed.
-use Rattle.std.proofs.Common.{◌≡◌, ℕ, ◌+◌, ◌≤◌, ◌⊎◌, true, false, List, length, Option, Some, Ok, inl, inr, refl, sym, ap, subst, ◌∙◌, arith}
+-- A text that is accepted is not refused: so each is analysed.
+use Rattle.std.proofs.Common.{◌≡◌, ℕ, ◌+◌, ◌≤◌, ◌⊎◌, true, false, List, length, Option, Some, Ok, inl, inr, refl, ap, subst, ◌∙◌, arith}
 use Rattle.std.proofs.lemmas.List.{take_all}
 use Rattle.std.specs.Prelude.{if◌then◌else◌, Bool}
-use Rattle.c_lexer.proofs.OneOutcome.{tokens_are_not_refused, tokens_are_one}
-use Rattle.c_lexer.specs.declared.token.Token.{Token}
-use Rattle.c_parser.proofs.Readings.{reading_is_one}
-use Rattle.c_parser.specs.Reads.{Reads, ReadsWithinLimits}
-use Rattle.c_parser.specs.SourceItem.{SourceItem, source_items_of}
 use Rattle.syntax_tree.specs.declared.program.Program.{Program}
-use Rattle.syntax_tree.specs.declared.tree.Tree.{Tree}
 use Rattle.replay.specs.TraceText.{is_failed}
 use Rattle.wire.specs.declared.input.Input.{Input}
 use Rattle.wire.specs.Inputs.{input_of}
-use Rattle.typing.specs.Faults.{elaboration_of}
-use Rattle.cra.specs.declared.refusal.Refusal.{Refusal}
-use Rattle.cra.specs.declared.refusal.Refusal.TheVariants.{Lexing, Parsing, Typing, Memory}
+use Rattle.summary_cache.specs.Accepted.{Accepts}
+use Rattle.summary_cache.specs.Limits.{most_bytes}
+use Rattle.summary_cache.proofs.Complete.{not-refused}
 use Rattle.cra.specs.declared.reply.Reply.{Reply}
 use Rattle.cra.specs.declared.status.Status.{Status}
 use Rattle.cra.specs.declared.status.Status.TheVariants.{AllProved, SomeUnproved, NoneFailed, SomeFailed, Certified, TooLong}
-use Rattle.cra.specs.Accepted.{Accepts, IsRefusedBy, Spells}
 use Rattle.cra.specs.Input.{IsInput}
-use Rattle.cra.specs.Limits.{most_bytes, most_input}
-use Rattle.cra.specs.Replies.{IsReply, IsReplyToInput, IsReplyToOutcome, IsReplyToRead, IsReplyToSource, IsReplyToText, IsReplyToValues, IsReplyToWork, IsToAnalyse, IsToCertify, IsToReplay, output_too_long}
-use Rattle.cra.proofs.SameTrees.{elaborates-alike}
+use Rattle.cra.specs.Limits.{most_input}
+use Rattle.cra.specs.Replies.{IsReply, IsReplyToCertify, IsReplyToInput, IsReplyToOutcome, IsReplyToRead, IsReplyToSource, IsReplyToText, IsReplyToValues, IsReplyToWork, IsToAnalyse, IsToCertify, IsToReplay, output_too_long}
 
-pub reads-plainly : (tokens : List Token) (items : List SourceItem) → ReadsWithinLimits tokens items → Reads tokens items
-reads-plainly tokens items (text, reading, limits) = (text, reading)
-
--- what a text spells has one elaboration
-one-elaboration : (text : List ℕ) (one other : Tree) → Spells text one → Spells text other → elaboration_of one.items (length text) ≡ elaboration_of other.items (length text)
-one-elaboration text one other s t =
-    let tokens = tokens_are_one text s.tokens t.tokens s.tokenizes t.tokenizes in
-    let first = reads-plainly t.tokens (source_items_of one) (subst (λ tokens. ReadsWithinLimits tokens (source_items_of one)) tokens s.reads) in
-    let items = reading_is_one t.tokens (source_items_of one) (source_items_of other) first (reads-plainly t.tokens (source_items_of other) t.reads) in
-    elaborates-alike one.items other.items (length text) items
-
-pub accepted-once : (text : List ℕ) (one other : Program) → Accepts text one → Accepts text other → one ≡ other
-accepted-once text one other a b =
-    let same = sym a.elaborates ∙ one-elaboration text a.tree b.tree a.spells b.spells ∙ b.elaborates in
-    cc
-
-pub not-refused : (text : List ℕ) (program : Program) (refusal : Refusal) → Accepts text program → IsRefusedBy text refusal → ⊥
-not-refused text program (Lexing fault) a is = tokens_are_not_refused text a.spells.tokens fault a.spells.tokenizes is
-not-refused text program (Parsing fault) a is =
-    let tokens = tokens_are_one text a.spells.tokens is.0.tokens a.spells.tokenizes is.0.tokenizes in
-    is.0.none (source_items_of a.tree) (subst (λ tokens. ReadsWithinLimits tokens (source_items_of a.tree)) tokens a.spells.reads)
-not-refused text program (Typing fault) a is =
-    let same = sym a.elaborates ∙ one-elaboration text a.tree is.tree a.spells is.spells ∙ is.least in
-    cc
-not-refused text program Memory a is = absurd is
-
-whole-input : (limit : ℕ) (all input : List ℕ) → length all ≤ limit → IsInput limit (Some all) input → input ≡ all
+pub whole-input : (limit : ℕ) (all input : List ℕ) → length all ≤ limit → IsInput limit (Some all) input → input ≡ all
 unfolding IsInput
 whole-input limit all input short is = is ∙ take_all (limit + 1) all (omega arith)
 
@@ -78,11 +44,14 @@ within-or-not : (within : Bool) (status : Status) (told : Reply) → told.status
 within-or-not true status told is e = inl (e ∙ is)
 within-or-not false status told is e = inr e
 
+pub certified-text : (text : List ℕ) (program : Program) (reply : Reply) → Accepts text program → IsReplyToCertify text reply → (reply.status ≡ Certified) ⊎ (reply.status ≡ TooLong)
+certified-text text program reply a (inl (file, is, e)) = within-or-not _ reply.status _ refl (ap (λ r. r.status) e)
+certified-text text program reply a (inr (refusal, is, e)) = absurd (not-refused text program refusal a is)
+
 certified : (all : List ℕ) (program : Program) (reply : Reply) → length all ≤ most_bytes → Accepts all program → IsReplyToSource all reply
     → (reply.status ≡ Certified) ⊎ (reply.status ≡ TooLong)
 certified all program reply short a (inl (long, is)) = absurd (omega arith)
-certified all program reply short a (inr (fits, inl (file, is, e))) = within-or-not _ reply.status _ refl (ap (λ r. r.status) e)
-certified all program reply short a (inr (fits, inr (refusal, is, e))) = absurd (not-refused all program refusal a is)
+certified all program reply short a (inr (fits, is)) = certified-text all program reply a is
 
 pub complete-certify : (words : List (List ℕ)) (before after : Option (List ℕ)) (reply : Reply) → IsToCertify words before → IsReply words before after reply
     → (reply.status ≡ Certified) ⊎ (reply.status ≡ TooLong)

@@ -1,17 +1,14 @@
--- Main theorems: a text is accepted once and as a well-formed program, and its assertions ascend.
+-- Main theorems: a text that is accepted is analysed.
 pub mod Complete
-pub mod Shapes
-pub mod Ascending
-pub mod SameTrees
--- What is read and written, and what a fault of each stage says of a text.
+-- Certificate files pass or do not, and the output of `certify` passes.
+pub mod Passing
+-- What is read and written.
 pub mod Inputs
 pub mod Outputs
-pub mod Refusals
 pub mod Replays
--- Places of a text, one after another.
-pub mod Places
--- Rules, and what the analysis under listed answers comes to.
-pub mod Rules
+-- Texts that are made.
+pub mod Sampled
+-- What clap makes of the words that are listed.
+pub mod Listed
+-- What the analysis under listed answers comes to.
 pub mod Checks
--- What the stated analysis of a text came to.
-pub mod Statements

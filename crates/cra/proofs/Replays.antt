@@ -1,5 +1,5 @@
 -- Inputs on which an execution is followed: their texts are short, and what a trace and a refusal answer to them.
-use Rattle.std.proofs.Common.{◌≡◌, ◌≤◌, ℕ, ℤ, Bool, true, false, List, length, Option, Some, Result, Ok, Err, codes, refl, subst, sym, ap, ◌∙◌, inl, inr}
+use Rattle.std.proofs.Common.{◌≡◌, ◌≤◌, ℕ, ℤ, Bool, true, false, List, length, Option, Some, Result, Ok, Err, codes, refl, subst, ap, ◌∙◌, inl}
 use Rattle.std.proofs.lemmas.Bool.{leb-true}
 use Rattle.std.specs.Prelude.{None, IfOk, nat_le, if◌then◌else◌}
 use Rattle.items.specs.Gives.{◌>>=◌, lifted}
@@ -12,10 +12,8 @@ use Rattle.wire.specs.declared.input.Input.{Input}
 use Rattle.wire.specs.Files.{if_short, json_of, most_text, shaped, source}
 use Rattle.wire.specs.Inputs.{input, input_of, turns, values}
 use Rattle.wire.specs.Shapes.{Reading, field, member_of, member_path, or_wrong, text, under}
-use Rattle.cra.specs.declared.refusal.Refusal.{Refusal}
 use Rattle.cra.specs.declared.reply.Reply.{Reply}
-use Rattle.cra.specs.Accepted.{IsRefusedBy}
-use Rattle.cra.specs.Replies.{IsFollowed, IsReplyToInput, refused_reply, trace_reply}
+use Rattle.cra.specs.Replies.{IsFollowed, IsReplyToInput, trace_reply}
 
 lifted-ok : {A E F : Type 0} (as_fault : E → F) (r : Result A E) (x : A) → lifted as_fault r ≡ Ok x → r ≡ Ok x
 lifted-ok as_fault (Ok y) x e = let same : y ≡ x = cc in ap (λ v. Ok v) same
@@ -57,9 +55,3 @@ pub trace-answers : {E : Type 0} (result : Result Reply E) (input : Input) (prog
     → IfOk result (λ reply. reply ≡ trace_reply text program trace) → IfOk result (IsReplyToInput input)
 trace-answers (Ok reply) input program trace text same followed e = inl (program, trace, followed, e ∙ ap (λ text. trace_reply text program trace) same)
 trace-answers (Err error) input program trace text same followed e = e
-
-pub refusal-answers : {E : Type 0} (result : Result Reply E) (input : Input) (refusal : Refusal) (text : List ℕ) → text ≡ input.text → IsRefusedBy text refusal
-    → IfOk result (λ reply. reply ≡ refused_reply text refusal) → IfOk result (IsReplyToInput input)
-refusal-answers (Ok reply) input refusal text same refused e =
-    inr (refusal, subst (λ text. IsRefusedBy text refusal) same refused, e ∙ ap (λ text. refused_reply text refusal) same)
-refusal-answers (Err error) input refusal text same refused e = e

@@ -4,13 +4,12 @@ pub mod Words
 pub mod Input
 pub mod Output
 pub mod Status
-pub mod Place
-pub mod Accepted
 pub mod Refused
 pub mod Stated
 pub mod Certified
-pub mod Rules
 pub mod Checked
+pub mod Sampled
 pub mod Replies
-pub mod Outcomes
-pub mod Laws
+-- ---- words of proofs and of private functions
+pub mod Submitted
+pub mod Commands

@@ -1,10 +1,6 @@
 -- The limits of an input.
 use Rattle.std.specs.Prelude.{ℕ}
 
--- the most bytes of a text
-abbrev pub most_bytes : ℕ
-most_bytes = 1048576
-
 -- the most bytes of a text with values and turns, on which an execution is followed
 abbrev pub most_input : ℕ
 most_input = 8388608

@@ -8,9 +8,9 @@ use Rattle.typing.specs.declared.error.Limited.{Limited}
 use Rattle.typing.specs.declared.error.Limited.TheVariants as limited
 use Rattle.typing.specs.declared.error.TypeError.{TypeError}
 use Rattle.typing.specs.declared.error.TypeError.TheVariants as typing
-use Rattle.cra.specs.declared.refusal.Refusal.{Refusal}
-use Rattle.cra.specs.declared.refusal.Refusal.TheVariants.{Lexing, Parsing, Typing, Memory}
-use Rattle.cra.specs.Place.{column_at, line_at}
+use Rattle.summary_cache.specs.declared.refusal.Refusal.{Refusal}
+use Rattle.summary_cache.specs.declared.refusal.Refusal.TheVariants.{Lex, Parse, Typing}
+use Rattle.summary_cache.specs.Place.{column_at, line_at}
 
 -- a word and a place
 pub record Line : Type 0 where
@@ -51,10 +51,9 @@ typing_line (typing.NoMain at) = record { word = codes "main"; at = at }
 typing_line typing.Memory = record { word = []; at = 0 }
 
 abbrev pub refusal_line : Refusal → Line
-refusal_line (Lexing fault) = lexing_line fault
-refusal_line (Parsing fault) = parsing_line fault
+refusal_line (Lex fault) = lexing_line fault
+refusal_line (Parse fault) = parsing_line fault
 refusal_line (Typing fault) = typing_line fault
-refusal_line Memory = record { word = []; at = 0 }
 
 -- the word, and the line and column of the place
 abbrev pub refusal_text : List ℕ → Line → List ℕ

@@ -1,5 +1,5 @@
 -- What a run answers to its words and its input.
-use Rattle.std.specs.Prelude.{◌≡◌, ◌≢◌, ℕ, ◌<◌, ◌≤◌, ◌⊎◌, ◌==◌, ◌+◌, ◌-◌, true, false, List, [], ◌++◌, length, nat_eq, nat_lt, Option, None, Some, Result, Ok, Err, codes, decimal, if◌then◌else◌}
+use Rattle.std.specs.Prelude.{◌≡◌, ◌≢◌, ℕ, ◌<◌, ◌≤◌, ◌⊎◌, ◌==◌, ◌+◌, ◌-◌, List, [], ◌++◌, length, nat_eq, nat_lt, Option, None, Some, Result, Ok, Err, codes, decimal, if◌then◌else◌}
 use Rattle.std.specs.List.{common_prefix_len}
 use Rattle.std.specs.Str.{bytes_eq}
 use Rattle.std.specs.Io.KnownBytes.{prepend_known}
@@ -25,28 +25,35 @@ use Rattle.report.specs.declared.blocks.Report.{Report}
 use Rattle.cra.specs.declared.status.Status.{Status}
 use Rattle.cra.specs.declared.status.Status.TheVariants as ended
 use Rattle.cra.specs.declared.words.Work.{Work}
-use Rattle.cra.specs.declared.words.Work.TheVariants.{Analyse, Certify, Check, Renew, Replay, Help, Version}
-use Rattle.cra.specs.declared.refusal.Refusal.{Refusal}
-use Rattle.cra.specs.Accepted.{Accepts, IsRefusedBy}
+use Rattle.cra.specs.declared.words.Work.TheVariants.{Analyse, Certify, Check, Sample, Renew, Replay, Help, Version}
+use Rattle.summary_cache.specs.declared.refusal.Refusal.{Refusal}
+use Rattle.summary_cache.specs.declared.refusal.TextError.{TextError}
+use Rattle.summary_cache.specs.declared.refusal.TextError.TheVariants as errors
+use Rattle.summary_cache.specs.Accepted.{Accepts, IsRefusedBy}
+use Rattle.summary_cache.specs.Limits.{most_bytes}
+use Rattle.summary_cache.specs.Place.{column_at, line_at}
 use Rattle.cra.specs.Refused.{refusal_line, refusal_text}
 use Rattle.cra.specs.Input.{IsInput}
-use Rattle.cra.specs.Limits.{most_bytes, most_file, most_input}
-use Rattle.cra.specs.Place.{column_at, line_at}
+use Rattle.cra.specs.Limits.{most_file, most_input}
 use Rattle.cra.specs.Stated.{IsAnalysed}
 use Rattle.cra.specs.Certified.{IsCertified, file_text}
-use Rattle.cra.specs.Checked.{IsChecked, answers_of}
+use Rattle.cra.specs.Checked.{IsShown, answers_of, rule_of}
 use Rattle.report.specs.Text.{proved_count, text_of}
+use Rattle.cra.specs.Sampled.{sample_reply, sample_text}
 use Rattle.cra.specs.Words.{work_of}
+use Rattle.summary_cache.specs.declared.working.Counts.{Counts}
+use Rattle.summary_cache.specs.Counted.{counts_of}
 
 abbrev pub wrong_words : Reply
-wrong_words = record { status = ended.WrongWords; text = codes "usage: cra analyse | certify | check | renew | replay\n" }
+wrong_words = record { status = ended.WrongWords; text = codes "usage: cra analyse | certify | check | sample N | renew | replay\n" }
 
 abbrev pub help_text : List ℕ
 help_text =
-    codes "cra: a verified analyser of numeric C\n\nusage: cra analyse | certify | check | renew | replay\n\n"
+    codes "cra: a verified analyser of numeric C\n\nusage: cra analyse | certify | check | sample N | renew | replay\n\n"
     ++ codes "  analyse    reads the text of a program, and prints what is proved of it\n"
     ++ codes "  certify    reads the text of a program, and prints its report with all that shows it, as JSON\n"
     ++ codes "  check      reads a certificate file, and prints whether its answers show its report\n"
+    ++ codes "  sample N   makes a text of N procedures with loops, 1 to 250, and prints how many assertions are proved\n"
     ++ codes "  renew      reads a certificate file, and where it passes prints one that is made anew\n"
     ++ codes "  replay     reads a text with values and turns as JSON, and prints one execution\n"
     ++ codes "  --help     prints this\n"
@@ -100,6 +107,32 @@ IsReplyToCertify text reply =
 abbrev pub IsReplyToSource : List ℕ → Reply → Type 0
 IsReplyToSource input reply =
     ((most_bytes < length input) × (reply ≡ too_long)) ⊎ ((length input ≤ most_bytes) × IsReplyToCertify input reply)
+
+-- ---- a made text
+
+-- The text is accepted, and these are the counts of the groups of its program and of the verdicts of its report.
+pub record IsCounted (text : List ℕ) (counts : Counts) : Type 0 where
+  pub answers : List Answer
+  pub report : Report
+  pub analysed : IsAnalysed text answers report
+  pub counted : counts ≡ counts_of (length analysed.plan) report
+
+-- what counting comes to: the counts of a text that is accepted, or the reason of its refusal
+abbrev pub IsCountsOf : List ℕ → Result Counts TextError → Type 0
+IsCountsOf text (Ok counts) = IsCounted text counts
+IsCountsOf text (Err (errors.Refused refusal)) = IsRefusedBy text refusal
+IsCountsOf text (Err errors.Memory) = Unit {0}
+
+-- a text that is accepted is answered with its counts, and every other text with the reason of its refusal
+abbrev pub IsReplyToMade : ℕ → List ℕ → Reply → Type 0
+IsReplyToMade count text reply =
+    ((counts : Counts) × IsCounted text counts × (reply ≡ sample_reply count (length text) counts))
+    ⊎ ((refusal : Refusal) × IsRefusedBy text refusal × (reply ≡ refused_reply text refusal))
+
+abbrev pub IsReplyToSample : ℕ → Reply → Type 0
+IsReplyToSample count reply =
+    ((most_bytes < length (sample_text count)) × (reply ≡ too_long))
+    ⊎ ((length (sample_text count) ≤ most_bytes) × IsReplyToMade count (sample_text count) reply)
 
 -- ---- one execution on given values
 
@@ -172,10 +205,15 @@ abbrev pub posed_reply : List Answer → List ℕ → Posed Report → Reply
 posed_reply answers told (Stuck question left) = failed (codes "answer ") (stopped_at answers left + 1) []
 posed_reply answers told (Finished report notes left) = finished_reply (text_of report) told (length left)
 
+-- A text that is accepted is answered by what its analysis comes to under listed answers and a rule, and every other text
+-- with the reason of its refusal.
+abbrev pub IsReplyToShown : ℕ → List ℕ → List Answer → List ℕ → Reply → Type 0
+IsReplyToShown rule text answers told reply =
+    ((posed : Posed Report) × IsShown rule text answers posed × (reply ≡ posed_reply answers told posed))
+    ⊎ ((refusal : Refusal) × IsRefusedBy text refusal × (reply ≡ refused_reply text refusal))
+
 abbrev pub IsReplyToChecked : Certificate → Reply → Type 0
-IsReplyToChecked file reply =
-    ((posed : Posed Report) × IsChecked file posed × (reply ≡ posed_reply (answers_of file) file.report posed))
-    ⊎ ((refusal : Refusal) × IsRefusedBy file.text refusal × (reply ≡ refused_reply file.text refusal))
+IsReplyToChecked file reply = IsReplyToShown (rule_of file.version) file.text (answers_of file) file.report reply
 
 -- What is wrong with the file comes before what is wrong with its text.
 abbrev pub IsReplyToCertificate : Result Certificate WireError → Reply → Type 0
@@ -219,6 +257,7 @@ abbrev pub IsReplyToWork : Option Work → Option (List ℕ) → Option (List �
 IsReplyToWork None before after reply = (reply ≡ wrong_words) × (after ≡ before)
 IsReplyToWork (Some Help) before after reply = (reply ≡ help) × (after ≡ before)
 IsReplyToWork (Some Version) before after reply = (reply ≡ version) × (after ≡ before)
+IsReplyToWork (Some (Sample count)) before after reply = IsReplyToSample count reply × (after ≡ before)
 IsReplyToWork (Some Analyse) before after reply = IsReplyToRead most_bytes IsReplyToText before after reply
 IsReplyToWork (Some Certify) before after reply = IsReplyToRead most_bytes IsReplyToSource before after reply
 IsReplyToWork (Some Check) before after reply = IsReplyToRead most_file IsReplyToFile before after reply
@@ -259,3 +298,32 @@ pub record IsToReplay (words : List (List ℕ)) (left : Option (List ℕ)) : Typ
   pub shaped : input_of bytes ≡ Ok input
   pub program : Program
   pub accepted : Accepts input.text program
+
+-- all that the source has: a certificate file within the limit, whose text is accepted
+pub record FileIn (left : Option (List ℕ)) : Type 0 where
+  pub bytes : List ℕ
+  pub whole : left ≡ Some bytes
+  pub short : length bytes ≤ most_file
+  pub file : Certificate
+  pub shaped : certificate_of bytes ≡ Ok file
+  pub program : Program
+  pub accepted : Accepts file.text program
+
+-- The words ask for the check of all that the source has: a certificate file within the limit whose text is accepted.
+pub record IsToCheck (words : List (List ℕ)) (left : Option (List ℕ)) : Type 0 where
+  pub asked : work_of words ≡ Some Check
+  pub file : FileIn left
+
+-- The words ask for such a file made anew.
+pub record IsToRenew (words : List (List ℕ)) (left : Option (List ℕ)) : Type 0 where
+  pub asked : work_of words ≡ Some Renew
+  pub file : FileIn left
+
+-- The words ask for the check of all that the source has, which is what `certify` printed for a text.
+pub record IsToCheckCertified (words : List (List ℕ)) (left : Option (List ℕ)) : Type 0 where
+  pub asked : work_of words ≡ Some Check
+  pub text : List ℕ
+  pub printed : Reply
+  pub is_printed : IsReplyToCertify text printed
+  pub certified : printed.status ≡ ended.Certified
+  pub whole : left ≡ Some printed.text

@@ -1,8 +1,10 @@
 -- The words that the program accepts.
-use Rattle.std.specs.Prelude.{ℕ, List, [], ◌∷◌, Bool, true, false, Option, None, Some, codes, if◌then◌else◌}
+use Rattle.std.specs.Prelude.{ℕ, List, [], ◌∷◌, Bool, true, false, ◌&&◌, ◌+◌, ◌*◌, ◌-◌, ◌==◌, Option, None, Some, codes, if◌then◌else◌, nat_le, nat_lt, length, option_map}
+use Rattle.std.specs.List.{list_all}
 use Rattle.std.specs.Str.{bytes_eq}
+use Rattle.std.specs.Str.Parse.{digits_value}
 use Rattle.cra.specs.declared.words.Work.{Work}
-use Rattle.cra.specs.declared.words.Work.TheVariants.{Analyse, Certify, Check, Renew, Replay, Help, Version}
+use Rattle.cra.specs.declared.words.Work.TheVariants.{Analyse, Certify, Check, Sample, Renew, Replay, Help, Version}
 
 -- what one word asks for
 abbrev pub work_named : List ℕ → Option Work
@@ -15,9 +17,30 @@ work_named word =
     else (if bytes_eq word (codes "--help") then Some Help
     else (if bytes_eq word (codes "--version") then Some Version else None))))))
 
--- What a command line asks for: the program's name and one word. Every other list of words asks for nothing.
+abbrev pub is_digit : ℕ → Bool
+is_digit code = nat_le 48 code && nat_le code 57
+
+-- one to three decimal digits without a leading zero
+abbrev pub is_short_number : List ℕ → Bool
+is_short_number [] = false
+is_short_number (first ∷ rest) = nat_le 49 first && (nat_le first 57 && (nat_le (length rest) 2 && list_all is_digit rest))
+
+-- the most procedures of a made text, without `main`
+abbrev pub most_procedures : ℕ
+most_procedures = 250
+
+abbrev pub count_of : List ℕ → Option ℕ
+count_of text = if is_short_number text && nat_le (digits_value 10 text) most_procedures then Some (digits_value 10 text) else None
+
+abbrev pub sample_of : List ℕ → Option Work
+sample_of text = option_map Sample (count_of text)
+
+-- What a command line asks for: the program's name and one word, or `sample` and a number, before which two dashes may
+-- stand. Every other list of words asks for nothing.
 abbrev pub work_of : List (List ℕ) → Option Work
 work_of (name ∷ word ∷ []) = work_named word
+work_of (name ∷ word ∷ text ∷ []) = if bytes_eq word (codes "sample") then sample_of text else None
+work_of (name ∷ word ∷ dashes ∷ text ∷ []) = if bytes_eq word (codes "sample") && bytes_eq dashes (codes "--") then sample_of text else None
 work_of _ = None
 
 -- whether the source is read for it
@@ -25,6 +48,7 @@ abbrev pub reads_source : Option Work → Bool
 reads_source (Some Analyse) = true
 reads_source (Some Certify) = true
 reads_source (Some Check) = true
+reads_source (Some (Sample count)) = false
 reads_source (Some Renew) = true
 reads_source (Some Replay) = true
 reads_source (Some Help) = false

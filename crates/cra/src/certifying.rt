@@ -1,32 +1,32 @@
-ghost use Rattle.std.specs.Prelude.{◌≡◌, ◌≤◌, length, IfOk};
+ghost use Rattle.std.specs.Prelude.{◌≡◌, ◌≤◌, length, IfOk, IsUtf8};
 ghost use Rattle.wire.specs.Written.{IsWritable};
-ghost use Rattle.cra.specs.Accepted.{Accepts};
+ghost use Rattle.summary_cache.specs.Limits.{most_bytes};
 ghost use Rattle.cra.specs.Certified.{IsFileOf};
-ghost use Rattle.cra.specs.Limits.{most_bytes};
 ghost use Rattle.cra.specs.Replies.{IsReplyToCertify, IsReplyToSource, file_reply};
+ghost use Rattle.cra.specs.Stated.{IsAnalysed};
 ghost use Rattle.cra.specs.Status.{IsAnswer};
 
-use crate::limits::{MOST_BYTES, MOST_FILE};
-use crate::reading::read;
-use crate::refusal::Refusal;
-use crate::reply::{Reply, line, refused_reply, report_of};
+use crate::limits::MOST_FILE;
+use crate::reply::{Reply, line, refused_reply};
 use crate::status::Status;
+use crate::submitting::found;
 use crate::text::between;
 use farkas_check::Answer;
 use items::Items;
 use report::{Report, print};
 use std::alloc::{AllocError, Global};
 use std::str;
-use syntax_tree::Program;
+use summary_cache::{Analysed, MOST_BYTES, TextError};
 use wire::{Certificate, Text, Version, share, write_certificate};
 
-/// Bytes as a text. A text that is accepted and a report are UTF-8; of other bytes no text is made.
+/// Bytes that are UTF-8 as a text.
 fn text_of(alloc: Global, bytes: &[u8]) -> Result<Text, AllocError>
+    requires { IsUtf8 bytes.now }
     ensures { IfOk result (λ text. text ≡ bytes.now) }
 {
     match str::from_utf8(bytes) {
         Ok(text) => Ok(Text::from_string(String::from_str(alloc, text)?)),
-        Err(_) => Err(AllocError),
+        Err(_) => unreachable!(),
     }
 }
 
@@ -37,7 +37,8 @@ fn file_of(
     answers: Items<Answer>,
     report: &Report,
 ) -> Result<Certificate, AllocError>
-    requires { length text.now ≤ most_bytes }
+    requires short { length text.now ≤ most_bytes }
+    requires utf8 { IsUtf8 text.now }
     ensures is { IfOk result (IsFileOf text.now answers report.now) }
     ensures writable { IfOk result IsWritable }
 {
@@ -67,14 +68,14 @@ fn file_reply(alloc: Global, file: &[u8]) -> Result<Reply, AllocError>
     })
 }
 
-/// The answer to a program that a text spells.
-fn reply_to_program(alloc: Global, text: &[u8], program: &Program) -> Result<Reply, AllocError>
+/// The answer to a text that is analysed.
+fn reply_to_analysed(alloc: Global, text: &[u8], last: Analysed) -> Result<Reply, AllocError>
     requires short { length text.now ≤ most_bytes }
-    requires accepted { Accepts text.now program.now }
+    requires analysed { IsAnalysed text.now last.answers last.report }
     ensures reply { IfOk result (IsReplyToCertify text.now) }
     ensures status { IfOk result (λ reply. IsAnswer reply.status) }
 {
-    let (report, answers) = report_of(alloc, text, program)?;
+    let Analysed { report, answers } = last;
     let file = file_of(alloc, text, answers, &report)?;
     let written = write_certificate(alloc, &file)?;
     file_reply(alloc, written.as_str().as_bytes())
@@ -86,10 +87,10 @@ pub fn reply_to_short(alloc: Global, text: &[u8]) -> Result<Reply, AllocError>
     ensures reply { IfOk result (IsReplyToCertify text.now) }
     ensures status { IfOk result (λ reply. IsAnswer reply.status) }
 {
-    match read(alloc, text) {
-        Ok(program) => reply_to_program(alloc, text, &program),
-        Err(Refusal::Memory) => Err(AllocError),
-        Err(refusal) => refused_reply(alloc, text, refusal),
+    match found(alloc, text) {
+        Ok(last) => reply_to_analysed(alloc, text, last),
+        Err(TextError::Refused(refusal)) => refused_reply(alloc, text, refusal),
+        Err(TextError::Memory) => Err(AllocError),
     }
 }
 

@@ -1,36 +1,24 @@
-ghost use Rattle.std.specs.Prelude.{◌≡◌, ◌<◌, ◌≤◌, ◌+◌, ◌-◌, true, false, [], drop, IfOk, IsTrue, codes, length, map, nat_eq};
+ghost use Rattle.std.specs.Prelude.{◌≡◌, ◌<◌, ◌≤◌, ◌+◌, ◌-◌, true, false, [], drop, IfOk, codes, length, nat_eq};
 ghost use Rattle.std.specs.List.{common_prefix_len};
-ghost use Rattle.c_lexer.specs.Laws.{ascends_from};
-ghost use Rattle.syntax_tree.specs.WellFormed.{IsWellFormed};
 ghost use Rattle.report.specs.Text.{text_of};
 ghost use Rattle.wire.specs.Written.{IsOrder, IsWritable};
-ghost use Rattle.cra.specs.Accepted.{Accepts};
-ghost use Rattle.cra.specs.Checked.{answers_in};
-ghost use Rattle.cra.specs.Limits.{most_bytes};
-ghost use Rattle.cra.specs.Outcomes.{IsReplyOfPosed};
-ghost use Rattle.cra.specs.Replies.{IsReplyToChecked, IsReplyToFile, compared_reply, failed, finished_reply};
-ghost use Rattle.cra.specs.Rules.{rule_of, with_rule};
-ghost use Rattle.cra.specs.Stated.{text_place};
+ghost use Rattle.summary_cache.specs.Limits.{most_bytes};
+ghost use Rattle.summary_cache.specs.Rules.{IsRule};
+ghost use Rattle.cra.specs.Checked.{answers_in, rule_of};
+ghost use Rattle.cra.specs.Replies.{IsReplyToChecked, IsReplyToFile, IsReplyToShown, compared_reply, failed, finished_reply};
 ghost use Rattle.cra.specs.Status.{IsAnswer};
 
-use crate::laws::{
-    accepted_is_well_formed, assertions_ascend, claims_know_no_rule, rules_are_free,
-};
 use crate::limits::MOST_FILE;
-use crate::place::places_of;
-use crate::reading::read;
-use crate::refusal::Refusal;
 use crate::replaying::wrong_input;
 use crate::reply::{Reply, line, refused_reply};
 use crate::status::Status;
+use crate::submitting::submitted;
 use crate::text::Text;
-use analysis::{analyse, plan};
 use farkas_check::Answer;
 use items::Items;
-use posing::{Log, WorkError};
 use report::{Report, print};
 use std::alloc::{AllocError, Global};
-use syntax_tree::Program;
+use summary_cache::SubmitError;
 use wire::{Certificate, Replay, Version, WireError, read_certificate};
 
 /// The answer to a file that does not pass.
@@ -118,48 +106,33 @@ fn stuck_reply(alloc: Global, all: usize, left: usize) -> Result<Reply, AllocErr
     failed(alloc, b"answer ", number, b"")
 }
 
-/// The answer by what the analysis of a program of a text comes to under the answers of a replay.
-fn posed_reply(
+/// The answer by what the analysis of a text comes to under a rule and the answers of a replay.
+fn shown_reply(
     alloc: Global,
     text: &[u8],
-    program: &Program,
+    rule: u32,
     replay: Replay,
     told: &[u8],
 ) -> Result<Reply, AllocError>
     requires short { length text.now ≤ most_bytes }
-    requires formed { IsWellFormed program.now }
-    requires ascend { IsTrue (ascends_from 0 program.now.checks) }
-    ensures reply { IfOk result (IsReplyOfPosed program.now (map (text_place text.now) program.now.checks) replay.left told.now) }
+    requires rule { IsRule rule }
+    ensures reply { IfOk result (IsReplyToShown rule text.now replay.left told.now) }
     ensures status { IfOk result (λ reply. IsAnswer reply.status) }
 {
     let mut replay = replay;
     let all = replay.left();
-    let places = places_of(alloc, text, program.checks.as_slice())?;
-    let Ok(_) = plan(alloc, program) else {
-        return Err(AllocError);
-    };
-    let mut log = Log::new(alloc);
-    match analyse(alloc, program, places.as_slice(), &mut replay, &mut log) {
-        Ok(made) => finished_reply(alloc, &made, told, replay.left()),
-        Err(WorkError::Refused) => stuck_reply(alloc, all, replay.left()),
-        Err(WorkError::Memory) => Err(AllocError),
+    match submitted(alloc, text, rule, &mut replay) {
+        Ok(last) => finished_reply(alloc, &last.report, told, replay.left()),
+        Err(SubmitError::Text(refusal)) => refused_reply(alloc, text, refusal),
+        Err(SubmitError::Refused) => stuck_reply(alloc, all, replay.left()),
+        Err(SubmitError::Memory) => Err(AllocError),
     }
-}
-
-/// A program with another rule.
-fn with_rule(program: Program, rule: u32) -> Program
-    ensures { result ≡ with_rule rule program }
-{
-    let mut program = program;
-    program.rule = rule;
-    program
 }
 
 /// The rule of a file of a version.
 fn rule_of(version: Version) -> u32
     ensures rule { result ≡ rule_of version }
-    ensures first { 1 ≤ result }
-    ensures last { result ≤ 3 }
+    ensures is { IsRule result }
 {
     match version {
         Version::First => 1,
@@ -178,21 +151,12 @@ fn replay_of(version: Version, answers: Items<Answer>, order: Items<usize>) -> R
     }
 }
 
-/// The answer to a file whose text spells a program.
-fn reply_to_accepted(
-    alloc: Global,
-    file: Certificate,
-    program: Program,
-) -> Result<Reply, AllocError>
-    requires writable { IsWritable file }
-    requires accepted { Accepts file.text program }
+/// The answer to a file.
+pub fn reply_to_checked(alloc: Global, file: Certificate) -> Result<Reply, AllocError>
+    requires { IsWritable file }
     ensures reply { IfOk result (IsReplyToChecked file) }
     ensures status { IfOk result (λ reply. IsAnswer reply.status) }
 {
-    accepted_is_well_formed();
-    assertions_ascend();
-    rules_are_free();
-    claims_know_no_rule();
     let Certificate {
         version,
         text,
@@ -200,24 +164,15 @@ fn reply_to_accepted(
         answers,
         order,
     } = file;
-    let program = with_rule(program, rule_of(version));
     let replay = replay_of(version, answers, order);
     let text = text.as_str().as_bytes();
-    posed_reply(alloc, text, &program, replay, report.as_str().as_bytes())
-}
-
-/// The answer to a file.
-pub fn reply_to_checked(alloc: Global, file: Certificate) -> Result<Reply, AllocError>
-    requires { IsWritable file }
-    ensures reply { IfOk result (IsReplyToChecked file) }
-    ensures status { IfOk result (λ reply. IsAnswer reply.status) }
-{
-    let text = file.text.as_str().as_bytes();
-    match read(alloc, text) {
-        Ok(program) => reply_to_accepted(alloc, file, program),
-        Err(Refusal::Memory) => Err(AllocError),
-        Err(refusal) => refused_reply(alloc, text, refusal),
-    }
+    shown_reply(
+        alloc,
+        text,
+        rule_of(version),
+        replay,
+        report.as_str().as_bytes(),
+    )
 }
 
 /// The answer to bytes that are to be checked as a certificate file.

@@ -10,11 +10,12 @@ use std::alloc::{AllocError, Global};
 const HELP: &[u8] = b"\
 cra: a verified analyser of numeric C
 
-usage: cra analyse | certify | check | renew | replay
+usage: cra analyse | certify | check | sample N | renew | replay
 
   analyse    reads the text of a program, and prints what is proved of it
   certify    reads the text of a program, and prints its report with all that shows it, as JSON
   check      reads a certificate file, and prints whether its answers show its report
+  sample N   makes a text of N procedures with loops, 1 to 250, and prints how many assertions are proved
   renew      reads a certificate file, and where it passes prints one that is made anew
   replay     reads a text with values and turns as JSON, and prints one execution
   --help     prints this

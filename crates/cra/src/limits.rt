@@ -1,6 +1,3 @@
-/// The most bytes of a text.
-pub const MOST_BYTES: usize = 1_048_576;
-
 /// The most bytes of a text with values and turns, on which an execution is followed.
 pub const MOST_INPUT: usize = 8_388_608;
 

@@ -13,17 +13,16 @@ mod certifying;
 mod checking;
 mod help;
 mod input;
-mod laws;
 mod limits;
 mod output;
-mod place;
-mod reading;
 mod refusal;
 mod renewing;
 mod replaying;
 mod reply;
 mod run;
+mod sampling;
 mod status;
+mod submitting;
 #[cfg(test)]
 mod tables;
 #[cfg(test)]

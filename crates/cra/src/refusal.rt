@@ -1,45 +1,13 @@
 ghost use Rattle.std.specs.Prelude.{◌≡◌, ◌≤◌, IfOk, length};
-ghost use Rattle.cra.specs.Limits.{most_bytes};
+ghost use Rattle.summary_cache.specs.Limits.{most_bytes};
 ghost use Rattle.cra.specs.Refused.{lexing_line, limited_word, parsing_line, refusal_line, refusal_text, typing_line};
 
-use crate::place::{column_at, line_at};
 use crate::text::Text;
 use c_lexer::LexError;
 use c_parser::ParseError;
-use std::alloc::{AllocError, AllocFailed, Global};
+use std::alloc::{AllocError, Global};
+use summary_cache::{Refusal, column_at, line_at};
 use typing::{Limited, TypeError};
-
-/// Why a text has no program: its cut into tokens, the grammar or the first fault of its tree, each with its place. No
-/// want of memory stands inside them; it has a variant of its own.
-#[derive(Clone, Copy, Debug, PartialEq, Eq)]
-pub enum Refusal {
-    Lexing(LexError),
-    Parsing(ParseError),
-    Typing(TypeError),
-    Memory,
-}
-
-impl From<AllocError> for Refusal {
-    ghost use Rattle.std.specs.Prelude.{◌≡◌};
-    ghost use Rattle.cra.specs.declared.refusal.Refusal.TheVariants.{Memory};
-
-    ghost from_gives = { λ _ e. e ≡ Memory };
-
-    fn from(_: AllocError) -> Refusal {
-        Refusal::Memory
-    }
-}
-
-impl<T: Drop> From<AllocFailed<T>> for Refusal {
-    ghost use Rattle.std.specs.Prelude.{◌≡◌};
-    ghost use Rattle.cra.specs.declared.refusal.Refusal.TheVariants.{Memory};
-
-    ghost from_gives = { λ _ e. e ≡ Memory };
-
-    fn from(_: AllocFailed<T>) -> Refusal {
-        Refusal::Memory
-    }
-}
 
 fn lexing_line(fault: LexError) -> (&'static [u8], u32)
     ensures word { result.0.now ≡ (lexing_line fault).word }
@@ -96,18 +64,15 @@ fn typing_line(fault: TypeError) -> (&'static [u8], u32)
     }
 }
 
-impl Refusal {
-    /// The word that tells it, and its place in the text.
-    pub fn line(self) -> (&'static [u8], u32)
-        ensures word { result.0.now ≡ (refusal_line self).word }
-        ensures place { result.1 ≡ (refusal_line self).at }
-    {
-        match self {
-            Refusal::Lexing(fault) => lexing_line(fault),
-            Refusal::Parsing(fault) => parsing_line(fault),
-            Refusal::Typing(fault) => typing_line(fault),
-            Refusal::Memory => (b"", 0),
-        }
+/// The word that tells why a text is refused, and its place in the text.
+fn refusal_line(refusal: Refusal) -> (&'static [u8], u32)
+    ensures word { result.0.now ≡ (refusal_line refusal).word }
+    ensures place { result.1 ≡ (refusal_line refusal).at }
+{
+    match refusal {
+        Refusal::Lex(fault) => lexing_line(fault),
+        Refusal::Parse(fault) => parsing_line(fault),
+        Refusal::Typing(fault) => typing_line(fault),
     }
 }
 
@@ -116,7 +81,7 @@ pub fn refusal_text(alloc: Global, text: &[u8], refusal: Refusal) -> Result<Vec<
     requires { length text.now ≤ most_bytes }
     ensures { IfOk result (λ line. line.items ≡ refusal_text text.now (refusal_line refusal)) }
 {
-    let (word, at) = refusal.line();
+    let (word, at) = refusal_line(refusal);
     let mut line = Text {
         bytes: Vec::new(alloc),
     };

@@ -1,6 +1,6 @@
 ghost use Rattle.std.specs.Prelude.{◌≡◌, ◌≤◌, length, IfOk};
 ghost use Rattle.wire.specs.Written.{IsWritable};
-ghost use Rattle.cra.specs.Limits.{most_bytes};
+ghost use Rattle.summary_cache.specs.Limits.{most_bytes};
 ghost use Rattle.cra.specs.Replies.{IsRenewed, IsRenewedBy, IsReplyToOldFile};
 ghost use Rattle.cra.specs.Status.{IsAnswer};
 

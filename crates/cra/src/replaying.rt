@@ -1,14 +1,10 @@
 ghost use Rattle.std.specs.Prelude.{◌≡◌, ◌≤◌, length, IfOk};
-ghost use Rattle.cra.specs.Accepted.{Accepts};
-ghost use Rattle.cra.specs.Limits.{most_bytes};
+ghost use Rattle.summary_cache.specs.Accepted.{Accepts};
+ghost use Rattle.summary_cache.specs.Limits.{most_bytes};
 ghost use Rattle.cra.specs.Replies.{IsReplyToInput, IsReplyToValues, place_of, status_of, trace_reply, wrong_input, wrong_text};
 ghost use Rattle.cra.specs.Status.{IsAnswer};
 
-use crate::laws::accepted_is_well_formed;
 use crate::limits::MOST_INPUT;
-use crate::place::{column_at, line_at};
-use crate::reading::read;
-use crate::refusal::Refusal;
 use crate::reply::{Reply, line, refused_reply};
 use crate::status::Status;
 use crate::text::between;
@@ -16,6 +12,7 @@ use items::Items;
 use itoa::Buffer;
 use replay::{Place, Stop, Trace, failed_at, failed_stop_fails, follow, is_failed, print};
 use std::alloc::{AllocError, Global};
+use summary_cache::{TextError, accepted_is_well_formed, column_at, line_at, read};
 use syntax_tree::Program;
 use wire::{Input, WireError, read_replay};
 
@@ -114,8 +111,8 @@ fn reply_to_input(alloc: Global, input: &Input) -> Result<Reply, AllocError>
     let text = input.text.as_str().as_bytes();
     match read(alloc, text) {
         Ok(program) => reply_to_accepted(alloc, input, &program),
-        Err(Refusal::Memory) => Err(AllocError),
-        Err(refusal) => refused_reply(alloc, text, refusal),
+        Err(TextError::Refused(refusal)) => refused_reply(alloc, text, refusal),
+        Err(TextError::Memory) => Err(AllocError),
     }
 }
 

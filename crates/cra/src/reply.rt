@@ -1,24 +1,15 @@
 ghost use Rattle.std.specs.Prelude.{◌≡◌, ◌≤◌, length, IfOk};
-ghost use Rattle.cra.specs.Accepted.{Accepts};
-ghost use Rattle.cra.specs.Limits.{most_bytes};
-ghost use Rattle.cra.specs.Stated.{IsAnalysed};
+ghost use Rattle.summary_cache.specs.Limits.{most_bytes};
 ghost use Rattle.cra.specs.Replies.{IsReplyToShort, IsReplyToText, refused_reply, reply_of, wrong_words};
 ghost use Rattle.cra.specs.Status.{IsAnswer};
 
-use crate::laws::{accepted_is_well_formed, assertions_ascend};
-use crate::limits::MOST_BYTES;
-use crate::place::places_of;
-use crate::reading::read;
-use crate::refusal::{Refusal, refusal_text};
+use crate::refusal::refusal_text;
 use crate::status::Status;
-use analysis::analyse;
-use farkas_check::Answer;
-use finder::Finder;
+use crate::submitting::found;
 use items::Items;
-use posing::Log;
 use report::{Report, print, unproved};
 use std::alloc::{AllocError, Global};
-use syntax_tree::Program;
+use summary_cache::{MOST_BYTES, Refusal, TextError};
 
 /// What a run answers: its status, and the text that it writes.
 #[derive(Debug, Drop)]
@@ -43,7 +34,7 @@ pub fn wrong_words(alloc: Global) -> Result<Reply, AllocError>
     line(
         alloc,
         Status::WrongWords,
-        b"usage: cra analyse | certify | check | renew | replay\n",
+        b"usage: cra analyse | certify | check | sample N | renew | replay\n",
     )
 }
 
@@ -77,49 +68,16 @@ pub fn refused_reply(alloc: Global, text: &[u8], refusal: Refusal) -> Result<Rep
     })
 }
 
-/// The report of a program that a text spells, and the answers to its questions. The finder refuses no question, so the one
-/// error is want of memory.
-pub fn report_of(
-    alloc: Global,
-    text: &[u8],
-    program: &Program,
-) -> Result<(Report, Items<Answer>), AllocError>
-    requires short { length text.now ≤ most_bytes }
-    requires accepted { Accepts text.now program.now }
-    ensures { IfOk result (λ made. IsAnalysed text.now made.1 made.0) }
-{
-    accepted_is_well_formed();
-    assertions_ascend();
-    let places = places_of(alloc, text, program.checks.as_slice())?;
-    let mut finder = Finder::new();
-    let mut log = Log::new(alloc);
-    match analyse(alloc, program, places.as_slice(), &mut finder, &mut log) {
-        Ok(report) => Ok((report, log.answers)),
-        Err(_) => Err(AllocError),
-    }
-}
-
-/// The answer to a program that a text spells.
-fn reply_to_program(alloc: Global, text: &[u8], program: &Program) -> Result<Reply, AllocError>
-    requires short { length text.now ≤ most_bytes }
-    requires accepted { Accepts text.now program.now }
-    ensures reply { IfOk result (IsReplyToShort text.now) }
-    ensures status { IfOk result (λ reply. IsAnswer reply.status) }
-{
-    let (report, _) = report_of(alloc, text, program)?;
-    reply_of(alloc, &report)
-}
-
 /// The answer to a text.
 fn reply_to_short(alloc: Global, text: &[u8]) -> Result<Reply, AllocError>
     requires { length text.now ≤ most_bytes }
     ensures reply { IfOk result (IsReplyToShort text.now) }
     ensures status { IfOk result (λ reply. IsAnswer reply.status) }
 {
-    match read(alloc, text) {
-        Ok(program) => reply_to_program(alloc, text, &program),
-        Err(Refusal::Memory) => Err(AllocError),
-        Err(refusal) => refused_reply(alloc, text, refusal),
+    match found(alloc, text) {
+        Ok(last) => reply_of(alloc, &last.report),
+        Err(TextError::Refused(refusal)) => refused_reply(alloc, text, refusal),
+        Err(TextError::Memory) => Err(AllocError),
     }
 }
 

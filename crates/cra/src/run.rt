@@ -3,7 +3,7 @@ ghost use Rattle.std.specs.Io.KnownBytes.{append_known};
 ghost use Rattle.whole_numbers.specs.Counters.{Rose};
 ghost use Rattle.cra.specs.Output.{TookPart};
 ghost use Rattle.cra.specs.declared.reply.Reply.{Reply as Answer};
-ghost use Rattle.cra.specs.Replies.{IsReply, IsToAnalyse, IsToCertify, IsToReplay};
+ghost use Rattle.cra.specs.Replies.{IsReply, IsReplyToWork, IsToAnalyse, IsToCertify, IsToCheck, IsToCheckCertified, IsToRenew, IsToReplay};
 ghost use Rattle.cra.specs.Status.{IsAnswer};
 ghost use Rattle.cra.specs.Words.{reads_source, work_of};
 
@@ -11,25 +11,32 @@ use crate::certifying::reply_to_source;
 use crate::checking::reply_to_file;
 use crate::help::{help, version};
 use crate::input::{InputError, read_input};
-use crate::limits::{MOST_BYTES, MOST_FILE, MOST_INPUT, PIECE};
+use crate::limits::{MOST_FILE, MOST_INPUT, PIECE};
 use crate::output::write_all;
 use crate::renewing::reply_to_old_file;
 use crate::replaying::reply_to_values;
 use crate::reply::{Reply, reply_to_text, wrong_words};
+use crate::sampling::reply_to_sample;
 use crate::status::Status;
 use crate::words::{Work, work_of};
 use cra_io::{Sink, Source};
 use std::alloc::Global;
+use summary_cache::MOST_BYTES;
+use wire::newline_is_read_over;
 
-/// Reads what the words ask for, and makes the whole answer.
-fn compose<R: Source>(alloc: Global, words: &[String], source: &mut R) -> Result<Reply, InputError>
-    ensures answer { IfOk result (IsReply (map string_bytes words.now) (R.left source.old) (R.left source.new)) }
+/// Reads what is asked for, and makes the whole answer.
+fn answer_to<R: Source>(
+    alloc: Global,
+    work: Option<Work>,
+    source: &mut R,
+) -> Result<Reply, InputError>
+    ensures answer { IfOk result (IsReplyToWork work (R.left source.old) (R.left source.new)) }
     ensures status { IfOk result (λ reply. IsAnswer reply.status) }
-    ensures unread { reads_source (work_of (map string_bytes words.now)) ≡ false → source.new ≡ source.old }
+    ensures unread { reads_source work ≡ false → source.new ≡ source.old }
     ensures failed { result ≡ Err InputError.Failed → Rose (R.faults source.old) (R.faults source.new) }
     ensures counted { result ≢ Err InputError.Failed → R.faults source.new ≡ R.faults source.old }
 {
-    match work_of(words) {
+    match work {
         None => Ok(wrong_words(alloc)?),
         Some(Work::Analyse) => {
             let input = read_input(alloc, source, MOST_BYTES, PIECE)?;
@@ -43,6 +50,7 @@ fn compose<R: Source>(alloc: Global, words: &[String], source: &mut R) -> Result
             let input = read_input(alloc, source, MOST_FILE, PIECE)?;
             Ok(reply_to_file(alloc, &input)?)
         }
+        Some(Work::Sample(count)) => Ok(reply_to_sample(alloc, count)?),
         Some(Work::Renew) => {
             let input = read_input(alloc, source, MOST_FILE, PIECE)?;
             Ok(reply_to_old_file(alloc, &input)?)
@@ -54,6 +62,18 @@ fn compose<R: Source>(alloc: Global, words: &[String], source: &mut R) -> Result
         Some(Work::Help) => Ok(help(alloc)?),
         Some(Work::Version) => Ok(version(alloc)?),
     }
+}
+
+/// Reads what the words ask for, and makes the whole answer.
+fn compose<R: Source>(alloc: Global, words: &[String], source: &mut R) -> Result<Reply, InputError>
+    ensures answer { IfOk result (IsReply (map string_bytes words.now) (R.left source.old) (R.left source.new)) }
+    ensures status { IfOk result (λ reply. IsAnswer reply.status) }
+    ensures unread { reads_source (work_of (map string_bytes words.now)) ≡ false → source.new ≡ source.old }
+    ensures failed { result ≡ Err InputError.Failed → Rose (R.faults source.old) (R.faults source.new) }
+    ensures counted { result ≢ Err InputError.Failed → R.faults source.new ≡ R.faults source.old }
+{
+    let work = work_of(alloc, words)?;
+    answer_to(alloc, work, source)
 }
 
 /// Runs the program: reads what its words ask for, makes the whole answer in memory, and only then writes it.
@@ -78,6 +98,16 @@ pub fn run<R: Source, W: Sink>(
     ensures complete_certify { IsToCertify (map string_bytes words.now) (R.left source.old) → ¬ Rose (R.faults source.old) (R.faults source.new)
         → ¬ Rose (W.faults sink.old) (W.faults sink.new) → (result ≡ Status.Certified) ⊎ (result ≡ Status.TooLong) ⊎ (result ≡ Status.WantOfMemory) }
 
+    // A certificate file whose text is accepted passes or does not, and where it passes it is made anew.
+    ensures complete_check { IsToCheck (map string_bytes words.now) (R.left source.old) → ¬ Rose (R.faults source.old) (R.faults source.new)
+        → ¬ Rose (W.faults sink.old) (W.faults sink.new) → (result ≡ Status.CheckPassed) ⊎ (result ≡ Status.CheckFailed) ⊎ (result ≡ Status.WantOfMemory) }
+    ensures complete_renew { IsToRenew (map string_bytes words.now) (R.left source.old) → ¬ Rose (R.faults source.old) (R.faults source.new)
+        → ¬ Rose (W.faults sink.old) (W.faults sink.new) → (result ≡ Status.Certified) ⊎ (result ≡ Status.TooLong) ⊎ (result ≡ Status.CheckFailed) ⊎ (result ≡ Status.WantOfMemory) }
+
+    // What `certify` printed passes.
+    ensures passes { IsToCheckCertified (map string_bytes words.now) (R.left source.old) → ¬ Rose (R.faults source.old) (R.faults source.new)
+        → ¬ Rose (W.faults sink.old) (W.faults sink.new) → (result ≡ Status.CheckPassed) ⊎ (result ≡ Status.WantOfMemory) }
+
     // An input whose text is accepted has its trace, where memory is not wanting and no count of faults rose.
     ensures complete_replay { IsToReplay (map string_bytes words.now) (R.left source.old) → ¬ Rose (R.faults source.old) (R.faults source.new)
         → ¬ Rose (W.faults sink.old) (W.faults sink.new) → (result ≡ Status.NoneFailed) ⊎ (result ≡ Status.SomeFailed) ⊎ (result ≡ Status.WantOfMemory) }
@@ -95,6 +125,7 @@ pub fn run<R: Source, W: Sink>(
     // Want of memory comes before anything is written.
     ensures memory_untouched { result ≡ Status.WantOfMemory → sink.new ≡ sink.old }
 {
+    newline_is_read_over();
     let reply = match compose(alloc, words, source) {
         Ok(reply) => reply,
         Err(InputError::Failed) => return Status::SourceFailed,

@@ -90,3 +90,101 @@ input has a wrong shape at /order/0 | {\"answers\":[],\"order\":[0],\"report\":\
 input has a wrong shape at  | []
 input is not JSON | {
 ";
+
+/// Certificate files whose text is refused.
+pub(crate) const CHECKED_TEXT_REFUSED: &str = "\
+refused byte at 1:18 | {\"answers\":[],\"order\":[],\"report\":\"\",\"text\":\"int main(void) { @ }\",\"version\":2}
+refused main at 1:1 | {\"answers\":[{\"limit\":\"pivots\"}],\"report\":\"\",\"text\":\"\"}
+";
+
+/// A certificate file of version 1 for a text with a loop, that an independent model of the rules gives.
+pub(crate) const LOOP_FILE: &str = "\
+{\"answers\":[{\"point\":[\"0\"]},{\"point\":[\"1\",\"0\"]},{\"point\":[\"0\",\"0\"]},{\"point\":[\"0\",\"0\
+\"]},{\"point\":[\"1\",\"0\"]},{\"basis\":{\"free\":[[\"-1\"]],\"relations\":[{\"a\":[\"1\"],\"b\":[],\"c\":\
+\"1\",\"ties\":[{\"down\":[\"0\"],\"down_scale\":\"1\",\"up\":[\"0\"],\"up_scale\":\"1\"}]}],\"spots\":[{\"a\
+t\":[\"1\",\"0\"],\"case\":0}]}},{\"unbounded\":{\"case\":0,\"point\":[\"1\",\"0\"],\"ray\":[\"1\",\"1\"]}},\
+{\"unbounded\":{\"case\":0,\"point\":[\"1\",\"0\"],\"ray\":[\"-1\",\"-1\"]}},{\"unbounded\":{\"case\":0,\"po\
+int\":[\"1\",\"0\"],\"ray\":[\"1\",\"1\"]}},{\"unbounded\":{\"case\":0,\"point\":[\"1\",\"0\"],\"ray\":[\"-1\
+\",\"-1\"]}},{\"unbounded\":{\"case\":0,\"point\":[\"1\",\"0\",\"0\"],\"ray\":[\"0\",\"0\",\"1\"]}},{\"unbou\
+nded\":{\"case\":0,\"point\":[\"1\",\"0\",\"0\"],\"ray\":[\"0\",\"0\",\"-1\"]}},{\"unbounded\":{\"case\":0,\
+\"point\":[\"1\",\"0\"],\"ray\":[\"1\",\"0\"]}},{\"unbounded\":{\"case\":0,\"point\":[\"1\",\"0\",\"0\"],\"r\
+ay\":[\"0\",\"0\",\"-1\"]}},{\"bound\":{\"at\":\"-1\",\"case\":0,\"certs\":[{\"by\":[\"1\"],\"scale\":\"1\",\
+\"sum\":\"-1\"}],\"point\":[\"1\",\"0\"]}},{\"unbounded\":{\"case\":0,\"point\":[\"1\",\"0\",\"0\"],\"ray\":\
+[\"0\",\"0\",\"-1\"]}},{\"unbounded\":{\"case\":0,\"point\":[\"1\",\"0\",\"0\"],\"ray\":[\"0\",\"0\",\"1\"]}\
+},{\"unbounded\":{\"case\":0,\"point\":[\"1\",\"0\",\"0\"],\"ray\":[\"0\",\"0\",\"1\"]}},{\"unbounded\":{\"c\
+ase\":0,\"point\":[\"1\",\"0\"],\"ray\":[\"1\",\"1\"]}},{\"unbounded\":{\"case\":0,\"point\":[\"1\",\"0\"],\
+\"ray\":[\"-1\",\"-1\"]}},{\"unbounded\":{\"case\":0,\"point\":[\"1\",\"0\"],\"ray\":[\"1\",\"1\"]}},{\"unbo\
+unded\":{\"case\":0,\"point\":[\"1\",\"0\"],\"ray\":[\"-1\",\"-1\"]}},{\"unbounded\":{\"case\":0,\"point\":[\
+\"1\",\"0\",\"0\"],\"ray\":[\"0\",\"0\",\"1\"]}},{\"unbounded\":{\"case\":0,\"point\":[\"1\",\"0\",\"0\"],\"\
+ray\":[\"0\",\"0\",\"-1\"]}},{\"unbounded\":{\"case\":0,\"point\":[\"1\",\"0\"],\"ray\":[\"1\",\"0\"]}},{\"u\
+nbounded\":{\"case\":0,\"point\":[\"1\",\"0\",\"0\"],\"ray\":[\"0\",\"0\",\"-1\"]}},{\"bound\":{\"at\":\"0\"\
+,\"case\":0,\"certs\":[{\"by\":[\"1\"],\"scale\":\"1\",\"sum\":\"0\"}],\"point\":[\"1\",\"0\"]}},{\"unbounde\
+d\":{\"case\":0,\"point\":[\"1\",\"0\",\"0\"],\"ray\":[\"0\",\"0\",\"-1\"]}},{\"unbounded\":{\"case\":0,\"po\
+int\":[\"1\",\"0\",\"0\"],\"ray\":[\"0\",\"0\",\"1\"]}},{\"unbounded\":{\"case\":0,\"point\":[\"1\",\"0\",\"\
+0\"],\"ray\":[\"0\",\"0\",\"1\"]}},{\"bound\":{\"at\":\"0\",\"case\":0,\"certs\":[{\"by\":[\"0\"],\"scale\":\
+\"1\",\"sum\":\"0\"}],\"point\":[\"1\",\"0\"]}},{\"bound\":{\"at\":\"0\",\"case\":0,\"certs\":[{\"by\":[\"0\
+\"],\"scale\":\"1\",\"sum\":\"0\"}],\"point\":[\"1\",\"0\"]}},{\"bound\":{\"at\":\"1\",\"case\":0,\"certs\":\
+[{\"by\":[\"0\"],\"scale\":\"1\",\"sum\":\"1\"}],\"point\":[\"1\",\"0\"]}},{\"bound\":{\"at\":\"-1\",\"case\
+\":0,\"certs\":[{\"by\":[\"0\"],\"scale\":\"1\",\"sum\":\"-1\"}],\"point\":[\"1\",\"0\"]}},{\"bound\":{\"at\
+\":\"0\",\"case\":0,\"certs\":[{\"by\":[\"0\"],\"scale\":\"1\",\"sum\":\"0\"}],\"point\":[\"1\",\"0\"]}},{\"\
+bound\":{\"at\":\"0\",\"case\":0,\"certs\":[{\"by\":[\"0\"],\"scale\":\"1\",\"sum\":\"0\"}],\"point\":[\"1\"\
+,\"0\"]}},{\"bound\":{\"at\":\"-1\",\"case\":0,\"certs\":[{\"by\":[\"0\"],\"scale\":\"1\",\"sum\":\"-1\"}],\
+\"point\":[\"1\",\"0\"]}},{\"bound\":{\"at\":\"0\",\"case\":0,\"certs\":[{\"by\":[\"0\"],\"scale\":\"1\",\"s\
+um\":\"0\"}],\"point\":[\"1\",\"0\"]}},{\"bound\":{\"at\":\"1\",\"case\":0,\"certs\":[{\"by\":[\"0\"],\"scal\
+e\":\"1\",\"sum\":\"1\"}],\"point\":[\"1\",\"0\"]}},{\"bound\":{\"at\":\"1\",\"case\":0,\"certs\":[{\"by\":[\
+\"0\"],\"scale\":\"1\",\"sum\":\"1\"}],\"point\":[\"1\",\"0\"]}},{\"bound\":{\"at\":\"0\",\"case\":0,\"certs\
+\":[{\"by\":[\"0\"],\"scale\":\"1\",\"sum\":\"0\"}],\"point\":[\"1\",\"0\"]}},{\"bound\":{\"at\":\"-1\",\"ca\
+se\":0,\"certs\":[{\"by\":[\"0\"],\"scale\":\"1\",\"sum\":\"-1\"}],\"point\":[\"1\",\"0\"]}},{\"point\":[\"1\
+\",\"0\",\"2\"]},{\"infeasible\":[\"1\",\"1\",\"1\"]},{\"point\":[\"0\",\"0\",\"0\"]},{\"point\":[\"1\",\"0\
+\",\"1\"]},{\"point\":[\"0\"]},{\"point\":[\"0\"]},{\"point\":[\"0\"]},{\"point\":[\"1\",\"1\"]},{\"point\":\
+[\"1\"]},{\"point\":[\"2\",\"1\"]},{\"point\":[\"1\"]},{\"point\":[\"2\",\"1\"]},{\"point\":[\"1\"]},{\"poin\
+t\":[\"2\",\"1\"]},{\"point\":[\"1\"]},{\"point\":[\"1\"]},{\"point\":[\"1\"]},{\"point\":[\"1\"]},{\"point\
+\":[\"1\"]}],\"report\":\"procedure main\\ncase 1\\n  $ret = $1\\ncase 2\\n  -$1 + 1 <= 0\\n  $ret = $2\\nas\
+sertion 1 at 6:3 proved\\ntotal 1 proved, 0 unproved\\n\",\"text\":\"int main(void) {\\n  int n = __VERIFIER\
+_nondet_int();\\n  int i = 0;\\n  assume(n >= 0);\\n  while (i < n) i++;\\n  assert(i == n);\\n}\\n\"}";
+
+/// Changes of that file: the status and the line that `check` answers with, what is changed, and into what.
+pub(crate) const CHANGES: &str = "\
+0 check passed | x | x
+8 check failed: answer 44 | \"infeasible\":[\"1\" | \"infeasible\":[\"-1\"
+8 check failed: answer 1 | {\"point\":[\"0\"]} | {\"point\":[]}
+8 check failed: answer 7 | {\"unbounded\":{\"case\":0 | {\"unbounded\":{\"case\":1
+8 check failed: answer 15 | \"scale\":\"1\" | \"scale\":\"0\"
+8 check failed: answer 44 | {\"infeasible\":[\"1\",\"1\",\"1\"]} | {\"limit\":{\"left\":\"1\",\"right\":\"1\",\"times\":true}}
+8 check failed: 1 answers left | {\"point\":[\"1\"]}],\"report\" | {\"point\":[\"1\"]},{\"point\":[\"1\"]}],\"report\"
+8 check failed: answer 61 | ,{\"point\":[\"1\"]}],\"report\" | ],\"report\"
+3 refused syntax at 5:17 | while | whale
+";
+
+/// Words that ask for nothing.
+pub(crate) const WRONG_WORDS: &str = "\
+cra
+cra analyze
+cra analyse again
+cra analyse --
+cra analyse --help
+cra replay --help
+cra --help replay
+cra help
+cra -h
+cra -V
+cra sample
+cra sample 0
+cra sample 03
+cra sample 251
+cra sample 1000
+cra sample +3
+cra sample -3
+cra sample 3 3
+cra sample -- -- 3
+cra -- sample 3
+analyse cra
+";
+
+/// Words with what they are answered with: counts of made texts.
+pub(crate) const SAMPLES: &str = "\
+cra sample 3
+sample 3: 292 bytes, 4 groups, 3 proved, 0 unproved
+cra sample -- 3
+sample 3: 292 bytes, 4 groups, 3 proved, 0 unproved
+";

@@ -1,16 +1,13 @@
-use crate::laws::{
-    accepted_is_not_refused, accepted_is_well_formed, accepted_once, assertions_ascend,
-    claims_know_no_rule, rules_are_free,
-};
-use crate::limits::{MOST_BYTES, MOST_INPUT};
+use crate::limits::MOST_INPUT;
 use crate::run::run;
 use crate::tables;
 use cra_io::{MemorySink, MemorySource};
 use std::alloc::Global;
 use std::process::Abort;
 use std::test::Fail;
+use summary_cache::MOST_BYTES;
 
-const USAGE: &[u8] = b"usage: cra analyse | certify | check | renew | replay\n";
+const USAGE: &[u8] = b"usage: cra analyse | certify | check | sample N | renew | replay\n";
 
 const TOO_LONG: &[u8] = b"input is too long\n";
 
@@ -227,8 +224,31 @@ fn run_on(alloc: Global, words: &[&str], input: &[u8], outside: Outside) -> Resu
     })
 }
 
+/// A run on an input ends with this status, and its sink took this text.
+fn ends(
+    alloc: Global,
+    rt: &impl Abort,
+    words: &[&str],
+    input: &[u8],
+    status: u8,
+    text: &[u8],
+) -> Result<(), Fail> {
+    let ended = run_on(alloc, words, input, GOOD)?;
+    assert_eq!(rt; ended.status, status);
+    assert_eq!(rt; ended.text.as_slice(), text);
+    Ok(())
+}
+
+/// What is certified of a text passes, and is renewed as it is.
+fn certified(alloc: Global, rt: &impl Abort, input: &[u8]) -> Result<(), Fail> {
+    let file = run_on(alloc, &["cra", "certify"], input, GOOD)?.text;
+    ends(alloc, rt, &["cra", "check"], &file, 0, b"check passed\n")?;
+    ends(alloc, rt, &["cra", "renew"], &file, 0, &file)
+}
+
 #[test]
 fn reports(rt: HostRuntime) -> Result<(), Fail> {
+    let alloc = rt.alloc();
     let cases = [
         (PROVED, 0, PROVED_REPORT),
         (UNPROVED, 1, UNPROVED_REPORT),
@@ -245,98 +265,76 @@ fn reports(rt: HostRuntime) -> Result<(), Fail> {
         (QUOTIENT, 1, QUOTIENT_REPORT),
     ];
     for (input, status, text) in cases {
-        let ended = run_on(rt.alloc(), &["cra", "analyse"], input, GOOD)?;
-        assert_eq!(rt; ended.status, status);
-        assert_eq!(rt; ended.text.as_slice(), text);
+        ends(alloc, &rt, &["cra", "analyse"], input, status, text)?;
+        certified(alloc, &rt, input)?;
     }
     Ok(())
 }
 
-#[test]
-fn certificates(rt: HostRuntime) -> Result<(), Fail> {
-    for (input, file) in CERTIFICATES {
-        let ended = run_on(rt.alloc(), &["cra", "certify"], input, GOOD)?;
-        assert_eq!(rt; ended.status, 0);
-        assert_eq!(rt; ended.text.as_slice(), file);
-    }
-    Ok(())
-}
-
-/// Whether each input of a table is answered by `check` with this status and the line that stands before it.
+/// Each input of a table is answered by `check` with this status and the line that stands before it.
 fn checked(alloc: Global, rt: &impl Abort, status: u8, table: &str) -> Result<(), Fail> {
     for row in table.lines() {
         let (line, file) = row.split_once(" | ").ok_or("no row")?;
         let line = format!(in alloc; "{line}\n")?;
-        let ended = run_on(alloc, &["cra", "check"], file.as_bytes(), GOOD)?;
-        assert_eq!(rt; ended.status, status);
-        assert_eq!(rt; ended.text.as_slice(), line.as_bytes());
+        ends(
+            alloc,
+            rt,
+            &["cra", "check"],
+            file.as_bytes(),
+            status,
+            line.as_bytes(),
+        )?;
+    }
+    Ok(())
+}
+
+/// A file with each change of a table is answered by `check` as the row says.
+fn changed(alloc: Global, rt: &impl Abort, file: &str, table: &str) -> Result<(), Fail> {
+    for row in table.lines() {
+        let (answer, change) = row.split_once(" | ").ok_or("no row")?;
+        let (status, line) = answer.split_once(' ').ok_or("no row")?;
+        let (old, new) = change.split_once(" | ").ok_or("no row")?;
+        let input = file.replacen(alloc, old, new, 1)?;
+        let status = status.parse::<u8>().ok().ok_or("no status")?;
+        let line = format!(in alloc; "{line}\n")?;
+        ends(
+            alloc,
+            rt,
+            &["cra", "check"],
+            input.as_bytes(),
+            status,
+            line.as_bytes(),
+        )?;
     }
     Ok(())
 }
 
 // Rows of files and outputs that an independent model of the rules gives.
 #[test]
-fn checks(rt: HostRuntime) -> Result<(), Fail> {
+fn files(rt: HostRuntime) -> Result<(), Fail> {
     let alloc = rt.alloc();
+    for (input, file) in CERTIFICATES {
+        ends(alloc, &rt, &["cra", "certify"], input, 0, file)?;
+    }
     checked(alloc, &rt, 0, tables::CHECK_PASSED)?;
     checked(alloc, &rt, 8, tables::CHECK_FAILED)?;
-    checked(alloc, &rt, 7, tables::CHECKED_WRONG)
-}
-
-#[test]
-fn certificates_pass(rt: HostRuntime) -> Result<(), Fail> {
-    for input in [
-        PROVED, UNPROVED, FALSE, WIDE, AGAIN, HIDDEN, SUM, TRIANGLE, BALANCED, ERROR, QUOTIENT,
-    ] {
-        let file = run_on(rt.alloc(), &["cra", "certify"], input, GOOD)?;
-        assert_eq!(rt; file.status, 0);
-        let ended = run_on(rt.alloc(), &["cra", "check"], &file.text, GOOD)?;
-        assert_eq!(rt; ended.status, 0);
-        assert_eq!(rt; ended.text.as_slice(), b"check passed\n".as_slice());
-        let again = run_on(rt.alloc(), &["cra", "renew"], &file.text, GOOD)?;
-        assert_eq!(rt; again.status, 0);
-        assert_eq!(rt; again.text.as_slice(), file.text.as_slice());
-    }
-    Ok(())
+    checked(alloc, &rt, 7, tables::CHECKED_WRONG)?;
+    checked(alloc, &rt, 3, tables::CHECKED_TEXT_REFUSED)?;
+    changed(alloc, &rt, tables::LOOP_FILE, tables::CHANGES)
 }
 
 // Rows of outputs that an independent model of the rules gives.
 #[test]
 fn replays(rt: HostRuntime) -> Result<(), Fail> {
     for (input, status, text) in REPLAYS {
-        let ended = run_on(rt.alloc(), &["cra", "replay"], input, GOOD)?;
-        assert_eq!(rt; ended.status, status);
-        assert_eq!(rt; ended.text.as_slice(), text);
+        ends(rt.alloc(), &rt, &["cra", "replay"], input, status, text)?;
     }
-    Ok(())
-}
-
-// The source would fail, and is not read.
-#[test]
-fn help_and_version(rt: HostRuntime) -> Result<(), Fail> {
-    let outside = Outside {
-        failing_read: 0,
-        ..GOOD
-    };
-    let help = run_on(rt.alloc(), &["cra", "--help"], b"", outside)?;
-    assert_eq!(rt; help.status, 0);
-    assert!(rt;
-        help.text
-            .as_slice()
-            .starts_with(b"cra: a verified analyser of numeric C\n")
-    );
-    let version = run_on(rt.alloc(), &["cra", "--version"], b"", outside)?;
-    assert_eq!(rt; version.status, 0);
-    assert_eq!(rt; version.text.as_slice(), b"cra 0.1.0\n".as_slice());
     Ok(())
 }
 
 /// The text is refused with this line.
 fn refused(alloc: Global, rt: &impl Abort, input: &[u8], line: &[u8]) -> Result<(), Fail> {
-    let ended = run_on(alloc, &["cra", "analyse"], input, GOOD)?;
-    assert_eq!(rt; ended.status, 3);
-    assert_eq!(rt; ended.text.as_slice(), line);
-    Ok(())
+    ends(alloc, rt, &["cra", "analyse"], input, 3, line)
 }
 
 /// A piece so many times, between two others.
@@ -355,7 +353,7 @@ fn repeated(
     Ok(text)
 }
 
-/// Whether each text of a table is refused with the line that stands before it.
+/// Each text of a table is refused with the line that stands before it.
 fn check(alloc: Global, rt: &impl Abort, table: &str) -> Result<(), Fail> {
     for row in table.lines() {
         let (line, text) = row.split_once(": ").ok_or("no row")?;
@@ -366,35 +364,30 @@ fn check(alloc: Global, rt: &impl Abort, table: &str) -> Result<(), Fail> {
 }
 
 #[test]
-fn refused_by_the_cut(rt: HostRuntime) -> Result<(), Fail> {
+fn refused_texts(rt: HostRuntime) -> Result<(), Fail> {
     let alloc = rt.alloc();
     check(alloc, &rt, tables::REFUSED_BY_THE_CUT)?;
-    refused(
-        alloc,
-        &rt,
-        b"int main(void) { \xff }",
-        b"refused byte at 1:18\n",
-    )?;
-    refused(alloc, &rt, b"/* \xc3", b"refused comment at 1:1\n")?;
-    let third_line = b"#include <x.h>\n#include <y.h>\nint main(void) { int x = 1; # }";
-    refused(alloc, &rt, third_line, b"refused byte at 3:29\n")
-}
-
-#[test]
-fn refused_by_the_grammar(rt: HostRuntime) -> Result<(), Fail> {
-    let alloc = rt.alloc();
     check(alloc, &rt, tables::REFUSED_BY_THE_GRAMMAR)?;
-    let fourth_line = b"int main(void)\n{\n  int x = 1\n}\n";
-    refused(alloc, &rt, fourth_line, b"refused syntax at 4:1\n")
-}
-
-#[test]
-fn refused_by_elaboration(rt: HostRuntime) -> Result<(), Fail> {
-    let alloc = rt.alloc();
-    refused(alloc, &rt, b"", b"refused main at 1:1\n")?;
     check(alloc, &rt, tables::REFUSED_BY_NAMES)?;
     check(alloc, &rt, tables::REFUSED_BY_CALLS)?;
-    check(alloc, &rt, tables::REFUSED_BY_COUNTS)
+    check(alloc, &rt, tables::REFUSED_BY_COUNTS)?;
+    let others: [(&[u8], &[u8]); 5] = [
+        (b"", b"refused main at 1:1\n"),
+        (b"int main(void) { \xff }", b"refused byte at 1:18\n"),
+        (b"/* \xc3", b"refused comment at 1:1\n"),
+        (
+            b"#include <x.h>\n#include <y.h>\nint main(void) { int x = 1; # }",
+            b"refused byte at 3:29\n",
+        ),
+        (
+            b"int main(void)\n{\n  int x = 1\n}\n",
+            b"refused syntax at 4:1\n",
+        ),
+    ];
+    for (text, line) in others {
+        refused(alloc, &rt, text, line)?;
+    }
+    Ok(())
 }
 
 // Each limit that a short text does not pass.
@@ -427,24 +420,42 @@ fn refused_by_great_counts(rt: HostRuntime) -> Result<(), Fail> {
     )
 }
 
-#[test]
-fn other_words(rt: HostRuntime) -> Result<(), Fail> {
-    let all: [&[&str]; 9] = [
-        &[],
-        &["cra"],
-        &["cra", "analyze"],
-        &["cra", "analyse", "again"],
-        &["cra", "replay", "--help"],
-        &["cra", "--help", "replay"],
-        &["cra", "help"],
-        &["cra", "-h"],
-        &["analyse", "cra"],
-    ];
-    for words in all {
-        let ended = run_on(rt.alloc(), words, PLAIN, GOOD)?;
-        assert_eq!(rt; ended.status, 2);
-        assert_eq!(rt; ended.text.as_slice(), USAGE);
+/// The words of each line of a table ask for nothing.
+fn wrong_words(alloc: Global, rt: &impl Abort, table: &str) -> Result<(), Fail> {
+    for line in table.lines() {
+        let words = line.split(' ').collect::<Vec<&str>>(alloc)?;
+        ends(alloc, rt, &words, PLAIN, 2, USAGE)?;
     }
+    Ok(())
+}
+
+/// The words of each line of a table are answered with the line below it, and no input is read.
+fn sampled(alloc: Global, rt: &impl Abort, table: &str) -> Result<(), Fail> {
+    let lines = table.lines().collect::<Vec<&str>>(alloc)?;
+    for row in lines.chunks(2) {
+        let [line, told] = row else {
+            return Err("no row".into());
+        };
+        let words = line.split(' ').collect::<Vec<&str>>(alloc)?;
+        let text = format!(in alloc; "{told}\n")?;
+        ends(alloc, rt, &words, PLAIN, 0, text.as_str().as_bytes())?;
+    }
+    Ok(())
+}
+
+#[test]
+fn words(rt: HostRuntime) -> Result<(), Fail> {
+    let alloc = rt.alloc();
+    ends(alloc, &rt, &[], PLAIN, 2, USAGE)?;
+    wrong_words(alloc, &rt, tables::WRONG_WORDS)?;
+    sampled(alloc, &rt, tables::SAMPLES)?;
+    ends(alloc, &rt, &["cra", "--version"], b"", 0, b"cra 0.1.0\n")?;
+    let help = run_on(alloc, &["cra", "--help"], b"", GOOD)?;
+    assert!(rt;
+        help.text
+            .as_slice()
+            .starts_with(b"cra: a verified analyser of numeric C\n")
+    );
     Ok(())
 }
 
@@ -452,65 +463,54 @@ fn other_words(rt: HostRuntime) -> Result<(), Fail> {
 fn lengths(rt: HostRuntime) -> Result<(), Fail> {
     let alloc = rt.alloc();
     let full = vec![in alloc; b' '; MOST_BYTES]?;
-    let past = vec![in alloc; b' '; MOST_BYTES + 1]?;
     refused(alloc, &rt, &full, b"refused main at 1:1048577\n")?;
-    let ended = run_on(alloc, &["cra", "analyse"], &past, GOOD)?;
-    assert_eq!(rt; ended.status, 9);
-    assert_eq!(rt; ended.text.as_slice(), TOO_LONG);
-    let ended = run_on(alloc, &["cra", "replay"], &past, GOOD)?;
-    assert_eq!(rt; ended.status, 7);
+    let past = vec![in alloc; b' '; MOST_BYTES + 1]?;
+    ends(alloc, &rt, &["cra", "analyse"], &past, 9, TOO_LONG)?;
+    ends(
+        alloc,
+        &rt,
+        &["cra", "replay"],
+        &past,
+        7,
+        b"input is not JSON\n",
+    )?;
     let past = vec![in alloc; b' '; MOST_INPUT + 1]?;
-    let ended = run_on(alloc, &["cra", "replay"], &past, GOOD)?;
-    assert_eq!(rt; ended.status, 9);
-    assert_eq!(rt; ended.text.as_slice(), TOO_LONG);
+    ends(alloc, &rt, &["cra", "replay"], &past, 9, TOO_LONG)
+}
+
+/// A run over pieces of one byte, where one read or one write fails, ends with a status and so many bytes of the report.
+fn cut_short(
+    alloc: Global,
+    rt: &impl Abort,
+    outside: Outside,
+    status: u8,
+    taken: usize,
+) -> Result<(), Fail> {
+    let ended = run_on(alloc, &["cra", "analyse"], FALSE, outside)?;
+    assert_eq!(rt; ended.status, status);
+    assert_eq!(rt; Some(ended.text.as_slice()), FALSE_REPORT.get(..taken));
     Ok(())
 }
 
 #[test]
-fn pieces_of_one_byte(rt: HostRuntime) -> Result<(), Fail> {
+fn each_call_fails_in_turn(rt: HostRuntime) -> Result<(), Fail> {
     let outside = Outside { most: 1, ..GOOD };
-    let ended = run_on(rt.alloc(), &["cra", "analyse"], PLAIN, outside)?;
-    assert_eq!(rt; ended.status, 0);
-    assert_eq!(rt; ended.text.as_slice(), PLAIN_REPORT);
-    Ok(())
-}
-
-#[test]
-fn each_read_fails_in_turn(rt: HostRuntime) -> Result<(), Fail> {
-    for failing_read in 0..9 {
+    cut_short(rt.alloc(), &rt, outside, 1, FALSE_REPORT.len())?;
+    for (_, failing_read) in (0..=FALSE.len()).zip(0u64..) {
         let outside = Outside {
             failing_read,
             most: 1,
             ..GOOD
         };
-        let ended = run_on(rt.alloc(), &["cra", "analyse"], b"int main", outside)?;
-        assert_eq!(rt; ended.status, 4, "read {failing_read}");
-        assert!(rt; ended.text.is_empty());
+        cut_short(rt.alloc(), &rt, outside, 4, 0)?;
     }
-    Ok(())
-}
-
-#[test]
-fn each_write_fails_in_turn(rt: HostRuntime) -> Result<(), Fail> {
     for (taken, failing_write) in (0..FALSE_REPORT.len()).zip(0u64..) {
         let outside = Outside {
             failing_write,
             most: 1,
             ..GOOD
         };
-        let ended = run_on(rt.alloc(), &["cra", "analyse"], FALSE, outside)?;
-        assert_eq!(rt; ended.status, 5, "write {failing_write}");
-        assert_eq!(rt; Some(ended.text.as_slice()), FALSE_REPORT.get(..taken));
+        cut_short(rt.alloc(), &rt, outside, 5, taken)?;
     }
     Ok(())
-}
-
-#[test]
-fn laws(_rt: HostRuntime) {
-    accepted_once();
-    accepted_is_not_refused();
-    accepted_is_well_formed();
-    assertions_ascend();
-    rules_are_free();
-    claims_know_no_rule();
 }

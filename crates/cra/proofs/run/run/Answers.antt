@@ -1,7 +1,8 @@
 use Rattle.std.proofs.Common.{◌≡◌, ◌⊎◌, inl, inr}
 use Rattle.cra.specs.declared.status.Status.{Status}
-use Rattle.cra.specs.declared.status.Status.TheVariants.{AllProved, SomeUnproved, NoneFailed, SomeFailed, Certified, TooLong, WantOfMemory}
+use Rattle.cra.specs.declared.status.Status.TheVariants.{AllProved, SomeUnproved, NoneFailed, SomeFailed, Certified, CheckFailed, CheckPassed, TooLong, WantOfMemory}
 use Rattle.cra.proofs.Complete.{complete, complete-certify, complete-replay}
+use Rattle.cra.proofs.Passing.{certified-passes, complete-check, complete-renew}
 use Rattle.cra.proofs.run.run.Goals as goal
 
 or-memory : (status : Status) → (status ≡ AllProved) ⊎ (status ≡ SomeUnproved) → (status ≡ AllProved) ⊎ (status ≡ SomeUnproved) ⊎ (status ≡ WantOfMemory)
@@ -29,3 +30,28 @@ returns-in-Ok-write_all-clause-complete_certify g c to_certify source sink =
 pub returns-in-Ok-write_all-clause-complete_replay : goal.returns-in-Ok-write_all-clause-complete_replay
 returns-in-Ok-write_all-clause-complete_replay g c to_replay source sink =
     or-memory-too c.in-Ok.reply.status (complete-replay _ _ _ c.in-Ok.reply to_replay c.in-Ok.ensures.answer)
+
+or-memory-checked : (status : Status) → (status ≡ CheckPassed) ⊎ (status ≡ CheckFailed) → (status ≡ CheckPassed) ⊎ (status ≡ CheckFailed) ⊎ (status ≡ WantOfMemory)
+or-memory-checked status (inl passed) = inl passed
+or-memory-checked status (inr failed) = inr (inl failed)
+
+-- what was to be checked passes or does not
+pub returns-in-Ok-write_all-clause-complete_check : goal.returns-in-Ok-write_all-clause-complete_check
+returns-in-Ok-write_all-clause-complete_check g c to_check source sink =
+    or-memory-checked c.in-Ok.reply.status (complete-check _ _ _ c.in-Ok.reply to_check c.in-Ok.ensures.answer)
+
+or-memory-renewed : (status : Status) → (status ≡ Certified) ⊎ (status ≡ TooLong) ⊎ (status ≡ CheckFailed)
+    → (status ≡ Certified) ⊎ (status ≡ TooLong) ⊎ (status ≡ CheckFailed) ⊎ (status ≡ WantOfMemory)
+or-memory-renewed status (inl told) = inl told
+or-memory-renewed status (inr (inl long)) = inr (inl long)
+or-memory-renewed status (inr (inr failed)) = inr (inr (inl failed))
+
+-- what was to be renewed is, or does not pass
+pub returns-in-Ok-write_all-clause-complete_renew : goal.returns-in-Ok-write_all-clause-complete_renew
+returns-in-Ok-write_all-clause-complete_renew g c to_renew source sink =
+    or-memory-renewed c.in-Ok.reply.status (complete-renew _ _ _ c.in-Ok.reply to_renew c.in-Ok.ensures.answer)
+
+-- what `certify` printed passes
+pub returns-in-Ok-write_all-clause-passes : goal.returns-in-Ok-write_all-clause-passes
+returns-in-Ok-write_all-clause-passes g c to_check source sink =
+    inl (certified-passes c.newline_is_read_over.ensures _ _ _ c.in-Ok.reply to_check c.in-Ok.ensures.answer)

@@ -1,0 +1,359 @@
+-- What clap makes of the words that are listed: it takes them, or tells that help or the version is asked for.
+use Rattle.std.proofs.Common.{refl, sym, subst, ap, codes, true, false, List, ℕ, [], ◌∷◌, Option, Some, None, ◌≡◌, ◌≢◌, ◌⊎◌, inl, inr, Bool, zero, suc, ◌≤◌, ◌-◌, ◌+◌, arith, option_map, true≢false, length, if◌then◌else◌, ◌∙◌}
+use Rattle.std.proofs.lemmas.Bool.{leb-true}
+use Rattle.std.specs.Prelude.{nat_le, ◌&&◌}
+use Rattle.std.proofs.lemmas.Slice.Eq.{bytes_eq-Decides}
+use Rattle.std.specs.Str.{bytes_eq}
+use Rattle.clap.specs.Words.{Row, Text, fault_of, is_simple, is_simple_and_free, subcommand_of}
+use Rattle.clap.specs.Kinds.{Kinds, IsAmong, HasKind}
+use Rattle.clap.specs.Values.{kind_of}
+use Rattle.clap.specs.Matches.{subcommand_name_of}
+use Rattle.clap.specs.Simple.{subcommand_rows, subcommand_rows_of}
+use Rattle.clap.specs.declared.error.Error.{Error}
+use Rattle.clap.specs.declared.parser.matches.ArgMatches.{ArgMatches}
+use Rattle.clap.specs.declared.parser.matches.ArgMatches.TheViews.{out-ArgMatches, out-SubCommand}
+use Rattle.std.specs.Box.{box_value}
+use Rattle.clap.specs.declared.parser.matches.SubCommand.{SubCommand}
+use Rattle.std.specs.Prelude.{Box}
+use Rattle.clap.specs.declared.error.kind.ErrorKind.{ErrorKind}
+use Rattle.clap.specs.declared.error.kind.ErrorKind.TheVariants as kind
+use Rattle.clap.proofs.OnLiterals.{clap_on_literals}
+use Rattle.cra.specs.declared.words.Work.{Work}
+use Rattle.cra.specs.Words.{count_of, is_short_number, sample_of, work_named, work_of}
+use Rattle.cra.specs.Commands.{commands, matched_work, told_work}
+
+pub commands-simple : is_simple_and_free commands ≡ true
+unfolding clap_on_literals
+commands-simple = refl
+
+pub commands-exact : is_simple commands ≡ true
+unfolding clap_on_literals
+commands-exact = refl
+
+-- the words are taken, or a request
+abbrev pub IsAnswered : Kinds → Type 0
+IsAnswered kinds = (kinds ≡ []) ⊎ ((kinds ≡ kind.DisplayHelp ∷ []) ⊎ (kinds ≡ kind.DisplayVersion ∷ []))
+
+abbrev pub name_of : Option (Text × List Row) → Option Text
+name_of = option_map (λ p. p.0)
+
+-- Words that clap takes ask for what is listed for their subcommand, and listed words are taken, or are a request.
+pub record Fits (words : List (List ℕ)) : Type 0 where
+  pub matched : fault_of commands words ≡ [] → matched_work (name_of (subcommand_of commands words)) words ≡ work_of words
+  pub answered : (work : Work) → work_of words ≡ Some work → IsAnswered (fault_of commands words)
+  pub told : (k : ErrorKind) → fault_of commands words ≡ k ∷ [] → told_work words ≡ work_of words
+
+module _ (name : List ℕ) where
+  analyse-fits : Fits (name ∷ codes "analyse" ∷ [])
+  unfolding clap_on_literals
+  analyse-fits = record { matched = λ _. refl; answered = λ _ _. inl refl; told = λ _ _. refl }
+
+  certify-fits : Fits (name ∷ codes "certify" ∷ [])
+  unfolding clap_on_literals
+  certify-fits = record { matched = λ _. refl; answered = λ _ _. inl refl; told = λ _ _. refl }
+
+  check-fits : Fits (name ∷ codes "check" ∷ [])
+  unfolding clap_on_literals
+  check-fits = record { matched = λ _. refl; answered = λ _ _. inl refl; told = λ _ _. refl }
+
+  renew-fits : Fits (name ∷ codes "renew" ∷ [])
+  unfolding clap_on_literals
+  renew-fits = record { matched = λ _. refl; answered = λ _ _. inl refl; told = λ _ _. refl }
+
+  replay-fits : Fits (name ∷ codes "replay" ∷ [])
+  unfolding clap_on_literals
+  replay-fits = record { matched = λ _. refl; answered = λ _ _. inl refl; told = λ _ _. refl }
+
+  help-fault : fault_of commands (name ∷ codes "--help" ∷ []) ≡ kind.DisplayHelp ∷ []
+  unfolding clap_on_literals
+  help-fault = refl
+
+  version-fault : fault_of commands (name ∷ codes "--version" ∷ []) ≡ kind.DisplayVersion ∷ []
+  unfolding clap_on_literals
+  version-fault = refl
+
+  -- a number behind two dashes
+  dashes-fault : (text : List ℕ) → fault_of commands (name ∷ codes "sample" ∷ codes "--" ∷ text ∷ []) ≡ []
+  unfolding clap_on_literals
+  dashes-fault text = refl
+
+  dashes-name : (text : List ℕ) → name_of (subcommand_of commands (name ∷ codes "sample" ∷ codes "--" ∷ text ∷ [])) ≡ Some (codes "sample")
+  unfolding clap_on_literals
+  dashes-name text = refl
+
+  -- a number that begins with a digit from 1 to 9
+  number-fault : (d : ℕ) → d ≤ 8 → (rest : List ℕ) → fault_of commands (name ∷ codes "sample" ∷ ((49 + d) ∷ rest) ∷ []) ≡ []
+  unfolding clap_on_literals
+  number-fault zero h rest = refl
+  number-fault (suc zero) h rest = refl
+  number-fault (suc (suc zero)) h rest = refl
+  number-fault (suc (suc (suc zero))) h rest = refl
+  number-fault (suc (suc (suc (suc zero)))) h rest = refl
+  number-fault (suc (suc (suc (suc (suc zero))))) h rest = refl
+  number-fault (suc (suc (suc (suc (suc (suc zero)))))) h rest = refl
+  number-fault (suc (suc (suc (suc (suc (suc (suc zero))))))) h rest = refl
+  number-fault (suc (suc (suc (suc (suc (suc (suc (suc zero)))))))) h rest = refl
+  number-fault (suc (suc (suc (suc (suc (suc (suc (suc (suc d))))))))) h rest = absurd (omega arith)
+
+  number-name : (d : ℕ) → d ≤ 8 → (rest : List ℕ) → name_of (subcommand_of commands (name ∷ codes "sample" ∷ ((49 + d) ∷ rest) ∷ [])) ≡ Some (codes "sample")
+  unfolding clap_on_literals
+  number-name zero h rest = refl
+  number-name (suc zero) h rest = refl
+  number-name (suc (suc zero)) h rest = refl
+  number-name (suc (suc (suc zero))) h rest = refl
+  number-name (suc (suc (suc (suc zero)))) h rest = refl
+  number-name (suc (suc (suc (suc (suc zero))))) h rest = refl
+  number-name (suc (suc (suc (suc (suc (suc zero)))))) h rest = refl
+  number-name (suc (suc (suc (suc (suc (suc (suc zero))))))) h rest = refl
+  number-name (suc (suc (suc (suc (suc (suc (suc (suc zero)))))))) h rest = refl
+  number-name (suc (suc (suc (suc (suc (suc (suc (suc (suc d))))))))) h rest = absurd (omega arith)
+
+  -- ---- a word by its literal
+
+  by_literal : (P : List ℕ → Type 0) (literal word : List ℕ) (b : Bool) → bytes_eq word literal ≡ b → P literal → (bytes_eq word literal ≡ false → P word) → P word
+  by_literal P literal word true same at_it at_others = subst P (sym ((bytes_eq-Decides word literal).0 same)) at_it
+  by_literal P literal word false same at_it at_others = at_others same
+
+  kinds-apart : {ks : Kinds} {k : _} → ks ≡ k ∷ [] → ks ≡ [] → ⊥
+  kinds-apart told none = cc
+
+  some-apart : {work : Work} {o : Option Work} → o ≡ None → o ≡ Some work → ⊥
+  some-apart none some = cc
+
+  -- a name that is not listed
+  matched-none : (word : List ℕ) (found : Option Text) → work_named word ≡ None → matched_work found (name ∷ word ∷ []) ≡ None
+  matched-none word None none = refl
+  matched-none word (Some n) none = by_eq (bytes_eq word n) refl
+    where
+      by_eq : (b : Bool) → bytes_eq word n ≡ b → (if b then work_named n else None) ≡ None
+      by_eq true same = subst (λ t. work_named t ≡ None) ((bytes_eq-Decides word n).0 same) none
+      by_eq false same = refl
+
+  others-fit : (word : List ℕ) → work_named word ≡ None → Fits (name ∷ word ∷ [])
+  others-fit word none = record {
+    matched = λ _. matched-none word (name_of (subcommand_of commands (name ∷ word ∷ []))) none ∙ sym none;
+    answered = λ work some. absurd (some-apart none some);
+    told = λ _ _. refl;
+  }
+
+  help-fits : Fits (name ∷ codes "--help" ∷ [])
+  help-fits = record { matched = λ taken. absurd (kinds-apart help-fault taken); answered = λ _ _. inr (inl help-fault); told = λ _ _. refl }
+
+  version-fits : Fits (name ∷ codes "--version" ∷ [])
+  version-fits = record { matched = λ taken. absurd (kinds-apart version-fault taken); answered = λ _ _. inr (inr version-fault); told = λ _ _. refl }
+
+  abbrev FitsWord : List ℕ → Type 0
+  FitsWord word = Fits (name ∷ word ∷ [])
+
+  word-fits : (word : List ℕ) → FitsWord word
+  word-fits word =
+      by_literal FitsWord (codes "analyse") word _ refl analyse-fits (λ e1.
+      by_literal FitsWord (codes "certify") word _ refl certify-fits (λ e2.
+      by_literal FitsWord (codes "check") word _ refl check-fits (λ e3.
+      by_literal FitsWord (codes "renew") word _ refl renew-fits (λ e4.
+      by_literal FitsWord (codes "replay") word _ refl replay-fits (λ e5.
+      by_literal FitsWord (codes "--help") word _ refl help-fits (λ e6.
+      by_literal FitsWord (codes "--version") word _ refl version-fits (λ e7.
+      others-fit word (rw (e1, e2, e3, e4, e5, e6, e7) refl))))))))
+
+  -- ---- a command and a number
+
+  -- a text begins with a digit from 1 to 9
+  record IsBegun (text : List ℕ) : Type 0 where
+    digit : ℕ
+    few : digit ≤ 8
+    rest : List ℕ
+    is : text ≡ (49 + digit) ∷ rest
+
+  begun : (first : ℕ) (rest : List ℕ) (work : Work) (b c : Bool) → nat_le 49 first ≡ b → nat_le first 57 ≡ c
+      → sample_of (first ∷ rest) ≡ Some work → IsBegun (first ∷ rest)
+  begun first rest work true true least most some =
+      let low = leb-true 49 first least in
+      let high = leb-true first 57 most in
+      let same : first ≡ 49 + (first - 49) = omega (arith) in
+      record { digit = first - 49; few = omega (arith); rest = rest; is = ap (λ n. n ∷ rest) same }
+  begun first rest work false c least most some = absurd (some-apart (rw least refl) some)
+  begun first rest work true false least most some = absurd (some-apart (rw (least, most) refl) some)
+
+  number-begun : (text : List ℕ) (work : Work) → sample_of text ≡ Some work → IsBegun text
+  number-begun [] work some = absurd (some-apart refl some)
+  number-begun (first ∷ rest) work some = begun first rest work _ _ refl refl some
+
+  abbrev sampled : List ℕ → List (List ℕ)
+  sampled text = name ∷ codes "sample" ∷ text ∷ []
+
+  begun-fault : (text : List ℕ) → IsBegun text → fault_of commands (sampled text) ≡ []
+  begun-fault text h = subst (λ t. fault_of commands (sampled t) ≡ []) (sym h.is) (number-fault h.digit h.few h.rest)
+
+  begun-name : (text : List ℕ) → IsBegun text → name_of (subcommand_of commands (sampled text)) ≡ Some (codes "sample")
+  begun-name text h = subst (λ t. name_of (subcommand_of commands (sampled t)) ≡ Some (codes "sample")) (sym h.is) (number-name h.digit h.few h.rest)
+
+  -- no number asks for nothing, whatever is found
+  matched-unasked : (text : List ℕ) (found : Option Text) → sample_of text ≡ None → matched_work found (sampled text) ≡ None
+  matched-unasked text None none = refl
+  matched-unasked text (Some n) none = by_eq (bytes_eq (codes "sample") n && bytes_eq n (codes "sample"))
+    where
+      by_eq : (b : Bool) → (if b then sample_of text else None) ≡ None
+      by_eq true = none
+      by_eq false = refl
+
+  sampled-fits : (text : List ℕ) (asked : Option Work) → sample_of text ≡ asked → Fits (sampled text)
+  sampled-fits text None none = record {
+    matched = λ _. matched-unasked text (name_of (subcommand_of commands (sampled text))) none ∙ sym none;
+    answered = λ work some. absurd (some-apart none some);
+    told = λ _ _. sym none;
+  }
+  sampled-fits text (Some work) some =
+      let begins = number-begun text work some in
+      record {
+        matched = λ _. ap (λ n. matched_work n (sampled text)) (begun-name text begins);
+        answered = λ _ _. inl (begun-fault text begins);
+        told = λ k told. absurd (kinds-apart told (begun-fault text begins));
+      }
+
+  matched-other : (word text : List ℕ) (found : Option Text) → bytes_eq word (codes "sample") ≡ false
+      → matched_work found (name ∷ word ∷ text ∷ []) ≡ None
+  matched-other word text None other = refl
+  matched-other word text (Some n) other = by_eq (bytes_eq word n) refl
+    where
+      by_eq : (b : Bool) → bytes_eq word n ≡ b → (if b && bytes_eq n (codes "sample") then sample_of text else None) ≡ None
+      by_eq true same =
+          let not_it : bytes_eq n (codes "sample") ≡ false = subst (λ t. bytes_eq t (codes "sample") ≡ false) ((bytes_eq-Decides word n).0 same) other in
+          rw not_it refl
+      by_eq false same = refl
+
+  text-fits : (word text : List ℕ) → Fits (name ∷ word ∷ text ∷ [])
+  text-fits word text = by_literal (λ w. Fits (name ∷ w ∷ text ∷ [])) (codes "sample") word _ refl (sampled-fits text _ refl) (λ other. record {
+    matched = λ _. matched-other word text (name_of (subcommand_of commands (name ∷ word ∷ text ∷ []))) other ∙ rw other refl;
+    answered = λ work some. absurd (some-apart (rw other refl) some);
+    told = λ _ _. rw other refl;
+  })
+
+  -- ---- a command, two dashes and a number
+
+  dashed-fits : (text : List ℕ) → Fits (name ∷ codes "sample" ∷ codes "--" ∷ text ∷ [])
+  dashed-fits text = record {
+    matched = λ _. ap (λ n. matched_work n (name ∷ codes "sample" ∷ codes "--" ∷ text ∷ [])) (dashes-name text);
+    answered = λ _ _. inl (dashes-fault text);
+    told = λ k told. absurd (kinds-apart told (dashes-fault text));
+  }
+
+  matched-undashed : (word dashes text : List ℕ) (found : Option Text) → (bytes_eq word (codes "sample") && bytes_eq dashes (codes "--")) ≡ false
+      → matched_work found (name ∷ word ∷ dashes ∷ text ∷ []) ≡ None
+  matched-undashed word dashes text None other = refl
+  matched-undashed word dashes text (Some n) other = by_eq (bytes_eq word n) refl
+    where
+      by_eq : (b : Bool) → bytes_eq word n ≡ b
+          → (if b && bytes_eq n (codes "sample") && bytes_eq dashes (codes "--") then sample_of text else None) ≡ None
+      by_eq true same =
+          let not_it : (bytes_eq n (codes "sample") && bytes_eq dashes (codes "--")) ≡ false =
+          subst (λ t. (bytes_eq t (codes "sample") && bytes_eq dashes (codes "--")) ≡ false) ((bytes_eq-Decides word n).0 same) other in
+          rw not_it refl
+      by_eq false same = refl
+
+  others_dashed : (word dashes text : List ℕ) → (bytes_eq word (codes "sample") && bytes_eq dashes (codes "--")) ≡ false
+      → Fits (name ∷ word ∷ dashes ∷ text ∷ [])
+  others_dashed word dashes text other = record {
+    matched = λ _. matched-undashed word dashes text (name_of (subcommand_of commands (name ∷ word ∷ dashes ∷ text ∷ []))) other ∙ rw other refl;
+    answered = λ work some. absurd (some-apart (rw other refl) some);
+    told = λ _ _. rw other refl;
+  }
+
+  behind-fits : (word dashes text : List ℕ) → Fits (name ∷ word ∷ dashes ∷ text ∷ [])
+  behind-fits word dashes text =
+      by_literal (λ w. Fits (name ∷ w ∷ dashes ∷ text ∷ [])) (codes "sample") word _ refl
+      (by_literal (λ d. Fits (name ∷ codes "sample" ∷ d ∷ text ∷ [])) (codes "--") dashes _ refl (dashed-fits text)
+      (λ other. others_dashed (codes "sample") dashes text other))
+      (λ other. others_dashed word dashes text (rw other refl))
+
+-- ---- all words
+
+-- lists of other lengths ask for nothing
+abbrev IsUnlisted : List (List ℕ) → Type 0
+IsUnlisted words = (work_of words ≡ None) × (told_work words ≡ None) × ((found : Option Text) → matched_work found words ≡ None)
+
+unlisted-fit : (words : List (List ℕ)) → IsUnlisted words → Fits words
+unlisted-fit words h = record {
+  matched = λ _. h.2 (name_of (subcommand_of commands words)) ∙ sym h.0;
+  answered = λ work some. absurd (some-apart [] h.0 some);
+  told = λ _ _. h.1 ∙ sym h.0;
+}
+
+none-empty : (found : Option Text) → matched_work found [] ≡ None
+none-empty None = refl
+none-empty (Some n) = refl
+
+none-alone : (name : List ℕ) (found : Option Text) → matched_work found (name ∷ []) ≡ None
+none-alone name None = refl
+none-alone name (Some n) = refl
+
+none-longer : (a b c d e : List ℕ) (rest : List (List ℕ)) (found : Option Text) → matched_work found (a ∷ b ∷ c ∷ d ∷ e ∷ rest) ≡ None
+none-longer a b c d e rest None = refl
+none-longer a b c d e rest (Some n) = refl
+
+pub words-fit : (words : List (List ℕ)) → Fits words
+words-fit [] = unlisted-fit [] (refl, refl, none-empty)
+words-fit (name ∷ []) = unlisted-fit (name ∷ []) (refl, refl, none-alone name)
+words-fit (name ∷ word ∷ []) = word-fits name word
+words-fit (name ∷ word ∷ text ∷ []) = text-fits name word text
+words-fit (name ∷ word ∷ dashes ∷ text ∷ []) = behind-fits name word dashes text
+words-fit (name ∷ word ∷ dashes ∷ text ∷ more ∷ rest) =
+    unlisted-fit (name ∷ word ∷ dashes ∷ text ∷ more ∷ rest) (refl, refl, none-longer name word dashes text more rest)
+
+-- ---- what a call of clap says of the words
+
+-- the name that was met is that of the subcommand
+name-of-rows : {Z : Type 0} (o : Option (Box SubCommand Z))
+    → option_map (λ b. (out-SubCommand (box_value b)).name.now) o ≡ name_of (subcommand_rows o)
+name-of-rows None = refl
+name-of-rows (Some b) = refl
+
+pub name-met : (m : ArgMatches) → subcommand_name_of m ≡ name_of (subcommand_rows_of m)
+name-met m = name-of-rows (out-ArgMatches m).subcommand
+
+-- words that clap refuses for another reason than memory, help or the version ask for nothing
+pub refused-unlisted : (words : List (List ℕ)) (e : Error) → HasKind (fault_of commands words) e → kind_of e ≢ kind.OutOfMemory
+    → kind_of e ≢ kind.DisplayHelp → kind_of e ≢ kind.DisplayVersion → None ≡ work_of words
+refused-unlisted words e kinds not_memory not_help not_version = by_work (work_of words) refl
+  where
+    at_one : (k : ErrorKind) → kind_of e ≢ k → IsAmong (kind_of e) (k ∷ []) → ⊥
+    at_one k apart (inl same) = apart same
+    at_one k apart (inr none) = none
+
+    by_kinds : IsAnswered (fault_of commands words) → HasKind (fault_of commands words) e → ⊥
+    by_kinds answered (inl memory) = not_memory memory
+    by_kinds (inl none) (inr among) = subst (λ ks. IsAmong (kind_of e) ks) none among
+    by_kinds (inr (inl help)) (inr among) = at_one kind.DisplayHelp not_help (subst (λ ks. IsAmong (kind_of e) ks) help among)
+    by_kinds (inr (inr version)) (inr among) = at_one kind.DisplayVersion not_version (subst (λ ks. IsAmong (kind_of e) ks) version among)
+
+    by_work : (asked : Option Work) → work_of words ≡ asked → None ≡ work_of words
+    by_work None none = sym none
+    by_work (Some work) some = absurd (by_kinds ((words-fit words).answered work some) kinds)
+
+-- what asks for nothing is told as nothing
+told-none : (words : List (List ℕ)) → work_of words ≡ None → told_work words ≡ work_of words
+told-none [] none = refl
+told-none (name ∷ []) none = refl
+told-none (name ∷ word ∷ []) none = refl
+told-none (name ∷ word ∷ text ∷ []) none = sym none
+told-none (name ∷ word ∷ dashes ∷ text ∷ []) none = sym none
+told-none (name ∷ word ∷ dashes ∷ text ∷ more ∷ rest) none = refl
+
+-- words that clap refuses for a request are told as one
+pub request-told : (words : List (List ℕ)) (e : Error) → HasKind (fault_of commands words) e
+    → (kind_of e ≡ kind.DisplayHelp) ⊎ (kind_of e ≡ kind.DisplayVersion) → told_work words ≡ work_of words
+request-told words e kinds request = by_work (work_of words) refl
+  where
+    not_memory : (kind_of e ≡ kind.DisplayHelp) ⊎ (kind_of e ≡ kind.DisplayVersion) → kind_of e ≡ kind.OutOfMemory → ⊥
+    not_memory (inl help) memory = cc
+    not_memory (inr version) memory = cc
+
+    by_answer : IsAnswered (fault_of commands words) → HasKind (fault_of commands words) e → told_work words ≡ work_of words
+    by_answer answered (inl memory) = absurd (not_memory request memory)
+    by_answer (inl none) (inr among) = absurd (subst (λ ks. IsAmong (kind_of e) ks) none among)
+    by_answer (inr (inl help)) _ = (words-fit words).told kind.DisplayHelp help
+    by_answer (inr (inr version)) _ = (words-fit words).told kind.DisplayVersion version
+
+    by_work : (asked : Option Work) → work_of words ≡ asked → told_work words ≡ work_of words
+    by_work None none = told-none words none
+    by_work (Some work) some = by_answer ((words-fit words).answered work some) kinds

@@ -1,5 +1,0 @@
-use Rattle.cra.proofs.Shapes.{accepted-well_formed}
-use Rattle.cra.proofs.laws.accepted_is_well_formed.Goals as goal
-
-pub returns : goal.returns
-returns c = accepted-well_formed

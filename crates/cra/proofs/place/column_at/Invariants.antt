@@ -1,9 +1,0 @@
-use Rattle.std.proofs.Common.{◌≡◌, ◌+◌, ◌≤◌, drop}
-use Rattle.cra.specs.Place.{column_behind}
-use Rattle.cra.proofs.place.column_at.Given as goal
-
-abbrev pub invariant-loop-byte : goal.invariant-loop-byte
-invariant-loop-byte l = record {
-  few : l.column ≤ l.byte-index + 1;
-  behind : column_behind l.column (drop l.byte-index l.byte-items) ≡ column_behind 1 l.byte-items;
-}

@@ -1,0 +1,13 @@
+-- Main theorems: a text is accepted once and as a well-formed program, and its assertions ascend.
+pub mod Complete
+pub mod Shapes
+pub mod Ascending
+pub mod SameTrees
+-- No execution knows the rule.
+pub mod Rules
+-- What a fault of each stage says of a text.
+pub mod Refusals
+-- Places of a text, one after another.
+pub mod Places
+-- What the stated analysis of a text came to.
+pub mod Statements

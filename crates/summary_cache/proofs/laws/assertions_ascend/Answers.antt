@@ -1,0 +1,5 @@
+use Rattle.summary_cache.proofs.Ascending as ascending
+use Rattle.summary_cache.proofs.laws.assertions_ascend.Goals as goal
+
+pub returns : goal.returns
+returns c = ascending.assertions_ascend

@@ -1,0 +1,11 @@
+-- What must be believed: the words of the clauses of a session.
+pub mod Limits
+pub mod Place
+pub mod Accepted
+pub mod Rules
+pub mod Laws
+pub mod Stated
+pub mod Counted
+pub mod Kept
+pub mod Answered
+pub mod Submitted

@@ -1,0 +1,23 @@
+//! A session over texts: each text that is accepted is analysed, and its report and answers are kept until the next one is.
+#![tactic(auto)]
+
+mod error;
+mod laws;
+mod limits;
+mod place;
+mod reading;
+mod refusal;
+mod session;
+mod working;
+
+pub use error::SubmitError;
+pub use laws::{
+    accepted_has_rule_two, accepted_is_not_refused, accepted_is_well_formed, accepted_once,
+    assertions_ascend, claims_know_no_rule, rules_are_free,
+};
+pub use limits::MOST_BYTES;
+pub use place::{column_at, line_at, places_of};
+pub use reading::read;
+pub use refusal::{Refusal, TextError};
+pub use session::Session;
+pub use working::{Analysed, Counts};

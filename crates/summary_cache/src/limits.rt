@@ -1,0 +1,2 @@
+/// The most bytes of a text.
+pub const MOST_BYTES: usize = 1_048_576;
