@@ -1,12 +1,12 @@
 //! Programs and their faults, printed.
 use crate::words::{op_text, show_name, sign_text};
 use items::Items;
+use std::alloc::AllocError;
 use std::fmt::Write;
-use std::test::Fail;
 use syntax_tree::{Column, Core, Proc, Program, Stmt};
 use typing::{Limited, TypeError};
 
-fn show_core(out: &mut String, e: &Core) -> Result<(), Fail> {
+fn show_core(out: &mut String, e: &Core) -> Result<(), AllocError> {
     match e {
         Core::Lit(value) => write!(out, "{value}")?,
         Core::Col(col) => write!(out, "c{col}")?,
@@ -31,7 +31,7 @@ fn show_call(
     proc: u32,
     args: &Items<Core>,
     into: Option<u32>,
-) -> Result<(), Fail> {
+) -> Result<(), AllocError> {
     write!(out, "call {proc}(")?;
     for arg in args.as_slice() {
         show_core(out, arg)?;
@@ -46,7 +46,7 @@ fn show_call(
 }
 
 #[cycle(show)]
-fn show_stmt(out: &mut String, stmt: &Stmt) -> Result<(), Fail> {
+fn show_stmt(out: &mut String, stmt: &Stmt) -> Result<(), AllocError> {
     match stmt {
         Stmt::Set { col, value } => {
             write!(out, "set {col} ")?;
@@ -93,7 +93,7 @@ fn show_stmt(out: &mut String, stmt: &Stmt) -> Result<(), Fail> {
 }
 
 #[cycle(show)]
-fn show_stmts(out: &mut String, stmts: &Items<Stmt>) -> Result<(), Fail> {
+fn show_stmts(out: &mut String, stmts: &Items<Stmt>) -> Result<(), AllocError> {
     write!(out, " {{ ")?;
     for stmt in stmts.as_slice() {
         show_stmt(out, stmt)?;
@@ -103,7 +103,7 @@ fn show_stmts(out: &mut String, stmts: &Items<Stmt>) -> Result<(), Fail> {
     Ok(())
 }
 
-fn show_column(out: &mut String, column: &Column) -> Result<(), Fail> {
+fn show_column(out: &mut String, column: &Column) -> Result<(), AllocError> {
     match &column.name {
         Some(name) => show_name(out, name)?,
         None => write!(out, "_")?,
@@ -112,7 +112,7 @@ fn show_column(out: &mut String, column: &Column) -> Result<(), Fail> {
     Ok(())
 }
 
-fn show_proc(out: &mut String, proc: &Proc) -> Result<(), Fail> {
+fn show_proc(out: &mut String, proc: &Proc) -> Result<(), AllocError> {
     show_name(out, &proc.name)?;
     let kind = if proc.returns { "int" } else { "void" };
     write!(out, " {kind} {} [ ", proc.params)?;
@@ -125,7 +125,7 @@ fn show_proc(out: &mut String, proc: &Proc) -> Result<(), Fail> {
     Ok(())
 }
 
-pub(crate) fn show_program(out: &mut String, program: &Program) -> Result<(), Fail> {
+pub(crate) fn show_program(out: &mut String, program: &Program) -> Result<(), AllocError> {
     for global in program.globals.as_slice() {
         show_name(out, &global.name)?;
         write!(out, "={} ", global.init)?;
@@ -152,7 +152,7 @@ fn limit_text(limit: Limited) -> &'static str {
     }
 }
 
-pub(crate) fn show_fault(out: &mut String, fault: TypeError) -> Result<(), Fail> {
+pub(crate) fn show_fault(out: &mut String, fault: TypeError) -> Result<(), AllocError> {
     match fault {
         TypeError::Unknown(at) => write!(out, "unknown {at}")?,
         TypeError::Twice(at) => write!(out, "twice {at}")?,

@@ -1,12 +1,12 @@
 //! Trees, printed: an expression as an operator and its operands, each with the place of its token.
 use crate::words::{op_text, show_name, sign_text};
 use items::Items;
+use std::alloc::AllocError;
 use std::fmt::Write;
-use std::test::Fail;
 use syntax_tree::{Expr, Item, Line};
 
 #[cycle(show_expr)]
-fn show_expr(out: &mut String, e: &Expr) -> Result<(), Fail> {
+fn show_expr(out: &mut String, e: &Expr) -> Result<(), AllocError> {
     match e {
         Expr::Lit(at, value) => write!(out, " {value}@{at}")?,
         Expr::Var(at, name) => {
@@ -37,14 +37,14 @@ fn show_expr(out: &mut String, e: &Expr) -> Result<(), Fail> {
 }
 
 #[cycle(show_expr)]
-fn show_exprs(out: &mut String, exprs: &Items<Expr>) -> Result<(), Fail> {
+fn show_exprs(out: &mut String, exprs: &Items<Expr>) -> Result<(), AllocError> {
     for e in exprs.as_slice() {
         show_expr(out, e)?;
     }
     Ok(())
 }
 
-fn show_value(out: &mut String, value: &Option<Expr>) -> Result<(), Fail> {
+fn show_value(out: &mut String, value: &Option<Expr>) -> Result<(), AllocError> {
     match value {
         Some(e) => show_expr(out, e),
         None => Ok(()),
@@ -52,7 +52,7 @@ fn show_value(out: &mut String, value: &Option<Expr>) -> Result<(), Fail> {
 }
 
 #[cycle(show_line)]
-fn show_line(out: &mut String, line: &Line) -> Result<(), Fail> {
+fn show_line(out: &mut String, line: &Line) -> Result<(), AllocError> {
     match line {
         Line::Block(lines) => show_lines(out, lines)?,
         Line::Local { name, at, init } => {
@@ -104,7 +104,7 @@ fn show_line(out: &mut String, line: &Line) -> Result<(), Fail> {
 }
 
 #[cycle(show_line)]
-fn show_lines(out: &mut String, lines: &Items<Line>) -> Result<(), Fail> {
+fn show_lines(out: &mut String, lines: &Items<Line>) -> Result<(), AllocError> {
     write!(out, " {{")?;
     for line in lines.as_slice() {
         show_line(out, line)?;
@@ -113,7 +113,7 @@ fn show_lines(out: &mut String, lines: &Items<Line>) -> Result<(), Fail> {
     Ok(())
 }
 
-pub(crate) fn show_item(out: &mut String, item: &Item) -> Result<(), Fail> {
+pub(crate) fn show_item(out: &mut String, item: &Item) -> Result<(), AllocError> {
     match item {
         Item::Global { name, at, init } => {
             write!(out, " global ")?;

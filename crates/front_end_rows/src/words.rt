@@ -1,9 +1,9 @@
 //! Names and operators, printed.
+use std::alloc::AllocError;
 use std::fmt::Write;
-use std::test::Fail;
 use syntax_tree::{Name, Op, Sign};
 
-pub(crate) fn show_name(out: &mut String, name: &Name) -> Result<(), Fail> {
+pub(crate) fn show_name(out: &mut String, name: &Name) -> Result<(), AllocError> {
     for letter in name.as_slice() {
         write!(out, "{}", char::from(*letter))?;
     }
