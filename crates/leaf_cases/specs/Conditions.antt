@@ -6,7 +6,7 @@ use Rattle.syntax_tree.specs.Code.{Statement}
 use Rattle.syntax_tree.specs.WellFormed.{width_of}
 use Rattle.flow_graph.specs.FlowGraph.{Arc, graph_of}
 use Rattle.transition_formula.specs.Meaning.{Holds}
-use Rattle.transition_formula.specs.Transition.{Transition, IsTransition}
+use Rattle.transition_formula.specs.Transition.{Transition, IsTransition, most_cases, most_auxiliaries}
 
 -- an edge of the procedure's graph does this
 pub record IsActOf (program : Program) (proc : ℕ) (statement : Statement) : Type 0 where
@@ -19,13 +19,14 @@ pub record IsActOf (program : Program) (proc : ℕ) (statement : Statement) : Ty
 abbrev pub exits_of : Program → Proc → ℕ
 exits_of program p = if p.returns then length program.globals + 1 else length program.globals
 
--- from the globals and the parameters to the globals and the returned value, with few cases of few auxiliaries
+-- From the globals and the parameters to the globals and the returned value, with no more cases and auxiliaries than a fitted
+-- formula has. Its rows may be more: a formula that is tried in rounds has one for each direction of its pairs.
 pub record IsKnown (program : Program) (p : Proc) (f : Transition) : Type 0 where
   pub enters : f.from ≡ length program.globals + p.params
   pub leaves : f.to ≡ exits_of program p
   pub fits : IsTransition f.from f.to f.cases
-  pub cases : length f.cases ≤ 16
-  pub auxiliaries : All (λ case. case.aux ≤ 64) f.cases
+  pub cases : length f.cases ≤ most_cases
+  pub auxiliaries : All (λ case. case.aux ≤ most_auxiliaries) f.cases
 
 -- one for each procedure, some of them unknown
 pub record AreKnown (program : Program) (known : List (Option Transition)) : Type 0 where

@@ -34,9 +34,20 @@ fits from to case = length case.post == to && every_column_of (is_below from cas
 abbrev pub IsTransition : ℕ → ℕ → List Case → Type 0
 IsTransition from to cases = IsTrue (list_all (fits from to) cases)
 
--- at most 16 cases, each of at most 64 rows and 64 auxiliaries: the analysis goes on with so many as they are
+-- how many cases a formula, and how many rows and auxiliaries a case may have where the analysis goes on with them as they are
+abbrev pub most_cases : ℕ
+most_cases = 16
+
+abbrev pub most_rows : ℕ
+most_rows = 64
+
+abbrev pub most_auxiliaries : ℕ
+most_auxiliaries = 64
+
+-- no more than these
 abbrev pub is_fitted : List Case → Bool
-is_fitted cases = nat_le (length cases) 16 && list_all (λ case. nat_le (length case.rows) 64 && nat_le case.aux 64) cases
+is_fitted cases =
+    nat_le (length cases) most_cases && list_all (λ case. nat_le (length case.rows) most_rows && nat_le case.aux most_auxiliaries) cases
 
 abbrev pub IsFitted : List Case → Type 0
 IsFitted cases = IsTrue (is_fitted cases)

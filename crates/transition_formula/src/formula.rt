@@ -1,12 +1,19 @@
 ghost use Rattle.std.specs.Prelude.{◌≡◌, ◌↔◌, ◌&&◌, nat_le, length, IsTrue};
 ghost use Rattle.std.specs.List.{list_all};
 ghost use Rattle.std.specs.Option.{SomeIff};
-ghost use Rattle.transition_formula.specs.Transition.{Transition, fits, every_column, every_column_of, is_below, is_fitted, IsTransition};
+ghost use Rattle.transition_formula.specs.Transition.{Transition, fits, every_column, every_column_of, is_below, is_fitted, most_rows, most_auxiliaries, IsTransition};
 
 use items::Items;
 use linear_terms::{Case, Poly, Row};
 use std::alloc::AllocError;
 use std::marker::Model;
+
+/// How many cases a formula, and how many rows and auxiliaries a case may have for the analysis to go on with them.
+const MOST_CASES: usize = 16;
+
+const MOST_ROWS: usize = 64;
+
+const MOST_AUXILIARIES: u32 = 64;
 
 /// From the numbers of so many columns to those of so many, by one case or another. Each case has a post
 /// for each column afterwards.
@@ -61,7 +68,7 @@ impl Formula {
     pub fn is_fitted(&self) -> bool
         ensures { result ≡ is_fitted self.now.cases }
     {
-        self.cases.len() <= 16 && have_few_parts(self.cases.as_slice())
+        self.cases.len() <= MOST_CASES && have_few_parts(self.cases.as_slice())
     }
 
     /// The number of columns at entry.
@@ -106,11 +113,9 @@ fn are_same(cases: &[Case], others: &[Case]) -> bool
 }
 
 fn have_few_parts(cases: &[Case]) -> bool
-    ensures { result ≡ list_all (λ case. nat_le (length case.rows) 64 && nat_le case.aux 64) cases.now }
+    ensures { result ≡ list_all (λ case. nat_le (length case.rows) most_rows && nat_le case.aux most_auxiliaries) cases.now }
 {
-    cases
-        .iter()
-        .all(|case| case.rows.len() <= 64 && case.aux <= 64)
+    cases.iter().all(|case| case.rows.len() <= MOST_ROWS && case.aux <= MOST_AUXILIARIES)
 }
 
 fn all_fit(cases: &[Case], from: u32, to: u32) -> bool
