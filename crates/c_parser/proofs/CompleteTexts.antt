@@ -235,7 +235,7 @@ pub record BeginsDeclaration (spots later : List Spot) : Type 0 where
   pub no_end : at_end (spots ++ later) ≡ false
   pub some : 1 ≤ length spots
 
-declaration-begins : (d : Declaration) (later : List Spot) → BeginsDeclaration (grammar.declaration_spots d) later
+pub declaration-begins : (d : Declaration) (later : List Spot) → BeginsDeclaration (grammar.declaration_spots d) later
 declaration-begins (Globals type gs semi) later = record { no_end = refl; some = omega arith }
 declaration-begins (Prototype None (Number type) at name opened params closed semi) later = record { no_end = refl; some = omega arith }
 declaration-begins (Prototype None (Nothing type) at name opened params closed semi) later = record { no_end = refl; some = omega arith }

@@ -5,7 +5,8 @@ use Rattle.std.specs.Prelude.{Err, if◌then◌else◌}
 use Rattle.items.specs.Gives.{◌>>=◌}
 use Rattle.c_lexer.specs.declared.token.Token.{Token}
 use Rattle.c_parser.specs.declared.error.ParseError.TheVariants as error
-use Rattle.c_parser.specs.Descent.{Rest, Reader, is_outside, joined, links, operand, operand_by, operand_in, place_at, refused, rest_of}
+use Rattle.c_parser.specs.Descent.{Rest, Reader, joined, links, operand, operand_by, operand_in, place_at, refused, rest_of}
+use Rattle.c_parser.specs.Profile.{is_outside}
 use Rattle.c_parser.specs.Spots.{Spot, spots_of}
 
 pub operand_at : (levels : ℕ) (rest : Rest) → operand levels rest ≡ operand_in operand levels rest.spots rest.operators

@@ -8,9 +8,10 @@ use Rattle.syntax_tree.specs.declared.op.Op.TheVariants.{Add, Sub, Mul, Div, Rem
 use Rattle.syntax_tree.specs.declared.op.Sign.{Sign}
 use Rattle.syntax_tree.specs.declared.op.Sign.TheVariants.{Plus, Minus, Not}
 use Rattle.c_parser.specs.declared.error.ParseError.TheVariants as error
-use Rattle.c_parser.specs.Descent.{begins_with, is_outside, of_rank, op_at, op_of, place_at, refused, sign_of}
+use Rattle.c_parser.specs.Descent.{begins_with, of_rank, op_at, op_of, place_at, refused, sign_of}
 use Rattle.c_parser.specs.Expressions.{Operand, Number, Named, Called, Bracketed, Signed, Expression, Single, Joined, Applied, operand_spots, expression_spots, operand_place, place}
 use Rattle.c_parser.specs.Operators.{op_mark, rank, sign_mark}
+use Rattle.c_parser.specs.Profile.{is_outside}
 use Rattle.c_parser.specs.Spots.{Spot, mark}
 use Rattle.c_parser.proofs.Repeats.{left_out}
 

@@ -1,5 +1,6 @@
--- Main theorems: which tree tokens read as, that the lexer's tokens end once, and how many operators a tree has.
+-- Main theorems: which tree tokens read as, which refusal they have, that the lexer's tokens end once, and how many operators a tree has.
 pub mod Readings
+pub mod Refusals
 pub mod Lexed
 pub mod FewOperators
 -- Texts: what is read is derived, and what is derived is read.
@@ -20,6 +21,12 @@ pub mod Found
 pub mod FirstTokens
 pub mod Loops
 pub mod Equations
+-- Runs that end in a refusal.
+pub mod RunsOfTexts
+pub mod RunsOfLines
+pub mod RunsOfParts
+pub mod RunsOfExpressions
+pub mod Runs
 -- Steps that repeat.
 pub mod Repeats
 mod Examples

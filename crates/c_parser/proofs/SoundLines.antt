@@ -274,15 +274,15 @@ simple_line_found most lv spots read e =
 
 -- ---- locals
 
-record VariableFound (most lv : ℕ) (spots : List Spot) (read : SourceLine × List Spot) : Type 0 where
-  variable : Variable
-  spells : spots ≡ grammar.variable_spots variable ++ read.1
-  made : grammar.variable_binds variable ≡ true
-  deep : grammar.variable_levels variable ≤ lv
-  few : grammar.variable_operators variable ≤ most
-  stands_for : read.0 ≡ grammar.variable_line variable
+pub record VariableFound (most lv : ℕ) (spots : List Spot) (read : SourceLine × List Spot) : Type 0 where
+  pub variable : Variable
+  pub spells : spots ≡ grammar.variable_spots variable ++ read.1
+  pub made : grammar.variable_binds variable ≡ true
+  pub deep : grammar.variable_levels variable ≤ lv
+  pub few : grammar.variable_operators variable ≤ most
+  pub stands_for : read.0 ≡ grammar.variable_line variable
 
-variable_found : (most lv : ℕ) (spots : List Spot) (read : SourceLine × List Spot) → variable most lv spots ≡ Ok read → VariableFound most lv spots read
+pub variable_found : (most lv : ℕ) (spots : List Spot) (read : SourceLine × List Spot) → variable most lv spots ≡ Ok read → VariableFound most lv spots read
 variable_found most lv spots read e =
     let s = steps (word_at spots) _ read e in
     let w = s.0 in

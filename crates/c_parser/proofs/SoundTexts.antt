@@ -38,10 +38,10 @@ number_at-number : (spots : List Spot) (read : ℤ × List Spot) → number_at s
 number_at-number [] read e = cc
 number_at-number (spot ∷ rest) read e = number_by-number spot.kind spot.at rest (refused (spot ∷ rest)) read e
 
-record SharedFound (at : ℕ) (name : List ℕ) (rest : List Spot) (read : SourceItem × List Spot) : Type 0 where
-  shared : Shared
-  spells : word at name ∷ rest ≡ grammar.shared_spots shared ++ read.1
-  stands_for : read.0 ≡ grammar.shared_item shared
+pub record SharedFound (at : ℕ) (name : List ℕ) (rest : List Spot) (read : SourceItem × List Spot) : Type 0 where
+  pub shared : Shared
+  pub spells : word at name ∷ rest ≡ grammar.shared_spots shared ++ read.1
+  pub stands_for : read.0 ≡ grammar.shared_item shared
 
 negative_found : (at : ℕ) (name : List ℕ) (rest : List Spot) (assign minus digits : ℕ) (z : ℤ) (after : List Spot) (refusal : ParseError) (read : ℤ × List Spot)
     → opposite z after refusal ≡ Ok read → rest ≡ mark assign marks.Assign ∷ mark minus marks.Minus ∷ number digits z ∷ after
@@ -55,7 +55,7 @@ negative_found at name rest assign minus digits (pos n) after refusal read e cut
     }
 negative_found at name rest assign minus digits (negsuc n) after refusal read e cut = absurd (cc)
 
-shared_found : (w : Word) (read : SourceItem × List Spot) → shared w ≡ Ok read → SharedFound w.at w.name w.rest read
+pub shared_found : (w : Word) (read : SourceItem × List Spot) → shared w ≡ Ok read → SharedFound w.at w.name w.rest read
 shared_found w read e =
     let s = steps (initial w.rest) _ read e in
     subst (SharedFound w.at w.name w.rest) (ok_one _ _ s.2)
@@ -147,11 +147,11 @@ globals_found w read e =
 
 -- ---- parameters
 
-record SlotFound (count : ℕ) (named : List Parameter) (spots : List Spot) (next : Slots) : Type 0 where
-  slot : Slot
-  spells : spots ≡ grammar.slot_spots slot ++ next.rest
-  counts : next.count ≡ count + 1
-  stands_for : next.named ≡ named ++ grammar.slot_parameters slot
+pub record SlotFound (count : ℕ) (named : List Parameter) (spots : List Spot) (next : Slots) : Type 0 where
+  pub slot : Slot
+  pub spells : spots ≡ grammar.slot_spots slot ++ next.rest
+  pub counts : next.count ≡ count + 1
+  pub stands_for : next.named ≡ named ++ grammar.slot_parameters slot
 
 abbrev slot_made : ℕ → List Parameter → List Spot → Slots
 slot_made count named rest = record { count = count + 1; named = named ++ name_at rest; rest = behind_name (name_at rest) rest }
@@ -168,7 +168,7 @@ slot_behind : (type count : ℕ) (named : List Parameter) (rest : List Spot) →
 slot_behind type count named [] = record { slot = Unnamed type; spells = refl; counts = refl; stands_for = refl }
 slot_behind type count named (spot ∷ rest) = slot_by_kind spot.kind spot.at type count named rest
 
-slot_found : (slots : Slots) (spots : List Spot) (next : Slots) → slot slots spots ≡ Ok next → SlotFound slots.count slots.named spots next
+pub slot_found : (slots : Slots) (spots : List Spot) (next : Slots) → slot slots spots ≡ Ok next → SlotFound slots.count slots.named spots next
 slot_found slots spots next e =
     let s = steps (past_keyword keywords.Int spots) _ next e in
     let type = past_keyword-keyword keywords.Int spots s.0 s.1 in

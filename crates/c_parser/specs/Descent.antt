@@ -1,8 +1,6 @@
 -- How the parser goes through the tokens: for each of its functions, what it comes to.
-use Rattle.std.specs.Prelude.{ℕ, zero, suc, nat_eq, Bool, true, false, not, Option, None, Some, is_some, Result, Ok, Err, List, [], ◌∷◌, ◌++◌, length, if◌then◌else◌}
+use Rattle.std.specs.Prelude.{ℕ, zero, suc, nat_eq, Bool, false, Option, None, Some, is_some, Result, Ok, Err, List, [], ◌∷◌, ◌++◌, length, if◌then◌else◌}
 use Rattle.items.specs.Gives.{◌>>=◌}
-use Rattle.c_lexer.specs.declared.keyword.Keyword.{Keyword}
-use Rattle.c_lexer.specs.declared.keyword.Keyword.TheVariants as keywords
 use Rattle.c_lexer.specs.declared.kind.Kind.{Kind}
 use Rattle.c_lexer.specs.declared.kind.Kind.TheVariants as kind
 use Rattle.c_lexer.specs.declared.mark.Mark.{Mark}
@@ -19,6 +17,7 @@ use Rattle.c_parser.specs.declared.error.ParseError.{ParseError}
 use Rattle.c_parser.specs.declared.error.ParseError.TheVariants as error
 use Rattle.c_parser.specs.Expressions.{placed}
 use Rattle.c_parser.specs.Operators.{rank}
+use Rattle.c_parser.specs.Profile.{is_outside}
 use Rattle.c_parser.specs.Repeat.{repeat}
 use Rattle.c_lexer.specs.declared.token.Token.{Token}
 use Rattle.c_parser.specs.Spots.{Spot, spots_of}
@@ -40,50 +39,6 @@ is_mark m _ = false
 abbrev pub begins_with : Mark → List Spot → Bool
 begins_with m [] = false
 begins_with m (spot ∷ _) = is_mark m spot.kind
-
--- a mark of C that the grammar leaves out
-abbrev pub mark_is_outside : Mark → Bool
-mark_is_outside marks.OpenSquare = true
-mark_is_outside marks.CloseSquare = true
-mark_is_outside marks.Dot = true
-mark_is_outside marks.Arrow = true
-mark_is_outside marks.Amp = true
-mark_is_outside marks.Bar = true
-mark_is_outside marks.Caret = true
-mark_is_outside marks.Tilde = true
-mark_is_outside marks.ShiftLeft = true
-mark_is_outside marks.ShiftRight = true
-mark_is_outside marks.Question = true
-mark_is_outside marks.Colon = true
-mark_is_outside marks.Dots = true
-mark_is_outside marks.ShiftLeftAssign = true
-mark_is_outside marks.ShiftRightAssign = true
-mark_is_outside marks.AmpAssign = true
-mark_is_outside marks.CaretAssign = true
-mark_is_outside marks.BarAssign = true
-mark_is_outside _ = false
-
--- a keyword that the grammar has
-abbrev pub keyword_is_inside : Keyword → Bool
-keyword_is_inside keywords.Int = true
-keyword_is_inside keywords.Void = true
-keyword_is_inside keywords.If = true
-keyword_is_inside keywords.Else = true
-keyword_is_inside keywords.While = true
-keyword_is_inside keywords.Do = true
-keyword_is_inside keywords.For = true
-keyword_is_inside keywords.Break = true
-keyword_is_inside keywords.Continue = true
-keyword_is_inside keywords.Return = true
-keyword_is_inside keywords.Extern = true
-keyword_is_inside _ = false
-
-abbrev pub is_outside : Kind → Bool
-is_outside (kind.Word name) = false
-is_outside (kind.Keyword k) = not (keyword_is_inside k)
-is_outside (kind.Number value) = false
-is_outside (kind.Mark m) = mark_is_outside m
-is_outside kind.End = false
 
 -- the refusal of the first token
 abbrev pub refused : List Spot → ParseError

@@ -7,6 +7,8 @@ pub mod Lines
 pub mod Declarations
 pub mod SourceItem
 pub mod Reads
+pub mod Profile
+pub mod Refusals
 pub mod Laws
 -- Words of proofs: what each function of the parser comes to.
 pub mod Repeat

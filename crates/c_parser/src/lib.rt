@@ -17,6 +17,9 @@ mod tokens;
 
 pub use ends::ends_once;
 pub use error::ParseError;
-pub use laws::{lexed_ends_once, reading_is_one, readings_are_short};
+pub use laws::{
+    lexed_ends_once, reading_is_not_refused, reading_is_one, readings_are_short, refusal_is_one,
+    tokens_are_read_or_refused,
+};
 pub use limits::{MOST_BINARY_OPERATORS, MOST_LEVELS};
 pub use parsing::parse;

@@ -1,6 +1,7 @@
 ghost use Rattle.std.specs.Prelude.{◌≡◌, ◌≢◌, ◌<◌, IfErr, IfOk, IfSome, length, true};
 ghost use Rattle.items.specs.Gives.{Gives};
-ghost use Rattle.c_parser.specs.Descent.{told, is_mark, begins_with, mark_is_outside, keyword_is_inside, is_outside, refused, place_at, past, sign_of, op_of, op_at};
+ghost use Rattle.c_parser.specs.Descent.{told, is_mark, begins_with, refused, place_at, past, sign_of, op_of, op_at};
+ghost use Rattle.c_parser.specs.Profile.{mark_is_outside, keyword_is_inside, is_outside};
 ghost use Rattle.c_parser.specs.Spots.{spots_of};
 ghost use Rattle.c_parser.specs.Statements.{begins_with_keyword, compound_at, compound_of, count_at, count_of, is_keyword, keyword_at, past_keyword, word_at};
 
