@@ -1,7 +1,8 @@
--- Main theorems: a text is accepted once and as a well-formed program, and its assertions ascend.
+-- Main theorems: a text is accepted once and as a well-formed program, its assertions ascend, and its calls are statements.
 pub mod Complete
 pub mod Shapes
 pub mod Ascending
+pub mod Calls
 pub mod SameTrees
 -- No execution knows the rule.
 pub mod Rules

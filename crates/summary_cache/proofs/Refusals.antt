@@ -7,8 +7,7 @@ use Rattle.c_lexer.specs.Refusals.{IsRefused}
 use Rattle.c_lexer.specs.Tokens.{Tokenizes}
 use Rattle.c_parser.specs.declared.error.ParseError.{ParseError}
 use Rattle.c_parser.specs.declared.error.ParseError.TheVariants as parsing
-use Rattle.c_parser.specs.Reads.{ReadsWithinLimits}
-use Rattle.c_parser.specs.SourceItem.{SourceItem}
+use Rattle.c_parser.specs.Refusals as grammar
 use Rattle.summary_cache.specs.declared.refusal.Refusal.TheVariants.{Lex, Parse}
 use Rattle.summary_cache.specs.declared.refusal.TextError.{TextError}
 use Rattle.summary_cache.specs.declared.refusal.TextError.TheVariants.{Refused, Memory}
@@ -23,14 +22,14 @@ cut-refused text (lexing.TooManyTokens at) told memory other refused = let ne : 
 cut-refused text lexing.Memory told memory other refused = subst (IsErrorOf text) (sym (memory refl)) tt
 
 pub grammar-refused : (text : List ℕ) (tokens : List Token) (fault : ParseError) (told : TextError) → (fault ≡ parsing.Memory → told ≡ Memory)
-    → (fault ≢ parsing.Memory → told ≡ Refused (Parse fault)) → Tokenizes text tokens → ((items : List SourceItem) → ReadsWithinLimits tokens items → fault ≡ parsing.Memory) → IsErrorOf text told
-grammar-refused text tokens (parsing.Syntax at) told memory other tokenizes none =
+    → (fault ≢ parsing.Memory → told ≡ Refused (Parse fault)) → Tokenizes text tokens → (fault ≢ parsing.Memory → grammar.IsRefused tokens fault) → IsErrorOf text told
+grammar-refused text tokens (parsing.Syntax at) told memory other tokenizes refused =
     let ne : parsing.Syntax at ≢ parsing.Memory = λ e. cc e in
-    subst (IsErrorOf text) (sym (other ne)) (record { tokens = tokens; tokenizes = tokenizes; none = λ items reads. ne (none items reads) }, ne)
-grammar-refused text tokens (parsing.Unsupported at) told memory other tokenizes none =
+    subst (IsErrorOf text) (sym (other ne)) (record { tokens = tokens; tokenizes = tokenizes; refused = refused ne })
+grammar-refused text tokens (parsing.Unsupported at) told memory other tokenizes refused =
     let ne : parsing.Unsupported at ≢ parsing.Memory = λ e. cc e in
-    subst (IsErrorOf text) (sym (other ne)) (record { tokens = tokens; tokenizes = tokenizes; none = λ items reads. ne (none items reads) }, ne)
-grammar-refused text tokens (parsing.Deep at) told memory other tokenizes none =
+    subst (IsErrorOf text) (sym (other ne)) (record { tokens = tokens; tokenizes = tokenizes; refused = refused ne })
+grammar-refused text tokens (parsing.Deep at) told memory other tokenizes refused =
     let ne : parsing.Deep at ≢ parsing.Memory = λ e. cc e in
-    subst (IsErrorOf text) (sym (other ne)) (record { tokens = tokens; tokenizes = tokenizes; none = λ items reads. ne (none items reads) }, ne)
-grammar-refused text tokens parsing.Memory told memory other tokenizes none = subst (IsErrorOf text) (sym (memory refl)) tt
+    subst (IsErrorOf text) (sym (other ne)) (record { tokens = tokens; tokenizes = tokenizes; refused = refused ne })
+grammar-refused text tokens parsing.Memory told memory other tokenizes refused = subst (IsErrorOf text) (sym (memory refl)) tt

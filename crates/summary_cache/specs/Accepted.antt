@@ -1,11 +1,12 @@
 -- Which texts are accepted, as which program, and why the others are refused.
-use Rattle.std.specs.Prelude.{◌≡◌, ◌≢◌, ℕ, List, length, Result, Ok, Err}
+use Rattle.std.specs.Prelude.{◌≡◌, ℕ, List, length, Result, Ok, Err}
 use Rattle.c_lexer.specs.declared.token.Token.{Token}
 use Rattle.c_lexer.specs.Refusals.{IsRefused}
 use Rattle.c_lexer.specs.Tokens.{Tokenizes}
-use Rattle.c_parser.specs.declared.error.ParseError.TheVariants as parsing
+use Rattle.c_parser.specs.declared.error.ParseError.{ParseError}
 use Rattle.c_parser.specs.Reads.{ReadsWithinLimits}
-use Rattle.c_parser.specs.SourceItem.{SourceItem, source_items_of}
+use Rattle.c_parser.specs.Refusals as grammar
+use Rattle.c_parser.specs.SourceItem.{source_items_of}
 use Rattle.syntax_tree.specs.declared.program.Program.{Program}
 use Rattle.syntax_tree.specs.declared.tree.Tree.{Tree}
 use Rattle.typing.specs.declared.error.TypeError.{TypeError}
@@ -27,11 +28,11 @@ pub record Accepts (text : List ℕ) (program : Program) : Type 0 where
   pub spells : Spells text tree
   pub elaborates : elaboration_of tree.items (length text) ≡ Ok program
 
--- The text has tokens, and these have no tree within the limits of nesting.
-pub record IsUnread (text : List ℕ) : Type 0 where
+-- The text has tokens, and the grammar refuses these so.
+pub record IsUnread (text : List ℕ) (fault : ParseError) : Type 0 where
   pub tokens : List Token
   pub tokenizes : Tokenizes text tokens
-  pub none : (items : List SourceItem) → ¬ ReadsWithinLimits tokens items
+  pub refused : grammar.IsRefused tokens fault
 
 -- The text spells a tree, and this is the first fault of the tree.
 pub record IsFaulty (text : List ℕ) (fault : TypeError) : Type 0 where
@@ -43,7 +44,7 @@ pub record IsFaulty (text : List ℕ) (fault : TypeError) : Type 0 where
 -- fault of the tree.
 abbrev pub IsRefusedBy : List ℕ → Refusal → Type 0
 IsRefusedBy text (Lex fault) = IsRefused text fault
-IsRefusedBy text (Parse fault) = IsUnread text × (fault ≢ parsing.Memory)
+IsRefusedBy text (Parse fault) = IsUnread text fault
 IsRefusedBy text (Typing fault) = IsFaulty text fault
 
 -- what an error of reading says of a text; want of memory says nothing

@@ -15,6 +15,10 @@ AcceptedOnce = (text : List ℕ) (one other : Program) → Accepts text one → 
 abbrev pub AcceptedIsNotRefused : Type 0
 AcceptedIsNotRefused = (text : List ℕ) (program : Program) (refusal : Refusal) → Accepts text program → IsRefusedBy text refusal → ⊥
 
+-- a text is refused for one reason at most
+abbrev pub RefusalIsOne : Type 0
+RefusalIsOne = (text : List ℕ) (one other : Refusal) → IsRefusedBy text one → IsRefusedBy text other → one ≡ other
+
 -- the program of a text is well formed
 abbrev pub AcceptedIsWellFormed : Type 0
 AcceptedIsWellFormed = (text : List ℕ) (program : Program) → Accepts text program → IsWellFormed program

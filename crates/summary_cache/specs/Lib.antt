@@ -4,6 +4,7 @@ pub mod Place
 pub mod Accepted
 pub mod Rules
 pub mod Laws
+pub mod Calls
 pub mod Stated
 pub mod Counted
 pub mod Kept

@@ -1,4 +1,5 @@
-ghost use Rattle.summary_cache.specs.Laws.{AcceptedHasRuleTwo, AcceptedIsNotRefused, AcceptedIsWellFormed, AcceptedOnce, AssertionsAscend};
+ghost use Rattle.summary_cache.specs.Calls.{CallsAreStatements};
+ghost use Rattle.summary_cache.specs.Laws.{AcceptedHasRuleTwo, AcceptedIsNotRefused, AcceptedIsWellFormed, AcceptedOnce, AssertionsAscend, RefusalIsOne};
 ghost use Rattle.summary_cache.specs.Rules.{ClaimsKnowNoRule, RulesAreFree};
 
 /// A text is accepted as one program at most.
@@ -11,6 +12,11 @@ pub fn accepted_is_not_refused()
     ensures { AcceptedIsNotRefused }
 {}
 
+/// A text is refused for one reason at most.
+pub fn refusal_is_one()
+    ensures { RefusalIsOne }
+{}
+
 /// The program of a text is well formed.
 pub fn accepted_is_well_formed()
     ensures { AcceptedIsWellFormed }
@@ -19,6 +25,11 @@ pub fn accepted_is_well_formed()
 /// The assertions of a program are numbered in the order of their places.
 pub fn assertions_ascend()
     ensures { AssertionsAscend }
+{}
+
+/// Each call of one of the text's own procedures is a call of the program, and there are no others.
+pub fn calls_are_statements()
+    ensures { CallsAreStatements }
 {}
 
 /// A program is well formed under each rule.
