@@ -57,7 +57,7 @@ fn report_of(alloc: Global, text: &str) -> Option<String> {
         return None;
     }
     let places = places_of(alloc, text, &program)?;
-    let mut finder = Finder::new();
+    let mut finder = Finder::new(alloc);
     let mut log = Log::new(alloc);
     let Ok(report) = analyse(alloc, &program, places.as_slice(), &mut finder, &mut log) else {
         return None;

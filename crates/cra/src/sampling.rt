@@ -125,7 +125,7 @@ fn counts_of(alloc: Global, text: &[u8]) -> Result<Counts, TextError>
     ensures { IsCountsOf text.now result }
 {
     let mut session = Session::new();
-    let mut finder = Finder::new();
+    let mut finder = Finder::new(alloc);
     match session.submit(alloc, text, &mut finder) {
         Ok(counts) => Ok(counts),
         Err(SubmitError::Text(refusal)) => Err(TextError::Refused(refusal)),

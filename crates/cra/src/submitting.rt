@@ -43,7 +43,7 @@ pub fn found(alloc: Global, text: &[u8]) -> Result<Analysed, TextError>
     requires { length text.now ≤ most_bytes }
     ensures { IsFoundOf text.now result }
 {
-    let mut finder = Finder::new();
+    let mut finder = Finder::new(alloc);
     match submitted(alloc, text, 2, &mut finder) {
         Ok(last) => Ok(last),
         Err(SubmitError::Text(refusal)) => Err(TextError::Refused(refusal)),

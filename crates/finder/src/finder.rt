@@ -1,17 +1,22 @@
 ghost use Rattle.finder.specs.Found.{IsFound};
 
 use farkas_check::{Answer, AskError, Oracle, Question, truth_of_passing};
-use simplex::answer;
+use simplex::{Endings, answer_with};
 use std::alloc::Global;
 
 /// Answers each question by exact rational simplex. What an answer is, and when it is a limit, is told by `IsFound`.
-#[derive(Clone, Copy, Debug, PartialEq, Eq)]
-pub struct Finder;
+/// It keeps where the last suprema ended; what it may answer does not depend on that.
+#[derive(Debug, Drop)]
+pub struct Finder {
+    endings: Endings,
+}
 
 impl Finder {
-    /// There is one finder; it keeps nothing between questions.
-    pub fn new() -> Finder {
-        Finder
+    /// A finder that was asked nothing yet, which takes no memory.
+    pub fn new(alloc: Global) -> Finder {
+        Finder {
+            endings: Endings::new(alloc),
+        }
     }
 }
 
@@ -24,7 +29,7 @@ impl Oracle for Finder {
     #[tactic(auto, using(crate::proofs::Founding::founding))]
     fn ask(&mut self, alloc: Global, question: &Question) -> Result<Answer, AskError> {
         truth_of_passing();
-        match answer(alloc, question) {
+        match answer_with(alloc, question, &mut self.endings) {
             Ok(found) => Ok(found),
             Err(_) => Err(AskError::Memory),
         }

@@ -96,7 +96,7 @@ value-is cs terms lower numbers up p point ordered over d =
 -- ---- the values at the unknowns
 
 -- each ratio is what its side is worth
-abbrev AreStanding : RationalPoint → List Fraction → List Side → Type 0
+abbrev pub AreStanding : RationalPoint → List Fraction → List Side → Type 0
 AreStanding point [] ss = Unit {0}
 AreStanding point (r ∷ rs) [] = ⊥
 AreStanding point (r ∷ rs) (s ∷ ss) = Stands r (side_value (sum_at point) point.over s) point.over × AreStanding point rs ss
@@ -112,7 +112,7 @@ own_standing point value side (p ∷ ps) rs more ss f e h =
     ratios_ok : List Fraction → Result (List Fraction) Step.Wide
     ratios_ok rs = Ok rs
 
-sides-standing : (cs : List (List Col)) (at : List Fraction) (terms lower : List Polynomial) (values : List Fraction) (point : RationalPoint) → StandsEach (ratio_at cs at) point.numerator point.over → AreSideValues cs at terms lower values → AreStanding point values (sides terms lower)
+pub sides-standing : (cs : List (List Col)) (at : List Fraction) (terms lower : List Polynomial) (values : List Fraction) (point : RationalPoint) → StandsEach (ratio_at cs at) point.numerator point.over → AreSideValues cs at terms lower values → AreStanding point values (sides terms lower)
 sides-standing cs at terms lower values point each a =
     subst (λ (rs : List Fraction). AreStanding point rs (sides terms lower)) (sym a.is)
     (own_standing point (ratio_value (ratio_at cs at)) Term terms a.own (a.others ++ whole (negsuc 0) ∷ []) (map Lower lower ++ One ∷ []) (λ p r e. ratio_value-stands (ratio_at cs at) point.numerator point.over p r each e) a.own_is
@@ -188,6 +188,12 @@ standing-length value side (p ∷ ps) rs more ss e h =
     ratios_ok : List Fraction → Result (List Fraction) Step.Wide
     ratios_ok rs = Ok rs
 
+-- there are as many values as unknowns
+pub sides-length : (cs : List (List Col)) (at : List Fraction) (terms lower : List Polynomial) (values : List Fraction) → AreSideValues cs at terms lower values → length values ≡ length (sides terms lower)
+sides-length cs at terms lower values a =
+    ap length a.is ∙ standing-length (ratio_value (ratio_at cs at)) Term terms a.own (a.others ++ whole (negsuc 0) ∷ []) (map Lower lower ++ One ∷ []) a.own_is
+    (standing-length (minus_value (ratio_value (ratio_at cs at))) Lower lower a.others (whole (negsuc 0) ∷ []) (One ∷ []) a.others_is refl)
+
 pub apart_at : (cs : List (List Col)) (terms lower : List Polynomial) (numbers : List ℤ) (up : Bool) (p : Polynomial) (at : List Fraction) (point : RationalPoint) → IsOrdered cs → AreSidesOver cs (sides terms lower) → IsDifferenceOf terms lower numbers up p → StandsEach (ratio_at cs at) point.numerator point.over → sum_at point p ≢ pos 0
     → IsApart cs terms lower (length numbers) numbers at
 apart_at cs terms lower numbers up p at point ordered over d each some line scale is e = some (value-is cs terms lower numbers up p point ordered over d ∙ ap (λ z. sign_of up *ℤ z) no_difference ∙ times_zero (sign_of up))
@@ -195,13 +201,9 @@ apart_at cs terms lower numbers up p at point ordered over d each some line scal
     lowest : AreLowest is.values
     lowest = sides-lowest cs at terms lower is.values (λ m. (each m).positive) is.are
 
-    same_length : length is.values ≡ length (sides terms lower)
-    same_length = ap length is.are.is ∙ standing-length (ratio_value (ratio_at cs at)) Term terms is.are.own (is.are.others ++ whole (negsuc 0) ∷ []) (map Lower lower ++ One ∷ []) is.are.own_is
-        (standing-length (minus_value (ratio_value (ratio_at cs at))) Lower lower is.are.others (whole (negsuc 0) ∷ []) (One ∷ []) is.are.others_is refl)
-
     level : scale *ℤ difference (sum_at point) point.over numbers (sides terms lower) ≡ pos 0
     level =
-        sym (weigh point scale numbers line is.values (sides terms lower) (sides-standing cs at terms lower is.values point each is.are) (numerators_of is.values scale line lowest is.scale_is is.line_is) same_length)
+        sym (weigh point scale numbers line is.values (sides terms lower) (sides-standing cs at terms lower is.values point each is.are) (numerators_of is.values scale line lowest is.scale_is is.line_is) (sides-length cs at terms lower is.values is.are))
         ∙ ap (λ z. z *ℤ point.over) (sym (dots-is numbers line) ∙ e) ∙ zero-*ℤ point.over
 
     no_difference : difference (sum_at point) point.over numbers (sides terms lower) ≡ pos 0

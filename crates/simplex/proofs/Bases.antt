@@ -1,13 +1,15 @@
 -- The answer of a stratum question, from what the search finds.
-use Rattle.std.proofs.Common.{◌≡◌, ◌⊎◌, ℕ, zero, suc, ◌+◌, ◌<◌, Bool, true, false, List, [], ◌∷◌, length, map, Result, Ok, Err, Some, refl, ap, subst, ◌∙◌, ⊎_elim, inl, inr}
-use Rattle.std.specs.Prelude.{slice_get, ◌-◌, ◌^◌, ◌&&◌}
-use Rattle.std.specs.List.{list_all}
+use Rattle.std.proofs.Common.{◌≡◌, ◌⊎◌, ℕ, zero, suc, ◌+◌, ◌<◌, Bool, true, false, List, [], ◌∷◌, length, map, Result, Ok, Err, Some, refl, ap, subst, ◌∙◌, arith, ⊎_elim, inl, inr}
+use Rattle.std.specs.Prelude.{slice_get, ◌-◌, ◌^◌, ◌≤◌, ◌&&◌, All}
+use Rattle.std.specs.List.{AllByRecursion, list_all}
 use Rattle.std.proofs.lemmas.Bool.{false≢true}
 use Rattle.std.proofs.lemmas.List.Elements.{recursion_from_All}
 use Rattle.linear_terms.specs.declared.col.Col.{Col}
 use Rattle.whole_numbers.specs.declared.wide.Wide as Step
+use Rattle.farkas_check.specs.Calm.{IsCalm, IsLiveAndCalm}
 use Rattle.farkas_check.specs.Frames.{choose, choice_count}
 use Rattle.farkas_check.specs.Kept.{IsCanonicalChange, IsCanonicalStratum, HasPositive}
+use Rattle.farkas_check.specs.Meaning.{IsLimit}
 use Rattle.farkas_check.specs.Parts.{and_then}
 use Rattle.farkas_check.specs.Relations.{Changes, stratum_columns, case_monos, unknown_count, numbers_of, is_reduced, free_places}
 use Rattle.farkas_check.specs.Stratum.{has_unknowns, all_of, tested_relation, tested_spot, tested_free, spot_side}
@@ -22,12 +24,15 @@ use Rattle.farkas_check.specs.declared.stratum.Change.{Change}
 use Rattle.farkas_check.proofs.Farkas.{bool_ok}
 use Rattle.farkas_check.proofs.Vanishing.{IsCaseAmong, cases_among}
 use Rattle.farkas_check.proofs.Walks.{IsOrdered-columns}
+use Rattle.simplex.specs.Answers.{IsWide}
 use Rattle.simplex.specs.Refusal.{LeavesBits}
 use Rattle.simplex.specs.Rows.{kinds_of}
+use Rattle.simplex.specs.SmallBasis.{HasFewRows, IsSmallWhereCalm}
 use Rattle.simplex.specs.Strata.{HasEndlessCase, IsFoundOver, HasCaseOfManyChoices, PivotsOver, IsStratumAnswer}
 use Rattle.simplex.specs.Suprema.{with_goal, IsSupremumOver}
 use Rattle.simplex.specs.declared.supremum.Supremum.TheVariants as supremum
 use Rattle.simplex.proofs.BasisLeaves.{stratum-leaves}
+use Rattle.simplex.proofs.CalmBases.{found_calm}
 use Rattle.simplex.proofs.Cases.{at_place}
 use Rattle.simplex.proofs.Emptiness.{no_point_over}
 use Rattle.simplex.proofs.Framing.{kinds-length}
@@ -65,17 +70,41 @@ endless_case budget asked k h = ⊎_elim
 
 -- ---- answers
 
-pub wide_stratum : (asked : Changes) (step : Step.Wide) → IsCanonicalStratum asked.cases asked.lower → LeavesBits step → IsStratumAnswer asked (answer.Limit (limit.Wide step.left step.right step.times))
-wide_stratum asked step k leaves = record {
+-- the answer on a live and calm question
+live_stratum : (asked : Changes) (a : Answer) → PivotsOver (2 ^ 127 - 1) asked a → (IsCalm (Stratum asked) → IsWide a → ⊥) → IsLiveAndCalm (Stratum asked) → IsLimit a → ⊥
+live_stratum asked (answer.Yes by) p wide live is = is
+live_stratum asked (answer.No point) p wide live is = is
+live_stratum asked (answer.Bound at certs case point) p wide live is = is
+live_stratum asked (answer.Unbounded case point ray) p wide live is = is
+live_stratum asked (answer.Basis relations spots free) p wide live is = is
+live_stratum asked (answer.Limit (limit.Wide left right times)) p wide live is = wide live.calm tt
+live_stratum asked (answer.Limit limit.Pivots) p wide live is = ⊎_elim (λ (dead : IsDead (Stratum asked)). live.live dead) (λ (many : HasCaseOfManyChoices (2 ^ 127 - 1) asked). too_many many) (p refl)
+  where
+    width : ℕ
+    width = length (stratum_columns asked.cases asked.lower)
+
+    few_at : (cases : List Change) (l : ℕ) (case : Change) → AllByRecursion (λ n. n ≤ 170141183460469231731687303715884105727) (map (λ (c : Change). choice_count width (length c.rows + 1)) cases) → slice_get cases l ≡ Some case → choice_count width (length case.rows + 1) ≤ 170141183460469231731687303715884105727
+    few_at [] l case f e = cc
+    few_at (c ∷ cases) zero case f e = let same : c ≡ case = cc in subst (λ (x : Change). choice_count width (length x.rows + 1) ≤ 170141183460469231731687303715884105727) same f.0
+    few_at (c ∷ cases) (suc l) case f e = few_at cases l case f.1 e
+
+    too_many : HasCaseOfManyChoices (2 ^ 127 - 1) asked → ⊥
+    too_many m = let few : choice_count width (length m.case.rows + 1) ≤ 170141183460469231731687303715884105727 = few_at asked.cases m.place m.case live.few m.is in let many : (2 ^ 127 - 1) < choice_count width (length m.case.rows + 1) = m.many in omega (arith, few, many)
+
+pub wide_stratum : (asked : Changes) (step : Step.Wide) → IsCanonicalStratum asked.cases asked.lower → LeavesBits step → (IsCalm (Stratum asked) → ⊥) → IsStratumAnswer asked (answer.Limit (limit.Wide step.left step.right step.times))
+wide_stratum asked step k leaves wild = record {
   passes = record { canonical = k; positive = tt; passed = ap (λ (b : Bool). bool_ok b) (limit_of step leaves) };
   pivots = λ e. no_pivots e;
+  wide = λ calm is. wild calm;
+  calm = λ live is. wild live.calm;
 }
   where
     no_pivots : answer.Limit (limit.Wide step.left step.right step.times) ≡ answer.Limit limit.Pivots → IsDead (Stratum asked) ⊎ HasCaseOfManyChoices (2 ^ 127 - 1) asked
     no_pivots e = cc
 
-pub untested_stratum : (asked : Changes) (a : Answer) (step : Step.Wide) → IsCanonicalStratum asked.cases asked.lower → outcome (Stratum asked) a ≡ Err step → IsStratumAnswer asked (answer.Limit (limit.Wide step.left step.right step.times))
-untested_stratum asked a step k e = wide_stratum asked step k (stratum-leaves asked a step e)
+pub untested_stratum : (asked : Changes) (a : Answer) (step : Step.Wide) → IsCanonicalStratum asked.cases asked.lower → All HasFewRows asked.cases → IsFoundOver (stratum_columns asked.cases asked.lower) (2 ^ 127 - 1) asked.cases asked.lower a → IsSmallWhereCalm asked a → outcome (Stratum asked) a ≡ Err step
+    → IsStratumAnswer asked (answer.Limit (limit.Wide step.left step.right step.times))
+untested_stratum asked a step k few h s e = wide_stratum asked step k (stratum-leaves asked a step e) (λ calm. found_calm asked a step k calm few h (s.small calm) e)
 
 -- no part of the test of what is found is false
 found_honest : (asked : Changes) (a : Answer) (b : Bool) → IsCanonicalStratum asked.cases asked.lower → IsFoundOver (stratum_columns asked.cases asked.lower) (2 ^ 127 - 1) asked.cases asked.lower a → outcome (Stratum asked) a ≡ Ok b → b ≡ true
@@ -110,8 +139,25 @@ found_honest asked (answer.Basis relations spots free) b k h e = counted (list_a
     counted false f g = cc
 
 pub found_stratum : (asked : Changes) (a : Answer) (b : Bool) → IsCanonicalStratum asked.cases asked.lower → HasPositive a → IsFoundOver (stratum_columns asked.cases asked.lower) (2 ^ 127 - 1) asked.cases asked.lower a → outcome (Stratum asked) a ≡ Ok b → IsStratumAnswer asked a
-found_stratum asked a b k p h e = record { passes = record { canonical = k; positive = p; passed = e ∙ ap (λ (c : Bool). bool_ok c) (found_honest asked a b k h e) }; pivots = pivots_of a h }
+found_stratum asked a b k p h e = record {
+  passes = record { canonical = k; positive = p; passed = e ∙ ap (λ (c : Bool). bool_ok c) (found_honest asked a b k h e) };
+  pivots = pivots_of a h;
+  wide = λ calm is. not_wide a h is;
+  calm = λ live is. live_stratum asked a (pivots_of a h) (λ calm x. not_wide a h x) live is;
+}
   where
+    not_wide : (a : Answer) → IsFoundOver (stratum_columns asked.cases asked.lower) (2 ^ 127 - 1) asked.cases asked.lower a → IsWide a → ⊥
+    not_wide (answer.Yes by) h is = is
+    not_wide (answer.No point) h is = is
+    not_wide (answer.Bound at certs case point) h is = is
+    not_wide (answer.Unbounded case point ray) h is = is
+    not_wide (answer.Basis relations spots free) h is = is
+    not_wide (answer.Limit limit.Pivots) h is = is
+    not_wide (answer.Limit (limit.Wide left right times)) h is = other h.0
+      where
+        other : limit.Wide left right times ≡ limit.Pivots → ⊥
+        other f = cc
+
     pivots_of : (a : Answer) → IsFoundOver (stratum_columns asked.cases asked.lower) (2 ^ 127 - 1) asked.cases asked.lower a → PivotsOver (2 ^ 127 - 1) asked a
     pivots_of (answer.Yes by) h e = cc
     pivots_of (answer.No point) h e = cc

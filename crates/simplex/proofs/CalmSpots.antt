@@ -2,19 +2,15 @@
 use Rattle.std.proofs.Common.{◌≡◌, ℕ, ◌+◌, ◌-◌, ◌<◌, ◌≤◌, Bool, true, false, cond, List, [], length, get_or, refl, sym, ap, ◌∙◌, arith, ⊎_elim, ℤ, pos}
 use Rattle.std.specs.Prelude.{◌==◌, nat_eq, nat_lt}
 use Rattle.std.proofs.lemmas.Bool.{cases_eq, cases_lt, eq-eqb, ne_eqb, lt-ltb, ltb-true}
-use Rattle.farkas_check.specs.Frames.{Frame, IsCalmUpTo}
+use Rattle.farkas_check.specs.Frames.{IsCalmUpTo}
 use Rattle.farkas_check.specs.Relations.{entry}
 use Rattle.simplex.specs.Exchange.{numbers_of}
 use Rattle.simplex.specs.Refusal.{IsSmallFrame}
-use Rattle.simplex.specs.Spots.{spots_framed, spots_frame}
+use Rattle.simplex.specs.Spots.{spots_framed, spots_frame, frame_of_lines}
 use Rattle.simplex.proofs.Calmness.{HasNumbers, small_frame_of}
 use Rattle.simplex.proofs.SpotFrames.{framed-number, framed-unit}
 
--- the frame of spots' lines under so many unknowns
-abbrev pub frame_of_lines : ℕ → List (List ℤ) → Frame
-frame_of_lines count lines = record { lines = lines; units = count }
-
-spot_numbers : (count : ℕ) (lines : List (List ℤ)) → HasNumbers (frame_of_lines count lines) (numbers_of (spots_framed count lines))
+pub spot_numbers : (count : ℕ) (lines : List (List ℤ)) → HasNumbers (frame_of_lines count lines) (numbers_of (spots_framed count lines))
 spot_numbers count lines l j h k = ⊎_elim before behind (cases_lt j count)
   where
     own : ℤ

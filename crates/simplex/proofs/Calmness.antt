@@ -37,7 +37,7 @@ all_from : (P : ℕ → Type 0) (xs : List ℕ) → ((i : ℕ) → i < length xs
 all_from P [] f = tt
 all_from P (x ∷ xs) f = (f 0 (omega arith), all_from P xs (λ i h. f (suc i) (omega (arith, h))))
 
-mapped : {A B C : Type 0} (f : B → C) (g : A → B) (xs : List A) → map f (map g xs) ≡ map (λ x. f (g x)) xs
+pub mapped : {A B C : Type 0} (f : B → C) (g : A → B) (xs : List A) → map f (map g xs) ≡ map (λ x. f (g x)) xs
 mapped f g [] = refl
 mapped f g (x ∷ xs) = ap (λ ys. f (g x) ∷ ys) (mapped f g xs)
 
@@ -47,7 +47,7 @@ at_place P f zero j h k = absurd (omega (arith, k))
 at_place P f (suc w) zero h k = h.0
 at_place P f (suc w) (suc j) h k = at_place P (λ i. f (suc i)) w j (subst (AllByRecursion P) (mapped f (λ i. suc i) (places w)) h.1) (omega (arith, k))
 
-divided_each : (d : ℕ) (zs : List ℤ) → DividesEach d zs → AllByRecursion (λ z. d ∣ unsigned_abs z) zs
+pub divided_each : (d : ℕ) (zs : List ℤ) → DividesEach d zs → AllByRecursion (λ z. d ∣ unsigned_abs z) zs
 divided_each d [] h = tt
 divided_each d (z ∷ zs) h = (h.0, divided_each d zs h.1)
 
@@ -147,7 +147,7 @@ is_tableau f frame t numbers many s = record {
         ∙ ap (λ (n : ℕ). sum_below n (λ i. multiple_of t i j *ℤ number_in f l (get_or t.chosen i 0))) many
 
 -- the frame of rows
-row_numbers : (cs : List (List Col)) (rows : List Row) → HasNumbers (frame_of cs (row_polys rows [])) (numbers_of (framed cs rows))
+pub row_numbers : (cs : List (List Col)) (rows : List Row) → HasNumbers (frame_of cs (row_polys rows [])) (numbers_of (framed cs rows))
 row_numbers cs rows l j h k = frame_numbers cs rows l j (subst (λ (n : ℕ). l < n) (lines-length cs rows) h) (subst (λ (n : ℕ). j < length cs + 1 + n) (lines-length cs rows) k)
 
 -- ---- lines
@@ -155,7 +155,7 @@ row_numbers cs rows l j h k = frame_numbers cs rows l j (subst (λ (n : ℕ). l 
 positive_size : (z : ℤ) → pos 0 <ℤ z → 0 < unsigned_abs z
 positive_size z h = omega (arith, ints)
 
-smaller : (a s g n : ℕ) → 0 < s → a * s ≤ n * g → g ≤ s → a ≤ n
+pub smaller : (a s g n : ℕ) → 0 < s → a * s ≤ n * g → g ≤ s → a ≤ n
 smaller a s g n p h k = ⊎_elim (λ (b : n < a). absurd (clash (mul-le-mul_right s b) (mul-le-mul_left n k))) (λ (b : a ≤ n). b) (cases_lt n a)
   where
     clash : suc n * s ≤ a * s → n * g ≤ n * s → ⊥

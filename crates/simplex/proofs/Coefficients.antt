@@ -24,7 +24,7 @@ use Rattle.simplex.proofs.Tame.{coefficient-before}
 -- ---- one term
 
 -- a number at a monomial, and 0 at each other
-abbrev at_mono : List Col → ℤ → List Col → ℤ
+abbrev pub at_mono : List Col → ℤ → List Col → ℤ
 at_mono m c n = cond (eq_by_cmp mono_cmp m n) c (pos 0)
 
 chosen_sum : (q : Bool) (c x : ℤ) → (q ≡ true → x ≡ pos 0) → cond q c x ≡ x +ℤ cond q c (pos 0)
@@ -32,7 +32,7 @@ chosen_sum true c x f = let e : x ≡ pos 0 = f refl in omega (arith, ints, e)
 chosen_sum false c x f = omega (arith, ints)
 
 -- what stands before all terms has no part in them
-none_before : (m n : List Col) (ts : Terms) → Before m ts → eq_by_cmp mono_cmp m n ≡ true → coefficient_in ts n ≡ pos 0
+pub none_before : (m n : List Col) (ts : Terms) → Before m ts → eq_by_cmp mono_cmp m n ≡ true → coefficient_in ts n ≡ pos 0
 none_before m n ts b e = ap (coefficient_in ts) (sym (same_mono m n e)) ∙ coefficient-before m ts b
 
 kept-coefficient : (m n : List Col) (c : ℤ) (ts : Terms) → (eq_by_cmp mono_cmp m n ≡ true → c ≡ pos 0 → coefficient_in ts n ≡ pos 0) → coefficient_in (kept m c ts) n ≡ cond (eq_by_cmp mono_cmp m n) c (coefficient_in ts n)
@@ -51,7 +51,7 @@ kept-coefficient m n c ts f = go (int_eq c (pos 0)) refl
 same_terms : (ts made : Terms) (z : ℤ) (n : List Col) → (let r : Result Terms TermError = Ok ts in r ≡ Ok made) → coefficient_in ts n ≡ z → coefficient_in made n ≡ z
 same_terms ts made z n e f = let same : ts ≡ made = cc in ap (λ (x : Terms). coefficient_in x n) (sym same) ∙ f
 
-put-coefficient : (m n : List Col) (c : ℤ) (ts made : Terms) → IsCanonical ts → put m c ts ≡ Ok made → coefficient_in made n ≡ coefficient_in ts n +ℤ at_mono m c n
+pub put-coefficient : (m n : List Col) (c : ℤ) (ts made : Terms) → IsCanonical ts → put m c ts ≡ Ok made → coefficient_in made n ≡ coefficient_in ts n +ℤ at_mono m c n
 put-coefficient m n c [] made k e = same_terms (kept m c []) made (pos 0 +ℤ at_mono m c n) n e (kept-coefficient m n c [] (λ g h. refl) ∙ chosen_sum (eq_by_cmp mono_cmp m n) c (pos 0) (λ g. refl))
 put-coefficient m n c (t ∷ ts) made k e = go (mono_cmp m t.0) refl e (λ more f. put-coefficient m n c ts more (IsCanonical-tail t ts k) f)
   where
@@ -132,7 +132,7 @@ sum-rest a b p e =
     poly_ok : Terms → ℤ → Result Polynomial TermError
     poly_ok ts r = Ok (record { terms = ts; rest = r })
 
-multiple-coefficient : (a p : Polynomial) (by : ℤ) (n : List Col) → IsCanonical a.terms → multiple_of a by ≡ Ok p → coefficient_in p.terms n ≡ coefficient_in a.terms n *ℤ by
+pub multiple-coefficient : (a p : Polynomial) (by : ℤ) (n : List Col) → IsCanonical a.terms → multiple_of a by ≡ Ok p → coefficient_in p.terms n ≡ coefficient_in a.terms n *ℤ by
 multiple-coefficient a p by n k e =
     on_ok (times_each a.terms by) (λ ts. times a.rest by >>= λ r. poly_ok ts r) p e
     (λ ts f g. on_ok (times a.rest by) (λ r. poly_ok ts r) p g
@@ -141,7 +141,7 @@ multiple-coefficient a p by n k e =
     poly_ok : Terms → ℤ → Result Polynomial TermError
     poly_ok ts r = Ok (record { terms = ts; rest = r })
 
-multiple-rest : (a p : Polynomial) (by : ℤ) → multiple_of a by ≡ Ok p → p.rest ≡ a.rest *ℤ by
+pub multiple-rest : (a p : Polynomial) (by : ℤ) → multiple_of a by ≡ Ok p → p.rest ≡ a.rest *ℤ by
 multiple-rest a p by e =
     on_ok (times_each a.terms by) (λ ts. times a.rest by >>= λ r. poly_ok ts r) p e
     (λ ts f g. on_ok (times a.rest by) (λ r. poly_ok ts r) p g

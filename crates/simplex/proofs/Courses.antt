@@ -29,6 +29,7 @@ use Rattle.simplex.specs.Search.{IsLineChoosing}
 use Rattle.simplex.specs.Spots.{values_of, IsSpotLine, AreSpotLines, HasMoreLine, IsNewPoint, IsUnchosen, paired, AreSpots, IsRelationOf, AreRelations, AreUnitLists, chosen_below, spots_framed, spots_frame}
 use Rattle.simplex.specs.Points.{IsPointAt, IsSpotAt}
 use Rattle.simplex.specs.Relations.{IsRelationWith, HasCounts}
+use Rattle.simplex.specs.SmallBasis.{HasSmallTies}
 use Rattle.simplex.specs.Strata.{IsAsked, AreKnown, turns_left, IsApartAt, IsTiedRelation, IsHonestRelation, IsHonestFree, IsBasisOver}
 use Rattle.simplex.specs.Ties.{AreTies}
 use Rattle.simplex.specs.declared.differences.Strata.{Strata}
@@ -47,7 +48,7 @@ use Rattle.simplex.proofs.Units.{IsPositiveAt, HasUnits, free_honest}
 
 -- ---- what is known
 
-all_more : {A : Type 0} (P : A → Type 0) (xs : List A) (x : A) → AllByRecursion P xs → P x → AllByRecursion P (xs ++ x ∷ [])
+pub all_more : {A : Type 0} (P : A → Type 0) (xs : List A) (x : A) → AllByRecursion P xs → P x → AllByRecursion P (xs ++ x ∷ [])
 all_more P [] x h p = (p, tt)
 all_more P (y ∷ xs) x h p = (h.0, all_more P xs x h.1 p)
 
@@ -115,8 +116,8 @@ map_more [] r = refl
 map_more (q ∷ rs) r = ap (λ (ns : List (List ℤ)). numbers_of q ∷ ns) (map_more rs r)
 
 pub known-relation : (s : Strata) (known made : Known) (numbers : List ℤ) (ties : List Tie) (relation : Relation) → AreKnown s known → known.next < s.count → IsUnchosen known.spots.tableau known.next → IsRelationOf s.count known.spots.tableau known.next numbers → IsRelationWith s.terms (length s.lower.now) numbers ties relation
-    → AreTies s.columns.now s.lower.now numbers s.cases.now (length s.cases.now) ties → made.next ≡ known.next + 1 → made.start ≡ known.start → made.spots ≡ known.spots → made.relations ≡ known.relations ++ relation ∷ [] → IsLess s known made
-known-relation s known made numbers ties relation k here free own r t next start same more = (
+    → AreTies s.columns.now s.lower.now numbers s.cases.now (length s.cases.now) ties → HasSmallTies s ties → made.next ≡ known.next + 1 → made.start ≡ known.start → made.spots ≡ known.spots → made.relations ≡ known.relations ++ relation ∷ [] → IsLess s known made
+known-relation s known made numbers ties relation k here free own r t small next start same more = (
   with_relations s known made k same (subst (AreTied s) (sym more) (all_more (IsTiedRelation s) known.relations relation k.relations tied)) (omega (arith, here, next)) (subst (λ (n : ℕ). n ≤ length known.spots.lines) (sym start) k.start)
       (λ e. subst (λ (n : ℕ). AreRelations s.count known.spots.tableau n (map numbers_of made.relations)) (sym next) (subst (λ (ns : List (List ℤ)). AreRelations s.count known.spots.tableau (known.next + 1) ns) (sym (ap (map numbers_of) more ∙ map_more known.relations relation))
       (relations-more s.count s.count (numbers_of_frame (spots_framed s.count known.spots.lines)) known.spots.tableau known.next (map numbers_of known.relations) (numbers_of relation) k.spots.tableau.tableau k.spots.tableau.ends here free.none
@@ -129,22 +130,14 @@ known-relation s known made numbers ties relation k here free own r t next start
       counts = record { a = r.a; b = r.b };
       ties = subst (λ (ns : List ℤ). AreTies s.columns.now s.lower.now ns s.cases.now (length s.cases.now) relation.ties) (sym r.is)
           (subst (λ (ts : List Tie). AreTies s.columns.now s.lower.now numbers s.cases.now (length s.cases.now) ts) (sym r.tied) t);
+      small = subst (HasSmallTies s) (sym r.tied) small;
     }
 
--- there are no more spots than unknowns
-few_spots : (count : ℕ) (spots : Spots) → AreSpots count spots → length spots.lines ≤ count
+-- there are no more numbers below a count than the count, where no two are the same
+pub few_choices : (xs : List ℕ) (count : ℕ) → ((i k : ℕ) → i < length xs → k < length xs → i ≢ k → get_or xs i 0 ≢ get_or xs k 0) → ((i : ℕ) → i < length xs → get_or xs i 0 < count) → length xs ≤ count
 unfolding IsDistinct
-few_spots count spots a = subst (λ (n : ℕ). n ≤ count) (a.tableau.tableau.shape.choices ∙ a.tableau.many) (length-le_from_distinct_below spots.tableau.chosen count (distinct spots.tableau.chosen apart) (λ q e. below q e))
+few_choices xs count apart inside = length-le_from_distinct_below xs count (distinct xs apart) (λ q e. below q e)
   where
-    t : Tableau
-    t = spots.tableau
-
-    chosen_many : length spots.tableau.chosen ≡ length spots.tableau.lines
-    chosen_many = a.tableau.tableau.shape.choices
-
-    apart : (i k : ℕ) → i < length spots.tableau.chosen → k < length spots.tableau.chosen → i ≢ k → get_or spots.tableau.chosen i 0 ≢ get_or spots.tableau.chosen k 0
-    apart i k h g other = choose_apart (spots_frame count spots.lines) spots.tableau i k a.tableau.tableau (subst (λ (n : ℕ). i < n) chosen_many h) (subst (λ (n : ℕ). k < n) chosen_many g) other
-
     distinct : (xs : List ℕ) → ((i k : ℕ) → i < length xs → k < length xs → i ≢ k → get_or xs i 0 ≢ get_or xs k 0) → IsDistinct eqb xs
     distinct [] f = tt
     distinct (x ∷ xs) f = (others xs (λ i h. f 0 (suc i) (omega arith) (omega (arith, h)) (λ e. absurd (omega (arith, e)))), distinct xs (λ i k h g other. f (suc i) (suc k) (omega (arith, h)) (omega (arith, g)) (λ e. other (omega (arith, e)))))
@@ -161,8 +154,38 @@ few_spots count spots a = subst (λ (n : ℕ). n ≤ count) (a.tableau.tableau.s
         at true f g more = (0, (omega arith, sym (eqb-true q x f)))
         at false f g more = let m = more g in (suc m.0, (let h : m.0 < length xs = m.1.0 in omega (arith, h), m.1.1))
 
-    below : (q : ℕ) → list_any (eqb q) spots.tableau.chosen ≡ true → q < count
-    below q e = let f = found spots.tableau.chosen q e in subst (λ (n : ℕ). n < count) f.1.1 (a.chosen f.0 (subst (λ (n : ℕ). f.0 < n) (chosen_many ∙ a.tableau.many) f.1.0))
+    below : (q : ℕ) → list_any (eqb q) xs ≡ true → q < count
+    below q e = let f = found xs q e in subst (λ (n : ℕ). n < count) f.1.1 (inside f.0 f.1.0)
+
+-- what lines choose
+choices_apart : (count : ℕ) (spots : Spots) → AreSpots count spots → (i k : ℕ) → i < length spots.tableau.chosen → k < length spots.tableau.chosen → i ≢ k → get_or spots.tableau.chosen i 0 ≢ get_or spots.tableau.chosen k 0
+choices_apart count spots a i k h g other = choose_apart (spots_frame count spots.lines) spots.tableau i k a.tableau.tableau (subst (λ (n : ℕ). i < n) a.tableau.tableau.shape.choices h) (subst (λ (n : ℕ). k < n) a.tableau.tableau.shape.choices g) other
+
+choices_below : (count : ℕ) (spots : Spots) → AreSpots count spots → (i : ℕ) → i < length spots.tableau.chosen → get_or spots.tableau.chosen i 0 < count
+choices_below count spots a i h = a.chosen i (subst (λ (n : ℕ). i < n) (a.tableau.tableau.shape.choices ∙ a.tableau.many) h)
+
+-- there are no more spots than unknowns
+pub few_spots : (count : ℕ) (spots : Spots) → AreSpots count spots → length spots.lines ≤ count
+few_spots count spots a = subst (λ (n : ℕ). n ≤ count) (a.tableau.tableau.shape.choices ∙ a.tableau.many) (few_choices spots.tableau.chosen count (choices_apart count spots a) (choices_below count spots a))
+
+-- there are fewer where no line chooses some unknown
+pub fewer_spots : (count : ℕ) (spots : Spots) (u : ℕ) → AreSpots count spots → u < count → IsUnchosen spots.tableau u → length spots.lines < count
+fewer_spots count spots u a here free =
+    let many : length spots.tableau.chosen ≡ length spots.lines = a.tableau.tableau.shape.choices ∙ a.tableau.many in
+    let few : length (u ∷ spots.tableau.chosen) ≤ count = few_choices (u ∷ spots.tableau.chosen) count (λ i k h g other. apart i k h g other) (λ i h. inside i h) in omega (arith, many, few)
+  where
+    none : (k : ℕ) → k < length spots.tableau.chosen → get_or spots.tableau.chosen k 0 ≢ u
+    none k h = free.none k (subst (λ (n : ℕ). k < n) a.tableau.tableau.shape.choices h)
+
+    apart : (i k : ℕ) → i < suc (length spots.tableau.chosen) → k < suc (length spots.tableau.chosen) → i ≢ k → get_or (u ∷ spots.tableau.chosen) i 0 ≢ get_or (u ∷ spots.tableau.chosen) k 0
+    apart zero zero h g other e = other refl
+    apart zero (suc k) h g other e = none k (omega (arith, g)) (sym e)
+    apart (suc i) zero h g other e = none i (omega (arith, h)) e
+    apart (suc i) (suc k) h g other e = choices_apart count spots a i k (omega (arith, h)) (omega (arith, g)) (λ f. other (omega (arith, f))) e
+
+    inside : (i : ℕ) → i < suc (length spots.tableau.chosen) → get_or (u ∷ spots.tableau.chosen) i 0 < count
+    inside zero h = here
+    inside (suc i) h = choices_below count spots a i (omega (arith, h))
 
 -- the unknowns have their turns anew
 pub known-again : (s : Strata) (known made : Known) → AreKnown s known → (known.start ≡ length known.spots.lines → ⊥) → made.spots ≡ known.spots → made.relations ≡ [] → made.next ≡ 0 → made.start ≡ length known.spots.lines → IsLess s known made
@@ -184,7 +207,7 @@ known-again s known made k more same none next start = (
         smaller : (a b c d e f g n : ℕ) → a ≤ n → c ≡ d → e ≡ g → g + (n + 1) ≤ f → a + c + 1 + e < b + d + 1 + f
         smaller a b c d e f g n p q r t = omega (arith, p, q, r, t)
 
-lines_more : (cs : List (List Col)) (cases : List Change) (lower : List Polynomial) (spots : List Spot) (lines : List (List ℤ)) (scales : List ℤ) (spot : Spot) (line : List ℤ) (scale : ℤ) → AreSpotLines cs cases lower spots lines scales → IsSpotLine cs spot.at (terms_of cases spot.case) lower line scale
+pub lines_more : (cs : List (List Col)) (cases : List Change) (lower : List Polynomial) (spots : List Spot) (lines : List (List ℤ)) (scales : List ℤ) (spot : Spot) (line : List ℤ) (scale : ℤ) → AreSpotLines cs cases lower spots lines scales → IsSpotLine cs spot.at (terms_of cases spot.case) lower line scale
     → AreSpotLines cs cases lower (spots ++ spot ∷ []) (lines ++ line ∷ []) (scales ++ scale ∷ [])
 lines_more cs cases lower [] lines scales spot line scale a is =
     subst (λ (ls : List (List ℤ)). AreSpotLines cs cases lower (spot ∷ []) (ls ++ line ∷ []) (scales ++ scale ∷ [])) (sym a.0)
@@ -299,7 +322,7 @@ line-length cs at terms lower line scale is =
     let g : length is.are.others ≡ length lower = values-length (minus_value (ratio_value (ratio_at cs at))) lower is.are.others is.are.others_is in
     omega (arith, e, f, g))
 
-lines_long : (s : Strata) (spots : List Spot) (lines : List (List ℤ)) (scales : List ℤ) → IsAsked s → s.count ≡ s.terms + length s.lower.now + 1 → AreSpotsAt s spots → HasLines s spots lines scales → AllByRecursion (λ (line : List ℤ). length line ≡ s.count) lines
+pub lines_long : (s : Strata) (spots : List Spot) (lines : List (List ℤ)) (scales : List ℤ) → IsAsked s → s.count ≡ s.terms + length s.lower.now + 1 → AreSpotsAt s spots → HasLines s spots lines scales → AllByRecursion (λ (line : List ℤ). length line ≡ s.count) lines
 lines_long s [] lines scales is count at a = subst (λ (ls : List (List ℤ)). AllByRecursion (λ (line : List ℤ). length line ≡ s.count) ls) (sym a.0) tt
 lines_long s (spot ∷ spots) [] scales is count at a = absurd a
 lines_long s (spot ∷ spots) (line ∷ lines) [] is count at a = absurd a

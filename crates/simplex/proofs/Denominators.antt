@@ -19,19 +19,19 @@ use Rattle.simplex.proofs.Exchanges.{factor_positive}
 use Rattle.simplex.proofs.Widths.{IsShare, shared, factor_small, quotient_is}
 
 -- a number times another one
-record IsFactor (d m : ℤ) : Type 0 where
-  times : ℤ
-  is : d *ℤ times ≡ m
+pub record IsFactor (d m : ℤ) : Type 0 where
+  pub times : ℤ
+  pub is : d *ℤ times ≡ m
 
 -- ---- of two denominators
 
-record IsLeastMultiple (d e m : ℤ) : Type 0 where
-  positive : pos 0 <ℤ m
-  left : IsFactor d m
-  right : IsFactor e m
-  least : (n : ℤ) → pos 0 <ℤ n → IsFactor d n → IsFactor e n → IsFactor m n
+pub record IsLeastMultiple (d e m : ℤ) : Type 0 where
+  pub positive : pos 0 <ℤ m
+  pub left : IsFactor d m
+  pub right : IsFactor e m
+  pub least : (n : ℤ) → pos 0 <ℤ n → IsFactor d n → IsFactor e n → IsFactor m n
 
-common_multiple-least : (d e m : ℤ) → pos 0 <ℤ d → pos 0 <ℤ e → common_multiple d e ≡ Ok m → IsLeastMultiple d e m
+pub common_multiple-least : (d e m : ℤ) → pos 0 <ℤ d → pos 0 <ℤ e → common_multiple d e ≡ Ok m → IsLeastMultiple d e m
 common_multiple-least d e m p q h = record {
   positive = common_multiple-positive d e m p q h;
   left = record { times = (lowest_terms d e).den; is = ap (λ z. z *ℤ (lowest_terms d e).den) (sym first) ∙ turn (lowest_terms d e).num (pos (gcd_of (unsigned_abs d) (unsigned_abs e))) (lowest_terms d e).den ∙ ap (λ z. (lowest_terms d e).num *ℤ z) second ∙ sym is };
@@ -77,14 +77,14 @@ abbrev pub AreLowest : List Fraction → Type 0
 AreLowest rs = AllByRecursion (λ (r : Fraction). IsLowest r) rs
 
 -- the number is a multiple of each denominator
-abbrev AreFactors : List Fraction → ℤ → Type 0
+abbrev pub AreFactors : List Fraction → ℤ → Type 0
 AreFactors rs m = AllByRecursion (λ (r : Fraction). IsFactor r.den m) rs
 
-record IsLeastOver (common : ℤ) (rs : List Fraction) (m : ℤ) : Type 0 where
-  positive : pos 0 <ℤ m
-  own : IsFactor common m
-  each : AreFactors rs m
-  least : (n : ℤ) → pos 0 <ℤ n → IsFactor common n → AreFactors rs n → IsFactor m n
+pub record IsLeastOver (common : ℤ) (rs : List Fraction) (m : ℤ) : Type 0 where
+  pub positive : pos 0 <ℤ m
+  pub own : IsFactor common m
+  pub each : AreFactors rs m
+  pub least : (n : ℤ) → pos 0 <ℤ n → IsFactor common n → AreFactors rs n → IsFactor m n
 
 itself : (z : ℤ) → IsFactor z z
 itself z = record { times = pos 1; is = *ℤ_comm z (pos 1) ∙ one-*ℤ z }
@@ -92,7 +92,7 @@ itself z = record { times = pos 1; is = *ℤ_comm z (pos 1) ∙ one-*ℤ z }
 further : (a b c : ℤ) → IsFactor a b → IsFactor b c → IsFactor a c
 further a b c f g = record { times = f.times *ℤ g.times; is = sym (*ℤ_assoc a f.times g.times) ∙ ap (λ z. z *ℤ g.times) f.is ∙ g.is }
 
-denominator-least : (common : ℤ) (rs : List Fraction) (m : ℤ) → pos 0 <ℤ common → AreLowest rs → denominator_from common rs ≡ Ok m → IsLeastOver common rs m
+pub denominator-least : (common : ℤ) (rs : List Fraction) (m : ℤ) → pos 0 <ℤ common → AreLowest rs → denominator_from common rs ≡ Ok m → IsLeastOver common rs m
 denominator-least common [] m p s e = let same : common ≡ m = cc in subst (IsLeastOver common []) same (record { positive = p; own = itself common; each = tt; least = λ n above f g. f })
 denominator-least common (r ∷ rs) m p s e =
     on_ok (common_multiple common r.den) (λ next. denominator_from next rs) m e
@@ -158,15 +158,18 @@ factor_at g [] j m h e d = absurd (omega (arith, h))
 factor_at g (n ∷ ns) zero m h e d = subst (IsFactor g) e d.0
 factor_at g (n ∷ ns) (suc j) m h e d = factor_at g ns j m (omega (arith, h)) e d.1
 
--- Numerators over the least common denominator, which is one of them, have no common divisor.
-pub numerators-primitive : (rs : List Fraction) (m : ℤ) (ns : List ℤ) (j : ℕ) → AreLowest rs → common_denominator rs ≡ Ok m → numerators_over m rs ≡ Ok ns → j < length ns → entry ns j ≡ m → gcd_of_all ns ≡ 1
-numerators-primitive rs m ns j s e f h at = by_divisor (gcd_of_all ns) (factors_of (gcd_of_all ns) ns (DividesEach-gcd_of_all ns))
+-- Numerators over the least common denominator, which is a multiple of one of them, have no common divisor.
+pub numerators-primitive_to : (rs : List Fraction) (m : ℤ) (ns : List ℤ) (j : ℕ) (by : ℤ) → AreLowest rs → common_denominator rs ≡ Ok m → numerators_over m rs ≡ Ok ns → j < length ns → entry ns j *ℤ by ≡ m → gcd_of_all ns ≡ 1
+numerators-primitive_to rs m ns j by s e f h at = by_divisor (gcd_of_all ns) (factors_of (gcd_of_all ns) ns (DividesEach-gcd_of_all ns))
   where
     o : IsLeastOver (pos 1) rs m
     o = denominator-least (pos 1) rs m (omega (arith, ints)) s e
 
     of_one : (z : ℤ) → IsFactor (pos 1) z
     of_one z = record { times = z; is = one-*ℤ z }
+
+    through : (g : ℤ) → IsFactor g (entry ns j) → IsFactor g m
+    through g k = record { times = k.times *ℤ by; is = sym (*ℤ_assoc g k.times by) ∙ ap (λ z. z *ℤ by) k.is ∙ at }
 
     nothing : (d t : ℤ) → d ≡ pos 0 → pos 0 <ℤ (d *ℤ t) → ⊥
     nothing d t e h = let z : d *ℤ t ≡ pos 0 = ap (λ x. x *ℤ t) e ∙ zero t in omega (arith, ints, z, h)
@@ -175,8 +178,8 @@ numerators-primitive rs m ns j s e f h at = by_divisor (gcd_of_all ns) (factors_
         zero t = simp ring (omega (arith, ints))
 
     by_divisor : (g : ℕ) → AllByRecursion (λ (n : ℤ). IsFactor (pos g) n) ns → g ≡ 1
-    by_divisor zero d = let own : IsFactor (pos 0) m = factor_at (pos 0) ns j m h at d in absurd (nothing (pos 0) own.times refl (subst (λ (z : ℤ). pos 0 <ℤ z) (sym own.is) o.positive))
-    by_divisor (suc g) d = by_own (factor_at (pos (suc g)) ns j m h at d)
+    by_divisor zero d = let own : IsFactor (pos 0) m = through (pos 0) (factor_at (pos 0) ns j (entry ns j) h refl d) in absurd (nothing (pos 0) own.times refl (subst (λ (z : ℤ). pos 0 <ℤ z) (sym own.is) o.positive))
+    by_divisor (suc g) d = by_own (through (pos (suc g)) (factor_at (pos (suc g)) ns j (entry ns j) h refl d))
       where
         by_own : IsFactor (pos (suc g)) m → suc g ≡ 1
         by_own own = by_back (o.least own.times above (of_one own.times) (shares m own.times (pos (suc g)) rs ns above (omega (arith, ints)) (*ℤ_comm own.times (pos (suc g)) ∙ own.is) s (numerators-are m rs ns s o.each f) d))
@@ -197,3 +200,7 @@ numerators-primitive rs m ns j s e f h at = by_divisor (gcd_of_all ns) (factors_
                 one_alone : (g a b : ℕ) → suc g * a ≡ b → b ≤ a → 0 < a → suc g ≡ 1
                 one_alone zero a b e h k = refl
                 one_alone (suc g) a b e h k = absurd (let more : suc (suc g) * a ≡ a + a + g * a = omega arith in omega (arith, e, h, k, more))
+
+-- The same where it is one of them.
+pub numerators-primitive : (rs : List Fraction) (m : ℤ) (ns : List ℤ) (j : ℕ) → AreLowest rs → common_denominator rs ≡ Ok m → numerators_over m rs ≡ Ok ns → j < length ns → entry ns j ≡ m → gcd_of_all ns ≡ 1
+numerators-primitive rs m ns j s e f h at = numerators-primitive_to rs m ns j (pos 1) s e f h (*ℤ_comm (entry ns j) (pos 1) ∙ one-*ℤ (entry ns j) ∙ at)

@@ -67,7 +67,7 @@ reduced-primitive line j n = go (nat_eq (gcd_of_all line) 0) refl n
     go true e n = absurd (n (all_zero line (subst (λ (d : ℕ). DividesEach d line) (none (gcd_of_all line) e) (DividesEach-gcd_of_all line)) j))
     go false e n = gcd_of_all-reduced line (some (gcd_of_all line) e)
 
-line_without-primitive : (column : ℕ) (pivot line made : List ℤ) (j : ℕ) → gcd_of_all line ≡ 1 → line_without column pivot line ≡ Ok made → (entry made j ≡ pos 0 → ⊥) → gcd_of_all made ≡ 1
+pub line_without-primitive : (column : ℕ) (pivot line made : List ℤ) (j : ℕ) → gcd_of_all line ≡ 1 → line_without column pivot line ≡ Ok made → (entry made j ≡ pos 0 → ⊥) → gcd_of_all made ≡ 1
 line_without-primitive column pivot line made j p e n = go (int_eq (entry line column) (pos 0)) e
   where
     go : (b : Bool) → cond b (lines_ok line) (product_of (entry line column) (negsuc 0) >>= λ q. sum_of_lines (entry pivot column) line q pivot >>= λ zs. lines_ok (reduced zs)) ≡ Ok made → gcd_of_all made ≡ 1

@@ -23,6 +23,7 @@ use Rattle.simplex.specs.declared.tableau.Tableau.{Tableau}
 use Rattle.simplex.proofs.Certificates.{lt_true as int_lt_true}
 use Rattle.simplex.proofs.Choosing.{is_chosen-at, chosen_by}
 use Rattle.simplex.proofs.Denominators.{AreLowest, AreNumerators, numerators_of, denominator-positive, numerators-primitive}
+use Rattle.simplex.proofs.Divisors.{exchange-primitive}
 use Rattle.simplex.proofs.Exchanges.{times_zero, vanishes, both_zero}
 use Rattle.simplex.proofs.Framing.{at_front, after_front, long}
 use Rattle.simplex.proofs.Lines.{upright-length}
@@ -65,7 +66,7 @@ spot-exchanged count lines t made line column s here within some last e = with_i
     inside = subst (λ (n : ℕ). line < n) (sym s.many) here
 
     with_is : ExchangeAt t made line column → IsSpotTableau count lines made
-    with_is x = record { many = x.many ∙ s.many; tableau = exchange-keeps count (numbers_of (spots_framed count lines)) t made line column s.tableau inside (omega (arith, within)) some e; ends = ends-exchanged count t made line column x inside within last s.ends }
+    with_is x = record { many = x.many ∙ s.many; tableau = exchange-keeps count (numbers_of (spots_framed count lines)) t made line column s.tableau inside (omega (arith, within)) some e; primitive = exchange-primitive count (numbers_of (spots_framed count lines)) t made line column s.tableau inside (omega (arith, within)) some s.primitive e; ends = ends-exchanged count t made line column x inside within last s.ends }
 
 -- ---- the relation of an unknown
 

@@ -25,7 +25,7 @@ vanishes factor x p e = cancelled factor x (pos 0) p (e ∙ sym (times_zero fact
 pub both_zero : (factor new p old q pivot : ℤ) → pos 0 <ℤ factor → factor *ℤ new ≡ p *ℤ old -ℤ q *ℤ pivot → old ≡ pos 0 → pivot ≡ pos 0 → new ≡ pos 0
 both_zero factor new p old q pivot positive e f g = vanishes factor new positive (e ∙ rw (f, g, times_zero p, times_zero q) refl)
 
-at_pivot : (factor new p q : ℤ) → pos 0 <ℤ factor → factor *ℤ new ≡ p *ℤ q -ℤ q *ℤ p → new ≡ pos 0
+pub at_pivot : (factor new p q : ℤ) → pos 0 <ℤ factor → factor *ℤ new ≡ p *ℤ q -ℤ q *ℤ p → new ≡ pos 0
 at_pivot factor new p q positive e = vanishes factor new positive (e ∙ rw (*ℤ_comm q p) (none (p *ℤ q)))
   where
     none : (z : ℤ) → z -ℤ z ≡ pos 0
@@ -43,7 +43,7 @@ factor_positive a b p q = by_lt_z (pos 0) b (λ done. done) (λ h. absurd (clash
     clash : (x y z : ℤ) → pos 0 <ℤ x → x ≡ y → z ≡ pos 0 → y ≤ℤ z → ⊥
     clash x y z q e f h = omega (arith, ints)
 
-stays_positive : (factor new p old q pivot : ℤ) → pos 0 <ℤ factor → factor *ℤ new ≡ p *ℤ old -ℤ q *ℤ pivot → pos 0 <ℤ p → pos 0 <ℤ old → pivot ≡ pos 0 → pos 0 <ℤ new
+pub stays_positive : (factor new p old q pivot : ℤ) → pos 0 <ℤ factor → factor *ℤ new ≡ p *ℤ old -ℤ q *ℤ pivot → pos 0 <ℤ p → pos 0 <ℤ old → pivot ≡ pos 0 → pos 0 <ℤ new
 stays_positive factor new p old q pivot positive e f g h =
     factor_positive factor new positive (subst (λ (z : ℤ). pos 0 <ℤ z) (sym (e ∙ rw (h, times_zero q) (alone (p *ℤ old)))) (product p old f g))
   where

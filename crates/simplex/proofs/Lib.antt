@@ -26,6 +26,24 @@ pub mod Further
 -- Calm: tableaux of a calm frame are small, and a step that leaves 128 bits shows that a frame is not small.
 pub mod Calmness
 pub mod CalmSpots
+pub mod CalmTies
+pub mod CalmUnits
+pub mod CalmBases
+pub mod SmallTies
+pub mod SmallBases
+pub mod CalmDifferences
+pub mod CalmPoints
+pub mod CalmRelations
+pub mod SpotLines
+pub mod LeastShares
+pub mod SmallPoints
+pub mod Numerators
+pub mod SmallSums
+pub mod SmallSides
+pub mod CalmKnown
+pub mod CalmSteps
+pub mod CalmHalves
+pub mod CalmReads
 pub mod Refusing
 pub mod Primitive
 pub mod Bounds
@@ -44,6 +62,9 @@ pub mod Objectives
 pub mod Bounded
 pub mod Reached
 pub mod Moves
+pub mod Swaps
+pub mod OtherGoals
+pub mod SameCases
 -- A raise: it begins at a corner, its goal grows, and no choice comes twice.
 pub mod Beginnings
 pub mod Raises

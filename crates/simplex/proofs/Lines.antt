@@ -1,14 +1,17 @@
 -- What the code makes of lines: their lengths and their numbers.
-use Rattle.std.proofs.Common.{◌≡◌, ℕ, ◌+◌, ◌<◌, ◌≤◌, Bool, true, false, cond, List, [], ◌∷◌, length, drop, get_or, sym, ap, ◌∙◌, arith, Ok, ℤ, pos, negsuc}
-use Rattle.std.specs.Prelude.{unsigned_abs, int_lt, Result}
+use Rattle.std.proofs.Common.{◌≡◌, ℕ, zero, suc, ◌+◌, ◌<◌, ◌≤◌, Bool, true, false, cond, List, [], ◌∷◌, length, drop, get_or, refl, sym, ap, ◌∙◌, arith, Ok, ℤ, pos, negsuc}
+use Rattle.std.specs.Prelude.{unsigned_abs, int_lt, int_div, nat_eq, map, Result}
+use Rattle.std.proofs.Math.Nat.{one-dvd}
 use Rattle.std.proofs.lemmas.List.{drop_more, drop_all, get_or_read}
 use Rattle.items.specs.Gives.{◌>>=◌}
 use Rattle.items.proofs.Gives.{on_ok}
 use Rattle.whole_numbers.specs.Fits.{product_of}
 use Rattle.whole_numbers.specs.Divisors.{gcd_of, gcd_of_all}
 use Rattle.whole_numbers.specs.declared.wide.Wide as Step
-use Rattle.whole_numbers.proofs.CommonDivisors.{gcd_of_assoc, gcd_of-zero, zero-gcd_of}
-use Rattle.simplex.specs.Exchange.{line_multiple, upright_line}
+use Rattle.whole_numbers.proofs.CommonDivisors.{gcd_of_assoc, gcd_of-zero, gcd_of-unique, zero-gcd_of}
+use Rattle.whole_numbers.proofs.Quotients.{int_div-*ℤ}
+use Rattle.whole_numbers.proofs.Ring.{*ℤ-one}
+use Rattle.simplex.specs.Exchange.{line_multiple, reduced, upright_line}
 use Rattle.farkas_check.specs.Relations.{entry}
 
 -- ---- the greatest common divisor
@@ -22,6 +25,31 @@ pub divisor-end : (d : ℕ) (line : List ℤ) (i : ℕ) → length line ≤ i �
 divisor-end d line i h = let e : drop i line ≡ [] = drop_all i line h in ap (λ zs. gcd_of d (gcd_of_all zs)) e ∙ gcd_of-zero d
 
 pub ruleset divisors = (zero-gcd_of)
+
+-- no number has a greater divisor with 1
+pub one-gcd_of : (n : ℕ) → gcd_of 1 n ≡ 1
+one-gcd_of n = gcd_of-unique 1 n 1 (one-dvd 1, one-dvd n, λ d p q. p)
+
+quotient-one : (z : ℤ) → int_div z (pos 1) ≡ z
+quotient-one z = sym (*ℤ-one (int_div z (pos 1))) ∙ int_div-*ℤ z 1 (one-dvd (unsigned_abs z))
+
+quotients-one : (line : List ℤ) → map (λ z. int_div z (pos 1)) line ≡ line
+quotients-one [] = refl
+quotients-one (z ∷ line) = cc_of (quotient-one z) (quotients-one line)
+  where
+    cc_of : {a b : ℤ} {xs ys : List ℤ} → a ≡ b → xs ≡ ys → a ∷ xs ≡ b ∷ ys
+    cc_of e f = cc
+
+-- a line whose divisor is 1, or that is 0, stays as it is
+pub reduced-short : (line : List ℤ) → gcd_of_all line ≤ 1 → line ≡ reduced line
+reduced-short line h = go (gcd_of_all line) refl h
+  where
+    go : (d : ℕ) → gcd_of_all line ≡ d → d ≤ 1 → line ≡ cond (nat_eq d 0) line (map (λ z. int_div z (pos d)) line)
+    go zero e k = refl
+    go (suc zero) e k = sym (quotients-one line)
+    go (suc (suc d)) e k = absurd (omega (arith, k))
+
+pub ruleset short_lines = (reduced-short)
 
 -- ---- lengths
 

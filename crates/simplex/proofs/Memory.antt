@@ -21,7 +21,7 @@ use Rattle.simplex.specs.declared.stop.Stop.TheVariants.{Wide, Memory}
 use Rattle.simplex.specs.declared.tableau.Tableau.{Tableau}
 use Rattle.simplex.proofs.Small.{HasValue, line_multiple-fits, product_of-fits, bind_value, negative-fits, upright-fits, exchange-fits}
 
-only_memory : {X : Type 0} (e : Stop) (r : Result X Step.Wide) → FailsBy (cause e) r → HasValue r → IsMemory e
+pub only_memory : {X : Type 0} (e : Stop) (r : Result X Step.Wide) → FailsBy (cause e) r → HasValue r → IsMemory e
 only_memory {X = X} (Wide step) r f v = clash v.0 v.1
   where
     clash : (x : X) → r ≡ Ok x → ⊥
@@ -44,7 +44,7 @@ multipliers-calm constants line (Err e) g n room small =
 abbrev ratio_ok : Fraction → Result Fraction Step.Wide
 ratio_ok r = Ok r
 
-never : {X : Type 0} (r : Result X Step.Wide) → HasValue r → IfErr r (λ _. ⊥)
+pub never : {X : Type 0} (r : Result X Step.Wide) → HasValue r → IfErr r (λ _. ⊥)
 never (Ok x) v = tt
 never {X = X} (Err w) v = clash v.0 v.1
   where

@@ -254,7 +254,7 @@ reduced-length line = go (nat_eq (gcd_of_all line) 0)
     go true = refl
     go false = length-map line (λ z. int_div z (pos (gcd_of_all line)))
 
-line_without-length : (column : ℕ) (pivot line made : List ℤ) → length line ≡ length pivot → line_without column pivot line ≡ Ok made → length made ≡ length line
+pub line_without-length : (column : ℕ) (pivot line made : List ℤ) → length line ≡ length pivot → line_without column pivot line ≡ Ok made → length made ≡ length line
 line_without-length column pivot line made l e = go (int_eq (entry line column) (pos 0)) e
   where
     go : (b : Bool) → cond b (lines_ok line) (product_of (entry line column) (negsuc 0) >>= λ q. sum_of_lines (entry pivot column) line q pivot >>= λ zs. lines_ok (reduced zs)) ≡ Ok made → length made ≡ length line

@@ -11,13 +11,14 @@ use Rattle.whole_numbers.proofs.Ring.{one-*ℤ}
 use Rattle.farkas_check.specs.Ratios.{Fraction}
 use Rattle.farkas_check.specs.Relations.{entry}
 use Rattle.simplex.specs.declared.tableau.Tableau.{Tableau}
-use Rattle.simplex.specs.Exchange.{cause, numbers_of, choices_of, IsTableauOf}
+use Rattle.simplex.specs.Exchange.{ArePrimitive, cause, numbers_of, choices_of, IsTableauOf}
 use Rattle.simplex.specs.declared.stop.Stop.{Stop}
 use Rattle.simplex.specs.declared.spots.Spots.{Spots}
 use Rattle.simplex.specs.Frames.{IsWholeTableau}
 use Rattle.simplex.specs.Rows.{units_to}
 use Rattle.simplex.specs.Spots.{entries_to, spot_row, spot_rows, spots_framed, IsSpotTableau, AreSpots, numerators_over}
 use Rattle.simplex.proofs.Corners.{none, single}
+use Rattle.simplex.proofs.Divisors.{one-primitive}
 use Rattle.simplex.proofs.Framing.{at_front, after_front, long, units_to-length, units_to-at, units_from-length, units_from-at}
 
 pub entries_to-length : (line : List ℤ) (n : ℕ) → length (entries_to line n) ≡ n
@@ -105,10 +106,17 @@ framed-is count lines = record {
       solutions = λ x e. e;
     }
 
+framed-primitive : (count : ℕ) (lines : List (List ℤ)) → ArePrimitive (spots_framed count lines)
+framed-primitive count lines i h = one-primitive (get_or (spot_rows count (length lines) 0 lines) i []) (count + i) (framed-unit count lines i i inside inside ∙ ap (λ (b : Bool). cond b (pos 1) (pos 0)) (eq-eqb i i refl))
+  where
+    inside : i < length lines
+    inside = subst (λ (n : ℕ). i < n) (spot_rows-length count (length lines) 0 lines) h
+
 pub spots_framed-is : (count : ℕ) (lines : List (List ℤ)) (t : Tableau) → t ≡ spots_framed count lines → IsSpotTableau count lines t
 spots_framed-is count lines t e = subst (IsSpotTableau count lines) (sym e) (record {
   many = spot_rows-length count (length lines) 0 lines;
   tableau = framed-is count lines;
+  primitive = framed-primitive count lines;
   ends = λ i j h after before. absurd (let own : choices_of (spots_framed count lines) i ≡ count + i = units_from-at count (length lines) i (subst (λ (n : ℕ). i < n) (spot_rows-length count (length lines) 0 lines) h) in omega (arith, own, after, before));
 })
 

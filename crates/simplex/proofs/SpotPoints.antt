@@ -91,7 +91,7 @@ corner_true cs rows p enters t l row ordered k canonical among here =
     inside : l < length rows
     inside = row_within rows l row here
 
-corner_each : (cs : List (List Col)) (rows : List Row) (p : Polynomial) (enters : List Bool) (t : Tableau) (point : List Fraction) (j : ℕ) → IsMet (frame_over cs rows p) (length cs) (kinds_of (with_goal rows p)) enters t → IsCornerOf t (length cs) (length cs) point → j < length cs → Stands (get_or point j (whole (pos 0))) (shift t (length cs) j) (whole_of t)
+pub corner_each : (cs : List (List Col)) (rows : List Row) (p : Polynomial) (enters : List Bool) (t : Tableau) (point : List Fraction) (j : ℕ) → IsMet (frame_over cs rows p) (length cs) (kinds_of (with_goal rows p)) enters t → IsCornerOf t (length cs) (length cs) point → j < length cs → Stands (get_or point j (whole (pos 0))) (shift t (length cs) j) (whole_of t)
 corner_each cs rows p enters t point j k c h = stands-at (frame_over cs rows p) t (length cs) j (get_or point j (whole (pos 0))) k.placed.marked.sized.tableau (λ same. absurd (omega (arith, h, same))) (c.same j h)
 
 -- each number of the corner stands over the tableau's denominator
@@ -155,13 +155,13 @@ both_within AtMost a b p q = omega (arith, ints, p, q)
 both_within Equal a b p q = omega (arith, ints, p, q)
 
 -- the column along which the objective grows
-record IsGrowing (cs : List (List Col)) (rows : List Row) (t : Tableau) (column : ℕ) : Type 0 where
-  many : length t.lines ≡ length rows + 1
-  apart : column ≢ length cs
-  within : column < length cs + 1 + length t.lines
-  free : (k : ℕ) → k < length t.lines → choices_of t k ≢ column
+pub record IsGrowing (cs : List (List Col)) (rows : List Row) (t : Tableau) (column : ℕ) : Type 0 where
+  pub many : length t.lines ≡ length rows + 1
+  pub apart : column ≢ length cs
+  pub within : column < length cs + 1 + length t.lines
+  pub free : (k : ℕ) → k < length t.lines → choices_of t k ≢ column
 
-growing : (cs : List (List Col)) (rows : List Row) (p : Polynomial) (enters : List Bool) (t : Tableau) (column : ℕ) (up : Bool) → IsOpened (frame_over cs rows p) (length cs) (kinds_of (with_goal rows p)) enters column up t → IsGrowing cs rows t column
+pub growing : (cs : List (List Col)) (rows : List Row) (p : Polynomial) (enters : List Bool) (t : Tableau) (column : ℕ) (up : Bool) → IsOpened (frame_over cs rows p) (length cs) (kinds_of (with_goal rows p)) enters column up t → IsGrowing cs rows t column
 growing cs rows p enters t column up o = record {
   many = many;
   apart = ⊎_elim (λ (h : column < length cs). (λ e. absurd (omega (arith, h, e)))) (λ way. (λ e. absurd (let f : column ≡ length cs + 1 + (o.met.placed.marked.entering column way.0).row = (o.met.placed.marked.entering column way.0).is in omega (arith, f, e)))) o.way;

@@ -81,7 +81,7 @@ before_among c m (d ∷ cs) b h = go (eq_by_cmp mono_cmp m d) refl h (λ k. befo
     go false e k ih = ih k
 
 -- there are no more terms than columns
-few_terms : (cs : List (List Col)) (ts : Terms) → IsOrdered cs → IsCanonical ts → AreAmong (keys_of ts) cs → length ts ≤ length cs
+pub few_terms : (cs : List (List Col)) (ts : Terms) → IsOrdered cs → IsCanonical ts → AreAmong (keys_of ts) cs → length ts ≤ length cs
 few_terms [] [] o k a = omega arith
 few_terms [] (t ∷ ts) o k a = absurd (false≢true a.0)
 few_terms (c ∷ cs) [] o k a = omega arith

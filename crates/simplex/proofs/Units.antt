@@ -36,7 +36,7 @@ use Rattle.simplex.proofs.Certificates.{sum_below-first}
 use Rattle.simplex.proofs.Choosing.{is_chosen-at, chosen_by}
 use Rattle.simplex.proofs.Denominators.{AreLowest, numerators_of, denominator-positive}
 use Rattle.simplex.proofs.Echelons.{numerator_at}
-use Rattle.simplex.proofs.SpotFrames.{framed-number, numerators-length}
+use Rattle.simplex.proofs.SpotFrames.{framed-number}
 use Rattle.simplex.proofs.SpotPoints.{all_honest}
 use Rattle.simplex.proofs.Sums.{sum_below-same}
 
@@ -204,9 +204,9 @@ sides-lowest cs at terms lower values p a =
 
 -- ---- what stands at an unknown
 
--- the value at each place is the listed one
-abbrev AreSidesAt : (Polynomial → Result Fraction Step.Wide) → List Side → List Fraction → Type 0
-AreSidesAt value ss rs = (place : ℕ) → place < length rs → ratio_side_at value ss place ≡ Ok (get_or rs place (whole (pos 0)))
+-- the value at each place is the listed one, and 0 past the last
+abbrev pub AreSidesAt : (Polynomial → Result Fraction Step.Wide) → List Side → List Fraction → Type 0
+AreSidesAt value ss rs = (place : ℕ) → ratio_side_at value ss place ≡ Ok (get_or rs place (whole (pos 0)))
 
 parts_at : (value own : Polynomial → Result Fraction Step.Wide) (side : Polynomial → Side) (ps : List Polynomial) (ss : List Side) (rs more : List Fraction) → ((p : Polynomial) → ratio_side value (side p) ≡ own p) → values_of own ps ≡ Ok rs → AreSidesAt value ss more → AreSidesAt value (map side ps ++ ss) (rs ++ more)
 parts_at value own side [] ss rs more f e rest = let none : [] ≡ rs = cc in subst (λ (xs : List Fraction). AreSidesAt value ss (xs ++ more)) none rest
@@ -219,10 +219,10 @@ parts_at value own side (p ∷ ps) ss rs more f e rest =
     ratios_ok rs = Ok rs
 
     cons : (r : Fraction) (others : List Fraction) → own p ≡ Ok r → AreSidesAt value (map side ps ++ ss) (others ++ more) → AreSidesAt value (map side (p ∷ ps) ++ ss) (r ∷ (others ++ more))
-    cons r others g ih zero h = f p ∙ g
-    cons r others g ih (suc place) h = ih place (omega (arith, h))
+    cons r others g ih zero = f p ∙ g
+    cons r others g ih (suc place) = ih place
 
-sides_at : (cs : List (List Col)) (at : List Fraction) (terms lower : List Polynomial) (values : List Fraction) → AreSideValues cs at terms lower values → AreSidesAt (ratio_value (ratio_at cs at)) (sides terms lower) values
+pub sides_at : (cs : List (List Col)) (at : List Fraction) (terms lower : List Polynomial) (values : List Fraction) → AreSideValues cs at terms lower values → AreSidesAt (ratio_value (ratio_at cs at)) (sides terms lower) values
 sides_at cs at terms lower values a =
     subst (AreSidesAt value (sides terms lower)) (sym a.is)
     (parts_at value value Term terms (map Lower lower ++ One ∷ []) a.own (a.others ++ whole (negsuc 0) ∷ []) (λ p. refl) a.own_is
@@ -232,8 +232,8 @@ sides_at cs at terms lower values a =
     value = ratio_value (ratio_at cs at)
 
     last : AreSidesAt (ratio_value (ratio_at cs at)) (One ∷ []) (whole (negsuc 0) ∷ [])
-    last zero h = refl
-    last (suc place) h = absurd (omega (arith, h))
+    last zero = refl
+    last (suc place) = refl
 
 -- a spot's value at an unknown is the number of its line there over the spot's scale
 pub side_stands : (cs : List (List Col)) (cases : List Change) (lower : List Polynomial) (spot : Spot) (line : List ℤ) (scale : ℤ) (place : ℕ) (v : Fraction) → IsPositiveAt (ratio_at cs spot.at) → IsSpotLine cs spot.at (terms_of cases spot.case) lower line scale → place < length line → spot_side cs cases lower spot place ≡ Ok v
@@ -241,17 +241,14 @@ pub side_stands : (cs : List (List Col)) (cases : List Change) (lower : List Pol
 unfolding spot_side
 side_stands cs cases lower spot line scale place v positive is h e = (
   record {
-    same = sym (subst (λ (r : Fraction). entry line place *ℤ r.den ≡ r.num *ℤ scale) (same (sides_at cs spot.at (terms_of cases spot.case) lower is.values is.are place within)) (numerator_at scale is.values line place (numerators_of is.values scale line lowest is.scale_is is.line_is) h));
-    positive = subst (λ (r : Fraction). pos 0 <ℤ r.den) (same (sides_at cs spot.at (terms_of cases spot.case) lower is.values is.are place within)) (den_at is.values place lowest);
+    same = sym (subst (λ (r : Fraction). entry line place *ℤ r.den ≡ r.num *ℤ scale) (same (sides_at cs spot.at (terms_of cases spot.case) lower is.values is.are place)) (numerator_at scale is.values line place (numerators_of is.values scale line lowest is.scale_is is.line_is) h));
+    positive = subst (λ (r : Fraction). pos 0 <ℤ r.den) (same (sides_at cs spot.at (terms_of cases spot.case) lower is.values is.are place)) (den_at is.values place lowest);
   },
   denominator-positive is.values scale lowest is.scale_is,
 )
   where
     lowest : AreLowest is.values
     lowest = sides-lowest cs spot.at (terms_of cases spot.case) lower is.values positive is.are
-
-    within : place < length is.values
-    within = subst (λ (n : ℕ). place < n) (numerators-length scale is.values line is.line_is) h
 
     same : {r : Fraction} → ratio_side_at (ratio_value (ratio_at cs spot.at)) (sides (terms_of cases spot.case) lower) place ≡ Ok r → r ≡ v
     same {r} f = let g : Ok r ≡ Ok v = sym f ∙ e in (cc)
@@ -276,7 +273,7 @@ units_sum-is line place (l ∷ lines) other =
     ∙ sym (sum_below-first (length lines) (λ i. entry line (place + i) *ℤ entry (get_or (l ∷ lines) i []) other))
 
 -- the product of a spot's value and its multiple stands over the line's own number
-part_stands : (x unit scale own : ℤ) (v part : Fraction) → pos 0 <ℤ own → pos 0 <ℤ scale → Stands v x scale → ratio_product v (lowest_terms (unit *ℤ scale) own) ≡ Ok part → Stands part (unit *ℤ x) own
+pub part_stands : (x unit scale own : ℤ) (v part : Fraction) → pos 0 <ℤ own → pos 0 <ℤ scale → Stands v x scale → ratio_product v (lowest_terms (unit *ℤ scale) own) ≡ Ok part → Stands part (unit *ℤ x) own
 part_stands x unit scale own v part p q s e = record { same = level; positive = t.positive }
   where
     by : Fraction

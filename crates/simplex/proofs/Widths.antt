@@ -56,11 +56,11 @@ pub record IsShare (r : Fraction) (x d : ℤ) : Type 0 where
   pub num : r.num *ℤ times ≡ x
   pub den : r.den *ℤ times ≡ d
 
-as_pos : (z : ℤ) → pos 0 <ℤ z → z ≡ pos (unsigned_abs z)
+pub as_pos : (z : ℤ) → pos 0 <ℤ z → z ≡ pos (unsigned_abs z)
 as_pos (pos n) h = refl
 as_pos (negsuc n) h = absurd (omega (arith, ints, h))
 
-size_above : (z : ℤ) → pos 0 <ℤ z → 0 < unsigned_abs z
+pub size_above : (z : ℤ) → pos 0 <ℤ z → 0 < unsigned_abs z
 size_above z h = omega (arith, ints)
 
 swap_last : (a b c : ℤ) → a *ℤ b *ℤ c ≡ a *ℤ (c *ℤ b)

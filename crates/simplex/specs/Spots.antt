@@ -6,14 +6,14 @@ use Rattle.whole_numbers.specs.Fits.{product_of}
 use Rattle.whole_numbers.specs.declared.wide.Wide as Step
 use Rattle.linear_terms.specs.declared.col.Col.{Col}
 use Rattle.linear_terms.specs.Polynomial.{Polynomial}
-use Rattle.farkas_check.specs.Frames.{sum_below}
+use Rattle.farkas_check.specs.Frames.{Frame, sum_below}
 use Rattle.farkas_check.specs.Points.{ratio_at, ratio_value}
 use Rattle.farkas_check.specs.Ratios.{Fraction, whole, lowest_terms, common_multiple, ratio_sum}
 use Rattle.farkas_check.specs.Stratum.{terms_of, minus_value}
 use Rattle.farkas_check.specs.declared.stratum.Change.{Change}
 use Rattle.farkas_check.specs.declared.stratum.Spot.{Spot}
 use Rattle.farkas_check.specs.Relations.{entry, pivot}
-use Rattle.simplex.specs.Exchange.{numbers_of, choices_of, IsTableauOf}
+use Rattle.simplex.specs.Exchange.{numbers_of, choices_of, IsTableauOf, ArePrimitive}
 use Rattle.simplex.specs.Frames.{is_chosen}
 use Rattle.simplex.specs.Raise.{Framed}
 use Rattle.simplex.specs.Rows.{units_to, units_from}
@@ -116,14 +116,19 @@ spots_framed count lines = record { lines = spot_rows count (length lines) 0 lin
 abbrev pub spots_frame : ℕ → List (List ℤ) → Framed
 spots_frame count lines = record { units = count; rows = 0; frame = numbers_of (spots_framed count lines) }
 
+-- the same frame in the words of calm questions
+abbrev pub frame_of_lines : ℕ → List (List ℤ) → Frame
+frame_of_lines count lines = record { lines = lines; units = count }
+
 -- each line is 0 at the unknowns behind its choice
 abbrev pub EndsAtChoices : ℕ → Tableau → Type 0
 EndsAtChoices count t = (i j : ℕ) → i < length t.lines → choices_of t i < j → j < count → numbers_of t i j ≡ pos 0
 
--- a tableau of the frame of lines
+-- a tableau of the frame of lines, each of whose lines has no common divisor
 pub record IsSpotTableau (count : ℕ) (lines : List (List ℤ)) (t : Tableau) : Type 0 where
   pub many : length t.lines ≡ length lines
   pub tableau : IsTableauOf count (numbers_of (spots_framed count lines)) t
+  pub primitive : ArePrimitive t
   pub ends : EndsAtChoices count t
 
 -- a sum of multiples of lines that is 0 at all unknowns has no multiple but 0

@@ -4,7 +4,9 @@ use Rattle.std.specs.List.{AllByRecursion, list_all}
 use Rattle.linear_terms.specs.declared.col.Col.{Col}
 use Rattle.linear_terms.specs.declared.row.Row.{Row}
 use Rattle.linear_terms.specs.Polynomial.{Polynomial}
+use Rattle.farkas_check.specs.Calm.{IsCalm, IsLiveAndCalm}
 use Rattle.farkas_check.specs.Frames.{choice_count}
+use Rattle.farkas_check.specs.Meaning.{IsLimit}
 use Rattle.farkas_check.specs.Kept.{IsCanonicalStratum}
 use Rattle.farkas_check.specs.Relations.{Changes, stratum_columns, term_count, unknown_count, have_equally_many, numbers_of, is_reduced, free_places}
 use Rattle.farkas_check.specs.Sizes.{IsDead}
@@ -19,8 +21,10 @@ use Rattle.farkas_check.specs.declared.question.Question.TheVariants.{Stratum}
 use Rattle.farkas_check.specs.declared.stratum.Change.{Change}
 use Rattle.farkas_check.specs.declared.stratum.Relation.{Relation}
 use Rattle.farkas_check.specs.declared.stratum.Spot.{Spot}
+use Rattle.simplex.specs.Answers.{IsWide}
 use Rattle.simplex.specs.Points.{IsPointOf, IsSpotAt}
 use Rattle.simplex.specs.Relations.{HasCounts}
+use Rattle.simplex.specs.SmallBasis.{HasSmallTies}
 use Rattle.simplex.specs.Suprema.{IsSupremumOver}
 use Rattle.simplex.specs.Ties.{IsHonestHalf, IsHonestTie, AreTies}
 use Rattle.simplex.specs.declared.differences.Strata.{Strata}
@@ -55,6 +59,7 @@ pub record HasEndlessCase (cs : List (List Col)) (budget : ℕ) (cases : List Ch
 -- the question's own columns, terms and unknowns
 pub record IsAsked (s : Strata) : Type 0 where
   pub columns : s.columns.now ≡ stratum_columns s.cases.now s.lower.now
+  pub few_columns : length s.columns.now < 2 ^ 64
   pub canonical : IsCanonicalStratum s.cases.now s.lower.now
   pub even : IsTrue (have_equally_many s.cases.now)
   pub terms : s.terms ≡ term_count s.cases.now
@@ -64,10 +69,11 @@ pub record IsCaseOf (s : Strata) (case : Change) : Type 0 where
   pub place : ℕ
   pub is : slice_get s.cases.now place ≡ Some case
 
--- a relation with a number for each term and each lower term, and with a tie for each case
+-- a relation with a number for each term and each lower term, and with a tie for each case, small where the question is calm
 pub record IsTiedRelation (s : Strata) (relation : Relation) : Type 0 where
   pub counts : HasCounts s.terms (length s.lower.now) relation
   pub ties : AreTies s.columns.now s.lower.now (numbers_of relation) s.cases.now (length s.cases.now) relation.ties
+  pub small : HasSmallTies s relation.ties
 
 -- Spots that are points of their cases, and relations that are tied in each case. Where no spot came since the unknowns began
 -- to have their turns, the relations are those of all unknowns before the next.
@@ -168,3 +174,5 @@ PivotsOver budget asked a = a ≡ answer.Limit limit.Pivots → IsDead (Stratum 
 pub record IsStratumAnswer (asked : Changes) (a : Answer) : Type 0 where
   pub passes : Passes (Stratum asked) a
   pub pivots : PivotsOver (2 ^ 127 - 1) asked a
+  pub wide : IsCalm (Stratum asked) → IsWide a → ⊥
+  pub calm : IsLiveAndCalm (Stratum asked) → IsLimit a → ⊥

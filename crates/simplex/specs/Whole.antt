@@ -1,17 +1,11 @@
 -- What the call for all kinds of questions owes of its answer.
-use Rattle.std.specs.Prelude.{ℕ, ⊤}
+use Rattle.std.specs.Prelude.{ℕ}
 use Rattle.farkas_check.specs.declared.answer.Answer.{Answer}
 use Rattle.farkas_check.specs.declared.question.Question.{Question}
 use Rattle.farkas_check.specs.declared.question.Question.TheVariants.{Infeasible, Sup, Stratum}
 use Rattle.simplex.specs.Answers.{PivotsOf}
 use Rattle.simplex.specs.Goals.{PivotsAmong}
 use Rattle.simplex.specs.Strata.{PivotsOver}
-
--- a question of rows or of goals
-abbrev pub AsksNoRelations : Question → Type 0
-AsksNoRelations (Infeasible rows) = ⊤
-AsksNoRelations (Sup goals) = ⊤
-AsksNoRelations (Stratum asked) = ⊥
 
 -- the turns are used up only where a case has more choices, or where the question is dead
 abbrev pub PivotsIn : ℕ → Question → Answer → Type 0

@@ -1,10 +1,17 @@
-ghost use Rattle.std.specs.Prelude.{◌≡◌, ◌+◌, ℤ, pos, List, length, Bool, true, Ok, IfOk, IfErr};
+ghost use Rattle.std.specs.Prelude.{◌≡◌, ◌+◌, ◌^◌, ◌<◌, ℤ, pos, List, length, Bool, true, Ok, IfOk, IfErr};
+ghost use Rattle.linear_terms.specs.Operations.{sum_of_polys};
+ghost use Rattle.linear_terms.specs.Polynomial.{Polynomial, constant_of};
+ghost use Rattle.farkas_check.specs.Points.{ratio_at, ratio_value};
+ghost use Rattle.farkas_check.specs.Ratios.{Fraction};
 ghost use Rattle.farkas_check.specs.declared.stratum.Change.{Change};
+ghost use Rattle.simplex.specs.Calm.{IsMemory};
+ghost use Rattle.simplex.specs.CalmStrata.{IsRefusalOf, IsCalmRelation};
 ghost use Rattle.simplex.specs.Differences.{with_multiple, with_multiples, IsDifferenceOf};
 ghost use Rattle.simplex.specs.Points.{IsPointOf};
 ghost use Rattle.simplex.specs.Raise.{sign_of};
 ghost use Rattle.simplex.specs.Refusal.{IsRefusal};
-ghost use Rattle.simplex.specs.Spots.{IsApart};
+ghost use Rattle.simplex.specs.SmallBasis.{HasSmallMultipliers, HasSmallHalf, HasSmallBond};
+ghost use Rattle.simplex.specs.Spots.{IsApart, sums_of};
 ghost use Rattle.simplex.specs.Strata.{IsAsked, IsCaseOf, IsFurther, HalfAt, BondAt};
 ghost use Rattle.simplex.specs.Ties.{IsHonestHalf};
 ghost use Rattle.simplex.specs.declared.differences.Strata.{Strata};
@@ -60,6 +67,7 @@ fn sign_of(up: bool) -> i128
 fn with_multiple(alloc: Global, total: &Poly, number: i128, poly: &Poly) -> Result<Poly, Stop>
     ensures exact { IfOk result (λ p. with_multiple total.now number poly.now ≡ Ok p) }
     ensures refusal { IfErr result IsRefusal }
+    ensures calm { (p : Polynomial) → with_multiple total.now number poly.now ≡ Ok p → IfErr result IsMemory }
 {
     let part = scale(alloc, poly, number)?;
     Ok(add(alloc, total, &part)?)
@@ -74,6 +82,7 @@ fn with_multiples(
 ) -> Result<Poly, Stop>
     ensures exact { IfOk result (λ p. with_multiples first numbers.now polys.now ≡ Ok p) }
     ensures refusal { IfErr result IsRefusal }
+    ensures calm { (p : Polynomial) → with_multiples first numbers.now polys.now ≡ Ok p → IfErr result IsMemory }
 {
     let mut total = first;
     let mut numbers = numbers;
@@ -88,6 +97,16 @@ fn with_multiples(
     Ok(total)
 }
 
+/// A polynomial with a number more.
+fn with_rest(alloc: Global, poly: Poly, number: &i128) -> Result<Poly, Stop>
+    ensures exact { IfOk result (λ p. sum_of_polys poly (constant_of number.now) ≡ Ok p) }
+    ensures refusal { IfErr result IsRefusal }
+    ensures calm { (p : Polynomial) → sum_of_polys poly (constant_of number.now) ≡ Ok p → IfErr result IsMemory }
+{
+    let rest = Poly::constant(alloc, *number);
+    Ok(add(alloc, &poly, &rest)?)
+}
+
 /// The difference of a relation in a case, or minus the difference.
 fn difference_in(
     alloc: Global,
@@ -100,8 +119,10 @@ fn difference_in(
     requires case { IsCaseOf strata.now case.now }
     requires count { strata.now.count ≡ strata.now.terms + length strata.now.lower.now + 1 }
     requires numbers { length numbers.now ≡ strata.now.count }
+    requires few { strata.now.count < 2 ^ 61 }
+    requires calm { IsCalmRelation strata.now numbers.now }
     ensures difference { IfOk result (IsDifferenceOf case.now.terms strata.now.lower.now numbers.now up) }
-    ensures refusal { IfErr result IsRefusal }
+    ensures refusal { IfErr result (IsRefusalOf strata.now) }
 {
     let (first, last) = numbers.split_at(strata.terms);
     let own = line_multiple(alloc, first, sign_of(up))?;
@@ -109,8 +130,9 @@ fn difference_in(
     let zero = Poly::constant(alloc, 0);
     let terms = with_multiples(alloc, zero, own.as_slice(), case.terms.as_slice())?;
     let sides = with_multiples(alloc, terms, others.as_slice(), strata.lower)?;
-    let rest = Poly::constant(alloc, entry(others.as_slice(), strata.lower.len()));
-    Ok(add(alloc, &sides, &rest)?)
+    let last = entry(others.as_slice(), strata.lower.len());
+    let made = with_rest(alloc, sides, &last)?;
+    Ok(made)
 }
 
 /// A point at which the objective is not 0: this one, or where it is 0 here, one further along a ray on which it grows.
@@ -123,6 +145,7 @@ fn point_apart(
 ) -> Result<Items<Ratio>, Stop>
     ensures point { IfOk result (IsFurther columns.now objective.now point ray) }
     ensures refusal { IfErr result IsRefusal }
+    ensures calm { (v : Fraction) (zs : List Fraction) → ratio_value (ratio_at columns.now point) objective.now ≡ Ok v → sums_of point ray ≡ Ok zs → IfErr result IsMemory }
 {
     let value = value_at(columns, point.as_slice(), objective)?;
     if value.num() != 0 {
@@ -143,8 +166,11 @@ fn half_of(
     requires case { IsCaseOf strata.now case.now }
     requires count { strata.now.count ≡ strata.now.terms + length strata.now.lower.now + 1 }
     requires numbers { length numbers.now ≡ strata.now.count }
+    requires few { strata.now.count < 2 ^ 61 }
+    requires calm { IsCalmRelation strata.now numbers.now }
     ensures half { IfOk result (HalfAt strata.now numbers.now case.now up) }
-    ensures refusal { IfErr result IsRefusal }
+    ensures small { IfOk result (HasSmallHalf strata.now) }
+    ensures refusal { IfErr result (IsRefusalOf strata.now) }
 {
     let objective = difference_in(alloc, strata, case, numbers, up)?;
     let found = supremum_over(
@@ -167,7 +193,8 @@ fn half_of(
 
 /// A bound of 0 ties; else the point that reaches the bound is one at which the objective is not 0.
 fn half_below(cert: Cert, point: Items<Ratio>) -> Half
-    ensures { (strata : Strata) (numbers : List ℤ) (case : Change) (up : Bool) → IsPointOf strata.columns.now case.rows point
+    ensures small { (strata : Strata) → HasSmallMultipliers strata cert → HasSmallHalf strata result }
+    ensures half { (strata : Strata) (numbers : List ℤ) (case : Change) (up : Bool) → IsPointOf strata.columns.now case.rows point
         → ((cert.sum ≡ pos 0 → ⊥) → IsApart strata.columns.now case.terms strata.lower.now (length numbers) numbers point)
         → (cert.sum ≡ pos 0 → IsHonestHalf strata.columns.now strata.lower.now numbers case up cert) → HalfAt strata numbers case up result }
 {
@@ -189,8 +216,11 @@ pub(crate) fn bond_of(
     requires case { IsCaseOf strata.now case.now }
     requires count { strata.now.count ≡ strata.now.terms + length strata.now.lower.now + 1 }
     requires numbers { length numbers.now ≡ strata.now.count }
+    requires few { strata.now.count < 2 ^ 61 }
+    requires calm { IsCalmRelation strata.now numbers.now }
     ensures bond { IfOk result (BondAt strata.now numbers.now case.now) }
-    ensures refusal { IfErr result IsRefusal }
+    ensures small { IfOk result (HasSmallBond strata.now) }
+    ensures refusal { IfErr result (IsRefusalOf strata.now) }
 {
     match half_of(alloc, strata, case, numbers, true)? {
         Half::Tied(up) => bond_with(alloc, strata, case, numbers, up),
@@ -210,9 +240,13 @@ fn bond_with(
     requires case { IsCaseOf strata.now case.now }
     requires count { strata.now.count ≡ strata.now.terms + length strata.now.lower.now + 1 }
     requires numbers { length numbers.now ≡ strata.now.count }
+    requires few { strata.now.count < 2 ^ 61 }
+    requires calm { IsCalmRelation strata.now numbers.now }
     requires up { IsHonestHalf strata.now.columns.now strata.now.lower.now numbers.now case.now true up }
+    requires small { HasSmallMultipliers strata.now up }
     ensures bond { IfOk result (BondAt strata.now numbers.now case.now) }
-    ensures refusal { IfErr result IsRefusal }
+    ensures small { IfOk result (HasSmallBond strata.now) }
+    ensures refusal { IfErr result (IsRefusalOf strata.now) }
 {
     match half_of(alloc, strata, case, numbers, false)? {
         Half::Tied(down) => Ok(Bond::Tied(tie_of(up, down))),

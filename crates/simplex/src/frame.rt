@@ -34,6 +34,7 @@ fn lines_from(
     rows: &[Row],
     columns: &[Mono],
 ) -> Result<Items<Items<i128>>, AllocError>
+    requires { length columns.now + 1 + length rows.now < 2 ^ 64 }
     ensures { IfOk result (λ lines. lines ≡ lines_from columns.now (length rows.now) 0 rows.now) }
 {
     let mut lines = Items::new(alloc);
@@ -43,24 +44,32 @@ fn lines_from(
     Ok(lines)
 }
 
-fn whole_line(
+/// The line of a row, the place-th of so many.
+pub(crate) fn whole_line(
     alloc: Global,
     row: &Row,
     columns: &[Mono],
     place: usize,
     count: usize,
 ) -> Result<Items<i128>, AllocError>
+    requires { length columns.now + 1 + count < 2 ^ 64 }
     ensures { IfOk result (λ line. line ≡ whole_line columns.now count place row.now) }
 {
-    let mut line = coefficients(alloc, row, columns)?;
+    let mut line = coefficients(alloc, row, columns, columns.len() + 1 + count)?;
     line.push(row.poly.rest())?;
     with_units(line, place, count)
 }
 
-fn coefficients(alloc: Global, row: &Row, columns: &[Mono]) -> Result<Items<i128>, AllocError>
+/// The row's numbers at the columns, with room for so many numbers in all.
+fn coefficients(
+    alloc: Global,
+    row: &Row,
+    columns: &[Mono],
+    room: usize,
+) -> Result<Items<i128>, AllocError>
     ensures { IfOk result (λ line. line ≡ coefficients row.now columns.now) }
 {
-    let mut line = Items::new(alloc);
+    let mut line = Items::from_vec(Vec::with_capacity(alloc, room)?);
     for column in columns {
         line.push(row.poly.coefficient(column))?;
     }

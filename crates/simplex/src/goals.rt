@@ -9,9 +9,9 @@ ghost use Rattle.simplex.specs.Answers.{IsWide};
 ghost use Rattle.simplex.specs.Refusal.{LeavesBits};
 ghost use Rattle.simplex.specs.declared.stop.Stop.TheVariants as stop;
 
-use crate::Stop;
 use crate::answering::limit_of;
-use crate::supremum::{Supremum, supremum_of};
+use crate::next_supremum::next_supremum;
+use crate::{Endings, Stop, Supremum};
 use farkas_check::{
     Answer, Cert, Goal, Limit, Ratio, canonical_goals, goals_outcome, positivity, truth_of_passing,
 };
@@ -53,16 +53,32 @@ pub fn sup(alloc: Global, goals: &[Goal]) -> Result<Answer, AllocError>
     ensures pivots { IfOk result (λ a. PivotsAmong (2 ^ 127 - 1) goals.now a) }
     ensures calm { IsLiveAndCalm (question.Sup goals.now) → IfOk result (λ a. IsLimit a → ⊥) }
 {
+    let mut endings = Endings::new(alloc);
+    sup_with(alloc, goals, &mut endings)
+}
+
+/// The same, where the search of each case begins where the last one over the same rows and columns ended.
+pub fn sup_with(alloc: Global, goals: &[Goal], endings: &mut Endings) -> Result<Answer, AllocError>
+    ensures passes { IfOk result (λ a. Passes (question.Sup goals.now) a) }
+    ensures tight { IfOk result (λ a. (IsLimit a → ⊥) → IsTight (question.Sup goals.now) a) }
+    ensures wide { IsCalm (question.Sup goals.now) → IfOk result (λ a. IsWide a → ⊥) }
+    ensures pivots { IfOk result (λ a. PivotsAmong (2 ^ 127 - 1) goals.now a) }
+    ensures calm { IsLiveAndCalm (question.Sup goals.now) → IfOk result (λ a. IsLimit a → ⊥) }
+{
     truth_of_passing();
-    let found = answer_of_goals(alloc, goals)?;
+    let found = answer_of_goals(alloc, goals, endings)?;
     Ok(found)
 }
 
-fn answer_of_goals(alloc: Global, goals: &[Goal]) -> Result<Answer, AllocError>
+fn answer_of_goals(
+    alloc: Global,
+    goals: &[Goal],
+    endings: &mut Endings,
+) -> Result<Answer, AllocError>
     ensures { IfOk result (λ a. IsGoalsAnswer goals.now a) }
 {
     canonical_goals(goals);
-    match searched_goals(alloc, goals, i128::MAX as u128) {
+    match searched_goals(alloc, goals, i128::MAX as u128, endings) {
         Ok(found) => Ok(tested_answer(goals, found)),
         Err(Stop::Wide(step)) => Ok(step_answer(goals, &step)),
         Err(Stop::Memory) => Err(AllocError),
@@ -93,7 +109,12 @@ fn tested_answer(goals: &[Goal], found: Answer) -> Answer
 }
 
 /// The search's answer, before its test.
-fn searched_goals(alloc: Global, goals: &[Goal], budget: u128) -> Result<Answer, Stop>
+fn searched_goals(
+    alloc: Global,
+    goals: &[Goal],
+    budget: u128,
+    endings: &mut Endings,
+) -> Result<Answer, Stop>
     ensures found { IfOk result (λ a. IsFoundAmong budget goals.now a) }
     ensures refusal { IfErr result (IsRefusalAmong goals.now) }
 {
@@ -102,7 +123,7 @@ fn searched_goals(alloc: Global, goals: &[Goal], budget: u128) -> Result<Answer,
         reach: None,
     };
     for place in 0..goals.len() {
-        match next_case(alloc, goals, place, bounds, budget)? {
+        match next_case(alloc, goals, place, bounds, budget, endings)? {
             Progress::On(more) => bounds = more,
             Progress::End(answer) => return Ok(answer),
         }
@@ -133,6 +154,7 @@ fn next_case(
     place: usize,
     bounds: Bounds,
     budget: u128,
+    endings: &mut Endings,
 ) -> Result<Progress, Stop>
     requires so_far { AreBoundsTo budget goals.now place bounds }
     requires here { place < length goals.now }
@@ -140,7 +162,7 @@ fn next_case(
     ensures refusal { IfErr result (IsRefusalAmong goals.now) }
 {
     let case = case_number(place)?;
-    let found = case_supremum(alloc, goals, place, budget)?;
+    let found = case_supremum(alloc, goals, place, budget, endings)?;
     match found {
         Supremum::Empty => Ok(Progress::End(Answer::Limit(Limit::Pivots))),
         Supremum::Pivots => Ok(Progress::End(Answer::Limit(Limit::Pivots))),
@@ -162,12 +184,16 @@ fn case_supremum(
     goals: &[Goal],
     place: usize,
     budget: u128,
+    endings: &mut Endings,
 ) -> Result<Supremum, Stop>
     requires { place < length goals.now }
     ensures supremum { IfOk result (λ found. IsSupremumAt budget goals.now place found) }
     ensures refusal { IfErr result (IsRefusalAmong goals.now) }
 {
-    supremum_of(alloc, &goals[place], budget)
+    let last = endings.taken(place);
+    let (found, ending) = next_supremum(alloc, &goals[place], budget, last)?;
+    endings.note(place, ending)?;
+    Ok(found)
 }
 
 /// The place of a case in 32 bits. There are no more cases in a calm question.

@@ -3,7 +3,7 @@ ghost use Rattle.farkas_check.specs.Calm.{IsCalm, IsLiveAndCalm};
 ghost use Rattle.farkas_check.specs.Meaning.{IsLimit, IsTight};
 ghost use Rattle.farkas_check.specs.Tested.{Passes};
 ghost use Rattle.simplex.specs.Answers.{IsWide};
-ghost use Rattle.simplex.specs.Whole.{AsksNoRelations, PivotsIn};
+ghost use Rattle.simplex.specs.Whole.{PivotsIn};
 
 use crate::answering::infeasible;
 use crate::goals::sup;
@@ -12,14 +12,14 @@ use farkas_check::{Answer, Question};
 use std::alloc::{AllocError, Global};
 
 /// Answers a question of any kind. The answer passes the test of the question, and is the truth about rational points
-/// unless it is a limit. A limit that names a step comes to questions of rows and of goals only where they are not
-/// calm; `Pivots` comes only to dead questions, and where a case has more choices of columns than turns.
+/// unless it is a limit. A limit that names a step comes only to questions that are not calm; `Pivots` comes only to dead
+/// questions, and where a case has more choices of columns than turns.
 pub fn answer(alloc: Global, question: &Question) -> Result<Answer, AllocError>
     ensures passes { IfOk result (λ a. Passes question.now a) }
     ensures tight { IfOk result (λ a. (IsLimit a → ⊥) → IsTight question.now a) }
-    ensures wide { AsksNoRelations question.now → IsCalm question.now → IfOk result (λ a. IsWide a → ⊥) }
+    ensures wide { IsCalm question.now → IfOk result (λ a. IsWide a → ⊥) }
     ensures pivots { IfOk result (PivotsIn (2 ^ 127 - 1) question.now) }
-    ensures calm { AsksNoRelations question.now → IsLiveAndCalm question.now → IfOk result (λ a. IsLimit a → ⊥) }
+    ensures calm { IsLiveAndCalm question.now → IfOk result (λ a. IsLimit a → ⊥) }
 {
     match question {
         Question::Infeasible(rows) => infeasible(alloc, rows.as_slice()),

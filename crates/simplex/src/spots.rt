@@ -1,12 +1,15 @@
-ghost use Rattle.std.specs.Prelude.{◌≡◌, ◌++◌, ◌∷◌, [], ◌+◌, ◌<◌, ◌≤◌, ◌^◌, ◌<ℤ◌, ℕ, pos, length, get_or, MatchOption, IfOk, IfErr, IsTrue};
+ghost use Rattle.std.specs.Prelude.{◌≡◌, ◌++◌, ◌∷◌, [], ◌+◌, ◌<◌, ◌≤◌, ◌^◌, ◌<ℤ◌, ℕ, pos, length, get_or, List, MatchOption, Ok, IfOk, IfErr, IsTrue};
 ghost use Rattle.items.specs.Gives.{Gives};
 ghost use Rattle.farkas_check.specs.Points.{ratio_at, ratio_value};
+ghost use Rattle.farkas_check.specs.Ratios.{Fraction};
 ghost use Rattle.farkas_check.specs.Relations.{entry, is_reduced};
 ghost use Rattle.farkas_check.specs.Stratum.{minus_value};
-ghost use Rattle.simplex.specs.Exchange.{cause, numbers_of, IsTableauOf};
+ghost use Rattle.simplex.specs.Exchange.{cause, numbers_of};
 ghost use Rattle.simplex.specs.Raise.{Framed};
+ghost use Rattle.simplex.specs.Calm.{IsMemory};
+ghost use Rattle.simplex.specs.CalmStrata.{IsRefusalOf, IsRefusalUnder, HasSmallScales, IsCalmSpot};
 ghost use Rattle.simplex.specs.Refusal.{LeavesBits, IsRefusal};
-ghost use Rattle.simplex.specs.Spots.{values_of, AreSideValues, HasMoreLine, AreIndependent, IsNewPoint, ChoosesUnknowns, entries_to, spot_row, spot_rows, spots_framed, IsSpotTableau, AreSpots, IsLastColumn, IsRelationOf, AreRelations};
+ghost use Rattle.simplex.specs.Spots.{values_of, AreSideValues, HasMoreLine, AreIndependent, IsNewPoint, IsUnchosen, ChoosesUnknowns, entries_to, spot_row, spot_rows, spots_framed, spots_frame, IsSpotTableau, AreSpots, IsLastColumn, IsRelationOf, AreRelations};
 ghost use Rattle.simplex.specs.Spots.{unit_multiple, multiples_from, AreUnitLists, chosen_below};
 
 use crate::corner::{line_choosing, ray};
@@ -102,6 +105,7 @@ fn side_values(
 ) -> Result<Items<Ratio>, Stop>
     ensures values { IfOk result (AreSideValues columns.now point.now terms.now lower.now) }
     ensures refusal { IfErr result IsRefusal }
+    ensures calm { (own others : List Fraction) → values_of (ratio_value (ratio_at columns.now point.now)) terms.now ≡ Ok own → values_of (minus_value (ratio_value (ratio_at columns.now point.now))) lower.now ≡ Ok others → IfErr result IsMemory }
 {
     let own = term_values(alloc, columns, point, terms)?;
     let mut others = lower_values(alloc, columns, point, lower)?;
@@ -182,7 +186,7 @@ fn with_last(
     requires independent { AreIndependent count lines.now }
     ensures tableau { IfOk result (λ made. IsSpotTableau count lines.now made) }
     ensures chosen { IfOk result (ChoosesUnknowns count (line + 1)) }
-    ensures refusal { IfErr result IsRefusal }
+    ensures refusal { IfErr result (IsRefusalUnder count lines.now) }
 {
     let _lines = lines;
     match last_column(t.lines[line].as_slice(), count) {
@@ -214,7 +218,7 @@ fn spot_tableau(alloc: Global, count: usize, lines: &[Items<i128>]) -> Result<Ta
     requires independent { AreIndependent count lines.now }
     ensures tableau { IfOk result (λ t. IsSpotTableau count lines.now t) }
     ensures chosen { IfOk result (ChoosesUnknowns count (length lines.now)) }
-    ensures refusal { IfErr result IsRefusal }
+    ensures refusal { IfErr result (IsRefusalUnder count lines.now) }
 {
     let mut t = spots_framed(alloc, count, lines)?;
     for line in 0..lines.len() {
@@ -252,10 +256,11 @@ pub(crate) fn with_spot(
     requires known { AreSpots strata.now.count known }
     requires few { strata.now.count < 2 ^ 61 }
     requires apart { IsNewPoint strata.now.columns.now spot.at terms.now strata.now.lower.now strata.now.count known.lines }
+    requires calm { IsCalmSpot strata.now terms.now spot.at known.lines }
     ensures more { IfOk result (λ made. made.spots ≡ known.spots ++ spot ∷ []) }
     ensures line { IfOk result (HasMoreLine strata.now.columns.now spot.at terms.now strata.now.lower.now known) }
     ensures spots { IfOk result (λ made. AreSpots strata.now.count made) }
-    ensures refusal { IfErr result IsRefusal }
+    ensures refusal { IfErr result (IsRefusalOf strata.now) }
 {
     let values = side_values(
         alloc,
@@ -284,7 +289,7 @@ fn more_spots(
     ensures lines { IfOk result (λ made. made.lines ≡ known.lines ++ line ∷ []) }
     ensures scales { IfOk result (λ made. made.scales ≡ known.scales ++ scale ∷ []) }
     ensures spots { IfOk result (λ made. AreSpots count made) }
-    ensures refusal { IfErr result IsRefusal }
+    ensures refusal { IfErr result (IsRefusalUnder count (known.lines ++ line ∷ [])) }
 {
     let Spots {
         mut spots,
@@ -313,12 +318,13 @@ pub(crate) fn relation_of(
     unknown: usize,
 ) -> Result<Items<i128>, Stop>
     ghost over: { Framed }
-    requires tableau { IsTableauOf over.units over.frame known.now.tableau }
-    requires units { over.units ≡ count }
+    requires over { over ≡ spots_frame count known.now.lines }
+    requires known { AreSpots count known.now }
     requires unknown { unknown < count }
+    requires free { IsUnchosen known.now.tableau unknown }
     ensures count { IfOk result (λ numbers. length numbers ≡ count) }
     ensures relation { IfOk result (λ numbers. IsRelationOf count known.now.tableau unknown numbers) }
-    ensures refusal { IfErr result IsRefusal }
+    ensures refusal { IfErr result (IsRefusalUnder count known.now.lines) }
 {
     let ratios = ray(alloc, &known.tableau, count, unknown, true)?;
     let scale = common_denominator(ratios.as_slice())?;
@@ -337,7 +343,7 @@ fn with_unknown(
     requires before { AreRelations count known.now.tableau unknown made }
     requires unknown { unknown < count }
     ensures relations { IfOk result (λ made. AreRelations count known.now.tableau (unknown + 1) made) }
-    ensures refusal { IfErr result IsRefusal }
+    ensures refusal { IfErr result (IsRefusalUnder count known.now.lines) }
 {
     let mut made = made;
     match line_choosing(known.tableau.chosen.as_slice(), unknown) {
@@ -359,7 +365,7 @@ pub(crate) fn relations_of(
     requires known { AreSpots count known.now }
     ensures relations { IfOk result (λ made. AreRelations count known.now.tableau count made) }
     ensures reduced { IfOk result (λ made. IsTrue (is_reduced made)) }
-    ensures refusal { IfErr result IsRefusal }
+    ensures refusal { IfErr result (IsRefusalUnder count known.now.lines) }
 {
     let mut made = Items::new(alloc);
     for unknown in 0..count {
@@ -409,10 +415,11 @@ fn with_unit(
     unknown: usize,
 ) -> Result<Items<Items<Ratio>>, Stop>
     requires known { AreSpots count known.now }
+    requires scales { HasSmallScales count known.now }
     requires before { AreUnitLists count known.now (chosen_below known.now.tableau unknown) made }
     requires unknown { unknown < count }
     ensures lists { IfOk result (AreUnitLists count known.now (chosen_below known.now.tableau (unknown + 1))) }
-    ensures refusal { IfErr result IsRefusal }
+    ensures refusal { IfErr result (IsRefusalUnder count known.now.lines) }
 {
     let mut made = made;
     match line_choosing(known.tableau.chosen.as_slice(), unknown) {
@@ -433,8 +440,9 @@ pub(crate) fn unit_lists(
     known: &Spots,
 ) -> Result<Items<Items<Ratio>>, Stop>
     requires known { AreSpots count known.now }
+    requires scales { HasSmallScales count known.now }
     ensures lists { IfOk result (AreUnitLists count known.now (chosen_below known.now.tableau count)) }
-    ensures refusal { IfErr result IsRefusal }
+    ensures refusal { IfErr result (IsRefusalUnder count known.now.lines) }
 {
     let mut made = Items::new(alloc);
     for unknown in 0..count {

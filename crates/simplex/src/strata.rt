@@ -1,15 +1,21 @@
-ghost use Rattle.std.specs.Prelude.{◌≡◌, ◌++◌, ◌∷◌, [], ◌+◌, ◌-◌, ◌^◌, ◌<◌, ◌≤◌, ℕ, pos, length, map, slice_get, false, IfOk, IfErr, IsTrue};
+ghost use Rattle.std.specs.Prelude.{◌≡◌, ◌++◌, ◌∷◌, [], ◌+◌, ◌-◌, ◌^◌, ◌<◌, ◌≤◌, ℕ, pos, length, map, slice_get, false, All, IfOk, IfErr, IsTrue};
+ghost use Rattle.farkas_check.specs.Calm.{IsCalm, IsCalmStratum, IsLiveAndCalm};
 ghost use Rattle.farkas_check.specs.Kept.{IsCanonicalStratum};
 ghost use Rattle.farkas_check.specs.Meaning.{IsLimit, IsTight};
 ghost use Rattle.farkas_check.specs.Relations.{term_count, have_equally_many, numbers_of, stratum_columns};
 ghost use Rattle.farkas_check.specs.Stratum.{terms_of};
 ghost use Rattle.farkas_check.specs.Tested.{Passes};
 ghost use Rattle.farkas_check.specs.declared.question.Question.TheVariants as question;
-ghost use Rattle.simplex.specs.Refusal.{LeavesBits, IsRefusal};
+ghost use Rattle.simplex.specs.Answers.{IsWide};
+ghost use Rattle.simplex.specs.Calm.{IsMemory};
+ghost use Rattle.simplex.specs.CalmStrata.{IsRefusalOf, IsRefusalUnder, IsCalmRelation};
+ghost use Rattle.simplex.specs.Refusal.{IsRefusal};
 ghost use Rattle.simplex.specs.Relations.{IsRelationWith};
 ghost use Rattle.simplex.specs.Points.{IsPointAt};
+ghost use Rattle.simplex.specs.SmallBasis.{HasFewRows, HasSmallEnd, HasSmallVerdict, IsRefusalOver, IsSmallIn, IsSmallOver, IsSmallWhereCalm};
 ghost use Rattle.simplex.specs.Spots.{AreSpots, AreRelations, IsNewPoint, IsUnchosen};
 ghost use Rattle.simplex.specs.Strata.{IsAsked, AreKnown, VerdictAt, CourseAt, IsFoundOver, IsFoundIn, PivotsOver, IsStratumAnswer};
+ghost use Rattle.simplex.specs.declared.stop.Stop.TheVariants as stop;
 
 use crate::Stop;
 use crate::answering::limit_of;
@@ -54,12 +60,13 @@ pub(crate) enum Course {
 /// Answers which relations between the terms and the lower terms are true at each point of each case: the reduced
 /// basis, with what ties each of its relations to 0 in each case, and spots that show that there are no others. The
 /// answer passes the test of its question; it is `Pivots` only where a case has no points, or more choices of columns
-/// than turns, and each other limit names a product or sum that leaves 128 bits. That such a limit comes only where the
-/// question is not calm is not proved.
+/// than turns, and names a product or sum that leaves 128 bits only where the question is not calm.
 pub fn stratum(alloc: Global, asked: &Stratum) -> Result<Answer, AllocError>
     ensures passes { IfOk result (λ a. Passes (question.Stratum asked.now) a) }
     ensures tight { IfOk result (λ a. (IsLimit a → ⊥) → IsTight (question.Stratum asked.now) a) }
+    ensures wide { IsCalm (question.Stratum asked.now) → IfOk result (λ a. IsWide a → ⊥) }
     ensures pivots { IfOk result (λ a. PivotsOver (2 ^ 127 - 1) asked.now a) }
+    ensures calm { IsLiveAndCalm (question.Stratum asked.now) → IfOk result (λ a. IsLimit a → ⊥) }
 {
     truth_of_passing();
     let found = answer_of_strata(alloc, asked)?;
@@ -80,7 +87,7 @@ fn answer_of_strata(alloc: Global, asked: &Stratum) -> Result<Answer, AllocError
 /// The answer where a step of the search leaves 128 bits.
 fn step_of_strata(asked: &Stratum, step: &Wide) -> Answer
     requires canonical { IsCanonicalStratum asked.now.cases asked.now.lower }
-    requires step { LeavesBits step.now }
+    requires step { IsRefusalOver asked.now (stop.Wide step.now) }
     ensures { IsStratumAnswer asked.now result }
 {
     let _asked = asked;
@@ -91,20 +98,39 @@ fn step_of_strata(asked: &Stratum, step: &Wide) -> Answer
 fn tested_basis(asked: &Stratum, found: Answer) -> Answer
     requires canonical { IsCanonicalStratum asked.now.cases asked.now.lower }
     requires found { IsFoundOver (stratum_columns asked.now.cases asked.now.lower) (2 ^ 127 - 1) asked.now.cases asked.now.lower found }
+    requires small { IsSmallWhereCalm asked.now found }
     ensures { IsStratumAnswer asked.now result }
 {
     positivity(&found);
+    row_counts(asked.cases());
     match stratum_outcome(asked, &found) {
         Ok(_holds) => found,
         Err(step) => limit_of(&step),
     }
 }
 
+/// Goes over cases. Afterwards it is known that none has more rows than memory holds.
+fn row_counts(cases: &[Change])
+    ensures { All HasFewRows cases.now }
+{
+    for case in cases {
+        row_count(case);
+    }
+}
+
+fn row_count(case: &Change)
+    ensures { HasFewRows case.now }
+{
+    let _count = case.rows.as_slice().len();
+}
+
 fn searched_strata(alloc: Global, asked: &Stratum, budget: u128) -> Result<Answer, Stop>
     requires turns { 2 ^ 124 ≤ budget }
     requires canonical { IsCanonicalStratum asked.now.cases asked.now.lower }
     ensures found { IfOk result (λ a. IsFoundOver (stratum_columns asked.now.cases asked.now.lower) budget asked.now.cases asked.now.lower a) }
+    ensures small { IfOk result (IsSmallWhereCalm asked.now) }
     ensures refusal { IfErr result IsRefusal }
+    ensures calm { IsCalm (question.Stratum asked.now) → IfErr result IsMemory }
 {
     let columns = stratum_columns(alloc, asked)?;
     let cases = asked.cases();
@@ -139,7 +165,9 @@ fn basis_over(
     requires even { IsTrue (have_equally_many cases.now) }
     requires terms { length terms.now ≡ term_count cases.now }
     ensures found { IfOk result (IsFoundOver columns.now budget cases.now lower.now) }
+    ensures small { IfOk result (IsSmallOver columns.now cases.now lower.now) }
     ensures refusal { IfErr result IsRefusal }
+    ensures calm { length cases.now ≤ 4294967296 → IsCalmStratum columns.now cases.now lower.now → IfErr result IsMemory }
 {
     let strata = Strata {
         cases,
@@ -160,7 +188,8 @@ fn basis_of(alloc: Global, strata: &Strata<'_>) -> Result<Answer, Stop>
     requires turns { 2 ^ 124 ≤ strata.now.budget }
     requires asked { IsAsked strata.now }
     ensures found { IfOk result (IsFoundIn strata.now) }
-    ensures refusal { IfErr result IsRefusal }
+    ensures small { IfOk result (IsSmallIn strata.now) }
+    ensures refusal { IfErr result (IsRefusalOf strata.now) }
 {
     let mut known = Known {
         next: 0,
@@ -181,10 +210,12 @@ fn basis_of(alloc: Global, strata: &Strata<'_>) -> Result<Answer, Stop>
 fn basis_with(alloc: Global, strata: &Strata<'_>, known: Known) -> Result<Answer, Stop>
     requires asked { IsAsked strata.now }
     requires count { strata.now.count ≡ strata.now.terms + length strata.now.lower.now + 1 }
+    requires few { strata.now.count < 2 ^ 61 }
     requires all { AreRelations strata.now.count known.spots.tableau strata.now.count (map numbers_of known.relations) }
     requires known { AreKnown strata.now known }
     ensures found { IfOk result (IsFoundIn strata.now) }
-    ensures refusal { IfErr result IsRefusal }
+    ensures small { IfOk result (IsSmallIn strata.now) }
+    ensures refusal { IfErr result (IsRefusalOf strata.now) }
 {
     let free = unit_lists(alloc, strata.count, &known.spots)?;
     let Known {
@@ -207,7 +238,8 @@ fn course_of(alloc: Global, strata: &Strata<'_>, known: Known) -> Result<Course,
     requires asked { IsAsked strata.now }
     requires known { AreKnown strata.now known }
     ensures course { IfOk result (CourseAt strata.now known) }
-    ensures refusal { IfErr result IsRefusal }
+    ensures small { IfOk result (HasSmallEnd strata.now) }
+    ensures refusal { IfErr result (IsRefusalOf strata.now) }
 {
     if strata.count <= known.next {
         return end_of(alloc, strata, known);
@@ -227,7 +259,8 @@ fn tested_unknown(alloc: Global, strata: &Strata<'_>, known: Known) -> Result<Co
     requires next { known.next < strata.now.count }
     requires free { IsUnchosen known.spots.tableau known.next }
     ensures course { IfOk result (CourseAt strata.now known) }
-    ensures refusal { IfErr result IsRefusal }
+    ensures small { IfOk result (HasSmallEnd strata.now) }
+    ensures refusal { IfErr result (IsRefusalOf strata.now) }
 {
     let numbers = relation_of(alloc, strata.count, &known.spots, known.next)?;
     match verdict_of(alloc, strata, numbers.as_slice())? {
@@ -246,9 +279,11 @@ fn end_of(alloc: Global, strata: &Strata<'_>, known: Known) -> Result<Course, St
     requires next { strata.now.count ≤ known.next }
     requires asked { IsAsked strata.now }
     requires count { strata.now.count ≡ strata.now.terms + length strata.now.lower.now + 1 }
+    requires few { strata.now.count < 2 ^ 61 }
     requires known { AreKnown strata.now known }
     ensures course { IfOk result (CourseAt strata.now known) }
-    ensures refusal { IfErr result IsRefusal }
+    ensures small { IfOk result (HasSmallEnd strata.now) }
+    ensures refusal { IfErr result (IsRefusalOf strata.now) }
 {
     if is_settled(alloc, strata, &known)? {
         let answer = basis_with(alloc, strata, known)?;
@@ -265,11 +300,13 @@ fn end_of(alloc: Global, strata: &Strata<'_>, known: Known) -> Result<Course, St
 
 /// Whether the relations are those of all spots. They are where no spot came while the unknowns had their turns.
 fn is_settled(alloc: Global, strata: &Strata<'_>, known: &Known) -> Result<bool, Stop>
+    requires asked { IsAsked strata.now }
+    requires count { strata.now.count ≡ strata.now.terms + length strata.now.lower.now + 1 }
     requires known { AreKnown strata.now known.now }
     requires next { strata.now.count ≤ known.now.next }
     ensures all { IfOk result (λ settled. IsTrue settled → AreRelations strata.now.count known.now.spots.tableau strata.now.count (map numbers_of known.now.relations)) }
     ensures more { IfOk result (λ settled. settled ≡ false → known.now.start ≡ length known.now.spots.lines → ⊥) }
-    ensures refusal { IfErr result IsRefusal }
+    ensures refusal { IfErr result (IsRefusalOf strata.now) }
 {
     if known.start == known.spots.lines.len() {
         return Ok(true);
@@ -281,7 +318,7 @@ fn is_settled(alloc: Global, strata: &Strata<'_>, known: &Known) -> Result<bool,
 fn has_last_relations(alloc: Global, count: usize, known: &Known) -> Result<bool, Stop>
     requires known { AreSpots count known.now.spots }
     ensures all { IfOk result (λ same. IsTrue same → AreRelations count known.now.spots.tableau count (map numbers_of known.now.relations)) }
-    ensures refusal { IfErr result IsRefusal }
+    ensures refusal { IfErr result (IsRefusalUnder count known.now.spots.lines) }
 {
     let last = relations_of(alloc, count, &known.spots)?;
     let own = number_lists(alloc, known.relations.as_slice())?;
@@ -372,12 +409,16 @@ fn spot_added(
     at: Items<Ratio>,
 ) -> Result<Course, Stop>
     requires few { strata.now.count < 2 ^ 61 }
+    requires count { strata.now.count ≡ strata.now.terms + length strata.now.lower.now + 1 }
     requires asked { IsAsked strata.now }
     requires known { AreKnown strata.now known }
+    requires next { known.next < strata.now.count }
+    requires free { IsUnchosen known.spots.tableau known.next }
     requires point { IsPointAt strata.now.columns.now strata.now.cases.now place at }
     requires apart { IsNewPoint strata.now.columns.now at (terms_of strata.now.cases.now place) strata.now.lower.now strata.now.count known.spots.lines }
     ensures course { IfOk result (CourseAt strata.now known) }
-    ensures refusal { IfErr result IsRefusal }
+    ensures small { IfOk result (HasSmallEnd strata.now) }
+    ensures refusal { IfErr result (IsRefusalOf strata.now) }
 {
     let case = case_number(place)?;
     let Known {
@@ -401,8 +442,11 @@ fn verdict_of(alloc: Global, strata: &Strata<'_>, numbers: &[i128]) -> Result<Ve
     requires asked { IsAsked strata.now }
     requires count { strata.now.count ≡ strata.now.terms + length strata.now.lower.now + 1 }
     requires numbers { length numbers.now ≡ strata.now.count }
+    requires few { strata.now.count < 2 ^ 61 }
+    requires calm { IsCalmRelation strata.now numbers.now }
     ensures verdict { IfOk result (VerdictAt strata.now numbers.now) }
-    ensures refusal { IfErr result IsRefusal }
+    ensures small { IfOk result (HasSmallVerdict strata.now) }
+    ensures refusal { IfErr result (IsRefusalOf strata.now) }
 {
     let mut ties = Items::new(alloc);
     for place in 0..strata.cases.len() {

@@ -47,7 +47,11 @@ pub enum Supremum {
 }
 
 /// The rows, and behind them the objective as a row that takes no part.
-fn with_goal(alloc: Global, rows: &[Row], objective: &Poly) -> Result<Items<Row>, AllocError>
+pub(crate) fn with_goal(
+    alloc: Global,
+    rows: &[Row],
+    objective: &Poly,
+) -> Result<Items<Row>, AllocError>
     ensures { IfOk result (λ made. made ≡ with_goal rows.now objective.now) }
 {
     let mut made = Items::new(alloc);
@@ -152,7 +156,7 @@ fn topped_case(
     }
 }
 
-fn bound_of(
+pub(crate) fn bound_of(
     alloc: Global,
     t: &Tableau,
     constants: usize,
@@ -172,7 +176,7 @@ fn bound_of(
     Ok((cert, point))
 }
 
-fn point_and_ray(
+pub(crate) fn point_and_ray(
     alloc: Global,
     t: &Tableau,
     constants: usize,
@@ -223,7 +227,7 @@ fn read_certificate(
 }
 
 /// Raises the objective, whose slack is minus it, from a corner of the rows.
-fn top_of(
+pub(crate) fn top_of(
     alloc: Global,
     stage: Stage,
     constants: usize,

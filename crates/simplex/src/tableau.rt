@@ -44,9 +44,10 @@ impl Tableau {
         ensures exact { Gives cause (λ t. t) result (exchange self line column) }
         ensures refusal { IfErr result IsRefusal }
     {
-        let pivot = upright_line(alloc, self.lines[line].as_slice(), column)?;
-        let lines = other_lines(alloc, self.lines.as_slice(), line, column, pivot.as_slice())?;
-        let mut chosen = self.chosen.into_vec();
+        let Tableau { lines, chosen } = self;
+        let pivot = upright_line(alloc, lines[line].as_slice(), column)?;
+        let lines = other_lines(alloc, lines, line, column, pivot.as_slice())?;
+        let mut chosen = chosen.into_vec();
         chosen[line] = column;
         Ok(Tableau {
             lines,
@@ -55,22 +56,23 @@ impl Tableau {
     }
 }
 
-/// Each line but the pivot's is cleared at the column.
+/// Each line but the pivot's is cleared at the column. A line that is 0 there stays as it is.
 fn other_lines(
     alloc: Global,
-    lines: &[Items<i128>],
+    lines: Items<Items<i128>>,
     line: usize,
     column: usize,
     pivot: &[i128],
 ) -> Result<Items<Items<i128>>, Stop>
     requires column { column < length pivot.now }
-    requires wide { (i : ℕ) → i < length lines.now → length (get_or lines.now i []) ≡ length pivot.now }
-    ensures exact { Gives cause (λ made. made) result (lines_without column pivot.now line 0 lines.now) }
+    requires wide { (i : ℕ) → i < length lines → length (get_or lines i []) ≡ length pivot.now }
+    ensures exact { Gives cause (λ made. made) result (lines_without column pivot.now line 0 lines) }
     ensures refusal { IfErr result IsRefusal }
 {
-    let mut made = Items::new(alloc);
-    for (i, own) in lines.iter().enumerate() {
-        made.push(line_without_at(alloc, own.as_slice(), i == line, column, pivot)?)?;
+    let mut made = Items::from_vec(Vec::with_capacity(alloc, lines.len())?);
+    for own in lines {
+        let here = made.len() == line;
+        made.push(line_without_at(alloc, own, here, column, pivot)?)?;
     }
     Ok(made)
 }
@@ -78,14 +80,14 @@ fn other_lines(
 /// The pivot itself at its own place, and elsewhere the line cleared.
 fn line_without_at(
     alloc: Global,
-    own: &[i128],
+    own: Items<i128>,
     here: bool,
     column: usize,
     pivot: &[i128],
 ) -> Result<Items<i128>, Stop>
-    requires column { column < length own.now }
-    requires same { length pivot.now ≡ length own.now }
-    ensures exact { Gives cause (λ made. made) result (if here then Ok pivot.now else line_without column pivot.now own.now) }
+    requires column { column < length own }
+    requires same { length pivot.now ≡ length own }
+    ensures exact { Gives cause (λ made. made) result (if here then Ok pivot.now else line_without column pivot.now own) }
     ensures refusal { IfErr result IsRefusal }
 {
     if here {
@@ -119,23 +121,23 @@ pub(crate) fn line_multiple(alloc: Global, line: &[i128], by: i128) -> Result<It
 }
 
 /// A line cleared at the column by one that is positive there.
-fn line_without(
+pub(crate) fn line_without(
     alloc: Global,
-    line: &[i128],
+    line: Items<i128>,
     column: usize,
     pivot: &[i128],
 ) -> Result<Items<i128>, Stop>
-    requires column { column < length line.now }
-    requires same { length pivot.now ≡ length line.now }
-    ensures exact { Gives cause (λ made. made) result (line_without column pivot.now line.now) }
+    requires column { column < length line }
+    requires same { length pivot.now ≡ length line }
+    ensures exact { Gives cause (λ made. made) result (line_without column pivot.now line) }
     ensures refusal { IfErr result IsRefusal }
 {
     if line[column] == 0 {
-        return Ok(Items::from_slice(alloc, line)?);
+        return Ok(line);
     }
     let by = product(line[column], -1)?;
-    let made = sum_of_lines(alloc, &pivot[column], line, &by, pivot)?;
-    Ok(reduced(alloc, made.as_slice())?)
+    let made = sum_of_lines(alloc, &pivot[column], line.as_slice(), &by, pivot)?;
+    Ok(reduced(alloc, made)?)
 }
 
 /// A multiple of a line and a multiple of another.
@@ -150,7 +152,7 @@ fn sum_of_lines(
     ensures exact { Gives cause (λ made. made) result (sum_of_lines p.now line.now q.now pivot.now) }
     ensures refusal { IfErr result IsRefusal }
 {
-    let mut made = Items::new(alloc);
+    let mut made = Items::from_vec(Vec::with_capacity(alloc, line.len())?);
     for (i, number) in line.iter().enumerate() {
         made.push(sum_of_products(p, number, q, &pivot[i])?)?;
     }
@@ -167,21 +169,22 @@ fn sum_of_products(p: &i128, a: &i128, q: &i128, b: &i128) -> Result<i128, Wide>
 }
 
 /// The numbers divided by their greatest common divisor.
-fn reduced(alloc: Global, line: &[i128]) -> Result<Items<i128>, AllocError>
-    ensures { IfOk result (λ made. made ≡ reduced line.now) }
+#[tactic(auto, using(crate::proofs::Lines::short_lines))]
+fn reduced(alloc: Global, line: Items<i128>) -> Result<Items<i128>, AllocError>
+    ensures { IfOk result (λ made. made ≡ reduced line) }
 {
-    let divisor = divisor(line);
-    if divisor == 0 {
-        return Items::from_slice(alloc, line);
+    let divisor = divisor(line.as_slice());
+    if divisor <= 1 {
+        return Ok(line);
     }
-    quotients(alloc, line, divisor)
+    quotients(alloc, line.as_slice(), divisor)
 }
 
 fn quotients(alloc: Global, line: &[i128], divisor: u128) -> Result<Items<i128>, AllocError>
     requires { 0 < divisor }
     ensures { IfOk result (λ made. made ≡ map (λ z. int_div z (pos divisor)) line.now) }
 {
-    let mut made = Items::new(alloc);
+    let mut made = Items::from_vec(Vec::with_capacity(alloc, line.len())?);
     for number in line {
         made.push(quotient(*number, divisor))?;
     }
@@ -194,6 +197,9 @@ fn divisor(line: &[i128]) -> u128
 {
     let mut divisor = 0;
     for number in line {
+        if divisor == 1 {
+            return 1;
+        }
         divisor = gcd(divisor, number.unsigned_abs());
     }
     divisor

@@ -1,7 +1,11 @@
 use Rattle.std.proofs.Common.{rules, ◌≡◌, ◌<◌, ◌+◌, ◌∙◌, ℕ, ℤ, List, [], length, get_or, ap, sym, subst, arith, Ok, pos}
+use Rattle.std.specs.Prelude.{IfErr}
 use Rattle.std.proofs.lemmas.List.{get_or_read}
 use Rattle.farkas_check.specs.Relations.{entry}
+use Rattle.simplex.specs.CalmStrata.{IsRefusalUnder}
 use Rattle.simplex.specs.Exchange.{numbers_of, exchange, HasShape}
+use Rattle.simplex.proofs.CalmSpots.{small_spots}
+use Rattle.simplex.proofs.CalmSteps.{error_under}
 use Rattle.simplex.proofs.Echelons.{spot-exchanged}
 use Rattle.simplex.proofs.Independent.{some_unknown}
 use Rattle.simplex.proofs.spots.with_last.Goals as goal
@@ -32,3 +36,8 @@ returns-in-None-clause-chosen g c =
     let own : c.as_slice.result.now ≡ get_or c.args.t.lines c.args.line [] = get_or_read c.args.t.lines c.args.line c.as_slice.result.now inside (search rules) [] in
     let zeros : (j : ℕ) → j < c.args.count → numbers_of c.args.t c.args.line j ≡ pos 0 = λ j h. ap (λ (line : List ℤ). entry line j) (sym own) ∙ c.in-None.ensures j h in
     absurd (some_unknown c.args.count c.args.lines.now c.args.t c.args.line c.requires.1.0 c.requires.1.1.1.1 c.requires.1.1.0 zeros)
+
+pub returns-in_err-made-in-Some-clause-refusal : goal.returns-in_err-made-in-Some-clause-refusal
+returns-in_err-made-in-Some-clause-refusal g c =
+    let known : IfErr c.exchange.result (IsRefusalUnder c.args.count c.args.lines.now) =
+    error_under c.args.count c.args.lines.now c.exchange.result c.exchange.ensures.refusal (λ calm. c.exchange.ensures.calm 1048576 (omega arith) (small_spots 1048576 c.args.count c.args.lines.now calm c.args.t c.requires.1.0.many c.requires.1.0.tableau c.requires.1.0.primitive)) in search rules

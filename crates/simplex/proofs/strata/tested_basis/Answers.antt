@@ -8,4 +8,4 @@ returns-in-Ok c = found_stratum c.args.asked.now c.args.found c.in-Ok._holds c.r
 
 pub returns-in-Err : goal.returns-in-Err
 returns-in-Err c =
-    subst (λ a. IsStratumAnswer c.args.asked.now a) (sym c.limit_of.ensures) (untested_stratum c.args.asked.now c.args.found c.in-Err.step c.requires.canonical (search rules))
+    subst (λ a. IsStratumAnswer c.args.asked.now a) (sym c.limit_of.ensures) (untested_stratum c.args.asked.now c.args.found c.in-Err.step c.requires.canonical (search rules) c.requires.found c.requires.small (search rules))

@@ -1,0 +1,65 @@
+-- A search for relations meets a step that leaves 128 bits only where its question is not calm.
+use Rattle.std.specs.Prelude.{ℕ, ℤ, ◌≤◌, unsigned_abs, List, [], ◌∷◌, ◌++◌, length, ⊤}
+use Rattle.std.specs.List.{AllByRecursion}
+use Rattle.linear_terms.specs.declared.col.Col.{Col}
+use Rattle.linear_terms.specs.Polynomial.{Polynomial}
+use Rattle.whole_numbers.specs.declared.wide.Wide as Step
+use Rattle.farkas_check.specs.Calm.{IsCalmStratum, difference_frame}
+use Rattle.farkas_check.specs.Frames.{IsCalmUpTo}
+use Rattle.farkas_check.specs.Ratios.{Fraction}
+use Rattle.farkas_check.specs.declared.stratum.Change.{Change}
+use Rattle.simplex.specs.Refusal.{LeavesBits}
+use Rattle.simplex.specs.Spots.{frame_of_lines, IsSpotLine}
+use Rattle.simplex.specs.declared.differences.Strata.{Strata}
+use Rattle.simplex.specs.declared.spots.Spots.{Spots}
+use Rattle.simplex.specs.declared.stop.Stop.{Stop}
+use Rattle.simplex.specs.declared.stop.Stop.TheVariants.{Wide, Memory}
+
+-- ---- spots
+
+-- a step that leaves 128 bits, where the frame of the spots' lines is not calm
+pub record IsStrayUnder (count : ℕ) (lines : List (List ℤ)) (step : Step.Wide) : Type 0 where
+  pub leaves : LeavesBits step
+  pub great : IsCalmUpTo 1048576 (frame_of_lines count lines) → ⊥
+
+abbrev pub IsRefusalUnder : ℕ → List (List ℤ) → Stop → Type 0
+IsRefusalUnder count lines (Wide step) = IsStrayUnder count lines step
+IsRefusalUnder count lines Memory = ⊤
+
+-- the numbers by which spots' values were multiplied are small, where the frame of the lines is calm
+pub record HasSmallScales (count : ℕ) (spots : Spots) : Type 0 where
+  pub small : IsCalmUpTo 1048576 (frame_of_lines count spots.lines) → AllByRecursion (λ z. unsigned_abs z ≤ 1048576) spots.scales
+
+-- ---- a question
+
+-- the question is calm
+pub record IsCalmAsked (s : Strata) : Type 0 where
+  pub few_cases : length s.cases.now ≤ 4294967296
+  pub calm : IsCalmStratum s.columns.now s.cases.now s.lower.now
+
+-- a step that leaves 128 bits, where the question is not calm
+pub record IsStray (s : Strata) (step : Step.Wide) : Type 0 where
+  pub leaves : LeavesBits step
+  pub great : IsCalmAsked s → ⊥
+
+abbrev pub IsRefusalOf : Strata → Stop → Type 0
+IsRefusalOf s (Wide step) = IsStray s step
+IsRefusalOf s Memory = ⊤
+
+-- ---- relations
+
+-- numbers of a relation that are small, and whose difference in each case has a calm frame, where the question is calm
+pub record IsCalmRelation (s : Strata) (numbers : List ℤ) : Type 0 where
+  pub small : IsCalmAsked s → AllByRecursion (λ z. unsigned_abs z ≤ 1048576) numbers
+  pub frames : IsCalmAsked s → AllByRecursion (λ (case : Change). IsCalmUpTo 1048576 (difference_frame s.columns.now s.lower.now numbers case)) s.cases.now
+
+-- ---- spots of a question
+
+-- some line and number of a spot
+abbrev pub HasSpotLine : List (List Col) → List Fraction → List Polynomial → List Polynomial → Type 0
+HasSpotLine cs at terms lower = (line : List ℤ) × ((scale : ℤ) × IsSpotLine cs at terms lower line scale)
+
+-- a new spot has a line, with which the frame of all lines is calm, where the question is calm
+pub record IsCalmSpot (s : Strata) (terms : List Polynomial) (at : List Fraction) (lines : List (List ℤ)) : Type 0 where
+  pub made : IsCalmAsked s → HasSpotLine s.columns.now at terms s.lower.now
+  pub frame : IsCalmAsked s → (line : List ℤ) (scale : ℤ) → IsSpotLine s.columns.now at terms s.lower.now line scale → IsCalmUpTo 1048576 (frame_of_lines s.count (lines ++ line ∷ []))
