@@ -1,5 +1,5 @@
-//! Worked rows of questions and answers: what the test says of an answer, what the simplex method answers, sums and
-//! products of ratios, and calls over listed answers. The rows of standard input have an empty line between two. A
+//! Worked rows of questions and answers: what the test says of an answer, what the simplex method answers, which questions
+//! are narrow, sums and products of ratios, and calls over listed answers. The rows of standard input have an empty line between two. A
 //! row is a line with its kind, and then what is given; answers stand as a certificate file. The rows of a question
 //! are parted by semicolons; what stands after a colon belongs to the same case, and `%` parts cases. What is printed
 //! stands in `stdout` as a model of the rules gave it.
@@ -21,6 +21,8 @@ fn told(alloc: Global, kind: &str, given: &str) -> Option<String> {
         "ratios" => ratios::ratios_text(alloc, given),
         "search of rows" => searches::rows_text(alloc, given),
         "search of a supremum" => searches::supremum_text(alloc, given),
+        "search of relations" => searches::relations_text(alloc, given),
+        "narrow" => searches::narrow_text(alloc, given),
         "each list" => calls::each_text(alloc, given),
         "first list" => calls::first_text(alloc, given),
         _ => verdicts::verdicts_text(alloc, kind, given),

@@ -1,9 +1,11 @@
 //! What the simplex method finds: the kind of an answer, and whether it passes the test.
 
-use crate::questions::{goals, rows};
-use farkas_check::{Answer, Limit, Question, test};
-use simplex::{infeasible, sup};
-use std::alloc::Global;
+use crate::questions::{goals, question, rows};
+use elimination::narrow;
+use farkas_check::{Answer, Limit, Question, Relation, test};
+use simplex::{answer, infeasible, sup};
+use std::alloc::{AllocError, Global};
+use std::fmt::Write;
 
 fn limit_text(alloc: Global, limit: Limit) -> Option<String> {
     match limit {
@@ -45,4 +47,56 @@ pub(crate) fn supremum_text(alloc: Global, given: &str) -> Option<String> {
     let goals = goals(alloc, given)?;
     let answer = sup(alloc, goals.as_slice()).ok()?;
     answer_text(alloc, &Question::Sup(goals), &answer)
+}
+
+fn write_numbers(text: &mut String, numbers: &[i128]) -> Result<(), AllocError> {
+    for number in numbers {
+        write!(text, "{number} ")?;
+    }
+    Ok(())
+}
+
+/// The numbers of the terms, those of the lower terms, and the constant.
+fn write_relation(text: &mut String, relation: &Relation) -> Result<(), AllocError> {
+    write_numbers(text, relation.a.as_slice())?;
+    write!(text, "| ")?;
+    write_numbers(text, relation.b.as_slice())?;
+    let constant = relation.c;
+    write!(text, "| {constant}; ")
+}
+
+fn write_relations(text: &mut String, relations: &[Relation]) -> Result<(), AllocError> {
+    for relation in relations {
+        write_relation(text, relation)?;
+    }
+    Ok(())
+}
+
+/// The relations of a basis, or the kind of another answer.
+fn relations_of(alloc: Global, answer: &Answer) -> Option<String> {
+    match answer {
+        Answer::Basis { relations, .. } => {
+            let mut text = String::new(alloc);
+            write_relations(&mut text, relations.as_slice()).ok()?;
+            Some(text)
+        }
+        other => kind(alloc, other),
+    }
+}
+
+/// A question about relations.
+pub(crate) fn relations_text(alloc: Global, given: &str) -> Option<String> {
+    let asked = question(alloc, "stratum", given)?;
+    let found = answer(alloc, &asked).ok()?;
+    let relations = relations_of(alloc, &found)?;
+    let passes = test(&asked, &found);
+    format!(in alloc; "{relations}{passes}").ok()
+}
+
+/// Whether a question is narrow; the first line is its kind.
+pub(crate) fn narrow_text(alloc: Global, given: &str) -> Option<String> {
+    let (kind, text) = given.split_once('\n')?;
+    let asked = question(alloc, kind, text)?;
+    let is_narrow = narrow(alloc, &asked).ok()?;
+    format!(in alloc; "{is_narrow}").ok()
 }
