@@ -1,9 +1,9 @@
--- Terms in print order: the coefficient at a place, and the first term after a monomial.
-use Rattle.std.proofs.Common.{◌≡◌, ℕ, zero, suc, ◌≤◌, ◌<◌, ℤ, Bool, true, false, List, [], ◌∷◌, length, get_or, Option, Some, None, refl, sym, ap, subst, ◌∙◌, arith}
+-- Terms in print order: the coefficient at a place, or that there is none, and the first term after a monomial.
+use Rattle.std.proofs.Common.{◌≡◌, ℕ, zero, suc, ◌≤◌, ◌<◌, ◌+◌, ◌-◌, ℤ, pos, Bool, true, false, cond, List, [], ◌∷◌, length, get_or, Option, Some, None, refl, sym, ap, subst, ◌∙◌, arith}
 use Rattle.std.specs.Prelude.{slice_get}
 use Rattle.std.specs.List.{AllByRecursion}
 use Rattle.std.specs.Map.{keys_of}
-use Rattle.std.specs.Ordering.{eq_by_cmp, is_eq}
+use Rattle.std.specs.Ordering.{eq_by_cmp, is_eq, is_lt}
 use Rattle.std.specs.declared.cmp.Ordering.{Ordering}
 use Rattle.std.specs.declared.cmp.Ordering.TheVariants.{Less, Equal, Greater}
 use Rattle.std.proofs.lemmas.Bool.{false≢true}
@@ -12,11 +12,11 @@ use Rattle.linear_terms.specs.declared.col.Col.{Col}
 use Rattle.linear_terms.specs.Mono.{mono_cmp}
 use Rattle.linear_terms.specs.MonoOrder.{mono_cmp_total}
 use Rattle.linear_terms.specs.Polynomial.{Terms, IsCanonical, coefficient_in}
-use Rattle.linear_terms.proofs.Canonical.{Before, first_before, IsCanonical-tail}
+use Rattle.linear_terms.proofs.Canonical.{Before, Before-trans, first_before, IsCanonical-tail}
 use Rattle.linear_terms.proofs.Order.{mono_tie}
 use Rattle.farkas_check.specs.Walk.{is_after, lesser, least_after, IsFirstBehind}
 use Rattle.farkas_check.proofs.Listing.{mono_itself}
-use Rattle.farkas_check.proofs.Walks.{is_after-trans}
+use Rattle.farkas_check.proofs.Walks.{is_after-trans, reversed}
 
 before_there : (m : List Col) (ts : Terms) (place : ℕ) (t : List Col × ℤ) → Before m ts → slice_get ts place ≡ Some t → mono_cmp m t.0 ≡ Less
 before_there m [] place t b e = cc
@@ -32,7 +32,7 @@ coefficient_there (u ∷ ts) zero t k e =
     subst (λ (x : List Col × ℤ). x.1 ≡ coefficient_in (u ∷ ts) x.0) same (rw (mono_itself u.0) refl)
 coefficient_there (u ∷ ts) (suc place) t k e = rw (before_there u.0 ts place t (first_before u ts k) e) (coefficient_there ts place t (IsCanonical-tail u ts k) e)
 
-pub coefficient_read : (ts : Terms) (place : ℕ) (t : List Col × ℤ) (m : List Col) → IsCanonical ts → place < length ts → t ≡ get_or ts place t → eq_by_cmp mono_cmp t.0 m ≡ true → t.1 ≡ coefficient_in ts m
+coefficient_read : (ts : Terms) (place : ℕ) (t : List Col × ℤ) (m : List Col) → IsCanonical ts → place < length ts → t ≡ get_or ts place t → eq_by_cmp mono_cmp t.0 m ≡ true → t.1 ≡ coefficient_in ts m
 coefficient_read ts place t m k lt is h = go (mono_cmp t.0 m) refl h
   where
     go : (o : Ordering) → mono_cmp t.0 m ≡ o → is_eq o ≡ true → t.1 ≡ coefficient_in ts m
@@ -101,6 +101,60 @@ tail_behind u ts last place f = record {
   before = λ p t e g. f.before (suc p) t (omega (arith, e)) g;
 }
 
+-- ---- a coefficient that is not there
+
+before_all : (m : List Col) (ts : Terms) → Before m ts → coefficient_in ts m ≡ pos 0
+before_all m [] b = refl
+before_all m (u ∷ ts) b = rw (reversed m u.0 Less b.0) (before_all m ts b.1)
+
+less_of : (o : Ordering) → is_lt o ≡ true → o ≡ Less
+less_of Less e = refl
+less_of Equal e = absurd (false≢true e)
+less_of Greater e = absurd (false≢true e)
+
+-- a term that stands before one that is not behind a monomial is not the monomial's own
+other_head : (u v : List Col × ℤ) (m : List Col) → mono_cmp u.0 v.0 ≡ Less → is_after (Some m) v.0 ≡ false → eq_by_cmp mono_cmp u.0 m ≡ false
+other_head u v m before not = go (mono_cmp u.0 m) refl
+  where
+    go : (o : Ordering) → mono_cmp u.0 m ≡ o → is_eq o ≡ false
+    go Less e = refl
+    go Equal e = absurd (false≢true (sym not ∙ subst (λ x. is_lt (mono_cmp x v.0) ≡ true) (mono_tie u.0 m e) (ap is_lt before)))
+    go Greater e = refl
+
+-- no term is the monomial's own, where the last one that does not stand behind it is not
+no_coefficient : (ts : Terms) (m : List Col) (place : ℕ) → IsCanonical ts → IsFirstBehind ts (Some m) place → ((p : ℕ) (t : List Col × ℤ) → place ≡ p + 1 → slice_get ts p ≡ Some t → eq_by_cmp mono_cmp t.0 m ≡ false) → coefficient_in ts m ≡ pos 0
+no_coefficient [] m place k f other = refl
+no_coefficient (u ∷ ts) m zero k f other =
+    let before : mono_cmp m u.0 ≡ Less = less_of (mono_cmp m u.0) (f.behind u refl) in
+    before_all m (u ∷ ts) (before, Before-trans m u.0 ts before (first_before u ts k))
+no_coefficient (u ∷ ts) m (suc place) k f other =
+    ap (λ b. cond b u.1 (coefficient_in ts m)) (head place refl)
+    ∙ no_coefficient ts m place (IsCanonical-tail u ts k) (tail_behind u ts (Some m) place f) (λ p t e g. other (suc p) t (omega (arith, e)) g)
+  where
+    head : (q : ℕ) → place ≡ q → eq_by_cmp mono_cmp u.0 m ≡ false
+    head zero e = other zero u (ap (λ n. suc n) e) refl
+    head (suc q) e =
+        let lt : q < length ts = (let h = f.within in omega (arith, e)) in
+        let v = there ts q lt in
+        other_head u v.0 m (before_there u.0 ts q v.0 (first_before u ts k) v.1) (f.before (suc q) v.0 (omega (arith, e)) v.1)
+
+pub coefficient_own : (ts : Terms) (m : List Col) (place : ℕ) (t : List Col × ℤ) → IsCanonical ts → IsFirstBehind ts (Some m) place → (place ≡ 0 → ⊥) → t ≡ get_or ts (place - 1) t → eq_by_cmp mono_cmp t.0 m ≡ true → t.1 ≡ coefficient_in ts m
+coefficient_own ts m place t k f some is own = coefficient_read ts (place - 1) t m k (let h = f.within in omega (arith, h, some)) is own
+
+pub coefficient_none : (ts : Terms) (m : List Col) (place : ℕ) → IsCanonical ts → IsFirstBehind ts (Some m) place → place ≡ 0 → pos 0 ≡ coefficient_in ts m
+coefficient_none ts m place k f none = sym (no_coefficient ts m place k f (λ p t e g. absurd (omega (arith, none, e))))
+
+pub coefficient_other : (ts : Terms) (m : List Col) (place : ℕ) (t : List Col × ℤ) → IsCanonical ts → IsFirstBehind ts (Some m) place → (place ≡ 0 → ⊥) → t ≡ get_or ts (place - 1) t → eq_by_cmp mono_cmp t.0 m ≡ false → pos 0 ≡ coefficient_in ts m
+coefficient_other ts m place t k f some is other = sym (no_coefficient ts m place k f (λ p u e g. go p u e g))
+  where
+    go : (p : ℕ) (u : List Col × ℤ) → place ≡ p + 1 → slice_get ts p ≡ Some u → eq_by_cmp mono_cmp u.0 m ≡ false
+    go p u e g =
+        let same : place - 1 ≡ p = omega (arith, e) in
+        let within : p < length ts = (let h = f.within in omega (arith, e)) in
+        let own : slice_get ts p ≡ Some t = slice_get_read ts (length ts) p t refl within (is ∙ ap (λ n. get_or ts n t) same) in
+        let one : u ≡ t = (let both : Some u ≡ Some t = sym g ∙ own in cc) in
+        subst (λ (x : List Col × ℤ). eq_by_cmp mono_cmp x.0 m ≡ false) (sym one) other
+
 least_there : (ts : Terms) (last known : Option (List Col)) (place : ℕ) (t : List Col × ℤ) → IsCanonical ts → IsFirstBehind ts last place → slice_get ts place ≡ Some t → lesser known t.0 true ≡ least_after last known (keys_of ts)
 least_there [] last known place t k f e = cc
 least_there (u ∷ ts) last known zero t k f e =
@@ -119,4 +173,4 @@ least_past (u ∷ ts) last known zero k f le = absurd (omega arith)
 least_past (u ∷ ts) last known (suc place) k f le =
     least_past ts last known place (IsCanonical-tail u ts k) (tail_behind u ts last place f) (omega arith) ∙ sym (none_counts last known u.0 (keys_of ts) (head_not_after u ts last place k f))
 
-pub ruleset ordered = (coefficient_read, least_read, least_past)
+pub ruleset ordered = (coefficient_own, coefficient_none, coefficient_other, least_read, least_past)

@@ -1,4 +1,4 @@
-ghost use Rattle.std.specs.Prelude.{◌≡◌, [], ◌∷◌, ◌==◌, length, map, slice_get, Some, MatchOption, IfOk, IfSome};
+ghost use Rattle.std.specs.Prelude.{◌≡◌, [], ◌∷◌, ◌==◌, length, map, slice_get, Some, MatchOption, IfOk, IfSome, IsTrue};
 ghost use Rattle.std.specs.Map.{keys_of};
 ghost use Rattle.std.specs.Ordering.{is_lt};
 ghost use Rattle.linear_terms.specs.Mono.{mono_cmp};
@@ -6,7 +6,7 @@ ghost use Rattle.linear_terms.specs.Polynomial.{IsCanonical};
 ghost use Rattle.farkas_check.specs.Columns.{columns};
 ghost use Rattle.farkas_check.specs.Relations.{stratum_columns, source_columns};
 ghost use Rattle.farkas_check.specs.Listing.{columns_in};
-ghost use Rattle.farkas_check.specs.Walk.{IsNext, IsBlank, IsListing, IsBehind, is_after, lesser, least_after, least_in_rows, least_in_polys, least_in_cases};
+ghost use Rattle.farkas_check.specs.Walk.{IsNext, IsBlank, IsListing, IsRightBefore, is_after, lesser, least_after, least_in_rows, least_in_polys, least_in_cases};
 
 use crate::search::{first_behind, is_after};
 use crate::source::{Columns, LISTED, Source};
@@ -50,33 +50,49 @@ fn list_columns(source: &Source<'_>, listed: &mut [Option<Mono>])
 }
 
 /// The first column after another one, or the first of all; none after the last. The columns are monomials in
-/// print order, each once.
+/// print order, each once. The place is where the next one is looked for first: that of the last one, and one more.
 #[tactic(auto, using(crate::proofs::Listing::listing))]
-pub(crate) fn next_column(columns: &Columns<'_>, last: &Option<Mono>) -> Option<Mono>
+pub(crate) fn next_column(columns: &Columns<'_>, last: &Option<Mono>, place: usize) -> Option<Mono>
     ensures { IsNext result last.now (columns_in columns.now) }
 {
-    match listed_next(&columns.listed, last) {
-        Some(column) => Some(column),
+    match listed_next(columns, last, place) {
+        Some(next) => next,
         None => next_of(&columns.source, last),
     }
 }
 
-/// The column listed behind another one, or the first of all.
-fn listed_next(listed: &[Option<Mono>], last: &Option<Mono>) -> Option<Mono>
-    ensures { IfSome result (IsBehind listed.now last.now) }
+/// The next column, or that there is none, where the listing tells it.
+#[tactic(auto, using(crate::proofs::Listing::listing))]
+fn listed_next(columns: &Columns<'_>, last: &Option<Mono>, place: usize) -> Option<Option<Mono>>
+    ensures { IfSome result (λ next. IsNext next last.now (columns_in columns.now)) }
 {
-    match last {
-        None => listed_at(listed, 0),
-        Some(column) => listed_behind(listed, column),
+    let listed = &columns.listed;
+    if place < listed.len() && is_right_before(listed, last, place) {
+        Some(listed[place])
+    } else {
+        None
     }
 }
 
-fn listed_behind(listed: &[Option<Mono>], column: &Mono) -> Option<Mono>
-    ensures { IfSome result (IsBehind listed.now (Some column.now)) }
+/// Whether the last column is listed right before a place. Before the first place is none.
+#[tactic(auto, using(crate::proofs::Listing::listing))]
+fn is_right_before(listed: &[Option<Mono>], last: &Option<Mono>, place: usize) -> bool
+    ensures { IsTrue result → IsRightBefore listed.now last.now place }
 {
-    match place_of(listed, 0, column) {
-        Some(place) => listed_at(listed, place + 1),
-        None => None,
+    match last {
+        None => place == 0,
+        Some(column) => 0 < place && is_listed(listed, place - 1, column),
+    }
+}
+
+/// Whether a column is listed at a place.
+#[tactic(auto, using(crate::proofs::Listing::listing))]
+fn is_listed(listed: &[Option<Mono>], place: usize, column: &Mono) -> bool
+    ensures { IsTrue result → slice_get listed.now place ≡ Some (Some column.now) }
+{
+    match listed_at(listed, place) {
+        Some(own) => own == *column,
+        None => false,
     }
 }
 
@@ -229,13 +245,13 @@ pub(crate) fn has_length(columns: &Columns<'_>, point: &[Ratio]) -> bool
     ensures { result ≡ (length point.now == length (columns_in columns.now)) }
 {
     let mut last = None;
-    for _number in point {
-        match next_column(columns, &last) {
+    for (place, _number) in point.iter().enumerate() {
+        match next_column(columns, &last, place) {
             Some(column) => last = Some(column),
             None => return false,
         }
     }
-    next_column(columns, &last).is_none()
+    next_column(columns, &last, point.len()).is_none()
 }
 
 /// The columns of a case of rows with one more list of terms (an objective's, or none): their monomials in print
@@ -264,10 +280,12 @@ fn column_list(alloc: Global, columns: &Columns<'_>) -> Result<Items<Mono>, Allo
     ensures { IfOk result (λ made. made ≡ columns_in columns.now) }
 {
     let mut last = None;
+    let mut place = 0;
     let mut made = Items::new(alloc);
-    while let Some(column) = next_column(columns, &last) {
+    while let Some(column) = next_column(columns, &last, place) {
         made.push(column)?;
         last = Some(column);
+        place = place.saturating_add(1);
     }
     Ok(made)
 }

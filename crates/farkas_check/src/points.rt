@@ -44,8 +44,8 @@ fn ratio_at(columns: &Columns<'_>, point: &[Ratio], column: &Mono) -> Ratio
     ensures { result ≡ ratio_at (columns_in columns.now) point.now column.now }
 {
     let mut last = None;
-    for number in point {
-        match next_column(columns, &last) {
+    for (place, number) in point.iter().enumerate() {
+        match next_column(columns, &last, place) {
             Some(at) => {
                 if at == *column {
                     return *number;

@@ -1,45 +1,22 @@
-ghost use Rattle.std.specs.Prelude.{◌≡◌, ◌≤◌, length};
+ghost use Rattle.std.specs.Prelude.{◌≡◌};
 ghost use Rattle.linear_terms.specs.Polynomial.{IsCanonical, coefficient_in};
 ghost use Rattle.farkas_check.specs.Walk.{IsFirstBehind, is_after};
 
 use linear_terms::Mono;
 
-/// The coefficient of a monomial in terms that stand in print order; zero where it is not there.
+/// The coefficient of a monomial in terms that stand in print order; zero where it is not there. Its own term is the
+/// last one that does not stand behind it.
 #[tactic(auto, using(crate::proofs::Ordered::ordered))]
 pub(crate) fn coefficient(terms: &[(Mono, i128)], mono: &Mono) -> i128
     requires { IsCanonical terms.now }
     ensures { result ≡ coefficient_in terms.now mono.now }
 {
-    let place = place_near(terms, mono);
-    if place < terms.len() {
-        let (own, number) = terms[place];
-        if own == *mono {
-            return number;
-        }
+    let place = first_behind(terms, &Some(*mono));
+    if place == 0 {
+        return 0;
     }
-    walked_coefficient(terms, mono)
-}
-
-/// The place of a monomial, or one where it would stand.
-fn place_near(terms: &[(Mono, i128)], mono: &Mono) -> usize
-    ensures { result ≤ length terms.now }
-{
-    match terms.binary_search_by(|term| term.0.cmp(mono)) {
-        Ok(place) => place,
-        Err(place) => place,
-    }
-}
-
-/// The coefficient of a monomial, by going over all terms.
-fn walked_coefficient(terms: &[(Mono, i128)], mono: &Mono) -> i128
-    ensures { result ≡ coefficient_in terms.now mono.now }
-{
-    for (own, number) in terms {
-        if *own == *mono {
-            return *number;
-        }
-    }
-    0
+    let own = terms[place - 1];
+    if own.0 == *mono { own.1 } else { 0 }
 }
 
 pub(crate) fn is_after(last: &Option<Mono>, mono: &Mono) -> bool

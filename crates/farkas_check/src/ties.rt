@@ -7,6 +7,7 @@ ghost use Rattle.farkas_check.specs.Stratum.{all_of, tested_multiple, tested_hal
 
 use crate::columns::next_column;
 use crate::multiples::{are_multipliers, column_sum, constant_sum, is_same, sums_cancel};
+use crate::search::coefficient;
 use crate::source::Columns;
 use crate::{Change, Relation, Tie};
 use linear_terms::{Mono, Poly, Row};
@@ -38,23 +39,31 @@ fn value_in(place: &Place, poly: &Poly) -> i128
     ensures { result ≡ value_in place.now poly.now }
 {
     match place {
-        Place::At(column) => poly.coefficient(column),
+        Place::At(column) => coefficient(poly.terms(), column),
         Place::Constant => poly.rest(),
     }
 }
 
-/// A sum so far with a multiple of a term.
+/// A sum so far with a multiple of a term. The multiple 0 leaves it as it is.
+#[tactic(auto, using(crate::proofs::Sums::zeros))]
 fn with_term(total: &i128, number: &i128, place: &Place, poly: &Poly) -> Result<i128, Wide>
     ensures { result ≡ with_side (value_in place.now) false total.now number.now (Term poly.now) }
 {
+    if *number == 0 {
+        return Ok(*total);
+    }
     let part = product(*number, value_in(place, poly))?;
     sum(*total, part)
 }
 
-/// A sum so far less a multiple of a lower term.
+/// A sum so far less a multiple of a lower term. The multiple 0 leaves it as it is.
+#[tactic(auto, using(crate::proofs::Sums::zeros))]
 fn less_lower(total: &i128, number: &i128, place: &Place, poly: &Poly) -> Result<i128, Wide>
     ensures { result ≡ with_side (value_in place.now) false total.now number.now (Lower poly.now) }
 {
+    if *number == 0 {
+        return Ok(*total);
+    }
     let part = product(*number, value_in(place, poly))?;
     let less = product(part, -1)?;
     sum(*total, less)
@@ -148,11 +157,13 @@ fn differences_cancel(
     ensures { result ≡ sums_cancel true (difference_numbers (numbers_of relation.now) (sides terms.now lower.now) (columns_in columns.now)) }
 {
     let mut last = None;
+    let mut place = 0;
     let mut cancel = true;
-    while let Some(column) = next_column(columns, &last) {
+    while let Some(column) = next_column(columns, &last, place) {
         let number = difference_number(relation, terms, lower, column)?;
         cancel = cancel && number == 0;
         last = Some(column);
+        place = place.saturating_add(1);
     }
     Ok(cancel)
 }
@@ -172,13 +183,15 @@ fn are_multiples(
     ensures { result ≡ are_multiples (scaled_by multiples.now.half multiples.now.scale) true case.now.rows multiples.now.by.now (numbers_of relation.now) (sides case.now.terms lower.now) (columns_in columns.now) }
 {
     let mut last = None;
+    let mut place = 0;
     let mut same = true;
-    while let Some(column) = next_column(columns, &last) {
+    while let Some(column) = next_column(columns, &last, place) {
         let left = column_sum(case.rows.as_slice(), multiples.by, &column)?;
         let own = difference_number(relation, case.terms.as_slice(), lower, column)?;
         let right = scaled_by(multiples.half, &multiples.scale, own)?;
         same = same && left == right;
         last = Some(column);
+        place = place.saturating_add(1);
     }
     Ok(same)
 }
