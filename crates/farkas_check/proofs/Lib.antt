@@ -22,6 +22,7 @@ mod Listing
 mod Lookups
 mod Ordered
 mod Sums
+mod Shortcuts
 mod Halves
 mod Pivots
 mod Unknowns

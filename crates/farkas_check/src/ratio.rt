@@ -69,11 +69,17 @@ impl Ratio {
     }
 
     /// A numerator over a positive denominator, brought to lowest terms.
-    #[tactic(auto, using(crate::proofs::Lowest::lowest))]
+    #[tactic(auto, using(crate::proofs::Lowest::lowest, crate::proofs::Shortcuts::shortcuts))]
     pub fn lowest(num: i128, den: i128) -> Ratio
         requires { pos 0 <ℤ den }
         ensures { result ≡ lowest_terms num den }
     {
+        if den == 1 {
+            return Ratio::whole(num);
+        }
+        if num == 0 {
+            return Ratio::whole(0);
+        }
         let divisor = gcd(num.unsigned_abs(), den.unsigned_abs());
         Ratio {
             num: quotient(num, divisor),
@@ -82,9 +88,13 @@ impl Ratio {
     }
 
     /// The numerator over another denominator, a multiple of this one.
+    #[tactic(auto, using(crate::proofs::Shortcuts::shortcuts))]
     fn over(&self, den: i128) -> Result<i128, Wide>
         ensures { result ≡ product_of self.now.num (int_div den self.now.den) }
     {
+        if den == self.den {
+            return Ok(self.num);
+        }
         product(self.num, den / self.den)
     }
 
@@ -98,7 +108,19 @@ impl Ratio {
     }
 
     /// The sum, or the first step that leaves 128 bits.
+    #[tactic(auto, using(crate::proofs::Shortcuts::zeros))]
     pub fn sum(&self, other: &Ratio) -> Result<Ratio, Wide>
+        ensures { result ≡ ratio_sum self.now other.now }
+    {
+        if other.num == 0 {
+            let Ratio { num, den } = *self;
+            return Ok(Ratio { num, den });
+        }
+        self.sum_over_multiple(other)
+    }
+
+    /// The same, over the least common multiple of the denominators.
+    fn sum_over_multiple(&self, other: &Ratio) -> Result<Ratio, Wide>
         ensures { result ≡ ratio_sum self.now other.now }
     {
         let den = common_multiple(self.den, other.den)?;
@@ -126,13 +148,16 @@ impl Ratio {
 }
 
 /// The least common multiple of two positive numbers, or the product that leaves 128 bits.
-#[tactic(auto, using(crate::proofs::Lowest::lowest))]
+#[tactic(auto, using(crate::proofs::Lowest::lowest, crate::proofs::Shortcuts::shortcuts))]
 pub fn common_multiple(left: i128, right: i128) -> Result<i128, Wide>
     requires left { pos 0 <ℤ left }
     requires right { pos 0 <ℤ right }
     ensures multiple { result ≡ common_multiple left right }
     ensures positive { IfOk result (λ multiple. pos 0 <ℤ multiple) }
 {
+    if right == 1 {
+        return Ok(left);
+    }
     let divisor = gcd(left.unsigned_abs(), right.unsigned_abs());
     product(quotient(left, divisor), right)
 }
