@@ -1,6 +1,7 @@
 // The same questions by the exact simplex of the Parma Polyhedra Library: g++ -O2 ppl.cc -lppl -lgmpxx -lgmp
 // Reads standard input as main.txt does, and prints the time of each list. Each case is a problem of its own.
 #include <ppl.hh>
+#include <algorithm>
 #include <chrono>
 #include <iostream>
 #include <map>
@@ -87,7 +88,9 @@ int main() {
     for (int turn = 0; turn < 3; turn++) {
       size_t most = 0, least = 0;
       auto start = std::chrono::steady_clock::now();
+      std::vector<long> times;
       for (const auto& question : list) {
+        auto begin = std::chrono::steady_clock::now();
         bool bounded = true;
         for (const auto& c : question) {
           MIP_Problem problem(c.columns);
@@ -100,8 +103,13 @@ int main() {
           problem.optimal_value(num, den);
         }
         (bounded ? most : least)++;
+        times.push_back(std::chrono::duration_cast<std::chrono::nanoseconds>(std::chrono::steady_clock::now() - begin).count());
       }
       auto took = std::chrono::duration_cast<std::chrono::microseconds>(std::chrono::steady_clock::now() - start).count();
-      std::cout << list.size() << " questions: " << most << " refuted or bounded, " << least << " not, " << took << " us\n";
+      std::cout << list.size() << " questions: " << most << " refuted or bounded, " << least << " not, " << took << " us";
+      std::sort(times.begin(), times.end());
+      size_t count = times.size();
+      for (size_t place : {count / 2, count - count / 100 - 1, count - 1}) std::cout << (place == count / 2 ? "; " : ", ") << times[place] << " ns";
+      std::cout << "\n";
     }
 }
