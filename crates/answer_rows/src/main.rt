@@ -1,10 +1,11 @@
 //! Worked rows of questions and answers: what the test says of an answer, what the simplex method answers, which questions
-//! are narrow, sums and products of ratios, and calls over listed answers. The rows of standard input have an empty line between two. A
-//! row is a line with its kind, and then what is given; answers stand as a certificate file. The rows of a question
-//! are parted by semicolons; what stands after a colon belongs to the same case, and `%` parts cases. What is printed
-//! stands in `stdout` as a model of the rules gave it.
+//! are narrow, sums and products of ratios, reduced bases, and calls over listed answers. The rows of standard input have
+//! an empty line between two. A row is a line with its kind, and then what is given; answers stand as a certificate file.
+//! The rows of a question are parted by semicolons; what stands after a colon belongs to the same case, and `%` parts
+//! cases. What is printed stands in `stdout` as a model of the rules gave it.
 #![tactic(auto)]
 
+mod bases;
 mod calls;
 mod questions;
 mod ratios;
@@ -19,6 +20,7 @@ fn told(alloc: Global, kind: &str, given: &str) -> Option<String> {
     match kind {
         "lowest terms" => ratios::lowest_text(alloc, given),
         "ratios" => ratios::ratios_text(alloc, given),
+        "reduced" => bases::reduced_text(alloc, given),
         "search of rows" => searches::rows_text(alloc, given),
         "search of a supremum" => searches::supremum_text(alloc, given),
         "search of relations" => searches::relations_text(alloc, given),

@@ -5,7 +5,7 @@ use std::alloc::Global;
 use whole_numbers::Wide;
 
 /// A numerator and a denominator.
-fn ratio(text: &str) -> Option<Ratio> {
+pub(crate) fn ratio(text: &str) -> Option<Ratio> {
     let (num, den) = text.trim().split_once('/')?;
     let num = num.parse::<i128>().ok()?;
     let den = den.parse::<i128>().ok()?;

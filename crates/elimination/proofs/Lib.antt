@@ -21,3 +21,9 @@ mod DoubleSums
 mod Solutions
 mod Digits
 mod Pigeons
+-- Reduced bases: sizes of vectors; what a space and one more vector span; what rows span; the lines of a basis; there is one.
+pub mod Magnitudes
+pub mod Extensions
+pub mod Spanning
+pub mod Bases
+pub mod Uniqueness
