@@ -91,7 +91,7 @@ up_to most w over bottom top m above apart is bottom_small top_small =
 
 -- ---- a frame as lines and columns
 
-has_units : (size : ℕ) (frame : Frame) → ((l j : ℕ) → unsigned_abs (entry (get_or frame.lines l []) j) ≤ size) → HasUnits size (line_count frame) frame.units (number_in frame)
+pub has_units : (size : ℕ) (frame : Frame) → ((l j : ℕ) → unsigned_abs (entry (get_or frame.lines l []) j) ≤ size) → HasUnits size (line_count frame) frame.units (number_in frame)
 has_units size frame small = record {
   unit = λ l h. behind l l ∙ ap (λ b. cond b (pos 1) (pos 0)) (eq-eqb (frame.units + l) (frame.units + l) refl);
   nothing = λ l k h g other. behind l k ∙ ap (λ b. cond b (pos 1) (pos 0)) (ne_eqb (frame.units + k) (frame.units + l) (λ e. other (omega (arith, e))));
@@ -110,7 +110,7 @@ each_below P [] i h k = absurd (omega (arith, k))
 each_below P (x ∷ xs) zero h k = h.0
 each_below P (x ∷ xs) (suc i) h k = each_below P xs i h.1 (omega (arith, k))
 
-writes_of : (frame : Frame) (chosen : List ℕ) (over : ℤ) (multiple : ℕ → ℕ → ℤ) → IsTableau frame chosen over multiple → Writes (line_count frame) frame.units (number_in frame) (λ k. get_or chosen k 0) over multiple
+pub writes_of : (frame : Frame) (chosen : List ℕ) (over : ℤ) (multiple : ℕ → ℕ → ℤ) → IsTableau frame chosen over multiple → Writes (line_count frame) frame.units (number_in frame) (λ k. get_or chosen k 0) over multiple
 writes_of frame chosen over multiple t = record {
   within = λ k h. each_below (λ column. column < width frame) chosen k t.within (subst (λ (n : ℕ). k < n) (sym t.each) h);
   positive = t.positive;

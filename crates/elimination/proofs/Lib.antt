@@ -3,12 +3,8 @@ pub mod Narrowness
 -- Which questions are narrow, told case by case.
 pub mod NarrowCases
 pub mod NarrowStrata
--- Room in a case: rows that some point does not meet with equality, one by one and together.
-pub mod Clearings
+-- Room in a case: rows that some point does not meet with equality are clear together at one.
 mod Interiors
-mod Rises
-mod Suprema
-pub mod Opposites
 -- Columns: how many a case has.
 mod ColumnCounts
 -- Tableaux of a frame with few columns and small numbers: their lines and columns are proportional to small solutions.
@@ -27,3 +23,40 @@ pub mod Extensions
 pub mod Spanning
 pub mod Bases
 pub mod Uniqueness
+-- Null vectors of regular equations: one is small, and all are proportional; the equations as rows of a question; the numerators
+-- of its point.
+pub mod NullSystems
+pub mod NullEquations
+pub mod NullQuestions
+pub mod NullVectors
+-- Spots around an inner point: their values, and the multiples that read a polynomial's numbers from them.
+pub mod AroundSpots
+pub mod AroundWeights
+-- The basis of a kernel passes its test: relations that zeros tie, and sums of multiples of the spots around inner points.
+pub mod BasisFacts
+pub mod BasisSteps
+pub mod BasisTests
+pub mod ZeroTies
+pub mod FreeUnits
+pub mod FreePlaces
+pub mod FreeGroups
+pub mod FreeSums
+pub mod WeightSizes
+-- Kernels: regular equations with one more; what stands at an unknown; numbers at chosen unknowns; at most six have probes;
+-- relations stay reduced; the own relation of an unknown, and duals; a stage with one unknown more.
+pub mod Regular
+pub mod Sides
+pub mod Chosen
+pub mod Few
+pub mod Reducing
+pub mod OwnRelations
+pub mod Steps
+-- Inner points: numbers on which each of a few small lines is negative, and rows as such lines.
+pub mod InnerTerms
+pub mod InnerGoals
+pub mod InnerCorners
+pub mod InnerRatios
+pub mod InnerPoints
+pub mod InnerRooms
+-- The basis of a stratum question of small numbers: what narrow gives, and inner points probe by probe.
+pub mod SmallStrata

@@ -92,7 +92,7 @@ changes_each (case ∷ cases) lower all few sub rows small rooms =
     behind m [] h = h
     behind m (p ∷ ps) h = is_among-right m (keys_of p.terms) (monos_before (case_monos cases lower) ps) (behind m ps h)
 
-narrow_changes : (asked : Changes) → IsNarrow (Stratum asked) → All IsNarrowChange asked.cases
+pub narrow_changes : (asked : Changes) → IsNarrow (Stratum asked) → All IsNarrowChange asked.cases
 narrow_changes asked n = All-from_recursion IsNarrowChange asked.cases (changes_each asked.cases asked.lower (case_monos asked.cases asked.lower) n.slim.few_columns.0 (λ m h. h) n.slim.few_rows n.small n.cases.1)
 
 -- ---- in a function's words

@@ -40,16 +40,16 @@ line-small most [] p (suc j) h = omega arith
 line-small most (c ∷ cs) p zero h = coefficient-small most p.terms c h.terms
 line-small most (c ∷ cs) p (suc j) h = line-small most cs p j h
 
-lines-small : (most : ℕ) (cs : List (List Col)) (ps : List Polynomial) (l j : ℕ) → AllByRecursion (HasNumbersUpTo most) ps → unsigned_abs (entry (get_or (map (line_of cs) ps) l []) j) ≤ most
+pub lines-small : (most : ℕ) (cs : List (List Col)) (ps : List Polynomial) (l j : ℕ) → AllByRecursion (HasNumbersUpTo most) ps → unsigned_abs (entry (get_or (map (line_of cs) ps) l []) j) ≤ most
 lines-small most cs [] l j h = omega arith
 lines-small most cs (p ∷ ps) zero j h = line-small most cs p j h.0
 lines-small most cs (p ∷ ps) (suc l) j h = lines-small most cs ps l j h.1
 
-lines-length : (cs : List (List Col)) (ps : List Polynomial) → length (map (line_of cs) ps) ≡ length ps
+pub lines-length : (cs : List (List Col)) (ps : List Polynomial) → length (map (line_of cs) ps) ≡ length ps
 lines-length cs [] = refl
 lines-length cs (p ∷ ps) = let e : length (map (line_of cs) ps) ≡ length ps = lines-length cs ps in omega (arith, e)
 
-polys-length : (rows : List Row) (more : List Polynomial) → length (row_polys rows more) ≡ length rows + length more
+pub polys-length : (rows : List Row) (more : List Polynomial) → length (row_polys rows more) ≡ length rows + length more
 polys-length [] more = zero_first (length more)
   where
     zero_first : (n : ℕ) → n ≡ 0 + n
@@ -102,7 +102,7 @@ calm_goals (goal ∷ goals) few_columns few small =
 
 -- ---- choices
 
-choose-small : (n k : ℕ) → choose n k ≤ 2 ^ n
+pub choose-small : (n k : ℕ) → choose n k ≤ 2 ^ n
 choose-small zero zero = omega arith
 choose-small zero (suc k) = omega arith
 choose-small (suc n) zero = one-le-pow (suc n) 2 (omega arith)
@@ -124,7 +124,7 @@ few_goal_choices [] few_columns few = tt
 few_goal_choices (goal ∷ goals) few_columns few =
     (few_choices (length (goal_columns goal) + 1 + (length goal.rows + 1)) (length goal.rows + 1) (let a : length (goal_columns goal) ≤ 3 = few_columns.0 in let b : length goal.rows ≤ 12 = few_rows 12 goal.rows few.0 in omega (arith, a, b)), few_goal_choices goals few_columns.1 few.1)
 
-weaken : (ns : List ℕ) → AllByRecursion (λ n. n ≤ 131072) ns → AllByRecursion (λ n. n ≤ 170141183460469231731687303715884105727) ns
+pub weaken : (ns : List ℕ) → AllByRecursion (λ n. n ≤ 131072) ns → AllByRecursion (λ n. n ≤ 170141183460469231731687303715884105727) ns
 weaken [] h = tt
 weaken (n ∷ ns) h = (let a : n ≤ 131072 = h.0 in omega (arith, a), weaken ns h.1)
 

@@ -7,5 +7,19 @@ pub mod Echelon
 
 pub mod Narrow
 pub mod Rooms
+-- differences at the probes of a case, the relations that are 0 there, and spots around inner points
+pub mod Around
+pub mod BasisParts
+pub mod Probes
+-- equations of lines of numbers, and their solutions
+pub mod Equations
+-- the spots around an inner point, one by one
+pub mod Moves
+-- the steps that find a kernel
+pub mod Stages
+-- whole numbers that make each of a few lines negative
+pub mod Descents
+-- the basis of a question of small numbers
+pub mod SmallStrata
 -- the spaces that small rows span
 pub mod Spaces

@@ -96,7 +96,7 @@ fn is_narrow_change(alloc: Global, case: &Change) -> Result<bool, AllocError>
 
 /// Whether some point makes the rows true.
 #[tactic(auto, using(crate::proofs::NarrowCases::points))]
-pub(crate) fn has_point(alloc: Global, rows: &[Row]) -> Result<bool, AllocError>
+fn has_point(alloc: Global, rows: &[Row]) -> Result<bool, AllocError>
     requires { IsNarrow (question.Infeasible rows.now) }
     ensures { IfOk result (λ b. IsTrue b ↔ HasRationalPoint rows.now) }
 {

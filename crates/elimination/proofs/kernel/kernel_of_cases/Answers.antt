@@ -1,0 +1,5 @@
+use Rattle.elimination.proofs.Steps.{kernel_of}
+use Rattle.elimination.proofs.kernel.kernel_of_cases.Goals as goal
+
+pub returns : goal.returns
+returns c = kernel_of c.args.columns.now c.args.cases.now c.args.lower.now c.in_ok-stage.stage c.in_ok-duals.duals c.in_ok-stage.ensures c.in_ok-duals.ensures
