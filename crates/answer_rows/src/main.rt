@@ -24,6 +24,7 @@ fn told(alloc: Global, kind: &str, given: &str) -> Option<String> {
         "search of rows" => searches::rows_text(alloc, given),
         "search of a supremum" => searches::supremum_text(alloc, given),
         "search of relations" => searches::relations_text(alloc, given),
+        "relations of a narrow question" => searches::narrow_relations_text(alloc, given),
         "narrow" => searches::narrow_text(alloc, given),
         "each list" => calls::each_text(alloc, given),
         "first list" => calls::first_text(alloc, given),

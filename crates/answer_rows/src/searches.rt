@@ -84,13 +84,25 @@ fn relations_of(alloc: Global, answer: &Answer) -> Option<String> {
     }
 }
 
+/// The relations of an answer to a question, and whether it passes.
+fn basis_text(alloc: Global, asked: &Question, found: &Answer) -> Option<String> {
+    let relations = relations_of(alloc, found)?;
+    let passes = test(asked, found);
+    format!(in alloc; "{relations}{passes}").ok()
+}
+
 /// A question about relations.
 pub(crate) fn relations_text(alloc: Global, given: &str) -> Option<String> {
     let asked = question(alloc, "stratum", given)?;
     let found = answer(alloc, &asked).ok()?;
-    let relations = relations_of(alloc, &found)?;
-    let passes = test(&asked, &found);
-    format!(in alloc; "{relations}{passes}").ok()
+    basis_text(alloc, &asked, &found)
+}
+
+/// A narrow question about relations.
+pub(crate) fn narrow_relations_text(alloc: Global, given: &str) -> Option<String> {
+    let asked = question(alloc, "stratum", given)?;
+    let found = elimination::answer(alloc, &asked).ok()?;
+    basis_text(alloc, &asked, &found)
 }
 
 /// Whether a question is narrow; the first line is its kind.
