@@ -5,6 +5,7 @@
 
 mod law;
 mod newton;
+mod products;
 mod progression;
 
 pub use law::forward_differences;

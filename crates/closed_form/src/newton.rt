@@ -7,6 +7,7 @@ ghost use Rattle.linear_terms.specs.Expressions.{◌⊠◌, ◌⊟◌, whole};
 ghost use Rattle.closed_form.specs.ClosedRow.{closed_poly, closed_row};
 ghost use Rattle.closed_form.specs.Differences.{IsForwardSum, Sequence, third_difference, IsConstant, Run, IsRun, run_of, ReadsAs};
 
+use crate::products::{less_product, pairs, times_less};
 use linear_terms::{Col, Kind, Poly, Row, TermError, difference, mul};
 use std::alloc::Global;
 
@@ -54,51 +55,76 @@ fn closed_poly(
     ensures { Gives cause (λ p. p) result
         (closed_poly (Ok after.now) (Ok before.now) (Ok d1.now) (Ok d2.now) (Ok d3.now) (Ok k.now)) }
 {
+    let linear = linear(alloc, after, before, d1, k)?;
+    let quadratic = less_second(alloc, &linear, k, d2)?;
+    less_third(alloc, &quadratic, k, d3)
+}
+
+/// `6*after - 6*before - 6k*d1`
+fn linear(
+    alloc: Global,
+    after: &Poly,
+    before: &Poly,
+    d1: &Poly,
+    k: &Poly,
+) -> Result<Poly, TermError>
+    ensures { Gives cause (λ p. p) result (whole (pos 6) ⊠ Ok after.now ⊟ whole (pos 6) ⊠ Ok before.now
+        ⊟ whole (pos 6) ⊠ Ok k.now ⊠ Ok d1.now) }
+{
     let change = change(alloc, after, before)?;
-    let linear = difference(alloc, &change, &first_term(alloc, k, d1)?)?;
-    let quadratic = difference(alloc, &linear, &second_term(alloc, k, d2)?)?;
-    difference(alloc, &quadratic, &third_term(alloc, k, d3)?)
+    less_first(alloc, &change, k, d1)
 }
 
 /// `6*after - 6*before`
 fn change(alloc: Global, after: &Poly, before: &Poly) -> Result<Poly, TermError>
     ensures { Gives cause (λ p. p) result (whole (pos 6) ⊠ Ok after.now ⊟ whole (pos 6) ⊠ Ok before.now) }
 {
-    let six = Poly::constant(alloc, 6);
-    let left = mul(alloc, &six, after)?;
-    let right = mul(alloc, &six, before)?;
+    let left = sixfold(alloc, after)?;
+    let right = sixfold(alloc, before)?;
     difference(alloc, &left, &right)
 }
 
-/// `6k*d1`
-fn first_term(alloc: Global, k: &Poly, d1: &Poly) -> Result<Poly, TermError>
-    ensures { Gives cause (λ p. p) result (whole (pos 6) ⊠ Ok k.now ⊠ Ok d1.now) }
+/// `6*number`
+fn sixfold(alloc: Global, number: &Poly) -> Result<Poly, TermError>
+    ensures { Gives cause (λ p. p) result (whole (pos 6) ⊠ Ok number.now) }
 {
-    let factor = mul(alloc, &Poly::constant(alloc, 6), k)?;
-    mul(alloc, &factor, d1)
+    let six = Poly::constant(alloc, 6);
+    mul(alloc, &six, number)
 }
 
-/// `3k(k-1)*d2`
-fn second_term(alloc: Global, k: &Poly, d2: &Poly) -> Result<Poly, TermError>
-    ensures { Gives cause (λ p. p) result (whole (pos 3) ⊠ Ok k.now ⊠ (Ok k.now ⊟ whole (pos 1)) ⊠ Ok d2.now) }
+/// `from - 6k*d1`
+fn less_first(alloc: Global, from: &Poly, k: &Poly, d1: &Poly) -> Result<Poly, TermError>
+    ensures { Gives cause (λ p. p) result (Ok from.now ⊟ whole (pos 6) ⊠ Ok k.now ⊠ Ok d1.now) }
 {
-    let thrice = mul(alloc, &Poly::constant(alloc, 3), k)?;
-    let factor = mul(alloc, &thrice, &less(alloc, k, 1)?)?;
-    mul(alloc, &factor, d2)
+    let six = Poly::constant(alloc, 6);
+    less_product(alloc, from, &six, k, d1)
 }
 
-/// `k(k-1)(k-2)*d3`
-fn third_term(alloc: Global, k: &Poly, d3: &Poly) -> Result<Poly, TermError>
-    ensures { Gives cause (λ p. p) result (Ok k.now ⊠ (Ok k.now ⊟ whole (pos 1)) ⊠ (Ok k.now ⊟ whole (pos 2)) ⊠ Ok d3.now) }
+/// `from - 3k(k-1)*d2`
+fn less_second(alloc: Global, from: &Poly, k: &Poly, d2: &Poly) -> Result<Poly, TermError>
+    ensures { Gives cause (λ p. p) result
+        (Ok from.now ⊟ whole (pos 3) ⊠ Ok k.now ⊠ (Ok k.now ⊟ whole (pos 1)) ⊠ Ok d2.now) }
 {
-    let pair = mul(alloc, k, &less(alloc, k, 1)?)?;
-    let factor = mul(alloc, &pair, &less(alloc, k, 2)?)?;
-    mul(alloc, &factor, d3)
+    let factor = pairs(alloc, 3, k)?;
+    let term = mul(alloc, &factor, d2)?;
+    difference(alloc, from, &term)
 }
 
-/// `k - 1`, or `k - 2`.
-fn less(alloc: Global, k: &Poly, by: u8) -> Result<Poly, TermError>
-    ensures { Gives cause (λ p. p) result (Ok k.now ⊟ whole (pos by)) }
+/// `from - k(k-1)(k-2)*d3`
+fn less_third(alloc: Global, from: &Poly, k: &Poly, d3: &Poly) -> Result<Poly, TermError>
+    ensures { Gives cause (λ p. p) result
+        (Ok from.now ⊟ Ok k.now ⊠ (Ok k.now ⊟ whole (pos 1)) ⊠ (Ok k.now ⊟ whole (pos 2)) ⊠ Ok d3.now) }
 {
-    difference(alloc, k, &Poly::constant(alloc, i128::from(by)))
+    let factor = triples(alloc, k)?;
+    let term = mul(alloc, &factor, d3)?;
+    difference(alloc, from, &term)
+}
+
+/// `k(k-1)(k-2)`
+fn triples(alloc: Global, k: &Poly) -> Result<Poly, TermError>
+    ensures { Gives cause (λ p. p) result
+        (Ok k.now ⊠ (Ok k.now ⊟ whole (pos 1)) ⊠ (Ok k.now ⊟ whole (pos 2))) }
+{
+    let pairs = times_less(alloc, k, k, 1)?;
+    times_less(alloc, &pairs, k, 2)
 }

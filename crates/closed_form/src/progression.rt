@@ -7,6 +7,7 @@ ghost use Rattle.linear_terms.specs.Value.{Valuation, value_of};
 ghost use Rattle.closed_form.specs.ClosedRow.{sum_poly, sum_row};
 ghost use Rattle.closed_form.specs.Progressions.{Climb, IsClimb, IsSumBound, ReadsClimb};
 
+use crate::products::{less_product, pairs};
 use linear_terms::{Col, Kind, Poly, Row, TermError, difference, mul};
 use std::alloc::Global;
 
@@ -48,27 +49,35 @@ fn sum_poly(
 ) -> Result<Poly, TermError>
     ensures { Gives cause (λ p. p) result (sum_poly (Ok change.now) (Ok s.now) e c (Ok k.now)) }
 {
+    let start = less_start(alloc, change, s, k)?;
+    let grown = less_growth(alloc, &start, e, k)?;
+    less_constant(alloc, &grown, c, k)
+}
+
+/// `2*change - 2k*s`
+fn less_start(alloc: Global, change: &Poly, s: &Poly, k: &Poly) -> Result<Poly, TermError>
+    ensures { Gives cause (λ p. p) result
+        (whole (pos 2) ⊠ Ok change.now ⊟ whole (pos 2) ⊠ Ok k.now ⊠ Ok s.now) }
+{
     let two = Poly::constant(alloc, 2);
     let doubled = mul(alloc, &two, change)?;
-    let less = difference(alloc, &doubled, &times_both(alloc, &two, k, s)?)?;
-    let less = difference(alloc, &less, &pairs(alloc, e, k)?)?;
+    less_product(alloc, &doubled, &two, k, s)
+}
+
+/// `from - e*k*(k-1)`
+fn less_growth(alloc: Global, from: &Poly, e: i128, k: &Poly) -> Result<Poly, TermError>
+    ensures { Gives cause (λ p. p) result
+        (Ok from.now ⊟ whole e ⊠ Ok k.now ⊠ (Ok k.now ⊟ whole (pos 1))) }
+{
+    let growth = pairs(alloc, e, k)?;
+    difference(alloc, from, &growth)
+}
+
+/// `from - 2c*k`
+fn less_constant(alloc: Global, from: &Poly, c: i128, k: &Poly) -> Result<Poly, TermError>
+    ensures { Gives cause (λ p. p) result (Ok from.now ⊟ whole (pos 2) ⊠ whole c ⊠ Ok k.now) }
+{
+    let two = Poly::constant(alloc, 2);
     let constant = Poly::constant(alloc, c);
-    difference(alloc, &less, &times_both(alloc, &two, &constant, k)?)
-}
-
-/// `a*b*c`
-fn times_both(alloc: Global, a: &Poly, b: &Poly, c: &Poly) -> Result<Poly, TermError>
-    ensures { Gives cause (λ p. p) result (Ok a.now ⊠ Ok b.now ⊠ Ok c.now) }
-{
-    let factor = mul(alloc, a, b)?;
-    mul(alloc, &factor, c)
-}
-
-/// `e*k*(k-1)`
-fn pairs(alloc: Global, e: i128, k: &Poly) -> Result<Poly, TermError>
-    ensures { Gives cause (λ p. p) result (whole e ⊠ Ok k.now ⊠ (Ok k.now ⊟ whole (pos 1))) }
-{
-    let factor = mul(alloc, &Poly::constant(alloc, e), k)?;
-    let less = difference(alloc, k, &Poly::constant(alloc, 1))?;
-    mul(alloc, &factor, &less)
+    less_product(alloc, from, &two, &constant, k)
 }
