@@ -2,7 +2,7 @@
 //! auxiliary.
 ghost use Rattle.std.specs.Prelude.{◌++◌, codes, false, Some};
 ghost use Rattle.std.specs.List.{flat_map};
-ghost use Rattle.linear_terms.specs.Texts.{plain_name, mono_text, sign_text, term_text, constant_text, poly_text, row_text};
+ghost use Rattle.linear_terms.specs.Texts.{plain_name, mono_text, sign_text, term_text, constant_text, terms_text, rest_text, poly_text, relation_text, row_text};
 
 use crate::{Col, Kind, Mono, Poly, Row};
 use std::fmt;
@@ -136,36 +136,79 @@ impl fmt::Display for Terms<'_> {
     }
 }
 
+/// All terms of a polynomial.
+#[derive(Drop)]
+struct Sum<'a>(&'a [(Mono, i128)]);
+
+impl fmt::Display for Sum<'_> {
+    ghost output = { λ s. Some (terms_text plain_name s.0.now) };
+
+    fn fmt<W: fmt::Write>(&self, f: &mut fmt::Formatter<W>) -> fmt::Result {
+        match self.0 {
+            [] => Ok(()),
+            [(mono, number), more @ ..] => {
+                let term = Term {
+                    first: true,
+                    mono,
+                    number: *number,
+                };
+                let more = Terms(more);
+                write!(f, "{term}{more}")
+            }
+        }
+    }
+}
+
+/// The constant of a polynomial: alone, or behind its terms, where a zero is left out.
+#[derive(Drop)]
+struct Rest<'a> {
+    terms: &'a [(Mono, i128)],
+    number: i128,
+}
+
+impl fmt::Display for Rest<'_> {
+    ghost output = { λ r. Some (rest_text r.terms.now r.number) };
+
+    fn fmt<W: fmt::Write>(&self, f: &mut fmt::Formatter<W>) -> fmt::Result {
+        let first = match self.terms {
+            [] => true,
+            [_, ..] if self.number == 0 => return Ok(()),
+            [_, ..] => false,
+        };
+        let constant = Constant {
+            first,
+            number: self.number,
+        };
+        write!(f, "{constant}")
+    }
+}
+
 /// Terms in print order and then the constant, joined by ` + ` and ` - `.
 impl fmt::Display for Poly {
     ghost output = { λ p. Some (poly_text plain_name p) };
 
     fn fmt<W: fmt::Write>(&self, f: &mut fmt::Formatter<W>) -> fmt::Result {
-        let number = self.rest();
-        match self.terms() {
-            [] => {
-                let alone = Constant {
-                    first: true,
-                    number,
-                };
-                write!(f, "{alone}")
-            }
-            [(mono, coefficient), more @ ..] => {
-                let term = Term {
-                    first: true,
-                    mono,
-                    number: *coefficient,
-                };
-                let more = Terms(more);
-                if number == 0 {
-                    return write!(f, "{term}{more}");
-                }
-                let last = Constant {
-                    first: false,
-                    number,
-                };
-                write!(f, "{term}{more}{last}")
-            }
+        let terms = self.terms();
+        let sum = Sum(terms);
+        let rest = Rest {
+            terms,
+            number: self.rest(),
+        };
+        write!(f, "{sum}{rest}")
+    }
+}
+
+/// What a row says of its polynomial.
+#[derive(Drop)]
+struct Relation(Kind);
+
+impl fmt::Display for Relation {
+    ghost output = { λ r. Some (relation_text r.0) };
+
+    fn fmt<W: fmt::Write>(&self, f: &mut fmt::Formatter<W>) -> fmt::Result {
+        match self.0 {
+            Kind::AtMost => write!(f, " <= 0"),
+            Kind::Equal => write!(f, " = 0"),
         }
     }
 }
@@ -175,9 +218,7 @@ impl fmt::Display for Row {
 
     fn fmt<W: fmt::Write>(&self, f: &mut fmt::Formatter<W>) -> fmt::Result {
         let poly = &self.poly;
-        match self.kind {
-            Kind::AtMost => write!(f, "{poly} <= 0"),
-            Kind::Equal => write!(f, "{poly} = 0"),
-        }
+        let relation = Relation(self.kind);
+        write!(f, "{poly}{relation}")
     }
 }

@@ -1,6 +1,7 @@
-ghost use Rattle.std.specs.Prelude.{◌≡◌, pos, [], IfOk, IfErr, OnOk, Ok, Some};
+ghost use Rattle.std.specs.Prelude.{◌≡◌, ◌≤◌, ◌+◌, ◌++◌, nat_lt, length, pos, [], IfOk, IfErr, OnOk, Ok, Some};
 ghost use Rattle.items.specs.Gives.{FailsBy, Gives};
 ghost use Rattle.linear_terms.specs.TermError.{cause};
+ghost use Rattle.linear_terms.specs.Mono.{in_order};
 ghost use Rattle.linear_terms.specs.Polynomial.{constant_of, IsCanonical};
 ghost use Rattle.linear_terms.specs.Operations.{sum_of_polys, put_term, put_part, add_product};
 ghost use Rattle.linear_terms.specs.Lookup.{lookup, added, stored};
@@ -62,15 +63,29 @@ impl Total {
         ensures ok { OnOk result (add_product left.now number.now right.now other.now self.old ≡ Ok self.new) }
         ensures err { IfErr result (λ e. FailsBy (cause e) (add_product left.now number.now right.now other.now self.old)) }
     {
-        if DEGREE < left.len() || DEGREE - left.len() < right.len() {
+        if is_above_degree(left, right) {
             return Err(TermError::Degree);
         }
         let number = product(*number, *other)?;
+        self.put_product(left, right, &number)
+    }
+
+    /// Adds a term of the columns of two; of no columns it is the constant.
+    fn put_product(
+        &mut self,
+        left: &[Col],
+        right: &[Col],
+        number: &i128,
+    ) -> Result<(), TermError>
+        requires { length left.now + length right.now ≤ 4 }
+        ensures ok { OnOk result (put_part (in_order (left.now ++ right.now)) number.now self.old ≡ Ok self.new) }
+        ensures err { IfErr result (λ e. FailsBy (cause e) (put_part (in_order (left.now ++ right.now)) number.now self.old)) }
+    {
         if left.is_empty() && right.is_empty() {
-            self.add_constant(&number)
-        } else {
-            self.put(&(Mono::product(left, right), number))
+            return self.add_constant(number);
         }
+        let term = (Mono::product(left, right), *number);
+        self.put(&term)
     }
 
     /// Adds a number to the constant.
@@ -116,12 +131,27 @@ impl Total {
         ensures { IfOk result (λ p. p ≡ self) }
     {
         let Total { terms, rest } = self;
-        let terms: Vec<(Mono, i128)> = terms.into_iter().collect(alloc)?;
-        Ok(Poly {
-            terms: Items::from_vec(terms),
-            rest,
-        })
+        let terms = listed(alloc, terms)?;
+        Ok(Poly { terms, rest })
     }
+}
+
+/// The terms of a map, in the order of their monomials.
+fn listed(
+    alloc: Global,
+    terms: BTreeMap<Mono, i128>,
+) -> Result<Items<(Mono, i128)>, AllocError>
+    ensures { IfOk result (λ made. made ≡ terms.entries) }
+{
+    let made: Vec<(Mono, i128)> = terms.into_iter().collect(alloc)?;
+    Ok(Items::from_vec(made))
+}
+
+/// Whether two monomials have more columns together than one may have.
+fn is_above_degree(left: &[Col], right: &[Col]) -> bool
+    ensures { result ≡ nat_lt 4 (length left.now + length right.now) }
+{
+    DEGREE < left.len() || DEGREE - left.len() < right.len()
 }
 
 /// The term with what its monomial had before.
