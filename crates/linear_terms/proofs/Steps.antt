@@ -1,17 +1,18 @@
 -- What the loops over terms share.
-use Rattle.std.proofs.Common.{◌≡◌, ℕ, ◌+◌, ◌<◌, ◌≤◌, length, drop, get_or, subst, Option, Some, None, ℤ, pos, Bool, All, true, false, cond, List, [], ◌∷◌, ◌++◌, Result, Ok, Err, refl, sym, ap, ◌∙◌, append_assoc}
+use Rattle.std.proofs.Common.{◌≡◌, ℕ, ◌+◌, ◌-◌, ◌<◌, ◌≤◌, length, take, drop, get_or, subst, Option, Some, None, ℤ, pos, Bool, All, true, false, cond, List, [], ◌∷◌, ◌++◌, Result, Ok, Err, refl, sym, ap, ◌∙◌, append_assoc, append-nil, arith}
 use Rattle.std.specs.Prelude.{IsTrue, ◌↔◌}
 use Rattle.std.specs.Ordering.{int_eq}
 use Rattle.std.proofs.lemmas.Bool.{false≢true}
+use Rattle.std.proofs.Math.Seq.{take-length}
 use Rattle.std.proofs.lemmas.List.{drop_more, drop_all}
 use Rattle.items.specs.Gives.{◌>>=◌, FailsBy}
 use Rattle.items.proofs.Gives.{FailsBy-bind}
 use Rattle.linear_terms.proofs.Lookups.{changed}
 use Rattle.linear_terms.specs.declared.col.Col.{Col}
 use Rattle.linear_terms.specs.declared.error.TermError.{TermError}
-use Rattle.linear_terms.specs.TermError.{plus}
+use Rattle.linear_terms.specs.TermError.{plus, times}
 use Rattle.linear_terms.specs.Polynomial.{Terms, Polynomial, constant_of}
-use Rattle.linear_terms.specs.Operations.{kept, put, put_all, put_term, add_product, add_row, add_rows, put_part, replaced, sum_of_polys, add_substituted, substituted}
+use Rattle.linear_terms.specs.Operations.{kept, times_each, multiple_of, product_on, put, put_all, put_term, add_product, add_row, add_rows, put_part, replaced, sum_of_polys, add_substituted, substituted}
 
 -- terms before those that are still to be made
 abbrev pub with_front : Terms → Result Terms TermError → Result Terms TermError
@@ -29,6 +30,13 @@ with_front-kept front m c (Err e) test = refl
 pub with_front-dropped : (front : Terms) (m : List Col) (c : ℤ) (made : Result Terms TermError) → int_eq c (pos 0) ≡ true → with_front front (made >>= λ ts. Ok (kept m c ts)) ≡ with_front front made
 with_front-dropped front m c (Ok ts) test = ap (λ b. Ok (front ++ cond b ts ((m, c) ∷ ts))) test
 with_front-dropped front m c (Err e) test = refl
+
+pub with_front-one : (front : Terms) (m : List Col) (c : ℤ) (made : Result Terms TermError) → with_front front (made >>= λ ts. Ok (kept m c ts)) ≡ with_front (front ++ kept m c []) made
+with_front-one front m c made = go (int_eq c (pos 0)) refl
+  where
+    go : (b : Bool) → int_eq c (pos 0) ≡ b → with_front front (made >>= λ ts. Ok (kept m c ts)) ≡ with_front (front ++ kept m c []) made
+    go true test = with_front-dropped front m c made test ∙ ap (λ l. with_front l made) (sym (ap (λ b. front ++ cond b [] ((m, c) ∷ [])) test ∙ append-nil front))
+    go false test = with_front-kept front m c made test ∙ ap (λ l. with_front l made) (sym (ap (λ b. front ++ cond b [] ((m, c) ∷ [])) test))
 
 -- ---- the loops of the product
 
@@ -57,18 +65,52 @@ pub add_rows-last : (r : ℤ) (items others : Terms) (i : ℕ) (sum made : Polyn
 add_rows-last r items others i sum made h e =
     ap (λ l. add_rows (l ++ ([], r) ∷ []) others sum) (drop_all i items h) ∙ ap (λ s. s >>= λ next. add_rows [] others next) e
 
+-- ---- the loop of the multiple
+
+pub times_each-next : (by : ℤ) (items front : Terms) (i : ℕ) (t : List Col × ℤ) (c : ℤ) → i < length items → t ≡ get_or items i t → times t.1 by ≡ Ok c → with_front front (times_each (drop i items) by) ≡ with_front (front ++ kept t.0 c []) (times_each (drop (i + 1) items) by)
+times_each-next by items front i t c h e f =
+    ap (λ l. with_front front (times_each l by)) (at_index items i t h e)
+    ∙ ap (λ r. with_front front (r >>= λ d. times_each (drop (i + 1) items) by >>= λ made. Ok (kept t.0 d made))) f
+    ∙ with_front-one front t.0 c (times_each (drop (i + 1) items) by)
+
 -- ---- the loop of the substitution
 
-pub substituted-last : (put_in : Col → Polynomial) (a : Polynomial) (items : Terms) (i : ℕ) (sum made : Polynomial) → length items ≤ i → add_substituted put_in (drop i items) sum ≡ add_substituted put_in a.terms (constant_of (pos 0)) → put_part [] a.rest sum ≡ Ok made → substituted put_in a ≡ Ok made
-substituted-last put_in a items i sum made h e f =
-    ap (λ s. s >>= λ p. put_part [] a.rest p) (sym e ∙ ap (λ l. add_substituted put_in l sum) (drop_all i items h)) ∙ f
+-- one term, and then the others
+add_substituted-one : (put_in : Col → Polynomial) (t : List Col × ℤ) (ts : Terms) (sum : Polynomial) → add_substituted put_in (t ∷ ts) sum ≡ (add_substituted put_in (t ∷ []) sum >>= λ made. add_substituted put_in ts made)
+add_substituted-one put_in t ts sum = go (replaced put_in t.0 t.1)
+  where
+    after : (s : Result Polynomial TermError) → (s >>= λ made. add_substituted put_in ts made) ≡ ((s >>= λ made. Ok made) >>= λ made. add_substituted put_in ts made)
+    after (Ok p) = refl
+    after (Err e) = refl
 
-pub substituted-failed : (put_in : Col → Polynomial) (a : Polynomial) (items : Terms) (i : ℕ) (t : List Col × ℤ) (sum term : Polynomial) (fault : Option TermError) → i < length items → t ≡ get_or items i t → add_substituted put_in (drop i items) sum ≡ add_substituted put_in a.terms (constant_of (pos 0)) → replaced put_in t.0 t.1 ≡ Ok term → FailsBy fault (sum_of_polys sum term) → FailsBy fault (substituted put_in a)
-substituted-failed put_in a items i t sum term fault h e same made fails =
+    go : (r : Result Polynomial TermError) → (r >>= λ term. sum_of_polys sum term >>= λ made. add_substituted put_in ts made) ≡ ((r >>= λ term. sum_of_polys sum term >>= λ made. Ok made) >>= λ made. add_substituted put_in ts made)
+    go (Ok term) = after (sum_of_polys sum term)
+    go (Err e) = refl
+
+substituted-step : (put_in : Col → Polynomial) (items : Terms) (i : ℕ) (t : List Col × ℤ) (sum : Polynomial) → i < length items → t ≡ get_or items i t → add_substituted put_in (drop i items) sum ≡ (add_substituted put_in (t ∷ []) sum >>= λ made. add_substituted put_in (drop (i + 1) items) made)
+substituted-step put_in items i t sum h e = ap (λ l. add_substituted put_in l sum) (at_index items i t h e) ∙ add_substituted-one put_in t (drop (i + 1) items) sum
+
+pub substituted-next : (put_in : Col → Polynomial) (items : Terms) (i : ℕ) (t : List Col × ℤ) (sum made : Polynomial) → i < length items → t ≡ get_or items i t → add_substituted put_in (t ∷ []) sum ≡ Ok made → add_substituted put_in (drop i items) sum ≡ add_substituted put_in (drop (i + 1) items) made
+substituted-next put_in items i t sum made h e f =
+    substituted-step put_in items i t sum h e ∙ ap (λ r. r >>= λ next. add_substituted put_in (drop (i + 1) items) next) f
+
+pub substituted-last : (put_in : Col → Polynomial) (a : Polynomial) (r : ℤ) (items : Terms) (i : ℕ) (sum : Polynomial) → length items ≤ i → add_substituted put_in (drop i items) sum ≡ add_substituted put_in a.terms (constant_of (pos 0)) → r ≡ a.rest → substituted put_in a ≡ put_part [] r sum
+substituted-last put_in a r items i sum h e f =
+    ap (λ s. s >>= λ p. put_part [] a.rest p) (sym e ∙ ap (λ l. add_substituted put_in l sum) (drop_all i items h)) ∙ ap (λ x. put_part [] x sum) (sym f)
+
+pub substituted-failed : (put_in : Col → Polynomial) (a : Polynomial) (items : Terms) (i : ℕ) (t : List Col × ℤ) (sum : Polynomial) (fault : Option TermError) → i < length items → t ≡ get_or items i t → add_substituted put_in (drop i items) sum ≡ add_substituted put_in a.terms (constant_of (pos 0)) → FailsBy fault (add_substituted put_in (t ∷ []) sum) → FailsBy fault (substituted put_in a)
+substituted-failed put_in a items i t sum fault h e same fails =
     FailsBy-bind fault (add_substituted put_in a.terms (constant_of (pos 0))) (λ p. put_part [] a.rest p)
-    (subst (λ r. FailsBy fault r) (sym (ap (λ l. add_substituted put_in l sum) (at_index items i t h e)) ∙ same)
-    (subst (λ r. FailsBy fault (r >>= λ u. sum_of_polys sum u >>= λ next. add_substituted put_in (drop (i + 1) items) next)) (sym made)
-    (FailsBy-bind fault (sum_of_polys sum term) (λ next. add_substituted put_in (drop (i + 1) items) next) fails)))
+    (subst (λ r. FailsBy fault r) (sym (substituted-step put_in items i t sum h e) ∙ same)
+    (FailsBy-bind fault (add_substituted put_in (t ∷ []) sum) (λ next. add_substituted put_in (drop (i + 1) items) next) fails))
+
+-- one column, and then the others
+pub replaced-more : (put_in : Col → Polynomial) (columns : List Col) (c : ℤ) (d : Col) (first product : Polynomial) → 1 ≤ length columns → first ≡ put_in (get_or columns 0 d) → product_on put_in first (take (length columns - 1) (drop 1 columns)) ≡ Ok product → replaced put_in columns c ≡ multiple_of product c
+replaced-more put_in [] c d first product some e f = absurd (omega arith)
+replaced-more put_in (x ∷ m) c d first product some e f =
+    let count : length (x ∷ m) - 1 ≡ length m = omega arith in
+    let others : take (length (x ∷ m) - 1) m ≡ m = ap (λ n. take n m) count ∙ take-length m in
+    ap (λ r. r >>= λ p. multiple_of p c) (ap (λ p. product_on put_in p m) (sym e) ∙ ap (product_on put_in first) (sym others) ∙ f)
 
 -- ---- the loop that adds a polynomial to a sum
 

@@ -1,8 +1,8 @@
-ghost use Rattle.std.specs.Prelude.{◌≡◌, ◌≤◌, not, map, length, slice_index, IfOk, IsTrue};
+ghost use Rattle.std.specs.Prelude.{◌≡◌, ◌≤◌, [], ◌∷◌, not, map, length, slice_index, Ok, IfOk, IfErr, OnOk, IsTrue};
 ghost use Rattle.std.specs.List.{filter, list_all, list_any};
-ghost use Rattle.items.specs.Gives.{Gives};
+ghost use Rattle.items.specs.Gives.{FailsBy, Gives};
 ghost use Rattle.linear_terms.specs.TermError.{cause};
-ghost use Rattle.linear_terms.specs.Operations.{product_of_polys, replaced, substituted};
+ghost use Rattle.linear_terms.specs.Operations.{add_substituted, product_in, product_on, product_of_polys, replaced, substituted};
 ghost use Rattle.linear_terms.specs.Auxiliaries.{has_auxiliary, occurs, without, put_for, is_numbered, renumbered_column, renumbered, KeepsOrder};
 ghost use Rattle.linear_terms.specs.Value.{Valuation, value_of};
 
@@ -12,18 +12,37 @@ use items::Items;
 use std::alloc::{AllocError, Global};
 
 /// An auxiliary replaced by a polynomial; the other columns stand for themselves.
-#[tactic(auto, using(crate::proofs::Values::substituted_value))]
 pub fn subst_aux(alloc: Global, a: &Poly, aux: u32, by: &Poly) -> Result<Poly, TermError>
     ensures exact { Gives cause (λ p. p) result (substituted (put_for aux by.now) a.now) }
     ensures value { (numbers : Valuation) → IfOk result (λ p. value_of numbers p ≡ value_of (λ c. value_of numbers (put_for aux by.now c)) a.now) }
 {
+    let made = substituted(alloc, a, aux, by)?;
+    Ok(made)
+}
+
+fn substituted(alloc: Global, a: &Poly, aux: u32, by: &Poly) -> Result<Poly, TermError>
+    ensures { Gives cause (λ p. p) result (substituted (put_for aux by.now) a.now) }
+{
     let mut total = Total::new(alloc);
-    for (mono, number) in a.terms.as_slice() {
-        let term = replaced(alloc, mono.columns(), *number, aux, by)?;
-        total.add(&term)?;
+    for term in a.terms.as_slice() {
+        add_replaced(alloc, &mut total, term, aux, by)?;
     }
-    total.add_constant(&a.rest)?;
-    Ok(total.into_poly(alloc)?)
+    total.with_constant(alloc, &a.rest)
+}
+
+/// Adds what comes of one term.
+fn add_replaced(
+    alloc: Global,
+    total: &mut Total,
+    term: &(Mono, i128),
+    aux: u32,
+    by: &Poly,
+) -> Result<(), TermError>
+    ensures ok { OnOk result (add_substituted (put_for aux by.now) (term.now ∷ []) total.old ≡ Ok total.new) }
+    ensures err { IfErr result (λ e. FailsBy (cause e) (add_substituted (put_for aux by.now) (term.now ∷ []) total.old)) }
+{
+    let made = replaced(alloc, term.0.columns(), term.1, aux, by)?;
+    total.add(&made)
 }
 
 /// The product of what stands for the columns, times the coefficient.
@@ -37,11 +56,34 @@ fn replaced(
     requires { 1 ≤ length columns.now }
     ensures { Gives cause (λ p. p) result (replaced (put_for aux by.now) columns.now number) }
 {
-    let mut product = put_for(alloc, columns[0], aux, by)?;
-    for col in &columns[1..] {
+    let product = product_in(alloc, columns, aux, by)?;
+    scale(alloc, &product, number)
+}
+
+/// The product of what stands for the columns.
+fn product_in(alloc: Global, columns: &[Col], aux: u32, by: &Poly) -> Result<Poly, TermError>
+    requires { 1 ≤ length columns.now }
+    ensures { Gives cause (λ p. p) result (product_in (put_for aux by.now) columns.now) }
+{
+    let first = put_for(alloc, columns[0], aux, by)?;
+    product_on(alloc, first, &columns[1..], aux, by)
+}
+
+/// A polynomial times what stands for the columns.
+fn product_on(
+    alloc: Global,
+    first: Poly,
+    columns: &[Col],
+    aux: u32,
+    by: &Poly,
+) -> Result<Poly, TermError>
+    ensures { Gives cause (λ p. p) result (product_on (put_for aux by.now) first columns.now) }
+{
+    let mut product = first;
+    for col in columns {
         product = times_column(alloc, &product, *col, aux, by)?;
     }
-    scale(alloc, &product, number)
+    Ok(product)
 }
 
 /// A product times what stands for one more column.

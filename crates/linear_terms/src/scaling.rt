@@ -1,13 +1,13 @@
-ghost use Rattle.std.specs.Prelude.{◌≡◌, ◌≢◌, ℤ, ◌*ℤ◌, IfOk, IfErr};
+ghost use Rattle.std.specs.Prelude.{◌≡◌, ◌≢◌, ℤ, ◌*ℤ◌, [], ◌++◌, IfOk, IfErr, OnOk};
 ghost use Rattle.items.specs.Gives.{Gives};
 ghost use Rattle.linear_terms.specs.TermError.{cause};
 ghost use Rattle.linear_terms.specs.declared.error.TermError.TheVariants.{Degree};
-ghost use Rattle.linear_terms.specs.Operations.{times_each, multiple_of};
+ghost use Rattle.linear_terms.specs.Operations.{kept, times_each, multiple_of};
 ghost use Rattle.linear_terms.specs.Value.{Valuation, value_of};
 
 use crate::{Mono, Poly, TermError};
 use items::Items;
-use std::alloc::Global;
+use std::alloc::{AllocError, Global};
 use whole_numbers::product;
 
 /// The polynomial times a number.
@@ -29,9 +29,17 @@ fn scaled(alloc: Global, terms: &[(Mono, i128)], by: i128) -> Result<Items<(Mono
     let mut made = Items::new(alloc);
     for (mono, number) in terms {
         let number = product(*number, by)?;
-        if number != 0 {
-            made.push((*mono, number))?;
-        }
+        push_kept(&mut made, (*mono, number))?;
     }
     Ok(made)
+}
+
+/// Puts a term behind the others, unless its number is zero.
+fn push_kept(made: &mut Items<(Mono, i128)>, term: (Mono, i128)) -> Result<(), AllocError>
+    ensures { OnOk result (made.new ≡ made.old ++ kept term.0 term.1 []) }
+{
+    if term.1 != 0 {
+        made.push(term)?;
+    }
+    Ok(())
 }

@@ -64,8 +64,7 @@ fn merged(
             }
         }
     }
-    push_each(&mut made, left)?;
-    push_each(&mut made, right)?;
+    push_both(&mut made, left, right)?;
     Ok(made)
 }
 
@@ -89,4 +88,16 @@ fn push_each(made: &mut Items<(Mono, i128)>, terms: &[(Mono, i128)]) -> Result<(
         made.push(*term)?;
     }
     Ok(())
+}
+
+fn push_both(
+    made: &mut Items<(Mono, i128)>,
+    first: &[(Mono, i128)],
+    second: &[(Mono, i128)],
+) -> Result<(), TermError>
+    ensures made { OnOk result (made.new ≡ made.old ++ first.now ++ second.now) }
+    ensures memory { IfErr result (λ e. e ≡ TermError.Memory) }
+{
+    push_each(made, first)?;
+    push_each(made, second)
 }

@@ -71,12 +71,7 @@ impl Total {
     }
 
     /// Adds a term of the columns of two; of no columns it is the constant.
-    fn put_product(
-        &mut self,
-        left: &[Col],
-        right: &[Col],
-        number: &i128,
-    ) -> Result<(), TermError>
+    fn put_product(&mut self, left: &[Col], right: &[Col], number: &i128) -> Result<(), TermError>
         requires { length left.now + length right.now ≤ 4 }
         ensures ok { OnOk result (put_part (in_order (left.now ++ right.now)) number.now self.old ≡ Ok self.new) }
         ensures err { IfErr result (λ e. FailsBy (cause e) (put_part (in_order (left.now ++ right.now)) number.now self.old)) }
@@ -126,6 +121,15 @@ impl Total {
         Ok(())
     }
 
+    /// The sum and a number more, as a polynomial.
+    pub(crate) fn with_constant(mut self, alloc: Global, number: &i128) -> Result<Poly, TermError>
+        ensures { Gives cause (λ p. p) result (put_part [] number.now self) }
+    {
+        self.add_constant(number)?;
+        let poly = self.into_poly(alloc)?;
+        Ok(poly)
+    }
+
     /// The sum as a polynomial.
     pub(crate) fn into_poly(self, alloc: Global) -> Result<Poly, AllocError>
         ensures { IfOk result (λ p. p ≡ self) }
@@ -137,10 +141,7 @@ impl Total {
 }
 
 /// The terms of a map, in the order of their monomials.
-fn listed(
-    alloc: Global,
-    terms: BTreeMap<Mono, i128>,
-) -> Result<Items<(Mono, i128)>, AllocError>
+fn listed(alloc: Global, terms: BTreeMap<Mono, i128>) -> Result<Items<(Mono, i128)>, AllocError>
     ensures { IfOk result (λ made. made ≡ terms.entries) }
 {
     let made: Vec<(Mono, i128)> = terms.into_iter().collect(alloc)?;

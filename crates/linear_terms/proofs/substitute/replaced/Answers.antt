@@ -1,12 +1,17 @@
-use Rattle.std.proofs.Common.{◌-◌, length, take, drop, rules}
-use Rattle.std.specs.Prelude.{All}
-use Rattle.std.proofs.lemmas.List.Elements.{All-take, All-drop}
+use Rattle.std.proofs.Common.{sym, subst}
+use Rattle.std.specs.Int.{w128}
+use Rattle.std.proofs.lemmas.Int.{to_z-of_z}
+use Rattle.items.specs.Gives.{Gives}
+use Rattle.linear_terms.specs.TermError.{cause}
 use Rattle.linear_terms.specs.declared.col.Col.TheVariants.{At}
-use Rattle.linear_terms.specs.Replacement.{HasPoly}
+use Rattle.linear_terms.specs.Polynomial.{Polynomial}
+use Rattle.linear_terms.specs.Replacement.{put_in}
+use Rattle.linear_terms.proofs.Steps.{replaced-more}
 use Rattle.linear_terms.proofs.substitute.replaced.Goals as goal
 
-pub put_in-requires-in-loop-col : goal.put_in-requires-in-loop-col
-put_in-requires-in-loop-col c =
-    let columns = c.args.columns.now in
-    let others : All (HasPoly c.args.at.now c.args.aux.now) (take (length columns - 2) (drop 2 columns)) = search (rules, All-take, All-drop, c.requires.covered) in
-    others c.loop-col.col-index (At 0) c.loop-col-test.true
+pub returns : goal.returns
+returns c =
+    let f = put_in c.args.at.now c.args.aux.now in
+    let same = replaced-more f c.args.columns.now c.args.number (At 0) c.put_in-first.result.now c.in_ok-product.product c.requires.some c.put_in-first.ensures c.in_ok-product.ensures in
+    subst (λ stated. Gives cause (λ (p : Polynomial). p) c.scale-2.result stated) (sym same)
+    (rw (to_z-of_z w128 c.args.number c.ranges.number) at c.scale-2.ensures.exact)

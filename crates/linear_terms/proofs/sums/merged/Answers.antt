@@ -1,4 +1,4 @@
-use Rattle.std.proofs.Common.{◌≡◌, ◌++◌, Ok, Err, sym, ap, ◌∙◌, arith, rules, SFits}
+use Rattle.std.proofs.Common.{◌≡◌, Ok, Err, sym, ap, ◌∙◌, arith, rules, SFits}
 use Rattle.std.specs.Int.{w128}
 use Rattle.std.proofs.lemmas.Result.{err_from_is_err_and}
 use Rattle.std.proofs.lemmas.Int.{ints}
@@ -77,7 +77,7 @@ returns-in_err-term-in-Equal-clause-exact c =
 pub returns-clause-exact : goal.returns-clause-exact
 returns-clause-exact c =
     let so_far = c.loop-first.invariant in
-    let made_is = c.in_ok-push_each-2.ensures.made ∙ ap (λ front. front ++ c.loop-first.right.now) c.in_ok-push_each.ensures.made in
+    let made_is = c.in_ok-push_both.ensures.made in
     elim c.match-split_first.branch [
       | in_default w ↦ sym so_far.same ∙ no_left c.loop-first.made c.loop-first.left.now c.loop-first.right.now (none c.loop-first.left.now w.in_default.ensures.cases) so_far.right_canonical ∙ ap (λ l. Ok l) (sym made_is)
       | in-Some+in_default-split_first w ↦ sym so_far.same ∙ no_right c.loop-first.made c.loop-first.left.now c.loop-first.right.now (none c.loop-first.right.now w.in_default-split_first.ensures.cases) ∙ ap (λ l. Ok l) (sym made_is)
