@@ -1,4 +1,5 @@
 ghost use Rattle.std.specs.Prelude.{◌≡◌, ◌↔◌, IsTrue, IfOk};
+ghost use Rattle.farkas_check.specs.declared.answer.Answer.TheVariants.{Bound, Unbounded, Basis};
 
 use crate::{Ratio, Relation, Spot};
 use items::Items;
@@ -97,40 +98,65 @@ impl Clone for Answer {
                 certs,
                 case,
                 point,
-            } => {
-                let certs = certs.clone()?;
-                let point = point.clone()?;
-                Ok(Answer::Bound {
-                    at: *at,
-                    certs,
-                    case: *case,
-                    point,
-                })
-            }
-            Answer::Unbounded { case, point, ray } => {
-                let point = point.clone()?;
-                let ray = ray.clone()?;
-                Ok(Answer::Unbounded {
-                    case: *case,
-                    point,
-                    ray,
-                })
-            }
+            } => bound_copy(at, certs, case, point),
+            Answer::Unbounded { case, point, ray } => unbounded_copy(case, point, ray),
             Answer::Basis {
                 relations,
                 spots,
                 free,
-            } => {
-                let relations = relations.clone()?;
-                let spots = spots.clone()?;
-                let free = free.clone()?;
-                Ok(Answer::Basis {
-                    relations,
-                    spots,
-                    free,
-                })
-            }
+            } => basis_copy(relations, spots, free),
             Answer::Limit(limit) => Ok(Answer::Limit(*limit)),
         }
     }
+}
+
+fn bound_copy(
+    at: &i128,
+    certs: &Items<Cert>,
+    case: &u32,
+    point: &Items<Ratio>,
+) -> Result<Answer, AllocError>
+    ensures { IfOk result (λ copy. copy ≡ Bound at.now certs.now case.now point.now) }
+{
+    let certs = certs.clone()?;
+    let point = point.clone()?;
+    Ok(Answer::Bound {
+        at: *at,
+        certs,
+        case: *case,
+        point,
+    })
+}
+
+fn unbounded_copy(
+    case: &u32,
+    point: &Items<Ratio>,
+    ray: &Items<Ratio>,
+) -> Result<Answer, AllocError>
+    ensures { IfOk result (λ copy. copy ≡ Unbounded case.now point.now ray.now) }
+{
+    let point = point.clone()?;
+    let ray = ray.clone()?;
+    Ok(Answer::Unbounded {
+        case: *case,
+        point,
+        ray,
+    })
+}
+
+fn basis_copy(
+    relations: &Items<Relation>,
+    spots: &Items<Spot>,
+    free: &Items<Items<Ratio>>,
+) -> Result<Answer, AllocError>
+    ensures { IfOk result (λ copy. copy ≡ Basis relations.now spots.now free.now) }
+{
+    let relations = relations.clone()?;
+    let spots = spots.clone()?;
+    let free = free.clone()?;
+    Ok(Answer::Basis {
+        relations,
+        spots,
+        free,
+    })
 }

@@ -93,11 +93,11 @@ fn with_terms(numbers: &[i128], terms: &[Poly], place: &Place) -> Result<i128, W
     Ok(total)
 }
 
-fn less_lowers(start: i128, numbers: &[i128], lower: &[Poly], place: &Place) -> Result<i128, Wide>
+fn less_lowers(start: &i128, numbers: &[i128], lower: &[Poly], place: &Place) -> Result<i128, Wide>
     requires { length numbers.now ≡ length lower.now }
-    ensures { result ≡ lower_from (value_in place.now) start numbers.now lower.now }
+    ensures { result ≡ lower_from (value_in place.now) start.now numbers.now lower.now }
 {
-    let mut total = start;
+    let mut total = *start;
     for (i, term) in lower.iter().enumerate() {
         total = less_lower(&total, &numbers[i], place, term)?;
     }
@@ -116,7 +116,7 @@ fn difference_at(
     ensures { result ≡ with_sides (value_in place.now) (is_constant place.now) (pos 0) (numbers_of relation.now) (sides terms.now lower.now) }
 {
     let terms_sum = with_terms(relation.a.as_slice(), terms, place)?;
-    let both = less_lowers(terms_sum, relation.b.as_slice(), lower, place)?;
+    let both = less_lowers(&terms_sum, relation.b.as_slice(), lower, place)?;
     less_constant(&both, &relation.c, place)
 }
 
