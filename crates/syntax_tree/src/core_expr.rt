@@ -5,7 +5,7 @@ use items::{Boxed, Items};
 use std::alloc::{AllocError, Global};
 
 /// An expression of the core program. It has no calls: its operands are columns of the state.
-#[derive(Debug, PartialEq, Eq, Drop)]
+#[derive(PartialEq, Eq, Drop)]
 pub enum Core {
     Lit(i128),
     Col(u32),
@@ -23,15 +23,30 @@ impl Core {
             Core::Col(col) => Ok(Core::Col(*col)),
             Core::Unary(sign, inner) => {
                 let inner = inner.copy(alloc)?;
-                Ok(Core::Unary(*sign, Boxed::new(alloc, inner)?))
+                unary(alloc, *sign, inner)
             }
             Core::Binary(op, left, right) => {
                 let left = left.copy(alloc)?;
                 let right = right.copy(alloc)?;
-                Ok(Core::Binary(*op, Boxed::new(alloc, left)?, Boxed::new(alloc, right)?))
+                binary(alloc, *op, left, right)
             }
         }
     }
+}
+
+fn unary(alloc: Global, sign: Sign, inner: Core) -> Result<Core, AllocError>
+    ensures { IfOk result (λ c. c ≡ Core.Unary sign inner) }
+{
+    let inner = Boxed::new(alloc, inner)?;
+    Ok(Core::Unary(sign, inner))
+}
+
+fn binary(alloc: Global, op: Op, left: Core, right: Core) -> Result<Core, AllocError>
+    ensures { IfOk result (λ c. c ≡ Core.Binary op left right) }
+{
+    let left = Boxed::new(alloc, left)?;
+    let right = Boxed::new(alloc, right)?;
+    Ok(Core::Binary(op, left, right))
 }
 
 /// A copy of a list of expressions.

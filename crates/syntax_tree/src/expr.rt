@@ -6,7 +6,7 @@ use items::{Boxed, Items};
 use std::alloc::{AllocError, Global};
 
 /// An expression of a text. Each part has its place, a byte offset: that of its first token.
-#[derive(Debug, PartialEq, Eq, Drop)]
+#[derive(PartialEq, Eq, Drop)]
 pub enum Expr {
     Lit(u32, i128),
     Var(u32, Name),
@@ -23,26 +23,50 @@ impl Expr {
     {
         match self {
             Expr::Lit(at, value) => Ok(Expr::Lit(*at, *value)),
-            Expr::Var(at, name) => Ok(Expr::Var(*at, name.clone()?)),
+            Expr::Var(at, name) => copy_var(*at, name),
             Expr::Call(at, name, args) => {
-                Ok(Expr::Call(*at, name.clone()?, copy_exprs(alloc, args)?))
+                let args = copy_exprs(alloc, args)?;
+                copy_call(*at, name, args)
             }
             Expr::Unary(at, sign, inner) => {
                 let inner = inner.copy(alloc)?;
-                Ok(Expr::Unary(*at, *sign, Boxed::new(alloc, inner)?))
+                unary(alloc, *at, *sign, inner)
             }
             Expr::Binary(at, op, left, right) => {
                 let left = left.copy(alloc)?;
                 let right = right.copy(alloc)?;
-                Ok(Expr::Binary(
-                    *at,
-                    *op,
-                    Boxed::new(alloc, left)?,
-                    Boxed::new(alloc, right)?,
-                ))
+                binary(alloc, *at, *op, left, right)
             }
         }
     }
+}
+
+fn copy_var(at: u32, name: &Name) -> Result<Expr, AllocError>
+    ensures { IfOk result (λ c. c ≡ Expr.Var at name.now) }
+{
+    Ok(Expr::Var(at, name.clone()?))
+}
+
+fn copy_call(at: u32, name: &Name, args: Items<Expr>) -> Result<Expr, AllocError>
+    ensures { IfOk result (λ c. c ≡ Expr.Call at name.now args) }
+{
+    let name = name.clone()?;
+    Ok(Expr::Call(at, name, args))
+}
+
+fn unary(alloc: Global, at: u32, sign: Sign, inner: Expr) -> Result<Expr, AllocError>
+    ensures { IfOk result (λ c. c ≡ Expr.Unary at sign inner) }
+{
+    let inner = Boxed::new(alloc, inner)?;
+    Ok(Expr::Unary(at, sign, inner))
+}
+
+fn binary(alloc: Global, at: u32, op: Op, left: Expr, right: Expr) -> Result<Expr, AllocError>
+    ensures { IfOk result (λ c. c ≡ Expr.Binary at op left right) }
+{
+    let left = Boxed::new(alloc, left)?;
+    let right = Boxed::new(alloc, right)?;
+    Ok(Expr::Binary(at, op, left, right))
 }
 
 /// A copy of a list of expressions.

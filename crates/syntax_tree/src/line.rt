@@ -6,7 +6,7 @@ use items::Items;
 use std::alloc::{AllocError, Global};
 
 /// A line of a body: a block, the declaration of a local, or a statement. A place is a byte offset.
-#[derive(Debug, PartialEq, Eq, Drop)]
+#[derive(PartialEq, Eq, Drop)]
 pub enum Line {
     Block(Items<Line>),
     Local {
@@ -47,45 +47,94 @@ impl Line {
     pub fn copy(&self, alloc: Global) -> Result<Line, AllocError>
         ensures { IfOk result (λ c. c ≡ self.now) }
     {
-        Ok(match self {
-            Line::Block(lines) => Line::Block(copy_lines(alloc, lines)?),
-            Line::Local { name, at, init } => Line::Local {
-                name: name.clone()?,
-                at: *at,
-                init: copy_value(alloc, init)?,
-            },
-            Line::Assign { name, at, value } => Line::Assign {
-                name: name.clone()?,
-                at: *at,
-                value: value.copy(alloc)?,
-            },
-            Line::Act(call) => Line::Act(call.copy(alloc)?),
-            Line::If { cond, yes, no } => Line::If {
-                cond: cond.copy(alloc)?,
-                yes: copy_lines(alloc, yes)?,
-                no: copy_lines(alloc, no)?,
-            },
+        match self {
+            Line::Block(lines) => Ok(Line::Block(copy_lines(alloc, lines)?)),
+            Line::Local { name, at, init } => copy_local(alloc, name, *at, init),
+            Line::Assign { name, at, value } => copy_assign(alloc, name, *at, value),
+            Line::Act(call) => copy_act(alloc, call),
+            Line::If { cond, yes, no } => {
+                let yes = copy_lines(alloc, yes)?;
+                let no = copy_lines(alloc, no)?;
+                copy_if(alloc, cond, yes, no)
+            }
             Line::Loop {
                 init,
                 cond,
                 step,
                 body,
                 first,
-            } => Line::Loop {
-                init: copy_lines(alloc, init)?,
-                cond: cond.copy(alloc)?,
-                step: copy_lines(alloc, step)?,
-                body: copy_lines(alloc, body)?,
-                first: *first,
-            },
-            Line::Break(at) => Line::Break(*at),
-            Line::Continue(at) => Line::Continue(*at),
-            Line::Return { at, value } => Line::Return {
-                at: *at,
-                value: copy_value(alloc, value)?,
-            },
-        })
+            } => {
+                let init = copy_lines(alloc, init)?;
+                let step = copy_lines(alloc, step)?;
+                let body = copy_lines(alloc, body)?;
+                copy_loop(alloc, init, cond, step, body, *first)
+            }
+            Line::Break(at) => Ok(Line::Break(*at)),
+            Line::Continue(at) => Ok(Line::Continue(*at)),
+            Line::Return { at, value } => copy_return(alloc, *at, value),
+        }
     }
+}
+
+fn copy_local(alloc: Global, name: &Name, at: u32, init: &Option<Expr>) -> Result<Line, AllocError>
+    ensures { IfOk result (λ c. c ≡ Line.Local name.now at init.now) }
+{
+    let name = name.clone()?;
+    let init = copy_value(alloc, init)?;
+    Ok(Line::Local { name, at, init })
+}
+
+fn copy_assign(alloc: Global, name: &Name, at: u32, value: &Expr) -> Result<Line, AllocError>
+    ensures { IfOk result (λ c. c ≡ Line.Assign name.now at value.now) }
+{
+    let name = name.clone()?;
+    let value = value.copy(alloc)?;
+    Ok(Line::Assign { name, at, value })
+}
+
+fn copy_act(alloc: Global, call: &Expr) -> Result<Line, AllocError>
+    ensures { IfOk result (λ c. c ≡ Line.Act call.now) }
+{
+    Ok(Line::Act(call.copy(alloc)?))
+}
+
+fn copy_if(
+    alloc: Global,
+    cond: &Expr,
+    yes: Items<Line>,
+    no: Items<Line>,
+) -> Result<Line, AllocError>
+    ensures { IfOk result (λ c. c ≡ Line.If cond.now yes no) }
+{
+    let cond = cond.copy(alloc)?;
+    Ok(Line::If { cond, yes, no })
+}
+
+fn copy_loop(
+    alloc: Global,
+    init: Items<Line>,
+    cond: &Expr,
+    step: Items<Line>,
+    body: Items<Line>,
+    first: bool,
+) -> Result<Line, AllocError>
+    ensures { IfOk result (λ c. c ≡ Line.Loop init cond.now step body first) }
+{
+    let cond = cond.copy(alloc)?;
+    Ok(Line::Loop {
+        init,
+        cond,
+        step,
+        body,
+        first,
+    })
+}
+
+fn copy_return(alloc: Global, at: u32, value: &Option<Expr>) -> Result<Line, AllocError>
+    ensures { IfOk result (λ c. c ≡ Line.Return at value.now) }
+{
+    let value = copy_value(alloc, value)?;
+    Ok(Line::Return { at, value })
 }
 
 fn copy_value(alloc: Global, value: &Option<Expr>) -> Result<Option<Expr>, AllocError>

@@ -6,13 +6,13 @@ use items::Items;
 use std::alloc::{AllocError, Global};
 
 /// A column between the globals and the returned value. A temporary has no name.
-#[derive(Debug, Clone, PartialEq, Eq, Drop)]
+#[derive(Clone, PartialEq, Eq, Drop)]
 pub struct Column {
     pub name: Option<Name>,
 }
 
 /// A global and its value where `main` begins.
-#[derive(Debug, Clone, PartialEq, Eq, Drop)]
+#[derive(Clone, PartialEq, Eq, Drop)]
 pub struct GlobalVar {
     pub name: Name,
     pub init: i128,
@@ -20,7 +20,7 @@ pub struct GlobalVar {
 
 /// A procedure. Its columns are the globals, then `columns`, of which the first `params` are the
 /// parameters, and last the returned value.
-#[derive(Debug, PartialEq, Eq, Drop)]
+#[derive(PartialEq, Eq, Drop)]
 pub struct Proc {
     pub name: Name,
     pub returns: bool,
@@ -33,7 +33,7 @@ pub struct Proc {
 /// `checks` has the places of the assertions in the text, the first of which has the number 1. `rule` is the
 /// rule by which the iterations of a loop are summed up: 1 bounds differences, 2 progressions too, and 3 also takes the
 /// facets of the loop's body as directions.
-#[derive(Debug, PartialEq, Eq, Drop)]
+#[derive(PartialEq, Eq, Drop)]
 pub struct Program {
     pub globals: Items<GlobalVar>,
     pub procs: Items<Proc>,

@@ -5,7 +5,7 @@ use items::Items;
 use std::alloc::{AllocError, Global};
 
 /// A statement of the core program.
-#[derive(Debug, PartialEq, Eq, Drop)]
+#[derive(PartialEq, Eq, Drop)]
 pub enum Stmt {
     Set {
         col: u32,
@@ -49,47 +49,99 @@ impl Stmt {
     pub fn copy(&self, alloc: Global) -> Result<Stmt, AllocError>
         ensures { IfOk result (λ c. c ≡ self.now) }
     {
-        Ok(match self {
-            Stmt::Set { col, value } => Stmt::Set {
-                col: *col,
-                value: value.copy(alloc)?,
-            },
-            Stmt::Any { col } => Stmt::Any { col: *col },
-            Stmt::Call { proc, args, into } => Stmt::Call {
-                proc: *proc,
-                args: copy_cores(alloc, args)?,
-                into: *into,
-            },
-            Stmt::Guard { cond } => Stmt::Guard {
-                cond: cond.copy(alloc)?,
-            },
-            Stmt::Check { number, cond } => Stmt::Check {
-                number: *number,
-                cond: cond.copy(alloc)?,
-            },
-            Stmt::If { cond, yes, no } => Stmt::If {
-                cond: cond.copy(alloc)?,
-                yes: copy_stmts(alloc, yes)?,
-                no: copy_stmts(alloc, no)?,
-            },
+        match self {
+            Stmt::Set { col, value } => copy_set(alloc, *col, value),
+            Stmt::Any { col } => Ok(Stmt::Any { col: *col }),
+            Stmt::Call { proc, args, into } => copy_call(alloc, *proc, args, *into),
+            Stmt::Guard { cond } => copy_guard(alloc, cond),
+            Stmt::Check { number, cond } => copy_check(alloc, *number, cond),
+            Stmt::If { cond, yes, no } => {
+                let yes = copy_stmts(alloc, yes)?;
+                let no = copy_stmts(alloc, no)?;
+                copy_if(alloc, cond, yes, no)
+            }
             Stmt::Loop {
                 pre,
                 cond,
                 body,
                 step,
                 first,
-            } => Stmt::Loop {
-                pre: copy_stmts(alloc, pre)?,
-                cond: cond.copy(alloc)?,
-                body: copy_stmts(alloc, body)?,
-                step: copy_stmts(alloc, step)?,
-                first: *first,
-            },
-            Stmt::Break => Stmt::Break,
-            Stmt::Continue => Stmt::Continue,
-            Stmt::Return => Stmt::Return,
-        })
+            } => {
+                let pre = copy_stmts(alloc, pre)?;
+                let body = copy_stmts(alloc, body)?;
+                let step = copy_stmts(alloc, step)?;
+                copy_loop(alloc, pre, cond, body, step, *first)
+            }
+            Stmt::Break => Ok(Stmt::Break),
+            Stmt::Continue => Ok(Stmt::Continue),
+            Stmt::Return => Ok(Stmt::Return),
+        }
     }
+}
+
+fn copy_set(alloc: Global, col: u32, value: &Core) -> Result<Stmt, AllocError>
+    ensures { IfOk result (λ c. c ≡ Stmt.Set col value.now) }
+{
+    let value = value.copy(alloc)?;
+    Ok(Stmt::Set { col, value })
+}
+
+fn copy_call(
+    alloc: Global,
+    proc: u32,
+    args: &Items<Core>,
+    into: Option<u32>,
+) -> Result<Stmt, AllocError>
+    ensures { IfOk result (λ c. c ≡ Stmt.Call proc args.now into) }
+{
+    let args = copy_cores(alloc, args)?;
+    Ok(Stmt::Call { proc, args, into })
+}
+
+fn copy_guard(alloc: Global, cond: &Core) -> Result<Stmt, AllocError>
+    ensures { IfOk result (λ c. c ≡ Stmt.Guard cond.now) }
+{
+    let cond = cond.copy(alloc)?;
+    Ok(Stmt::Guard { cond })
+}
+
+fn copy_check(alloc: Global, number: u32, cond: &Core) -> Result<Stmt, AllocError>
+    ensures { IfOk result (λ c. c ≡ Stmt.Check number cond.now) }
+{
+    let cond = cond.copy(alloc)?;
+    Ok(Stmt::Check { number, cond })
+}
+
+fn copy_if(
+    alloc: Global,
+    cond: &Core,
+    yes: Items<Stmt>,
+    no: Items<Stmt>,
+) -> Result<Stmt, AllocError>
+    ensures { IfOk result (λ c. c ≡ Stmt.If cond.now yes no) }
+{
+    let cond = cond.copy(alloc)?;
+    Ok(Stmt::If { cond, yes, no })
+}
+
+fn copy_loop(
+    alloc: Global,
+    pre: Items<Stmt>,
+    cond: &Core,
+    body: Items<Stmt>,
+    step: Items<Stmt>,
+    first: bool,
+) -> Result<Stmt, AllocError>
+    ensures { IfOk result (λ c. c ≡ Stmt.Loop pre cond.now body step first) }
+{
+    let cond = cond.copy(alloc)?;
+    Ok(Stmt::Loop {
+        pre,
+        cond,
+        body,
+        step,
+        first,
+    })
 }
 
 /// A copy of a list of statements.
