@@ -4,8 +4,8 @@ ghost use Rattle.syntax_tree.specs.Term.{term_of};
 ghost use Rattle.syntax_tree.specs.Code.{code_of, statement_of};
 ghost use Rattle.syntax_tree.specs.WellFormed.{IsWellFormed, all_columns_below, columns_below};
 ghost use Rattle.execution.specs.Machine.{Do, Tail, Top, after_loop, config_of, pending, state_of, to_tail, with_items, with_state};
-ghost use Rattle.execution.specs.Step.{at_begin, at_head, at_tail};
-ghost use Rattle.execution.specs.Chosen.{assigned, cause, chosen_any, chosen_branch, chosen_by, chosen_call, chosen_pass, chosen_return, chosen_set, chosen_start, chosen_step, new_frame, number_in, numbers_in, quietly};
+ghost use Rattle.execution.specs.Step.{at_begin, at_head, at_tail, resumed};
+ghost use Rattle.execution.specs.Chosen.{assigned, called, cause, chosen_any, chosen_branch, chosen_by, chosen_call, chosen_pass, chosen_return, chosen_set, chosen_start, chosen_step, new_frame, number_in, numbers_in, quietly};
 ghost use Rattle.execution.specs.Runnable.{ConfigCanRun, IsCallable, ItemCanRun, StatementCanRun};
 ghost use Rattle.execution.specs.Interpreter.{Takes, frame_of, frames_of, item_of, items_of, machine_config, machine_top, parts_of};
 
@@ -15,7 +15,7 @@ use std::alloc::{AllocError, Global};
 use syntax_tree::{Core, Program, Stmt, eval};
 
 /// A loop that was begun.
-#[derive(Debug, Clone, Copy)]
+#[derive(Clone, Copy)]
 pub struct Repeat<'p> {
     pub pre: &'p [Stmt],
     pub cond: &'p Core,
@@ -25,7 +25,7 @@ pub struct Repeat<'p> {
 }
 
 /// What a call has still to do.
-#[derive(Debug, Clone, Copy)]
+#[derive(Clone, Copy)]
 pub enum Task<'p> {
     Do(&'p Stmt),
     Head(Repeat<'p>),
@@ -34,7 +34,7 @@ pub enum Task<'p> {
 }
 
 /// A call that has not returned. The next of its tasks is the last.
-#[derive(Debug, Drop)]
+#[derive(Drop)]
 pub struct Activation<'p> {
     pub proc: u32,
     pub own: Items<i128>,
@@ -43,7 +43,7 @@ pub struct Activation<'p> {
 }
 
 /// A program as it runs. The call on top is the last.
-#[derive(Debug, Drop)]
+#[derive(Drop)]
 pub struct Machine<'p> {
     pub globals: Items<i128>,
     pub calls: Items<Activation<'p>>,
@@ -108,6 +108,34 @@ fn values(alloc: Global, args: &[Core], state: &[i128]) -> Result<Items<i128>, S
     Ok(all)
 }
 
+// The number of an expression at these columns.
+fn number_at(
+    alloc: Global,
+    globals: &Items<i128>,
+    own: &Items<i128>,
+    e: &Core,
+) -> Result<i128, Stop>
+    requires { IsTrue (columns_below (length globals.now + length own.now) (term_of e.now)) }
+    ensures { Gives cause (λ v. v) result (number_in (term_of e.now) (globals.now ++ own.now)) }
+{
+    let state = columns(alloc, globals, own)?;
+    value(e, state.as_slice())
+}
+
+// The numbers of several expressions at these columns.
+fn numbers_at(
+    alloc: Global,
+    globals: &Items<i128>,
+    own: &Items<i128>,
+    args: &[Core],
+) -> Result<Items<i128>, Stop>
+    requires { IsTrue (all_columns_below (length globals.now + length own.now) (map term_of args.now)) }
+    ensures { Gives cause (λ vs. vs) result (numbers_in (map term_of args.now) (globals.now ++ own.now)) }
+{
+    let state = columns(alloc, globals, own)?;
+    values(alloc, args, state.as_slice())
+}
+
 // Puts a call with these tasks on top.
 #[tactic(auto, using(crate::proofs::Tasks::tasks))]
 fn resume<'p>(machine: &mut Machine<'p>, call: Activation<'p>) -> Result<(), AllocError>
@@ -115,6 +143,28 @@ fn resume<'p>(machine: &mut Machine<'p>, call: Activation<'p>) -> Result<(), All
 {
     machine.calls.push(call)?;
     Ok(())
+}
+
+// The same, where that is the whole step, which shows nothing.
+fn go_on<'p>(machine: &mut Machine<'p>, call: Activation<'p>) -> Result<Option<Event>, Stop>
+    ensures { Takes machine.new result (quietly (config_of (machine_top machine.old call.entry))) }
+{
+    resume(machine, call)?;
+    Ok(None)
+}
+
+// The call goes on with these statements before its tasks.
+fn go_on_with<'p>(
+    machine: &mut Machine<'p>,
+    call: Activation<'p>,
+    code: &'p [Stmt],
+) -> Result<Option<Event>, Stop>
+    ensures { Takes machine.new result (quietly
+        (with_items (machine_top machine.old call.entry) (pending (code_of code.now) (items_of call.entry.tasks)))) }
+{
+    let mut call = call;
+    push_code(&mut call.tasks, code)?;
+    go_on(machine, call)
 }
 
 #[tactic(auto, using(crate::proofs::Tasks::tasks))]
@@ -224,8 +274,7 @@ fn set_column<'p>(
     ensures { Takes machine.new result
         (chosen_set (machine_top machine.old call.entry) (items_of call.entry.tasks) col (term_of e.now)) }
 {
-    let state = columns(alloc, &machine.globals, &call.own)?;
-    let number = value(e, state.as_slice())?;
+    let number = number_at(alloc, &machine.globals, &call.own, e)?;
     store(alloc, machine, call, col, number)?;
     Ok(None)
 }
@@ -261,8 +310,7 @@ fn pass<'p>(
     ensures { Takes machine.new result
         (chosen_pass shown otherwise (machine_top machine.old call.entry) (items_of call.entry.tasks) (term_of cond.now)) }
 {
-    let state = columns(alloc, &machine.globals, &call.own)?;
-    if value(cond, state.as_slice())? == 0 {
+    if number_at(alloc, &machine.globals, &call.own, cond)? == 0 {
         return Err(otherwise);
     }
     resume(machine, call)?;
@@ -296,6 +344,25 @@ fn enter<'p>(
     })
 }
 
+// A call with these arguments is put on top of the call that makes it.
+fn put_callee<'p>(
+    alloc: Global,
+    program: &'p Program,
+    machine: &mut Machine<'p>,
+    call: Activation<'p>,
+    proc: u32,
+    args: Items<i128>,
+    into: Option<u32>,
+) -> Result<(), AllocError>
+    requires { IsCallable program.now proc (length args) }
+    ensures { OnOk result (machine_config machine.new ≡
+        called program.now proc into (machine_top machine.old call.entry) (items_of call.entry.tasks) args) }
+{
+    let callee = enter(alloc, program, proc, args, into)?;
+    resume(machine, call)?;
+    resume(machine, callee)
+}
+
 fn enter_call<'p>(
     alloc: Global,
     program: &'p Program,
@@ -310,12 +377,9 @@ fn enter_call<'p>(
     ensures { Takes machine.new result
         (chosen_call program.now (machine_top machine.old call.entry) (items_of call.entry.tasks) proc (map term_of args.now) into) }
 {
-    let state = columns(alloc, &machine.globals, &call.own)?;
-    let values = values(alloc, args, state.as_slice())?;
+    let values = numbers_at(alloc, &machine.globals, &call.own, args)?;
     let shown = Items::from_slice(alloc, values.as_slice())?;
-    let entered = enter(alloc, program, proc, values, into)?;
-    resume(machine, call)?;
-    resume(machine, entered)?;
+    put_callee(alloc, program, machine, call, proc, values, into)?;
     Ok(Some(Event::Call { proc, args: shown }))
 }
 
@@ -332,15 +396,24 @@ fn branch<'p>(
     ensures { Takes machine.new result (chosen_branch (machine_top machine.old call.entry)
         (pending (code_of yes.now) (items_of call.entry.tasks)) (pending (code_of no.now) (items_of call.entry.tasks)) (term_of cond.now)) }
 {
-    let mut call = call;
-    let state = columns(alloc, &machine.globals, &call.own)?;
-    if value(cond, state.as_slice())? != 0 {
-        push_code(&mut call.tasks, yes)?;
+    if number_at(alloc, &machine.globals, &call.own, cond)? != 0 {
+        go_on_with(machine, call, yes)
     } else {
-        push_code(&mut call.tasks, no)?;
+        go_on_with(machine, call, no)
     }
-    resume(machine, call)?;
-    Ok(None)
+}
+
+fn turn_loop<'p>(
+    machine: &mut Machine<'p>,
+    call: Activation<'p>,
+    repeat: Repeat<'p>,
+) -> Result<Option<Event>, Stop>
+    ensures { Takes machine.new result (quietly (with_items (machine_top machine.old call.entry)
+        (pending (parts_of repeat.entry).body (Tail (parts_of repeat.entry) ∷ items_of call.entry.tasks)))) }
+{
+    let mut call = call;
+    enter_body(&mut call.tasks, repeat)?;
+    go_on(machine, call)
 }
 
 fn test_loop<'p>(
@@ -354,13 +427,11 @@ fn test_loop<'p>(
         (pending (parts_of repeat.entry).body (Tail (parts_of repeat.entry) ∷ items_of call.entry.tasks)) (items_of call.entry.tasks)
         (parts_of repeat.entry).cond) }
 {
-    let mut call = call;
-    let state = columns(alloc, &machine.globals, &call.own)?;
-    if value(repeat.cond, state.as_slice())? != 0 {
-        enter_body(&mut call.tasks, repeat)?;
+    if number_at(alloc, &machine.globals, &call.own, repeat.cond)? != 0 {
+        turn_loop(machine, call, repeat)
+    } else {
+        go_on(machine, call)
     }
-    resume(machine, call)?;
-    Ok(None)
 }
 
 #[tactic(auto, using(crate::proofs::Tasks::leaves))]
@@ -369,8 +440,7 @@ fn leave_loop<'p>(machine: &mut Machine<'p>, call: Activation<'p>) -> Result<Opt
 {
     let mut call = call;
     let _left = pop_to_tail(&mut call.tasks);
-    resume(machine, call)?;
-    Ok(None)
+    go_on(machine, call)
 }
 
 #[tactic(auto, using(crate::proofs::Tasks::leaves))]
@@ -381,8 +451,7 @@ fn next_turn<'p>(machine: &mut Machine<'p>, call: Activation<'p>) -> Result<Opti
     if let Some(repeat) = pop_to_tail(&mut call.tasks) {
         call.tasks.push(Task::Tail(repeat))?;
     }
-    resume(machine, call)?;
-    Ok(None)
+    go_on(machine, call)
 }
 
 fn leave_call<'p>(
@@ -399,7 +468,7 @@ fn leave_call<'p>(
         into,
     } = call;
     let tasks = Items::new(alloc);
-    resume(
+    go_on(
         machine,
         Activation {
             proc,
@@ -407,8 +476,7 @@ fn leave_call<'p>(
             tasks,
             into,
         },
-    )?;
-    Ok(None)
+    )
 }
 
 fn start_loop<'p>(
@@ -421,8 +489,23 @@ fn start_loop<'p>(
 {
     let mut call = call;
     begin_loop(&mut call.tasks, repeat)?;
-    resume(machine, call)?;
-    Ok(None)
+    go_on(machine, call)
+}
+
+// A call goes on, and its column gets the value that was returned, if it awaits one.
+fn take_value<'p>(
+    alloc: Global,
+    machine: &mut Machine<'p>,
+    call: Activation<'p>,
+    into: Option<u32>,
+    value: i128,
+) -> Result<(), AllocError>
+    ensures { OnOk result (machine_config machine.new ≡ resumed into value (machine_top machine.old call.entry)) }
+{
+    match into {
+        None => resume(machine, call),
+        Some(col) => store(alloc, machine, call, col, value),
+    }
 }
 
 // The call has nothing left to do, and its value goes back to its caller.
@@ -444,10 +527,7 @@ fn go_back<'p>(
     let Some(caller) = machine.calls.pop() else {
         return Err(Stop::Done(value));
     };
-    match into {
-        None => resume(machine, caller)?,
-        Some(col) => store(alloc, machine, caller, col, value)?,
-    }
+    take_value(alloc, machine, caller, into, value)?;
     Ok(Some(Event::Return { proc, value }))
 }
 
@@ -543,14 +623,12 @@ fn do_task<'p>(
         Task::Do(stmt) => do_stmt(alloc, program, machine, call, stmt, number),
         Task::Head(repeat) => {
             head_loop(&mut call.tasks, repeat)?;
-            resume(machine, call)?;
-            Ok(None)
+            go_on(machine, call)
         }
         Task::Test(repeat) => test_loop(alloc, machine, call, repeat),
         Task::Tail(repeat) => {
             tail_loop(&mut call.tasks, repeat)?;
-            resume(machine, call)?;
-            Ok(None)
+            go_on(machine, call)
         }
     }
 }
