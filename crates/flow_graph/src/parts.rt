@@ -2,7 +2,7 @@ use items::Items;
 use syntax_tree::Core;
 
 /// What an edge does.
-#[derive(Debug, PartialEq, Eq, Drop)]
+#[derive(Drop)]
 pub enum Act {
     /// Passes where the condition has a value that is not 0.
     Guard(Core),
@@ -19,7 +19,7 @@ pub enum Act {
 }
 
 /// An edge from a node to a node.
-#[derive(Debug, PartialEq, Eq, Drop)]
+#[derive(Drop)]
 pub struct Edge {
     pub from: u32,
     pub to: u32,
@@ -27,7 +27,7 @@ pub struct Edge {
 }
 
 /// The node at which an assertion stands: it is the next thing to do there.
-#[derive(Debug, PartialEq, Eq, Drop)]
+#[derive(Drop)]
 pub struct CheckNode {
     pub node: u32,
     pub number: u32,
@@ -36,7 +36,7 @@ pub struct CheckNode {
 
 /// The flow graph of a procedure. Nodes are numbered from 0, the entry, to the exit, which is the last; nodes and
 /// edges are in the order in which the statements make them.
-#[derive(Debug, PartialEq, Eq, Drop)]
+#[derive(Drop)]
 pub struct Graph {
     pub nodes: u32,
     pub edges: Items<Edge>,

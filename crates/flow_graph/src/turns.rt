@@ -167,6 +167,23 @@ fn waiters(waiting: &[Items<usize>], group: usize) -> &[usize]
     }
 }
 
+impl Order {
+    // Looks at the groups that wait at this one.
+    fn wake(
+        &mut self,
+        alloc: Global,
+        program: &Program,
+        plan: &Plan,
+        group: usize,
+    ) -> Result<(), GraphError>
+        requires { Going program.now plan.now (stage_of self.old) (slice_index_or self.old.waiting.items group []) }
+        ensures { OnOk result (Going program.now plan.now (stage_of self.new) [] × (self.new.come.items ≡ self.old.come.items)) }
+    {
+        let todo = Items::from_slice(alloc, waiters(&self.waiting, group))?;
+        self.settle_all(program, plan, todo.as_slice())
+    }
+}
+
 // The group of a number, as it comes.
 fn made(alloc: Global, plan: &Plan, group: usize) -> Result<Group, GraphError>
     ensures { IfOk result (λ made. (made.procs ≡ members_of plan.now group) × (made.recursive ≡ leads_back plan.now.groups group (row_of plan.now group))) }
@@ -192,9 +209,9 @@ pub(crate) fn ordered(
     while let Some(first) = order.ready.pop_first() {
         let group = group_at(plan.groups.as_slice(), first);
         order.come[group] = true;
-        groups.push(made(alloc, plan, group)?)?;
-        let todo = Items::from_slice(alloc, waiters(&order.waiting, group))?;
-        order.settle_all(program, plan, todo.as_slice())?;
+        let made = made(alloc, plan, group)?;
+        groups.push(made)?;
+        order.wake(alloc, program, plan, group)?;
     }
     Ok(groups)
 }

@@ -1,4 +1,4 @@
-use Rattle.std.proofs.Common.{◌≡◌, ℕ, true, List, [], ◌∷◌, ◌++◌, get_or, set, ap, sym, subst, arith, ◌∙◌}
+use Rattle.std.proofs.Common.{◌≡◌, ℕ, true, List, [], ◌∷◌, ◌++◌, set, ap, sym, subst, arith, ◌∙◌}
 use Rattle.std.specs.Prelude.{not}
 use Rattle.std.specs.List.{count_by}
 use Rattle.flow_graph.specs.declared.grouping.Group.{Group}
@@ -11,19 +11,16 @@ pub loop-first-init : goal.loop-first-init
 loop-first-init c = subst (Ordered c.args.program.now c.args.plan.now (stage_of c.args.order)) (sym c.new-groups.ensures)
     (ordered_none c.args.program.now c.args.plan.now (stage_of c.args.order) c.requires.going c.requires.none)
 
-pub settle_all-requires : goal.settle_all-requires
-settle_all-requires c =
+pub wake-requires : goal.wake-requires
+wake-requires c =
     let program = c.args.program.now in
     let plan = c.args.plan.now in
     let s = stage_of c.loop-first.order in
     let f = c.in-Some.first in
     let taken = taken_is _ _ f c.in-Some.ensures.removal c.in-Some.ensures.all_above in
     let g : c.group_at-group.result ≡ group plan f = c.group_at-group.ensures ∙ ap (λ (xs : List ℕ). group_at xs f) c.as_slice.ensures in
-    let todo : c.as_slice-in-Some.result.now ≡ waiters s (group plan f) =
-    c.as_slice-in-Some.ensures ∙ c.in_ok-todo.ensures ∙ c.waiters.ensures ∙ (λ i. get_or (c.deref.ensures.value i) (g i) []) in
-    subst (λ (xs : List ℕ). Going program plan (record s { come = set s.come c.group_at-group.result true; ready = mem c.pop_first.new.self.keys }) xs) (sym todo)
-    (subst (λ (k : ℕ). Going program plan (record s { come = set s.come k true; ready = mem c.pop_first.new.self.keys }) (waiters s (group plan f))) (sym g)
-    (going_after program plan s c.loop-first.groups f (mem c.pop_first.new.self.keys) c.loop-first.invariant taken))
+    subst (λ (k : ℕ). Going program plan (record s { come = set s.come k true; ready = mem c.pop_first.new.self.keys }) (waiters s k)) (sym g)
+    (going_after program plan s c.loop-first.groups f (mem c.pop_first.new.self.keys) c.loop-first.invariant taken)
 
 pub loop-first-smaller : goal.loop-first-smaller
 loop-first-smaller c =
@@ -33,7 +30,7 @@ loop-first-smaller c =
     let f = c.in-Some.first in
     let taken = taken_is _ _ f c.in-Some.ensures.removal c.in-Some.ensures.all_above in
     let g : c.group_at-group.result ≡ group plan f = c.group_at-group.ensures ∙ ap (λ (xs : List ℕ). group_at xs f) c.as_slice.ensures in
-    let same : c.settle_all.new.self.come.items ≡ set s.come (group plan f) true = c.in_ok-settle_all.ensures.1 ∙ ap (λ (k : ℕ). set s.come k true) g in
+    let same : c.wake.new.self.come.items ≡ set s.come (group plan f) true = c.in_ok-wake.ensures.1 ∙ ap (λ (k : ℕ). set s.come k true) g in
     let ordered = c.loop-first.invariant in
     let within = ordered.going.plans.within f (ordered.going.stands.ready f taken.had).there in
     let late = late_first program plan s c.loop-first.groups f (mem c.pop_first.new.self.keys) ordered taken in
@@ -48,14 +45,14 @@ loop-first-preserved c =
     let f = c.in-Some.first in
     let taken = taken_is _ _ f c.in-Some.ensures.removal c.in-Some.ensures.all_above in
     let g : c.group_at-group.result ≡ group plan f = c.group_at-group.ensures ∙ ap (λ (xs : List ℕ). group_at xs f) c.as_slice.ensures in
-    let same : c.settle_all.new.self.come.items ≡ set s.come (group plan f) true = c.in_ok-settle_all.ensures.1 ∙ ap (λ (k : ℕ). set s.come k true) g in
-    let made : c.in_ok-made.field-0 ≡ record { procs = members_of plan (group plan f); recursive = leads_back plan.groups (group plan f) (row_of plan (group plan f)) } =
+    let same : c.wake.new.self.come.items ≡ set s.come (group plan f) true = c.in_ok-wake.ensures.1 ∙ ap (λ (k : ℕ). set s.come k true) g in
+    let made : c.in_ok-made.made ≡ record { procs = members_of plan (group plan f); recursive = leads_back plan.groups (group plan f) (row_of plan (group plan f)) } =
     (λ i. record {
       procs = (c.in_ok-made.ensures.0 ∙ ap (members_of plan) g) i;
       recursive = (c.in_ok-made.ensures.1 ∙ ap (λ (k : ℕ). leads_back plan.groups k (row_of plan k)) g) i;
     }) in
-    subst (Ordered program plan (stage_of c.settle_all.new.self)) (sym (c.in_ok-push.ensures.ok ∙ ap (λ (x : Group). c.loop-first.groups ++ x ∷ []) made))
-    (ordered_after program plan s c.loop-first.groups f (mem c.pop_first.new.self.keys) c.loop-first.invariant taken (stage_of c.settle_all.new.self) c.in_ok-settle_all.ensures.0 same)
+    subst (Ordered program plan (stage_of c.wake.new.self)) (sym (c.in_ok-push.ensures.ok ∙ ap (λ (x : Group). c.loop-first.groups ++ x ∷ []) made))
+    (ordered_after program plan s c.loop-first.groups f (mem c.pop_first.new.self.keys) c.loop-first.invariant taken (stage_of c.wake.new.self) c.in_ok-wake.ensures.0 same)
 
 pub returns : goal.returns
 returns c = ordered_end c.args.program.now c.args.plan.now (stage_of c.loop-first.order) c.loop-first.groups c.loop-first.invariant
