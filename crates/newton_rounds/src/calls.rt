@@ -14,7 +14,7 @@ use transition_formula::Formula;
 
 /// A call of a procedure of the group by one: their places in the group, the nodes that its edge leads from and to, the
 /// arguments, and the column that awaits the value.
-#[derive(Debug, Drop)]
+#[derive(Drop)]
 pub(crate) struct GroupCall {
     pub(crate) caller: u32,
     pub(crate) callee: u32,

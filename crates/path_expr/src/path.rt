@@ -4,7 +4,7 @@ use items::Boxed;
 use std::alloc::{AllocError, Global};
 
 /// A path expression: a regular expression over the numbers of a graph's links.
-#[derive(Debug, PartialEq, Eq, Drop)]
+#[derive(PartialEq, Eq, Drop)]
 pub enum Path {
     /// No path.
     Zero,
@@ -32,17 +32,43 @@ impl Path {
             Path::Seq(first, second) => {
                 let first = first.copy(alloc)?;
                 let second = second.copy(alloc)?;
-                Ok(Path::Seq(Boxed::new(alloc, first)?, Boxed::new(alloc, second)?))
+                sequence(alloc, first, second)
             }
             Path::Join(left, right) => {
                 let left = left.copy(alloc)?;
                 let right = right.copy(alloc)?;
-                Ok(Path::Join(Boxed::new(alloc, left)?, Boxed::new(alloc, right)?))
+                either(alloc, left, right)
             }
             Path::Star(turn) => {
                 let turn = turn.copy(alloc)?;
-                Ok(Path::Star(Boxed::new(alloc, turn)?))
+                turns(alloc, turn)
             }
         }
     }
+}
+
+/// The first path and then the second.
+pub(crate) fn sequence(alloc: Global, first: Path, second: Path) -> Result<Path, AllocError>
+    ensures { IfOk result (λ path. path ≡ Path.Seq first second) }
+{
+    let first = Boxed::new(alloc, first)?;
+    let second = Boxed::new(alloc, second)?;
+    Ok(Path::Seq(first, second))
+}
+
+/// Either of two paths.
+pub(crate) fn either(alloc: Global, left: Path, right: Path) -> Result<Path, AllocError>
+    ensures { IfOk result (λ path. path ≡ Path.Join left right) }
+{
+    let left = Boxed::new(alloc, left)?;
+    let right = Boxed::new(alloc, right)?;
+    Ok(Path::Join(left, right))
+}
+
+/// Any number of turns of a path.
+pub(crate) fn turns(alloc: Global, turn: Path) -> Result<Path, AllocError>
+    ensures { IfOk result (λ path. path ≡ Path.Star turn) }
+{
+    let turn = Boxed::new(alloc, turn)?;
+    Ok(Path::Star(turn))
 }

@@ -1,6 +1,5 @@
 use crate::algebra::Algebra;
-use crate::path::Path;
-use items::Boxed;
+use crate::path::{Path, either, sequence, turns};
 use std::alloc::{AllocError, AllocFailed, Global};
 
 /// Why a path expression was not made.
@@ -64,18 +63,18 @@ impl Algebra for PlainPaths {
     fn seq(&mut self, alloc: Global, first: &Path, second: &Path) -> Result<Path, PathError> {
         let first = first.copy(alloc)?;
         let second = second.copy(alloc)?;
-        Ok(Path::Seq(Boxed::new(alloc, first)?, Boxed::new(alloc, second)?))
+        Ok(sequence(alloc, first, second)?)
     }
 
     fn join(&mut self, alloc: Global, left: &Path, right: &Path) -> Result<Path, PathError> {
         let left = left.copy(alloc)?;
         let right = right.copy(alloc)?;
-        Ok(Path::Join(Boxed::new(alloc, left)?, Boxed::new(alloc, right)?))
+        Ok(either(alloc, left, right)?)
     }
 
     fn star(&mut self, alloc: Global, turn: &Path) -> Result<Path, PathError> {
         let turn = turn.copy(alloc)?;
-        Ok(Path::Star(Boxed::new(alloc, turn)?))
+        Ok(turns(alloc, turn)?)
     }
 
     fn copy(&mut self, alloc: Global, item: &Path) -> Result<Path, PathError> {

@@ -14,7 +14,7 @@ use std::alloc::{AllocError, Global};
 use syntax_tree::Program;
 
 // A run so far: how many values were taken, and what the steps showed.
-#[derive(Debug, Drop)]
+#[derive(Drop)]
 pub(crate) struct Run<'p> {
     pub(crate) machine: Machine<'p>,
     pub(crate) taken: usize,
