@@ -3,7 +3,7 @@
 ghost use Rattle.std.specs.Prelude.{◌≡◌, ◌+◌, [], ◌∷◌, ◌++◌, IfOk, OnOk, true, false, length};
 ghost use Rattle.std.specs.Option.{option_map};
 ghost use Rattle.syntax_tree.specs.SourceExpr.{source_expr_of};
-ghost use Rattle.syntax_tree.specs.SourceLine.{source_line_of, source_lines_of};
+ghost use Rattle.syntax_tree.specs.SourceLine.{If, Loop, source_line_of, source_lines_of};
 ghost use Rattle.typing.specs.CallFaults.{condition_faults, put_faults, variable_faults};
 ghost use Rattle.typing.specs.Calls.{calls_in, put_in, put_temporaries};
 ghost use Rattle.typing.specs.Env.{without_scope, with_variable, with_scope, with_place, with_columns_taken};
@@ -65,13 +65,7 @@ impl Elaborator {
             Line::Local { name, at, init } => self.local(name, *at, init, out),
             Line::Assign { name, at, value } => self.assign(name, *at, value, out),
             Line::Act(call) => self.act(call, out),
-            Line::If { cond, yes, no } => {
-                let cond = self.condition(cond, out)?;
-                let yes = self.scoped(yes.as_slice())?;
-                let no = self.scoped(no.as_slice())?;
-                out.push(Stmt::If { cond, yes, no })?;
-                Ok(())
-            }
+            Line::If { cond, yes, no } => self.branch(cond, yes.as_slice(), no.as_slice(), out),
             Line::Loop {
                 init,
                 cond,
@@ -79,24 +73,80 @@ impl Elaborator {
                 body,
                 first,
             } => {
-                let place = self.env.place;
-                self.begin_loop(init.as_slice(), out)?;
+                let (init, step, body) = (init.as_slice(), step.as_slice(), body.as_slice());
                 if *first {
-                    let body = self.body(body.as_slice(), place)?;
-                    let (pre, cond) = self.test(cond)?;
-                    let step = self.step(step.as_slice(), place)?;
-                    self.end_loop(loop_statement(pre, cond, body, step, true), out)
+                    self.do_loop(init, cond, step, body, out)
                 } else {
-                    let (pre, cond) = self.test(cond)?;
-                    let step = self.step(step.as_slice(), place)?;
-                    let body = self.body(body.as_slice(), place)?;
-                    self.end_loop(loop_statement(pre, cond, body, step, false), out)
+                    self.while_loop(init, cond, step, body, out)
                 }
             }
             Line::Break(at) => self.leave(*at, Stmt::Break, out),
             Line::Continue(at) => self.leave(*at, Stmt::Continue, out),
             Line::Return { at, value } => self.give_back(*at, value, out),
         }
+    }
+
+    #[cycle(line)]
+    fn branch(
+        &mut self,
+        cond: &Expr,
+        yes: &[Line],
+        no: &[Line],
+        out: &mut Items<Stmt>,
+    ) -> Result<(), AllocError>
+        ensures statements { OnOk result (out.new ≡ out.old ++ statements_of self.old.env (If (source_expr_of cond.now) (source_lines_of yes.now) (source_lines_of no.now))) }
+        ensures env { OnOk result (self.new.env ≡ after self.old.env (If (source_expr_of cond.now) (source_lines_of yes.now) (source_lines_of no.now))) }
+        ensures least { OnOk result (self.new.least ≡ least_of self.old.least (faults_in self.old.env (If (source_expr_of cond.now) (source_lines_of yes.now) (source_lines_of no.now)))) }
+    {
+        let cond = self.condition(cond, out)?;
+        let yes = self.scoped(yes)?;
+        let no = self.scoped(no)?;
+        out.push(Stmt::If { cond, yes, no })?;
+        Ok(())
+    }
+
+    // A loop that tests first.
+    #[cycle(line)]
+    fn while_loop(
+        &mut self,
+        init: &[Line],
+        cond: &Expr,
+        step: &[Line],
+        body: &[Line],
+        out: &mut Items<Stmt>,
+    ) -> Result<(), AllocError>
+        ensures statements { OnOk result (out.new ≡ out.old ++ statements_of self.old.env (Loop (source_lines_of init.now) (source_expr_of cond.now) (source_lines_of step.now) (source_lines_of body.now) false)) }
+        ensures env { OnOk result (self.new.env ≡ after self.old.env (Loop (source_lines_of init.now) (source_expr_of cond.now) (source_lines_of step.now) (source_lines_of body.now) false)) }
+        ensures least { OnOk result (self.new.least ≡ least_of self.old.least (faults_in self.old.env (Loop (source_lines_of init.now) (source_expr_of cond.now) (source_lines_of step.now) (source_lines_of body.now) false))) }
+    {
+        let place = self.env.place;
+        self.begin_loop(init, out)?;
+        let (pre, cond) = self.test(cond)?;
+        let step = self.step(step, place)?;
+        let body = self.body(body, place)?;
+        self.end_loop(loop_statement(pre, cond, body, step, false), out)
+    }
+
+    // A loop whose body comes first.
+    #[cycle(line)]
+    fn do_loop(
+        &mut self,
+        init: &[Line],
+        cond: &Expr,
+        step: &[Line],
+        body: &[Line],
+        out: &mut Items<Stmt>,
+    ) -> Result<(), AllocError>
+        ensures statements { OnOk result (out.new ≡ out.old ++ statements_of self.old.env (Loop (source_lines_of init.now) (source_expr_of cond.now) (source_lines_of step.now) (source_lines_of body.now) true)) }
+        ensures env { OnOk result (self.new.env ≡ after self.old.env (Loop (source_lines_of init.now) (source_expr_of cond.now) (source_lines_of step.now) (source_lines_of body.now) true)) }
+        ensures least { OnOk result (self.new.least ≡ least_of self.old.least (faults_in self.old.env (Loop (source_lines_of init.now) (source_expr_of cond.now) (source_lines_of step.now) (source_lines_of body.now) true))) }
+    {
+        let place = self.env.place;
+        self.begin_loop(init, out)?;
+        let body = self.body(body, place)?;
+        let (pre, cond) = self.test(cond)?;
+        let step = self.step(step, place)?;
+        self.end_loop(loop_statement(pre, cond, body, step, true), out)
     }
 
     #[cycle(line)]
