@@ -198,13 +198,12 @@ pub(crate) fn ordered(
     alloc: Global,
     program: &Program,
     plan: &Plan,
-    order: Order,
+    order: &mut Order,
 ) -> Result<Items<Group>, GraphError>
-    requires going { Going program.now plan.now (stage_of order) [] }
-    requires none { NoneCame (stage_of order) }
+    requires going { Going program.now plan.now (stage_of order.old) [] }
+    requires none { NoneCame (stage_of order.old) }
     ensures { IfOk result (λ groups. AreGroups program.now groups) }
 {
-    let mut order = order;
     let mut groups = Items::new(alloc);
     while let Some(first) = order.ready.pop_first() {
         let group = group_at(plan.groups.as_slice(), first);
@@ -289,5 +288,5 @@ pub(crate) fn in_order(
     let mut order = start(alloc, count)?;
     let all = numbers(alloc, count)?;
     order.settle_all(program, plan, all.as_slice())?;
-    ordered(alloc, program, plan, order)
+    ordered(alloc, program, plan, &mut order)
 }

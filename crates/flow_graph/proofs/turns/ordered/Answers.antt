@@ -8,8 +8,8 @@ use Rattle.flow_graph.proofs.Orders.{Ordered, fewer_late, going_after, late_firs
 use Rattle.flow_graph.proofs.turns.ordered.Goals as goal
 
 pub loop-first-init : goal.loop-first-init
-loop-first-init c = subst (Ordered c.args.program.now c.args.plan.now (stage_of c.args.order)) (sym c.new-groups.ensures)
-    (ordered_none c.args.program.now c.args.plan.now (stage_of c.args.order) c.requires.going c.requires.none)
+loop-first-init c = subst (Ordered c.args.program.now c.args.plan.now (stage_of c.args.order.now)) (sym c.new-groups.ensures)
+    (ordered_none c.args.program.now c.args.plan.now (stage_of c.args.order.now) c.requires.going c.requires.none)
 
 pub wake-requires : goal.wake-requires
 wake-requires c =
