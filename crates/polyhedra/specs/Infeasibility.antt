@@ -26,6 +26,10 @@ is_yes (answer.Unbounded case point ray) = false
 is_yes (answer.Basis relations spots free) = false
 is_yes (answer.Limit limit) = false
 
+-- the answer to a question; a limit is noted
+unfoldable pub noted_answer : Question → Posing Answer
+noted_answer question = answer_to question >>= λ answer. Noted (limits_of answer) (Done answer)
+
 -- whether the answer to a question is yes; a limit is noted
 unfoldable pub assent : Question → Posing Bool
 assent question = answer_to question >>= λ answer. Noted (limits_of answer) (Done (is_yes answer))

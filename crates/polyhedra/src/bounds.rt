@@ -14,13 +14,12 @@ ghost use Rattle.polyhedra.specs.Changes.{change};
 ghost use Rattle.polyhedra.specs.Tables.{AreTables};
 
 use crate::changes::{Moves, objective, tables_of};
-use crate::infeasible::limits_of;
+use crate::infeasible::answer_once;
 use crate::losses::note;
 use crate::{Log, WorkError};
 use farkas_check::{Answer, Goal, Oracle, Question};
 use items::Items;
 use linear_terms::{Case, Col, Kind, Poly, Row, TermError, difference, mul, subst};
-use posing::ask;
 use std::alloc::{AllocError, Global};
 
 // ---- the greatest value of an objective
@@ -35,9 +34,7 @@ fn ask_bound<O: Oracle>(
 ) -> Result<Option<i128>, WorkError>
     ensures { Follows O.asking oracle.old oracle.new log.old log.new result (bound_by (Ok goals)) }
 {
-    let question = Question::Sup(goals);
-    let answer = ask(alloc, &question, oracle, log)?;
-    log.add_notes(limits_of(alloc, &answer)?)?;
+    let answer = answer_once(alloc, Question::Sup(goals), oracle, log)?;
     Ok(bound_in(&answer))
 }
 

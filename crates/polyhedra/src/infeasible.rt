@@ -1,6 +1,7 @@
 ghost use Rattle.std.specs.Prelude.{◌≡◌, IfOk};
 ghost use Rattle.posing.specs.Follows.{Follows};
-ghost use Rattle.polyhedra.specs.Infeasibility.{assent, is_yes, limits_of};
+ghost use Rattle.posing.specs.Logs.{Adds};
+ghost use Rattle.polyhedra.specs.Infeasibility.{assent, is_yes, limits_of, noted_answer};
 
 use crate::{Log, Note, WorkError};
 use farkas_check::{Answer, Oracle, Question};
@@ -18,13 +19,46 @@ pub(crate) fn assent<O: Oracle>(
 ) -> Result<bool, WorkError>
     ensures { Follows O.asking oracle.old oracle.new log.old log.new result (assent question.now) }
 {
-    let answer = ask(alloc, question, oracle, log)?;
-    log.add_notes(limits_of(alloc, &answer)?)?;
+    let answer = noted_answer(alloc, question, oracle, log)?;
     Ok(is_yes(&answer))
 }
 
+/// The answer to a question. A limit is noted.
+#[tactic(auto, using(posing::proofs::Following::following), unfolding(crate::specs::Infeasibility::noted_answer))]
+fn noted_answer<O: Oracle>(
+    alloc: Global,
+    question: &Question,
+    oracle: &mut O,
+    log: &mut Log,
+) -> Result<Answer, WorkError>
+    ensures { Follows O.asking oracle.old oracle.new log.old log.new result (noted_answer question.now) }
+{
+    let answer = ask(alloc, question, oracle, log)?;
+    note_limit(alloc, &answer, log)?;
+    Ok(answer)
+}
+
+/// The same of a question that is asked once.
+pub(crate) fn answer_once<O: Oracle>(
+    alloc: Global,
+    question: Question,
+    oracle: &mut O,
+    log: &mut Log,
+) -> Result<Answer, WorkError>
+    ensures { Follows O.asking oracle.old oracle.new log.old log.new result (noted_answer question) }
+{
+    noted_answer(alloc, &question, oracle, log)
+}
+
+fn note_limit(alloc: Global, answer: &Answer, log: &mut Log) -> Result<(), AllocError>
+    ensures { Adds (limits_of answer.now) log.old log.new result }
+{
+    let notes = limits_of(alloc, answer)?;
+    log.add_notes(notes)
+}
+
 /// The note of a limit.
-pub(crate) fn limits_of(alloc: Global, answer: &Answer) -> Result<Items<Note>, AllocError>
+fn limits_of(alloc: Global, answer: &Answer) -> Result<Items<Note>, AllocError>
     ensures { IfOk result (λ notes. notes ≡ limits_of answer.now) }
 {
     let mut notes = Items::new(alloc);

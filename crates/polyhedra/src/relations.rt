@@ -5,6 +5,7 @@ ghost use Rattle.farkas_check.specs.Relations.{term_count};
 ghost use Rattle.farkas_check.specs.Stratum.{has_unknowns};
 ghost use Rattle.farkas_check.specs.declared.stratum.Change.{Change};
 ghost use Rattle.farkas_check.specs.declared.stratum.Relation.{Relation};
+ghost use Rattle.linear_terms.specs.Expressions.{◌⊟◌, weighted};
 ghost use Rattle.linear_terms.specs.Polynomial.{Polynomial};
 ghost use Rattle.linear_terms.specs.TermError.{cause};
 ghost use Rattle.linear_terms.specs.declared.error.TermError.{TermError};
@@ -15,13 +16,12 @@ ghost use Rattle.posing.specs.Follows.{Follows};
 ghost use Rattle.polyhedra.specs.Relations.{relations_of, relations_in};
 ghost use Rattle.polyhedra.specs.Squash.{relation_row, relation_rows, relation_losses};
 
-use crate::infeasible::limits_of;
+use crate::infeasible::answer_once;
 use crate::losses::loss_of;
 use crate::{Log, WorkError};
 use farkas_check::{Answer, Change, Oracle, Question, Relation, Stratum};
 use items::Items;
 use linear_terms::{Kind, Poly, Row, TermError, combination, difference};
-use posing::ask;
 use std::alloc::{AllocError, Global};
 use transition_formula::Loss;
 
@@ -37,9 +37,7 @@ pub fn relations_of<O: Oracle>(
 {
     let terms = term_count(stratum.cases());
     let lower = stratum.lower().len();
-    let question = Question::Stratum(stratum);
-    let answer = ask(alloc, &question, oracle, log)?;
-    log.add_notes(limits_of(alloc, &answer)?)?;
+    let answer = answer_once(alloc, Question::Stratum(stratum), oracle, log)?;
     Ok(relations_in(alloc, answer, terms, lower)?)
 }
 
@@ -115,14 +113,27 @@ fn relation_row(
 ) -> Result<Row, TermError>
     ensures { Gives cause (λ r. r) result (relation_row terms.now lower.now relation.now) }
 {
-    let of_terms = combination(alloc, relation.a.as_slice(), terms)?;
-    let of_lower = combination(alloc, relation.b.as_slice(), lower)?;
-    let left = difference(alloc, &of_terms, &of_lower)?;
-    let poly = difference(alloc, &left, &Poly::constant(alloc, relation.c))?;
+    let left = less_lower(alloc, terms, lower, relation)?;
+    let constant = Poly::constant(alloc, relation.c);
+    let poly = difference(alloc, &left, &constant)?;
     Ok(Row {
         poly,
         kind: Kind::Equal,
     })
+}
+
+/// Multiples of the terms less those of the lower terms.
+fn less_lower(
+    alloc: Global,
+    terms: &[Poly],
+    lower: &[Poly],
+    relation: &Relation,
+) -> Result<Poly, TermError>
+    ensures { Gives cause (λ p. p) result (weighted relation.now.a terms.now ⊟ weighted relation.now.b lower.now) }
+{
+    let of_terms = combination(alloc, relation.a.as_slice(), terms)?;
+    let of_lower = combination(alloc, relation.b.as_slice(), lower)?;
+    difference(alloc, &of_terms, &of_lower)
 }
 
 /// Adds a row that could be made, or else its loss.
