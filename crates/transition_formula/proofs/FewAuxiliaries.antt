@@ -11,14 +11,13 @@ use Rattle.linear_terms.specs.declared.col.Col.TheVariants.{Aux}
 use Rattle.linear_terms.specs.declared.error.TermError.{TermError}
 use Rattle.linear_terms.specs.declared.row.Row.{Row}
 use Rattle.linear_terms.specs.declared.row.Case.{Case}
-use Rattle.linear_terms.specs.Auxiliaries.{has_auxiliary, is_numbered, occurs, put_for}
+use Rattle.linear_terms.specs.Auxiliaries.{has_auxiliary, is_numbered, put_for}
 use Rattle.linear_terms.specs.Operations.{substituted}
 use Rattle.linear_terms.specs.Polynomial.{Polynomial, column_of}
-use Rattle.transition_formula.specs.Composition.{by, filled, posts_by, rows_by}
+use Rattle.transition_formula.specs.Composition.{by, filled, posts_by}
 use Rattle.transition_formula.specs.Loss.{answered}
 use Rattle.transition_formula.specs.Order.{first_equation, solution, with_solution}
 use Rattle.transition_formula.specs.Rounds.{with_rows, with_solved}
-use Rattle.transition_formula.specs.Rows.{tidied}
 use Rattle.transition_formula.specs.Transition.{every_column}
 use Rattle.transition_formula.proofs.Carried.{solution-passes, tidied-passes, with_solution-carries}
 use Rattle.transition_formula.proofs.Covered.{both, count_lost, lost, rows_by-covered}

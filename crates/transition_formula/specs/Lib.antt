@@ -13,3 +13,4 @@ pub mod Rows
 pub mod Transition
 -- ---- words of proofs and of private functions
 pub mod Places
+pub mod Forms

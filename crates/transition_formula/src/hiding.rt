@@ -49,7 +49,8 @@ fn hidden_cases(
 {
     let mut cases = Items::new(alloc);
     for case in f.cases() {
-        cases.push(hidden_case(alloc, case, f.from(), n, losses)?)?;
+        let made = hidden_case(alloc, case, f.from(), n, losses)?;
+        cases.push(made)?;
     }
     Ok(cases)
 }

@@ -30,26 +30,47 @@ pub(crate) fn without_equation(
     ensures exact { (row : Row) → slice_get case.rows place ≡ Some row → IfOk result (λ made. made ≡ with_solved (solution row.poly aux) aux (record { aux = case.aux; rows = remove case.rows place; post = case.post })) }
     ensures noted { (row : Row) → slice_get case.rows place ≡ Some row → OnOk result (losses.new ≡ losses.old ++ lost_with_solved (solution row.poly aux) aux (record { aux = case.aux; rows = remove case.rows place; post = case.post })) }
 {
+    let (equation, left) = parted(case, place);
+    with_solved(alloc, left, &equation.poly, aux, losses)
+}
+
+/// The row at a place, and the case without it.
+fn parted(case: Case, place: usize) -> (Row, Case)
+    requires { place < length case.rows }
+    ensures row { slice_get case.rows place ≡ Some result.0 }
+    ensures rest { result.1 ≡ record { aux = case.aux; rows = remove case.rows place; post = case.post } }
+{
     let mut rows = case.rows.into_vec();
-    let equation = rows.remove(place);
-    match solution(alloc, &equation.poly, aux) {
+    let row = rows.remove(place);
+    let left = Case {
+        aux: case.aux,
+        rows: Items::from_vec(rows),
+        post: case.post,
+    };
+    (row, left)
+}
+
+/// The case in which the solution of an equation is put in; as it is where that leaves 128 bits, which is noted.
+fn with_solved(
+    alloc: Global,
+    case: Case,
+    equation: &Poly,
+    aux: u32,
+    losses: &mut Items<Loss>,
+) -> Result<Case, FormulaError>
+    requires { (with_solved (solution equation.now aux) aux case).aux < 2 ^ 32 }
+    ensures exact { IfOk result (λ made. made ≡ with_solved (solution equation.now aux) aux case) }
+    ensures noted { OnOk result (losses.new ≡ losses.old ++ lost_with_solved (solution equation.now aux) aux case) }
+{
+    match solution(alloc, equation, aux) {
         Ok(by) => {
             let solution = Solution { aux, by };
-            solution.put_in(
-                alloc,
-                case.aux,
-                rows.as_slice(),
-                case.post.as_slice(),
-                losses,
-            )
+            let rows = case.rows.as_slice();
+            solution.put_in(alloc, case.aux, rows, case.post.as_slice(), losses)
         }
         Err(error) => {
             note(error, losses)?;
-            Ok(Case {
-                aux: case.aux,
-                rows: Items::from_vec(rows),
-                post: case.post,
-            })
+            Ok(case)
         }
     }
 }

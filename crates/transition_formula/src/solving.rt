@@ -4,6 +4,8 @@ ghost use Rattle.linear_terms.specs.Auxiliaries.{is_numbered};
 ghost use Rattle.transition_formula.specs.Meaning.{HoldsCase, HoldsSolved};
 ghost use Rattle.transition_formula.specs.Transition.{every_column_of, fits};
 ghost use Rattle.transition_formula.specs.Rows.{tidied};
+ghost use Rattle.transition_formula.specs.Renumbering.{renumbered_case};
+ghost use Rattle.transition_formula.specs.declared.solving.Solved.TheVariants.{Kept};
 ghost use Rattle.transition_formula.specs.Rounds.{with_rows, in_order, solved, Stays};
 
 use crate::equations::first_equation;
@@ -51,12 +53,21 @@ fn in_order(alloc: Global, case: &Case, losses: &mut Items<Loss>) -> Result<Solv
             return Ok(Solved::False);
         };
         let Some((place, aux)) = first_equation(tidied.rows.as_slice()) else {
-            let made = renumbered_case(alloc, &tidied)?;
-            return Ok(Solved::Kept(made));
+            let made = kept(alloc, tidied)?;
+            return Ok(made);
         };
         left = without_equation(alloc, tidied, place, aux, losses)?;
     }
-    let made = renumbered_case(alloc, &left)?;
+    let made = kept(alloc, left)?;
+    Ok(made)
+}
+
+/// The case with its auxiliaries numbered anew.
+fn kept(alloc: Global, case: Case) -> Result<Solved, FormulaError>
+    requires { IsTrue (every_column_of (is_numbered case.aux) case) }
+    ensures { IfOk result (λ made. made ≡ Kept (renumbered_case case)) }
+{
+    let made = renumbered_case(alloc, &case)?;
     Ok(Solved::Kept(made))
 }
 

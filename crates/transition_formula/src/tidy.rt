@@ -6,6 +6,7 @@ ghost use Rattle.linear_terms.specs.Equality.{term_eq};
 ghost use Rattle.linear_terms.specs.Row.{normal_form, starts_negative};
 ghost use Rattle.transition_formula.specs.Loss.{answered, losses_of};
 ghost use Rattle.transition_formula.specs.Places.{key_of, EachApart, TellsPlaces};
+ghost use Rattle.transition_formula.specs.Forms.{never_holds, kept_row};
 ghost use Rattle.transition_formula.specs.Rows.{normal_rows, each_once, is_at_most, negated, are_opposite, exclude, can_agree, close, equation_of, with_met, met, opposites_met, tidied};
 
 use crate::loss::note;
@@ -42,17 +43,36 @@ fn normal_rows(
 {
     let mut made = Items::new(alloc);
     for row in rows {
-        match normal_row(alloc, row, losses)? {
-            None => {}
-            Some(Normal::Constant(holds)) => {
-                if !holds {
-                    return Ok(None);
-                }
-            }
-            Some(Normal::Kept(row)) => made.push(row)?,
+        let form = normal_row(alloc, row, losses)?;
+        if never_holds(&form) {
+            return Ok(None);
         }
+        let row = kept_row(form);
+        push_some(&mut made, row)?;
     }
     Ok(Some(made))
+}
+
+/// Whether no numbers make a row in normal form true.
+fn never_holds(form: &Option<Normal>) -> bool
+    ensures { result ≡ never_holds form.now }
+{
+    match form {
+        Some(Normal::Constant(holds)) => !*holds,
+        Some(Normal::Kept(_row)) => false,
+        None => false,
+    }
+}
+
+/// The row that is left in normal form; none where it says nothing.
+fn kept_row(form: Option<Normal>) -> Option<Row>
+    ensures { result ≡ kept_row form }
+{
+    match form {
+        Some(Normal::Kept(row)) => Some(row),
+        Some(Normal::Constant(_holds)) => None,
+        None => None,
+    }
 }
 
 /// A row in normal form, or none where that is lost, which is noted.
@@ -78,10 +98,24 @@ fn once_and_met(alloc: Global, rows: Items<Row>) -> Result<Option<Items<Row>>, F
     ensures { IfOk result (λ made. made ≡ opposites_met (Some (each_once rows))) }
 {
     let (rows, places) = each_once(alloc, rows)?;
-    if !can_agree(alloc, rows.as_slice(), &places)? {
+    opposites_met(alloc, rows.as_slice(), &places)
+}
+
+/// Opposite inequalities as equations; none where two rows exclude each other.
+fn opposites_met(
+    alloc: Global,
+    rows: &[Row],
+    places: &Places,
+) -> Result<Option<Items<Row>>, FormulaError>
+    requires places { TellsPlaces places.now rows.now }
+    requires apart { EachApart (map key_of rows.now) }
+    ensures { IfOk result (λ made. made ≡ opposites_met (Some rows.now)) }
+{
+    if !can_agree(alloc, rows, places)? {
         return Ok(None);
     }
-    Ok(Some(met(alloc, rows.as_slice(), &places)?))
+    let met = met(alloc, rows, places)?;
+    Ok(Some(met))
 }
 
 /// Whether no two rows exclude each other.

@@ -18,11 +18,11 @@ pub loop-case-preserved : goal.loop-case-preserved
 loop-case-preserved c =
     record {
       made =
-          one_mapped (hidden_case c.args.n c.args.f.now.from) c.cases-case-items.result.now c.loop-case.case-index c.case-item.result c.loop-case.cases c.push.new.self c.in_ok-hidden_case.field-0
-          c.loop-case-test.true c.case-item.is (c.in_ok-hidden_case.ensures.exact ∙ ap (λ (n : ℕ). hidden_case c.args.n n c.case-item.result) c.from.ensures) c.in_ok-push.ensures.ok
+          one_mapped (hidden_case c.args.n c.args.f.now.from) c.cases-case-items.result.now c.loop-case.case-index c.case-item.result c.loop-case.cases c.push.new.self c.in_ok-made.made
+          c.loop-case-test.true c.case-item.is (c.in_ok-made.ensures.exact ∙ ap (λ (n : ℕ). hidden_case c.args.n n c.case-item.result) c.from.ensures) c.in_ok-push.ensures.ok
           ∙ c.loop-case.invariant.made;
       noted =
           one_gathered (λ case. lost_by (hiding c.args.n c.args.f.now.from case) case) c.cases-case-items.result.now c.loop-case.case-index c.case-item.result c.loop-case.losses c.hidden_case.new.losses
-          c.loop-case-test.true c.case-item.is (c.in_ok-hidden_case.ensures.noted ∙ ap (λ (n : ℕ). c.loop-case.losses ++ lost_by (hiding c.args.n n c.case-item.result) c.case-item.result) c.from.ensures)
+          c.loop-case-test.true c.case-item.is (c.in_ok-made.ensures.noted ∙ ap (λ (n : ℕ). c.loop-case.losses ++ lost_by (hiding c.args.n n c.case-item.result) c.case-item.result) c.from.ensures)
           ∙ c.loop-case.invariant.noted;
     }

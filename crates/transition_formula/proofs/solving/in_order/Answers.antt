@@ -1,4 +1,4 @@
-use Rattle.std.proofs.Common.{◌≡◌, ℕ, zero, suc, ◌+◌, ◌-◌, ◌<◌, ◌≤◌, length, Option, Some, None, List, ◌++◌, sym, ap, subst, ◌∙◌, arith}
+use Rattle.std.proofs.Common.{◌≡◌, ℕ, zero, suc, ◌+◌, ◌-◌, ◌<◌, ◌≤◌, length, Option, Some, None, List, ◌++◌, refl, sym, ap, subst, ◌∙◌, arith}
 use Rattle.std.specs.Prelude.{slice_get}
 use Rattle.std.specs.List.{remove}
 use Rattle.std.specs.Option.{option_map}
@@ -42,8 +42,8 @@ pub returns-in_default-clause-noted : goal.returns-in_default-clause-noted
 returns-in_default-clause-noted c =
     (came_false (length c.args.case.now.rows) c.loop-round._round c.loop-round.left (in_order c.args.case.now) c.args.losses.now c.loop-round.losses c.tidied.new.losses c.in_ok-tidied.field-0 (omega arith) c.loop-round.invariant.same c.in_default.is c.in_ok-tidied.ensures.exact c.in_ok-tidied.ensures.noted).losses
 
-pub renumbered_case-requires : goal.renumbered_case-requires
-renumbered_case-requires c = tidied-numbered c.loop-round.left c.in-Some.tidied (mapped_some c.loop-round.left c.in-Some.tidied (sym c.in-Some.is ∙ c.in_ok-tidied.ensures.exact)) c.loop-round.invariant.numbered
+pub kept-requires : goal.kept-requires
+kept-requires c = tidied-numbered c.loop-round.left c.in-Some.tidied (mapped_some c.loop-round.left c.in-Some.tidied (sym c.in-Some.is ∙ c.in_ok-tidied.ensures.exact)) c.loop-round.invariant.numbered
 
 came_last : (end at : ℕ) (left made final : Case) (whole : Ordered) (start noted noted2 : List Loss) → at < end → Leaves noted (rounds (end - at) left) start whole → IsTidied left made → noted2 ≡ noted ++ (tidied left.rows).losses
     → None ≡ first_equation made.rows → final ≡ renumbered_case made → Comes whole start (Kept final) noted2
@@ -51,15 +51,16 @@ came_last end at left made final whole start noted noted2 lt e t g h k = round_l
 
 pub returns-in_default-first_equation-clause-exact : goal.returns-in_default-first_equation-clause-exact
 returns-in_default-first_equation-clause-exact c =
-    (came_last (length c.args.case.now.rows) c.loop-round._round c.loop-round.left c.in-Some.tidied c.in_ok-made.made (in_order c.args.case.now) c.args.losses.now c.loop-round.losses c.tidied.new.losses (omega arith) c.loop-round.invariant.same
+    c.in_ok-made.ensures
+    ∙ (came_last (length c.args.case.now.rows) c.loop-round._round c.loop-round.left c.in-Some.tidied (renumbered_case c.in-Some.tidied) (in_order c.args.case.now) c.args.losses.now c.loop-round.losses c.tidied.new.losses (omega arith) c.loop-round.invariant.same
     (mapped_some c.loop-round.left c.in-Some.tidied (sym c.in-Some.is ∙ c.in_ok-tidied.ensures.exact)) c.in_ok-tidied.ensures.noted
-    (sym c.in_default-first_equation.is ∙ c.first_equation.ensures ∙ ap first_equation c.as_slice.ensures) c.in_ok-made.ensures).is
+    (sym c.in_default-first_equation.is ∙ c.first_equation.ensures ∙ ap first_equation c.as_slice.ensures) refl).is
 
 pub returns-in_default-first_equation-clause-noted : goal.returns-in_default-first_equation-clause-noted
 returns-in_default-first_equation-clause-noted c =
-    (came_last (length c.args.case.now.rows) c.loop-round._round c.loop-round.left c.in-Some.tidied c.in_ok-made.made (in_order c.args.case.now) c.args.losses.now c.loop-round.losses c.tidied.new.losses (omega arith) c.loop-round.invariant.same
+    (came_last (length c.args.case.now.rows) c.loop-round._round c.loop-round.left c.in-Some.tidied (renumbered_case c.in-Some.tidied) (in_order c.args.case.now) c.args.losses.now c.loop-round.losses c.tidied.new.losses (omega arith) c.loop-round.invariant.same
     (mapped_some c.loop-round.left c.in-Some.tidied (sym c.in-Some.is ∙ c.in_ok-tidied.ensures.exact)) c.in_ok-tidied.ensures.noted
-    (sym c.in_default-first_equation.is ∙ c.first_equation.ensures ∙ ap first_equation c.as_slice.ensures) c.in_ok-made.ensures).losses
+    (sym c.in_default-first_equation.is ∙ c.first_equation.ensures ∙ ap first_equation c.as_slice.ensures) refl).losses
 
 pub without_equation-requires-clause-there : goal.without_equation-requires-clause-there
 without_equation-requires-clause-there c =
@@ -109,15 +110,16 @@ loop-round-preserved c =
           (came_room c.args.case.now c.loop-round.left made place n row (mapped_some c.loop-round.left made (sym c.in-Some.is ∙ c.in_ok-tidied.ensures.exact)) c.loop-round.invariant.room found there.1.1);
     }
 
-pub renumbered_case-requires-2 : goal.renumbered_case-requires-2
-renumbered_case-requires-2 c = c.loop-round.invariant.numbered
+pub kept-requires-2 : goal.kept-requires-2
+kept-requires-2 c = c.loop-round.invariant.numbered
 
 pub returns-clause-exact : goal.returns-clause-exact
 returns-clause-exact c =
-    (rounds_done c.loop-round.left (in_order c.args.case.now) c.args.losses.now c.loop-round.losses c.in_ok-made-2.made (ended (length c.args.case.now.rows) c.loop-round._round c.loop-round.left (in_order c.args.case.now) c.args.losses.now c.loop-round.losses (omega arith) c.loop-round.invariant.same)
-    c.in_ok-made-2.ensures).is
+    c.in_ok-made-2.ensures
+    ∙ (rounds_done c.loop-round.left (in_order c.args.case.now) c.args.losses.now c.loop-round.losses (renumbered_case c.loop-round.left) (ended (length c.args.case.now.rows) c.loop-round._round c.loop-round.left (in_order c.args.case.now) c.args.losses.now c.loop-round.losses (omega arith) c.loop-round.invariant.same)
+    refl).is
 
 pub returns-clause-noted : goal.returns-clause-noted
 returns-clause-noted c =
-    (rounds_done c.loop-round.left (in_order c.args.case.now) c.args.losses.now c.loop-round.losses c.in_ok-made-2.made (ended (length c.args.case.now.rows) c.loop-round._round c.loop-round.left (in_order c.args.case.now) c.args.losses.now c.loop-round.losses (omega arith) c.loop-round.invariant.same)
-    c.in_ok-made-2.ensures).losses
+    (rounds_done c.loop-round.left (in_order c.args.case.now) c.args.losses.now c.loop-round.losses (renumbered_case c.loop-round.left) (ended (length c.args.case.now.rows) c.loop-round._round c.loop-round.left (in_order c.args.case.now) c.args.losses.now c.loop-round.losses (omega arith) c.loop-round.invariant.same)
+    refl).losses
