@@ -1,4 +1,4 @@
-ghost use Rattle.std.specs.Prelude.{◌≡◌, ◌&&◌, ◌==◌, pos, length, true, false, Ok};
+ghost use Rattle.std.specs.Prelude.{◌≡◌, ◌&&◌, ◌==◌, [], ◌∷◌, pos, length, true, false, Ok};
 ghost use Rattle.std.specs.List.{list_all, zip};
 ghost use Rattle.farkas_check.specs.Listing.{columns_in};
 ghost use Rattle.farkas_check.specs.Relations.{Term, Lower, One, sides, numbers_of, with_side, with_sides, coefficient_at, difference_numbers, difference_form, has_count, have_equally_many};
@@ -186,14 +186,31 @@ fn are_multiples(
     let mut place = 0;
     let mut same = true;
     while let Some(column) = next_column(columns, &last, place) {
-        let left = column_sum(case.rows.as_slice(), multiples.by, &column)?;
-        let own = difference_number(relation, case.terms.as_slice(), lower, column)?;
-        let right = scaled_by(multiples.half, &multiples.scale, own)?;
-        same = same && left == right;
+        let multiple = is_multiple_at(relation, case, lower, &column, multiples)?;
+        same = same && multiple;
         last = Some(column);
         place = place.saturating_add(1);
     }
     Ok(same)
+}
+
+/// Whether the sum of the multiples is a multiple of the difference at a column.
+fn is_multiple_at(
+    relation: &Relation,
+    case: &Change,
+    lower: &[Poly],
+    column: &Mono,
+    multiples: &Multiples<'_>,
+) -> Result<bool, Wide>
+    requires terms { length relation.now.a ≡ length case.now.terms }
+    requires lower { length relation.now.b ≡ length lower.now }
+    requires by { length multiples.now.by.now ≡ length case.now.rows }
+    ensures { result ≡ are_multiples (scaled_by multiples.now.half multiples.now.scale) true case.now.rows multiples.now.by.now (numbers_of relation.now) (sides case.now.terms lower.now) (column.now ∷ []) }
+{
+    let left = column_sum(case.rows.as_slice(), multiples.by, column)?;
+    let own = difference_number(relation, case.terms.as_slice(), lower, *column)?;
+    let right = scaled_by(multiples.half, &multiples.scale, own)?;
+    Ok(left == right)
 }
 
 /// Whether the sum of the multiples is the scale, or minus the scale, times the difference.

@@ -1,4 +1,4 @@
-use Rattle.std.proofs.Common.{◌≡◌, ℕ, ◌+◌, ◌<◌, length, get_or, drop, List, ◌∷◌, ℤ, Result, Ok, sym, ap, ◌∙◌, rules, SFits}
+use Rattle.std.proofs.Common.{◌≡◌, ℕ, ◌+◌, ◌<◌, length, get_or, drop, List, ◌∷◌, ℤ, Ok, sym, ap, ◌∙◌, rules, SFits}
 use Rattle.std.specs.Int.{w128}
 use Rattle.std.proofs.lemmas.Int.{to_z-of_z}
 use Rattle.std.proofs.lemmas.List.{drop_more}
@@ -15,9 +15,9 @@ value_from-next : (at : List Col → Fraction) (items : Terms) (i : ℕ) (t : Li
 value_from-next at items i t total number ratio part next lt e f g multiplied added =
     let begins : drop i items ≡ t ∷ drop (i + 1) items = drop_more items i t lt ∙ ap (λ u. u ∷ drop (i + 1) items) (sym e) in
     sym (
-      ap (value_from at total) begins
-      ∙ ap (λ r. r >>= λ p. ratio_sum total p >>= λ n. value_from at n (drop (i + 1) items)) (sym (multiplied ∙ (λ j. ratio_product (f j) (g j))))
-      ∙ ap (λ r. r >>= λ n. value_from at n (drop (i + 1) items)) (sym added)
+    ap (value_from at total) begins
+    ∙ ap (λ r. r >>= λ p. ratio_sum total p >>= λ n. value_from at n (drop (i + 1) items)) (sym (multiplied ∙ (λ j. ratio_product (f j) (g j))))
+    ∙ ap (λ r. r >>= λ n. value_from at n (drop (i + 1) items)) (sym added)
     )
 
 pub loop-mono-preserved : goal.loop-mono-preserved

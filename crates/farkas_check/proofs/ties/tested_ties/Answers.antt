@@ -20,9 +20,9 @@ all_of-next part xs ys i x y holds lt within e f told so =
     let first = at_index xs i x lt e in
     let second = at_index ys i y within f in
     sym (
-      (λ j. all_of part (zip (first j) (second j)))
-      ∙ ap (λ r. and_then r (all_of part (zip (drop (i + 1) xs) (drop (i + 1) ys)))) (sym told)
-      ∙ ap (λ (b : Bool). and_then (Ok b) (all_of part (zip (drop (i + 1) xs) (drop (i + 1) ys)))) so
+    (λ j. all_of part (zip (first j) (second j)))
+    ∙ ap (λ r. and_then r (all_of part (zip (drop (i + 1) xs) (drop (i + 1) ys)))) (sym told)
+    ∙ ap (λ (b : Bool). and_then (Ok b) (all_of part (zip (drop (i + 1) xs) (drop (i + 1) ys)))) so
     )
 
 list_all-next : {X : Type 0} (test : X → Bool) (xs : List X) (i : ℕ) (x : X) → i < length xs → x ≡ get_or xs i x → list_all test (drop i xs) ≡ true → list_all test (drop (i + 1) xs) ≡ true
@@ -31,10 +31,9 @@ list_all-next test xs i x lt e all = (both_true (test x) (list_all test (drop (i
 pub loop-i-preserved : goal.loop-i-preserved
 loop-i-preserved c =
     let part : Change × Tie → Result Bool Wide = λ p. tested_tie (columns_in c.args.columns.now) c.args.lower.now (numbers_of c.args.relation.now) p.0 p.1 in
-    let within : c.loop-i.i < length c.args.ties.now = omega (arith, c.requires.ties) in
-    (
+    let within : c.loop-i.i < length c.args.ties.now = omega (arith, c.requires.ties) in (
       all_of-next part c.args.cases.now c.args.ties.now c.loop-i.i c.index-cases-i.result c.index-ties-i.result c.in_ok-tested_tie.field-0 c.loop-i-test.true within c.index-cases-i.is c.index-ties-i.is
           c.in_ok-tested_tie.ensures c.if-not-branch.false
-      ∙ c.loop-i.invariant.0,
+          ∙ c.loop-i.invariant.0,
       list_all-next (has_count (length c.args.relation.now.a)) c.args.cases.now c.loop-i.i c.index-cases-i.result c.loop-i-test.true c.index-cases-i.is c.loop-i.invariant.1,
     )
