@@ -1,6 +1,6 @@
 #![tactic(auto, using(syntax_tree::proofs::SourceExprs::source_exprs, crate::proofs::Steps::steps))]
 
-ghost use Rattle.std.specs.Prelude.{◌≡◌, ◌+◌, [], ◌∷◌, ◌++◌, IfOk, OnOk, false, length};
+ghost use Rattle.std.specs.Prelude.{◌≡◌, ◌+◌, [], ◌∷◌, ◌++◌, IfOk, OnOk, false, length, pos};
 ghost use Rattle.syntax_tree.specs.SourceExpr.{source_expr_of, source_exprs_of};
 ghost use Rattle.syntax_tree.specs.Term.{term_of};
 ghost use Rattle.typing.specs.CallFaults.{act_faults, all_expression_faults, argument_faults, expression_faults, first_truth_faults, number_faults, special_faults, statement_call_faults};
@@ -148,25 +148,53 @@ impl Elaborator {
         ensures least { OnOk result (self.new.least ≡ least_of self.old.least (special_faults self.old.env.number terms special at (source_exprs_of args.now))) }
     {
         match special {
-            Special::Assert => {
-                let number = self.assertion(at)?;
-                let cond = condition_of(terms);
-                note_condition(&mut self.least, args, &cond);
-                out.push(Stmt::Check { number, cond })?;
+            Special::Assert => self.check(at, args, condition_of(terms), out),
+            Special::Assume => self.guard(args, condition_of(terms), out),
+            Special::Nondet => Ok(()),
+            Special::Error => self.failure(at, out),
+            Special::Abort | Special::Exit => {
+                out.push(Stmt::Guard { cond: Core::Lit(0) })?;
+                Ok(())
             }
-            Special::Assume => {
-                let cond = condition_of(terms);
-                note_condition(&mut self.least, args, &cond);
-                out.push(Stmt::Guard { cond })?;
-            }
-            Special::Nondet => {}
-            Special::Error => {
-                let number = self.assertion(at)?;
-                let cond = Core::Lit(0);
-                out.push(Stmt::Check { number, cond })?;
-            }
-            Special::Abort | Special::Exit => out.push(Stmt::Guard { cond: Core::Lit(0) })?,
         }
+    }
+
+    fn check(
+        &mut self,
+        at: u32,
+        args: &[Expr],
+        cond: Core,
+        out: &mut Items<Stmt>,
+    ) -> Result<(), AllocError>
+        ensures statements { OnOk result (out.new ≡ out.old ++ Stmt.Check (self.old.env.number + 1) cond ∷ []) }
+        ensures env { OnOk result (self.new.env ≡ with_assertions 1 self.old.env) }
+        ensures least { OnOk result (self.new.least ≡ least_of self.old.least (number_faults self.old.env.number at ++ first_truth_faults (cond ∷ []) (source_exprs_of args.now))) }
+    {
+        let number = self.assertion(at)?;
+        note_condition(&mut self.least, args, &cond);
+        out.push(Stmt::Check { number, cond })?;
+        Ok(())
+    }
+
+    fn guard(&mut self, args: &[Expr], cond: Core, out: &mut Items<Stmt>) -> Result<(), AllocError>
+        ensures statements { OnOk result (out.new ≡ out.old ++ Stmt.Guard cond ∷ []) }
+        ensures env { self.new.env ≡ self.old.env }
+        ensures least { self.new.least ≡ least_of self.old.least (first_truth_faults (cond ∷ []) (source_exprs_of args.now)) }
+    {
+        note_condition(&mut self.least, args, &cond);
+        out.push(Stmt::Guard { cond })?;
+        Ok(())
+    }
+
+    // An assertion that nothing meets.
+    fn failure(&mut self, at: u32, out: &mut Items<Stmt>) -> Result<(), AllocError>
+        ensures statements { OnOk result (out.new ≡ out.old ++ Stmt.Check (self.old.env.number + 1) (Core.Lit (pos 0)) ∷ []) }
+        ensures env { OnOk result (self.new.env ≡ with_assertions 1 self.old.env) }
+        ensures least { OnOk result (self.new.least ≡ least_of self.old.least (number_faults self.old.env.number at)) }
+    {
+        let number = self.assertion(at)?;
+        let cond = Core::Lit(0);
+        out.push(Stmt::Check { number, cond })?;
         Ok(())
     }
 

@@ -6,7 +6,7 @@ use crate::special::{Special, is_main};
 use syntax_tree::Name;
 
 /// What the name of a call means.
-#[derive(Clone, Copy, Debug, PartialEq, Eq)]
+#[derive(Clone, Copy)]
 pub(crate) enum Callee {
     Special(Special),
     Own(Signature),

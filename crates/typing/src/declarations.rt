@@ -17,7 +17,7 @@ use std::alloc::{AllocError, Global};
 use syntax_tree::{Item, MOST_GLOBALS, MOST_PARAMETERS, MOST_PROCEDURES, Name, Param};
 
 /// The declarations of a text on their way.
-#[derive(Debug, Drop)]
+#[derive(Drop)]
 pub(crate) struct Declarations {
     pub(crate) alloc: Global,
     // the scope of the text

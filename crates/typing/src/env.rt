@@ -14,7 +14,7 @@ use std::alloc::{AllocError, Global};
 use syntax_tree::Name;
 
 /// Where a line stands: in no loop, in the body of one, or in the step of one, which nothing leaves.
-#[derive(Clone, Copy, Debug, PartialEq, Eq)]
+#[derive(Clone, Copy)]
 pub(crate) enum Place {
     Outside,
     InBody,
@@ -44,7 +44,7 @@ impl Place {
 }
 
 /// What a line of a procedure depends on.
-#[derive(Debug, Drop)]
+#[derive(Drop)]
 pub(crate) struct Env {
     pub(crate) scopes: Scopes,
     // the first column that is not taken yet

@@ -14,8 +14,8 @@ use crate::elaborator::Elaborator;
 use crate::error::{Limited, TypeError};
 use crate::least::note_if;
 use items::{Boxed, Items};
-use std::alloc::AllocError;
-use syntax_tree::{Core, Expr, MOST_CASES, Name, Op, Stmt, joint_cases};
+use std::alloc::{AllocError, Global};
+use syntax_tree::{Core, Expr, MOST_CASES, Name, Op, Sign, Stmt, joint_cases};
 
 /// The place of an expression.
 pub(crate) fn place_of(e: &Expr) -> u32
@@ -57,6 +57,21 @@ pub(crate) fn call_statement(callee: Callee, args: Items<Core>, col: u32) -> Stm
             into: Some(col),
         },
     }
+}
+
+fn unary(alloc: Global, sign: Sign, inner: Core) -> Result<Core, AllocError>
+    ensures { IfOk result (λ term. term ≡ Core.Unary sign inner) }
+{
+    let inner = Boxed::new(alloc, inner)?;
+    Ok(Core::Unary(sign, inner))
+}
+
+fn binary(alloc: Global, op: Op, left: Core, right: Core) -> Result<Core, AllocError>
+    ensures { IfOk result (λ term. term ≡ Core.Binary op left right) }
+{
+    let left = Boxed::new(alloc, left)?;
+    let right = Boxed::new(alloc, right)?;
+    Ok(Core::Binary(op, left, right))
 }
 
 /// Arguments may have too many cases together, which is told at the first of them.
@@ -132,6 +147,24 @@ impl Elaborator {
         self.env.take()
     }
 
+    // The column into which a call puts its value: a new temporary.
+    fn column_of_call(
+        &mut self,
+        at: u32,
+        callee: Callee,
+        args: Items<Core>,
+        out: &mut Items<Stmt>,
+    ) -> Result<u32, AllocError>
+        ensures col { IfOk result (λ col. col ≡ self.old.env.next) }
+        ensures calls { OnOk result (out.new ≡ out.old ++ call_statement callee args self.old.env.next ∷ []) }
+        ensures env { OnOk result (self.new.env ≡ with_columns_taken 1 self.old.env) }
+        ensures least { OnOk result (self.new.least ≡ least_of self.old.least (slot_faults self.old.env at)) }
+    {
+        let col = self.temporary(at)?;
+        out.push(call_statement(callee, args, col))?;
+        Ok(col)
+    }
+
     /// The expression of the core; the statements of its calls are added. `right` says whether it stands in the
     /// right operand of `&&` or `||`.
     #[cycle(expression)]
@@ -152,22 +185,17 @@ impl Elaborator {
             Expr::Call(at, name, args) => {
                 let callee = self.value_callee(*at, name, args.len(), right);
                 let terms = self.arguments(args.as_slice(), right, out)?;
-                let col = self.temporary(*at)?;
-                out.push(call_statement(callee, terms, col))?;
+                let col = self.column_of_call(*at, callee, terms, out)?;
                 Ok(Core::Col(col))
             }
             Expr::Unary(_, sign, inner) => {
                 let inner = self.expression(inner, right, out)?;
-                Ok(Core::Unary(*sign, Boxed::new(self.alloc, inner)?))
+                unary(self.alloc, *sign, inner)
             }
             Expr::Binary(_, op, left, rest) => {
                 let left = self.expression(left, right, out)?;
                 let rest = self.expression(rest, right || is_logical(*op), out)?;
-                Ok(Core::Binary(
-                    *op,
-                    Boxed::new(self.alloc, left)?,
-                    Boxed::new(self.alloc, rest)?,
-                ))
+                binary(self.alloc, *op, left, rest)
             }
         }
     }

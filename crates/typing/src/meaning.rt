@@ -1,6 +1,6 @@
 /// A procedure as its calls see it: its place among the procedures, how many parameters it has, and whether it
 /// returns a value.
-#[derive(Clone, Copy, Debug, PartialEq, Eq)]
+#[derive(Clone, Copy)]
 pub(crate) struct Signature {
     pub(crate) number: u32,
     pub(crate) params: usize,
@@ -8,7 +8,7 @@ pub(crate) struct Signature {
 }
 
 /// What a declared name means: a variable by its column, or a procedure.
-#[derive(Clone, Copy, Debug, PartialEq, Eq)]
+#[derive(Clone, Copy)]
 pub(crate) enum Meaning {
     Variable(u32),
     Procedure(Signature),

@@ -13,14 +13,14 @@ use std::mem::replace;
 use syntax_tree::Name;
 
 /// The declaration that is in force for a name: how many scopes stand around its own, and what the name means.
-#[derive(Clone, Copy, Debug, PartialEq, Eq)]
+#[derive(Clone, Copy)]
 pub(crate) struct Held {
     depth: usize,
     meaning: Meaning,
 }
 
 /// A declaration, and the one that was in force before it.
-#[derive(Debug, Drop)]
+#[derive(Drop)]
 pub(crate) struct Declaration {
     name: Name,
     meaning: Meaning,
@@ -32,7 +32,7 @@ type Index = IndexMap<Name, Option<Held>>;
 
 /// Scopes within scopes, with the declarations of each. A name is found by one look into a map, whatever the number
 /// of scopes; a scope that ends puts back what its declarations hid.
-#[derive(Debug, Drop)]
+#[derive(Drop)]
 pub(crate) struct Scopes {
     // the outermost first
     stack: Items<Items<Declaration>>,

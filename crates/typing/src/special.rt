@@ -3,7 +3,7 @@ ghost use Rattle.std.specs.Str.{bytes_eq};
 ghost use Rattle.typing.specs.Specials.{arguments_of, has_value, is_assertion, is_main, special_of};
 
 /// What a special name stands for. A text calls these without declaring them.
-#[derive(Clone, Copy, Debug, PartialEq, Eq)]
+#[derive(Clone, Copy)]
 pub(crate) enum Special {
     Assert,
     Assume,
