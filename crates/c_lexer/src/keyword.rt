@@ -3,7 +3,7 @@ ghost use Rattle.std.specs.Str.{bytes_eq};
 ghost use Rattle.c_lexer.specs.Spellings.{keyword_bytes};
 
 /// A keyword of C11 (6.4.1). Those of the profile stand first.
-#[derive(Clone, Copy, Debug, PartialEq, Eq)]
+#[derive(Clone, Copy, PartialEq, Eq)]
 pub enum Keyword {
     Int,
     Void,

@@ -2,7 +2,7 @@ use crate::{Keyword, Mark};
 use syntax_tree::Name;
 
 /// What a token is.
-#[derive(Clone, Debug, PartialEq, Eq, Drop)]
+#[derive(Drop)]
 pub enum Kind {
     Word(Name),
     Keyword(Keyword),

@@ -3,7 +3,7 @@ ghost use Rattle.std.specs.List.{starts_with};
 ghost use Rattle.c_lexer.specs.Spellings.{mark_bytes};
 
 /// A mark: punctuation of C (C11 6.4.6). Those of the profile stand first.
-#[derive(Clone, Copy, Debug, PartialEq, Eq)]
+#[derive(Clone, Copy, PartialEq, Eq)]
 pub enum Mark {
     OpenRound,
     CloseRound,

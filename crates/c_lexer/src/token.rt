@@ -1,7 +1,7 @@
 use crate::Kind;
 
 /// A token of a text: what it is, the offset of its first byte, and how many bytes it has.
-#[derive(Clone, Debug, PartialEq, Eq, Drop)]
+#[derive(Drop)]
 pub struct Token {
     pub kind: Kind,
     pub at: u32,
