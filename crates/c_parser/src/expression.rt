@@ -229,10 +229,11 @@ fn link(
     ensures exact { Gives told (λ x. (source_expr_of x.0, rest_of x.1.tokens.now x.1.operators)) result (link (joined (operand level) rank) at op (source_expr_of left, rest_of rest.entry.tokens.now rest.entry.operators)) }
     ensures shorter { IfOk result (λ x. length x.1.tokens.now < length rest.entry.tokens.now) }
 {
+    let left = Boxed::new(alloc, left)?;
     let behind = spend(rest)?;
     let (right, after) = joined(alloc, rank, level, behind)?;
-    let binary = Expr::Binary(at, op, Boxed::new(alloc, left)?, Boxed::new(alloc, right)?);
-    Ok((binary, after))
+    let right = Boxed::new(alloc, right)?;
+    Ok((Expr::Binary(at, op, left, right), after))
 }
 
 /// A whole expression, with so many levels left.

@@ -325,8 +325,9 @@ fn simple_line(
     ensures shorter { IfOk result (λ x. length x.1.now < length tokens.now) }
 {
     let (line, after) = simple(alloc, levels, tokens)?;
+    let lines = single(alloc, line)?;
     let after = past(after, Mark::Semi)?;
-    Ok((single(alloc, line)?, after))
+    Ok((lines, after))
 }
 
 /// A line that is made, and its semicolon.
@@ -338,8 +339,9 @@ fn single_line(
     ensures exact { Gives told (λ x. (map source_line_of x.0, spots_of x.1.now)) result (single_by (source_line_of line) (spots_of tokens.now)) }
     ensures shorter { IfOk result (λ x. length x.1.now < length tokens.now) }
 {
+    let lines = single(alloc, line)?;
     let after = past(tokens, Mark::Semi)?;
-    Ok((single(alloc, line)?, after))
+    Ok((lines, after))
 }
 
 /// The value of a `return`, where there is one.
@@ -369,6 +371,7 @@ fn return_line(
     ensures shorter { IfOk result (λ x. length x.1.now < length tokens.now) }
 {
     let (value, after) = returned(alloc, levels, tokens)?;
+    let lines = single(alloc, Line::Return { at, value })?;
     let after = past(after, Mark::Semi)?;
-    Ok((single(alloc, Line::Return { at, value })?, after))
+    Ok((lines, after))
 }

@@ -22,13 +22,11 @@ use syntax_tree::{Expr, Line, Name, Op};
 fn changed(alloc: Global, at: u32, name: &Name, op: Op, value: Expr) -> Result<Line, ParseError>
     ensures { Gives told source_line_of result (Ok (changed at name.now op (source_expr_of value))) }
 {
-    let left = Boxed::new(alloc, Expr::Var(at, copied(name)?))?;
     let right = Boxed::new(alloc, value)?;
-    Ok(Line::Assign {
-        name: copied(name)?,
-        at,
-        value: Expr::Binary(at, op, left, right),
-    })
+    let left = Boxed::new(alloc, Expr::Var(at, copied(name)?))?;
+    let name = copied(name)?;
+    let value = Expr::Binary(at, op, left, right);
+    Ok(Line::Assign { name, at, value })
 }
 
 /// `name = name op 1`.
