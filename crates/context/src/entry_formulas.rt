@@ -7,7 +7,7 @@ ghost use Rattle.context.specs.Entries.{entries_from, entries_in};
 
 use crate::edges::{edges_of, node_of};
 use crate::nodes::nodes_of;
-use checked_tree::evaluate;
+use checked_tree::evaluate_formulas;
 use farkas_check::Oracle;
 use items::Items;
 use path_expr::Cell;
@@ -45,7 +45,7 @@ pub fn entries<O: Oracle>(
     let nodes = nodes_of(alloc, program)?;
     let edges = edges_of(alloc, program, flows)?;
     log.add_losses(alloc, edges.losses.as_slice())?;
-    let cells = evaluate(
+    let cells = evaluate_formulas(
         alloc,
         edges.links.as_slice(),
         edges.leaves.as_slice(),

@@ -17,7 +17,7 @@ use crate::ends::{PairEnds, ends_of_members};
 use crate::sides::{calls_from, sides_of};
 use crate::stretching::pair_formula;
 use crate::tables::with_table;
-use checked_tree::evaluate;
+use checked_tree::evaluate_formulas;
 use farkas_check::Oracle;
 use items::Items;
 use path_expr::{Cell, Link};
@@ -158,7 +158,7 @@ fn group_cells<O: Oracle>(
     let leaves = leaves_of(alloc, members, calls, sides, &mut lost)?;
     let nodes = pairs_of(alloc, members)?;
     log.add_losses(alloc, lost.as_slice())?;
-    evaluate(
+    evaluate_formulas(
         alloc,
         links.as_slice(),
         leaves.as_slice(),

@@ -10,7 +10,7 @@ ghost use Rattle.proc_summary.specs.Claims.{HoldsOfWalks};
 ghost use Rattle.proc_summary.specs.Parts.{IsGraphOf};
 
 use crate::edges::{graph_of, parts_of};
-use checked_tree::evaluate;
+use checked_tree::evaluate_formulas;
 use farkas_check::Oracle;
 use flow_graph::Graph;
 use items::Items;
@@ -67,7 +67,7 @@ pub(crate) fn cells_of<O: Oracle>(
 {
     let parts = parts_of(alloc, program, proc, graph, known)?;
     log.add_losses(alloc, parts.lost.as_slice())?;
-    evaluate(
+    evaluate_formulas(
         alloc,
         parts.links.as_slice(),
         parts.leaves.as_slice(),

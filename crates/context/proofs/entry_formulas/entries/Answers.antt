@@ -12,18 +12,18 @@ use Rattle.context.specs.Entries.{entries_from, entries_in}
 use Rattle.context.proofs.Entered.{NeverOne, few-made, few-made-nodes, graph-made, made-evaluated, made-fit, made-hold, made-never}
 use Rattle.context.proofs.entry_formulas.entries.Goals as goal
 
-pub evaluate-requires-clause-graph : goal.evaluate-requires-clause-graph
-evaluate-requires-clause-graph g c =
+pub evaluate_formulas-requires-clause-graph : goal.evaluate_formulas-requires-clause-graph
+evaluate_formulas-requires-clause-graph g c =
     transport (λ i. IsEvaluated (graph_of (sym c.as_slice-2.ensures i) (sym c.as_slice-3.ensures i) (sym c.as_slice-4.ensures i)) 0)
     (made-evaluated c.args.program.now c.args.flows.now c.requires.formed c.requires.flows c.in_ok-edges.edges c.in_ok-nodes.nodes c.in_ok-edges.ensures c.in_ok-nodes.ensures)
 
-pub evaluate-requires-clause-few_links : goal.evaluate-requires-clause-few_links
-evaluate-requires-clause-few_links g c =
+pub evaluate_formulas-requires-clause-few_links : goal.evaluate_formulas-requires-clause-few_links
+evaluate_formulas-requires-clause-few_links g c =
     subst (λ links. length links < 2 ^ 32) (sym c.as_slice-2.ensures)
     (few-made c.args.program.now c.args.flows.now c.requires.formed c.requires.flows c.in_ok-edges.edges c.in_ok-nodes.nodes c.in_ok-edges.ensures c.in_ok-nodes.ensures)
 
-pub evaluate-requires-clause-few_nodes : goal.evaluate-requires-clause-few_nodes
-evaluate-requires-clause-few_nodes g c =
+pub evaluate_formulas-requires-clause-few_nodes : goal.evaluate_formulas-requires-clause-few_nodes
+evaluate_formulas-requires-clause-few_nodes g c =
     subst (λ nodes. length nodes < 2 ^ 32) (sym c.as_slice-4.ensures)
     (few-made-nodes c.args.program.now c.args.flows.now c.requires.formed c.requires.flows c.in_ok-edges.edges c.in_ok-nodes.nodes c.in_ok-edges.ensures c.in_ok-nodes.ensures)
 

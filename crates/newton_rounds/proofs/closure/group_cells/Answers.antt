@@ -16,8 +16,8 @@ use Rattle.newton_rounds.proofs.Leading.{StaysAt, cells-stay, chains-from}
 use Rattle.newton_rounds.proofs.Matched.{if_ok-both}
 use Rattle.newton_rounds.proofs.closure.group_cells.Goals as goal
 
-pub evaluate-requires-clause-graph : goal.evaluate-requires-clause-graph
-evaluate-requires-clause-graph g c =
+pub evaluate_formulas-requires-clause-graph : goal.evaluate_formulas-requires-clause-graph
+evaluate_formulas-requires-clause-graph g c =
     let members = c.args.members.now in
     let stretches = stretches_with (map plain_call c.args.calls.now) c.args.sides.now in
     let same : graph_of c.as_slice-2.result.now c.as_slice-3.result.now c.as_slice-4.result.now ≡ group_graph members stretches =
@@ -28,14 +28,14 @@ evaluate-requires-clause-graph g c =
     } in
     subst (λ h. IsEvaluated h c.args.place) (sym same) (group-evaluated members stretches c.requires.group c.args.place c.requires.there)
 
-pub evaluate-requires-clause-few_links : goal.evaluate-requires-clause-few_links
-evaluate-requires-clause-few_links g c =
+pub evaluate_formulas-requires-clause-few_links : goal.evaluate_formulas-requires-clause-few_links
+evaluate_formulas-requires-clause-few_links g c =
     let stretches = stretches_with (map plain_call c.args.calls.now) c.args.sides.now in
     let long = ap length (c.as_slice-2.ensures ∙ c.in_ok-links.ensures ∙ links-are c.args.calls.now c.args.sides.now c.requires.each) ∙ length-map stretches group_link in
     subst (λ n. n < 2 ^ 32) (sym long) c.requires.group.few_calls
 
-pub evaluate-requires-clause-few_nodes : goal.evaluate-requires-clause-few_nodes
-evaluate-requires-clause-few_nodes g c =
+pub evaluate_formulas-requires-clause-few_nodes : goal.evaluate_formulas-requires-clause-few_nodes
+evaluate_formulas-requires-clause-few_nodes g c =
     let long = ap length (c.as_slice-4.ensures ∙ c.in_ok-nodes.ensures) ∙ length-map c.args.members.now (λ member. member.pair) in
     subst (λ n. n < 2 ^ 32) (sym long) c.requires.group.few
 
@@ -51,7 +51,7 @@ returns-clause-follows g c =
     } in
     let lost : c.as_slice.result.now ≡ flat_map (lost_in_group_leaf members) stretches =
     c.as_slice.ensures ∙ c.in_ok-leaves.ensures.noted ∙ ap (λ l. l ++ flat_map (lost_in_group_leaf members) stretches) c.new-lost.ensures in
-    notes_first c.in_ok-add_losses.ensures (ap loss_notes lost) (in_other_words (ap (λ h. evaluated h c.args.place) same) c.evaluate.ensures.follows)
+    notes_first c.in_ok-add_losses.ensures (ap loss_notes lost) (in_other_words (ap (λ h. evaluated h c.args.place) same) c.evaluate_formulas.ensures.follows)
 
 pub returns-clause-lead : goal.returns-clause-lead
 returns-clause-lead g c =
@@ -64,8 +64,8 @@ returns-clause-lead g c =
       nodes = (c.as_slice-4.ensures ∙ c.in_ok-nodes.ensures) i;
     } in
     let is = group-evaluated members stretches c.requires.group c.args.place c.requires.there in
-    if_ok-both (AreFittedCells (group_graph members stretches) c.args.place) (StaysAt (group_graph members stretches) c.args.place) (AreChainsFrom members c.args.place) c.evaluate.result
+    if_ok-both (AreFittedCells (group_graph members stretches) c.args.place) (StaysAt (group_graph members stretches) c.args.place) (AreChainsFrom members c.args.place) c.evaluate_formulas.result
     (chains-from members stretches c.requires.group c.args.place)
-    (subst (λ h. IfOk c.evaluate.result (AreFittedCells h c.args.place)) same c.evaluate.ensures.fits)
-    (result_has (StaysAt (group_graph members stretches) c.args.place) c.evaluate.result
-    (in_other_words (ap (λ h. evaluated h c.args.place) same) c.evaluate.ensures.follows) (cells-stay (group_graph members stretches) c.args.place is))
+    (subst (λ h. IfOk c.evaluate_formulas.result (AreFittedCells h c.args.place)) same c.evaluate_formulas.ensures.fits)
+    (result_has (StaysAt (group_graph members stretches) c.args.place) c.evaluate_formulas.result
+    (in_other_words (ap (λ h. evaluated h c.args.place) same) c.evaluate_formulas.ensures.follows) (cells-stay (group_graph members stretches) c.args.place is))
