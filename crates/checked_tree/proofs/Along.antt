@@ -12,7 +12,7 @@ use Rattle.checked_tree.specs.Law.{IsRun, HoldsAlong, IsBetweenEnds}
 use Rattle.checked_tree.proofs.Between.{same_from, after-length}
 
 module _ (g : Graph) where
-  run-split : (front back : List ℕ) (before after : List ℤ) → IsRun g (front ++ back) before after → (middle : List ℤ) × IsRun g front before middle × IsRun g back middle after
+  pub run-split : (front back : List ℕ) (before after : List ℤ) → IsRun g (front ++ back) before after → (middle : List ℤ) × IsRun g front before middle × IsRun g back middle after
   run-split [] back before after h = (before, refl, h)
   run-split (number ∷ front) back before after h = let rest = run-split front back h.0 after h.2 in (rest.0, (h.0, h.1, rest.1), rest.2)
 

@@ -1,6 +1,8 @@
 -- ---- the laws of an evaluation
 pub mod Whole
 pub mod Cells
+-- the laws of checked trees
+pub mod Trees
 -- formulas between vocabularies, and runs along words
 pub mod Between
 pub mod Along
@@ -8,8 +10,9 @@ pub mod Along
 pub mod Entries
 -- ---- the evaluation of a plan
 pub mod GoingOn
-pub mod Due
-pub mod Holding
+pub mod Growing
+pub mod GrownCells
+pub mod Kept
 pub mod SameByNumber
 pub mod Numbered
 -- ---- each operation is ready where it stands

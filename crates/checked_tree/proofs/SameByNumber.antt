@@ -16,7 +16,6 @@ use Rattle.transition_formula.specs.Transition.{Transition}
 use Rattle.posing.specs.Posing.{Posing, Done, ◌>>=◌, each}
 use Rattle.posing.proofs.Paths.{bind-assoc}
 use Rattle.recurrence.specs.Star.{star_of}
-use Rattle.checked_tree.specs.declared.entry.Entry.{Entry}
 use Rattle.checked_tree.specs.declared.key.Key.{Key}
 use Rattle.checked_tree.specs.declared.key.Key.TheVariants as key
 use Rattle.checked_tree.specs.Graph.{Graph, start_of, end_of, vocabulary_at}
@@ -24,7 +23,7 @@ use Rattle.checked_tree.specs.Evaluation.{Made, formula_at, sequence_formula, jo
 use Rattle.checked_tree.specs.Law.{IsEvaluated}
 use Rattle.checked_tree.specs.Ready.{IsAmong, IsReady, AreReady}
 use Rattle.checked_tree.specs.Plan.{IsPathOf, ArePathsOf, AreDistinct, IsCellOf, IsPlanned}
-use Rattle.checked_tree.specs.ByNumber.{Entries, blank, entry_at, key_at, formula_by, entry_of, with_number, entries_of, cell_by, evaluated_by, PlansEvaluate}
+use Rattle.checked_tree.specs.ByNumber.{Entry, Entries, blank, entry_at, key_at, formula_by, entry_of, with_number, entries_of, cell_by, evaluated_by, PlansEvaluate}
 use Rattle.checked_tree.specs.UnderWay.{entry_for, Agrees}
 use Rattle.checked_tree.proofs.Entries.{paths-entry, known-more}
 use Rattle.checked_tree.proofs.Numbered.{key_eq}
@@ -56,7 +55,7 @@ distinct_places (x ∷ keys) h (suc m) zero k e d =
 distinct_places (x ∷ keys) h (suc m) (suc n) k e d = ap suc (distinct_places keys h.1 m n k e d)
 
 module _ (keys : List Key) (distinct : AreDistinct keys) where
-  one-number : (p : PathExpr) (m n : ℕ) → IsPathOf keys p m → IsPathOf keys p n → m ≡ n
+  pub one-number : (p : PathExpr) (m n : ℕ) → IsPathOf keys p m → IsPathOf keys p n → m ≡ n
   one-number Zero m n h k = absurd h
   one-number One m n h k = absurd h
   one-number (Edge e) m n h k = distinct m n (key.Edge e) h k
@@ -88,7 +87,7 @@ module _ (keys : List Key) where
   second_of (key.Join i j) = j
   second_of (key.Star i) = i
 
-  one-path : (p q : PathExpr) (n : ℕ) → IsPathOf keys p n → IsPathOf keys q n → p ≡ q
+  pub one-path : (p q : PathExpr) (n : ℕ) → IsPathOf keys p n → IsPathOf keys q n → p ≡ q
   one-path (Edge a) (Edge b) n h k = ap (λ m. Edge m) (ap first_of (same_key n (key.Edge a) (key.Edge b) h k))
   one-path (Seq a b) (Seq c d) n h k =
       let same = same_key n (key.Seq h.0 h.1) (key.Seq k.0 k.1) h.2 k.2 in
@@ -122,31 +121,38 @@ module _ (keys : List Key) where
 
 -- ---- entries
 
+-- what stands at a place that was set, and at any other
+pub read-same : {A : Type 0} (d : A) (xs : List A) (n : ℕ) (x : A) → n < length xs → unwrap_or (slice_get (slice_set xs n x) n) d ≡ x
+read-same d [] n x h = absurd (omega arith)
+read-same d (y ∷ xs) zero x h = refl
+read-same d (y ∷ xs) (suc n) x h = read-same d xs n x (omega arith)
+
+pub read-other : {A : Type 0} (d : A) (xs : List A) (m n : ℕ) (x : A) → (m ≡ n → ⊥) → unwrap_or (slice_get (slice_set xs n x) m) d ≡ unwrap_or (slice_get xs m) d
+read-other d [] m n x h = refl
+read-other d (y ∷ xs) zero zero x h = absurd (h refl)
+read-other d (y ∷ xs) zero (suc n) x h = refl
+read-other d (y ∷ xs) (suc m) zero x h = refl
+read-other d (y ∷ xs) (suc m) (suc n) x h = read-other d xs m n x (λ e. h (ap suc e))
+
 pub entry_at-same : (entries : Entries) (n : ℕ) (x : Entry) → n < length entries → entry_at (slice_set entries n x) n ≡ x
-entry_at-same [] n x h = absurd (omega arith)
-entry_at-same (y ∷ entries) zero x h = refl
-entry_at-same (y ∷ entries) (suc n) x h = entry_at-same entries n x (omega arith)
+entry_at-same entries n x h = read-same blank entries n x h
 
 pub entry_at-other : (entries : Entries) (m n : ℕ) (x : Entry) → (m ≡ n → ⊥) → entry_at (slice_set entries n x) m ≡ entry_at entries m
-entry_at-other [] m n x h = refl
-entry_at-other (y ∷ entries) zero zero x h = absurd (h refl)
-entry_at-other (y ∷ entries) zero (suc n) x h = refl
-entry_at-other (y ∷ entries) (suc m) zero x h = refl
-entry_at-other (y ∷ entries) (suc m) (suc n) x h = entry_at-other entries m n x (λ e. h (ap suc e))
+entry_at-other entries m n x h = read-other blank entries m n x h
 
-length-set : (entries : Entries) (n : ℕ) (x : Entry) → length (slice_set entries n x) ≡ length entries
+pub length-set : {A : Type 0} (xs : List A) (n : ℕ) (x : A) → length (slice_set xs n x) ≡ length xs
 length-set [] n x = refl
-length-set (y ∷ entries) zero x = refl
-length-set (y ∷ entries) (suc n) x = ap suc (length-set entries n x)
+length-set (y ∷ xs) zero x = refl
+length-set (y ∷ xs) (suc n) x = ap suc (length-set xs n x)
 
-length-blank : (n : ℕ) → length (replicate n blank) ≡ n
-length-blank zero = refl
-length-blank (suc n) = ap suc (length-blank n)
+pub length-same : {A : Type 0} (x : A) (n : ℕ) → length (replicate n x) ≡ n
+length-same x zero = refl
+length-same x (suc n) = ap suc (length-same x n)
 
 -- ---- both evaluations side by side
 
 pub agrees-first : (g : Graph) (keys : List Key) → Agrees g keys [] (replicate (length keys) blank)
-agrees-first g keys = record { long = length-blank (length keys); same = λ p n is among. absurd among }
+agrees-first g keys = record { long = length-same blank (length keys); same = λ p n is among. absurd among }
 
 module _ (g : Graph) (keys : List Key) (distinct : AreDistinct keys) where
   pub found_key : (n : ℕ) (k : Key) → slice_get keys n ≡ Some k → key_at keys n ≡ k
@@ -294,7 +300,7 @@ module _ (g : Graph) (source : ℕ) (keys : List Key) (distinct : AreDistinct ke
   same-evaluation =
       same-rest g keys distinct (List (Cell Transition)) (λ made. Done (cells_of g source made)) (λ entries. Done (map (cell_by entries) cells))
       (operations (length g.nodes) g.links source) order [] (replicate (length keys) blank)
-      (record { long = length-blank (length keys); same = λ p n is among. absurd among }) planned.order_is ready
+      (record { long = length-same blank (length keys); same = λ p n is among. absurd among }) planned.order_is ready
       (λ last all agrees is. ap (λ cs. Done cs)
       (ap (λ n. map (cell_at g source last) (range_with_len 0 n)) (sym planned.one_each)
       ∙ cells-same (Cell Transition) (cell_at g source last) cells (cell_by all) 0 (λ node cell e. ap (cell_at g source last) (zero-add node) ∙ same-cell last all agrees is node cell e)))

@@ -6,16 +6,16 @@ use Rattle.path_expr.specs.Operations.{seq_operation, join_operation, star_opera
 use Rattle.checked_tree.specs.Graph.{Graph, start_of, end_of}
 use Rattle.checked_tree.specs.Ready.{IsAmong, IsReady, AreReady}
 
-pub among-left : (p : PathExpr) (ps qs : List PathExpr) → IsAmong p ps → IsAmong p (ps ++ qs)
+pub among-left : {A : Type 0} (p : A) (ps qs : List A) → IsAmong p ps → IsAmong p (ps ++ qs)
 among-left p [] qs h = absurd h
 among-left p (x ∷ ps) qs (inl e) = inl e
 among-left p (x ∷ ps) qs (inr h) = inr (among-left p ps qs h)
 
-pub among-right : (p : PathExpr) (ps qs : List PathExpr) → IsAmong p qs → IsAmong p (ps ++ qs)
+pub among-right : {A : Type 0} (p : A) (ps qs : List A) → IsAmong p qs → IsAmong p (ps ++ qs)
 among-right p [] qs h = h
 among-right p (x ∷ ps) qs h = inr (among-right p ps qs h)
 
-pub among-last : (p q : PathExpr) (ps : List PathExpr) → IsAmong p (ps ++ q ∷ []) → IsAmong p ps ⊎ (p ≡ q)
+pub among-last : {A : Type 0} (p q : A) (ps : List A) → IsAmong p (ps ++ q ∷ []) → IsAmong p ps ⊎ (p ≡ q)
 among-last p q [] (inl e) = inr e
 among-last p q [] (inr h) = absurd h
 among-last p q (x ∷ ps) (inl e) = inl (inl e)

@@ -52,6 +52,12 @@ module _ (g : Graph) (source : ℕ) (is : IsEvaluated g source) where
       let same = unwrap_or-slice_get g.links number record { from = 0; to = 0 } in
       subst (λ (l : Link). (l.from < length g.nodes) × (l.to < length g.nodes)) (sym same) (is.graph number record { from = 0; to = 0 } lt)
 
+  pub leaf-canonical : HaveCanonicalLeaves g → (number : ℕ) → number < length g.links → HaveCanonicalRows (leaf_at g number).cases
+  leaf-canonical canonical number lt =
+      let within : number < length g.leaves = subst (λ n. number < n) (sym is.one_each) lt in
+      subst (λ (f : Transition). HaveCanonicalRows f.cases) (sym (unwrap_or-slice_get g.leaves number nothing))
+      (each-get (λ (f : Transition). HaveCanonicalRows f.cases) g.leaves number _ canonical (slice_get-get_or g.leaves number nothing within))
+
   -- a formula of a second path, between the vocabularies that the first path's ends have
   pub moved_start : (p : PathExpr) (m n : ℕ) (f : Transition) → m ≡ n → IsBetweenEnds (vocabulary_at g n) (end_vocabulary g p) f → IsBetweenEnds (vocabulary_at g m) (end_vocabulary g p) f
   moved_start p m n f e h = subst (λ k. IsBetweenEnds (vocabulary_at g k) (end_vocabulary g p) f) (sym e) h
@@ -107,12 +113,6 @@ module _ (g : Graph) (source : ℕ) (is : IsEvaluated g source) where
           latest-has (λ f. HaveCanonicalRows f.cases) made p nothing
           (All-from_recursion (λ (case : Case). AreCanonical case.rows) [] tt) made_canonical
 
-      leaf-canonical : (number : ℕ) → number < length g.links → HaveCanonicalRows (leaf_at g number).cases
-      leaf-canonical number lt =
-          let within : number < length g.leaves = subst (λ n. number < n) (sym is.one_each) lt in
-          subst (λ (f : Transition). HaveCanonicalRows f.cases) (sym (unwrap_or-slice_get g.leaves number nothing))
-          (each-get (λ (f : Transition). HaveCanonicalRows f.cases) g.leaves number _ canonical (slice_get-get_or g.leaves number nothing within))
-
       pub own-along : (path : PathExpr) → IsReady g (paths_of made) path → Always (HoldsAlong g path) (own g made path)
       unfolding leaf_formula sequence_formula join_formula
       own-along Zero ready = absurd ready
@@ -123,7 +123,7 @@ module _ (g : Graph) (source : ℕ) (is : IsEvaluated g source) where
           always_weaker (λ f. Covers f leaf) (HoldsAlong g (Edge number)) (settled_and_fitted leaf (start_vocabulary g (Edge number)) (end_vocabulary g (Edge number)))
           (λ f covers. edge-along g number f covers)
           (settled_and_fitted-covers (start_vocabulary g (Edge number)) (end_vocabulary g (Edge number)) (is.ends (link_at g number).from ends.0) (is.ends (link_at g number).to ends.1) leaf
-          (is.leaves number ready).between (leaf-canonical number ready) (is.leaves number ready).solvable)
+          (is.leaves number ready).between (leaf-canonical canonical number ready) (is.leaves number ready).solvable)
       own-along (Seq a b) ready =
           let first = known a ready.0 in
           let second = known b ready.1 in

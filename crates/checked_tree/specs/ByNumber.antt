@@ -8,13 +8,18 @@ use Rattle.path_expr.specs.declared.link.Link.{Link}
 use Rattle.transition_formula.specs.Transition.{Transition}
 use Rattle.posing.specs.Posing.{Posing, Done, ◌>>=◌, each}
 use Rattle.recurrence.specs.Star.{star_of}
-use Rattle.checked_tree.specs.declared.entry.Entry.{Entry}
 use Rattle.checked_tree.specs.declared.key.Key.{Key}
 use Rattle.checked_tree.specs.declared.key.Key.TheVariants as key
 use Rattle.checked_tree.specs.Graph.{Graph, nothing, link_at, leaf_at, vocabulary_at}
 use Rattle.checked_tree.specs.Evaluation.{leaf_formula, sequence_formula, join_formula, evaluated}
 use Rattle.checked_tree.specs.Law.{IsEvaluated}
 use Rattle.checked_tree.specs.Plan.{AreDistinct, IsPlanned}
+
+-- what was made of a path: the nodes that it leads from and to, and its formula
+pub record Entry : Type 0 where
+  pub from : ℕ
+  pub to : ℕ
+  pub formula : Transition
 
 -- what was made of each path so far, by its number; nothing where it was not made
 abbrev pub Entries : Type 0

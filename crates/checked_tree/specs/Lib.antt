@@ -15,11 +15,15 @@ pub mod Evaluation
 pub mod Law
 -- what operations ask of their operands
 pub mod Operands
+-- trees of evaluated steps, what is so of a checked one, what it says, and those that an evaluation makes
+pub mod Tree
+pub mod Checked
+pub mod TreeLaw
+pub mod Grown
 -- its operations by numbers, and their evaluation
 pub mod Plan
 pub mod ByNumber
 -- ---- words of proofs
 pub mod UnderWay
-pub mod Due
-pub mod Holding
+pub mod Growing
 pub mod Ready

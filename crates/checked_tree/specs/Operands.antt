@@ -17,8 +17,3 @@ pub record AreEither (from to : Vocabulary) (left right : Transition) : Type 0 w
   pub end : IsEnd to
   pub left_is : IsBetweenEnds from to left
   pub right_is : IsBetweenEnds from to right
-
--- the formula goes from a vocabulary to itself
-pub record IsTurn (voc : Vocabulary) (body : Transition) : Type 0 where
-  pub end : IsEnd voc
-  pub body_is : IsBetweenEnds voc voc body

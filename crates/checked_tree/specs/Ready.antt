@@ -3,10 +3,10 @@ use Rattle.std.specs.Prelude.{◌≡◌, ◌⊎◌, ◌<◌, List, [], ◌∷◌
 use Rattle.path_expr.specs.PathExpr.{PathExpr, Zero, One, Edge, Seq, Join, Star}
 use Rattle.checked_tree.specs.Graph.{Graph, start_of, end_of}
 
--- the path is one of these
-abbrev pub IsAmong : PathExpr → List PathExpr → Type 0
-IsAmong path [] = ⊥
-IsAmong path (other ∷ others) = (path ≡ other) ⊎ IsAmong path others
+-- it is one of these
+abbrev pub IsAmong : {A : Type 0} → A → List A → Type 0
+IsAmong x [] = ⊥
+IsAmong x (other ∷ others) = (x ≡ other) ⊎ IsAmong x others
 
 -- its link is there, or its operands were made before and their ends meet
 abbrev pub IsReady : Graph → List PathExpr → PathExpr → Type 0

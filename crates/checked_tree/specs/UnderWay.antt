@@ -4,14 +4,13 @@ use Rattle.path_expr.specs.PathExpr.{PathExpr}
 use Rattle.transition_formula.specs.Transition.{Transition}
 use Rattle.posing.specs.Posing.{Always}
 use Rattle.path_expr.specs.declared.cell.Cell.{Cell}
-use Rattle.checked_tree.specs.declared.entry.Entry.{Entry}
 use Rattle.checked_tree.specs.declared.key.Key.{Key}
 use Rattle.checked_tree.specs.Graph.{Graph, start_of, end_of, start_vocabulary, end_vocabulary}
 use Rattle.checked_tree.specs.Evaluation.{Made, formula_at, paths_of}
 use Rattle.checked_tree.specs.Law.{IsEnd, IsEvaluated, IsBetweenEnds}
 use Rattle.checked_tree.specs.Ready.{IsAmong, AreReady}
 use Rattle.checked_tree.specs.Plan.{IsPathOf, ArePathsOf, AreDistinct, IsPlanned}
-use Rattle.checked_tree.specs.ByNumber.{Entries, blank, entry_at, with_number}
+use Rattle.checked_tree.specs.ByNumber.{Entry, Entries, blank, entry_at, with_number}
 
 -- a path between nodes whose vocabularies are of few columns, and its formula between them
 pub record IsKnown (g : Graph) (p : PathExpr) (f : Transition) : Type 0 where

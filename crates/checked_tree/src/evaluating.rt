@@ -1,23 +1,26 @@
-ghost use Rattle.std.specs.Prelude.{[], ◌≡◌, ◌<◌, ◌^◌, length, replicate, IfOk};
+ghost use Rattle.std.specs.Prelude.{[], ◌≡◌, ◌<◌, ◌^◌, length, map, replicate, IfOk};
+ghost use Rattle.std.specs.Rc.{rc_value};
 ghost use Rattle.posing.specs.Follows.{Follows};
 ghost use Rattle.posing.specs.Posing.{each};
 ghost use Rattle.checked_tree.specs.Graph.{graph_of};
 ghost use Rattle.checked_tree.specs.Evaluation.{evaluated};
 ghost use Rattle.checked_tree.specs.Law.{IsEvaluated, AreFittedCells, CellsHold};
-ghost use Rattle.checked_tree.specs.ByNumber.{blank, with_number, entries_of, evaluated_by};
-ghost use Rattle.checked_tree.specs.Due.{IsSetOut};
-ghost use Rattle.checked_tree.specs.Holding.{KeepsHolding, PlanHolds};
+ghost use Rattle.checked_tree.specs.ByNumber.{with_number, entries_of, evaluated_by};
+ghost use Rattle.checked_tree.specs.Grown.{result_map, trees_of, formulas_of, AreGrown};
+ghost use Rattle.checked_tree.specs.Growing.{bare_growth, entries_in, tree_cell, AreUnderWay, AreGrownCells, KeepsGrowing};
 
-use crate::entry::Entry;
+use crate::checked::Checked;
+use crate::growth::Growth;
 use crate::key::Key;
 use crate::making::with_number;
 use crate::plan::planned;
-use crate::table::{blanks, cells_by, see_leaves};
+use crate::table::{bare_growths, cells_by, formulas_of, see_leaves, shared};
 use farkas_check::Oracle;
 use items::Items;
 use path_expr::{Cell, Link};
 use polyhedra::{Log, Vocabulary, WorkError};
 use std::alloc::Global;
+use std::rc::Rc;
 use transition_formula::Formula;
 
 /// The formulas of the walks from a source: at each node's place its cell. The links lead between nodes, each link has
@@ -29,7 +32,7 @@ use transition_formula::Formula;
 ///
 /// The operations are those of the stated elimination, in its order, each with its questions; what is lost is noted.
 /// An error is a question that the oracle refused, or want of memory.
-pub fn evaluate<O: Oracle>(
+pub fn evaluate_formulas<O: Oracle>(
     alloc: Global,
     links: &[Link],
     leaves: &[Formula],
@@ -45,14 +48,42 @@ pub fn evaluate<O: Oracle>(
     ensures holds { IfOk result (CellsHold (graph_of links.now leaves.now nodes.now) source) }
     ensures fits { IfOk result (AreFittedCells (graph_of links.now leaves.now nodes.now) source) }
 {
+    let cells = evaluate(alloc, links, leaves, nodes, source, oracle, log)?;
+    let formulas = formulas_of(alloc, cells.as_slice())?;
+    Ok(formulas)
+}
+
+/// The trees of the walks from a source, at each node's place its cell: each step keeps its own notes and answers, and
+/// the log is what the steps keep, one after another. A tree that several trees share is kept once. Their formulas are
+/// those of `evaluate_formulas`, under the same answers.
+pub fn evaluate<O: Oracle>(
+    alloc: Global,
+    links: &[Link],
+    leaves: &[Formula],
+    nodes: &[Vocabulary],
+    source: u32,
+    oracle: &mut O,
+    log: &mut Log,
+) -> Result<Items<Cell<Checked>>, WorkError>
+    requires graph { IsEvaluated (graph_of links.now leaves.now nodes.now) source }
+    requires few_links { length links.now < 2 ^ 32 }
+    requires few_nodes { length nodes.now < 2 ^ 32 }
+    ensures follows { Follows O.asking oracle.old oracle.new log.old log.new (result_map formulas_of result) (evaluated (graph_of links.now leaves.now nodes.now) source) }
+    ensures grown { IfOk result (λ cells. AreGrown (graph_of links.now leaves.now nodes.now) source log.old log.new (trees_of cells)) }
+    ensures holds { IfOk result (λ cells. CellsHold (graph_of links.now leaves.now nodes.now) source (formulas_of cells)) }
+    ensures fits { IfOk result (λ cells. AreFittedCells (graph_of links.now leaves.now nodes.now) source (formulas_of cells)) }
+{
     see_leaves(leaves);
+    let shared = shared(alloc, nodes)?;
     let count = count_of(nodes);
     let (plan, cells) = planned(alloc, count, links, source)?;
+    let nodes = shared.as_slice();
     let keys = plan.keys.as_slice();
     let order = plan.order.as_slice();
-    evaluated_by(
-        alloc, links, leaves, nodes, keys, order, &cells, oracle, log,
-    )
+    let places = cells.as_slice();
+    let growths = growths_of(alloc, links, leaves, nodes, keys, order, oracle, log)?;
+    let made = cells_by(alloc, growths.as_slice(), places)?;
+    Ok(made)
 }
 
 fn count_of(nodes: &[Vocabulary]) -> u32
@@ -62,67 +93,45 @@ fn count_of(nodes: &[Vocabulary]) -> u32
     nodes.len() as u32
 }
 
-/// The evaluation of a plan.
-#[tactic(auto, using(posing::proofs::Following::following), unfolding(crate::specs::ByNumber::evaluated_by))]
-fn evaluated_by<O: Oracle>(
-    alloc: Global,
-    links: &[Link],
-    leaves: &[Formula],
-    nodes: &[Vocabulary],
-    keys: &[Key],
-    order: &[usize],
-    cells: &[Cell<usize>],
-    oracle: &mut O,
-    log: &mut Log,
-) -> Result<Items<Cell<Formula>>, WorkError>
-    requires { IsSetOut (graph_of links.now leaves.now nodes.now) keys.now (replicate (length keys.now) blank) order.now }
-    ensures follows { Follows O.asking oracle.old oracle.new log.old log.new result (evaluated_by (graph_of links.now leaves.now nodes.now) keys.now order.now cells.now) }
-    ensures holds { IfOk result (PlanHolds (graph_of links.now leaves.now nodes.now) keys.now order.now cells.now) }
-{
-    let entries = entries_of(alloc, links, leaves, nodes, keys, order, oracle, log)?;
-    let made = cells_by(alloc, entries.as_slice(), cells)?;
-    Ok(made)
-}
-
-/// The entries of all operations of a plan.
+/// The growths of all operations of a plan.
 #[tactic(auto, using(posing::proofs::Following::following), unfolding(crate::specs::ByNumber::entries_of))]
-fn entries_of<O: Oracle>(
+fn growths_of<O: Oracle>(
     alloc: Global,
     links: &[Link],
     leaves: &[Formula],
-    nodes: &[Vocabulary],
+    nodes: &[Rc<Vocabulary>],
     keys: &[Key],
     order: &[usize],
     oracle: &mut O,
     log: &mut Log,
-) -> Result<Items<Entry>, WorkError>
-    requires { IsSetOut (graph_of links.now leaves.now nodes.now) keys.now (replicate (length keys.now) blank) order.now }
-    ensures follows { Follows O.asking oracle.old oracle.new log.old log.new result (entries_of (graph_of links.now leaves.now nodes.now) keys.now order.now) }
-    ensures holds { IfOk result (λ all. KeepsHolding (graph_of links.now leaves.now nodes.now) keys.now (replicate (length keys.now) blank) order.now all []) }
+) -> Result<Items<Growth>, WorkError>
+    requires { AreUnderWay (graph_of links.now leaves.now (map rc_value nodes.now)) keys.now log.now (replicate (length keys.now) bare_growth) order.now }
+    ensures follows { Follows O.asking oracle.old oracle.new log.old log.new (result_map entries_in result) (entries_of (graph_of links.now leaves.now (map rc_value nodes.now)) keys.now order.now) }
+    ensures grown { IfOk result (λ all. KeepsGrowing (graph_of links.now leaves.now (map rc_value nodes.now)) keys.now log.old (replicate (length keys.now) bare_growth) order.now log.new all []) }
 {
-    let entries = blanks(alloc, keys.len())?;
+    let growths = bare_growths(alloc, keys.len())?;
     with_numbers(
-        alloc, links, leaves, nodes, keys, entries, order, oracle, log,
+        alloc, links, leaves, nodes, keys, growths, order, oracle, log,
     )
 }
 
-/// The entries, and those of more operations.
+/// The growths, and those of more operations.
 fn with_numbers<O: Oracle>(
     alloc: Global,
     links: &[Link],
     leaves: &[Formula],
-    nodes: &[Vocabulary],
+    nodes: &[Rc<Vocabulary>],
     keys: &[Key],
-    entries: Items<Entry>,
+    growths: Items<Growth>,
     order: &[usize],
     oracle: &mut O,
     log: &mut Log,
-) -> Result<Items<Entry>, WorkError>
-    requires { IsSetOut (graph_of links.now leaves.now nodes.now) keys.now entries order.now }
-    ensures follows { Follows O.asking oracle.old oracle.new log.old log.new result (each (with_number (graph_of links.now leaves.now nodes.now) keys.now) entries order.now) }
-    ensures holds { IfOk result (λ all. KeepsHolding (graph_of links.now leaves.now nodes.now) keys.now entries order.now all []) }
+) -> Result<Items<Growth>, WorkError>
+    requires { AreUnderWay (graph_of links.now leaves.now (map rc_value nodes.now)) keys.now log.now growths order.now }
+    ensures follows { Follows O.asking oracle.old oracle.new log.old log.new (result_map entries_in result) (each (with_number (graph_of links.now leaves.now (map rc_value nodes.now)) keys.now) (entries_in growths) order.now) }
+    ensures grown { IfOk result (λ all. KeepsGrowing (graph_of links.now leaves.now (map rc_value nodes.now)) keys.now log.old growths order.now log.new all []) }
 {
-    let mut made = entries;
+    let mut made = growths;
     for number in order {
         made = with_number(
             alloc, links, leaves, nodes, keys, made, *number, oracle, log,

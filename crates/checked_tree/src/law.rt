@@ -1,5 +1,6 @@
 ghost use Rattle.checked_tree.specs.ByNumber.{PlansEvaluate};
 ghost use Rattle.checked_tree.specs.Law.{EvaluationHolds, EvaluationFits};
+ghost use Rattle.checked_tree.specs.TreeLaw.{TreesHold, TreesFit, RunsAreRelated};
 ghost use Rattle.checked_tree.specs.UnderWay.{PlansBegin, PlansGoOn};
 
 /// What a graph is evaluated to holds of every run along a walk from the source, whatever true answers are given, and
@@ -17,4 +18,13 @@ pub fn law_of_plans()
     ensures same { PlansEvaluate }
     ensures begins { PlansBegin }
     ensures goes_on { PlansGoOn }
+{}
+
+/// The formula of a checked tree holds of what its leaves relate, goes between the vocabularies of its ends, and is small
+/// enough to go on with. The leaves of a graph's tree relate each run along a word of its path. It does nothing when it
+/// runs.
+pub fn law_of_trees()
+    ensures holds { TreesHold }
+    ensures fits { TreesFit }
+    ensures related { RunsAreRelated }
 {}

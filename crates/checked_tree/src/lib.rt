@@ -2,18 +2,22 @@
 //! source, by the stated elimination.
 #![tactic(auto)]
 
-mod entry;
+mod checked;
 mod evaluating;
+mod growth;
 mod key;
 mod law;
 mod making;
+mod mark;
 mod operations;
 mod plan;
+mod step;
 mod table;
 
-pub use entry::Entry;
-pub use evaluating::evaluate;
+pub use checked::Checked;
+pub use evaluating::{evaluate, evaluate_formulas};
 pub use key::Key;
 pub use law::{law_of_evaluation, law_of_plans};
 pub use operations::{either, leaf, sequence};
 pub use plan::{Plan, planned};
+pub use step::{Node, TreeStep};

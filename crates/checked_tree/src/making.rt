@@ -1,22 +1,23 @@
-ghost use Rattle.std.specs.Prelude.{◌≡◌, ◌<◌, [], length, IfOk};
+ghost use Rattle.std.specs.Prelude.{◌≡◌, ◌<◌, [], Some, length, map, IfOk};
+ghost use Rattle.std.specs.Rc.{rc_value};
 ghost use Rattle.posing.specs.Follows.{Follows};
 ghost use Rattle.polyhedra.specs.Laws.{HaveCanonicalRows};
-ghost use Rattle.recurrence.specs.Star.{star_of};
 ghost use Rattle.checked_tree.specs.Graph.{graph_of, bare, bare_links, link_at, leaf_at, vocabulary_at};
-ghost use Rattle.checked_tree.specs.Evaluation.{sequence_formula, join_formula};
-ghost use Rattle.checked_tree.specs.ByNumber.{link_formula, ends_by, entry_at, formula_by, key_at, with_number};
-ghost use Rattle.checked_tree.specs.Due.{AreDueInSequence, AreDueEither, IsDueLink, IsDueTurn, IsDue, IsNext};
+ghost use Rattle.checked_tree.specs.ByNumber.{link_formula, ends_by, formula_by, key_at, with_number};
+ghost use Rattle.checked_tree.specs.Tree.{tree_of, formula_of};
+ghost use Rattle.checked_tree.specs.Grown.{result_map};
+ghost use Rattle.checked_tree.specs.Growing.{growth_at, IsDueLink, grown_tree, entries_in, IsGrowable, IsNextGrowth, IsLeafOf, IsTreeBy, IsNew, HasGrown};
 
-use crate::entry::Entry;
+use crate::checked::Checked;
+use crate::growth::Growth;
 use crate::key::Key;
-use crate::operations::{either, leaf, sequence};
-use crate::table::{ends_at, entry_at, see_cases, with_entry};
+use crate::table::{ends_at, tree_at, with_growth};
 use farkas_check::Oracle;
 use items::Items;
 use path_expr::Link;
 use polyhedra::{Log, Vocabulary, WorkError};
-use recurrence::star;
 use std::alloc::Global;
+use std::rc::Rc;
 use transition_formula::Formula;
 
 fn link_at(links: &[Link], number: u32) -> Link
@@ -35,9 +36,9 @@ fn leaf_at(leaves: &[Formula], number: u32) -> &Formula
     &leaves[number as usize]
 }
 
-fn vocabulary_at(nodes: &[Vocabulary], node: u32) -> &Vocabulary
+fn vocabulary_at(nodes: &[Rc<Vocabulary>], node: u32) -> &Rc<Vocabulary>
     requires { node < length nodes.now }
-    ensures { result.now ≡ vocabulary_at (bare nodes.now) node }
+    ensures { result.now.value ≡ vocabulary_at (bare (map rc_value nodes.now)) node }
 {
     &nodes[node as usize]
 }
@@ -52,137 +53,77 @@ fn key_at(keys: &[Key], number: usize) -> Key
 }
 
 /// The nodes that the path of a key leads from and to.
-fn ends_by(links: &[Link], entries: &[Entry], key: Key) -> Link
-    ensures { result ≡ ends_by (bare_links links.now []) entries.now key }
+fn ends_by(links: &[Link], growths: &[Growth], key: Key) -> Link
+    ensures { result ≡ ends_by (bare_links links.now []) (entries_in growths.now) key }
 {
     match key {
         Key::Edge(number) => link_at(links, number),
         Key::Seq(first, second) => Link {
-            from: ends_at(entries, first).from,
-            to: ends_at(entries, second).to,
+            from: ends_at(growths, first).from,
+            to: ends_at(growths, second).to,
         },
-        Key::Join(left, _) => ends_at(entries, left),
+        Key::Join(left, _) => ends_at(growths, left),
         Key::Star(turn) => {
-            let from = ends_at(entries, turn).from;
+            let from = ends_at(growths, turn).from;
             Link { from, to: from }
         }
     }
 }
 
-/// The formula of a link.
+/// The tree of a link.
 fn of_link<O: Oracle>(
     alloc: Global,
     links: &[Link],
     leaves: &[Formula],
-    nodes: &[Vocabulary],
+    nodes: &[Rc<Vocabulary>],
     number: u32,
     oracle: &mut O,
     log: &mut Log,
-) -> Result<Formula, WorkError>
-    requires { IsDueLink (graph_of links.now leaves.now nodes.now) number }
-    ensures { Follows O.asking oracle.old oracle.new log.old log.new result (link_formula (graph_of links.now leaves.now nodes.now) number) }
+) -> Result<Checked, WorkError>
+    requires due { IsDueLink (graph_of links.now leaves.now (map rc_value nodes.now)) number }
+    requires canonical { HaveCanonicalRows (leaf_at (graph_of links.now leaves.now (map rc_value nodes.now)) number).cases }
+    ensures follows { Follows O.asking oracle.old oracle.new log.old log.new (result_map (λ tree. formula_of (tree_of tree)) result) (link_formula (graph_of links.now leaves.now (map rc_value nodes.now)) number) }
+    ensures of_leaf { IfOk result (λ tree. IsLeafOf (graph_of links.now leaves.now (map rc_value nodes.now)) number (tree_of tree)) }
+    ensures new { IfOk result (λ tree. IsNew log.old log.new (tree_of tree)) }
 {
     let link = link_at(links, number);
     let given = leaf_at(leaves, number);
     let start = vocabulary_at(nodes, link.from);
     let end = vocabulary_at(nodes, link.to);
-    leaf(alloc, given, start, end, oracle, log)
+    Checked::leaf(alloc, number, given, start, end, oracle, log)
 }
 
-/// The formula of one path and then another.
-fn of_sequence<O: Oracle>(
-    alloc: Global,
-    nodes: &[Vocabulary],
-    first: &Entry,
-    second: &Entry,
-    oracle: &mut O,
-    log: &mut Log,
-) -> Result<Formula, WorkError>
-    requires { AreDueInSequence nodes.now first.now second.now }
-    ensures { Follows O.asking oracle.old oracle.new log.old log.new result (sequence_formula first.now.formula second.now.formula (vocabulary_at (bare nodes.now) first.now.from) (vocabulary_at (bare nodes.now) second.now.to)) }
-{
-    let start = vocabulary_at(nodes, first.from);
-    let end = vocabulary_at(nodes, second.to);
-    sequence(
-        alloc,
-        &first.formula,
-        &second.formula,
-        start,
-        end,
-        oracle,
-        log,
-    )
-}
-
-/// The formula of either of two paths.
-fn of_either<O: Oracle>(
-    alloc: Global,
-    nodes: &[Vocabulary],
-    left: &Entry,
-    right: &Entry,
-    oracle: &mut O,
-    log: &mut Log,
-) -> Result<Formula, WorkError>
-    requires { AreDueEither nodes.now left.now right.now }
-    ensures { Follows O.asking oracle.old oracle.new log.old log.new result (join_formula left.now.formula right.now.formula (vocabulary_at (bare nodes.now) left.now.from) (vocabulary_at (bare nodes.now) left.now.to)) }
-{
-    let start = vocabulary_at(nodes, left.from);
-    let end = vocabulary_at(nodes, left.to);
-    either(
-        alloc,
-        &left.formula,
-        &right.formula,
-        start,
-        end,
-        oracle,
-        log,
-    )
-}
-
-/// The formula of any number of turns.
-fn of_turns<O: Oracle>(
-    alloc: Global,
-    nodes: &[Vocabulary],
-    turn: &Entry,
-    oracle: &mut O,
-    log: &mut Log,
-) -> Result<Formula, WorkError>
-    requires { IsDueTurn nodes.now turn.now }
-    ensures { Follows O.asking oracle.old oracle.new log.old log.new result (star_of turn.now.formula (vocabulary_at (bare nodes.now) turn.now.from)) }
-{
-    let voc = vocabulary_at(nodes, turn.from);
-    star(alloc, &turn.formula, voc, oracle, log)
-}
-
-/// The formula of the path of a key, from those of its operands.
-fn formula_by<O: Oracle>(
+/// The tree of the path of a key, from those of its operands.
+fn tree_by<O: Oracle>(
     alloc: Global,
     links: &[Link],
     leaves: &[Formula],
-    nodes: &[Vocabulary],
-    entries: &[Entry],
+    nodes: &[Rc<Vocabulary>],
+    growths: &[Growth],
     key: Key,
     oracle: &mut O,
     log: &mut Log,
-) -> Result<Formula, WorkError>
-    requires { IsDue (graph_of links.now leaves.now nodes.now) entries.now key }
-    ensures { Follows O.asking oracle.old oracle.new log.old log.new result (formula_by (graph_of links.now leaves.now nodes.now) entries.now key) }
+) -> Result<Checked, WorkError>
+    requires { IsGrowable (graph_of links.now leaves.now (map rc_value nodes.now)) growths.now key }
+    ensures follows { Follows O.asking oracle.old oracle.new log.old log.new (result_map (λ tree. formula_of (tree_of tree)) result) (formula_by (graph_of links.now leaves.now (map rc_value nodes.now)) (entries_in growths.now) key) }
+    ensures by { IfOk result (λ tree. IsTreeBy (graph_of links.now leaves.now (map rc_value nodes.now)) growths.now key (tree_of tree)) }
+    ensures new { IfOk result (λ tree. IsNew log.old log.new (tree_of tree)) }
 {
     match key {
         Key::Edge(number) => of_link(alloc, links, leaves, nodes, number, oracle, log),
         Key::Seq(i, j) => {
-            let first = entry_at(entries, i);
-            let second = entry_at(entries, j);
-            of_sequence(alloc, nodes, first, second, oracle, log)
+            let first = tree_at(growths, i);
+            let second = tree_at(growths, j);
+            Checked::seq(alloc, first, second, oracle, log)
         }
         Key::Join(i, j) => {
-            let left = entry_at(entries, i);
-            let right = entry_at(entries, j);
-            of_either(alloc, nodes, left, right, oracle, log)
+            let left = tree_at(growths, i);
+            let right = tree_at(growths, j);
+            Checked::join(alloc, left, right, oracle, log)
         }
         Key::Star(i) => {
-            let turn = entry_at(entries, i);
-            of_turns(alloc, nodes, turn, oracle, log)
+            let turn = tree_at(growths, i);
+            Checked::star(alloc, turn, oracle, log)
         }
     }
 }
@@ -193,26 +134,25 @@ pub(crate) fn with_number<O: Oracle>(
     alloc: Global,
     links: &[Link],
     leaves: &[Formula],
-    nodes: &[Vocabulary],
+    nodes: &[Rc<Vocabulary>],
     keys: &[Key],
-    entries: Items<Entry>,
+    growths: Items<Growth>,
     number: usize,
     oracle: &mut O,
     log: &mut Log,
-) -> Result<Items<Entry>, WorkError>
-    requires { IsNext (graph_of links.now leaves.now nodes.now) keys.now entries number }
-    ensures follows { Follows O.asking oracle.old oracle.new log.old log.new result (with_number (graph_of links.now leaves.now nodes.now) keys.now entries number) }
-    ensures canonical { IfOk result (λ next. HaveCanonicalRows (entry_at next number).formula.cases) }
+) -> Result<Items<Growth>, WorkError>
+    requires { IsNextGrowth (graph_of links.now leaves.now (map rc_value nodes.now)) keys.now growths number }
+    ensures follows { Follows O.asking oracle.old oracle.new log.old log.new (result_map entries_in result) (with_number (graph_of links.now leaves.now (map rc_value nodes.now)) keys.now (entries_in growths) number) }
+    ensures grown { IfOk result (λ next. HasGrown (graph_of links.now leaves.now (map rc_value nodes.now)) keys.now growths number log.old log.new next) }
 {
     let key = key_at(keys, number);
-    let made = entries.as_slice();
+    let made = growths.as_slice();
     let ends = ends_by(links, made, key);
-    let formula = formula_by(alloc, links, leaves, nodes, made, key, oracle, log)?;
-    see_cases(formula.cases());
-    let entry = Entry {
+    let tree = tree_by(alloc, links, leaves, nodes, made, key, oracle, log)?;
+    let growth = Growth {
         from: ends.from,
         to: ends.to,
-        formula,
+        tree: Some(tree),
     };
-    Ok(with_entry(entries, number, entry))
+    Ok(with_growth(growths, number, growth))
 }
