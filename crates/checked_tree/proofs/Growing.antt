@@ -1,6 +1,6 @@
 -- Each step of the evaluation of a plan leaves growths of which each path that was made has its tree.
 use Rattle.std.specs.Prelude.{Bool, true, false, ◌==◌, slice_set}
-use Rattle.std.specs.List.{slice_get, flat_map}
+use Rattle.std.specs.List.{flat_map}
 use Rattle.std.proofs.Common.{◌≡◌, ◌<◌, ℕ, zero, suc, List, [], ◌∷◌, ◌++◌, length, map, replicate, Some, refl, sym, ◌∙◌, ap, subst, inl, inr, ◌⊎◌, append_assoc, eqb-true, eq-eqb, true≢false}
 use Rattle.std.proofs.lemmas.List.{append-nil, map-append}
 use Rattle.std.proofs.lemmas.Grind.{flat_map-append}
@@ -12,8 +12,7 @@ use Rattle.posing.specs.declared.log.Log.{Log}
 use Rattle.checked_tree.specs.declared.growth.Growth.{Growth}
 use Rattle.checked_tree.specs.declared.key.Key.{Key}
 use Rattle.checked_tree.specs.declared.key.Key.TheVariants as key
-use Rattle.checked_tree.specs.Graph.{Graph, link_at, leaf_at, vocabulary_at, start_of, end_of}
-use Rattle.checked_tree.specs.Law.{IsEvaluated}
+use Rattle.checked_tree.specs.Graph.{Graph, link_at, vocabulary_at, start_of, end_of}
 use Rattle.checked_tree.specs.Plan.{IsPathOf, ArePathsOf, IsPlanned}
 use Rattle.checked_tree.specs.ByNumber.{blank, entry_at, key_at, ends_by}
 use Rattle.checked_tree.specs.Ready.{IsAmong, IsReady, AreReady}
@@ -22,7 +21,7 @@ use Rattle.checked_tree.specs.Tree as tree
 use Rattle.checked_tree.specs.Checked.{IsChecked}
 use Rattle.checked_tree.specs.TreeLaw.{IsOf}
 use Rattle.checked_tree.specs.Grown.{IsBuilt, AreBuilt}
-use Rattle.checked_tree.specs.Growing.{bare_growth, IsDueLink, growth_at, grown_tree, entry_of_growth, entries_in, HasTree, IsGrowable, IsNextGrowth, IsTreeBy, IsNew, HasGrown, IsTreeOf, IsGrownAs, IsPlantable, AreGrowing, IsLeafOf}
+use Rattle.checked_tree.specs.Growing.{bare_growth, IsDueLink, growth_at, grown_tree, entry_of_growth, entries_in, HasTree, IsGrowable, IsNextGrowth, IsTreeBy, HasGrown, IsTreeOf, IsGrownAs, IsPlantable, AreGrowing, IsLeafOf}
 use Rattle.checked_tree.proofs.SameByNumber.{found_key, path-within, one-number, one-path, read-same, read-other, length-set, length-same}
 use Rattle.checked_tree.proofs.Stands.{among-left, among-last, among-right}
 use Rattle.checked_tree.proofs.Swept.{operations-ready}

@@ -10,7 +10,7 @@ use Rattle.path_expr.specs.declared.cell.Cell.TheVariants as known
 use Rattle.path_expr.specs.declared.link.Link.{Link}
 use Rattle.path_expr.specs.Elimination.{path_at}
 use Rattle.path_expr.specs.Operations.{operations}
-use Rattle.path_expr.specs.PathExpr.{PathExpr, Zero, One, Edge, Seq, Join, Star, InLanguage}
+use Rattle.path_expr.specs.PathExpr.{PathExpr, Zero, One, InLanguage}
 use Rattle.path_expr.specs.Walks.{IsWalk}
 use Rattle.path_expr.proofs.WayWalks.{language_is_walks}
 use Rattle.posing.specs.declared.log.Log.{Log}

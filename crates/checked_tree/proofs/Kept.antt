@@ -1,6 +1,6 @@
 -- What a log gained in a call is what the call kept, and calls that end for want of memory behind one.
 use Rattle.std.specs.Prelude.{Result, IfOk}
-use Rattle.std.proofs.Common.{◌≡◌, ℕ, ◌<◌, get_or, List, ◌++◌, length, drop, Ok, Err, IsErrAnd, refl, sym, ◌∙◌, ap, subst, ◌≤◌, ◌+◌, arith}
+use Rattle.std.proofs.Common.{◌≡◌, ℕ, ◌<◌, get_or, List, ◌++◌, length, drop, Ok, Err, IsErrAnd, refl, sym, ◌∙◌, ap, subst, ◌≤◌, arith}
 use Rattle.std.proofs.lemmas.List.{length-append}
 use Rattle.std.proofs.Math.Seq.{drop-append_seam}
 use Rattle.farkas_check.specs.Asking.{Asking}

@@ -1,12 +1,11 @@
 -- What a checked tree says, by induction on its steps.
-use Rattle.std.proofs.Common.{◌≡◌, ℕ, ℤ, List, [], ◌∷◌, length, refl, sym, ◌∙◌, ap, subst, inl, inr, ◌⊎◌}
+use Rattle.std.proofs.Common.{◌≡◌, ℕ, ℤ, List, [], ◌∷◌, length, sym, ◌∙◌, ap, subst, inl, inr}
 use Rattle.std.specs.List.{AllByRecursion, concat}
 use Rattle.std.proofs.lemmas.List.Elements.{recursion_from_All}
 use Rattle.farkas_check.specs.declared.answer.Answer.{Answer}
 use Rattle.farkas_check.specs.Tested.{Passes}
 use Rattle.farkas_check.proofs.Tight.{passing}
 use Rattle.path_expr.specs.PathExpr.{PathExpr, InLanguage}
-use Rattle.path_expr.specs.PathExpr as expr
 use Rattle.posing.specs.declared.note.Note.{Note}
 use Rattle.posing.specs.Posing.{Posing, Done, Always}
 use Rattle.posing.specs.Replay.{Keeps}
@@ -24,7 +23,7 @@ use Rattle.checked_tree.specs.Evaluation.{leaf_formula, sequence_formula, join_f
 use Rattle.checked_tree.specs.Law.{IsEnd, IsFrom, IsBetweenEnds, IsRun}
 use Rattle.checked_tree.specs.Tree.{Own, Tree, Leaf, Seq, Join, Star, own_of, formula_of, path_of}
 use Rattle.checked_tree.specs.Checked.{IsLeafStep, IsSeqStep, IsJoinStep, IsStarStep, IsChecked}
-use Rattle.checked_tree.specs.TreeLaw.{IsLinked, Relates, TreesHold, TreesFit, IsOf, RunsAreRelated}
+use Rattle.checked_tree.specs.TreeLaw.{IsLinked, Relates, TreesHold, TreesFit, RunsAreRelated}
 use Rattle.checked_tree.proofs.Along.{run-split}
 use Rattle.checked_tree.proofs.Between.{settled_and_fitted-between, settled_and_fitted-covers, sequence-from, sequence-solvable, sequence-canonical, joined-from, fitted-between, fitted-covered, starred, star-between, same_from, after-length}
 

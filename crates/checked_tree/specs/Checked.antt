@@ -9,7 +9,7 @@ use Rattle.recurrence.specs.Star.{star_of}
 use Rattle.transition_formula.specs.Transition.{Transition, AreSolvable}
 use Rattle.checked_tree.specs.Evaluation.{leaf_formula, sequence_formula, join_formula}
 use Rattle.checked_tree.specs.Law.{IsEnd, IsFrom}
-use Rattle.checked_tree.specs.Tree.{Own, Tree, Leaf, Seq, Join, Star, own_of, formula_of}
+use Rattle.checked_tree.specs.Tree.{Own, Tree, Leaf, Seq, Join, Star, own_of}
 
 -- the step's own notes and answers lead this operation to its formula, whose rows are in canonical form
 pub record IsMade (own : Own) (p : Posing Transition) : Type 0 where

@@ -4,7 +4,6 @@ use Rattle.std.specs.List.{flat_map, slice_get}
 use Rattle.std.specs.Option.{unwrap_or, option_map}
 use Rattle.path_expr.specs.declared.cell.Cell.{Cell}
 use Rattle.path_expr.specs.declared.cell.Cell.TheVariants as known
-use Rattle.path_expr.specs.declared.link.Link.{Link}
 use Rattle.path_expr.specs.Operations.{operations}
 use Rattle.path_expr.specs.PathExpr.{PathExpr}
 use Rattle.posing.specs.declared.log.Log.{Log}

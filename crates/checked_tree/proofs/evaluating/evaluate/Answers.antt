@@ -3,17 +3,16 @@ use Rattle.std.specs.List.{IsDistinct}
 use Rattle.std.specs.Rc.{rc_value}
 use Rattle.std.proofs.Common.{◌≡◌, ◌<◌, List, [], refl, sym, subst, ap, ◌∙◌}
 use Rattle.path_expr.specs.Walks.{IsGraph}
-use Rattle.posing.specs.Posing.{Done, Posing}
-use Rattle.posing.proofs.Following.{stops}
+use Rattle.posing.specs.Posing.{Done}
 use Rattle.posing.proofs.Steps.{in_other_words, value_first, at_end}
 use Rattle.polyhedra.specs.Vocabulary.{Vocabulary}
 use Rattle.checked_tree.specs.Graph.{Graph}
 use Rattle.checked_tree.specs.Evaluation.{evaluated}
-use Rattle.checked_tree.specs.Law.{IsEvaluated, AreFittedCells, CellsHold}
+use Rattle.checked_tree.specs.Law.{IsEvaluated}
 use Rattle.checked_tree.specs.Plan.{AreDistinct, IsPlanned}
 use Rattle.checked_tree.specs.ByNumber.{cell_by, evaluated_by}
 use Rattle.checked_tree.specs.Grown.{formulas_of, trees_of, AreGrown}
-use Rattle.checked_tree.specs.Growing.{bare_growth, entries_in, tree_cell, IsPlantable, AreGrowing, AreGrownCells}
+use Rattle.checked_tree.specs.Growing.{bare_growth, tree_cell, IsPlantable, AreGrowing, AreGrownCells}
 use Rattle.checked_tree.proofs.Growing.{growing-first}
 use Rattle.checked_tree.proofs.GrownCells.{planned-same, cells-grown, all-grown, formulas-same, grown-hold, grown-fit}
 use Rattle.checked_tree.proofs.Kept.{wanting, first_fails}

@@ -1,5 +1,4 @@
 use Rattle.std.proofs.Common.{refl, sym, ap, subst, ◌∙◌}
-use Rattle.posing.proofs.Steps.{at_end}
 use Rattle.checked_tree.specs.Graph.{Graph}
 use Rattle.checked_tree.specs.Grown.{formulas_of}
 use Rattle.checked_tree.specs.Law.{AreFittedCells, CellsHold}

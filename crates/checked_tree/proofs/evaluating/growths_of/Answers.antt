@@ -1,12 +1,11 @@
-use Rattle.std.specs.Prelude.{map, replicate, length, IfOk}
+use Rattle.std.specs.Prelude.{map, length, IfOk}
 use Rattle.std.specs.Rc.{rc_value}
-use Rattle.std.proofs.Common.{◌≡◌, [], ap, sym, subst, ◌∙◌}
+use Rattle.std.proofs.Common.{[], ap, sym, subst, ◌∙◌}
 use Rattle.posing.specs.Posing.{each}
-use Rattle.posing.proofs.Following.{stops}
 use Rattle.posing.proofs.Steps.{in_other_words}
 use Rattle.checked_tree.specs.Graph.{Graph}
 use Rattle.checked_tree.specs.ByNumber.{Entries, with_number, entries_of}
-use Rattle.checked_tree.specs.Growing.{bare_growth, entries_in, AreUnderWay, KeepsGrowing}
+use Rattle.checked_tree.specs.Growing.{entries_in, AreUnderWay, KeepsGrowing}
 use Rattle.checked_tree.proofs.Growing.{entries-bare}
 use Rattle.checked_tree.proofs.evaluating.growths_of.Goals as goal
 

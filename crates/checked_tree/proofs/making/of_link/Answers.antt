@@ -1,12 +1,12 @@
 use Rattle.std.specs.Prelude.{map}
 use Rattle.std.specs.Rc.{rc_value}
-use Rattle.std.proofs.Common.{◌≡◌, refl, sym, subst, ap, ◌∙◌}
+use Rattle.std.proofs.Common.{◌≡◌, sym, subst, ap, ◌∙◌}
 use Rattle.path_expr.specs.declared.link.Link.{Link}
 use Rattle.posing.proofs.Steps.{in_other_words}
 use Rattle.transition_formula.specs.Transition.{Transition, AreSolvable}
 use Rattle.polyhedra.specs.Laws.{HaveCanonicalRows}
 use Rattle.checked_tree.specs.declared.step.TreeStep.{TreeStep}
-use Rattle.checked_tree.specs.Graph.{Graph, link_at, leaf_at, vocabulary_at}
+use Rattle.checked_tree.specs.Graph.{Graph, link_at, vocabulary_at}
 use Rattle.checked_tree.specs.Evaluation.{leaf_formula}
 use Rattle.checked_tree.specs.Law.{IsEnd, IsFrom}
 use Rattle.checked_tree.specs.Tree.{Leaf, own_of, tree_of}

@@ -7,7 +7,7 @@ use Rattle.checked_tree.specs.declared.growth.Growth.{Growth}
 use Rattle.checked_tree.specs.declared.key.Key.{Key}
 use Rattle.checked_tree.specs.declared.key.Key.TheVariants as key
 use Rattle.checked_tree.specs.Graph.{Graph, bare_links}
-use Rattle.checked_tree.specs.ByNumber.{Entries, Entry, ends_by, formula_by, key_at, with_number}
+use Rattle.checked_tree.specs.ByNumber.{Entries, ends_by, formula_by, key_at, with_number}
 use Rattle.checked_tree.specs.Tree.{formula_of, tree_of}
 use Rattle.checked_tree.specs.Growing.{entries_in, IsGrowable, IsTreeBy}
 use Rattle.checked_tree.proofs.Growing.{entries-set}

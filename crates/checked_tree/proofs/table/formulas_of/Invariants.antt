@@ -1,4 +1,4 @@
-use Rattle.std.proofs.Common.{◌≡◌, ◌++◌, map, drop}
+use Rattle.std.proofs.Common.{◌≡◌, ◌++◌, drop}
 use Rattle.checked_tree.specs.Grown.{formulas_of}
 use Rattle.checked_tree.proofs.table.formulas_of.Given as goal
 

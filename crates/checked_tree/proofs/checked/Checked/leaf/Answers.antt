@@ -1,5 +1,5 @@
 use Rattle.std.specs.Prelude.{◌≤◌, length}
-use Rattle.std.proofs.Common.{refl, sym, ap, subst, ◌∙◌}
+use Rattle.std.proofs.Common.{sym, ap, subst, ◌∙◌}
 use Rattle.posing.proofs.Steps.{in_other_words}
 use Rattle.polyhedra.specs.Laws.{HaveCanonicalRows}
 use Rattle.checked_tree.specs.Evaluation.{leaf_formula}

@@ -1,5 +1,5 @@
 use Rattle.std.proofs.Common.{◌∙◌, subst}
-use Rattle.posing.proofs.Steps.{in_other_words, error_first}
+use Rattle.posing.proofs.Steps.{in_other_words}
 use Rattle.polyhedra.specs.Laws.{HaveCanonicalRows}
 use Rattle.recurrence.specs.Star.{star_of}
 use Rattle.checked_tree.specs.Tree.{tree_of}
