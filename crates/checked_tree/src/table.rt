@@ -126,7 +126,7 @@ fn cell_by(growths: &[Growth], cell: &Cell<usize>) -> Result<Cell<Checked>, Allo
 }
 
 /// The formulas of what stands at each node.
-pub(crate) fn formulas_of(
+pub fn formulas_of(
     alloc: Global,
     cells: &[Cell<Checked>],
 ) -> Result<Items<Cell<Formula>>, AllocError>

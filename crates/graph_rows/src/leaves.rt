@@ -113,7 +113,7 @@ fn may_be_known(program: &Program, proc: &Proc, formula: &Option<Formula>) -> bo
 }
 
 /// Whether formulas may be those that are known of the procedures.
-fn are_known(program: &Program, known: &[Option<Formula>]) -> bool
+pub(crate) fn are_known(program: &Program, known: &[Option<Formula>]) -> bool
     requires { IsWellFormed program.now }
     ensures { IsTrue result → AreKnown program.now known.now }
 {

@@ -1,7 +1,7 @@
 //! Worked rows for the libraries of graphs: how programs run, the flow graphs and the groups of their procedures, the
-//! vocabularies of procedures, the formulas of edges, and the paths of graphs. The rows of standard input have an
-//! empty line between two. A row is a line with its kind and what belongs to it, and then the text of a C program or
-//! of a graph. What is printed stands in `stdout` as another implementation gave it.
+//! vocabularies of procedures, the formulas of edges, the paths of graphs, and the trees of procedures. The rows of
+//! standard input have an empty line between two. A row is a line with its kind and what belongs to it, and then the
+//! text of a C program or of a graph. What is printed stands in `stdout` as another implementation gave it.
 #![tactic(auto)]
 
 mod ends;
@@ -12,6 +12,7 @@ mod paths;
 mod plans;
 mod programs;
 mod runs;
+mod trees;
 
 use std::alloc::Global;
 use std::io;
@@ -29,6 +30,7 @@ fn told(alloc: Global, kind: &str, with: &str, given: &str) -> Option<String> {
         "plain" => paths::plain_text(alloc, given),
         "reach" => paths::reach_text(alloc, given, with),
         "plan" => plans::plan_text(alloc, given),
+        "trees" => trees::trees_text(alloc, given, with),
         _ => None,
     }
 }
@@ -52,6 +54,7 @@ fn call_laws() {
     leaves::laws();
     paths::laws();
     plans::laws();
+    trees::laws();
 }
 
 fn main(rt: HostRuntime) -> io::Result<()> {

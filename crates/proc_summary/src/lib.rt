@@ -11,7 +11,7 @@ mod stops;
 mod summary;
 
 pub use laws::law_of_alike_procedures;
-pub use nodes::cells;
+pub use nodes::{cells, trees};
 pub use stop::{Flow, Stop};
 pub use stops::{flow, formula_at};
 pub use summary::{exit_summary, project};

@@ -1,4 +1,6 @@
 ghost use Rattle.std.specs.Prelude.{◌≡◌, ◌<◌, Some, length, slice_get, IfOk};
+ghost use Rattle.posing.specs.Logs.{loss_notes, with_notes};
+ghost use Rattle.checked_tree.specs.Grown.{AreGrown, formulas_of, result_map, trees_of};
 ghost use Rattle.syntax_tree.specs.WellFormed.{IsWellFormed};
 ghost use Rattle.posing.specs.Follows.{Follows};
 ghost use Rattle.leaf_cases.specs.Conditions.{AreKnown};
@@ -10,7 +12,7 @@ ghost use Rattle.proc_summary.specs.Claims.{HoldsOfWalks};
 ghost use Rattle.proc_summary.specs.Parts.{IsGraphOf};
 
 use crate::edges::{graph_of, parts_of};
-use checked_tree::evaluate_formulas;
+use checked_tree::{Checked, evaluate, formulas_of};
 use farkas_check::Oracle;
 use flow_graph::Graph;
 use items::Items;
@@ -44,8 +46,30 @@ pub fn cells<O: Oracle>(
     cells_of(alloc, program, proc, &graph, known, source, oracle, log)
 }
 
-/// The same, by the procedure's graph.
-#[tactic(auto, using(posing::proofs::Following::following), unfolding(crate::specs::Flow::cells_from))]
+/// The trees that stand at the nodes of a procedure's graph, from a source among its nodes: what holds there, and at each
+/// step the answers that show it. Their formulas are those of `cells`, under the same answers.
+#[tactic(auto, using(posing::proofs::Following::following))]
+pub fn trees<O: Oracle>(
+    alloc: Global,
+    program: &Program,
+    proc: u32,
+    known: &[Option<Formula>],
+    source: u32,
+    oracle: &mut O,
+    log: &mut Log,
+) -> Result<Items<Cell<Checked>>, WorkError>
+    requires formed { IsWellFormed program.now }
+    requires procedure { proc < length program.now.procs }
+    requires known { AreKnown program.now known.now }
+    requires source { (p : Procedure) → slice_get program.now.procs proc ≡ Some p → source < (own_graph p).nodes }
+    ensures follows { (p : Procedure) → slice_get program.now.procs proc ≡ Some p → Follows O.asking oracle.old oracle.new log.old log.new (result_map formulas_of result) (cells_from (subject_of program.now p known.now) source) }
+    ensures grown { (p : Procedure) → slice_get program.now.procs proc ≡ Some p → IfOk result (λ cells. AreGrown (graph_by (subject_of program.now p known.now)) source (with_notes log.old (loss_notes (subject_of program.now p known.now).lost)) log.new (trees_of cells)) }
+{
+    let graph = graph_of(alloc, program, proc)?;
+    trees_in(alloc, program, proc, &graph, known, source, oracle, log)
+}
+
+/// What stands at each node, by the procedure's graph.
 pub(crate) fn cells_of<O: Oracle>(
     alloc: Global,
     program: &Program,
@@ -65,9 +89,36 @@ pub(crate) fn cells_of<O: Oracle>(
     ensures fits { (p : Procedure) → slice_get program.now.procs proc ≡ Some p → IfOk result (AreFittedCells (graph_by (subject_of program.now p known.now)) source) }
     ensures holds { (p : Procedure) → slice_get program.now.procs proc ≡ Some p → IfOk result (HoldsOfWalks program.now p known.now source) }
 {
+    let trees = trees_in(alloc, program, proc, graph, known, source, oracle, log)?;
+    let cells = formulas_of(alloc, trees.as_slice())?;
+    Ok(cells)
+}
+
+/// The trees, by the procedure's graph.
+#[tactic(auto, using(posing::proofs::Following::following), unfolding(crate::specs::Flow::cells_from))]
+fn trees_in<O: Oracle>(
+    alloc: Global,
+    program: &Program,
+    proc: u32,
+    graph: &Graph,
+    known: &[Option<Formula>],
+    source: u32,
+    oracle: &mut O,
+    log: &mut Log,
+) -> Result<Items<Cell<Checked>>, WorkError>
+    requires formed { IsWellFormed program.now }
+    requires procedure { proc < length program.now.procs }
+    requires graph { IsGraphOf program.now proc graph.now }
+    requires known { AreKnown program.now known.now }
+    requires source { source < graph.now.nodes }
+    ensures follows { (p : Procedure) → slice_get program.now.procs proc ≡ Some p → Follows O.asking oracle.old oracle.new log.old log.new (result_map formulas_of result) (cells_from (subject_of program.now p known.now) source) }
+    ensures grown { (p : Procedure) → slice_get program.now.procs proc ≡ Some p → IfOk result (λ cells. AreGrown (graph_by (subject_of program.now p known.now)) source (with_notes log.old (loss_notes (subject_of program.now p known.now).lost)) log.new (trees_of cells)) }
+    ensures fits { (p : Procedure) → slice_get program.now.procs proc ≡ Some p → IfOk result (λ cells. AreFittedCells (graph_by (subject_of program.now p known.now)) source (formulas_of cells)) }
+    ensures holds { (p : Procedure) → slice_get program.now.procs proc ≡ Some p → IfOk result (λ cells. HoldsOfWalks program.now p known.now source (formulas_of cells)) }
+{
     let parts = parts_of(alloc, program, proc, graph, known)?;
     log.add_losses(alloc, parts.lost.as_slice())?;
-    evaluate_formulas(
+    evaluate(
         alloc,
         parts.links.as_slice(),
         parts.leaves.as_slice(),

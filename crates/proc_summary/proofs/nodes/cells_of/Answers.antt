@@ -1,63 +1,26 @@
-use Rattle.std.proofs.Common.{◌≡◌, ◌<◌, ◌^◌, ◌∙◌, Ok, Err, ap, length, sym, subst}
-use Rattle.std.specs.Prelude.{Result, IfOk}
-use Rattle.posing.specs.Logs.{loss_notes}
-use Rattle.posing.proofs.Steps.{in_other_words, notes_first}
-use Rattle.checked_tree.specs.Evaluation.{evaluated}
-use Rattle.checked_tree.specs.Graph.{graph_of}
-use Rattle.checked_tree.specs.Law.{AreFittedCells, CellsHold, IsEvaluated}
+use Rattle.std.proofs.Common.{refl, sym, ap, subst, ◌∙◌}
+use Rattle.checked_tree.specs.Grown.{formulas_of}
+use Rattle.checked_tree.specs.Law.{AreFittedCells}
+use Rattle.checked_tree.proofs.Kept.{error_in_other_words, as_value, halts_plain}
 use Rattle.proc_summary.specs.Claims.{HoldsOfWalks}
-use Rattle.proc_summary.specs.Flow.{cells_from}
-use Rattle.proc_summary.specs.Parts.{graph_of_parts}
-use Rattle.proc_summary.proofs.Below.{some_at}
-use Rattle.proc_summary.proofs.Graphs.{few-links, few-nodes, graph-made, parts-evaluated, parts-hold}
+use Rattle.proc_summary.specs.Subject.{graph_by, subject_of}
 use Rattle.proc_summary.proofs.nodes.cells_of.Goals as goal
 
-pub evaluate_formulas-requires-clause-graph : goal.evaluate_formulas-requires-clause-graph
-evaluate_formulas-requires-clause-graph g c =
-    let there = some_at c.args.program.now.procs c.args.proc c.requires.procedure in
-    let same : graph_of c.as_slice-2.result.now c.as_slice-3.result.now c.as_slice-4.result.now ≡ graph_of_parts c.in_ok-parts.parts =
-    λ i. record { links = c.as_slice-2.ensures i; leaves = c.as_slice-3.ensures i; nodes = c.as_slice-4.ensures i } in
-    subst (λ h. IsEvaluated h c.args.source) (sym same)
-    (parts-evaluated c.args.program.now c.args.proc there.0 c.args.known.now there.1 c.args.graph.now c.requires.graph c.in_ok-parts.parts (c.in_ok-parts.ensures.made there.0 there.1) c.requires.formed c.requires.known c.in_ok-parts.ensures.fit c.args.source c.requires.source)
+pub returns-in_err-trees-clause-follows : goal.returns-in_err-trees-clause-follows
+returns-in_err-trees-clause-follows g c = λ p is. error_in_other_words (c.in_err-trees.ensures.follows p is) refl c.from_residual.ensures.1
 
-pub evaluate_formulas-requires-clause-few_links : goal.evaluate_formulas-requires-clause-few_links
-evaluate_formulas-requires-clause-few_links g c =
-    let there = some_at c.args.program.now.procs c.args.proc c.requires.procedure in
-    subst (λ links. length links < 2 ^ 32) (sym c.as_slice-2.ensures)
-    (few-links c.args.program.now c.args.proc there.0 c.args.known.now there.1 c.args.graph.now c.requires.graph c.in_ok-parts.parts (c.in_ok-parts.ensures.made there.0 there.1) c.requires.formed)
-
-pub evaluate_formulas-requires-clause-few_nodes : goal.evaluate_formulas-requires-clause-few_nodes
-evaluate_formulas-requires-clause-few_nodes g c =
-    let there = some_at c.args.program.now.procs c.args.proc c.requires.procedure in
-    subst (λ nodes. length nodes < 2 ^ 32) (sym c.as_slice-4.ensures)
-    (few-nodes c.args.program.now c.args.proc there.0 c.args.known.now there.1 c.args.graph.now c.requires.graph c.in_ok-parts.parts (c.in_ok-parts.ensures.made there.0 there.1) c.requires.formed)
+pub returns-in_err-cells-clause-follows : goal.returns-in_err-cells-clause-follows
+returns-in_err-cells-clause-follows g c = λ p is. halts_plain (c.in_ok-trees.ensures.follows p is) c.from_residual-in_err-cells.result c.from_residual-in_err-cells.ensures.1
 
 pub returns-clause-follows : goal.returns-clause-follows
-unfolding cells_from
-returns-clause-follows g c = λ p is.
-    let made = c.in_ok-parts.ensures.made p is in
-    let same : graph_of c.as_slice-2.result.now c.as_slice-3.result.now c.as_slice-4.result.now ≡ graph_of_parts c.in_ok-parts.parts =
-    λ i. record { links = c.as_slice-2.ensures i; leaves = c.as_slice-3.ensures i; nodes = c.as_slice-4.ensures i } in
-    notes_first c.in_ok-add_losses.ensures (ap loss_notes (c.as_slice.ensures ∙ made.lost))
-    (in_other_words (ap (λ h. evaluated h c.args.source) (same ∙ graph-made c.args.program.now c.args.proc p c.args.known.now is c.args.graph.now c.requires.graph c.in_ok-parts.parts made)) c.evaluate_formulas.ensures.follows)
+returns-clause-follows g c = λ p is. as_value (c.in_ok-cells.ensures ∙ ap formulas_of c.as_slice.ensures) (c.in_ok-trees.ensures.follows p is)
 
 pub returns-clause-fits : goal.returns-clause-fits
 returns-clause-fits g c = λ p is.
-    let made = c.in_ok-parts.ensures.made p is in
-    let same : graph_of c.as_slice-2.result.now c.as_slice-3.result.now c.as_slice-4.result.now ≡ graph_of_parts c.in_ok-parts.parts =
-    λ i. record { links = c.as_slice-2.ensures i; leaves = c.as_slice-3.ensures i; nodes = c.as_slice-4.ensures i } in
-    subst (λ h. IfOk c.evaluate_formulas.result (AreFittedCells h c.args.source))
-    (same ∙ graph-made c.args.program.now c.args.proc p c.args.known.now is c.args.graph.now c.requires.graph c.in_ok-parts.parts made) c.evaluate_formulas.ensures.fits
-
-if_ok-more : {A E : Type 0} (P Q : A → Type 0) (r : Result A E) → ((x : A) → P x → Q x) → IfOk r P → IfOk r Q
-if_ok-more P Q (Ok x) more h = more x h
-if_ok-more P Q (Err e) more h = tt
+    subst (AreFittedCells (graph_by (subject_of c.args.program.now p c.args.known.now)) c.args.source)
+    (sym (c.in_ok-cells.ensures ∙ ap formulas_of c.as_slice.ensures)) (c.in_ok-trees.ensures.fits p is)
 
 pub returns-clause-holds : goal.returns-clause-holds
 returns-clause-holds g c = λ p is.
-    let made = c.in_ok-parts.ensures.made p is in
-    let same : graph_of c.as_slice-2.result.now c.as_slice-3.result.now c.as_slice-4.result.now ≡ graph_of_parts c.in_ok-parts.parts =
-    λ i. record { links = c.as_slice-2.ensures i; leaves = c.as_slice-3.ensures i; nodes = c.as_slice-4.ensures i } in
-    if_ok-more (CellsHold (graph_of c.as_slice-2.result.now c.as_slice-3.result.now c.as_slice-4.result.now) c.args.source) (HoldsOfWalks c.args.program.now p c.args.known.now c.args.source) c.evaluate_formulas.result
-    (λ cells hold. parts-hold c.args.program.now c.args.proc p c.args.known.now is c.args.graph.now c.requires.graph c.in_ok-parts.parts made c.requires.formed c.requires.known c.in_ok-parts.ensures.fit c.args.source c.requires.source cells
-    (subst (λ h. CellsHold h c.args.source cells) same hold)) c.evaluate_formulas.ensures.holds
+    subst (HoldsOfWalks c.args.program.now p c.args.known.now c.args.source)
+    (sym (c.in_ok-cells.ensures ∙ ap formulas_of c.as_slice.ensures)) (c.in_ok-trees.ensures.holds p is)
