@@ -4,6 +4,8 @@
 
 pub mod execution_calls;
 pub mod graph_calls;
+pub mod lexer_calls;
 pub mod parser_calls;
+pub mod replay_calls;
 pub mod syntax_calls;
 pub mod typing_calls;

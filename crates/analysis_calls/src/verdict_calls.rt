@@ -1,0 +1,81 @@
+ghost use Rattle.std.specs.Prelude.{◌≡◌, ◌<◌, Ok, Some, length, slice_get, IfOk};
+ghost use Rattle.syntax_tree.specs.WellFormed.{IsWellFormed};
+ghost use Rattle.syntax_tree.specs.declared.program.Proc.{Proc as Procedure};
+ghost use Rattle.execution.specs.Execution.{Fails};
+ghost use Rattle.flow_graph.specs.FlowGraph.{CheckPlace};
+ghost use Rattle.transition_formula.specs.Transition.{AreSolvable};
+ghost use Rattle.posing.specs.Follows.{Follows};
+ghost use Rattle.vocabularies.specs.Ends.{entry_width};
+ghost use Rattle.proc_summary.specs.declared.stop.Stop.{Stop};
+ghost use Rattle.proc_summary.specs.Claims.{FitsFlow, FlowHolds};
+ghost use Rattle.proc_summary.specs.Subject.{own_graph};
+ghost use Rattle.report.specs.declared.verdict.Verdict.TheVariants.{Proved};
+ghost use Rattle.context.specs.Claims.{AreEntries, AreFlows, EntriesHold, EntryHolds, FitsVerdict, FlowsHold, IsEntryIf, IsRefuted};
+ghost use Rattle.context.specs.Entries.{entries_from};
+ghost use Rattle.context.specs.Judging.{IsVerdictOnAll};
+ghost use Rattle.context.specs.Verdicts.{judged_from, place_of, shown_of, verdict_of};
+
+use farkas_check::Oracle;
+use items::Items;
+use linear_terms::Case;
+use posing::{Log, WorkError};
+use proc_summary::Flow;
+use report::Verdict;
+use std::alloc::Global;
+use syntax_tree::Program;
+use transition_formula::Formula;
+
+/// The entry of each procedure, by the flows of all.
+pub fn entries<O: Oracle>(
+    alloc: Global,
+    program: &Program,
+    flows: &[Flow],
+    oracle: &mut O,
+    log: &mut Log,
+) -> Result<Items<Option<Formula>>, WorkError>
+    requires formed { IsWellFormed program.now }
+    requires flows { AreFlows program.now flows.now }
+    ensures follows { Follows O.asking oracle.old oracle.new log.old log.new result (entries_from program.now flows.now) }
+    ensures fits { IfOk result (AreEntries program.now) }
+    ensures holds { FlowsHold program.now flows.now → IfOk result (EntriesHold program.now) }
+{
+    context::entries(alloc, program, flows, oracle, log)
+}
+
+/// The verdict on an assertion of a procedure.
+pub fn verdict<O: Oracle>(
+    alloc: Global,
+    program: &Program,
+    proc: u32,
+    check: u32,
+    entry: &Option<Formula>,
+    flow: &Flow,
+    oracle: &mut O,
+    log: &mut Log,
+) -> Result<Verdict, WorkError>
+    requires formed { IsWellFormed program.now }
+    requires procedure { proc < length program.now.procs }
+    requires assertion { check < length flow.now.checks }
+    requires flow { (p : Procedure) → slice_get program.now.procs proc ≡ Some p → FitsFlow program.now p flow.now }
+    requires entry { (p : Procedure) → slice_get program.now.procs proc ≡ Some p → IsEntryIf (entry_width program.now p) entry.now }
+    ensures follows { (p : Procedure) (at : CheckPlace) (stop : Stop) → slice_get program.now.procs proc ≡ Some p → slice_get (own_graph p).checks check ≡ Some at → slice_get flow.now.checks check ≡ Some stop → Follows O.asking oracle.old oracle.new log.old log.new result (verdict_of (place_of program.now p) at.cond entry.now stop.formula) }
+    ensures sound { (p : Procedure) (at : CheckPlace) → slice_get program.now.procs proc ≡ Some p → slice_get (own_graph p).checks check ≡ Some at → EntryHolds program.now proc entry.now → FlowHolds program.now proc flow.now → result ≡ Ok Proved → Fails program.now at.number → ⊥ }
+    ensures refuted { IfOk result IsRefuted }
+    ensures fits { (p : Procedure) → slice_get program.now.procs proc ≡ Some p → IfOk result (FitsVerdict (length (shown_of program.now p))) }
+{
+    context::verdict(alloc, program, proc, check, entry, flow, oracle, log)
+}
+
+/// The verdict on cases in which an assertion would fail.
+pub fn judged<O: Oracle>(
+    alloc: Global,
+    cases: &[Case],
+    oracle: &mut O,
+    log: &mut Log,
+) -> Result<Verdict, WorkError>
+    requires { AreSolvable cases.now }
+    ensures follows { Follows O.asking oracle.old oracle.new log.old log.new result (judged_from cases.now) }
+    ensures known { IfOk result (IsVerdictOnAll cases.now) }
+{
+    context::judged(alloc, cases, oracle, log)
+}
