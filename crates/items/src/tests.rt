@@ -105,26 +105,44 @@ fn fork(alloc: Global, leaves: &[u8]) -> Result<Tree, AllocError> {
 }
 
 #[test]
-fn lists(rt: HostRuntime) -> Result<(), Fail> {
+fn lists_grow_and_shrink(rt: HostRuntime) -> Result<(), Fail> {
     let mut list = Items::from_slice(rt.alloc(), &[3u8, 1])?;
     assert_eq!(rt; list.pop(), Some(1));
     list.push(4)?;
     list.append(Items::from_vec(vec![in rt.alloc(); 1, 5]?))?;
+    assert_eq!(rt; list.into_vec().as_slice(), [3, 4, 1, 5].as_slice());
+    Ok(())
+}
+
+#[test]
+fn lists_are_slices(rt: HostRuntime) -> Result<(), Fail> {
+    let list = Items::from_slice(rt.alloc(), &[3u8, 4, 1, 5])?;
     assert_eq!(rt; list.as_slice(), [3, 4, 1, 5].as_slice());
     assert_eq!(rt; AsSlice::as_slice(&list), [3, 4, 1, 5].as_slice());
     assert_eq!(rt; list.len(), 4);
     assert!(rt; !list.is_empty() && Items::<u8>::new(rt.alloc()).is_empty());
     assert_eq!(rt; list.iter().filter(|x| **x > 2).count(), 3);
     assert_eq!(rt; list.first(), Some(&3));
-    let mut seen = Vec::new(rt.alloc());
-    for x in &list {
+    Ok(())
+}
+
+/// The elements that a loop over the list sees, and then those that a loop takes out of a copy.
+fn seen_twice(alloc: Global, list: &Items<u8>) -> Result<Items<u8>, AllocError> {
+    let mut seen = Items::new(alloc);
+    for x in list {
         seen.push(*x)?;
     }
     for x in list.clone()? {
         seen.push(x)?;
     }
-    assert_eq!(rt; seen.as_slice(), [3, 4, 1, 5, 3, 4, 1, 5].as_slice());
-    assert_eq!(rt; list.into_vec().as_slice(), [3, 4, 1, 5].as_slice());
+    Ok(seen)
+}
+
+#[test]
+fn loops_go_over_lists(rt: HostRuntime) -> Result<(), Fail> {
+    let list = Items::from_slice(rt.alloc(), &[3u8, 4, 1])?;
+    let seen = seen_twice(rt.alloc(), &list)?;
+    assert_eq!(rt; seen.as_slice(), [3, 4, 1, 3, 4, 1].as_slice());
     Ok(())
 }
 
@@ -144,15 +162,27 @@ fn boxes(rt: HostRuntime) -> Result<(), Fail> {
 #[test]
 fn trees_compare_by_content(rt: HostRuntime) -> Result<(), Fail> {
     let small = fork(rt.alloc(), &[1, 2])?;
-    let same = small.clone()?;
+    assert_eq!(rt; small, small.clone()?);
     let large = Tree::Under(Boxed::new(rt.alloc(), fork(rt.alloc(), &[1, 3])?)?);
-    assert_eq!(rt; small, same);
     assert_ne!(rt; small, large);
+    Ok(())
+}
+
+#[test]
+fn trees_are_ordered_by_content(rt: HostRuntime) -> Result<(), Fail> {
+    let small = fork(rt.alloc(), &[1, 2])?;
     assert_eq!(rt; small.cmp(&fork(rt.alloc(), &[1, 3])?), Ordering::Less);
     assert_eq!(rt;
         fork(rt.alloc(), &[2])?.partial_cmp(&small),
         Some(Ordering::Greater)
     );
+    Ok(())
+}
+
+#[test]
+fn trees_are_hashed_by_content(rt: HostRuntime) -> Result<(), Fail> {
+    let small = fork(rt.alloc(), &[1, 2])?;
+    let same = fork(rt.alloc(), &[1, 2])?;
     assert_eq!(rt; hash_of(&small), hash_of(&same));
     Ok(())
 }
