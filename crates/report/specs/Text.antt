@@ -1,16 +1,15 @@
 -- The text of a report.
-use Rattle.std.specs.Prelude.{ℕ, ℤ, pos, ◌+◌, ◌-◌, Bool, true, false, ◌==◌, ◌&&◌, nat_lt, int_lt, unsigned_abs, decimal, Option, None, Some, List, [], ◌∷◌, ◌++◌, length, codes, map, take, if◌then◌else◌, slice_get, slice_index_or}
-use Rattle.std.specs.List.{flat_map, join_by, count_by, list_any, range_with_len}
+use Rattle.std.specs.Prelude.{ℕ, ℤ, pos, ◌+◌, ◌-◌, Bool, true, false, ◌&&◌, nat_lt, decimal, Option, None, Some, List, [], ◌∷◌, ◌++◌, length, codes, map, take, if◌then◌else◌, slice_get, slice_index_or}
+use Rattle.std.specs.List.{flat_map, count_by, list_any, range_with_len}
 use Rattle.std.specs.Str.{bytes_eq}
 use Rattle.std.specs.Ordering.{int_eq}
 use Rattle.std.specs.Fmt.{signed_decimal}
 use Rattle.linear_terms.specs.declared.col.Col.{Col}
 use Rattle.linear_terms.specs.declared.col.Col.TheVariants.{At, Aux}
-use Rattle.linear_terms.specs.declared.row.Kind.{Kind}
-use Rattle.linear_terms.specs.declared.row.Kind.TheVariants.{AtMost, Equal}
 use Rattle.linear_terms.specs.declared.row.Row.{Row}
 use Rattle.linear_terms.specs.declared.row.Case.{Case}
-use Rattle.linear_terms.specs.Polynomial.{Terms, Polynomial}
+use Rattle.linear_terms.specs.Polynomial.{Polynomial}
+use Rattle.linear_terms.specs.Texts.{mono_text, poly_text, row_text}
 use Rattle.transition_formula.specs.declared.loss.Loss.{Loss}
 use Rattle.transition_formula.specs.declared.loss.Loss.TheVariants as loss
 use Rattle.farkas_check.specs.declared.answer.Limit.{Limit}
@@ -35,51 +34,12 @@ Names = List (List ℕ)
 abbrev pub name_at : Names → ℕ → List ℕ
 name_at names i = slice_index_or names i []
 
--- ---- polynomials: terms in print order, joined by ` + ` and ` - `
+-- ---- columns, by which polynomials and rows are written as everywhere
 
 -- a column by its name, and an auxiliary by its number from 1
 abbrev pub column_text : Names → Col → List ℕ
 column_text names (At number) = name_at names number
 column_text names (Aux number) = codes "$" ++ decimal (number + 1)
-
--- the columns of a monomial, which has one at least
-abbrev pub mono_text : Names → List Col → List ℕ
-mono_text names m = join_by (column_text names) (codes "*") m
-
--- a monomial with a number without its sign; a number 1 before columns is left out
-abbrev pub factor_text : Names → List Col → ℕ → List ℕ
-factor_text names [] n = decimal n
-factor_text names (c ∷ m) n = (if n == 1 then [] else decimal n ++ codes "*") ++ mono_text names (c ∷ m)
-
--- the sign of a term, which is the first or not, of a number that is negative or not
-abbrev pub sign_text : Bool → Bool → List ℕ
-sign_text true true = codes "-"
-sign_text true false = []
-sign_text false true = codes " - "
-sign_text false false = codes " + "
-
-abbrev pub term_text : Names → Bool → List Col × ℤ → List ℕ
-term_text names first t = sign_text first (int_lt t.1 (pos 0)) ++ factor_text names t.0 (unsigned_abs t.1)
-
-abbrev pub terms_text : Names → Terms → List ℕ
-terms_text names [] = []
-terms_text names (t ∷ ts) = term_text names true t ++ flat_map (term_text names false) ts
-
--- the constant stands last; a zero is left out unless it stands alone
-abbrev pub rest_text : Names → Terms → ℤ → List ℕ
-rest_text names [] z = term_text names true ([], z)
-rest_text names (t ∷ ts) z = if int_eq z (pos 0) then [] else term_text names false ([], z)
-
-abbrev pub poly_text : Names → Polynomial → List ℕ
-poly_text names p = terms_text names p.terms ++ rest_text names p.terms p.rest
-
-abbrev pub relation_text : Kind → List ℕ
-relation_text AtMost = codes " <= 0"
-relation_text Equal = codes " = 0"
-
--- a row, which says that its polynomial is at most zero, or is zero
-abbrev pub row_text : Names → Row → List ℕ
-row_text names row = poly_text names row.poly ++ relation_text row.kind
 
 -- ---- points and limits
 
@@ -88,7 +48,7 @@ abbrev pub ratio_text : Fraction → List ℕ
 ratio_text z = signed_decimal z.num ++ (if int_eq z.den (pos 1) then [] else codes "/" ++ signed_decimal z.den)
 
 abbrev pub value_text : Names → List Col → Fraction → List ℕ
-value_text names m z = mono_text names m ++ codes " = " ++ ratio_text z
+value_text names m z = mono_text (column_text names) m ++ codes " = " ++ ratio_text z
 
 -- the numbers of the monomials that are left
 abbrev pub more_values : Names → List (List Col) → List Fraction → List ℕ
@@ -154,13 +114,16 @@ abbrev pub witness_text : Names → Witness → List ℕ
 witness_text names (witness.Point of at) = point_text names of at
 witness_text names (witness.Limit l) = limit_text l
 
+-- a row that was dropped, and what speaks against it
+unfoldable pub dropped_text : Names → Row → Witness → List ℕ
+dropped_text names row by = codes "dropped " ++ row_text (column_text names) row ++ codes " " ++ witness_text names by
+
 abbrev pub note_text : List ProcBlock → Note → List ℕ
 note_text blocks (note.Loss l) = loss_text l
 note_text blocks (note.Squash n) = codes "squash " ++ decimal n ++ codes " cases"
 note_text blocks (note.Cut n) = codes "cut " ++ decimal n ++ codes " rows"
 note_text blocks (note.Limit l) = limit_text l
-note_text blocks (note.Dropped proc row by) =
-    codes "dropped " ++ row_text (names_of blocks proc) row ++ codes " " ++ witness_text (names_of blocks proc) by
+note_text blocks (note.Dropped proc row by) = dropped_text (names_of blocks proc) row by
 note_text blocks note.Facets = codes "facets beyond"
 
 abbrev pub note_line : List ProcBlock → Note → List ℕ
@@ -169,10 +132,10 @@ note_line blocks n = codes "note " ++ note_text blocks n ++ codes "\n"
 -- ---- procedures
 
 abbrev pub row_line : Names → Row → List ℕ
-row_line names row = codes "  " ++ row_text names row ++ codes "\n"
+row_line names row = codes "  " ++ row_text (column_text names) row ++ codes "\n"
 
 abbrev pub post_line : Names → List ℕ → Polynomial → List ℕ
-post_line names name p = codes "  " ++ name ++ codes " = " ++ poly_text names p ++ codes "\n"
+post_line names name p = codes "  " ++ name ++ codes " = " ++ poly_text (column_text names) p ++ codes "\n"
 
 -- the posts from number i on, each behind the name that it has by its number
 abbrev pub post_lines : Names → (ℕ → List ℕ) → ℕ → List Polynomial → List ℕ

@@ -1,6 +1,6 @@
 ghost use Rattle.std.specs.Prelude.{◌++◌, codes, decimal};
 ghost use Rattle.std.specs.List.{flat_map};
-ghost use Rattle.report.specs.Text.{limit_text, loss_text, note_line, note_text, row_text, witness_text};
+ghost use Rattle.report.specs.Text.{dropped_text, limit_text, loss_text, note_line, note_text, witness_text};
 ghost use Rattle.report.specs.Appends.{Appends};
 
 use crate::ProcBlock;
@@ -43,8 +43,9 @@ impl Text {
         }
     }
 
+    #[tactic(auto, unfolding(crate::specs::Text::dropped_text))]
     fn put_dropped(&mut self, names: &[Text], row: &Row, by: &Witness) -> Result<(), AllocError>
-        ensures { Appends self.old self.new result (codes "dropped " ++ row_text names.now row.now ++ codes " " ++ witness_text names.now by.now) }
+        ensures { Appends self.old self.new result (dropped_text names.now row.now by.now) }
     {
         self.put("dropped ")?;
         self.put_row(names, row)?;

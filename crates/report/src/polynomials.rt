@@ -1,5 +1,6 @@
 ghost use Rattle.std.specs.Prelude.{◌++◌, [], codes};
-ghost use Rattle.report.specs.Text.{column_text, factor_text, mono_text, name_at, point_text, more_values, poly_text, relation_text, rest_text, row_text, sign_text, term_text, terms_text, value_text};
+ghost use Rattle.linear_terms.specs.Texts.{constant_text, mono_text, poly_text, rest_text, row_text, sign_text, size_text, term_text, terms_text};
+ghost use Rattle.report.specs.Text.{column_text, name_at, point_text, more_values, value_text};
 ghost use Rattle.report.specs.Appends.{Appends};
 
 use crate::text::Text;
@@ -30,7 +31,7 @@ impl Text {
     }
 
     fn put_mono(&mut self, names: &[Text], columns: &[Col]) -> Result<(), AllocError>
-        ensures { Appends self.old self.new result (mono_text names.now columns.now) }
+        ensures { Appends self.old self.new result (mono_text (column_text names.now) columns.now) }
     {
         let Some((first, more)) = columns.split_first() else {
             return Ok(());
@@ -43,17 +44,15 @@ impl Text {
         Ok(())
     }
 
-    fn put_factor(&mut self, names: &[Text], columns: &[Col], n: u128) -> Result<(), AllocError>
-        ensures { Appends self.old self.new result (factor_text names.now columns.now n) }
+    /// A number before columns; 1 is left out.
+    fn put_size(&mut self, n: u128) -> Result<(), AllocError>
+        ensures { Appends self.old self.new result (size_text n) }
     {
-        if columns.is_empty() {
-            return self.put_count(n);
-        }
         if n != 1 {
             self.put_count(n)?;
             self.put("*")?;
         }
-        self.put_mono(names, columns)
+        Ok(())
     }
 
     fn put_sign(&mut self, first: bool, negative: bool) -> Result<(), AllocError>
@@ -74,14 +73,22 @@ impl Text {
         columns: &[Col],
         number: i128,
     ) -> Result<(), AllocError>
-        ensures { Appends self.old self.new result (term_text names.now first (columns.now, number)) }
+        ensures { Appends self.old self.new result (term_text (column_text names.now) first (columns.now, number)) }
     {
         self.put_sign(first, number < 0)?;
-        self.put_factor(names, columns, number.unsigned_abs())
+        self.put_size(number.unsigned_abs())?;
+        self.put_mono(names, columns)
+    }
+
+    fn put_constant(&mut self, first: bool, number: i128) -> Result<(), AllocError>
+        ensures { Appends self.old self.new result (constant_text first number) }
+    {
+        self.put_sign(first, number < 0)?;
+        self.put_count(number.unsigned_abs())
     }
 
     fn put_terms(&mut self, names: &[Text], terms: &[(Mono, i128)]) -> Result<(), AllocError>
-        ensures { Appends self.old self.new result (terms_text names.now terms.now) }
+        ensures { Appends self.old self.new result (terms_text (column_text names.now) terms.now) }
     {
         let Some(((mono, number), more)) = terms.split_first() else {
             return Ok(());
@@ -93,32 +100,27 @@ impl Text {
         Ok(())
     }
 
-    fn put_rest(
-        &mut self,
-        names: &[Text],
-        terms: &[(Mono, i128)],
-        rest: i128,
-    ) -> Result<(), AllocError>
-        ensures { Appends self.old self.new result (rest_text names.now terms.now rest) }
+    fn put_rest(&mut self, terms: &[(Mono, i128)], rest: i128) -> Result<(), AllocError>
+        ensures { Appends self.old self.new result (rest_text terms.now rest) }
     {
         if terms.is_empty() {
-            self.put_term(names, true, &[], rest)
+            self.put_constant(true, rest)
         } else if rest == 0 {
             Ok(())
         } else {
-            self.put_term(names, false, &[], rest)
+            self.put_constant(false, rest)
         }
     }
 
     pub(crate) fn put_poly(&mut self, names: &[Text], poly: &Poly) -> Result<(), AllocError>
-        ensures { Appends self.old self.new result (poly_text names.now poly.now) }
+        ensures { Appends self.old self.new result (poly_text (column_text names.now) poly.now) }
     {
         self.put_terms(names, poly.terms())?;
-        self.put_rest(names, poly.terms(), poly.rest())
+        self.put_rest(poly.terms(), poly.rest())
     }
 
     pub(crate) fn put_row(&mut self, names: &[Text], row: &Row) -> Result<(), AllocError>
-        ensures { Appends self.old self.new result (row_text names.now row.now) }
+        ensures { Appends self.old self.new result (row_text (column_text names.now) row.now) }
     {
         self.put_poly(names, &row.poly)?;
         self.put(match row.kind {

@@ -1,6 +1,7 @@
 ghost use Rattle.std.specs.Prelude.{◌++◌, ◌+◌, [], codes, decimal};
 ghost use Rattle.std.specs.List.{flat_map};
-ghost use Rattle.report.specs.Text.{case_text, cases_from, cases_text, exit_name, poly_text, post_lines, proc_text, row_line};
+ghost use Rattle.linear_terms.specs.Texts.{poly_text};
+ghost use Rattle.report.specs.Text.{case_text, cases_from, cases_text, column_text, exit_name, post_lines, proc_text, row_line};
 ghost use Rattle.report.specs.Appends.{Appends};
 
 use crate::ProcBlock;
@@ -25,7 +26,7 @@ impl Text {
 
     /// The end of a post's line, behind its name.
     pub(crate) fn put_post(&mut self, names: &[Text], poly: &Poly) -> Result<(), AllocError>
-        ensures { Appends self.old self.new result (codes " = " ++ poly_text names.now poly.now ++ codes "\n") }
+        ensures { Appends self.old self.new result (codes " = " ++ poly_text (column_text names.now) poly.now ++ codes "\n") }
     {
         self.put(" = ")?;
         self.put_poly(names, poly)?;
