@@ -1,11 +1,12 @@
 -- What the verdict on an assertion is found by.
 --     check-within      its flow has a formula for where it stands
 --     asserted-is       the assertion by its entry and that formula
+--     stands-at         both, by what is read at the place of its procedure
 --     judged-next       verdicts, and one more
-use Rattle.std.proofs.Common.{◌≡◌, ℕ, ◌+◌, ◌<◌, ◌⊎◌, inl, inr, List, [], ◌∷◌, ◌++◌, length, sym, ap, subst, ◌∙◌, arith}
+use Rattle.std.proofs.Common.{◌≡◌, ℕ, ◌+◌, ◌<◌, ◌⊎◌, inl, inr, List, [], ◌∷◌, ◌++◌, length, get_or, sym, ap, subst, ◌∙◌, arith}
 use Rattle.std.specs.Prelude.{Option, Some, slice_get}
 use Rattle.std.proofs.lemmas.List.{length-map}
-use Rattle.std.proofs.lemmas.Option.{slice_get_within}
+use Rattle.std.proofs.lemmas.Option.{slice_get_read, slice_get_within}
 use Rattle.syntax_tree.specs.declared.program.Program.{Program}
 use Rattle.transition_formula.specs.Transition.{Transition}
 use Rattle.flow_graph.specs.FlowGraph.{CheckPlace, body_of, flow_of, graph_of}
@@ -13,6 +14,8 @@ use Rattle.proc_summary.specs.declared.stop.Flow.{Flow}
 use Rattle.proc_summary.specs.declared.stop.Stop.{Stop}
 use Rattle.proc_summary.specs.Claims.{FitsFlow}
 use Rattle.proc_summary.specs.Subject.{own_graph}
+use Rattle.proc_summary.proofs.Below.{some_at}
+use Rattle.context.specs.Claims.{AreEntries, AreFlows}
 use Rattle.report.specs.declared.blocks.Judged.{Judged}
 use Rattle.analysis.specs.declared.standing.CheckAt.{CheckAt}
 use Rattle.analysis.specs.Claims.{AreJudged, IsCheckOf, IsJudged}
@@ -34,6 +37,35 @@ module _ (program : Program) (c : CheckAt) (check : IsCheckOf program c) where
       let graph_is : slice_get (graph_of program c.proc).checks c.check ≡ Some check.at = ap (λ o. slice_get (flow_of (body_of o)).checks c.check) check.is ∙ check.at_is in
       let stop_is : slice_get (stops_in (slice_get flows c.proc)) c.check ≡ Some stop = ap (λ o. slice_get (stops_in o) c.check) is_flow ∙ is_stop in
       λ i. asserted_if program (check.is i) (graph_is i) (is_entry i) (stop_is i)
+
+-- what stands at the place of an assertion's procedure: its entry, its flow, and in that the formula of where it stands
+pub record StandsAt (program : Program) (c : CheckAt) (check : IsCheckOf program c) (entries : List (Option Transition)) (flows : List Flow) (entry : Option Transition) (flow : Flow) : Type 0 where
+  pub entry_is : slice_get entries c.proc ≡ Some entry
+  pub flow_is : slice_get flows c.proc ≡ Some flow
+  pub fits : FitsFlow program check.p flow
+  pub within : c.check < length flow.checks
+  pub stop : Stop
+  pub stop_is : slice_get flow.checks c.check ≡ Some stop
+  pub asserted : asserted_by program entries flows c ≡ Some (asserted_at program check.p check.at entry stop)
+
+pub stands-at : {program : Program} {c : CheckAt} {entries : List (Option Transition)} {flows : List Flow} {entry : Option Transition} {flow : Flow} (check : IsCheckOf program c) →
+    AreEntries program entries → AreFlows program flows → entry ≡ get_or entries c.proc entry → flow ≡ get_or flows c.proc flow → StandsAt program c check entries flows entry flow
+stands-at {program} {c} {entries} {flows} {entry} {flow} check are_entries are_flows entry_read flow_read =
+    let below = slice_get_within program.procs c.proc check.p check.is in
+    let entry_is = slice_get_read entries (length program.procs) c.proc entry (sym are_entries.each) below entry_read in
+    let flow_is = slice_get_read flows (length program.procs) c.proc flow (sym are_flows.each) below flow_read in
+    let fits = are_flows.fit c.proc check.p flow check.is flow_is in
+    let within = check-within program c check flow fits in
+    let stop = some_at flow.checks c.check within in
+    record {
+      entry_is = entry_is;
+      flow_is = flow_is;
+      fits = fits;
+      within = within;
+      stop = stop.0;
+      stop_is = stop.1;
+      asserted = asserted-is program c check entries flows entry flow stop.0 entry_is flow_is stop.1;
+    }
 
 pub judged-next : (program : Program) (made : List Judged) (judged : Judged) (n : ℕ) → length made ≡ n → AreJudged program made → IsJudged program (n + 1) judged → AreJudged program (made ++ judged ∷ [])
 judged-next program made judged n long are this place j e = go (push-get made judged place j e)

@@ -15,6 +15,7 @@ pub mod GrownCells
 pub mod Kept
 pub mod SameByNumber
 pub mod Numbered
+pub mod ReadyPlans
 -- ---- each operation is ready where it stands
 pub mod Swept
 pub mod Stands
