@@ -29,6 +29,15 @@ pub(crate) struct Declarations {
     pub(crate) least: Option<TypeError>,
 }
 
+/// Scopes of which one is open, without declarations.
+fn opened(alloc: Global) -> Result<Scopes, AllocError>
+    ensures { IfOk result (λ scopes. scopes ≡ [] ∷ []) }
+{
+    let mut scopes = Scopes::new(alloc);
+    scopes.open(alloc)?;
+    Ok(scopes)
+}
+
 impl Declarations {
     /// All declarations of a text.
     pub(crate) fn read(alloc: Global, items: &[Item]) -> Result<Declarations, AllocError>
@@ -51,10 +60,8 @@ impl Declarations {
         ensures procs { IfOk result (λ made. made.procs ≡ 0) }
         ensures least { IfOk result (λ made. made.least ≡ None) }
     {
-        let mut scopes = Scopes::new(alloc);
-        scopes.open(alloc)?;
-        let mut bodies = Scopes::new(alloc);
-        bodies.open(alloc)?;
+        let scopes = opened(alloc)?;
+        let bodies = opened(alloc)?;
         Ok(Declarations {
             alloc,
             scopes,
@@ -123,16 +130,7 @@ impl Declarations {
         ensures procs { OnOk result (self.new.procs ≡ self.old.procs + 1) }
         ensures least { OnOk result (self.new.least ≡ least_of self.old.least (twice_faults (top self.old.scopes ∷ []) at name.now ++ when (self.old.procs == most_procedures) (TypeError.Many Limited.Procedures at) ++ main_faults at name.now params.now ++ parameter_faults 0 params.now)) }
     {
-        self.note_twice(name, at);
-        let is_full = self.procs as usize == MOST_PROCEDURES;
-        note_if(
-            &mut self.least,
-            is_full,
-            TypeError::Many(Limited::Procedures, at),
-        );
-        let has_parameters = is_main(name.as_slice()) && params.len() != 0;
-        note_if(&mut self.least, has_parameters, TypeError::Arity(at));
-        note_parameters(&mut self.least, params);
+        self.note_body(name, at, params);
         let meaning = Meaning::Procedure(Signature {
             number: self.procs,
             params: params.len(),
@@ -142,6 +140,25 @@ impl Declarations {
         self.bodies.declare(self.alloc, name.clone()?, meaning)?;
         self.procs = sum(self.procs, 1)?;
         Ok(())
+    }
+
+    // What is wrong with the declaration of a procedure.
+    fn note_body(&mut self, name: &Name, at: u32, params: &[Param])
+        ensures scopes { self.new.scopes ≡ self.old.scopes }
+        ensures bodies { self.new.bodies ≡ self.old.bodies }
+        ensures globals { self.new.globals ≡ self.old.globals }
+        ensures procs { self.new.procs ≡ self.old.procs }
+        ensures least { self.new.least ≡ least_of self.old.least (twice_faults self.old.scopes at name.now ++ when (self.old.procs == most_procedures) (TypeError.Many Limited.Procedures at) ++ main_faults at name.now params.now ++ parameter_faults 0 params.now) }
+    {
+        self.note_twice(name, at);
+        let is_full = self.procs as usize == MOST_PROCEDURES;
+        note_if(
+            &mut self.least,
+            is_full,
+            TypeError::Many(Limited::Procedures, at),
+        );
+        note_main(&mut self.least, name, at, params);
+        note_parameters(&mut self.least, params);
     }
 
     fn note_twice(&mut self, name: &Name, at: u32)
@@ -154,6 +171,14 @@ impl Declarations {
         let is_twice = special_of(name.as_slice()).is_some() || self.scopes.is_declared_here(name);
         note_if(&mut self.least, is_twice, TypeError::Twice(at));
     }
+}
+
+// A procedure `main` has no parameters.
+fn note_main(least: &mut Option<TypeError>, name: &Name, at: u32, params: &[Param])
+    ensures { least.new ≡ least_of least.old (main_faults at name.now params.now) }
+{
+    let has_parameters = is_main(name.as_slice()) && params.len() != 0;
+    note_if(least, has_parameters, TypeError::Arity(at));
 }
 
 // The first parameter past the most that there may be is told.

@@ -1,6 +1,6 @@
 #![tactic(auto, using(syntax_tree::proofs::SourceExprs::source_exprs, crate::proofs::Steps::steps))]
 
-ghost use Rattle.std.specs.Prelude.{◌≡◌, ◌+◌, [], ◌∷◌, ◌++◌, IfOk, OnOk, length, map};
+ghost use Rattle.std.specs.Prelude.{◌≡◌, ◌+◌, [], ◌∷◌, ◌++◌, ◌||◌, IfOk, OnOk, length, map};
 ghost use Rattle.syntax_tree.specs.SourceExpr.{source_expr_of, source_exprs_of};
 ghost use Rattle.typing.specs.CallFaults.{all_expression_faults, expression_faults, is_logical, joint_faults, many_together, slot_faults, value_call_faults, variable_faults};
 ghost use Rattle.typing.specs.Calls.{all_calls_in, call_statement, calls_in};
@@ -38,6 +38,13 @@ fn is_logical(op: Op) -> bool
         Op::Add | Op::Sub | Op::Mul | Op::Div | Op::Rem => false,
         Op::Lt | Op::Le | Op::Gt | Op::Ge | Op::Eq | Op::Ne => false,
     }
+}
+
+/// Whether the right operand of an operator stands in one of `&&` or `||`. `right` says whether the left one does.
+fn is_right(right: bool, op: Op) -> bool
+    ensures { result ≡ (right || is_logical op) }
+{
+    right || is_logical(op)
 }
 
 /// The statement of a call whose value goes into a column.
@@ -194,7 +201,7 @@ impl Elaborator {
             }
             Expr::Binary(_, op, left, rest) => {
                 let left = self.expression(left, right, out)?;
-                let rest = self.expression(rest, right || is_logical(*op), out)?;
+                let rest = self.expression(rest, is_right(right, *op), out)?;
                 binary(self.alloc, *op, left, rest)
             }
         }

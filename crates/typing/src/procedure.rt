@@ -3,7 +3,9 @@
 ghost use Rattle.std.specs.Prelude.{◌≡◌, ◌+◌, [], ◌∷◌, ◌++◌, IfOk, OnOk, length};
 ghost use Rattle.syntax_tree.specs.SourceLine.{source_lines_of};
 ghost use Rattle.typing.specs.Elaborated.{checks_in, proc_of, procs_of};
-ghost use Rattle.typing.specs.Faults.{body_faults, least_of, params_faults, procs_faults};
+ghost use Rattle.typing.specs.Faults.{body_faults, least_of, node_faults, params_faults, procs_faults};
+ghost use Rattle.typing.specs.LineFaults.{all_faults_in};
+ghost use Rattle.typing.specs.Lines.{after_all, all_statements_of};
 ghost use Rattle.typing.specs.Texts.{beginning, top, with_params};
 
 use crate::checks::all_checks;
@@ -15,7 +17,27 @@ use crate::least::note_if;
 use crate::sums::{small, sum};
 use items::Items;
 use std::alloc::AllocError;
-use syntax_tree::{Item, Line, MOST_NODES, MOST_SLOTS, Name, Param, Proc, count_nodes};
+use syntax_tree::{
+    Column, Item, Line, MOST_NODES, MOST_SLOTS, Name, Param, Proc, Stmt, count_nodes,
+};
+
+fn proc(
+    name: &Name,
+    returns: bool,
+    params: usize,
+    columns: Items<Column>,
+    body: Items<Stmt>,
+) -> Result<Proc, AllocError>
+    ensures { IfOk result (λ made. made ≡ record { name = name.now; returns = returns; params = params; columns = columns; body = body }) }
+{
+    Ok(Proc {
+        name: name.clone()?,
+        returns,
+        params: small(params)?,
+        columns,
+        body,
+    })
+}
 
 impl Elaborator {
     /// The procedures of a text with so many globals; the places of its assertions are added.
@@ -95,18 +117,22 @@ impl Elaborator {
         let columns = body_columns(self.alloc, params, lines)?;
         self.begin(globals, number, returns, columns.len())?;
         self.params(params)?;
+        let body = self.statements(lines, end)?;
+        self.env.close();
+        proc(name, returns, params.len(), columns, body)
+    }
+
+    // The statements of a procedure's lines, of which there may be too many.
+    fn statements(&mut self, lines: &[Line], end: u32) -> Result<Items<Stmt>, AllocError>
+        ensures statements { IfOk result (λ body. body ≡ all_statements_of self.old.env (source_lines_of lines.now)) }
+        ensures env { OnOk result (self.new.env ≡ after_all self.old.env (source_lines_of lines.now)) }
+        ensures least { OnOk result (self.new.least ≡ least_of self.old.least (all_faults_in self.old.env (source_lines_of lines.now) ++ node_faults self.old.env (source_lines_of lines.now) end)) }
+    {
         let mut body = Items::new(self.alloc);
         self.lines(lines, &mut body)?;
         let many = count_nodes(body.as_slice()) > MOST_NODES;
         note_if(&mut self.least, many, TypeError::Many(Limited::Nodes, end));
-        self.env.close();
-        Ok(Proc {
-            name: name.clone()?,
-            returns,
-            params: small(params.len())?,
-            columns,
-            body,
-        })
+        Ok(body)
     }
 
     // What a procedure with so many columns begins with.

@@ -1,4 +1,4 @@
-ghost use Rattle.std.specs.Prelude.{◌≡◌, ℕ, None, if◌then◌else◌, List, [], ◌∷◌, map, length, IfOk, OnOk};
+ghost use Rattle.std.specs.Prelude.{◌≡◌, ℕ, None, if◌then◌else◌, List, [], ◌∷◌, ◌++◌, map, length, IfOk, OnOk};
 ghost use Rattle.std.specs.Map.{lookup};
 ghost use Rattle.std.specs.Str.{bytes_eq};
 ghost use Rattle.typing.specs.InForce.{after_declaration, entry_of, held_by, in_force, is_at, IsInForce, IsInnermost, Restores, shown};
@@ -96,6 +96,19 @@ fn take_innermost(alloc: Global, stack: &mut Items<Items<Declaration>>) -> Items
     }
 }
 
+/// Puts a scope with one more declaration behind the scopes around it.
+fn push_scope(
+    stack: &mut Items<Items<Declaration>>,
+    mut scope: Items<Declaration>,
+    last: Declaration,
+) -> Result<(), AllocError>
+    ensures { OnOk result (stack.new ≡ stack.old ++ (scope ++ last ∷ []) ∷ []) }
+{
+    scope.push(last)?;
+    stack.push(scope)?;
+    Ok(())
+}
+
 /// Puts back what a declaration hid. This takes no memory, since the name has a place in the map.
 fn put_back(declaration: Declaration, index: &mut Index)
     ensures { (lookup (bytes_eq declaration.name) index.old.entries ≡ None → ⊥) → (other : List ℕ) →
@@ -162,16 +175,16 @@ impl Scopes {
             mut stack,
             mut index,
         } = self;
-        let mut scope = take_innermost(alloc, &mut stack);
+        let scope = take_innermost(alloc, &mut stack);
         let depth = stack.len();
         let hidden = look_up(&index, &name);
         declare_in(&mut index, &name, Held { depth, meaning }, hidden)?;
-        scope.push(Declaration {
+        let last = Declaration {
             name,
             meaning,
             hidden,
-        })?;
-        stack.push(scope)?;
+        };
+        push_scope(&mut stack, scope, last)?;
         Ok(Scopes { stack, index })
     }
 

@@ -1,4 +1,4 @@
-use Rattle.std.proofs.Common.{ℕ, List, [], ◌∷◌, ◌++◌, subst, sym, ap, ◌∙◌}
+use Rattle.std.proofs.Common.{ℕ, List, subst, sym, ap, ◌∙◌}
 use Rattle.typing.specs.declared.scopes.Declaration.{Declaration}
 use Rattle.typing.specs.InForce.{after_declaration, held_by, IsInForce, RestoresAll, shown}
 use Rattle.typing.proofs.InForce.{with_variable-again, with_scope}
@@ -16,5 +16,5 @@ invariant_of-result c =
     ∙ ap (λ (depth : ℕ). after_declaration c.args.name record { depth = depth; meaning = c.args.meaning } c.look_up-hidden.result (held_by old other) other)
     c.len-depth.ensures) in
     subst (λ (stack : List (List Declaration)). IsInForce c.declare_in.new.index.entries (shown stack) × RestoresAll stack)
-    (sym (c.in_ok-push-2.ensures.ok ∙ ap (λ (one : List Declaration). rest ++ one ∷ []) c.in_ok-push.ensures.ok))
+    (sym c.in_ok-push_scope.ensures)
     made
