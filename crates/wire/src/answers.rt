@@ -2,15 +2,16 @@ ghost use Rattle.std.specs.Prelude.{◌≡◌, [], ◌∷◌, Ok, Some, IfOk, fi
 ghost use Rattle.farkas_check.specs.declared.answer.Answer.TheVariants.{Basis, Bound, Unbounded};
 ghost use Rattle.items.specs.Gives.{Gives};
 ghost use Rattle.serde_json.specs.View.{view};
-ghost use Rattle.wire.specs.Answers.{answer, basis, bound, has_kind, kind_key, kinds, of_kind, of_sole, sole_kind, unbounded, wide};
+ghost use Rattle.wire.specs.Answers.{answer, basis, bound, has_kind, kind_key, kinds, limit, of_kind, of_sole, sole_kind, unbounded, wide};
 ghost use Rattle.wire.specs.Errors.{wrong_path};
-ghost use Rattle.wire.specs.Written.{alone, basis_data, bound_data, unbounded_data};
+ghost use Rattle.wire.specs.Written.{alone, basis_data, bound_data, limit_data, unbounded_data};
+ghost use Rattle.farkas_check.specs.declared.answer.Limit.TheVariants.{Wide};
 
 use crate::error::Wrong;
-use crate::shape::{Shape, Written, field, member, under_key};
+use crate::shape::{Shape, Written, field, member, put_part, under_key};
 use farkas_check::{Answer, Cert, Limit, Ratio, Relation, Spot, Tie};
 use items::Items;
-use serde_json::{Map, Value, json, put};
+use serde_json::{Map, Value, put};
 use std::alloc::{AllocError, Global};
 
 /// The kinds of answers, each by the key that it has in a file.
@@ -67,10 +68,11 @@ impl Written for Cert {
     ghost writes = { cert_data };
 
     fn write(&self, alloc: Global) -> Result<Value, AllocError> {
-        let by = self.by.write(alloc)?;
-        let scale = self.scale.write(alloc)?;
-        let sum = self.sum.write(alloc)?;
-        json!(in alloc; {"by": by, "scale": scale, "sum": sum})
+        let mut members = Map::new(alloc);
+        put_part(&mut members, alloc, "by", &self.by)?;
+        put_part(&mut members, alloc, "scale", &self.scale)?;
+        put_part(&mut members, alloc, "sum", &self.sum)?;
+        Ok(Value::Object(members))
     }
 }
 
@@ -99,11 +101,12 @@ impl Written for Tie {
     ghost writes = { tie_data };
 
     fn write(&self, alloc: Global) -> Result<Value, AllocError> {
-        let down = self.down.write(alloc)?;
-        let down_scale = self.down_scale.write(alloc)?;
-        let up = self.up.write(alloc)?;
-        let up_scale = self.up_scale.write(alloc)?;
-        json!(in alloc; {"down": down, "down_scale": down_scale, "up": up, "up_scale": up_scale})
+        let mut members = Map::new(alloc);
+        put_part(&mut members, alloc, "down", &self.down)?;
+        put_part(&mut members, alloc, "down_scale", &self.down_scale)?;
+        put_part(&mut members, alloc, "up", &self.up)?;
+        put_part(&mut members, alloc, "up_scale", &self.up_scale)?;
+        Ok(Value::Object(members))
     }
 }
 
@@ -127,11 +130,12 @@ impl Written for Relation {
     ghost writes = { relation_data };
 
     fn write(&self, alloc: Global) -> Result<Value, AllocError> {
-        let a = self.a.write(alloc)?;
-        let b = self.b.write(alloc)?;
-        let c = self.c.write(alloc)?;
-        let ties = self.ties.write(alloc)?;
-        json!(in alloc; {"a": a, "b": b, "c": c, "ties": ties})
+        let mut members = Map::new(alloc);
+        put_part(&mut members, alloc, "a", &self.a)?;
+        put_part(&mut members, alloc, "b", &self.b)?;
+        put_part(&mut members, alloc, "c", &self.c)?;
+        put_part(&mut members, alloc, "ties", &self.ties)?;
+        Ok(Value::Object(members))
     }
 }
 
@@ -153,10 +157,22 @@ impl Written for Spot {
     ghost writes = { spot_data };
 
     fn write(&self, alloc: Global) -> Result<Value, AllocError> {
-        let at = self.at.write(alloc)?;
-        let case = self.case.write(alloc)?;
-        json!(in alloc; {"at": at, "case": case})
+        let mut members = Map::new(alloc);
+        put_part(&mut members, alloc, "at", &self.at)?;
+        put_part(&mut members, alloc, "case", &self.case)?;
+        Ok(Value::Object(members))
     }
+}
+
+fn wide_part(alloc: Global, left: &i128, right: &i128, times: &bool) -> Result<Value, AllocError>
+    ensures written { IfOk result (λ part. view part ≡ limit_data (Wide left.now right.now times.now)) }
+    ensures back { IfOk result (λ part. limit (view part) ≡ Ok (Wide left.now right.now times.now)) }
+{
+    let mut members = Map::new(alloc);
+    put_part(&mut members, alloc, "left", left)?;
+    put_part(&mut members, alloc, "right", right)?;
+    put_part(&mut members, alloc, "times", times)?;
+    Ok(Value::Object(members))
 }
 
 /// Two numbers whose product or sum leaves 128 bits.
@@ -189,11 +205,7 @@ impl Written for Limit {
 
     fn write(&self, alloc: Global) -> Result<Value, AllocError> {
         match self {
-            Limit::Wide { left, right, times } => {
-                let left = left.write(alloc)?;
-                let right = right.write(alloc)?;
-                json!(in alloc; {"left": left, "right": right, "times": *times})
-            }
+            Limit::Wide { left, right, times } => wide_part(alloc, left, right, times),
             Limit::Pivots => Value::try_from_str(alloc, "pivots"),
         }
     }
@@ -358,11 +370,12 @@ fn bound_part(
     ensures written { IfOk result (λ part. view part ≡ bound_data at.now certs.now case.now point.now) }
     ensures back { IfOk result (λ part. bound (view part) ≡ Ok (Bound at.now certs.now case.now point.now)) }
 {
-    let at = at.write(alloc)?;
-    let case = case.write(alloc)?;
-    let certs = certs.write(alloc)?;
-    let point = point.write(alloc)?;
-    json!(in alloc; {"at": at, "case": case, "certs": certs, "point": point})
+    let mut members = Map::new(alloc);
+    put_part(&mut members, alloc, "at", at)?;
+    put_part(&mut members, alloc, "case", case)?;
+    put_part(&mut members, alloc, "certs", certs)?;
+    put_part(&mut members, alloc, "point", point)?;
+    Ok(Value::Object(members))
 }
 
 fn unbounded_part(
@@ -374,10 +387,11 @@ fn unbounded_part(
     ensures written { IfOk result (λ part. view part ≡ unbounded_data case.now point.now ray.now) }
     ensures back { IfOk result (λ part. unbounded (view part) ≡ Ok (Unbounded case.now point.now ray.now)) }
 {
-    let case = case.write(alloc)?;
-    let point = point.write(alloc)?;
-    let ray = ray.write(alloc)?;
-    json!(in alloc; {"case": case, "point": point, "ray": ray})
+    let mut members = Map::new(alloc);
+    put_part(&mut members, alloc, "case", case)?;
+    put_part(&mut members, alloc, "point", point)?;
+    put_part(&mut members, alloc, "ray", ray)?;
+    Ok(Value::Object(members))
 }
 
 fn basis_part(
@@ -389,8 +403,9 @@ fn basis_part(
     ensures written { IfOk result (λ part. view part ≡ basis_data relations.now spots.now free.now) }
     ensures back { IfOk result (λ part. basis (view part) ≡ Ok (Basis relations.now spots.now free.now)) }
 {
-    let free = free.write(alloc)?;
-    let relations = relations.write(alloc)?;
-    let spots = spots.write(alloc)?;
-    json!(in alloc; {"free": free, "relations": relations, "spots": spots})
+    let mut members = Map::new(alloc);
+    put_part(&mut members, alloc, "free", free)?;
+    put_part(&mut members, alloc, "relations", relations)?;
+    put_part(&mut members, alloc, "spots", spots)?;
+    Ok(Value::Object(members))
 }

@@ -1,21 +1,22 @@
-ghost use Rattle.std.specs.Prelude.{◌≡◌, ◌<◌, Ok, IfOk};
+ghost use Rattle.std.specs.Prelude.{◌≡◌, ◌<◌, Ok, IfOk, OnOk, codes};
 ghost use Rattle.serde_json.specs.Written.{compact_text};
 ghost use Rattle.wire.specs.declared.certificate.Version.TheVariants.{First, Second};
 ghost use Rattle.wire.specs.Written.{IsOrder, IsWritable, certificate_data, first_data, list_data, second_data, small_data};
 ghost use Rattle.std.specs.List.{AllByRecursion, range_with_len};
 ghost use Rattle.items.specs.Gives.{Gives};
-ghost use Rattle.serde_json.specs.View.{items_view, view};
+ghost use Rattle.serde_json.specs.Data.{put as with_member};
+ghost use Rattle.serde_json.specs.View.{items_view, members_view, view};
 ghost use Rattle.wire.specs.Errors.{fault, wrong_path};
 ghost use Rattle.wire.specs.Files.{certificate_from, certificate_in, certificate_of, json_of, order_of, place, version_numbered, version_of};
 ghost use Rattle.wire.specs.Shapes.{items_from, list};
 
 use crate::Text;
 use crate::error::{WireError, Wrong};
-use crate::shape::{Shape, Written, field, item_under, member, under_key};
+use crate::shape::{Shape, Written, field, item_under, member, put_part, under_key};
 use crate::text::source;
 use farkas_check::Answer;
 use items::Items;
-use serde_json::{Value, json};
+use serde_json::{Map, Value, put};
 use std::alloc::{AllocError, Global};
 
 /// The forms of a certificate file.
@@ -163,6 +164,15 @@ fn certificate_parts(alloc: Global, version: Version, file: &Value) -> Result<Ce
     })
 }
 
+/// A file, whose version is looked at first.
+fn certificate_in(alloc: Global, file: &Value) -> Result<Certificate, WireError>
+    ensures exact { Gives fault (λ x. x) result (certificate_in (view file.now)) }
+    ensures writable { IfOk result IsWritable }
+{
+    let version = file_version(alloc, file)?;
+    Ok(certificate_parts(alloc, version, file)?)
+}
+
 /// Reads a certificate file of either version. `Json` where the bytes are no JSON text, `Version` where the file's
 /// version is not known, `Shape` with the first wrong part.
 pub fn read_certificate(alloc: Global, bytes: &[u8]) -> Result<Certificate, WireError>
@@ -170,8 +180,7 @@ pub fn read_certificate(alloc: Global, bytes: &[u8]) -> Result<Certificate, Wire
     ensures writable { IfOk result IsWritable }
 {
     let file = json(alloc, bytes)?;
-    let version = file_version(alloc, &file)?;
-    Ok(certificate_parts(alloc, version, &file)?)
+    certificate_in(alloc, &file)
 }
 
 /// A file of the first version as JSON.
@@ -181,10 +190,11 @@ fn first_value(alloc: Global, file: &Certificate) -> Result<Value, AllocError>
     ensures written { IfOk result (λ part. view part ≡ first_data file.now) }
     ensures back { IfOk result (λ part. certificate_in (view part) ≡ Ok file.now) }
 {
-    let answers = file.answers.write(alloc)?;
-    let report = file.report.write(alloc)?;
-    let text = file.text.write(alloc)?;
-    json!(in alloc; {"answers": answers, "report": report, "text": text})
+    let mut members = Map::new(alloc);
+    put_part(&mut members, alloc, "answers", &file.answers)?;
+    put_part(&mut members, alloc, "report", &file.report)?;
+    put_part(&mut members, alloc, "text", &file.text)?;
+    Ok(Value::Object(members))
 }
 
 /// Places of answers as JSON.
@@ -198,6 +208,21 @@ fn order_value(alloc: Global, order: &Items<usize>, count: usize) -> Result<Valu
     Ok(part)
 }
 
+/// Puts places of answers under their key.
+fn put_order(
+    members: &mut Map<String, Value>,
+    alloc: Global,
+    order: &Items<usize>,
+    count: usize,
+) -> Result<(), AllocError>
+    requires { AllByRecursion (λ place. place < count) order.now }
+    ensures written { OnOk result (members_view members.new.entries ≡ with_member (codes "order") (list_data small_data order.now) (members_view members.old.entries)) }
+    ensures back { OnOk result (list (place count) (list_data small_data order.now) ≡ Ok order.now) }
+{
+    let part = order_value(alloc, order, count)?;
+    put(members, alloc, "order", part)
+}
+
 /// A file of the second version as JSON.
 fn second_value(alloc: Global, file: &Certificate) -> Result<Value, AllocError>
     requires version { file.now.version ≡ Second }
@@ -205,11 +230,14 @@ fn second_value(alloc: Global, file: &Certificate) -> Result<Value, AllocError>
     ensures written { IfOk result (λ part. view part ≡ second_data file.now) }
     ensures back { IfOk result (λ part. certificate_in (view part) ≡ Ok file.now) }
 {
-    let answers = file.answers.write(alloc)?;
-    let order = order_value(alloc, &file.order, file.answers.len())?;
-    let report = file.report.write(alloc)?;
-    let text = file.text.write(alloc)?;
-    json!(in alloc; {"answers": answers, "order": order, "report": report, "text": text, "version": 2u64})
+    let mut members = Map::new(alloc);
+    let version = 2usize;
+    put_part(&mut members, alloc, "answers", &file.answers)?;
+    put_order(&mut members, alloc, &file.order, file.answers.len())?;
+    put_part(&mut members, alloc, "report", &file.report)?;
+    put_part(&mut members, alloc, "text", &file.text)?;
+    put_part(&mut members, alloc, "version", &version)?;
+    Ok(Value::Object(members))
 }
 
 /// A file as JSON.

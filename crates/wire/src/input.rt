@@ -1,7 +1,8 @@
-ghost use Rattle.std.specs.Prelude.{◌≡◌, ◌≤◌, length, IfOk};
+ghost use Rattle.std.specs.Prelude.{◌≡◌, ◌≤◌, codes, length, IfOk};
 ghost use Rattle.items.specs.Gives.{Gives};
 ghost use Rattle.serde_json.specs.View.{items_view, view};
 ghost use Rattle.wire.specs.Errors.{fault, wrong_path};
+ghost use Rattle.wire.specs.Shapes.{field};
 ghost use Rattle.wire.specs.Inputs.{input, input_of, listed_values, most_turns, most_values, turns, values};
 
 use crate::Text;
@@ -61,16 +62,30 @@ fn turns(alloc: Global, part: &Value) -> Result<u32, Wrong>
     }
 }
 
+fn values_in(alloc: Global, file: &Value) -> Result<Items<i128>, Wrong>
+    ensures exact { Gives wrong_path (λ x. x) result (field (codes "values") values (view file.now)) }
+    ensures few { IfOk result (λ values. length values ≤ most_values) }
+{
+    let part = member(alloc, file, "values")?;
+    under_key(alloc, "values", values(alloc, part))
+}
+
+fn turns_in(alloc: Global, file: &Value) -> Result<u32, Wrong>
+    ensures exact { Gives wrong_path (λ x. x) result (field (codes "turns") turns (view file.now)) }
+    ensures within { IfOk result (λ turns. (1 ≤ turns) × (turns ≤ most_turns)) }
+{
+    let part = member(alloc, file, "turns")?;
+    under_key(alloc, "turns", turns(alloc, part))
+}
+
 fn input_parts(alloc: Global, file: &Value) -> Result<Input, Wrong>
     ensures exact { Gives wrong_path (λ x. x) result (input (view file.now)) }
     ensures few { IfOk result (λ input. length input.values ≤ most_values) }
     ensures within { IfOk result (λ input. (1 ≤ input.turns) × (input.turns ≤ most_turns)) }
 {
     let text = source(alloc, file)?;
-    let part = member(alloc, file, "values")?;
-    let values = under_key(alloc, "values", values(alloc, part))?;
-    let part = member(alloc, file, "turns")?;
-    let turns = under_key(alloc, "turns", turns(alloc, part))?;
+    let values = values_in(alloc, file)?;
+    let turns = turns_in(alloc, file)?;
     Ok(Input {
         text,
         values,

@@ -1,8 +1,9 @@
-ghost use Rattle.std.specs.Prelude.{◌≡◌, ◌<◌, ◌≤◌, ◌^◌, length, IsTrue, IfOk};
+ghost use Rattle.std.specs.Prelude.{◌≡◌, ◌<◌, ◌≤◌, ◌^◌, codes, length, IsTrue, IfOk};
 ghost use Rattle.items.specs.Gives.{Gives};
 ghost use Rattle.serde_json.specs.View.{items_view, view};
 ghost use Rattle.wire.specs.Edits.{is_inside, text_after, texts_from, texts_of, with_edit};
 ghost use Rattle.wire.specs.Errors.{fault, wrong_path};
+ghost use Rattle.wire.specs.Shapes.{field};
 ghost use Rattle.wire.specs.Files.{edits, few_edits, most_edits, script, script_of};
 
 use crate::Text;
@@ -67,13 +68,20 @@ fn edits(alloc: Global, part: &Value) -> Result<Items<Edit>, Wrong>
     }
 }
 
+fn edits_in(alloc: Global, file: &Value) -> Result<Items<Edit>, Wrong>
+    ensures exact { Gives wrong_path (λ x. x) result (field (codes "edits") edits (view file.now)) }
+    ensures few { IfOk result (λ edits. length edits ≤ most_edits) }
+{
+    let part = member(alloc, file, "edits")?;
+    under_key(alloc, "edits", edits(alloc, part))
+}
+
 fn script_parts(alloc: Global, file: &Value) -> Result<Script, Wrong>
     ensures exact { Gives wrong_path (λ x. x) result (script (view file.now)) }
     ensures few { IfOk result (λ script. length script.edits ≤ most_edits) }
 {
     let text = source(alloc, file)?;
-    let part = member(alloc, file, "edits")?;
-    let edits = under_key(alloc, "edits", edits(alloc, part))?;
+    let edits = edits_in(alloc, file)?;
     Ok(Script { text, edits })
 }
 

@@ -1,7 +1,8 @@
 ghost use Rattle.std.specs.Prelude.{◌≡◌, ℕ, List, [], ◌∷◌, ◌++◌, Result, Ok, IfOk, OnOk, length, map};
 ghost use Rattle.items.specs.Gives.{Gives, lifted};
 ghost use Rattle.serde_json.specs.Data.{Data};
-ghost use Rattle.serde_json.specs.View.{items_of, items_view, view};
+ghost use Rattle.serde_json.specs.View.{items_of, items_view, members_view, view};
+ghost use Rattle.serde_json.specs.Data.{put as with_member};
 ghost use Rattle.wire.specs.Errors.{wrong_path};
 ghost use Rattle.wire.specs.Written.{read_then};
 ghost use Rattle.wire.specs.Shapes.{Path, field, item_path, items_from, member_of, member_path, under};
@@ -9,7 +10,7 @@ ghost use Rattle.wire.specs.Shapes.{Path, field, item_path, items_from, member_o
 use crate::error::Wrong;
 use items::Items;
 use itoa::Buffer;
-use serde_json::{Value, push};
+use serde_json::{Map, Value, push, put};
 use std::alloc::{AllocError, Global};
 
 /// What stands for a part of a JSON value.
@@ -92,6 +93,20 @@ pub(crate) fn field<T: Shape + Drop>(alloc: Global, part: &Value, key: &str) -> 
 {
     let value = member(alloc, part, key)?;
     under_key(alloc, key, T::read(alloc, value))
+}
+
+/// Puts what is written for a value under a key.
+pub(crate) fn put_part<T: Written>(
+    members: &mut Map<String, Value>,
+    alloc: Global,
+    key: &str,
+    value: &T,
+) -> Result<(), AllocError>
+    ensures written { OnOk result (members_view members.new.entries ≡ with_member key.now (T.writes value.now) (members_view members.old.entries)) }
+    ensures back { OnOk result (T.reads (T.writes value.now) ≡ Ok value.now) }
+{
+    let part = value.write(alloc)?;
+    put(members, alloc, key, part)
 }
 
 fn member_path(alloc: Global, key: &str) -> Result<Items<u8>, AllocError>
