@@ -14,6 +14,7 @@ pub mod CompleteLines
 pub mod FoundLines
 pub mod LineLoops
 pub mod Lines
+pub mod Parts
 -- The same of expressions.
 pub mod Sound
 pub mod Complete

@@ -14,4 +14,5 @@ pub mod Laws
 pub mod Repeat
 pub mod Descent
 pub mod Statements
+pub mod Parts
 pub mod Texts

@@ -1,4 +1,4 @@
-ghost use Rattle.std.specs.Prelude.{◌≡◌, ◌≢◌, ◌<◌, ◌≤◌, [], ◌∷◌, Ok, IfErr, IfOk, length, map};
+ghost use Rattle.std.specs.Prelude.{◌≡◌, ◌≢◌, ◌<◌, ◌≤◌, [], ◌∷◌, ◌++◌, Ok, IfErr, IfOk, OnOk, length, map};
 ghost use Rattle.items.specs.Gives.{Gives};
 ghost use Rattle.c_parser.specs.Descent.{told};
 ghost use Rattle.c_parser.specs.SourceItem.{parameter_of, source_item_of};
@@ -141,6 +141,16 @@ struct Slots<'a> {
     rest: &'a [Token],
 }
 
+/// Puts a parameter behind others.
+fn push_parameter(named: &mut Items<Param>, name: &Name, at: u32) -> Result<(), ParseError>
+    ensures memory { IfErr result (λ e. e ≡ ParseError.Memory) }
+    ensures ok { OnOk result (named.new ≡ named.old ++ record { name = name.now; at = at } ∷ []) }
+{
+    let name = copied(name)?;
+    named.push(Param { name, at })?;
+    Ok(())
+}
+
 /// One parameter more. A number of parameters past 32 bits is want of memory.
 fn slot<'a>(slots: Slots<'a>, tokens: &'a [Token]) -> Result<Slots<'a>, ParseError>
     ensures exact { Gives told (λ x. record { count = x.count; named = map parameter_of x.named; rest = spots_of x.rest.now }) result (slot (record { count = slots.entry.count; named = map parameter_of slots.entry.named; rest = spots_of slots.entry.rest.now }) (spots_of tokens.now)) }
@@ -156,10 +166,7 @@ fn slot<'a>(slots: Slots<'a>, tokens: &'a [Token]) -> Result<Slots<'a>, ParseErr
     match rest {
         [token, behind @ ..] => match &token.kind {
             Kind::Word(name) => {
-                named.push(Param {
-                    name: copied(name)?,
-                    at: token.at,
-                })?;
+                push_parameter(&mut named, name, token.at)?;
                 Ok(Slots {
                     count,
                     named,

@@ -1,13 +1,14 @@
 #![tactic(auto, using(syntax_tree::proofs::SourceExprs::source_exprs, syntax_tree::proofs::SourceLines::source_lines, crate::proofs::Lines::listed))]
 
-ghost use Rattle.std.specs.Prelude.{◌≡◌, ◌≢◌, ◌<◌, ◌≤◌, [], IfOk, length, map};
+ghost use Rattle.std.specs.Prelude.{◌≡◌, ◌≢◌, ◌<◌, ◌≤◌, [], ◌∷◌, Ok, IfOk, length, map};
 ghost use Rattle.std.specs.Option.{option_map};
 ghost use Rattle.items.specs.Gives.{Gives};
 ghost use Rattle.syntax_tree.specs.SourceExpr.{source_expr_of};
-ghost use Rattle.syntax_tree.specs.SourceLine.{source_line_of};
+ghost use Rattle.syntax_tree.specs.SourceLine.{Loop, lines_from, source_line_of};
 ghost use Rattle.c_parser.specs.Descent.{place_at, refused, tail, told};
 ghost use Rattle.c_parser.specs.Spots.{spots_of};
-ghost use Rattle.c_parser.specs.Statements.{block, block_by, condition, do_by, entries, entry, for_by, for_condition, for_step, if_by, init, keyword_by, line_read, otherwise, return_by, returned, simple_line, single_by, while_by};
+ghost use Rattle.c_parser.specs.Parts.{for_begin, for_end, for_parts};
+ghost use Rattle.c_parser.specs.Statements.{block, block_by, condition, do_by, entries, entry, for_condition, for_step, if_by, init, keyword_by, line_read, otherwise, return_by, returned, simple_line, single_by, while_by};
 ghost use Rattle.c_parser.specs.Limits.{most_binary_operators};
 
 use crate::ParseError;
@@ -173,6 +174,27 @@ fn otherwise(
     }
 }
 
+/// The list of one loop.
+fn loop_line(
+    alloc: Global,
+    init: Items<Line>,
+    cond: Expr,
+    step: Items<Line>,
+    body: Items<Line>,
+    first: bool,
+) -> Result<Items<Line>, ParseError>
+    ensures { Gives told (λ x. map source_line_of x) result (Ok (Loop (lines_from (map source_line_of init)) (source_expr_of cond) (lines_from (map source_line_of step)) (lines_from (map source_line_of body)) first ∷ [])) }
+{
+    let made = Line::Loop {
+        init,
+        cond,
+        step,
+        body,
+        first,
+    };
+    single(alloc, made)
+}
+
 /// A `while`, which stands in front of the tokens.
 #[cycle(line)]
 fn while_line(
@@ -187,14 +209,9 @@ fn while_line(
     let level = deeper(levels, at)?;
     let (cond, after) = condition(alloc, level, tokens)?;
     let (body, after) = line(alloc, level, after)?;
-    let made = Line::Loop {
-        init: Items::new(alloc),
-        cond,
-        step: Items::new(alloc),
-        body,
-        first: false,
-    };
-    Ok((single(alloc, made)?, after))
+    let none = Items::new(alloc);
+    let made = loop_line(alloc, none, cond, Items::new(alloc), body, false)?;
+    Ok((made, after))
 }
 
 /// A `do`, which stands in front of the tokens.
@@ -213,14 +230,9 @@ fn do_line(
     let after = past_keyword(after, Keyword::While)?;
     let (cond, after) = condition(alloc, level, after)?;
     let after = past(after, Mark::Semi)?;
-    let made = Line::Loop {
-        init: Items::new(alloc),
-        cond,
-        step: Items::new(alloc),
-        body,
-        first: true,
-    };
-    Ok((single(alloc, made)?, after))
+    let none = Items::new(alloc);
+    let made = loop_line(alloc, none, cond, Items::new(alloc), body, true)?;
+    Ok((made, after))
 }
 
 /// A `for`, which stands in front of the tokens.
@@ -231,26 +243,43 @@ fn for_line(
     at: u32,
     tokens: &[Token],
 ) -> Result<(Items<Line>, &[Token]), ParseError>
-    ensures exact { Gives told (λ x. (map source_line_of x.0, spots_of x.1.now)) result (for_by most_binary_operators (line_read most_binary_operators) levels at (spots_of tokens.now)) }
+    ensures exact { Gives told (λ x. (map source_line_of x.0, spots_of x.1.now)) result (for_parts most_binary_operators (line_read most_binary_operators) levels at (spots_of tokens.now)) }
     ensures shorter { IfOk result (λ x. length x.1.now < length tokens.now) }
 {
     let level = deeper(levels, at)?;
-    let after = past(tokens, Mark::OpenRound)?;
-    let (init, after) = init(alloc, level, after)?;
+    let (init, after) = for_begin(alloc, level, tokens)?;
     let (cond, after) = for_condition(alloc, level, after)?;
-    let after = past(after, Mark::Semi)?;
+    let (step, after) = for_end(alloc, level, after)?;
+    let (body, after) = line(alloc, level, after)?;
+    Ok((loop_line(alloc, init, cond, step, body, false)?, after))
+}
+
+/// The beginning of a `for`, up to behind the first semicolon in its brackets.
+fn for_begin(
+    alloc: Global,
+    level: usize,
+    tokens: &[Token],
+) -> Result<(Items<Line>, &[Token]), ParseError>
+    ensures exact { Gives told (λ x. (map source_line_of x.0, spots_of x.1.now)) result (for_begin most_binary_operators level (spots_of tokens.now)) }
+    ensures shorter { IfOk result (λ x. length x.1.now < length tokens.now) }
+{
+    let inside = past(tokens, Mark::OpenRound)?;
+    init(alloc, level, inside)
+}
+
+/// What stands behind the condition of a `for`, up to behind its closing bracket: the step.
+fn for_end(
+    alloc: Global,
+    level: usize,
+    tokens: &[Token],
+) -> Result<(Items<Line>, &[Token]), ParseError>
+    ensures exact { Gives told (λ x. (map source_line_of x.0, spots_of x.1.now)) result (for_end most_binary_operators level (spots_of tokens.now)) }
+    ensures shorter { IfOk result (λ x. length x.1.now < length tokens.now) }
+{
+    let after = past(tokens, Mark::Semi)?;
     let (step, after) = for_step(alloc, level, after)?;
     let after = past(after, Mark::CloseRound)?;
-    let (body, after) = line(alloc, level, after)?;
-    let first = false;
-    let made = Line::Loop {
-        init,
-        cond,
-        step,
-        body,
-        first,
-    };
-    Ok((single(alloc, made)?, after))
+    Ok((step, after))
 }
 
 /// What stands first in the brackets of `for`, with its semicolon.

@@ -8,6 +8,7 @@ use Rattle.c_parser.specs.Spots.{spots_of}
 use Rattle.c_parser.specs.Statements.{line_read}
 use Rattle.c_parser.specs.Limits.{most_binary_operators}
 use Rattle.c_parser.proofs.LineLoops.{entries-done, entries-fail, entries-more, line-block, line-empty, line-other}
+use Rattle.c_parser.proofs.Parts.{for_by-parts}
 use Rattle.c_parser.proofs.line.+line.Goals as goal
 
 pub entries-returns-in_err-more-clause-exact : goal.entries-returns-in_err-more-clause-exact
@@ -54,6 +55,10 @@ line-returns-in-Some-clause-exact t c =
     rw (line-other most_binary_operators c.args.levels (spots_of c.args.tokens.now) _ (sym c.begins_with.ensures.exact ∙ c.if-begins_with.false)
     (sym c.begins_with-2.ensures.exact ∙ c.if-begins_with-2.false) (sym c.keyword_at.ensures.exact ∙ c.in-Some.is))
     c.keyword_line.ensures.exact
+
+pub keyword_line-returns-in-For-clause-exact : goal.keyword_line-returns-in-For-clause-exact
+keyword_line-returns-in-For-clause-exact t c =
+    rw (c.in-For.is, for_by-parts, ← c.place_at-at.ensures, ← c.tail-rest.ensures.exact) c.for_line.ensures.exact
 
 pub line-returns-in-None-clause-exact : goal.line-returns-in-None-clause-exact
 line-returns-in-None-clause-exact t c =
