@@ -1,6 +1,7 @@
 -- Lists that are read and written item by item.
-use Rattle.std.proofs.Common.{◌≡◌, ℕ, zero, suc, ◌+◌, ap, sym, ◌∙◌, arith, refl}
+use Rattle.std.proofs.Common.{◌≡◌, ℕ, zero, suc, ◌+◌, ◌<◌, add-one, drop, get_or, length, ap, sym, ◌∙◌, arith, refl}
 use Rattle.std.specs.List.{range_with_len}
+use Rattle.std.proofs.Math.Seq.{drop-cons}
 use Rattle.std.proofs.lemmas.List.{append-nil, map-append}
 use Rattle.serde_json.specs.Data.{Data}
 use Rattle.serde_json.specs.View.{items_of}
@@ -24,6 +25,10 @@ range_with_len-suc n =
     ap (range_with_len 0) next ∙ (range_with_len-suc_from 0 n ∙ ap (λ m. range_with_len 0 n ++ m ∷ []) (omega arith))
 
 pub ruleset ranges = (range_with_len-suc)
+
+-- the next item of a list comes from what is left
+pub next_left : {A : Type 0} (xs : List A) (i : ℕ) (x : A) → x ≡ get_or xs i x → i < length xs → drop i xs ≡ x ∷ drop (i + 1) xs
+next_left xs i x p h = rw add-one (drop-cons xs i x h ∙ sym (ap (λ y. y ∷ drop (suc i) xs) p))
 
 -- a part more that reads as the first of what is left
 read-more : {A : Type 0} (reads : Reading A) (place : ℕ) (ds : List Data) (d : Data) (x : A) (rest : List A) → reads d ≡ Ok x

@@ -1,4 +1,5 @@
-ghost use Rattle.std.specs.Prelude.{◌≡◌, IfOk, string_bytes};
+ghost use Rattle.std.specs.Prelude.{◌≡◌, ◌∷◌, ◌++◌, IfOk, OnOk, string_bytes};
+ghost use Rattle.std.specs.Fmt.{signed_decimal};
 ghost use Rattle.wire.specs.Numbers.{number_of, ratio_of, ratio_of_two, ratio_over, ratio_text};
 
 use crate::error::Wrong;
@@ -50,16 +51,26 @@ fn ratio(text: &str) -> Option<Ratio>
     }
 }
 
+/// Writes a slash and a denominator.
+fn push_denominator(text: &mut String, den: i128) -> Result<(), AllocError>
+    ensures { OnOk result (string_bytes text.new ≡ string_bytes text.old ++ 47 ∷ signed_decimal den) }
+{
+    let mut digits = Buffer::new();
+    text.push_str("/")?;
+    text.push_str(digits.format(den))?;
+    Ok(())
+}
+
 /// The text of a numerator over a denominator.
 fn ratio_text(alloc: Global, num: i128, den: i128) -> Result<String, AllocError>
     ensures { IfOk result (λ text. string_bytes text ≡ ratio_text (record { num = num; den = den })) }
 {
     let mut digits = Buffer::new();
     let mut text = String::from_str(alloc, digits.format(num))?;
-    if den != 1 {
-        text.push_str("/")?;
-        text.push_str(digits.format(den))?;
+    if den == 1 {
+        return Ok(text);
     }
+    push_denominator(&mut text, den)?;
     Ok(text)
 }
 
