@@ -1,8 +1,10 @@
-use Rattle.std.proofs.Common.{map, sym, ◌∙◌, subst, arith}
+use Rattle.std.proofs.Common.{◌≡◌, List, [], ◌∷◌, ap, map, refl, sym, ◌∙◌, subst, arith}
 use Rattle.std.proofs.lemmas.Result.{err_from_is_err_and}
 use Rattle.std.proofs.lemmas.List.{length-map, map_push}
 use Rattle.items.specs.Gives.{FailsBy}
-use Rattle.syntax_tree.specs.SourceExpr.{source_expr_of}
+use Rattle.syntax_tree.specs.declared.expr.Expr.{Expr}
+use Rattle.syntax_tree.specs.SourceExpr.{Then, exprs_from, source_expr_of, source_exprs_of}
+use Rattle.syntax_tree.proofs.SourceExprs.{source_expr_of-Binary, source_expr_of-Call, source_expr_of-Unary}
 use Rattle.c_parser.specs.Descent.{joined, operand, rest_of, told}
 use Rattle.c_parser.proofs.Equations.{operand-none, operand-some, refused-exact}
 use Rattle.c_parser.proofs.Loops.{links-done, links-fails, links-more, arguments-done, arguments-fail, arguments-more}
@@ -57,3 +59,23 @@ pub arguments-returns-clause-exact : goal.arguments-returns-clause-exact
 arguments-returns-clause-exact t c =
     sym c.more.invariant.stated
     ∙ arguments-done (joined (operand c.args.level) 6) (map source_expr_of c.more.args, rest_of c.more.after.tokens.now c.more.after.operators) (sym c.begins_with-in-more.ensures.exact ∙ c.more-test.false)
+
+exprs_from-map : (exprs : List Expr) → exprs_from (map source_expr_of exprs) ≡ source_exprs_of exprs
+exprs_from-map [] = refl
+exprs_from-map (e ∷ rest) = ap (Then (source_expr_of e)) (exprs_from-map rest)
+
+pub call-returns-clause-exact : goal.call-returns-clause-exact
+call-returns-clause-exact t c =
+    simp (sym c.place_at.ensures, c.in_ok-level.ensures.exact, c.in_ok-inside.ensures.exact, c.in_ok-args.ensures.exact, c.in_ok-after.ensures.exact, c.in_ok-copied.ensures.copy, source_expr_of-Call, exprs_from-map) refl
+
+pub bracketed-returns-clause-exact : goal.bracketed-returns-clause-exact
+bracketed-returns-clause-exact t c =
+    simp (c.in_ok-level.ensures.exact, c.in_ok-inner.ensures.exact, c.in_ok-after.ensures.exact, c.placed.ensures) refl
+
+pub signed-returns-clause-exact : goal.signed-returns-clause-exact
+signed-returns-clause-exact t c =
+    simp (c.in_ok-level.ensures.exact, c.in_ok-inner.ensures.exact, source_expr_of-Unary) (simp c.in_ok-new.ensures.ok refl)
+
+pub link-returns-clause-exact : goal.link-returns-clause-exact
+link-returns-clause-exact t c =
+    simp (c.in_ok-behind.ensures.exact, c.in_ok-right.ensures.exact, source_expr_of-Binary) (simp (c.in_ok-left.ensures.ok, c.in_ok-right-2.ensures.ok) refl)
