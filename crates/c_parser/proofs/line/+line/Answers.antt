@@ -1,13 +1,16 @@
-use Rattle.std.proofs.Common.{refl, sym, subst, ◌∙◌, arith, map}
+use Rattle.std.proofs.Common.{◌≡◌, List, Result, Ok, ap, refl, sym, subst, ◌∙◌, arith, map}
 use Rattle.std.proofs.lemmas.List.{length-map, map-append}
 use Rattle.std.proofs.lemmas.Result.{err_from_is_err_and}
-use Rattle.items.specs.Gives.{FailsBy}
-use Rattle.syntax_tree.specs.SourceLine.{source_line_of}
+use Rattle.items.specs.Gives.{FailsBy, ◌>>=◌}
+use Rattle.syntax_tree.specs.SourceLine.{SourceLine, source_line_of}
+use Rattle.syntax_tree.proofs.SourceLines.{source_line_of-Block, source_line_of-If}
+use Rattle.c_parser.specs.declared.error.ParseError.{ParseError}
 use Rattle.c_parser.specs.Descent.{told}
-use Rattle.c_parser.specs.Spots.{spots_of}
-use Rattle.c_parser.specs.Statements.{line_read}
+use Rattle.c_parser.specs.Spots.{Spot, spots_of}
+use Rattle.c_parser.specs.Statements.{LinesRead, line_read}
 use Rattle.c_parser.specs.Limits.{most_binary_operators}
 use Rattle.c_parser.proofs.LineLoops.{entries-done, entries-fail, entries-more, line-block, line-empty, line-other}
+use Rattle.c_parser.proofs.Lines.{lines_from-map}
 use Rattle.c_parser.proofs.Parts.{for_by-parts}
 use Rattle.c_parser.proofs.line.+line.Goals as goal
 
@@ -65,3 +68,25 @@ line-returns-in-None-clause-exact t c =
     rw (line-other most_binary_operators c.args.levels (spots_of c.args.tokens.now) _ (sym c.begins_with.ensures.exact ∙ c.if-begins_with.false)
     (sym c.begins_with-2.ensures.exact ∙ c.if-begins_with-2.false) (sym c.keyword_at.ensures.exact ∙ c.in-None.is))
     c.simple_line.ensures.exact
+
+-- the tokens that are left behind lines
+abbrev with_left : (spots : List Spot) (lines : List SourceLine) → LinesRead
+with_left spots lines = Ok (lines, spots)
+
+lines-left : (spots : List Spot) (a b : Result (List SourceLine) ParseError) → a ≡ b → a >>= with_left spots ≡ b >>= with_left spots
+lines-left spots a b e = ap (λ (r : Result (List SourceLine) ParseError). r >>= with_left spots) e
+
+pub for_line-returns-clause-exact : goal.for_line-returns-clause-exact
+for_line-returns-clause-exact t c =
+    simp (c.in_ok-level.ensures.exact, c.in_ok-init.ensures.exact, c.in_ok-cond.ensures.exact, c.in_ok-step.ensures.exact, c.in_ok-body.ensures.exact)
+    (lines-left _ _ _ c.in_ok-loop_line.ensures)
+
+pub if_line-returns-clause-exact : goal.if_line-returns-clause-exact
+if_line-returns-clause-exact t c =
+    simp (c.in_ok-level.ensures.exact, c.in_ok-cond.ensures.exact, c.in_ok-yes.ensures.exact, c.in_ok-no.ensures.exact, lines_from-map)
+    (lines-left _ _ _ (simp source_line_of-If at c.in_ok-single.ensures))
+
+pub block_line-returns-clause-exact : goal.block_line-returns-clause-exact
+block_line-returns-clause-exact t c =
+    simp (c.in_ok-level.ensures.exact, c.in_ok-lines.ensures.exact, lines_from-map)
+    (lines-left _ _ _ (simp source_line_of-Block at c.in_ok-single.ensures))
