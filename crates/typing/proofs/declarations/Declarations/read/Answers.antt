@@ -1,4 +1,4 @@
-use Rattle.std.proofs.Common.{◌≡◌, ◌+◌, List, [], ◌∷◌, ◌++◌, None, ap, arith, refl, subst, sym, ◌∙◌, append-nil, append_assoc, add_assoc}
+use Rattle.std.proofs.Common.{◌≡◌, ◌+◌, List, [], ◌∷◌, ◌++◌, None, ap, arith, subst, sym, ◌∙◌, append-nil, append_assoc, add_assoc}
 use Rattle.syntax_tree.specs.declared.tree.Item.{Item}
 use Rattle.typing.specs.Faults.{declaration_faults, least_of}
 use Rattle.typing.specs.Scopes.{Scope}
