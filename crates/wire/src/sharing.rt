@@ -7,7 +7,7 @@ use indexmap::IndexSet;
 use items::Items;
 use std::alloc::{AllocError, Global};
 
-/// Puts an answer among the distinct ones, and its place there behind those of the answers before it.
+/// Puts an answer among the distinct ones, and its place there behind those of earlier answers.
 fn push_shared(
     distinct: &mut IndexSet<Answer>,
     order: &mut Items<usize>,
