@@ -40,7 +40,7 @@ fn is_logical(op: Op) -> bool
     }
 }
 
-/// Whether the right operand of an operator stands in one of `&&` or `||`. `right` says whether the left one does.
+/// Whether the right operand of an operator stands in one of `&&` or `||`; `right` is of the left.
 fn is_right(right: bool, op: Op) -> bool
     ensures { result ≡ (right || is_logical op) }
 {
