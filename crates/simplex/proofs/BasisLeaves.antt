@@ -48,6 +48,12 @@ width_of : {X : Type 0} (r stated : Result X Step.Wide) → r ≡ stated → ((w
 width_of (Ok x) stated e f = tt
 width_of (Err w) stated e f = f w (sym e)
 
+pub product_of-width : (a b : ℤ) (r : Result ℤ Step.Wide) → r ≡ product_of a b → IfErr r LeavesBits
+product_of-width a b r e = width_of r (product_of a b) e (λ w f. product-leaves a b w f)
+
+pub sum_of-width : (a b : ℤ) (r : Result ℤ Step.Wide) → r ≡ sum_of a b → IfErr r LeavesBits
+sum_of-width a b r e = width_of r (sum_of a b) e (λ w f. sum-leaves a b w f)
+
 denominator_from-leaves : (common : ℤ) (rs : List Fraction) (w : Step.Wide) → denominator_from common rs ≡ Err w → LeavesBits w
 denominator_from-leaves common [] w e = cc
 denominator_from-leaves common (r ∷ rs) w e =

@@ -52,6 +52,7 @@ pub mod Comparisons
 pub mod Memory
 -- The search: equations, inequalities and turns, from the frame of the rows on.
 pub mod Framing
+pub mod Behind
 pub mod SpotFrames
 pub mod Denominators
 pub mod Echelons

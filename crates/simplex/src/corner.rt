@@ -7,11 +7,12 @@ ghost use Rattle.simplex.specs.Refusal.{LeavesBits, IsRefusal};
 ghost use Rattle.simplex.specs.Suprema.{SlopeAt, IsRayOf, chosen_slope};
 ghost use Rattle.simplex.specs.Search.{CornerAt, IsCornerOf, IsLineChoosing, chosen_number};
 
+use crate::steps::step_product;
 use crate::{Stop, Tableau};
 use farkas_check::Ratio;
 use items::Items;
 use std::alloc::Global;
-use whole_numbers::{Wide, product};
+use whole_numbers::Wide;
 
 /// The corner of a tableau: a number for each column of the question.
 pub(crate) fn corner(alloc: Global, t: &Tableau, constants: usize) -> Result<Items<Ratio>, Stop>
@@ -64,7 +65,7 @@ fn lowest_number(line: &[i128], constants: usize, column: usize) -> Result<Ratio
     ensures exact { result ≡ chosen_number line.now constants column }
     ensures width { IfErr result LeavesBits }
 {
-    let numerator = product(line[constants], -1)?;
+    let numerator = step_product(&line[constants], &-1)?;
     Ok(Ratio::lowest(numerator, line[column]))
 }
 
@@ -141,6 +142,7 @@ fn lowest_slope(line: &[i128], column: usize, up: bool, own: usize) -> Result<Ra
     ensures exact { result ≡ chosen_slope line.now column up own }
     ensures width { IfErr result LeavesBits }
 {
-    let numerator = product(line[column], if up { -1 } else { 1 })?;
+    let sign = if up { -1 } else { 1 };
+    let numerator = step_product(&line[column], &sign)?;
     Ok(Ratio::lowest(numerator, line[own]))
 }

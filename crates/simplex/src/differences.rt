@@ -1,4 +1,4 @@
-ghost use Rattle.std.specs.Prelude.{◌≡◌, ◌+◌, ◌^◌, ◌<◌, ℤ, pos, List, length, Bool, true, Ok, IfOk, IfErr};
+ghost use Rattle.std.specs.Prelude.{◌≡◌, ◌+◌, ◌^◌, ◌<◌, ℤ, pos, List, length, take, drop, Bool, true, not, Ok, IfOk, IfErr};
 ghost use Rattle.linear_terms.specs.Operations.{sum_of_polys};
 ghost use Rattle.linear_terms.specs.Polynomial.{Polynomial, constant_of};
 ghost use Rattle.farkas_check.specs.Points.{ratio_at, ratio_value};
@@ -7,6 +7,7 @@ ghost use Rattle.farkas_check.specs.declared.stratum.Change.{Change};
 ghost use Rattle.simplex.specs.Calm.{IsMemory};
 ghost use Rattle.simplex.specs.CalmStrata.{IsRefusalOf, IsCalmRelation};
 ghost use Rattle.simplex.specs.Differences.{with_multiple, with_multiples, IsDifferenceOf};
+ghost use Rattle.simplex.specs.Exchange.{line_multiple};
 ghost use Rattle.simplex.specs.Points.{IsPointOf};
 ghost use Rattle.simplex.specs.Raise.{sign_of};
 ghost use Rattle.simplex.specs.Refusal.{IsRefusal};
@@ -39,7 +40,7 @@ pub(crate) struct Strata<'a> {
 }
 
 /// What the question how great a relation's difference gets in a case comes to, or how great minus the difference.
-#[derive(Debug, Drop)]
+#[derive(Drop)]
 pub(crate) enum Half {
     /// It gets no greater than 0.
     Tied(Cert),
@@ -49,7 +50,7 @@ pub(crate) enum Half {
 }
 
 /// What the test of a relation in a case comes to: it is tied there, or its difference is not 0 at a point.
-#[derive(Debug, Drop)]
+#[derive(Drop)]
 pub(crate) enum Bond {
     Tied(Tie),
     Apart(Items<Ratio>),
@@ -125,12 +126,45 @@ fn difference_in(
     ensures refusal { IfErr result (IsRefusalOf strata.now) }
 {
     let (first, last) = numbers.split_at(strata.terms);
-    let own = line_multiple(alloc, first, sign_of(up))?;
-    let others = line_multiple(alloc, last, sign_of(!up))?;
+    let own = line_multiple(alloc, first, &sign_of(up))?;
+    let others = line_multiple(alloc, last, &sign_of(!up))?;
+    difference_with(
+        alloc,
+        strata,
+        case,
+        numbers,
+        up,
+        own.as_slice(),
+        others.as_slice(),
+    )
+}
+
+/// The same from the numbers of the terms, and from those of the lower terms and 1, each with its sign.
+fn difference_with(
+    alloc: Global,
+    strata: &Strata<'_>,
+    case: &Change,
+    numbers: &[i128],
+    up: bool,
+    own: &[i128],
+    others: &[i128],
+) -> Result<Poly, Stop>
+    requires asked { IsAsked strata.now }
+    requires case { IsCaseOf strata.now case.now }
+    requires count { strata.now.count ≡ strata.now.terms + length strata.now.lower.now + 1 }
+    requires numbers { length numbers.now ≡ strata.now.count }
+    requires few { strata.now.count < 2 ^ 61 }
+    requires calm { IsCalmRelation strata.now numbers.now }
+    requires own { line_multiple (take strata.now.terms numbers.now) (sign_of up) ≡ Ok own.now }
+    requires others { line_multiple (drop strata.now.terms numbers.now) (sign_of (not up)) ≡ Ok others.now }
+    ensures difference { IfOk result (IsDifferenceOf case.now.terms strata.now.lower.now numbers.now up) }
+    ensures refusal { IfErr result (IsRefusalOf strata.now) }
+{
+    let (_numbers, _up) = (numbers, up);
     let zero = Poly::constant(alloc, 0);
-    let terms = with_multiples(alloc, zero, own.as_slice(), case.terms.as_slice())?;
-    let sides = with_multiples(alloc, terms, others.as_slice(), strata.lower)?;
-    let last = entry(others.as_slice(), strata.lower.len());
+    let terms = with_multiples(alloc, zero, own, case.terms.as_slice())?;
+    let sides = with_multiples(alloc, terms, others, strata.lower)?;
+    let last = entry(others, strata.lower.len());
     let made = with_rest(alloc, sides, &last)?;
     Ok(made)
 }

@@ -5,7 +5,7 @@ use std::alloc::{AllocFailed, Global};
 use std::marker::Model;
 
 /// Where the raise of an objective over the rows of a case ended: a corner of the rows.
-#[derive(Debug, Drop)]
+#[derive(Drop)]
 pub(crate) struct Ending {
     pub(crate) columns: Items<Mono>,
     pub(crate) rows: Items<Row>,
@@ -26,7 +26,7 @@ impl Model for Ending {
 
 /// Where the last suprema of cases ended, a place for each case, as far as it is known. A supremum over the same rows
 /// and columns begins there. What an answer may be does not depend on it.
-#[derive(Debug, Drop)]
+#[derive(Drop)]
 pub struct Endings {
     cases: Vec<Option<Ending>>,
 }

@@ -78,7 +78,7 @@ fn equation(
 }
 
 /// A tableau, and which columns may enter.
-#[derive(Debug, Drop)]
+#[derive(Drop)]
 pub(crate) struct Stage {
     pub(crate) tableau: Tableau,
     pub(crate) enters: Items<bool>,

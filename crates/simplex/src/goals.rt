@@ -21,7 +21,7 @@ use whole_numbers::Wide;
 
 /// How far the objective gets in the cases so far: the greatest of their bounds, rounded down, the first case that has
 /// it, and a point of that case.
-#[derive(Debug, Drop)]
+#[derive(Drop)]
 pub(crate) struct Reach {
     pub(crate) at: i128,
     pub(crate) case: u32,
@@ -29,14 +29,14 @@ pub(crate) struct Reach {
 }
 
 /// What cases come to that are all bounded: a certificate for each, and how far the objective gets.
-#[derive(Debug, Drop)]
+#[derive(Drop)]
 pub(crate) struct Bounds {
     pub(crate) certs: Items<Cert>,
     pub(crate) reach: Option<Reach>,
 }
 
 /// What the next case leads to: one more bound, or the answer.
-#[derive(Debug, Drop)]
+#[derive(Drop)]
 pub(crate) enum Progress {
     On(Bounds),
     End(Answer),

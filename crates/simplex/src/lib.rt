@@ -18,6 +18,7 @@ mod raise;
 mod replies;
 mod search;
 mod spots;
+mod steps;
 mod stop;
 mod strata;
 mod supremum;

@@ -7,10 +7,11 @@ ghost use Rattle.simplex.specs.Refusal.{LeavesBits, IsRefusalIn};
 ghost use Rattle.simplex.specs.Raise.{EntersFirst, sign_of, enters_at, order_at, comes_before, LeavingOf, Framed, Begins};
 ghost use Rattle.simplex.specs.History.{RaisedFrom, CameTo, MovedTo, EndsAt};
 
+use crate::steps::step_product;
 use crate::{Stop, Tableau};
 use std::alloc::Global;
 use std::cmp::Ordering;
-use whole_numbers::{Wide, product};
+use whole_numbers::Wide;
 
 /// The first column that may enter and at which the goal's line lets it grow.
 pub(crate) fn entering(line: &[i128], up: bool, enters: &[bool]) -> Option<usize>
@@ -38,8 +39,8 @@ fn order_at(backward: bool, a: &i128, p: &i128, b: &i128, q: &i128) -> Result<Or
     ensures exact { result ≡ order_at backward a.now p.now b.now q.now }
     ensures width { IfErr result LeavesBits }
 {
-    let left = product(*a, *p)?;
-    let right = product(*b, *q)?;
+    let left = step_product(a, p)?;
+    let right = step_product(b, q)?;
     if backward {
         Ok(right.cmp(&left))
     } else {
@@ -98,7 +99,7 @@ fn compared(
 
 /// How a raise ends: its goal is met, no column lets the goal grow, or one does so without end, or the turns are used
 /// up.
-#[derive(Clone, Copy, Debug, PartialEq, Eq)]
+#[derive(Clone, Copy)]
 pub enum RaiseEnd {
     Met,
     Best,
@@ -107,7 +108,7 @@ pub enum RaiseEnd {
 }
 
 /// What a turn of a raise comes to.
-#[derive(Clone, Copy, Debug, PartialEq, Eq)]
+#[derive(Clone, Copy)]
 pub enum Turn {
     Met,
     Best,

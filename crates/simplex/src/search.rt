@@ -16,7 +16,7 @@ use std::alloc::{AllocError, Global};
 
 /// What the turn of a row comes to: the row is true at the corner and is kept so, or its line refutes the rows,
 /// or the turns are used up.
-#[derive(Clone, Copy, Debug, PartialEq, Eq)]
+#[derive(Clone, Copy)]
 pub enum TurnEnd {
     Kept,
     Refuted,
@@ -25,7 +25,7 @@ pub enum TurnEnd {
 
 /// What a search comes to: the tableau's corner makes the rows true, or a line refutes them, or the turns are
 /// used up.
-#[derive(Clone, Copy, Debug, PartialEq, Eq)]
+#[derive(Clone, Copy)]
 pub enum Found {
     Corner,
     Refuted(usize),

@@ -15,17 +15,18 @@ ghost use Rattle.simplex.specs.Spots.{unit_multiple, multiples_from, AreUnitList
 use crate::corner::{line_choosing, ray};
 use crate::differences::Strata;
 use crate::frame::{units_from, with_units};
+use crate::steps::step_product;
 use crate::values::{common_denominator, numerators_over, value_at};
 use crate::{Stop, Tableau};
 use farkas_check::{Ratio, Spot};
 use items::Items;
 use linear_terms::{Mono, Poly};
 use std::alloc::{AllocError, Global};
-use whole_numbers::{Wide, product};
+use whole_numbers::Wide;
 
 /// Spots, each with its line under the unknowns and the number by which that line's values were multiplied, and a
 /// tableau of these lines that chooses an unknown in each.
-#[derive(Debug, Drop)]
+#[derive(Drop)]
 pub(crate) struct Spots {
     pub(crate) spots: Items<Spot>,
     pub(crate) lines: Items<Items<i128>>,
@@ -402,7 +403,7 @@ fn unit_multiple(line: &[i128], place: usize, unknown: usize, scale: &i128) -> R
     ensures exact { result ≡ unit_multiple line.now (entry line.now unknown) place scale.now }
     ensures width { IfErr result LeavesBits }
 {
-    let number = product(line[place], *scale)?;
+    let number = step_product(&line[place], scale)?;
     Ok(Ratio::lowest(number, line[unknown]))
 }
 

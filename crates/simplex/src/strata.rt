@@ -34,7 +34,7 @@ use whole_numbers::Wide;
 
 /// Spots, and the relations of the unknowns before `next` that no spot refutes, each tied in all cases. There were `start`
 /// spots when the unknowns began to have their turns.
-#[derive(Debug, Drop)]
+#[derive(Drop)]
 pub(crate) struct Known {
     pub(crate) next: usize,
     pub(crate) start: usize,
@@ -43,7 +43,7 @@ pub(crate) struct Known {
 }
 
 /// What a relation's test in all cases comes to: it is tied in each, or its difference is not 0 at a point of one.
-#[derive(Debug, Drop)]
+#[derive(Drop)]
 pub(crate) enum Verdict {
     Tied(Items<Tie>),
     Apart(usize, Items<Ratio>),
@@ -51,7 +51,7 @@ pub(crate) enum Verdict {
 }
 
 /// What a turn leads to.
-#[derive(Debug, Drop)]
+#[derive(Drop)]
 pub(crate) enum Course {
     On(Known),
     End(Answer),

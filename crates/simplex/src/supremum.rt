@@ -21,7 +21,7 @@ use linear_terms::{Kind, Mono, Poly, Row};
 use std::alloc::{AllocError, Global};
 
 /// What the raise of an objective over the corners of a case comes to.
-#[derive(Clone, Copy, Debug, PartialEq, Eq)]
+#[derive(Clone, Copy)]
 pub enum Top {
     /// The objective is greatest at the corner.
     Best,
@@ -32,7 +32,7 @@ pub enum Top {
 }
 
 /// What the question how great an objective gets at the points of a case comes to.
-#[derive(Debug, Drop)]
+#[derive(Drop)]
 pub enum Supremum {
     /// No point makes the rows true.
     Empty,
@@ -218,7 +218,7 @@ fn read_certificate(
     ensures refusal { IfErr result IsRefusal }
 {
     let first = constants + 1;
-    let by = line_multiple(alloc, &line[first..first + goal], -1)?;
+    let by = line_multiple(alloc, &line[first..first + goal], &-1)?;
     Ok(Cert {
         scale: line[first + goal],
         sum: line[constants],

@@ -6,13 +6,14 @@ ghost use Rattle.simplex.specs.Refusal.{LeavesBits, IsRefusal};
 ghost use Rattle.simplex.specs.Exchange.{cause, sum_of_lines, sum_of_products, line_multiple, reduced, upright_line, line_without, line_without_at, lines_without, exchange, numbers_of, HasShape, KeepsFrames};
 
 use crate::Stop;
+use crate::steps::{step_product, step_sum};
 use items::Items;
 use std::alloc::{AllocError, Global};
-use whole_numbers::{Wide, gcd, product, quotient, sum};
+use whole_numbers::{Wide, gcd, quotient};
 
 /// A chosen column for each line. A line's numbers are whole and have no common divisor but 1; the one at its
 /// own chosen column is positive and stands for its denominator.
-#[derive(Debug, Drop)]
+#[derive(Drop)]
 pub struct Tableau {
     pub lines: Items<Items<i128>>,
     pub chosen: Items<usize>,
@@ -103,19 +104,19 @@ pub(crate) fn upright_line(alloc: Global, line: &[i128], column: usize) -> Resul
     ensures refusal { IfErr result IsRefusal }
 {
     if line[column] < 0 {
-        line_multiple(alloc, line, -1)
+        line_multiple(alloc, line, &-1)
     } else {
         Ok(Items::from_slice(alloc, line)?)
     }
 }
 
-pub(crate) fn line_multiple(alloc: Global, line: &[i128], by: i128) -> Result<Items<i128>, Stop>
-    ensures exact { Gives cause (λ made. made) result (line_multiple line.now by) }
+pub(crate) fn line_multiple(alloc: Global, line: &[i128], by: &i128) -> Result<Items<i128>, Stop>
+    ensures exact { Gives cause (λ made. made) result (line_multiple line.now by.now) }
     ensures refusal { IfErr result IsRefusal }
 {
     let mut made = Items::new(alloc);
     for number in line {
-        made.push(product(*number, by)?)?;
+        made.push(step_product(number, by)?)?;
     }
     Ok(made)
 }
@@ -135,7 +136,7 @@ pub(crate) fn line_without(
     if line[column] == 0 {
         return Ok(line);
     }
-    let by = product(line[column], -1)?;
+    let by = step_product(&line[column], &-1)?;
     let made = sum_of_lines(alloc, &pivot[column], line.as_slice(), &by, pivot)?;
     Ok(reduced(alloc, made)?)
 }
@@ -163,9 +164,9 @@ fn sum_of_products(p: &i128, a: &i128, q: &i128, b: &i128) -> Result<i128, Wide>
     ensures exact { result ≡ sum_of_products p.now a.now q.now b.now }
     ensures width { IfErr result LeavesBits }
 {
-    let left = product(*p, *a)?;
-    let right = product(*q, *b)?;
-    sum(left, right)
+    let left = step_product(p, a)?;
+    let right = step_product(q, b)?;
+    step_sum(&left, &right)
 }
 
 /// The numbers divided by their greatest common divisor.

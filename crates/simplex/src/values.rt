@@ -8,11 +8,12 @@ ghost use Rattle.simplex.specs.Refusal.{LeavesBits, IsRefusal};
 ghost use Rattle.simplex.specs.Spots.{common_denominator, denominator_from, numerators_over, sums_of};
 
 use crate::Stop;
+use crate::steps::step_product;
 use farkas_check::{Ratio, common_multiple};
 use items::Items;
 use linear_terms::{Mono, Poly};
 use std::alloc::Global;
-use whole_numbers::{Wide, product};
+use whole_numbers::Wide;
 
 /// The number that a point has at a column; 0 where it has none.
 fn ratio_at(columns: &[Mono], point: &[Ratio], column: &Mono) -> Ratio
@@ -113,7 +114,7 @@ fn numerator_over(common: &i128, value: &Ratio) -> Result<i128, Wide>
     ensures width { IfErr result LeavesBits }
 {
     let den = value.den();
-    product(value.num(), *common / den)
+    step_product(&value.num(), &(*common / den))
 }
 
 /// The numerators of ratios over a common denominator.
