@@ -12,11 +12,12 @@ ghost use Rattle.simplex.specs.Calm.{HasSquares, IsSmallLine, IsMemory};
 ghost use Rattle.simplex.specs.Exchange.{cause};
 ghost use Rattle.simplex.specs.Raise.{Framed};
 ghost use Rattle.simplex.specs.Refusal.{IsRefusal, IsRefusalIn};
-ghost use Rattle.simplex.specs.Search.{IsSolving};
+ghost use Rattle.simplex.specs.Search.{FoundAt, IsSolving};
 ghost use Rattle.simplex.specs.declared.stop.Stop.TheVariants as stop;
 
 use crate::corner::corner;
 use crate::frame::{framed, kinds_of};
+use crate::gauss::Stage;
 use crate::search::{Found, searched};
 use crate::tableau::upright_line;
 use crate::{Stop, Tableau};
@@ -124,6 +125,24 @@ fn answered(
     ensures refusal { IfErr result (IsRefusalIn over (length kinds.now)) }
 {
     let (stage, found) = searched(alloc, t, constants, kinds, count, budget)?;
+    answer_at(alloc, &stage, constants, kinds, budget, found)
+}
+
+/// The answer that is read off where a search came to this end.
+fn answer_at(
+    alloc: Global,
+    stage: &Stage,
+    constants: usize,
+    kinds: &[Kind],
+    budget: u128,
+    found: Found,
+) -> Result<Answer, Stop>
+    ghost over: { Framed }
+    requires found { FoundAt over constants kinds.now budget stage.now.enters stage.now.tableau found }
+    ensures of { IfOk result (λ a. AnswerOf over constants kinds.now budget a) }
+    ensures refusal { IfErr result (IsRefusalIn over (length kinds.now)) }
+{
+    let (_kinds, _budget) = (kinds, budget);
     match found {
         Found::Corner => Ok(Answer::No(corner(alloc, &stage.tableau, constants)?)),
         Found::Refuted(line) => {

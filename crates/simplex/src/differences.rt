@@ -14,6 +14,7 @@ ghost use Rattle.simplex.specs.Refusal.{IsRefusal};
 ghost use Rattle.simplex.specs.SmallBasis.{HasSmallMultipliers, HasSmallHalf, HasSmallBond};
 ghost use Rattle.simplex.specs.Spots.{IsApart, sums_of};
 ghost use Rattle.simplex.specs.Strata.{IsAsked, IsCaseOf, IsFurther, HalfAt, BondAt};
+ghost use Rattle.simplex.specs.Suprema.{IsSupremumOver};
 ghost use Rattle.simplex.specs.Ties.{IsHonestHalf};
 ghost use Rattle.simplex.specs.declared.differences.Strata.{Strata};
 
@@ -214,12 +215,35 @@ fn half_of(
         &objective,
         strata.budget,
     )?;
+    half_at(alloc, strata, case, numbers, up, &objective, found)
+}
+
+/// The same from the supremum of the difference, or of minus the difference.
+fn half_at(
+    alloc: Global,
+    strata: &Strata<'_>,
+    case: &Change,
+    numbers: &[i128],
+    up: bool,
+    objective: &Poly,
+    found: Supremum,
+) -> Result<Half, Stop>
+    requires asked { IsAsked strata.now }
+    requires case { IsCaseOf strata.now case.now }
+    requires calm { IsCalmRelation strata.now numbers.now }
+    requires difference { IsDifferenceOf case.now.terms strata.now.lower.now numbers.now up objective.now }
+    requires came { IsSupremumOver strata.now.columns.now case.now.rows objective.now strata.now.budget found }
+    ensures half { IfOk result (HalfAt strata.now numbers.now case.now up) }
+    ensures small { IfOk result (HasSmallHalf strata.now) }
+    ensures refusal { IfErr result (IsRefusalOf strata.now) }
+{
+    let (_case, _numbers, _up) = (case, numbers, up);
     match found {
         Supremum::Empty => Ok(Half::Pivots),
         Supremum::Pivots => Ok(Half::Pivots),
         Supremum::Bound(cert, point) => Ok(half_below(cert, point)),
         Supremum::Unbounded(point, ray) => {
-            let at = point_apart(alloc, strata.columns, &objective, point, ray)?;
+            let at = point_apart(alloc, strata.columns, objective, point, ray)?;
             Ok(Half::Apart(at))
         }
     }

@@ -163,6 +163,24 @@ fn next_case(
 {
     let case = case_number(place)?;
     let found = case_supremum(alloc, goals, place, budget, endings)?;
+    Ok(progress_of(goals, place, bounds, budget, case, found)?)
+}
+
+/// What the supremum of the next case leads to.
+fn progress_of(
+    goals: &[Goal],
+    place: usize,
+    bounds: Bounds,
+    budget: u128,
+    case: u32,
+    found: Supremum,
+) -> Result<Progress, AllocError>
+    requires so_far { AreBoundsTo budget goals.now place bounds }
+    requires number { case ≡ place }
+    requires supremum { IsSupremumAt budget goals.now place found }
+    ensures { IfOk result (λ p. ProgressAt budget goals.now place p) }
+{
+    let (_goals, _place, _budget) = (goals, place, budget);
     match found {
         Supremum::Empty => Ok(Progress::End(Answer::Limit(Limit::Pivots))),
         Supremum::Pivots => Ok(Progress::End(Answer::Limit(Limit::Pivots))),

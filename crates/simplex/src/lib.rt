@@ -37,3 +37,4 @@ pub use stop::Stop;
 pub use strata::stratum;
 pub use supremum::{Supremum, Top, supremum_of};
 pub use tableau::Tableau;
+pub use values::{common_denominator, numerators_over};

@@ -9,7 +9,7 @@ ghost use Rattle.simplex.specs.Raise.{Framed};
 ghost use Rattle.simplex.specs.Calm.{IsMemory};
 ghost use Rattle.simplex.specs.CalmStrata.{IsRefusalOf, IsRefusalUnder, HasSmallScales, IsCalmSpot};
 ghost use Rattle.simplex.specs.Refusal.{LeavesBits, IsRefusal};
-ghost use Rattle.simplex.specs.Spots.{values_of, AreSideValues, HasMoreLine, AreIndependent, IsNewPoint, IsUnchosen, ChoosesUnknowns, entries_to, spot_row, spot_rows, spots_framed, spots_frame, IsSpotTableau, AreSpots, IsLastColumn, IsRelationOf, AreRelations};
+ghost use Rattle.simplex.specs.Spots.{values_of, AreSideValues, HasMoreLine, AreIndependent, IsNewPoint, IsUnchosen, ChoosesUnknowns, entries_to, spot_row, spot_rows, spots_framed, spots_frame, IsSpotTableau, AreSpots, IsLastColumn, IsRelationOf, IsSpotLine, AreRelations};
 ghost use Rattle.simplex.specs.Spots.{unit_multiple, multiples_from, AreUnitLists, chosen_below};
 
 use crate::corner::{line_choosing, ray};
@@ -263,6 +263,23 @@ pub(crate) fn with_spot(
     ensures spots { IfOk result (λ made. AreSpots strata.now.count made) }
     ensures refusal { IfErr result (IsRefusalOf strata.now) }
 {
+    let (line, scale) = spot_line(alloc, strata, &known, terms, &spot)?;
+    more_spots(alloc, strata.count, known, spot, line, scale)
+}
+
+/// The line of one more spot, and the number by which its values were multiplied.
+fn spot_line(
+    alloc: Global,
+    strata: &Strata<'_>,
+    known: &Spots,
+    terms: &[Poly],
+    spot: &Spot,
+) -> Result<(Items<i128>, i128), Stop>
+    requires calm { IsCalmSpot strata.now terms.now spot.now.at known.now.lines }
+    ensures line { IfOk result (λ r. IsSpotLine strata.now.columns.now spot.now.at terms.now strata.now.lower.now r.0 r.1) }
+    ensures refusal { IfErr result (IsRefusalOf strata.now) }
+{
+    let _known = known;
     let values = side_values(
         alloc,
         strata.columns,
@@ -272,7 +289,7 @@ pub(crate) fn with_spot(
     )?;
     let scale = common_denominator(values.as_slice())?;
     let line = numerators_over(alloc, &scale, values.as_slice())?;
-    more_spots(alloc, strata.count, known, spot, line, scale)
+    Ok((line, scale))
 }
 
 fn more_spots(

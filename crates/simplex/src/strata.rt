@@ -12,9 +12,10 @@ ghost use Rattle.simplex.specs.CalmStrata.{IsRefusalOf, IsRefusalUnder, IsCalmRe
 ghost use Rattle.simplex.specs.Refusal.{IsRefusal};
 ghost use Rattle.simplex.specs.Relations.{IsRelationWith};
 ghost use Rattle.simplex.specs.Points.{IsPointAt};
-ghost use Rattle.simplex.specs.SmallBasis.{HasFewRows, HasSmallEnd, HasSmallVerdict, IsRefusalOver, IsSmallIn, IsSmallOver, IsSmallWhereCalm};
-ghost use Rattle.simplex.specs.Spots.{AreSpots, AreRelations, IsNewPoint, IsUnchosen};
+ghost use Rattle.simplex.specs.SmallBasis.{HasFewRows, HasSmallEnd, HasSmallTies, HasSmallVerdict, IsRefusalOver, IsSmallIn, IsSmallOver, IsSmallWhereCalm};
+ghost use Rattle.simplex.specs.Spots.{AreSpots, AreRelations, IsNewPoint, IsRelationOf, IsUnchosen};
 ghost use Rattle.simplex.specs.Strata.{IsAsked, AreKnown, VerdictAt, CourseAt, IsFoundOver, IsFoundIn, PivotsOver, IsStratumAnswer};
+ghost use Rattle.simplex.specs.Ties.{AreTies};
 ghost use Rattle.simplex.specs.declared.stop.Stop.TheVariants as stop;
 
 use crate::Stop;
@@ -263,15 +264,63 @@ fn tested_unknown(alloc: Global, strata: &Strata<'_>, known: Known) -> Result<Co
     ensures refusal { IfErr result (IsRefusalOf strata.now) }
 {
     let numbers = relation_of(alloc, strata.count, &known.spots, known.next)?;
-    match verdict_of(alloc, strata, numbers.as_slice())? {
-        Verdict::Tied(ties) => {
-            let relation = relation_with(alloc, strata, numbers.as_slice(), ties)?;
-            let more = with_relation(known, relation)?;
-            Ok(Course::On(more))
-        }
+    let line = numbers.as_slice();
+    let verdict = verdict_of(alloc, strata, line)?;
+    course_after(alloc, strata, known, line, verdict)
+}
+
+/// What a verdict on the next unknown's relation leads to.
+fn course_after(
+    alloc: Global,
+    strata: &Strata<'_>,
+    known: Known,
+    numbers: &[i128],
+    verdict: Verdict,
+) -> Result<Course, Stop>
+    requires count { strata.now.count ≡ strata.now.terms + length strata.now.lower.now + 1 }
+    requires few { strata.now.count < 2 ^ 61 }
+    requires asked { IsAsked strata.now }
+    requires known { AreKnown strata.now known }
+    requires next { known.next < strata.now.count }
+    requires free { IsUnchosen known.spots.tableau known.next }
+    requires numbers { length numbers.now ≡ strata.now.count }
+    requires relation { IsRelationOf strata.now.count known.spots.tableau known.next numbers.now }
+    requires verdict { VerdictAt strata.now numbers.now verdict }
+    requires small { HasSmallVerdict strata.now verdict }
+    ensures course { IfOk result (CourseAt strata.now known) }
+    ensures small { IfOk result (HasSmallEnd strata.now) }
+    ensures refusal { IfErr result (IsRefusalOf strata.now) }
+{
+    match verdict {
+        Verdict::Tied(ties) => Ok(relation_added(alloc, strata, known, numbers, ties)?),
         Verdict::Apart(place, at) => spot_added(alloc, strata, known, place, at),
         Verdict::Pivots => Ok(Course::End(Answer::Limit(Limit::Pivots))),
     }
+}
+
+/// The next unknown's relation more, which is tied in all cases.
+fn relation_added(
+    alloc: Global,
+    strata: &Strata<'_>,
+    known: Known,
+    numbers: &[i128],
+    ties: Items<Tie>,
+) -> Result<Course, AllocError>
+    requires count { strata.now.count ≡ strata.now.terms + length strata.now.lower.now + 1 }
+    requires few { strata.now.count < 2 ^ 61 }
+    requires known { AreKnown strata.now known }
+    requires next { known.next < strata.now.count }
+    requires free { IsUnchosen known.spots.tableau known.next }
+    requires numbers { length numbers.now ≡ strata.now.count }
+    requires relation { IsRelationOf strata.now.count known.spots.tableau known.next numbers.now }
+    requires tied { AreTies strata.now.columns.now strata.now.lower.now numbers.now strata.now.cases.now (length strata.now.cases.now) ties }
+    requires small { HasSmallTies strata.now ties }
+    ensures course { IfOk result (CourseAt strata.now known) }
+    ensures small { IfOk result (HasSmallEnd strata.now) }
+{
+    let relation = relation_with(alloc, strata, numbers, ties)?;
+    let more = with_relation(known, relation)?;
+    Ok(Course::On(more))
 }
 
 /// The basis, where the relations are those of all spots; else the unknowns have their turns once more.

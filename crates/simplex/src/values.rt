@@ -88,7 +88,7 @@ pub(crate) fn sums_of(alloc: Global, left: &[Ratio], right: &[Ratio]) -> Result<
 }
 
 /// The least common denominator of ratios.
-pub(crate) fn common_denominator(values: &[Ratio]) -> Result<i128, Wide>
+pub fn common_denominator(values: &[Ratio]) -> Result<i128, Wide>
     ensures exact { result ≡ common_denominator values.now }
     ensures positive { IfOk result (λ common. pos 0 <ℤ common) }
     ensures width { IfErr result LeavesBits }
@@ -118,11 +118,7 @@ fn numerator_over(common: &i128, value: &Ratio) -> Result<i128, Wide>
 }
 
 /// The numerators of ratios over a common denominator.
-pub(crate) fn numerators_over(
-    alloc: Global,
-    common: &i128,
-    values: &[Ratio],
-) -> Result<Items<i128>, Stop>
+pub fn numerators_over(alloc: Global, common: &i128, values: &[Ratio]) -> Result<Items<i128>, Stop>
     ensures exact { Gives cause (λ made. made) result (numerators_over common.now values.now) }
     ensures refusal { IfErr result IsRefusal }
 {
