@@ -1,6 +1,6 @@
 -- A corner of the rows with another objective as its goal.
-use Rattle.std.proofs.Common.{◌≡◌, ◌≢◌, ℕ, zero, suc, ◌+◌, ◌<◌, ◌≤◌, Bool, true, false, cond, List, [], ◌∷◌, ◌++◌, drop, length, get_or, refl, sym, ap, subst, ◌∙◌, arith, ⊎_elim, Ok, ℤ, pos, ◌≤ℤ◌, ◌<ℤ◌}
-use Rattle.std.specs.Prelude.{Result, nat_eq}
+use Rattle.std.proofs.Common.{◌≡◌, ◌≢◌, ℕ, suc, ◌+◌, ◌<◌, ◌≤◌, Bool, true, false, cond, List, [], ◌∷◌, ◌++◌, drop, length, get_or, refl, sym, ap, subst, ◌∙◌, arith, ⊎_elim, Ok, ℤ, pos, ◌≤ℤ◌, ◌<ℤ◌}
+use Rattle.std.specs.Prelude.{Result}
 use Rattle.std.proofs.lemmas.Int.{ints}
 use Rattle.std.proofs.lemmas.Bool.{cases_eq, eq-eqb, ne_eqb, false≢true}
 use Rattle.items.specs.Gives.{◌>>=◌}
@@ -18,7 +18,7 @@ use Rattle.simplex.specs.Exchange.{line_without, numbers_of, choices_of, HasShap
 use Rattle.simplex.specs.Frames.{IsOwnCombination, IsWholeTableau, IsCleared}
 use Rattle.simplex.specs.Raise.{Framed, enters_at, leaves_at}
 use Rattle.simplex.specs.Rows.{kinds_of, kind_at, whole_line, lines_from, framed}
-use Rattle.simplex.specs.Search.{IsFixed, IsFlat, IsMet}
+use Rattle.simplex.specs.Search.{IsFixed, IsMet}
 use Rattle.simplex.specs.Suprema.{with_goal, frame_over}
 use Rattle.simplex.specs.declared.tableau.Tableau.{Tableau}
 use Rattle.simplex.proofs.Divisors.{one-primitive, line_without-primitive}

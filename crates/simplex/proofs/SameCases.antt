@@ -1,5 +1,5 @@
 -- A case of the same columns and rows: the test of equality, and the frame of its objective.
-use Rattle.std.proofs.Common.{◌≡◌, ℕ, ◌+◌, ◌<◌, Bool, true, false, ◌&&◌, List, [], ◌∷◌, ◌++◌, length, refl, sym, ap, subst, ◌∙◌, arith}
+use Rattle.std.proofs.Common.{◌≡◌, ℕ, ◌+◌, Bool, true, false, ◌&&◌, List, [], ◌∷◌, ◌++◌, length, refl, sym, ap, subst, ◌∙◌}
 use Rattle.std.specs.Prelude.{IfSome, Option, None, Some}
 use Rattle.std.specs.Cmp.Lexicographic.{pointwise}
 use Rattle.std.specs.Ordering.{eq_by_cmp, is_eq}
@@ -12,7 +12,7 @@ use Rattle.linear_terms.specs.declared.row.Kind.TheVariants.{AtMost}
 use Rattle.linear_terms.specs.declared.row.Row.{Row}
 use Rattle.linear_terms.specs.Polynomial.{Polynomial}
 use Rattle.linear_terms.proofs.Order.{mono_tie}
-use Rattle.simplex.specs.Endings.{IsMetFor, StandsAt}
+use Rattle.simplex.specs.Endings.{StandsAt}
 use Rattle.simplex.specs.Exchange.{numbers_of}
 use Rattle.simplex.specs.Raise.{Framed}
 use Rattle.simplex.specs.Rows.{kinds_of, framed}

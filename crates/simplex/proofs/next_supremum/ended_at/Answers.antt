@@ -1,4 +1,4 @@
-use Rattle.std.proofs.Common.{rules, ◌≡◌, ◌+◌, ◌<◌, ◌++◌, ◌∷◌, [], ℕ, length, ap, sym, subst, arith, ◌∙◌}
+use Rattle.std.proofs.Common.{rules, ◌≡◌, ◌+◌, ◌++◌, ◌∷◌, [], ℕ, length, ap, sym, subst, arith, ◌∙◌}
 use Rattle.std.specs.Prelude.{IfErr, IfSome}
 use Rattle.linear_terms.specs.declared.row.Kind.TheVariants.{AtMost}
 use Rattle.simplex.specs.Refusal.{IsRefusalIn}

@@ -1,4 +1,4 @@
-use Rattle.std.proofs.Common.{◌≡◌, ◌++◌, ◌∷◌, ◌∙◌, [], ap, get_or, rules, List, ℤ}
+use Rattle.std.proofs.Common.{◌≡◌, ◌++◌, ◌∷◌, ◌∙◌, [], ap, rules}
 use Rattle.farkas_check.specs.Relations.{numbers_of}
 use Rattle.simplex.proofs.Behind.{mapped-next}
 use Rattle.simplex.proofs.strata.number_lists.Goals as goal

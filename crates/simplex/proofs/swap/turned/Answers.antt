@@ -1,4 +1,4 @@
-use Rattle.std.proofs.Common.{rules, ◌≡◌, ◌+◌, ◌<◌, ◌∙◌, ℕ, ◌∷◌, ◌++◌, [], List, Ok, ℤ, length, get_or, sym, ap, subst}
+use Rattle.std.proofs.Common.{rules, ◌≡◌, ◌<◌, ◌∙◌, ℕ, ◌∷◌, ◌++◌, [], List, Ok, ℤ, length, get_or, sym, ap, subst}
 use Rattle.simplex.specs.Endings.{cleared, IsMetFor}
 use Rattle.simplex.proofs.OtherGoals.{goal_line, choices_within, pivots_wide, met_turned}
 use Rattle.simplex.proofs.swap.turned.Goals as goal

@@ -1,4 +1,4 @@
-use Rattle.std.proofs.Common.{◌≡◌, ℕ, ◌++◌, ◌∷◌, ◌+◌, [], length, sym, ap, ◌∙◌, arith, rules, List, Ok, ℤ}
+use Rattle.std.proofs.Common.{◌≡◌, ℕ, ◌++◌, ◌∷◌, ◌+◌, [], length, sym, ap, ◌∙◌, rules, List, Ok, ℤ}
 use Rattle.std.specs.Vec.Iter.{into_iter_items}
 use Rattle.simplex.specs.Exchange.{behind, line_without_at, lines_without}
 use Rattle.simplex.proofs.Behind.{behind-next}
