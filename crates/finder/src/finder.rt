@@ -10,7 +10,7 @@ use std::alloc::{AllocError, Global};
 /// Answers each question by exact rational simplex, and by elimination where a question about relations met a limit. What
 /// an answer is, and when it is a limit, is told by `IsFound`.
 /// It keeps where the last suprema ended; what it may answer does not depend on that.
-#[derive(Debug, Drop)]
+#[derive(Drop)]
 pub struct Finder {
     endings: Endings,
 }
