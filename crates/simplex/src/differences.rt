@@ -140,7 +140,7 @@ fn difference_in(
     )
 }
 
-/// The same from the numbers of the terms, and from those of the lower terms and 1, each with its sign.
+/// The same from the numbers of the terms and of the lower terms and 1, each with its sign.
 fn difference_with(
     alloc: Global,
     strata: &Strata<'_>,
