@@ -1,15 +1,16 @@
 -- The directions that are made so far, and the set of their keys.
-use Rattle.std.proofs.Common.{◌≡◌, ℤ, List, [], ◌∷◌, ◌++◌, Bool, true, false, cond, fold, refl, sym, ap, ◌∙◌}
+use Rattle.std.proofs.Common.{◌≡◌, ℕ, ◌+◌, ◌<◌, ℤ, List, [], ◌∷◌, ◌++◌, length, drop, get_or, Bool, true, false, cond, fold, refl, sym, ap, ◌∙◌}
 use Rattle.std.specs.Prelude.{◌&&◌, ◌||◌, not}
 use Rattle.std.specs.BTreeSet as tree
 use Rattle.std.specs.BTreeSet.{BTreeSet}
 use Rattle.std.specs.Cmp.{IsTotalOrder, eq_by_cmp_equiv, int_cmp_total, on_total, then_total}
 use Rattle.std.specs.Cmp.Lexicographic.{slice_cmp, lists_total}
-use Rattle.std.specs.List.{list_any, filter_map}
+use Rattle.std.specs.List.{list_any, filter_map, flat_map}
 use Rattle.std.specs.Ordering.{eq_by_cmp, int_cmp, int_eq, is_eq, ordering_then}
 use Rattle.std.specs.declared.cmp.Ordering.{Ordering}
 use Rattle.std.specs.declared.cmp.Ordering.TheVariants as order
 use Rattle.std.proofs.lemmas.Grind.{fold-append}
+use Rattle.std.proofs.lemmas.List.{drop_more}
 use Rattle.std.proofs.lemmas.List.Folds.{list_any-append}
 use Rattle.std.proofs.lemmas.List.Elements.{filter_map-append}
 use Rattle.linear_terms.specs.declared.col.Col.{Col}
@@ -84,3 +85,7 @@ module _ (known : BTreeSet Key) (made : List Polynomial) (d : Polynomial) (tells
 
 pub with_each-append : (made : List Polynomial) (xs ys : List Made) → with_each made (xs ++ ys) ≡ with_each (with_each made xs) ys
 with_each-append made xs ys = ap (λ ds. fold (with_new poly_eq) made ds) (filter_map-append answered xs ys) ∙ fold-append (with_new poly_eq) made (filter_map answered xs) (filter_map answered ys)
+
+-- what an element gives, and then what those behind it give
+pub with_each-next : {X : Type 0} (f : X → List Made) (made : List Polynomial) (xs : List X) (i : ℕ) (x : X) → i < length xs → with_each made (flat_map f (drop i xs)) ≡ with_each (with_each made (f (get_or xs i x))) (flat_map f (drop (i + 1) xs))
+with_each-next f made xs i x lt = ap (λ ys. with_each made (flat_map f ys)) (drop_more xs i x lt) ∙ with_each-append made (f (get_or xs i x)) (flat_map f (drop (i + 1) xs))

@@ -6,6 +6,8 @@ use Rattle.std.proofs.lemmas.Map.Views.{exact_unsigned_eq}
 use Rattle.linear_terms.specs.Equality.{poly_eq, poly_eq_equiv}
 use Rattle.transition_formula.proofs.Covered.{both, both_true}
 use Rattle.transition_formula.proofs.Truths.{polys_same}
+use Rattle.transition_formula.specs.Transition.{Transition}
+use Rattle.polyhedra.specs.Laws.{IsBetween}
 use Rattle.polyhedra.specs.Squash.{are_same}
 use Rattle.polyhedra.specs.Vocabulary.{Vocabulary}
 
@@ -53,3 +55,7 @@ same-decided v w b h = go b (are_same v w) refl h.0 (λ e. h.1 e)
     go false false e to of = refl
     go true false e to of = let same = to refl in sym (sym e ∙ ap (are_same v) (sym same) ∙ are_same-itself v)
     go false true e to of = of (are_same-exact v w e)
+
+-- both ends then have equally many columns
+pub same-ends : (one : Bool) (f : Transition) (from to : Vocabulary) → IsBetween f from to → one ≡ are_same from to → one ≡ true → f.from ≡ f.to
+same-ends one f from to between is e = sym between.starts ∙ ap (λ (v : Vocabulary). v.columns) (are_same-exact from to (sym is ∙ e)) ∙ between.ends

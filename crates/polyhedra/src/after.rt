@@ -1,6 +1,9 @@
 ghost use Rattle.std.specs.Prelude.{◌≡◌, ◌<◌, ◌^◌, map, length, IfOk};
 ghost use Rattle.std.specs.List.{range_with_len};
+ghost use Rattle.items.specs.Gives.{Gives};
+ghost use Rattle.linear_terms.specs.Expressions.{Made, or_zero};
 ghost use Rattle.linear_terms.specs.Polynomial.{column_of};
+ghost use Rattle.linear_terms.specs.TermError.{cause};
 ghost use Rattle.polyhedra.specs.Squash.{after_from, change_after, entries_of};
 
 use items::Items;
@@ -95,8 +98,15 @@ fn change_after(alloc: Global, one: bool, modified: &[u32], v: u32) -> Result<Po
         return Ok(post);
     }
     let entry = column(alloc, Col::At(v))?;
-    match difference(alloc, &post, &entry) {
-        Ok(change) => Ok(change),
+    or_zero(alloc, difference(alloc, &post, &entry))
+}
+
+/// What could be made, or else 0; want of memory is an error here too.
+fn or_zero(alloc: Global, made: Result<Poly, TermError>) -> Result<Poly, AllocError>
+    ensures { (stated : Made) → Gives cause (λ p. p) made stated → IfOk result (λ p. p ≡ or_zero stated) }
+{
+    match made {
+        Ok(poly) => Ok(poly),
         Err(TermError::Memory) => Err(AllocError),
         Err(_lost) => Ok(Poly::constant(alloc, 0)),
     }

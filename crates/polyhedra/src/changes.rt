@@ -12,7 +12,7 @@ use linear_terms::{Case, Col, Mono, Poly, TermError, difference, subst};
 use std::alloc::{AllocError, Global};
 
 /// The change of each variable in one case, 0 where it cannot be made; and why it cannot.
-#[derive(Debug, Drop)]
+#[derive(Drop)]
 pub(crate) struct Moves {
     pub(crate) polys: Items<Poly>,
     pub(crate) faults: Items<Option<TermError>>,

@@ -1,14 +1,18 @@
-ghost use Rattle.std.specs.Prelude.{◌≡◌, ◌<◌, ◌^◌, [], ◌∷◌, true, length, IsTrue, IfOk, option_to_list};
+ghost use Rattle.std.specs.Prelude.{◌≡◌, ◌<◌, ◌^◌, [], ◌∷◌, true, map, length, IsTrue, IfOk, option_to_list};
 ghost use Rattle.farkas_check.specs.Relations.{have_equally_many};
 ghost use Rattle.polyhedra.specs.Directions.{directions};
 ghost use Rattle.polyhedra.specs.Vocabulary.{IsVocabulary};
 ghost use Rattle.transition_formula.specs.Meaning.{Covers};
+ghost use Rattle.transition_formula.specs.Transition.{IsTransition};
 ghost use Rattle.posing.specs.Follows.{Follows};
+ghost use Rattle.posing.specs.Logs.{Adds, loss_notes};
+ghost use Rattle.posing.specs.Posing.{each};
 ghost use Rattle.posing.specs.declared.note.Note.TheVariants as note;
+ghost use Rattle.polyhedra.specs.Bounds.{bounded_after};
 ghost use Rattle.polyhedra.specs.Changes as changes;
 ghost use Rattle.polyhedra.specs.Finish.{told_count};
 ghost use Rattle.polyhedra.specs.Laws.{IsBetween, IsSmall, FittingCovers, FittingFits};
-ghost use Rattle.polyhedra.specs.Squash.{are_same, related, with_differences, with_bounds, squash_rows, squashed_case, squashed, noted_squash, fitted};
+ghost use Rattle.polyhedra.specs.Squash.{are_same, change_after, entries_of, posts_after, relation_rows, relation_losses, related, with_differences, with_bounds, squash_rows, squashed_case, squashed, noted_squash, fitted};
 
 use crate::after::{changes_after, changes_of_some, entries_of, posts_after};
 use crate::finishing::told_count;
@@ -16,7 +20,7 @@ use crate::{
     Log, Movement, Note, Vocabulary, WorkError, bounds_after, bounds_before, bounds_on_changes,
     directions, finish, movement_of, relation_rows, relations_of,
 };
-use farkas_check::{Change, Oracle, Stratum};
+use farkas_check::{Change, Oracle, Relation, Stratum};
 use items::Items;
 use linear_terms::{Case, Poly, Row};
 use std::alloc::{AllocError, Global};
@@ -143,10 +147,28 @@ fn squashed_case<O: Oracle>(
 {
     let movement = movement_of(alloc, one, f)?;
     let aux = movement.modified.len() as u32;
-    let post = posts_after(alloc, one, movement.modified.as_slice(), f.to())?;
-    log.add_losses(alloc, movement.lost.as_slice())?;
+    let post = noted_posts(alloc, one, f, &movement, log)?;
     let rows = squash_rows(alloc, one, f, movement, from, to, oracle, log)?;
     Ok(Case { aux, rows, post })
+}
+
+/// What stands for each variable afterwards; losses of changes are noted.
+fn noted_posts(
+    alloc: Global,
+    one: bool,
+    f: &Formula,
+    movement: &Movement,
+    log: &mut Log,
+) -> Result<Items<Poly>, AllocError>
+    requires few { length movement.now.modified < 2 ^ 32 }
+    requires modified { movement.now.modified ≡ changes.modified one f.now }
+    requires lost { loss_notes movement.now.lost ≡ changes.lost_changes one f.now }
+    ensures noted { Adds (changes.lost_changes one f.now) log.old log.new result }
+    ensures exact { IfOk result (λ posts. posts ≡ posts_after one f.now) }
+{
+    let posts = posts_after(alloc, one, movement.modified.as_slice(), f.to())?;
+    log.add_losses(alloc, movement.lost.as_slice())?;
+    Ok(posts)
 }
 
 /// Rows of relations, and bounds behind them.
@@ -220,20 +242,34 @@ fn related<O: Oracle>(
     requires occurring { occurring.now ≡ changes.occurring one f.now }
     ensures { Follows O.asking oracle.old oracle.new log.old log.new result (related one f.now) }
 {
-    let stratum = stratum_of(cases, entries_of(alloc, occurring)?);
-    let found = relations_of(alloc, stratum, oracle, log)?;
-    let terms = changes_of_some(alloc, one, modified, moving)?;
     let lower = entries_of(alloc, occurring)?;
+    let found = relations_of(alloc, stratum_of(cases, lower), oracle, log)?;
     match found {
         None => Ok(Items::new(alloc)),
-        Some(relations) => Ok(relation_rows(
-            alloc,
-            terms.as_slice(),
-            lower.as_slice(),
-            relations.as_slice(),
-            log,
-        )?),
+        Some(relations) => {
+            let relations = relations.as_slice();
+            Ok(related_rows(alloc, one, modified, moving, occurring, relations, log)?)
+        }
     }
+}
+
+/// The rows of relations between changes and entry columns. A row that is lost is noted.
+fn related_rows(
+    alloc: Global,
+    one: bool,
+    modified: &[u32],
+    moving: &[u32],
+    occurring: &[u32],
+    relations: &[Relation],
+    log: &mut Log,
+) -> Result<Items<Row>, AllocError>
+    requires { length modified.now < 2 ^ 32 }
+    ensures noted { Adds (loss_notes (relation_losses (map (change_after one modified.now) moving.now) (entries_of occurring.now) relations.now)) log.old log.new result }
+    ensures exact { IfOk result (λ rows. rows ≡ relation_rows (map (change_after one modified.now) moving.now) (entries_of occurring.now) relations.now) }
+{
+    let terms = changes_of_some(alloc, one, modified, moving)?;
+    let lower = entries_of(alloc, occurring)?;
+    relation_rows(alloc, terms.as_slice(), lower.as_slice(), relations, log)
 }
 
 /// A question about cases that have equally many terms.
@@ -267,17 +303,7 @@ fn bounds<O: Oracle>(
 {
     let entry = directions(alloc, from)?;
     let before = bounds_before(alloc, rows, f.cases(), entry.as_slice(), oracle, log)?;
-    let posts = posts_after(alloc, one, modified, f.to())?;
-    let exit = directions(alloc, to)?;
-    let both = bounds_after(
-        alloc,
-        before,
-        f.cases(),
-        posts.as_slice(),
-        exit.as_slice(),
-        oracle,
-        log,
-    )?;
+    let both = exit_bounds(alloc, one, f, modified, to, before, oracle, log)?;
     differences(
         alloc,
         one,
@@ -286,6 +312,37 @@ fn bounds<O: Oracle>(
         from,
         entry.as_slice(),
         both,
+        oracle,
+        log,
+    )
+}
+
+/// Bounds after, behind other rows.
+fn exit_bounds<O: Oracle>(
+    alloc: Global,
+    one: bool,
+    f: &Formula,
+    modified: &[u32],
+    to: &Vocabulary,
+    rows: Items<Row>,
+    oracle: &mut O,
+    log: &mut Log,
+) -> Result<Items<Row>, WorkError>
+    requires fits { IsTransition f.now.from f.now.to f.now.cases }
+    requires columns { to.now.columns ≡ f.now.to }
+    requires valid { IsVocabulary to.now }
+    requires few { length modified.now < 2 ^ 32 }
+    requires modified { modified.now ≡ changes.modified one f.now }
+    ensures { Follows O.asking oracle.old oracle.new log.old log.new result (each (bounded_after f.now.cases (posts_after one f.now)) rows (directions to.now)) }
+{
+    let posts = posts_after(alloc, one, modified, f.to())?;
+    let exit = directions(alloc, to)?;
+    bounds_after(
+        alloc,
+        rows,
+        f.cases(),
+        posts.as_slice(),
+        exit.as_slice(),
         oracle,
         log,
     )

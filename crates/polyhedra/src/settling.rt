@@ -5,6 +5,7 @@ ghost use Rattle.transition_formula.specs.Rounds.{in_order};
 ghost use Rattle.transition_formula.specs.Transition.{IsSolvable, AreSolvable};
 ghost use Rattle.posing.specs.Follows.{Follows};
 ghost use Rattle.posing.specs.Logs.{Adds, loss_notes};
+ghost use Rattle.polyhedra.specs.Infeasibility.{infeasible};
 ghost use Rattle.polyhedra.specs.Settle.{settled, settled_cases, with_settled, settled_case, feasible, unless};
 ghost use Rattle.polyhedra.specs.Laws.{HaveCanonicalRows, SettlingCovers};
 
@@ -130,9 +131,21 @@ fn feasible<O: Oracle>(
     if case.rows.is_empty() {
         return Ok(Some(case));
     }
-    let question = question_of(&case.rows)?;
-    let drops = assent(alloc, &question, oracle, log)?;
+    let drops = are_refuted(alloc, &case.rows, oracle, log)?;
     Ok(unless(drops, case))
+}
+
+/// Whether the answer calls rows infeasible.
+fn are_refuted<O: Oracle>(
+    alloc: Global,
+    rows: &Items<Row>,
+    oracle: &mut O,
+    log: &mut Log,
+) -> Result<bool, WorkError>
+    ensures { Follows O.asking oracle.old oracle.new log.old log.new result (infeasible rows.now) }
+{
+    let question = question_of(rows)?;
+    assent(alloc, &question, oracle, log)
 }
 
 fn question_of(rows: &Items<Row>) -> Result<Question, AllocError>

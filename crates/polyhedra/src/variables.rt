@@ -15,7 +15,7 @@ use std::alloc::{AllocError, Global};
 use transition_formula::{Formula, Loss};
 
 /// What a formula changes.
-#[derive(Debug, Drop)]
+#[derive(Drop)]
 pub struct Movement {
     /// The variables whose change is not zero, or cannot be made, in some case.
     pub modified: Items<u32>,

@@ -1,7 +1,30 @@
-use Rattle.std.proofs.Common.{length, ap, ◌∙◌, arith}
+use Rattle.std.proofs.Common.{length, refl, ap, ◌∙◌, arith}
+use Rattle.posing.proofs.Steps.{value_first, error_first}
+use Rattle.polyhedra.specs.Squash.{squash_rows}
 use Rattle.polyhedra.proofs.Covering.{modified-few}
 use Rattle.polyhedra.proofs.fitting.squash_rows.Goals as goal
 
-pub related-requires-clause-few : goal.related-requires-clause-few
-related-requires-clause-few g c =
-    let few = modified-few c.args.one c.args.f.now in let long = ap length (c.as_slice.ensures ∙ c.requires.modified) in let most = c.requires.between.few_after in omega arith
+pub related-requires : goal.related-requires
+related-requires g c =
+    let few = modified-few c.args.one c.args.f.now in
+    let long = ap length (c.as_slice.ensures ∙ c.requires.modified) in
+    let most = c.requires.between.few_after in
+    record {
+      few = omega arith;
+      modified = c.as_slice.ensures ∙ c.requires.modified;
+      moving = c.as_slice-2.ensures ∙ c.requires.moving;
+      cases = c.requires.cases;
+      occurring = c.as_slice-3.ensures ∙ c.requires.occurring;
+    }
+
+pub bounds-requires : goal.bounds-requires
+bounds-requires g c =
+    record { between = c.requires.between; one = c.requires.one; modified = c.as_slice-4.ensures ∙ c.requires.modified }
+
+pub returns-in_err-equations : goal.returns-in_err-equations
+unfolding squash_rows
+returns-in_err-equations g c = error_first _ c.in_err-equations.ensures refl c.from_residual.ensures.1
+
+pub returns : goal.returns
+unfolding squash_rows
+returns g c = value_first _ c.in_ok-equations.ensures refl c.bounds.ensures

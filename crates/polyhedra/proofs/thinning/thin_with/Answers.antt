@@ -6,7 +6,8 @@ use Rattle.farkas_check.specs.declared.question.Question.TheVariants.{Infeasible
 use Rattle.linear_terms.specs.declared.row.Row.{Row}
 use Rattle.polyhedra.specs.Infeasibility.{assent}
 use Rattle.polyhedra.specs.Thin.{without_if, thinned_with}
-use Rattle.posing.proofs.Steps.{value_first, at_end}
+use Rattle.posing.proofs.Following.{stops}
+use Rattle.posing.proofs.Steps.{value_first, error_first, at_end}
 use Rattle.polyhedra.proofs.Thinned.{put_back}
 use Rattle.polyhedra.proofs.thinning.thin_with.Goals as goal
 
@@ -16,6 +17,24 @@ with_row_unless-requires g c =
     let same = c.others_of-others.ensures (remove c.args.rows c.args.place) c.args.negation asked in
     let many = length-remove c.args.rows c.args.place c.requires in
     subst (λ (rs : List Row). c.args.place ≤ length rs) (sym same) (omega arith)
+
+pub parted-others-requires : goal.parted-others-requires
+parted-others-requires g c = c.requires
+
+pub returns-in_err-question : goal.returns-in_err-question
+returns-in_err-question g c = stops _ _ _ _ _ _ refl c.from_residual.ensures.1
+
+pub returns-in_err-drops : goal.returns-in_err-drops
+unfolding thinned_with
+returns-in_err-drops g c =
+    let asked = c.in_ok-question.ensures ∙ ap (λ rs. Infeasible (rs ++ c.args.negation ∷ [])) c.parted-others.ensures.others in
+    error_first _ c.in_err-drops.ensures (ap assent asked) c.from_residual-in_err-drops.ensures.1
+
+pub returns-in_err-with_row_unless : goal.returns-in_err-with_row_unless
+unfolding thinned_with
+returns-in_err-with_row_unless g c =
+    let asked = c.in_ok-question.ensures ∙ ap (λ rs. Infeasible (rs ++ c.args.negation ∷ [])) c.parted-others.ensures.others in
+    value_first _ c.in_ok-drops.ensures (ap assent asked) (stops _ _ _ _ _ _ refl c.from_residual-in_err-with_row_unless.ensures.1)
 
 restored : (drops : Bool) (rows : List Row) (place : ℕ) (row : Row) → slice_get rows place ≡ Some row → (if drops then remove rows place else insert (remove rows place) place row) ≡ without_if drops place rows
 restored true rows place row e = refl

@@ -1,10 +1,23 @@
-use Rattle.std.proofs.Common.{map, ap, ◌∙◌}
+use Rattle.std.proofs.Common.{◌≡◌, All, length, map, sym, ap, subst, ◌∙◌}
 use Rattle.std.specs.List.{filter, flat_map, range_with_len}
+use Rattle.std.proofs.lemmas.List.{length-map}
+use Rattle.linear_terms.specs.declared.row.Case.{Case}
 use Rattle.posing.specs.Logs.{loss_notes}
 use Rattle.polyhedra.specs.Changes.{occurs_in}
 use Rattle.polyhedra.specs.Tables.{table_of, is_moved_in, is_made_in, first_of, losses_at, changes_from}
+use Rattle.polyhedra.proofs.Covering.{posts-long}
 use Rattle.polyhedra.proofs.Varying.{modified-tables, moving-tables, losses-tables, changes-tables}
 use Rattle.polyhedra.proofs.variables.movement_of.Goals as goal
+
+pub tables_of-requires : goal.tables_of-requires
+tables_of-requires c =
+    let f = c.args.f.now in
+    subst (λ n. All (λ (case : Case). length case.post ≡ n) c.cases.result.now) (sym c.to.ensures) (posts-long f.from f.to c.cases.result.now c.cases.ensures.fit)
+
+pub changes_of-requires : goal.changes_of-requires
+changes_of-requires c =
+    ap length (c.as_slice-7.ensures ∙ c.in_ok-tables.ensures) ∙ length-map c.cases.result.now (table_of c.args.one c.to.result)
+    ∙ ap length (c.cases.ensures.cases ∙ sym c.cases-2.ensures.cases)
 
 pub returns-clause-modified : goal.returns-clause-modified
 returns-clause-modified c =
