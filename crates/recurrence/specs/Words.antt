@@ -12,7 +12,8 @@ use Rattle.linear_terms.specs.declared.row.Case.{Case}
 use Rattle.posing.specs.Posing.{Posing, ◌>>=◌, each}
 use Rattle.recurrence.specs.declared.terms.Term.{Term}
 use Rattle.recurrence.specs.Progressions.{Progression, signs, progressions_of, bounded_progression}
-use Rattle.recurrence.specs.Star.{after_from, count, posts, moves}
+use Rattle.recurrence.specs.Star.{after_from, count, posts, moves, rows_of}
+use Rattle.recurrence.specs.Strata.{strata}
 use Rattle.linear_terms.specs.declared.col.Col.TheVariants.{At, Aux}
 use Rattle.linear_terms.specs.declared.error.TermError.{TermError}
 use Rattle.linear_terms.specs.declared.row.Kind.TheVariants.{AtMost}
@@ -83,3 +84,7 @@ bound_rows body voc rows =
     each (bounded_before body.cases) rows (directions voc) >>= λ before.
     each (bounded_after body.cases (posts body)) before (directions voc) >>= λ both.
     each (bounded_change body.cases (moves body) (Some (count body))) both (directions voc ++ voc.extra)
+
+-- the rows by the strata of the body
+unfoldable pub rows_by_strata : Transition → Vocabulary → Posing (List Row)
+rows_by_strata body voc = strata body >>= rows_of body voc

@@ -1,13 +1,14 @@
-ghost use Rattle.std.specs.Prelude.{◌≡◌, ◌<◌, ◌^◌, ◌&&◌, not, pos, map, length, All, IfOk};
+ghost use Rattle.std.specs.Prelude.{◌≡◌, ◌<◌, ◌^◌, ◌&&◌, true, not, pos, map, length, All, Ok, IfOk};
 ghost use Rattle.std.specs.List.{filter, list_all};
 ghost use Rattle.std.specs.Ordering.{int_eq};
 ghost use Rattle.items.specs.Gives.{Gives};
 ghost use Rattle.linear_terms.specs.declared.col.Col.TheVariants.{At, Aux};
-ghost use Rattle.linear_terms.specs.Expressions.{◌⊟◌, column};
+ghost use Rattle.linear_terms.specs.Expressions.{◌⊟◌, ◌⊠◌, column, whole};
 ghost use Rattle.linear_terms.specs.TermError.{cause};
 ghost use Rattle.posing.specs.Follows.{Follows};
 ghost use Rattle.posing.specs.Posing.{each};
-ghost use Rattle.polyhedra.specs.Bounds.{goals_of};
+ghost use Rattle.polyhedra.specs.Changes.{change};
+ghost use Rattle.polyhedra.specs.Bounds.{bound_of, goals_of};
 ghost use Rattle.recurrence.specs.Progressions.{signs, is_alone, is_term, progressions, excess, progression_row, bounded_progression};
 ghost use Rattle.recurrence.specs.Star.{after_from, count, moved};
 ghost use Rattle.recurrence.specs.Strata.{all_terms};
@@ -140,8 +141,7 @@ fn with_progression<O: Oracle>(
     requires low { v < to }
     ensures { Follows O.asking oracle.old oracle.new log.old log.new result (bounded_over cases.now modified.now rows (record { variable = v; up = up.now; term = term.now; by = by.now })) }
 {
-    let goals = goals_over(alloc, cases, to, v, up, term, by);
-    let bound = bound_by(alloc, goals, oracle, log)?;
+    let bound = bound_over(alloc, cases, to, v, up, term, by, oracle, log)?;
     match &bound {
         None => Ok(rows),
         Some(most) => {
@@ -149,6 +149,26 @@ fn with_progression<O: Oracle>(
             Ok(with_row(alloc, rows, row, log)?)
         }
     }
+}
+
+/// The greatest value, if it is known.
+fn bound_over<O: Oracle>(
+    alloc: Global,
+    cases: &[Case],
+    to: u32,
+    v: u32,
+    up: &i128,
+    term: &Term,
+    by: &i128,
+    oracle: &mut O,
+    log: &mut Log,
+) -> Result<Option<i128>, WorkError>
+    requires posts { All (λ case. length case.post ≡ to) cases.now }
+    requires low { v < to }
+    ensures { Follows O.asking oracle.old oracle.new log.old log.new result (bound_of cases.now (excess (record { variable = v; up = up.now; term = term.now; by = by.now }))) }
+{
+    let goals = goals_over(alloc, cases, to, v, up, term, by);
+    bound_by(alloc, goals, oracle, log)
 }
 
 fn goals_over(
@@ -192,13 +212,26 @@ fn excess(
     requires { v < length case.now.post }
     ensures { Gives cause (λ p. p) result (excess (record { variable = v; up = up.now; term = term.now; by = by.now }) case.now) }
 {
-    let change = mul(
-        alloc,
-        &Poly::constant(alloc, *up),
-        &change(alloc, true, case, v)?,
-    )?;
-    let slope = mul(alloc, &Poly::constant(alloc, *by), &term.recurrence.start)?;
+    let change = change_so_often(alloc, case, v, up)?;
+    let slope = multiple(alloc, by, &term.recurrence.start)?;
     difference(alloc, &change, &slope)
+}
+
+/// `up` times the change of a variable.
+fn change_so_often(alloc: Global, case: &Case, v: u32, up: &i128) -> Result<Poly, TermError>
+    requires { v < length case.now.post }
+    ensures { Gives cause (λ p. p) result (whole up.now ⊠ change true case.now v) }
+{
+    let change = change(alloc, true, case, v)?;
+    multiple(alloc, up, &change)
+}
+
+/// A number times a polynomial.
+fn multiple(alloc: Global, by: &i128, p: &Poly) -> Result<Poly, TermError>
+    ensures { Gives cause (λ p. p) result (whole by.now ⊠ Ok p.now) }
+{
+    let factor = Poly::constant(alloc, *by);
+    mul(alloc, &factor, p)
 }
 
 /// The row for a bound.
@@ -214,14 +247,19 @@ fn progression_row(
     requires { length modified.now < 2 ^ 32 }
     ensures { Gives cause (λ r. r) result (progression_row (moved_by modified.now) (Aux (length modified.now)) (record { variable = v; up = up.now; term = term.now; by = by.now }) most.now) }
 {
-    let change = mul(
-        alloc,
-        &Poly::constant(alloc, *up),
-        &moved(alloc, modified, v)?,
-    )?;
+    let change = moved_so_often(alloc, modified, v, up)?;
     let growth = product(*by, term.relation.c)?;
-    let slope = mul(alloc, &Poly::constant(alloc, *by), &term.recurrence.start)?;
+    let slope = multiple(alloc, by, &term.recurrence.start)?;
     sum_row(alloc, &change, &slope, growth, *most, turn_count(modified))
+}
+
+/// `up` times a variable's change over the turns.
+fn moved_so_often(alloc: Global, modified: &[u32], v: u32, up: &i128) -> Result<Poly, TermError>
+    requires { length modified.now < 2 ^ 32 }
+    ensures { Gives cause (λ p. p) result (whole up.now ⊠ moved_by modified.now v) }
+{
+    let change = moved(alloc, modified, v)?;
+    multiple(alloc, up, &change)
 }
 
 // ---- all progressions

@@ -1,6 +1,7 @@
 ghost use Rattle.std.specs.Prelude.{◌≡◌, ℤ, List, Ok, map, Result, IfOk};
 ghost use Rattle.items.specs.Gives.{Gives};
 ghost use Rattle.linear_terms.specs.declared.col.Col.{Col};
+ghost use Rattle.linear_terms.specs.declared.col.Col.TheVariants.{At};
 ghost use Rattle.linear_terms.specs.Expressions.{Made, ◌⊞◌, whole, all_of, combination, linear};
 ghost use Rattle.linear_terms.specs.Polynomial.{column_of};
 ghost use Rattle.linear_terms.specs.TermError.{cause};
@@ -14,7 +15,7 @@ use polyhedra::entries_of;
 use std::alloc::{AllocError, Global};
 
 /// A sequence along the turns, over the state in which they start: its number there and its first three differences.
-#[derive(Debug, Drop)]
+#[derive(Drop)]
 pub(crate) struct Recurrence {
     pub(crate) start: Poly,
     pub(crate) first: Result<Poly, TermError>,
@@ -23,14 +24,14 @@ pub(crate) struct Recurrence {
 }
 
 /// A term, by the relation that determines its change.
-#[derive(Debug, Drop)]
+#[derive(Drop)]
 pub(crate) struct Term {
     pub(crate) relation: Relation,
     pub(crate) recurrence: Recurrence,
 }
 
 /// The terms of a body, by strata.
-#[derive(Debug, Drop)]
+#[derive(Drop)]
 pub(crate) struct Strata {
     pub(crate) first: Items<Term>,
     pub(crate) second: Items<Term>,
@@ -38,7 +39,7 @@ pub(crate) struct Strata {
 }
 
 /// Parts of a recurrence.
-#[derive(Clone, Copy, Debug, PartialEq, Eq)]
+#[derive(Clone, Copy)]
 pub(crate) enum Part {
     Start,
     First,
@@ -120,20 +121,42 @@ pub(crate) fn term_of(
     requires { Rise variables.now }
     ensures { IfOk result (λ t. t ≡ term_of variables.now lower.now relation) }
 {
-    let entries = entries_of(alloc, variables)?;
-    let start = linear(alloc, relation.a.as_slice(), entries.as_slice())?;
-    let first = settled(first_of(alloc, lower, &relation))?;
-    let second = settled(combined(alloc, Part::First, lower, relation.b.as_slice()))?;
-    let third = settled(combined(alloc, Part::Second, lower, relation.b.as_slice()))?;
+    let recurrence = recurrence_of(alloc, variables, lower, &relation)?;
     Ok(Term {
         relation,
-        recurrence: Recurrence {
-            start,
-            first,
-            second,
-            third,
-        },
+        recurrence,
     })
+}
+
+/// The sequence of the term of a relation.
+fn recurrence_of(
+    alloc: Global,
+    variables: &[u32],
+    lower: &[Recurrence],
+    relation: &Relation,
+) -> Result<Recurrence, AllocError>
+    requires { Rise variables.now }
+    ensures { IfOk result (λ r. r ≡ (term_of variables.now lower.now relation.now).recurrence) }
+{
+    let start = start_of(alloc, variables, relation.a.as_slice())?;
+    let first = settled(first_of(alloc, lower, relation))?;
+    let second = settled(combined(alloc, Part::First, lower, relation.b.as_slice()))?;
+    let third = settled(combined(alloc, Part::Second, lower, relation.b.as_slice()))?;
+    Ok(Recurrence {
+        start,
+        first,
+        second,
+        third,
+    })
+}
+
+/// Its number where the turns start: numbers times the entry columns of variables.
+fn start_of(alloc: Global, variables: &[u32], numbers: &[i128]) -> Result<Poly, AllocError>
+    requires { Rise variables.now }
+    ensures { IfOk result (λ p. p ≡ linear numbers.now (map (λ v. At v) variables.now)) }
+{
+    let entries = entries_of(alloc, variables)?;
+    linear(alloc, numbers, entries.as_slice())
 }
 
 /// The linear polynomial that has numbers at columns, which stand in print order. No step of it leaves 128 bits.

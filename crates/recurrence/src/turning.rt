@@ -1,4 +1,4 @@
-ghost use Rattle.std.specs.Prelude.{◌≡◌, ◌<◌, ◌^◌, ◌++◌, ◌∷◌, [], ℕ, List, Ok, map, fold, length, IfOk, OnOk};
+ghost use Rattle.std.specs.Prelude.{◌≡◌, ◌<◌, ◌^◌, ◌++◌, ◌∷◌, [], true, ℕ, List, Ok, map, fold, length, IfOk, OnOk};
 ghost use Rattle.std.specs.List.{filter_map, flat_map, list_any};
 ghost use Rattle.items.specs.Gives.{Gives};
 ghost use Rattle.linear_terms.specs.declared.col.Col.TheVariants.{Aux};
@@ -7,10 +7,11 @@ ghost use Rattle.linear_terms.specs.TermError.{cause};
 ghost use Rattle.transition_formula.specs.Loss.{answered, losses_of};
 ghost use Rattle.posing.specs.Follows.{Follows};
 ghost use Rattle.posing.specs.Logs.{Adds, loss_notes};
+ghost use Rattle.polyhedra.specs.Changes.{lost_changes, modified};
 ghost use Rattle.polyhedra.specs.Directions.{with_new};
 ghost use Rattle.recurrence.specs.Law.{IsStarred};
-ghost use Rattle.recurrence.specs.Star.{after_from, term_row, same_term, terms_once, rows_of, turns};
-ghost use Rattle.recurrence.specs.Words.{Ascend, IsMovement, AreModified, row_of_term, turn_row, bound_rows};
+ghost use Rattle.recurrence.specs.Star.{after_from, term_row, same_term, terms_once, posts, rows_of, turns};
+ghost use Rattle.recurrence.specs.Words.{Ascend, IsMovement, AreModified, row_of_term, turn_row, bound_rows, rows_by_strata};
 
 use crate::progressions::{after, turn_count, with_progressions};
 use crate::stratifying::strata_of;
@@ -40,11 +41,45 @@ pub(crate) fn turns<O: Oracle>(
 {
     let movement = movement_of(alloc, true, body)?;
     let aux = movement.modified.len() as u32 + 1;
-    let post = posts_after(alloc, true, movement.modified.as_slice(), body.to())?;
-    log.add_losses(alloc, movement.lost.as_slice())?;
-    let strata = strata_of(alloc, body, &movement, oracle, log)?;
-    let rows = rows_of(alloc, body, voc, &movement, &strata, oracle, log)?;
+    let post = noted_posts(alloc, body, &movement, log)?;
+    let rows = rows_by_strata(alloc, body, voc, &movement, oracle, log)?;
     Ok(Case { aux, rows, post })
+}
+
+/// What stands for each variable after the turns; losses of changes are noted.
+fn noted_posts(
+    alloc: Global,
+    body: &Formula,
+    movement: &Movement,
+    log: &mut Log,
+) -> Result<Items<Poly>, AllocError>
+    requires few { length movement.now.modified < 2 ^ 32 }
+    requires modified { movement.now.modified ≡ modified true body.now }
+    requires lost { loss_notes movement.now.lost ≡ lost_changes true body.now }
+    ensures noted { Adds (lost_changes true body.now) log.old log.new result }
+    ensures exact { IfOk result (λ made. made ≡ posts body.now) }
+{
+    let posts = posts_after(alloc, true, movement.modified.as_slice(), body.to())?;
+    log.add_losses(alloc, movement.lost.as_slice())?;
+    Ok(posts)
+}
+
+/// The rows by the strata of the body.
+#[tactic(auto, using(posing::proofs::Following::following), unfolding(crate::specs::Words::rows_by_strata))]
+fn rows_by_strata<O: Oracle>(
+    alloc: Global,
+    body: &Formula,
+    voc: &Vocabulary,
+    movement: &Movement,
+    oracle: &mut O,
+    log: &mut Log,
+) -> Result<Items<Row>, WorkError>
+    requires starred { IsStarred body.now voc.now }
+    requires movement { IsMovement body.now movement.now }
+    ensures { Follows O.asking oracle.old oracle.new log.old log.new result (rows_by_strata body.now voc.now) }
+{
+    let strata = strata_of(alloc, body, movement, oracle, log)?;
+    rows_of(alloc, body, voc, movement, &strata, oracle, log)
 }
 
 /// Its rows: what the terms are after the turns, that there is a turn, bounds, and progressions.
@@ -64,13 +99,8 @@ fn rows_of<O: Oracle>(
 {
     let modified = movement.modified.as_slice();
     let terms = terms_once(alloc, strata)?;
-    let equations = equations(
-        alloc,
-        terms.as_slice(),
-        modified,
-        movement.moving.as_slice(),
-        log,
-    )?;
+    let moving = movement.moving.as_slice();
+    let equations = equations(alloc, terms.as_slice(), modified, moving, log)?;
     let started = with_some_turn(alloc, equations, modified)?;
     let bounds = bound_rows(alloc, body, voc, modified, started, oracle, log)?;
     with_progressions(alloc, bounds, body, movement, voc, strata, oracle, log)

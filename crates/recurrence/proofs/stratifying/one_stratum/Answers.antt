@@ -18,6 +18,12 @@ question_of-question-requires g c = subst (λ cs. IsTrue (have_equally_many cs))
 pub terms_of-requires : goal.terms_of-requires
 terms_of-requires g c = subst Rise (sym (c.as_slice.ensures ∙ c.requires.moving)) (moving-rises c.args.body.now)
 
+pub returns-in_err-cases : goal.returns-in_err-cases
+returns-in_err-cases g c = stops _ _ _ _ _ _ refl c.from_residual.ensures.1
+
+pub returns-in_err-starts : goal.returns-in_err-starts
+returns-in_err-starts g c = stops _ _ _ _ _ _ refl c.from_residual-in_err-starts.ensures.1
+
 pub returns-in_err-found : goal.returns-in_err-found
 unfolding stratum
 returns-in_err-found g c =

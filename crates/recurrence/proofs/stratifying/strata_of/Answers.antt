@@ -4,6 +4,19 @@ use Rattle.posing.proofs.Steps.{value_first, error_first, at_end}
 use Rattle.recurrence.specs.Strata.{over, stratum_if, is_short, has_grown, strata}
 use Rattle.recurrence.proofs.stratifying.strata_of.Goals as goal
 
+pub one_stratum-requires : goal.one_stratum-requires
+one_stratum-requires g c = c.requires.movement
+
+pub next_stratum-requires : goal.next_stratum-requires
+next_stratum-requires g c = record { ends = c.requires.ends; movement = c.requires.movement }
+
+pub next_stratum-requires-2 : goal.next_stratum-requires-2
+next_stratum-requires-2 g c = record { ends = c.requires.ends; movement = c.requires.movement }
+
+pub returns-in_err-first : goal.returns-in_err-first
+unfolding strata
+returns-in_err-first g c = error_first _ c.in_err-first.ensures refl c.from_residual.ensures.1
+
 pub returns-in_err-second : goal.returns-in_err-second
 unfolding strata
 returns-in_err-second g c =

@@ -15,6 +15,27 @@ use Rattle.recurrence.specs.Words.{bound_rows}
 use Rattle.recurrence.proofs.Parts.{posts-same, moves-same, all-covered}
 use Rattle.recurrence.proofs.turning.bound_rows.Goals as goal
 
+pub posts_after-requires : goal.posts_after-requires
+posts_after-requires g c = c.requires.modified.few
+
+pub changes_after-requires : goal.changes_after-requires
+changes_after-requires g c = c.requires.modified.few
+
+pub returns-in_err-directions : goal.returns-in_err-directions
+returns-in_err-directions g c = stops _ _ _ _ _ _ refl c.from_residual.ensures.1
+
+pub returns-in_err-posts : goal.returns-in_err-posts
+returns-in_err-posts g c = stops _ _ _ _ _ _ refl c.from_residual-in_err-posts.ensures.1
+
+pub returns-in_err-moves : goal.returns-in_err-moves
+returns-in_err-moves g c = stops _ _ _ _ _ _ refl c.from_residual-in_err-moves.ensures.1
+
+pub returns-in_err-before : goal.returns-in_err-before
+unfolding bound_rows
+returns-in_err-before g c =
+    let entry = c.as_slice.ensures ∙ c.in_ok-directions.ensures in
+    error_first _ c.in_err-before.ensures (λ i. each (bounded_before (c.cases-cases.ensures.cases i)) c.args.rows (entry i)) c.from_residual-in_err-before.ensures.1
+
 pub returns-in_err-both : goal.returns-in_err-both
 unfolding bound_rows
 returns-in_err-both g c =

@@ -19,7 +19,7 @@ equations-requires-clause-few g c =
 pub equations-requires-clause-ascending : goal.equations-requires-clause-ascending
 equations-requires-clause-ascending g c =
     let us = c.as_slice-modified.ensures ∙ c.requires.movement.modified in
-    let vs = c.as_slice-2.ensures ∙ c.requires.movement.moving in
+    let vs = c.as_slice-moving.ensures ∙ c.requires.movement.moving in
     subst Ascend (sym (λ i. map (after_from 0 (us i)) (vs i))) (moving-ascends c.args.body.now)
 
 pub with_some_turn-requires : goal.with_some_turn-requires
@@ -33,14 +33,26 @@ bound_rows-requires-clause-modified g c =
       few = let few = modified-few true c.args.body.now in let long = ap length (c.as_slice-modified.ensures ∙ c.requires.movement.modified) in let most = c.requires.starred.few in omega arith;
     }
 
+pub bound_rows-requires-clause-starred : goal.bound_rows-requires-clause-starred
+bound_rows-requires-clause-starred g c = c.requires.starred
+
+pub with_progressions-requires : goal.with_progressions-requires
+with_progressions-requires g c = record { movement = c.requires.movement; few = c.requires.starred.few }
+
+pub returns-in_err-terms : goal.returns-in_err-terms
+returns-in_err-terms g c = stops _ _ _ _ _ _ refl c.from_residual.ensures.1
+
+pub returns-in_err-equations : goal.returns-in_err-equations
+returns-in_err-equations g c = stops _ _ _ _ _ _ c.in_err-equations.ensures.noted c.from_residual-in_err-equations.ensures.1
+
 pub returns-in_err-started : goal.returns-in_err-started
 returns-in_err-started g c =
     let body = c.args.body.now in
     let us : c.as_slice-modified.result.now ≡ modified true body = c.as_slice-modified.ensures ∙ c.requires.movement.modified in
-    let vs : c.as_slice-2.result.now ≡ moving true body = c.as_slice-2.ensures ∙ c.requires.movement.moving in
+    let vs : c.as_slice-moving.result.now ≡ moving true body = c.as_slice-moving.ensures ∙ c.requires.movement.moving in
     let ts : c.as_slice.result.now ≡ terms_once c.args.strata.now = c.as_slice.ensures ∙ c.in_ok-terms.ensures in
     in_other_words (rows-parts body c.args.voc.now c.args.strata.now)
-    (value_first _ (noted_rows (row_of_term c.as_slice-modified.result.now c.as_slice-2.result.now) g.O.Oracle.asking _ c.as_slice.result.now _ _ c.in_ok-equations.equations c.in_ok-equations.ensures.noted c.in_ok-equations.ensures.exact)
+    (value_first _ (noted_rows (row_of_term c.as_slice-modified.result.now c.as_slice-moving.result.now) g.O.Oracle.asking _ c.as_slice.result.now _ _ c.in_ok-equations.equations c.in_ok-equations.ensures.noted c.in_ok-equations.ensures.exact)
     (λ i. each (λ rows t. with_row rows (row_of_term (us i) (vs i) t)) [] (ts i))
     (stops _ _ _ _ _ _ refl c.from_residual-in_err-started.ensures.1))
 
@@ -48,11 +60,11 @@ pub returns-in_err-bounds : goal.returns-in_err-bounds
 returns-in_err-bounds g c =
     let body = c.args.body.now in
     let us : c.as_slice-modified.result.now ≡ modified true body = c.as_slice-modified.ensures ∙ c.requires.movement.modified in
-    let vs : c.as_slice-2.result.now ≡ moving true body = c.as_slice-2.ensures ∙ c.requires.movement.moving in
+    let vs : c.as_slice-moving.result.now ≡ moving true body = c.as_slice-moving.ensures ∙ c.requires.movement.moving in
     let ts : c.as_slice.result.now ≡ terms_once c.args.strata.now = c.as_slice.ensures ∙ c.in_ok-terms.ensures in
     let started = c.in_ok-started.ensures ∙ (λ i. c.in_ok-equations.equations ++ turn_row (Aux (length (us i))) ∷ []) in
     in_other_words (rows-parts body c.args.voc.now c.args.strata.now)
-    (value_first _ (noted_rows (row_of_term c.as_slice-modified.result.now c.as_slice-2.result.now) g.O.Oracle.asking _ c.as_slice.result.now _ _ c.in_ok-equations.equations c.in_ok-equations.ensures.noted c.in_ok-equations.ensures.exact)
+    (value_first _ (noted_rows (row_of_term c.as_slice-modified.result.now c.as_slice-moving.result.now) g.O.Oracle.asking _ c.as_slice.result.now _ _ c.in_ok-equations.equations c.in_ok-equations.ensures.noted c.in_ok-equations.ensures.exact)
     (λ i. each (λ rows t. with_row rows (row_of_term (us i) (vs i) t)) [] (ts i))
     (error_first _ c.in_err-bounds.ensures (ap (bound_rows body c.args.voc.now) started) c.from_residual-in_err-bounds.ensures.1))
 
@@ -60,10 +72,10 @@ pub returns : goal.returns
 returns g c =
     let body = c.args.body.now in
     let us : c.as_slice-modified.result.now ≡ modified true body = c.as_slice-modified.ensures ∙ c.requires.movement.modified in
-    let vs : c.as_slice-2.result.now ≡ moving true body = c.as_slice-2.ensures ∙ c.requires.movement.moving in
+    let vs : c.as_slice-moving.result.now ≡ moving true body = c.as_slice-moving.ensures ∙ c.requires.movement.moving in
     let ts : c.as_slice.result.now ≡ terms_once c.args.strata.now = c.as_slice.ensures ∙ c.in_ok-terms.ensures in
     let started = c.in_ok-started.ensures ∙ (λ i. c.in_ok-equations.equations ++ turn_row (Aux (length (us i))) ∷ []) in
     in_other_words (rows-parts body c.args.voc.now c.args.strata.now)
-    (value_first _ (noted_rows (row_of_term c.as_slice-modified.result.now c.as_slice-2.result.now) g.O.Oracle.asking _ c.as_slice.result.now _ _ c.in_ok-equations.equations c.in_ok-equations.ensures.noted c.in_ok-equations.ensures.exact)
+    (value_first _ (noted_rows (row_of_term c.as_slice-modified.result.now c.as_slice-moving.result.now) g.O.Oracle.asking _ c.as_slice.result.now _ _ c.in_ok-equations.equations c.in_ok-equations.ensures.noted c.in_ok-equations.ensures.exact)
     (λ i. each (λ rows t. with_row rows (row_of_term (us i) (vs i) t)) [] (ts i))
     (value_first _ c.in_ok-bounds.ensures (ap (bound_rows body c.args.voc.now) started) c.with_progressions.ensures))
