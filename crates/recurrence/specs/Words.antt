@@ -4,6 +4,7 @@ use Rattle.std.specs.List.{AllByRecursion, list_any}
 use Rattle.std.specs.declared.cmp.Ordering.TheVariants.{Greater}
 use Rattle.linear_terms.specs.declared.col.Col.{Col}
 use Rattle.linear_terms.specs.Mono.{mono_cmp}
+use Rattle.linear_terms.specs.Polynomial.{Polynomial}
 use Rattle.transition_formula.specs.Transition.{Transition}
 use Rattle.polyhedra.specs.declared.variables.Movement.{Movement}
 use Rattle.polyhedra.specs.Changes.{modified, moving, changes_of, occurring}
@@ -88,3 +89,7 @@ bound_rows body voc rows =
 -- the rows by the strata of the body
 unfoldable pub rows_by_strata : Transition → Vocabulary → Posing (List Row)
 rows_by_strata body voc = strata body >>= rows_of body voc
+
+-- bounds before and after, behind other rows
+unfoldable pub bounds_at_ends : List Case → List Polynomial → List Polynomial → List Row → Posing (List Row)
+bounds_at_ends cases after along rows = each (bounded_before cases) rows along >>= λ before. each (bounded_after cases after) before along

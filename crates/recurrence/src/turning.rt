@@ -1,4 +1,4 @@
-ghost use Rattle.std.specs.Prelude.{◌≡◌, ◌<◌, ◌^◌, ◌++◌, ◌∷◌, [], true, ℕ, List, Ok, map, fold, length, IfOk, OnOk};
+ghost use Rattle.std.specs.Prelude.{◌≡◌, ◌<◌, ◌^◌, ◌++◌, ◌∷◌, [], true, ℕ, All, List, Ok, map, fold, length, IfOk, OnOk};
 ghost use Rattle.std.specs.List.{filter_map, flat_map, list_any};
 ghost use Rattle.items.specs.Gives.{Gives};
 ghost use Rattle.linear_terms.specs.declared.col.Col.TheVariants.{Aux};
@@ -7,11 +7,12 @@ ghost use Rattle.linear_terms.specs.TermError.{cause};
 ghost use Rattle.transition_formula.specs.Loss.{answered, losses_of};
 ghost use Rattle.posing.specs.Follows.{Follows};
 ghost use Rattle.posing.specs.Logs.{Adds, loss_notes};
+ghost use Rattle.polyhedra.specs.Bounds.{IsCovered, IsCoveredByPosts};
 ghost use Rattle.polyhedra.specs.Changes.{lost_changes, modified};
 ghost use Rattle.polyhedra.specs.Directions.{with_new};
 ghost use Rattle.recurrence.specs.Law.{IsStarred};
 ghost use Rattle.recurrence.specs.Star.{after_from, term_row, same_term, terms_once, posts, rows_of, turns};
-ghost use Rattle.recurrence.specs.Words.{Ascend, IsMovement, AreModified, row_of_term, turn_row, bound_rows, rows_by_strata};
+ghost use Rattle.recurrence.specs.Words.{Ascend, IsMovement, AreModified, row_of_term, turn_row, bound_rows, bounds_at_ends, rows_by_strata};
 
 use crate::progressions::{after, turn_count, with_progressions};
 use crate::stratifying::strata_of;
@@ -283,16 +284,8 @@ fn bound_rows<O: Oracle>(
     let cases = body.cases();
     let posts = posts_after(alloc, true, modified, body.to())?;
     let moves = changes_after(alloc, true, modified, body.to())?;
-    let before = bounds_before(alloc, rows, cases, directions.as_slice(), oracle, log)?;
-    let both = bounds_after(
-        alloc,
-        before,
-        cases,
-        posts.as_slice(),
-        directions.as_slice(),
-        oracle,
-        log,
-    )?;
+    let along = directions.as_slice();
+    let both = bounds_at_ends(alloc, rows, cases, posts.as_slice(), along, oracle, log)?;
     add_extra(&mut directions, voc)?;
     let count = turn_count(modified);
     bounds_on_changes(
@@ -306,6 +299,25 @@ fn bound_rows<O: Oracle>(
         oracle,
         log,
     )
+}
+
+/// Bounds before and after, behind other rows.
+#[tactic(auto, using(posing::proofs::Following::following), unfolding(crate::specs::Words::bounds_at_ends))]
+fn bounds_at_ends<O: Oracle>(
+    alloc: Global,
+    rows: Items<Row>,
+    cases: &[Case],
+    after: &[Poly],
+    directions: &[Poly],
+    oracle: &mut O,
+    log: &mut Log,
+) -> Result<Items<Row>, WorkError>
+    requires posts { All (IsCoveredByPosts cases.now) directions.now }
+    requires rows { All (IsCovered (length after.now)) directions.now }
+    ensures { Follows O.asking oracle.old oracle.new log.old log.new result (bounds_at_ends cases.now after.now directions.now rows) }
+{
+    let before = bounds_before(alloc, rows, cases, directions, oracle, log)?;
+    bounds_after(alloc, before, cases, after, directions, oracle, log)
 }
 
 /// Adds the further directions.

@@ -1,17 +1,21 @@
-use Rattle.std.proofs.Common.{◌≡◌, ◌++◌, true, All, Some, map, length, refl, sym, ap, subst, ◌∙◌}
+use Rattle.std.proofs.Common.{◌≡◌, List, ◌++◌, true, All, Some, map, length, refl, sym, ap, subst, ◌∙◌}
 use Rattle.std.specs.List.{range_with_len}
 use Rattle.std.proofs.lemmas.List.FromFn.{length-map-range_with_len}
 use Rattle.linear_terms.specs.declared.col.Col.TheVariants.{Aux}
 use Rattle.linear_terms.specs.declared.row.Case.{Case}
-use Rattle.posing.specs.Posing.{each}
+use Rattle.linear_terms.specs.declared.row.Row.{Row}
+use Rattle.transition_formula.specs.Transition.{Transition}
+use Rattle.posing.specs.Posing.{◌>>=◌, each}
+use Rattle.posing.proofs.Paths.{bind-assoc}
 use Rattle.posing.proofs.Following.{stops}
 use Rattle.posing.proofs.Steps.{value_first, error_first, in_other_words}
 use Rattle.polyhedra.specs.Bounds.{IsCovered, IsCoveredByPosts, bounded_before, bounded_after, bounded_change}
 use Rattle.polyhedra.specs.Directions.{directions}
 use Rattle.polyhedra.specs.Squash.{after_from, change_after}
 use Rattle.polyhedra.proofs.Covering.{directions-covered, directions-covered_by_posts, posts-long}
-use Rattle.recurrence.specs.Star.{posts, moves}
-use Rattle.recurrence.specs.Words.{bound_rows}
+use Rattle.polyhedra.specs.Vocabulary.{Vocabulary}
+use Rattle.recurrence.specs.Star.{count, posts, moves}
+use Rattle.recurrence.specs.Words.{bound_rows, bounds_at_ends}
 use Rattle.recurrence.proofs.Parts.{posts-same, moves-same, all-covered}
 use Rattle.recurrence.proofs.turning.bound_rows.Goals as goal
 
@@ -30,66 +34,61 @@ returns-in_err-posts g c = stops _ _ _ _ _ _ refl c.from_residual-in_err-posts.e
 pub returns-in_err-moves : goal.returns-in_err-moves
 returns-in_err-moves g c = stops _ _ _ _ _ _ refl c.from_residual-in_err-moves.ensures.1
 
-pub returns-in_err-before : goal.returns-in_err-before
-unfolding bound_rows
-returns-in_err-before g c =
-    let entry = c.as_slice.ensures ∙ c.in_ok-directions.ensures in
-    error_first _ c.in_err-before.ensures (λ i. each (bounded_before (c.cases-cases.ensures.cases i)) c.args.rows (entry i)) c.from_residual-in_err-before.ensures.1
+ends-first : (body : Transition) (voc : Vocabulary) (rows : List Row)
+    → bounds_at_ends body.cases (posts body) (directions voc) rows >>= (λ both. each (bounded_change body.cases (moves body) (Some (count body))) both (directions voc ++ voc.extra)) ≡ bound_rows body voc rows
+unfolding bound_rows bounds_at_ends
+ends-first body voc rows =
+    bind-assoc (each (bounded_before body.cases) rows (directions voc)) (λ before. each (bounded_after body.cases (posts body)) before (directions voc))
+    (λ both. each (bounded_change body.cases (moves body) (Some (count body))) both (directions voc ++ voc.extra))
 
 pub returns-in_err-both : goal.returns-in_err-both
-unfolding bound_rows
 returns-in_err-both g c =
     let body = c.args.body.now in
-    let entry = c.as_slice.ensures ∙ c.in_ok-directions.ensures in
-    let again = c.as_slice-3.ensures ∙ c.in_ok-directions.ensures in
-    let after : c.as_slice-2.result.now ≡ posts body =
-    c.as_slice-2.ensures ∙ c.in_ok-posts.ensures ∙ (λ i. map (after_from true 0 (c.requires.modified.are i)) (range_with_len 0 (c.to.ensures i))) ∙ posts-same body in
-    value_first _ c.in_ok-before.ensures (λ i. each (bounded_before (c.cases-cases.ensures.cases i)) c.args.rows (entry i))
-    (error_first _ c.in_err-both.ensures (λ i. each (bounded_after (c.cases-cases.ensures.cases i) (after i)) c.in_ok-before.before (again i)) c.from_residual-in_err-both.ensures.1)
+    let along : c.as_slice-along.result.now ≡ directions c.args.voc.now = c.as_slice-along.ensures ∙ c.in_ok-directions.ensures in
+    let after : c.as_slice.result.now ≡ posts body =
+    c.as_slice.ensures ∙ c.in_ok-posts.ensures ∙ (λ i. map (after_from true 0 (c.requires.modified.are i)) (range_with_len 0 (c.to.ensures i))) ∙ posts-same body in
+    in_other_words (ends-first body c.args.voc.now c.args.rows)
+    (error_first _ c.in_err-both.ensures (λ i. bounds_at_ends (c.cases-cases.ensures.cases i) (after i) (along i) c.args.rows) c.from_residual-in_err-both.ensures.1)
 
 pub returns-in_err-add_extra : goal.returns-in_err-add_extra
-unfolding bound_rows
 returns-in_err-add_extra g c =
     let body = c.args.body.now in
-    let entry = c.as_slice.ensures ∙ c.in_ok-directions.ensures in
-    let again = c.as_slice-3.ensures ∙ c.in_ok-directions.ensures in
-    let after : c.as_slice-2.result.now ≡ posts body =
-    c.as_slice-2.ensures ∙ c.in_ok-posts.ensures ∙ (λ i. map (after_from true 0 (c.requires.modified.are i)) (range_with_len 0 (c.to.ensures i))) ∙ posts-same body in
-    value_first _ c.in_ok-before.ensures (λ i. each (bounded_before (c.cases-cases.ensures.cases i)) c.args.rows (entry i))
-    (value_first _ c.in_ok-both.ensures (λ i. each (bounded_after (c.cases-cases.ensures.cases i) (after i)) c.in_ok-before.before (again i))
+    let along : c.as_slice-along.result.now ≡ directions c.args.voc.now = c.as_slice-along.ensures ∙ c.in_ok-directions.ensures in
+    let after : c.as_slice.result.now ≡ posts body =
+    c.as_slice.ensures ∙ c.in_ok-posts.ensures ∙ (λ i. map (after_from true 0 (c.requires.modified.are i)) (range_with_len 0 (c.to.ensures i))) ∙ posts-same body in
+    in_other_words (ends-first body c.args.voc.now c.args.rows)
+    (value_first _ c.in_ok-both.ensures (λ i. bounds_at_ends (c.cases-cases.ensures.cases i) (after i) (along i) c.args.rows)
     (stops _ _ _ _ _ _ refl c.from_residual-in_err-add_extra.ensures.1))
 
 pub returns : goal.returns
-unfolding bound_rows
 returns g c =
     let body = c.args.body.now in
-    let entry = c.as_slice.ensures ∙ c.in_ok-directions.ensures in
-    let again = c.as_slice-3.ensures ∙ c.in_ok-directions.ensures in
-    let more = c.as_slice-5.ensures ∙ c.in_ok-add_extra.ensures ∙ ap (λ ds. ds ++ c.args.voc.now.extra) c.in_ok-directions.ensures in
-    let after : c.as_slice-2.result.now ≡ posts body =
-    c.as_slice-2.ensures ∙ c.in_ok-posts.ensures ∙ (λ i. map (after_from true 0 (c.requires.modified.are i)) (range_with_len 0 (c.to.ensures i))) ∙ posts-same body in
-    let changed : c.as_slice-4.result.now ≡ moves body =
-    c.as_slice-4.ensures ∙ c.in_ok-moves.ensures ∙ (λ i. map (change_after true (c.requires.modified.are i)) (range_with_len 0 (c.to-2.ensures i))) ∙ moves-same body in
+    let along : c.as_slice-along.result.now ≡ directions c.args.voc.now = c.as_slice-along.ensures ∙ c.in_ok-directions.ensures in
+    let more = c.as_slice-3.ensures ∙ c.in_ok-add_extra.ensures ∙ ap (λ ds. ds ++ c.args.voc.now.extra) c.in_ok-directions.ensures in
+    let after : c.as_slice.result.now ≡ posts body =
+    c.as_slice.ensures ∙ c.in_ok-posts.ensures ∙ (λ i. map (after_from true 0 (c.requires.modified.are i)) (range_with_len 0 (c.to.ensures i))) ∙ posts-same body in
+    let changed : c.as_slice-2.result.now ≡ moves body =
+    c.as_slice-2.ensures ∙ c.in_ok-moves.ensures ∙ (λ i. map (change_after true (c.requires.modified.are i)) (range_with_len 0 (c.to-2.ensures i))) ∙ moves-same body in
     let turns = c.turn_count-count.ensures ∙ ap (λ us. Aux (length us)) c.requires.modified.are in
-    value_first _ c.in_ok-before.ensures (λ i. each (bounded_before (c.cases-cases.ensures.cases i)) c.args.rows (entry i))
-    (value_first _ c.in_ok-both.ensures (λ i. each (bounded_after (c.cases-cases.ensures.cases i) (after i)) c.in_ok-before.before (again i))
+    in_other_words (ends-first body c.args.voc.now c.args.rows)
+    (value_first _ c.in_ok-both.ensures (λ i. bounds_at_ends (c.cases-cases.ensures.cases i) (after i) (along i) c.args.rows)
     (in_other_words (λ i. each (bounded_change (c.cases-cases.ensures.cases i) (changed i) (Some (turns i))) c.in_ok-both.both (more i)) c.bounds_on_changes.ensures))
 
-pub bounds_after-requires-clause-posts : goal.bounds_after-requires-clause-posts
-bounds_after-requires-clause-posts g c =
+pub bounds_at_ends-requires-clause-posts : goal.bounds_at_ends-requires-clause-posts
+bounds_at_ends-requires-clause-posts g c =
     let body = c.args.body.now in
     let s = c.requires.starred in
-    subst (All (IsCoveredByPosts c.cases-cases.result.now)) (sym (c.as_slice-3.ensures ∙ c.in_ok-directions.ensures))
+    subst (All (IsCoveredByPosts c.cases-cases.result.now)) (sym (c.as_slice-along.ensures ∙ c.in_ok-directions.ensures))
     (subst (λ cs. All (IsCoveredByPosts cs) (directions c.args.voc.now)) (sym c.cases-cases.ensures.cases)
     (directions-covered_by_posts c.args.voc.now s.vocabulary body.to s.same_columns body.from body.cases s.body_fits))
 
-pub bounds_after-requires-clause-rows : goal.bounds_after-requires-clause-rows
-bounds_after-requires-clause-rows g c =
+pub bounds_at_ends-requires-clause-rows : goal.bounds_at_ends-requires-clause-rows
+bounds_at_ends-requires-clause-rows g c =
     let body = c.args.body.now in
     let s = c.requires.starred in
-    let long = ap length (c.as_slice-2.ensures ∙ c.in_ok-posts.ensures) ∙ length-map-range_with_len (after_from true 0 c.args.modified.now) 0 c.to.result in
-    subst (All (IsCovered (length c.as_slice-2.result.now))) (sym (c.as_slice-3.ensures ∙ c.in_ok-directions.ensures))
-    (directions-covered c.args.voc.now s.vocabulary body.to s.same_columns (length c.as_slice-2.result.now) (long ∙ c.to.ensures))
+    let long : length c.as_slice.result.now ≡ c.to.result = ap length (c.as_slice.ensures ∙ c.in_ok-posts.ensures) ∙ length-map-range_with_len (after_from true 0 c.args.modified.now) 0 c.to.result in
+    subst (All (IsCovered (length c.as_slice.result.now))) (sym (c.as_slice-along.ensures ∙ c.in_ok-directions.ensures))
+    (directions-covered c.args.voc.now s.vocabulary body.to s.same_columns (length c.as_slice.result.now) (long ∙ c.to.ensures))
 
 pub bounds_on_changes-requires-clause-posts : goal.bounds_on_changes-requires-clause-posts
 bounds_on_changes-requires-clause-posts g c =
@@ -99,11 +98,11 @@ bounds_on_changes-requires-clause-posts g c =
 
 pub bounds_on_changes-requires-clause-columns : goal.bounds_on_changes-requires-clause-columns
 bounds_on_changes-requires-clause-columns g c =
-    let more = c.as_slice-5.ensures ∙ c.in_ok-add_extra.ensures ∙ ap (λ ds. ds ++ c.args.voc.now.extra) c.in_ok-directions.ensures in
+    let more = c.as_slice-3.ensures ∙ c.in_ok-add_extra.ensures ∙ ap (λ ds. ds ++ c.args.voc.now.extra) c.in_ok-directions.ensures in
     subst (All (IsCovered c.to-3.result)) (sym more) (all-covered c.args.body.now c.args.voc.now c.requires.starred c.to-3.result c.to-3.ensures)
 
 pub bounds_on_changes-requires-clause-rows : goal.bounds_on_changes-requires-clause-rows
 bounds_on_changes-requires-clause-rows g c =
-    let long = ap length (c.as_slice-4.ensures ∙ c.in_ok-moves.ensures) ∙ length-map-range_with_len (change_after true c.args.modified.now) 0 c.to-2.result in
-    let more = c.as_slice-5.ensures ∙ c.in_ok-add_extra.ensures ∙ ap (λ ds. ds ++ c.args.voc.now.extra) c.in_ok-directions.ensures in
-    subst (All (IsCovered (length c.as_slice-4.result.now))) (sym more) (all-covered c.args.body.now c.args.voc.now c.requires.starred (length c.as_slice-4.result.now) (long ∙ c.to-2.ensures))
+    let long : length c.as_slice-2.result.now ≡ c.to-2.result = ap length (c.as_slice-2.ensures ∙ c.in_ok-moves.ensures) ∙ length-map-range_with_len (change_after true c.args.modified.now) 0 c.to-2.result in
+    let more = c.as_slice-3.ensures ∙ c.in_ok-add_extra.ensures ∙ ap (λ ds. ds ++ c.args.voc.now.extra) c.in_ok-directions.ensures in
+    subst (All (IsCovered (length c.as_slice-2.result.now))) (sym more) (all-covered c.args.body.now c.args.voc.now c.requires.starred (length c.as_slice-2.result.now) (long ∙ c.to-2.ensures))
