@@ -41,9 +41,26 @@ pub(crate) fn turns<O: Oracle>(
     ensures { Follows O.asking oracle.old oracle.new log.old log.new result (turns body.now voc.now) }
 {
     let movement = movement_of(alloc, true, body)?;
+    turns_by(alloc, body, voc, &movement, oracle, log)
+}
+
+/// The same by what the body changes.
+fn turns_by<O: Oracle>(
+    alloc: Global,
+    body: &Formula,
+    voc: &Vocabulary,
+    movement: &Movement,
+    oracle: &mut O,
+    log: &mut Log,
+) -> Result<Case, WorkError>
+    requires starred { IsStarred body.now voc.now }
+    requires movement { IsMovement body.now movement.now }
+    requires lost { loss_notes movement.now.lost ≡ lost_changes true body.now }
+    ensures { Follows O.asking oracle.old oracle.new log.old log.new result (turns body.now voc.now) }
+{
     let aux = movement.modified.len() as u32 + 1;
-    let post = noted_posts(alloc, body, &movement, log)?;
-    let rows = rows_by_strata(alloc, body, voc, &movement, oracle, log)?;
+    let post = noted_posts(alloc, body, movement, log)?;
+    let rows = rows_by_strata(alloc, body, voc, movement, oracle, log)?;
     Ok(Case { aux, rows, post })
 }
 
