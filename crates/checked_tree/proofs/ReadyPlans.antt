@@ -14,7 +14,7 @@ use Rattle.checked_tree.specs.declared.step.TreeStep.{TreeStep}
 use Rattle.checked_tree.specs.Graph.{graph_of}
 use Rattle.checked_tree.specs.Evaluation.{evaluated}
 use Rattle.checked_tree.specs.Law.{IsEvaluated, HaveCanonicalLeaves}
-use Rattle.checked_tree.specs.Plan.{AreDistinct, IsPlanned}
+use Rattle.checked_tree.specs.Plan.{IsPlanned}
 use Rattle.checked_tree.specs.ByNumber.{evaluated_by}
 use Rattle.checked_tree.specs.Grown.{trees_of, AreGrown}
 use Rattle.checked_tree.specs.Growing.{bare_growth, tree_cell, AreGrowing, AreGrownCells, IsPlantable}

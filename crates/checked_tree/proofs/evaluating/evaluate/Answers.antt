@@ -7,7 +7,7 @@ use Rattle.posing.proofs.Steps.{in_other_words, value_first, at_end}
 use Rattle.checked_tree.specs.ByNumber.{cell_by, evaluated_by}
 use Rattle.checked_tree.specs.Grown.{formulas_of}
 use Rattle.checked_tree.specs.Growing.{tree_cell, AreGrownCells}
-use Rattle.checked_tree.proofs.GrownCells.{cells-grown, formulas-same, grown-hold, grown-fit}
+use Rattle.checked_tree.proofs.GrownCells.{formulas-same, grown-hold, grown-fit}
 use Rattle.checked_tree.proofs.Kept.{wanting, first_fails}
 use Rattle.checked_tree.proofs.ReadyPlans.{plan-ready, plan-growing, plan-evaluated, plan-cells, plan-grown}
 use Rattle.checked_tree.proofs.evaluating.evaluate.Goals as goal
