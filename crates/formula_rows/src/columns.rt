@@ -1,7 +1,7 @@
 //! Rows of formulas over other entry columns, and with other posts.
 ghost use Rattle.std.specs.Prelude.{◌≡◌, IfOk};
 
-use crate::formulas::{formula, write_formula, write_losses};
+use crate::formulas::{formula, formula_of, write_formula, write_losses};
 use crate::numbered::{are_below, hide_few};
 use items::Items;
 use linear_terms::Case;
@@ -35,10 +35,14 @@ fn changed_text(alloc: Global, kind: &str, f: &Formula, rest: &[u32]) -> Option<
     let mut losses = Items::new(alloc);
     let made = changed(alloc, kind, f, rest, &mut losses)?;
     let mut text = String::new(alloc);
-    write!(text, "{} {} : ", made.from(), made.to()).ok()?;
-    write_formula(&mut text, &made).ok()?;
-    write_losses(&mut text, losses.as_slice()).ok()?;
+    write_changed(&mut text, &made, losses.as_slice()).ok()?;
     Some(text)
+}
+
+fn write_changed(text: &mut String, made: &Formula, losses: &[Loss]) -> Result<(), AllocError> {
+    write!(text, "{} {} : ", made.from(), made.to())?;
+    write_formula(text, made)?;
+    write_losses(text, losses)
 }
 
 fn changed(
@@ -160,12 +164,7 @@ fn answer_text(alloc: Global, answer: bool) -> Option<String> {
 fn formula_between(alloc: Global, given: &str) -> Option<Formula> {
     let (head, cases) = given.split_once(" : ")?;
     let (from, to) = head.split_once(' ')?;
-    formula(
-        alloc,
-        from.parse::<u32>().ok()?,
-        to.parse::<u32>().ok()?,
-        cases,
-    )
+    formula_of(alloc, from, to, cases)
 }
 
 /// Whether two formulas are one.

@@ -63,17 +63,40 @@ pub(crate) fn write_formula(text: &mut String, formula: &Formula) -> Result<(), 
     Ok(())
 }
 
+/// The formula between columns whose numbers are texts.
+pub(crate) fn formula_of(alloc: Global, from: &str, to: &str, cases: &str) -> Option<Formula> {
+    let from = from.parse::<u32>().ok()?;
+    let to = to.parse::<u32>().ok()?;
+    formula(alloc, from, to, cases)
+}
+
+/// A formula and what was lost.
+fn formula_text(alloc: Global, formula: &Formula, losses: &[Loss]) -> Option<String> {
+    let mut text = String::new(alloc);
+    write_formula(&mut text, formula).ok()?;
+    write_losses(&mut text, losses).ok()?;
+    Some(text)
+}
+
 /// A case, put in order.
 fn in_order(alloc: Global, given: &str) -> Option<String> {
     let case = case(alloc, given).ok()?;
     let mut losses = Items::new(alloc);
     let made = case_in_order(alloc, &case, &mut losses)?;
-    let mut text = String::new(alloc);
+    solved_text(alloc, &made, losses.as_slice())
+}
+
+fn write_solved(text: &mut String, made: &Solved) -> Result<(), AllocError> {
     match made {
-        Solved::Kept(made) => write_case(&mut text, &made).ok()?,
-        Solved::False => write!(text, "false").ok()?,
+        Solved::Kept(case) => write_case(text, case),
+        Solved::False => write!(text, "false"),
     }
-    write_losses(&mut text, losses.as_slice()).ok()?;
+}
+
+fn solved_text(alloc: Global, made: &Solved, losses: &[Loss]) -> Option<String> {
+    let mut text = String::new(alloc);
+    write_solved(&mut text, made).ok()?;
+    write_losses(&mut text, losses).ok()?;
     Some(text)
 }
 
@@ -93,22 +116,18 @@ fn case_in_order(alloc: Global, case: &Case, losses: &mut Items<Loss>) -> Option
 /// The columns before, between and after, and two formulas: one and then the other.
 fn in_sequence(alloc: Global, given: &str) -> Option<String> {
     let (ends, formulas) = given.split_once(" : ")?;
+    let (first, second) = formulas.split_once(" : ")?;
     let (from, rest) = ends.split_once(' ')?;
     let (middle, to) = rest.split_once(' ')?;
-    let middle = middle.parse::<u32>().ok()?;
-    let (first, second) = formulas.split_once(" : ")?;
-    let first = formula(alloc, from.parse::<u32>().ok()?, middle, first)?;
-    let second = formula(alloc, middle, to.parse::<u32>().ok()?, second)?;
+    let first = formula_of(alloc, from, middle, first)?;
+    let second = formula_of(alloc, middle, to, second)?;
     sequence_text(alloc, &first, &second)
 }
 
 fn sequence_text(alloc: Global, first: &Formula, second: &Formula) -> Option<String> {
     let mut losses = Items::new(alloc);
     let made = sequence(alloc, first, second, &mut losses)?;
-    let mut text = String::new(alloc);
-    write_formula(&mut text, &made).ok()?;
-    write_losses(&mut text, losses.as_slice()).ok()?;
-    Some(text)
+    formula_text(alloc, &made, losses.as_slice())
 }
 
 fn sequence(
@@ -127,18 +146,17 @@ fn sequence(
 fn choice(alloc: Global, given: &str) -> Option<String> {
     let (columns, given) = given.split_once(" : ")?;
     let columns = columns.parse::<u32>().ok()?;
-    let same = identity(alloc, columns).ok()?;
     let other = formula(alloc, columns, columns, given)?;
-    let made = either(alloc, &same, &other)?;
-    let mut text = String::new(alloc);
-    write_formula(&mut text, &made).ok()?;
-    Some(text)
+    let made = same_or(alloc, columns, &other)?;
+    let losses = Items::new(alloc);
+    formula_text(alloc, &made, losses.as_slice())
 }
 
-/// The choice of two formulas.
-fn either(alloc: Global, a: &Formula, b: &Formula) -> Option<Formula> {
-    if a.from() == b.from() && a.to() == b.to() {
-        return join(alloc, a, b).ok();
+/// The choice of the identity of so many columns and a formula.
+fn same_or(alloc: Global, columns: u32, other: &Formula) -> Option<Formula> {
+    let same = identity(alloc, columns).ok()?;
+    if same.from() == other.from() && same.to() == other.to() {
+        return join(alloc, &same, other).ok();
     }
     None
 }

@@ -21,7 +21,11 @@ fn outcome(alloc: Global, row: &str) -> Option<String> {
         return format!(in alloc; "{row}").ok();
     }
     let (kind, given) = row.split_once(':')?;
-    let given = given.trim();
+    told(alloc, kind, given.trim())
+}
+
+/// What a row of a kind comes to.
+fn told(alloc: Global, kind: &str, given: &str) -> Option<String> {
     match kind {
         "closed form" | "sum bound" => closed_forms::outcome(alloc, kind, given),
         "order" | "sequence" | "choice" => formulas::outcome(alloc, kind, given),

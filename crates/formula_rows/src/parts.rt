@@ -1,8 +1,9 @@
 //! Rows of the parts of polynomials, and of equality.
 
-use linear_terms::{Col, Mono, Poly};
+use linear_terms::{Case, Col, Mono, Poly, Row};
 use polynomial_texts::{case, poly, row};
-use std::alloc::Global;
+use std::alloc::{AllocError, Global};
+use std::fmt::Write;
 
 pub(crate) fn outcome(alloc: Global, kind: &str, given: &str) -> Option<String> {
     match kind {
@@ -35,31 +36,40 @@ fn monomial(alloc: Global, given: &str) -> Option<String> {
 /// auxiliaries it has; and its first and its fourth term.
 fn parts(alloc: Global, given: &str) -> Option<String> {
     let a = poly(alloc, given).ok()?;
-    let numbers = numbers_text(alloc, &a)?;
-    let columns = columns_text(alloc, &a)?;
-    let first = term_text(alloc, &a, 0)?;
-    let fourth = term_text(alloc, &a, 3)?;
-    let rest = a.without_constant();
-    format!(in alloc; "{rest} ; {numbers} ; {columns} ; {first} ; {fourth}").ok()
+    let parts = parts_text(alloc, &a)?;
+    format!(in alloc; "{}{parts}", a.without_constant()).ok()
 }
 
-fn numbers_text(alloc: Global, a: &Poly) -> Option<String> {
+fn parts_text(alloc: Global, a: &Poly) -> Option<String> {
     let product = Mono::new(&[Col::At(0), Col::At(1)])?;
-    let of_product = a.coefficient(&product);
-    let of_column = a.column_coefficient(Col::Aux(1));
-    format!(in alloc; "{of_product} {of_column}").ok()
+    let mut text = String::new(alloc);
+    write_parts(&mut text, a, &product).ok()?;
+    Some(text)
 }
 
-fn columns_text(alloc: Global, a: &Poly) -> Option<String> {
+fn write_parts(text: &mut String, a: &Poly, product: &Mono) -> Result<(), AllocError> {
+    write_numbers(text, a, product)?;
+    write_columns(text, a)?;
+    write_term(text, a, 0)?;
+    write_term(text, a, 3)
+}
+
+fn write_numbers(text: &mut String, a: &Poly, product: &Mono) -> Result<(), AllocError> {
+    let of_product = a.coefficient(product);
+    let of_column = a.column_coefficient(Col::Aux(1));
+    write!(text, " ; {of_product} {of_column}")
+}
+
+fn write_columns(text: &mut String, a: &Poly) -> Result<(), AllocError> {
     let (x0, x1, x2) = (a.has_entry(0), a.has_entry(1), a.has_entry(2));
     let (first, second) = (a.has_auxiliary(0), a.has_auxiliary(1));
-    format!(in alloc; "{x0} {x1} {x2} {first} {second}").ok()
+    write!(text, " ; {x0} {x1} {x2} {first} {second}")
 }
 
-fn term_text(alloc: Global, a: &Poly, place: usize) -> Option<String> {
+fn write_term(text: &mut String, a: &Poly, place: usize) -> Result<(), AllocError> {
     match a.term(place) {
-        Some((mono, number)) => format!(in alloc; "{number}*{mono}").ok(),
-        None => format!(in alloc; "none").ok(),
+        Some((mono, number)) => write!(text, " ; {number}*{mono}"),
+        None => write!(text, " ; none"),
     }
 }
 
@@ -67,22 +77,28 @@ fn term_text(alloc: Global, a: &Poly, place: usize) -> Option<String> {
 fn equal_rows(alloc: Global, given: &str) -> Option<String> {
     let (first, second) = given.split_once('|')?;
     let first = row(alloc, first).ok()?;
-    let second = match second.trim() {
-        "copy" => first.clone().ok()?,
-        text => row(alloc, text).ok()?,
-    };
-    let is_same = first.same(&second);
-    format!(in alloc; "{is_same}").ok()
+    let second = row_or_copy(alloc, &first, second.trim())?;
+    format!(in alloc; "{}", first.same(&second)).ok()
+}
+
+fn row_or_copy(alloc: Global, first: &Row, text: &str) -> Option<Row> {
+    match text {
+        "copy" => first.clone().ok(),
+        _ => row(alloc, text).ok(),
+    }
 }
 
 /// Two cases, of which the second may be a copy.
 fn equal_cases(alloc: Global, given: &str) -> Option<String> {
     let (first, second) = given.split_once('/')?;
     let first = case(alloc, first).ok()?;
-    let second = match second.trim() {
-        "copy" => first.clone().ok()?,
-        text => case(alloc, text).ok()?,
-    };
-    let is_same = first.same(&second);
-    format!(in alloc; "{is_same}").ok()
+    let second = case_or_copy(alloc, &first, second.trim())?;
+    format!(in alloc; "{}", first.same(&second)).ok()
+}
+
+fn case_or_copy(alloc: Global, first: &Case, text: &str) -> Option<Case> {
+    match text {
+        "copy" => first.clone().ok(),
+        _ => case(alloc, text).ok(),
+    }
 }

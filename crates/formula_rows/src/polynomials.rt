@@ -7,6 +7,7 @@ use linear_terms::{
 };
 use polynomial_texts::{poly, row};
 use std::alloc::Global;
+use std::fmt::Write;
 
 pub(crate) fn outcome(alloc: Global, kind: &str, given: &str) -> Option<String> {
     match kind {
@@ -59,9 +60,14 @@ fn put_in(alloc: Global, a: &Poly, at: &[Poly], aux: &[Poly]) -> Option<String> 
 /// A polynomial, and what is put in for its second auxiliary; behind a semicolon its terms without that.
 fn auxiliary(alloc: Global, given: &str) -> Option<String> {
     let (a, by) = two_polys(alloc, given)?;
-    let made = shown(alloc, subst_aux(alloc, &a, 1, &by))?;
-    let rest = without(alloc, &a, 1).ok()?;
-    format!(in alloc; "{made} ; {rest}").ok()
+    let mut text = shown(alloc, subst_aux(alloc, &a, 1, &by))?;
+    write_rest(alloc, &mut text, &a)?;
+    Some(text)
+}
+
+fn write_rest(alloc: Global, text: &mut String, a: &Poly) -> Option<()> {
+    let rest = without(alloc, a, 1).ok()?;
+    write!(text, " ; {rest}").ok()
 }
 
 /// A row.
