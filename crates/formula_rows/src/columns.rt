@@ -10,7 +10,7 @@ use std::fmt::Write;
 use transition_formula::{Formula, Loss, equated, hidden, raised, with_entries, with_posts};
 
 /// Numbers with blanks between them.
-fn small_numbers(alloc: Global, text: &str) -> Option<Vec<u32>> {
+pub(crate) fn small_numbers(alloc: Global, text: &str) -> Option<Vec<u32>> {
     let mut made = Vec::new(alloc);
     for part in text.split(' ') {
         made.push(part.parse::<u32>().ok()?).ok()?;

@@ -16,16 +16,18 @@ pub(crate) fn outcome(alloc: Global, kind: &str, given: &str) -> Option<String> 
     }
 }
 
-/// The formula between so many columns whose cases stand between slashes.
+/// The formula between so many columns whose cases stand between slashes; `-` has none.
 pub(crate) fn formula(alloc: Global, from: u32, to: u32, text: &str) -> Option<Formula> {
     let mut cases = Items::new(alloc);
-    for part in text.split('/') {
-        cases.push(case(alloc, part).ok()?).ok()?;
+    if text != "-" {
+        for part in text.split('/') {
+            cases.push(case(alloc, part).ok()?).ok()?;
+        }
     }
     Formula::new(from, to, cases)
 }
 
-fn write_case(text: &mut String, case: &Case) -> Result<(), AllocError> {
+pub(crate) fn write_case(text: &mut String, case: &Case) -> Result<(), AllocError> {
     write!(text, "{}", case.aux)?;
     for row in case.rows.as_slice() {
         write!(text, " | {row}")?;

@@ -1,5 +1,5 @@
 use Rattle.recurrence.proofs.Named.{so-many-named}
-use Rattle.polyhedra_rows.proofs.vocabularies.first_named.Goals as goal
+use Rattle.formula_rows.proofs.vocabularies.first_named.Goals as goal
 
 pub from_parts-requires : goal.from_parts-requires
 from_parts-requires c =

@@ -1,6 +1,6 @@
 //! The calls, each on a formula of few columns and parts.
 
-use crate::texts::{case_text, formula_text};
+use crate::logs::{case_text, cases_text};
 use polyhedra::{Log, Vocabulary, finish, fit, settle, thin};
 use recurrence::star;
 use std::alloc::Global;
@@ -21,7 +21,7 @@ pub(crate) fn settle_text(
         return None;
     }
     let made = settle(alloc, f, oracle, log).ok()?;
-    formula_text(alloc, &made)
+    cases_text(alloc, &made)
 }
 
 /// Of the one case of a formula.
@@ -81,7 +81,7 @@ pub(crate) fn fit_text(
         return None;
     }
     let made = fit(alloc, f, voc, voc, oracle, log).ok()?;
-    formula_text(alloc, &made)
+    cases_text(alloc, &made)
 }
 
 /// Of a body.
@@ -104,5 +104,5 @@ pub(crate) fn star_text(
         return None;
     }
     let made = star(alloc, body, voc, oracle, log).ok()?;
-    formula_text(alloc, &made)
+    cases_text(alloc, &made)
 }

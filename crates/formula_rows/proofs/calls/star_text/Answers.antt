@@ -1,6 +1,6 @@
 use Rattle.std.proofs.Common.{arith, subst, sym, ◌∙◌}
 use Rattle.transition_formula.specs.Transition.{IsTransition}
-use Rattle.polyhedra_rows.proofs.calls.star_text.Goals as goal
+use Rattle.formula_rows.proofs.calls.star_text.Goals as goal
 
 pub star-requires : goal.star-requires
 star-requires c =

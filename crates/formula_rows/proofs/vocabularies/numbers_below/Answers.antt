@@ -1,6 +1,6 @@
 use Rattle.std.proofs.Common.{◌≡◌, ℕ, zero, suc, ◌+◌, List, [], ◌∷◌, ◌++◌, ap, sym, ◌∙◌, arith}
 use Rattle.std.specs.List.{range_with_len}
-use Rattle.polyhedra_rows.proofs.vocabularies.numbers_below.Goals as goal
+use Rattle.formula_rows.proofs.vocabularies.numbers_below.Goals as goal
 
 range-last : (a n : ℕ) → range_with_len a (n + 1) ≡ range_with_len a n ++ (a + n) ∷ []
 range-last a zero = ap (λ n. n ∷ []) (omega arith)

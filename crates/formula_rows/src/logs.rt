@@ -1,24 +1,12 @@
-//! Formulas as texts, and what a log has.
+//! What a log has, and what comes of a call.
 
+use crate::formulas::{write_case, write_formula};
 use farkas_check::Limit;
-use items::Items;
 use linear_terms::Case;
 use polyhedra::{Log, Note};
-use polynomial_texts::case;
 use std::alloc::{AllocError, Global};
 use std::fmt::Write;
 use transition_formula::{Formula, Loss};
-
-/// The formula between so many columns whose cases stand between slashes; `-` has none.
-pub(crate) fn formula(alloc: Global, from: u32, to: u32, text: &str) -> Option<Formula> {
-    let mut cases = Items::new(alloc);
-    if text != "-" {
-        for part in text.split('/') {
-            cases.push(case(alloc, part).ok()?).ok()?;
-        }
-    }
-    Formula::new(from, to, cases)
-}
 
 pub(crate) fn case_text(alloc: Global, case: &Case) -> Option<String> {
     let mut text = String::new(alloc);
@@ -26,26 +14,10 @@ pub(crate) fn case_text(alloc: Global, case: &Case) -> Option<String> {
     Some(text)
 }
 
-pub(crate) fn formula_text(alloc: Global, formula: &Formula) -> Option<String> {
+pub(crate) fn cases_text(alloc: Global, formula: &Formula) -> Option<String> {
     let mut text = String::new(alloc);
-    let mut mark = "";
-    for case in formula.cases() {
-        write!(text, "{mark}").ok()?;
-        write_case(&mut text, case).ok()?;
-        mark = " / ";
-    }
+    write_formula(&mut text, formula).ok()?;
     Some(text)
-}
-
-fn write_case(text: &mut String, case: &Case) -> Result<(), AllocError> {
-    write!(text, "{}", case.aux)?;
-    for row in case.rows.as_slice() {
-        write!(text, " | {row}")?;
-    }
-    for post in case.post.as_slice() {
-        write!(text, " ; {post}")?;
-    }
-    Ok(())
 }
 
 pub(crate) fn write_log(text: &mut String, log: &Log, left: usize) -> Result<(), AllocError> {

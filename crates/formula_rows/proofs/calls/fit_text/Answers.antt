@@ -1,7 +1,7 @@
 use Rattle.std.proofs.Common.{arith, subst, sym, ◌∙◌}
 use Rattle.transition_formula.specs.Transition.{IsTransition}
 use Rattle.polyhedra.specs.Laws.{IsBetween}
-use Rattle.polyhedra_rows.proofs.calls.fit_text.Goals as goal
+use Rattle.formula_rows.proofs.calls.fit_text.Goals as goal
 
 pub fit-requires : goal.fit-requires
 fit-requires c =

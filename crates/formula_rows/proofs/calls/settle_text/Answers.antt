@@ -1,7 +1,7 @@
 use Rattle.std.proofs.Common.{arith, subst, sym}
 use Rattle.transition_formula.specs.Transition.{IsTransition}
 use Rattle.transition_formula.proofs.Fitted.{fitted-solvable}
-use Rattle.polyhedra_rows.proofs.calls.settle_text.Goals as goal
+use Rattle.formula_rows.proofs.calls.settle_text.Goals as goal
 
 pub settle-requires : goal.settle-requires
 settle-requires c =
