@@ -23,9 +23,7 @@ fn told(alloc: Global, kind: &str, text: &[u8]) -> Option<String> {
         "tree" => trees::tree_text(alloc, text),
         "program" => programs::program_text(alloc, text),
         "nodes" => programs::nodes_text(alloc, text),
-        "value" => expressions::value_text(alloc, text),
-        "cases" => expressions::cases_text(alloc, text),
-        "joint" => expressions::joint_text(alloc, text),
+        "value" | "cases" | "joint" => expressions::expression_text(alloc, kind, text),
         "name" => expressions::name_text(alloc, text),
         _ => None,
     }
@@ -38,13 +36,16 @@ fn outcome(alloc: Global, line: &str) -> Option<String> {
     }
     let (kind, text) = line.split_once(' ')?;
     match kind.strip_suffix('*') {
-        Some(kind) => {
-            let made = rows::text_of_parts(alloc, text)?;
-            let told = told(alloc, kind, made.as_bytes())?;
-            rows::first_words(alloc, told.as_str().trim())
-        }
+        Some(kind) => told_in_short(alloc, kind, text),
         None => told(alloc, kind, &rows::bytes_of(alloc, text)?),
     }
+}
+
+/// The first two words of what a text of many parts comes to.
+fn told_in_short(alloc: Global, kind: &str, text: &str) -> Option<String> {
+    let made = rows::text_of_parts(alloc, text)?;
+    let told = told(alloc, kind, made.as_bytes())?;
+    rows::first_words(alloc, told.as_str().trim())
 }
 
 fn call_laws() {

@@ -3,7 +3,6 @@ use crate::program_text::{show_fault, show_program};
 use c_lexer::lex;
 use c_parser::{ends_once, parse};
 use std::alloc::{AllocError, Global};
-use std::fmt::Write;
 use syntax_tree::{Program, Tree, count_nodes};
 use typing::{elaborate, elaborations_are_answered, elaborations_are_unique};
 
@@ -25,7 +24,7 @@ pub(crate) fn program_of(alloc: Global, text: &[u8]) -> Option<Program> {
 fn show_copy(alloc: Global, out: &mut String, program: &Program) -> Result<(), AllocError> {
     let copy = program.copy(alloc)?;
     if copy != *program || !copy.is_well_formed() {
-        write!(out, "another copy ")?;
+        out.push_str("another copy ")?;
     }
     show_program(out, &copy)
 }

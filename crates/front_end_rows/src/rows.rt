@@ -1,5 +1,5 @@
 //! The texts of rows.
-use std::alloc::Global;
+use std::alloc::{AllocError, Global};
 use std::fmt::Write;
 
 /// The bytes of a text, in which `~` and two hexadecimal digits stand for one byte.
@@ -20,13 +20,19 @@ pub(crate) fn bytes_of(alloc: Global, text: &str) -> Option<Vec<u8>> {
 /// A part so often, in which `~#` stands for how often it came before.
 fn put_repeated(out: &mut String, part: &str, times: usize) -> Option<()> {
     for number in 0..times {
-        let mut pieces = part.split("~#");
-        out.push_str(pieces.next().unwrap_or("")).ok()?;
-        for piece in pieces {
-            write!(out, "{number}{piece}").ok()?;
-        }
+        put_numbered(out, part, number).ok()?;
     }
     Some(())
+}
+
+/// A part with its number.
+fn put_numbered(out: &mut String, part: &str, number: usize) -> Result<(), AllocError> {
+    let mut pieces = part.split("~#");
+    out.push_str(pieces.next().unwrap_or(""))?;
+    for piece in pieces {
+        write!(out, "{number}{piece}")?;
+    }
+    Ok(())
 }
 
 /// A text of many parts. Between two `~~` stand in turn a text, a part that comes behind it, and how often that comes.

@@ -1,43 +1,46 @@
 //! What texts are cut into, and where they are refused. A token is told by a letter (`w` a word, `k` a keyword, `m` a
 //! mark, `e` the end) or by its number and `@`, its place and its length.
+use crate::words::show_place;
 use c_lexer::{
-    Kind, LexError, lex, refusal_is_one, tokens_are_not_refused, tokens_are_one, tokens_ascend,
+    Kind, LexError, Token, lex, refusal_is_one, tokens_are_not_refused, tokens_are_one,
+    tokens_ascend,
 };
 use std::alloc::{AllocError, Global};
 use std::fmt::Write;
 
 fn show_kind(out: &mut String, kind: &Kind) -> Result<(), AllocError> {
     match kind {
-        Kind::Word(_) => write!(out, "w")?,
-        Kind::Keyword(_) => write!(out, "k")?,
-        Kind::Number(value) => write!(out, "{value}@")?,
-        Kind::Mark(_) => write!(out, "m")?,
-        Kind::End => write!(out, "e")?,
+        Kind::Word(_) => out.push_str("w"),
+        Kind::Keyword(_) => out.push_str("k"),
+        Kind::Number(value) => write!(out, "{value}@"),
+        Kind::Mark(_) => out.push_str("m"),
+        Kind::End => out.push_str("e"),
+    }
+}
+
+fn show_tokens(out: &mut String, tokens: &[Token]) -> Result<(), AllocError> {
+    for token in tokens {
+        show_kind(out, &token.kind)?;
+        write!(out, "{}+{} ", token.at, token.len)?;
     }
     Ok(())
 }
 
 fn show_fault(out: &mut String, fault: LexError) -> Result<(), AllocError> {
     match fault {
-        LexError::Byte(at) => write!(out, "byte {at}")?,
-        LexError::Comment(at) => write!(out, "comment {at}")?,
-        LexError::Literal(at) => write!(out, "literal {at}")?,
-        LexError::TooManyTokens(at) => write!(out, "tokens {at}")?,
-        LexError::Memory => write!(out, "memory")?,
+        LexError::Byte(at) => show_place(out, "byte", at),
+        LexError::Comment(at) => show_place(out, "comment", at),
+        LexError::Literal(at) => show_place(out, "literal", at),
+        LexError::TooManyTokens(at) => show_place(out, "tokens", at),
+        LexError::Memory => out.push_str("memory"),
     }
-    Ok(())
 }
 
 /// The tokens of a text, or why it is refused.
 pub(crate) fn tokens_text(alloc: Global, text: &[u8]) -> Option<String> {
     let mut out = String::new(alloc);
     match lex(alloc, text.get(..1_048_576).unwrap_or(text)) {
-        Ok(tokens) => {
-            for token in &tokens {
-                show_kind(&mut out, &token.kind).ok()?;
-                write!(out, "{}+{} ", token.at, token.len).ok()?;
-            }
-        }
+        Ok(tokens) => show_tokens(&mut out, tokens.as_slice()).ok()?,
         Err(fault) => show_fault(&mut out, fault).ok()?,
     }
     Some(out)

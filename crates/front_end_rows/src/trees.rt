@@ -1,31 +1,34 @@
 //! Trees of texts, and where texts without one are refused.
 use crate::tree_text::show_item;
+use crate::words::show_place;
 use c_lexer::{Token, lex};
 use c_parser::{ParseError, ends_once, lexed_ends_once, parse, reading_is_one, readings_are_short};
 use std::alloc::{AllocError, Global};
-use std::fmt::Write;
-use syntax_tree::Tree;
+use syntax_tree::{Item, Tree};
 
-/// The tree, by a copy of it, which has to be equal.
-fn show_tree(alloc: Global, out: &mut String, tree: &Tree) -> Result<(), AllocError> {
-    let copy = tree.copy(alloc)?;
-    if copy != *tree {
-        write!(out, "another copy")?;
-    }
-    for item in copy.items.as_slice() {
+fn show_items(out: &mut String, items: &[Item]) -> Result<(), AllocError> {
+    for item in items {
         show_item(out, item)?;
     }
     Ok(())
 }
 
+/// The tree, by a copy of it, which has to be equal.
+fn show_tree(alloc: Global, out: &mut String, tree: &Tree) -> Result<(), AllocError> {
+    let copy = tree.copy(alloc)?;
+    if copy != *tree {
+        out.push_str("another copy")?;
+    }
+    show_items(out, copy.items.as_slice())
+}
+
 fn show_fault(out: &mut String, fault: ParseError) -> Result<(), AllocError> {
     match fault {
-        ParseError::Syntax(at) => write!(out, "syntax {at}")?,
-        ParseError::Unsupported(at) => write!(out, "unsupported {at}")?,
-        ParseError::Deep(at) => write!(out, "deep {at}")?,
-        ParseError::Memory => write!(out, "memory")?,
+        ParseError::Syntax(at) => show_place(out, "syntax", at),
+        ParseError::Unsupported(at) => show_place(out, "unsupported", at),
+        ParseError::Deep(at) => show_place(out, "deep", at),
+        ParseError::Memory => out.push_str("memory"),
     }
-    Ok(())
 }
 
 fn told(alloc: Global, tokens: &[Token]) -> Option<String> {
