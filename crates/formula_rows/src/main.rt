@@ -1,16 +1,21 @@
 //! Worked rows of formulas: what the operations on polynomials, the closed forms and the formulas
 //! come to on examples, what the calls on polyhedra come to on small formulas under listed answers,
-//! and what is read and written of the files that hold such answers. The rows of standard input
-//! have an empty line between two. A row of one line is its kind, a colon and what is given to the
-//! operation; a row of more lines has its kind in the first. What is printed stands in `stdout` as
-//! another implementation, a model of the rules or a reader gave it. No clause says these.
+//! what the test says of an answer, what the simplex method answers, which questions are narrow,
+//! sums and products of ratios, reduced bases, and what is read and written of the files that hold
+//! answers. The rows of standard input have an empty line between two. A row of one line is its
+//! kind, a colon and what is given to the operation; a row of more lines has its kind in the first.
+//! The rows of a question are parted by semicolons; what stands after a colon belongs to the same
+//! case, and `%` parts cases. What is printed stands in `stdout` as another implementation, a model
+//! of the rules or a reader gave it. No clause says these.
 #![tactic(auto)]
 
+mod bases;
 mod call_rows;
 mod calls;
 mod certificates;
 mod closed_forms;
 mod columns;
+mod exclusions;
 mod faults;
 mod formulas;
 mod inputs;
@@ -18,9 +23,13 @@ mod logs;
 mod numbered;
 mod parts;
 mod polynomials;
+mod questions;
+mod ratios;
 mod replays;
 mod scripts;
+mod searches;
 mod texts;
+mod verdicts;
 mod vocabularies;
 
 use closed_form::forward_differences;
@@ -48,6 +57,24 @@ fn told_of_lines(alloc: Global, head: &str, rest: &str) -> Option<String> {
         "in turn" => replays::turns_text(alloc, rest),
         "twice" => replays::twice_text(alloc, rest),
         "shared" => replays::shared_text(alloc, rest),
+        "infeasible" | "supremum" | "stratum" => verdicts::verdicts_text(alloc, head, rest),
+        _ => told_of_numbers(alloc, head, rest),
+    }
+}
+
+/// What a row of ratios, of a search or of listed answers comes to.
+fn told_of_numbers(alloc: Global, head: &str, rest: &str) -> Option<String> {
+    match head {
+        "lowest terms" => ratios::lowest_text(alloc, rest),
+        "ratios" => ratios::ratios_text(alloc, rest),
+        "reduced" => bases::reduced_text(alloc, rest),
+        "search of rows" => searches::rows_text(alloc, rest),
+        "search of a supremum" => searches::supremum_text(alloc, rest),
+        "search of relations" => searches::relations_text(alloc, rest),
+        "relations of a narrow question" => searches::narrow_relations_text(alloc, rest),
+        "narrow" => searches::narrow_text(alloc, rest),
+        "each list" => exclusions::each_text(alloc, rest),
+        "first list" => exclusions::first_text(alloc, rest),
         _ => call_rows::outcome(alloc, head, rest),
     }
 }

@@ -7,31 +7,37 @@ use simplex::{answer, infeasible, sup};
 use std::alloc::{AllocError, Global};
 use std::fmt::Write;
 
-fn limit_text(alloc: Global, limit: Limit) -> Option<String> {
+fn write_limit(text: &mut String, limit: Limit) -> Result<(), AllocError> {
     match limit {
-        Limit::Pivots => format!(in alloc; "pivots").ok(),
+        Limit::Pivots => text.push_str("pivots"),
         Limit::Wide { left, right, times } => {
             let mark = if times { "times" } else { "plus" };
-            format!(in alloc; "limit {left} {mark} {right}").ok()
+            write!(text, "limit {left} {mark} {right}")
         }
     }
 }
 
-fn kind(alloc: Global, answer: &Answer) -> Option<String> {
+fn write_bound(text: &mut String, at: i128, case: u32) -> Result<(), AllocError> {
+    write!(text, "bound {at} at {case}")
+}
+
+fn write_kind(text: &mut String, answer: &Answer) -> Result<(), AllocError> {
     match answer {
-        Answer::Yes(_) => format!(in alloc; "yes").ok(),
-        Answer::No(_) => format!(in alloc; "no").ok(),
-        Answer::Bound { at, case, .. } => format!(in alloc; "bound {at} at {case}").ok(),
-        Answer::Unbounded { case, .. } => format!(in alloc; "unbounded at {case}").ok(),
-        Answer::Limit(limit) => limit_text(alloc, *limit),
-        Answer::Basis { .. } => format!(in alloc; "basis").ok(),
+        Answer::Yes(_) => text.push_str("yes"),
+        Answer::No(_) => text.push_str("no"),
+        Answer::Bound { at, case, .. } => write_bound(text, *at, *case),
+        Answer::Unbounded { case, .. } => write!(text, "unbounded at {case}"),
+        Answer::Limit(limit) => write_limit(text, *limit),
+        Answer::Basis { .. } => text.push_str("basis"),
     }
 }
 
 fn answer_text(alloc: Global, question: &Question, answer: &Answer) -> Option<String> {
-    let kind = kind(alloc, answer)?;
+    let mut text = String::new(alloc);
+    write_kind(&mut text, answer).ok()?;
     let passes = test(question, answer);
-    format!(in alloc; "{kind}, {passes}").ok()
+    write!(text, ", {passes}").ok()?;
+    Some(text)
 }
 
 /// Rows; `none` stands for no row.
@@ -59,7 +65,7 @@ fn write_numbers(text: &mut String, numbers: &[i128]) -> Result<(), AllocError> 
 /// The numbers of the terms, those of the lower terms, and the constant.
 fn write_relation(text: &mut String, relation: &Relation) -> Result<(), AllocError> {
     write_numbers(text, relation.a.as_slice())?;
-    write!(text, "| ")?;
+    text.push_str("| ")?;
     write_numbers(text, relation.b.as_slice())?;
     let constant = relation.c;
     write!(text, "| {constant}; ")
@@ -73,22 +79,20 @@ fn write_relations(text: &mut String, relations: &[Relation]) -> Result<(), Allo
 }
 
 /// The relations of a basis, or the kind of another answer.
-fn relations_of(alloc: Global, answer: &Answer) -> Option<String> {
+fn write_found(text: &mut String, answer: &Answer) -> Result<(), AllocError> {
     match answer {
-        Answer::Basis { relations, .. } => {
-            let mut text = String::new(alloc);
-            write_relations(&mut text, relations.as_slice()).ok()?;
-            Some(text)
-        }
-        other => kind(alloc, other),
+        Answer::Basis { relations, .. } => write_relations(text, relations.as_slice()),
+        other => write_kind(text, other),
     }
 }
 
 /// The relations of an answer to a question, and whether it passes.
 fn basis_text(alloc: Global, asked: &Question, found: &Answer) -> Option<String> {
-    let relations = relations_of(alloc, found)?;
+    let mut text = String::new(alloc);
+    write_found(&mut text, found).ok()?;
     let passes = test(asked, found);
-    format!(in alloc; "{relations}{passes}").ok()
+    write!(text, "{passes}").ok()?;
+    Some(text)
 }
 
 /// A question about relations.

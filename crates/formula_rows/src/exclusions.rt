@@ -42,8 +42,12 @@ pub(crate) fn each_text(alloc: Global, given: &str) -> Option<String> {
     let (asked, answered) = given.split_once('\n')?;
     let lists = lists(alloc, asked)?;
     let mut oracle = oracle(alloc, answered)?;
+    text_of_each(alloc, lists.as_slice(), &mut oracle)
+}
+
+fn text_of_each(alloc: Global, lists: &[Items<Row>], oracle: &mut Listed) -> Option<String> {
     let mut log = Log::new(alloc);
-    let made = exclusions(alloc, lists.as_slice(), &mut oracle, &mut log).ok()?;
+    let made = exclusions(alloc, lists, oracle, &mut log).ok()?;
     let mut text = bools_text(alloc, made.as_slice())?;
     write_log(&mut text, &log).ok()?;
     Some(text)
@@ -63,8 +67,12 @@ pub(crate) fn first_text(alloc: Global, given: &str) -> Option<String> {
     let (asked, answered) = given.split_once('\n')?;
     let lists = lists(alloc, asked)?;
     let mut oracle = oracle(alloc, answered)?;
+    text_of_first(alloc, lists.as_slice(), &mut oracle)
+}
+
+fn text_of_first(alloc: Global, lists: &[Items<Row>], oracle: &mut Listed) -> Option<String> {
     let mut log = Log::new(alloc);
-    let made = first_excluded(alloc, lists.as_slice(), &mut oracle, &mut log);
+    let made = first_excluded(alloc, lists, oracle, &mut log);
     let mut text = place_text(alloc, made)?;
     write_log(&mut text, &log).ok()?;
     Some(text)

@@ -11,18 +11,23 @@ fn write_verdict(
     question: &Question,
     answer: &Answer,
 ) -> Result<(), AllocError> {
-    let verdict = if test(question, answer) {
+    text.push_str(if test(question, answer) {
         "passes"
     } else {
         "fails"
-    };
-    match test_width(question, answer) {
+    })?;
+    write_width(text, test_width(question, answer))?;
+    text.push_str("; ")
+}
+
+fn write_width(text: &mut String, width: Option<Limit>) -> Result<(), AllocError> {
+    match width {
         Some(Limit::Wide { left, right, times }) => {
             let mark = if times { "times" } else { "plus" };
-            write!(text, "{verdict}, wide {left} {mark} {right}; ")
+            write!(text, ", wide {left} {mark} {right}")
         }
-        Some(Limit::Pivots) => write!(text, "{verdict}, pivots; "),
-        None => write!(text, "{verdict}; "),
+        Some(Limit::Pivots) => text.push_str(", pivots"),
+        None => Ok(()),
     }
 }
 
@@ -37,15 +42,25 @@ fn write_verdicts(
     Ok(())
 }
 
-/// Whether copies of a question and of answers are equal to them.
-fn are_copied(question: &Question, answers: &[Answer]) -> Option<bool> {
+/// Whether a copy of a question is equal to it.
+fn is_copied(question: &Question) -> Option<bool> {
     let copy = question.clone().ok()?;
+    Some(copy == *question)
+}
+
+fn is_answer_copied(answer: &Answer) -> Option<bool> {
+    let copy = answer.clone().ok()?;
+    Some(copy == *answer)
+}
+
+/// Whether copies of answers are equal to them.
+fn are_copied(answers: &[Answer]) -> Option<bool> {
     for answer in answers {
-        if answer.clone().ok()? != *answer {
+        if !is_answer_copied(answer)? {
             return Some(false);
         }
     }
-    Some(copy == *question)
+    Some(true)
 }
 
 /// A question and answers: what the test says of each, and whether their copies are equal.
@@ -53,9 +68,13 @@ pub(crate) fn verdicts_text(alloc: Global, kind: &str, given: &str) -> Option<St
     let (asked, answered) = given.split_once('\n')?;
     let question = question(alloc, kind, asked)?;
     let answers = answers(alloc, answered)?;
+    text_of(alloc, &question, answers.as_slice())
+}
+
+fn text_of(alloc: Global, question: &Question, answers: &[Answer]) -> Option<String> {
+    let copied = is_copied(question)? && are_copied(answers)?;
     let mut text = String::new(alloc);
-    write_verdicts(&mut text, &question, answers.as_slice()).ok()?;
-    let copied = are_copied(&question, answers.as_slice())?;
+    write_verdicts(&mut text, question, answers).ok()?;
     write!(text, "copies {copied}").ok()?;
     Some(text)
 }

@@ -1,7 +1,8 @@
 //! Ratios in lowest terms, their sums and products.
 
 use farkas_check::Ratio;
-use std::alloc::Global;
+use std::alloc::{AllocError, Global};
+use std::fmt::Write;
 use whole_numbers::Wide;
 
 /// A numerator and a denominator.
@@ -18,12 +19,12 @@ pub(crate) fn lowest_text(alloc: Global, given: &str) -> Option<String> {
     format!(in alloc; "{is_lowest}").ok()
 }
 
-fn shown(alloc: Global, made: Result<Ratio, Wide>) -> Option<String> {
+fn write_made(text: &mut String, made: Result<Ratio, Wide>) -> Result<(), AllocError> {
     match made {
-        Ok(made) => format!(in alloc; "{}/{}", made.num(), made.den()).ok(),
+        Ok(made) => write!(text, "{}/{}", made.num(), made.den()),
         Err(Wide { left, right, times }) => {
             let mark = if times { "times" } else { "plus" };
-            format!(in alloc; "wide {left} {mark} {right}").ok()
+            write!(text, "wide {left} {mark} {right}")
         }
     }
 }
@@ -33,7 +34,9 @@ pub(crate) fn ratios_text(alloc: Global, given: &str) -> Option<String> {
     let (left, right) = given.split_once('|')?;
     let left = ratio(left)?;
     let right = ratio(right)?;
-    let sum = shown(alloc, left.sum(&right))?;
-    let product = shown(alloc, left.product(&right))?;
-    format!(in alloc; "{sum}; {product}").ok()
+    let mut text = String::new(alloc);
+    write_made(&mut text, left.sum(&right)).ok()?;
+    text.push_str("; ").ok()?;
+    write_made(&mut text, left.product(&right)).ok()?;
+    Some(text)
 }

@@ -31,16 +31,21 @@ fn write_line(text: &mut String, line: &[Ratio]) -> Result<(), AllocError> {
     for number in line {
         write!(text, " {}/{}", number.num(), number.den())?;
     }
-    write!(text, ";")
+    text.push_str(";")
 }
 
 fn lines_text(alloc: Global, lines: &[Items<Ratio>]) -> Option<String> {
-    let count = lines.len();
-    let mut text = format!(in alloc; "{count} lines:").ok()?;
-    for line in lines {
-        write_line(&mut text, line.as_slice()).ok()?;
-    }
+    let mut text = String::new(alloc);
+    write_lines(&mut text, lines).ok()?;
     Some(text)
+}
+
+fn write_lines(text: &mut String, lines: &[Items<Ratio>]) -> Result<(), AllocError> {
+    write!(text, "{} lines:", lines.len())?;
+    for line in lines {
+        write_line(text, line.as_slice())?;
+    }
+    Ok(())
 }
 
 /// The lines of the reduced basis, or that the rows are not small.
