@@ -4,9 +4,10 @@ use Rattle.std.proofs.lemmas.Bool.{cases_lt, cases_eq}
 use Rattle.std.proofs.lemmas.List.{get_or_default, length_push, length-set}
 use Rattle.std.proofs.lemmas.List.Elements.{Contains-append_cases}
 use Rattle.std.specs.List.{Contains, count_by}
+use Rattle.flow_graph.specs.declared.components.Mark.{Mark}
 use Rattle.flow_graph.specs.declared.components.Mark.TheVariants.{New, OnPath, Done}
 use Rattle.flow_graph.specs.Reaching.{Calls, Reaches, called_by}
-use Rattle.flow_graph.specs.Search.{State, entered, left, mark_of, on_path, with_starts, last_start, is_new, IsMarked, IsSound, Follows, IsCut, IsSettled, AreLow, AreSettled, AllReach, Visited}
+use Rattle.flow_graph.specs.Search.{State, entered, left, mark_of, on_path, with_starts, last_start, is_new, IsMarked, IsSound, Follows, IsCut, IsSettled, AreLow, AreNumbers, AreSettled, AllReach, Visited}
 use Rattle.flow_graph.proofs.Chains.{reaches_then, reaches_call}
 use Rattle.flow_graph.proofs.Entering.{at_end, before_end, contains_at, entered_marks, entered_sound, only_end, stays}
 use Rattle.flow_graph.proofs.Joins.{init_less, from_init, at_most_last}
@@ -175,15 +176,60 @@ module _ (calls : List (List ℕ)) (old s : State) (p k : ℕ) (opens : IsOpen c
 
 -- ---- one call of the list
 
-pub call_at : (calls : List (List ℕ)) (p k : ℕ) (items : List ℕ) → items ≡ called_by calls p → k < length items → Calls calls p (get_or items k 0)
+call_at : (calls : List (List ℕ)) (p k : ℕ) (items : List ℕ) → items ≡ called_by calls p → k < length items → Calls calls p (get_or items k 0)
 call_at calls p k items e l =
     subst (λ (xs : List ℕ). Contains (called_by calls p) (get_or xs k 0)) (sym e)
     (contains_at (called_by calls p) k (subst (λ (xs : List ℕ). k < length xs) e l))
 
-pub open_length : (calls : List (List ℕ)) (old s : State) (p k : ℕ) → IsOpen calls old s p k → length s.marks ≡ length old.marks
+open_length : (calls : List (List ℕ)) (old s : State) (p k : ℕ) → IsOpen calls old s p k → length s.marks ≡ length old.marks
 open_length calls old s p k opens = opens.follows.all ∙ length-set old.marks p (OnPath (length old.path))
 
-pub open_fewer : (calls : List (List ℕ)) (old s : State) (p k : ℕ) → IsOpen calls old s p k → mark_of old p ≡ New → p < length old.marks
+open_fewer : (calls : List (List ℕ)) (old s : State) (p k : ℕ) → IsOpen calls old s p k → mark_of old p ≡ New → p < length old.marks
     → count_by is_new s.marks < count_by is_new old.marks
 open_fewer calls old s p k opens new there =
     let l = opens.follows.fewer in let n = fewer_new old.marks p (OnPath (length old.path)) there new refl in omega (arith, l, n)
+
+row_is : (calls : List (List ℕ)) (p : ℕ) (row found : List ℕ) → p < length calls → row ≡ found → found ≡ get_or calls p found → row ≡ called_by calls p
+row_is calls p row found there same read = same ∙ read ∙ get_or_default calls p found [] there
+
+-- the call of a row that stands next: its number has a mark, and a search from it ends
+pub record IsNextCall (calls : List (List ℕ)) (old s : State) (p k : ℕ) (row : List ℕ) : Type 0 where
+  pub long : k < length (called_by calls p)
+  pub is : get_or (called_by calls p) k 0 ≡ get_or row k 0
+  pub there : get_or row k 0 < length s.marks
+  pub all : length calls ≡ length s.marks
+  pub fewer : count_by is_new s.marks < count_by is_new old.marks
+  pub reach : AllReach calls s (get_or row k 0)
+  pub marked : (mark : Mark) → mark ≡ get_or s.marks (get_or row k 0) mark → mark_of s (get_or row k 0) ≡ mark
+
+pub call-next : {calls : List (List ℕ)} {old s : State} {p k : ℕ} {row found : List ℕ} → IsOpen calls old s p k → mark_of old p ≡ New → p < length old.marks → length calls ≡ length old.marks → AreNumbers calls (length calls)
+    → row ≡ found → found ≡ get_or calls p found → k < length row → IsNextCall calls old s p k row
+call-next {calls} {old} {s} {p} {k} {row} {found} opens new within all numbers same read l =
+    let items = row_is calls p row found (omega (arith, within, all)) same read in
+    let call = call_at calls p k row items l in
+    let number = numbers p (get_or row k 0) call in
+    let there : get_or row k 0 < length s.marks = omega (arith, number, all, open_length calls old s p k opens) in
+    record {
+      long = subst (λ (xs : List ℕ). k < length xs) items l;
+      is = ap (λ (xs : List ℕ). get_or xs k 0) (sym items);
+      there = there;
+      all = omega (arith, all, open_length calls old s p k opens);
+      fewer = open_fewer calls old s p k opens new within;
+      reach = all_reach calls old s p k opens (get_or row k 0) call;
+      marked = λ mark e. get_or_default s.marks (get_or row k 0) New mark there ∙ sym e;
+    }
+
+-- the end of a row: what the search has kept, whether its group goes on or ends
+pub record IsRowEnd (calls : List (List ℕ)) (old s : State) (p at : ℕ) : Type 0 where
+  pub kept : (last_start s ≡ at → ⊥) → Visited calls old s p
+  pub ended : last_start s ≡ at → Visited calls old (left s at) p
+
+pub row-end : {calls : List (List ℕ)} {old s : State} {p k : ℕ} {row found : List ℕ} (at : ℕ) → IsOpen calls old s p k → IsSound calls old → mark_of old p ≡ New → p < length old.marks → length calls ≡ length old.marks
+    → row ≡ found → found ≡ get_or calls p found → length row ≤ k → at ≡ length old.path → IsRowEnd calls old s p at
+row-end {calls} {old} {s} {p} {k} {row} {found} at opens sound new within all same read le place =
+    let items = row_is calls p row found (omega (arith, within, all)) same read in
+    let past : length (called_by calls p) ≤ k = subst (λ (xs : List ℕ). length xs ≤ k) items le in
+    record {
+      kept = λ ne. closing_kept calls old s p k opens sound new within past (λ last. ne (last ∙ sym place));
+      ended = λ last. subst (λ n. Visited calls old (left s n) p) (sym place) (closing_left calls old s p k opens sound new within past (last ∙ place));
+    }
