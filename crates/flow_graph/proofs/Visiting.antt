@@ -43,7 +43,7 @@ module _ (calls : List (List ℕ)) (old s : State) (p k : ℕ) (opens : IsOpen c
   own_number : on_path s (length old.path) ≡ p
   own_number = opens.follows.same (length old.path) (omega (arith, length_push old.path p)) ∙ at_end old.path p
 
-  pub all_reach : (q : ℕ) → Calls calls p q → AllReach calls s q
+  all_reach : (q : ℕ) → Calls calls p q → AllReach calls s q
   all_reach q call at l = reaches_then calls _ p q
       (subst (Reaches calls (on_path s at)) own_number
       (opens.sound.reaches at (length old.path) l own_place (λ x c h u. let w = opens.low x c in absurd (omega (arith, w, h)))))
@@ -135,7 +135,7 @@ module _ (calls : List (List ℕ)) (old s : State) (p k : ℕ) (opens : IsOpen c
     | inr now ↦ absurd (ne (only_end (length old.path) x now))
   ]
 
-  pub closing_kept : (last_start s ≡ length old.path → ⊥) → Visited calls old s p
+  closing_kept : (last_start s ≡ length old.path → ⊥) → Visited calls old s p
   closing_kept ne = record {
     sound = opens.sound;
     follows = entered_follows_all old s p sound.marked new there opens.follows (λ x c. old_start x c (λ e.
@@ -146,7 +146,7 @@ module _ (calls : List (List ℕ)) (old s : State) (p k : ℕ) (opens : IsOpen c
     seen = inr (length old.path, mark_own, omega arith);
   }
 
-  pub left_is_sound : last_start s ≡ length old.path → IsSound calls (left s (length old.path))
+  left_is_sound : last_start s ≡ length old.path → IsSound calls (left s (length old.path))
   left_is_sound last = left_sound calls s (length old.path) opens.sound (own_place calls old s p k opens) opens.low last all_settled
 
   left_follows : last_start s ≡ length old.path → Follows old (left s (length old.path))
@@ -166,7 +166,7 @@ module _ (calls : List (List ℕ)) (old s : State) (p k : ℕ) (opens : IsOpen c
         all = left_length s (length old.path) ∙ opens.follows.all ∙ length-set old.marks p (OnPath (length old.path));
       }
 
-  pub closing_left : last_start s ≡ length old.path → Visited calls old (left s (length old.path)) p
+  closing_left : last_start s ≡ length old.path → Visited calls old (left s (length old.path)) p
   closing_left last = record {
     sound = left_is_sound last;
     follows = left_follows last;

@@ -172,9 +172,9 @@ some_at (x ∷ xs) zero lt = (x, refl)
 some_at (x ∷ xs) (suc k) lt = some_at xs k (omega arith)
 
 -- the same, where the statement and the width are told by the code
-pub fit_as : (program : Program) (proc : ℕ) (statement other : Statement) (width : ℕ) → IsWellFormed program → proc < length program.procs → IsActOf program proc statement → statement ≡ other → width ≡ columns_at program proc
+pub fit_as : {program : Program} {proc : ℕ} {statement other : Statement} {width : ℕ} → IsWellFormed program → proc < length program.procs → IsActOf program proc statement → statement ≡ other → width ≡ columns_at program proc
     → EdgeFits program width other
-fit_as program proc statement other width formed lt act same wide =
+fit_as {program} {proc} {statement} {other} {width} formed lt act same wide =
     let p = some_at program.procs proc lt in
     let is : width ≡ width_of program p.0 = wide ∙ ap (columns_in program) p.1 in
     subst (λ n. EdgeFits program n other) (sym is) (subst (EdgeFits program (width_of program p.0)) same (act-fits program proc p.0 statement formed p.1 act))
@@ -190,8 +190,8 @@ narrow_at program proc formed lt =
 pub globals_at : (program : Program) (proc : ℕ) → proc < length program.procs → length program.globals ≤ columns_at program proc
 globals_at program proc lt = let p = some_at program.procs proc lt in subst (λ o. length program.globals ≤ columns_in program o) (sym p.1) (omega arith)
 
-pub proc_within : (program : Program) (known : List (Option Transition)) (width proc : ℕ) (args : List Term) (into : Option ℕ) → AreKnown program known → CallFits program width proc args into → proc < length known
-proc_within program known width proc args into are fit = let lt = slice_get_within program.procs proc fit.callee fit.is in let same = are.each in omega arith
+pub proc_within : {program : Program} {known : List (Option Transition)} {width proc : ℕ} {args : List Term} {into : Option ℕ} → AreKnown program known → CallFits program width proc args into → proc < length known
+proc_within {program} {known} {width} {proc} are fit = let lt = slice_get_within program.procs proc fit.callee fit.is in let same = are.each in omega arith
 
 -- ---- for callers: edges of a graph that is made, and nothing known
 

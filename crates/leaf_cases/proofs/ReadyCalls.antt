@@ -10,7 +10,7 @@ use Rattle.syntax_tree.specs.WellFormed.{IsWellFormed}
 use Rattle.transition_formula.specs.Transition.{Transition}
 use Rattle.leaf_cases.specs.Conditions.{AreKnown, IsActOf, columns_at}
 use Rattle.leaf_cases.specs.Edges.{leaf_of, lost_in_leaf, known_call, lost_in_known_call}
-use Rattle.leaf_cases.proofs.Graphs.{CallFits, fit_as, globals_at, proc_within}
+use Rattle.leaf_cases.proofs.Graphs.{fit_as, globals_at, proc_within}
 use Rattle.leaf_cases.proofs.Leaves.{CallReady, call_ready}
 
 -- the formula and the losses of the edge by what is known of the callee
@@ -23,8 +23,8 @@ pub call-ready : {program : Program} {known : List (Option Transition)} {at widt
     IsWellFormed program → IsActOf program at statement → at < length program.procs → AreKnown program known → statement ≡ Call proc (map term_of args) into → width ≡ columns_at program at → globals ≡ length program.globals →
     found ≡ get_or known proc found → found ≡ entry → slice ≡ args → IsReadyCall program known at width globals statement slice into entry
 call-ready {program} {known} {at} {width} {globals} {proc} {statement} {slice} {into} {found} {entry} args formed edge there are calls columns count read is same =
-    let fit : CallFits program width proc (map term_of args) into = fit_as program at statement (Call proc (map term_of args) into) width formed there edge calls columns in
-    let within = proc_within program known width proc (map term_of args) into are fit in
+    let fit = fit_as formed there edge calls columns in
+    let within = proc_within are fit in
     let entry_is : slice_get known proc ≡ Some entry = slice_get_read known (length known) proc found refl within read ∙ ap (λ o. Some o) is in
     let back : Some entry ≡ slice_get known proc = sym entry_is in
     let wide = subst (λ n. length program.globals ≤ n) (sym columns) (globals_at program at there) in

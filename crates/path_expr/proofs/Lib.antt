@@ -12,4 +12,5 @@ pub mod FirstLemmas
 pub mod SweepLemmas
 pub mod EliminationLemmas
 pub mod ArrivalLemmas
+pub mod ReadyWays
 pub mod ReachLemmas

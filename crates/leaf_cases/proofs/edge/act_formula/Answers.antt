@@ -1,5 +1,4 @@
-use Rattle.std.proofs.Common.{◌≤◌, ◌++◌, map, refl, sym, ap, subst, ◌∙◌, append-nil, arith}
-use Rattle.syntax_tree.specs.Term.{term_of}
+use Rattle.std.proofs.Common.{◌≤◌, ◌++◌, refl, sym, ap, subst, ◌∙◌, append-nil, arith}
 use Rattle.flow_graph.specs.Plain.{statement_of_act}
 use Rattle.leaf_cases.proofs.Graphs.{fit_as, narrow_at, proc_within}
 use Rattle.leaf_cases.proofs.ReadyCalls.{call-ready}
@@ -7,32 +6,32 @@ use Rattle.leaf_cases.proofs.edge.act_formula.Goals as goal
 
 pub truth-requires-clause-below : goal.truth-requires-clause-below
 truth-requires-clause-below c =
-    let fit = fit_as _ _ _ _ _ c.requires.formed c.requires.procedure c.requires.edge (ap statement_of_act c.in-Guard.is) c.widths_of-widths.ensures.columns in fit.below
+    let fit = fit_as c.requires.formed c.requires.procedure c.requires.edge (ap statement_of_act c.in-Guard.is) c.widths_of-widths.ensures.columns in fit.below
 
 pub truth-requires-clause-operators : goal.truth-requires-clause-operators
 truth-requires-clause-operators c =
-    let fit = fit_as _ _ _ _ _ c.requires.formed c.requires.procedure c.requires.edge (ap statement_of_act c.in-Guard.is) c.widths_of-widths.ensures.columns in fit.operators
+    let fit = fit_as c.requires.formed c.requires.procedure c.requires.edge (ap statement_of_act c.in-Guard.is) c.widths_of-widths.ensures.columns in fit.operators
 
 pub set-requires-clause-col : goal.set-requires-clause-col
 set-requires-clause-col c =
-    let fit = fit_as _ _ _ _ _ c.requires.formed c.requires.procedure c.requires.edge (ap statement_of_act c.in-Set.is) c.widths_of-widths.ensures.columns in fit.col_is
+    let fit = fit_as c.requires.formed c.requires.procedure c.requires.edge (ap statement_of_act c.in-Set.is) c.widths_of-widths.ensures.columns in fit.col_is
 
 pub set-requires-clause-below : goal.set-requires-clause-below
 set-requires-clause-below c =
-    let fit = fit_as _ _ _ _ _ c.requires.formed c.requires.procedure c.requires.edge (ap statement_of_act c.in-Set.is) c.widths_of-widths.ensures.columns in fit.below
+    let fit = fit_as c.requires.formed c.requires.procedure c.requires.edge (ap statement_of_act c.in-Set.is) c.widths_of-widths.ensures.columns in fit.below
 
 pub set-requires-clause-operators : goal.set-requires-clause-operators
 set-requires-clause-operators c =
-    let fit = fit_as _ _ _ _ _ c.requires.formed c.requires.procedure c.requires.edge (ap statement_of_act c.in-Set.is) c.widths_of-widths.ensures.columns in let few = fit.operators in omega arith
+    let fit = fit_as c.requires.formed c.requires.procedure c.requires.edge (ap statement_of_act c.in-Set.is) c.widths_of-widths.ensures.columns in let few = fit.operators in omega arith
 
 pub any-requires : goal.any-requires
 any-requires c =
-    fit_as _ _ _ _ _ c.requires.formed c.requires.procedure c.requires.edge (ap statement_of_act c.in-Any.is) c.widths_of-widths.ensures.columns
+    fit_as c.requires.formed c.requires.procedure c.requires.edge (ap statement_of_act c.in-Any.is) c.widths_of-widths.ensures.columns
 
 pub bounds-known-proc : goal.bounds-known-proc
 bounds-known-proc c =
-    let fit = fit_as _ _ _ _ _ c.requires.formed c.requires.procedure c.requires.edge (ap statement_of_act c.in-Call.is) c.widths_of-widths.ensures.columns in
-    proc_within _ _ _ _ (map term_of c.in-Call.args) _ c.requires.known fit
+    let fit = fit_as c.requires.formed c.requires.procedure c.requires.edge (ap statement_of_act c.in-Call.is) c.widths_of-widths.ensures.columns in
+    proc_within c.requires.known fit
 
 pub call-requires-clause-narrow : goal.call-requires-clause-narrow
 call-requires-clause-narrow c =

@@ -1,38 +1,27 @@
-use Rattle.std.proofs.Common.{◌≡◌, ◌<◌, ◌∙◌, sym, ap, subst, arith}
-use Rattle.path_expr.specs.PathExpr.{star_of}
+use Rattle.std.proofs.Common.{◌≡◌, ◌∙◌, sym, ap, subst, arith}
 use Rattle.path_expr.specs.Elimination.{way_at}
 use Rattle.path_expr.specs.Operations.{below, way_operations}
-use Rattle.path_expr.specs.Table.{cell}
-use Rattle.path_expr.specs.Holds.{IsItemOrOne, AreWays, node_at}
+use Rattle.path_expr.specs.Holds.{AreWays}
 use Rattle.path_expr.proofs.RunLemmas.{Runs-then, Runs-as, Makes-exit, Makes-exit_memory, Makes-as, Makes-ok}
-use Rattle.path_expr.proofs.HoldLemmas.{IsItemOrOne-kept, AreWays-kept, AreWays-push, HoldsAll-kept}
+use Rattle.path_expr.proofs.HoldLemmas.{AreWays-kept, AreWays-push}
+use Rattle.path_expr.proofs.ReadyWays.{way-ready}
 use Rattle.path_expr.proofs.SweepLemmas.{below-more, below-rest}
 use Rattle.path_expr.proofs.arrival.find_ways.Goals as goal
 
 pub returns-in_err-next-clause-made : goal.returns-in_err-next-clause-made
 returns-in_err-next-clause-made g c = λ source f h hs.
-    let lt : c.loop-n.n < c.args.nodes = omega arith in
     let so_far = c.loop-n.invariant.so_far source f h hs in
-    let ways = subst (λ xs. AreWays g.A.Algebra.fits g.A.Algebra.spans source c.loop-n.algebra (way_at f) xs) (sym c.as_slice.ensures.value) so_far.1 in
-    let star = λ (pos : 0 < c.loop-n.n).
-    subst (λ o. IsItemOrOne g.A.Algebra.fits g.A.Algebra.spans c.loop-n.algebra (star_of (f c.loop-n.n c.loop-n.n)) o (node_at source c.loop-n.n))
-    (sym (c.loop-n.invariant.stars c.loop-n.n (omega arith)))
-    (IsItemOrOne-kept so_far.0.keeps (star_of (f c.loop-n.n c.loop-n.n)) (cell c.args.stars.now c.loop-n.n c.loop-n.n) (node_at source c.loop-n.n) (hs c.loop-n.n pos lt)) in
-    let here = c.in_err-next.ensures.made source f (HoldsAll-kept so_far.0.keeps h) ways star in
-    let rest = below-rest (way_operations f) c.loop-n.n c.args.nodes lt in
+    let ready = way-ready c.loop-n.n c.args.nodes c.args.stars.now c.loop-n.stars so_far.0.keeps h hs so_far.1 c.as_slice.ensures.value c.loop-n.invariant.stars (omega arith) in
+    let here = c.in_err-next.ensures.made source f ready.holds ready.ways ready.star in
+    let rest = below-rest (way_operations f) c.loop-n.n c.args.nodes (omega arith) in
     Makes-as rest.1 (Makes-exit c.from_residual.result rest.0 c.from_residual.ensures.1 (Runs-then so_far.0 here.run))
 
 pub returns-in_err-push-clause-made : goal.returns-in_err-push-clause-made
 returns-in_err-push-clause-made g c = λ source f h hs.
-    let lt : c.loop-n.n < c.args.nodes = omega arith in
     let so_far = c.loop-n.invariant.so_far source f h hs in
-    let ways = subst (λ xs. AreWays g.A.Algebra.fits g.A.Algebra.spans source c.loop-n.algebra (way_at f) xs) (sym c.as_slice.ensures.value) so_far.1 in
-    let star = λ (pos : 0 < c.loop-n.n).
-    subst (λ o. IsItemOrOne g.A.Algebra.fits g.A.Algebra.spans c.loop-n.algebra (star_of (f c.loop-n.n c.loop-n.n)) o (node_at source c.loop-n.n))
-    (sym (c.loop-n.invariant.stars c.loop-n.n (omega arith)))
-    (IsItemOrOne-kept so_far.0.keeps (star_of (f c.loop-n.n c.loop-n.n)) (cell c.args.stars.now c.loop-n.n c.loop-n.n) (node_at source c.loop-n.n) (hs c.loop-n.n pos lt)) in
-    let here = c.in_ok-next.ensures.made source f (HoldsAll-kept so_far.0.keeps h) ways star in
-    let rest = below-rest (way_operations f) c.loop-n.n c.args.nodes lt in
+    let ready = way-ready c.loop-n.n c.args.nodes c.args.stars.now c.loop-n.stars so_far.0.keeps h hs so_far.1 c.as_slice.ensures.value c.loop-n.invariant.stars (omega arith) in
+    let here = c.in_ok-next.ensures.made source f ready.holds ready.ways ready.star in
+    let rest = below-rest (way_operations f) c.loop-n.n c.args.nodes (omega arith) in
     Makes-as rest.1 (Makes-exit_memory c.from_residual-in_err-push.result rest.0 c.from_residual-in_err-push.ensures.1 (Runs-then so_far.0 here.run))
 
 pub loop-n-preserved : goal.loop-n-preserved
@@ -40,14 +29,9 @@ loop-n-preserved g c = record {
   counted = let e = c.in_ok-push.ensures.len in let n = c.loop-n.invariant.counted in omega arith;
   stars = λ m le. c.way.ensures.others m (omega arith) ∙ c.loop-n.invariant.stars m (omega arith);
   so_far = λ source f h hs.
-      let lt : c.loop-n.n < c.args.nodes = omega arith in
       let so_far = c.loop-n.invariant.so_far source f h hs in
-      let ways = subst (λ xs. AreWays g.A.Algebra.fits g.A.Algebra.spans source c.loop-n.algebra (way_at f) xs) (sym c.as_slice.ensures.value) so_far.1 in
-      let star = λ (pos : 0 < c.loop-n.n).
-      subst (λ o. IsItemOrOne g.A.Algebra.fits g.A.Algebra.spans c.loop-n.algebra (star_of (f c.loop-n.n c.loop-n.n)) o (node_at source c.loop-n.n))
-      (sym (c.loop-n.invariant.stars c.loop-n.n (omega arith)))
-      (IsItemOrOne-kept so_far.0.keeps (star_of (f c.loop-n.n c.loop-n.n)) (cell c.args.stars.now c.loop-n.n c.loop-n.n) (node_at source c.loop-n.n) (hs c.loop-n.n pos lt)) in
-      let here = c.in_ok-next.ensures.made source f (HoldsAll-kept so_far.0.keeps h) ways star in (
+      let ready = way-ready c.loop-n.n c.args.nodes c.args.stars.now c.loop-n.stars so_far.0.keeps h hs so_far.1 c.as_slice.ensures.value c.loop-n.invariant.stars (omega arith) in
+      let here = c.in_ok-next.ensures.made source f ready.holds ready.ways ready.star in (
         Runs-as (below-more (way_operations f) c.loop-n.n) (Runs-then so_far.0 here.run),
         subst (λ xs. AreWays g.A.Algebra.fits g.A.Algebra.spans source c.way.new.algebra (way_at f) xs) (sym c.in_ok-push.ensures.items)
             (AreWays-push c.loop-n.n c.in_ok-next.next c.loop-n.invariant.counted (AreWays-kept here.run.keeps so_far.1) here.good),
