@@ -47,3 +47,8 @@ module _ {A T : Type 0} {fits : A → PathExpr → T → Type 0} {spans : A → 
         way_is = IsWay-kept keeps (way_at f p) way (node_at source 0) (node_at source p) (hw.at p way is);
         turns = IsItemOrOne-kept keeps (star_of (f n n)) turn (node_at source n) ht;
       }
+
+-- turns that are taken out of their cell
+pub turn-taken : {A T : Type 0} {turn taken : Option T} (fits : A → PathExpr → T → Type 0) (spans : A → T → ℕ → ℕ → Type 0) (a : A) (path : PathExpr) (node : ℕ) →
+    taken ≡ turn → IsItemOrOne fits spans a path turn node → IsItemOrOne fits spans a path taken node
+turn-taken fits spans a path node same h = subst (λ o. IsItemOrOne fits spans a path o node) (sym same) h

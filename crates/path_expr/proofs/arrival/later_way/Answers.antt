@@ -1,23 +1,17 @@
-use Rattle.std.proofs.Common.{sym, subst}
-use Rattle.path_expr.specs.PathExpr.{Zero, star_of}
+use Rattle.std.proofs.Common.{subst}
+use Rattle.path_expr.specs.PathExpr.{Zero}
 use Rattle.path_expr.specs.Elimination.{arrivals, ways}
-use Rattle.path_expr.specs.Holds.{IsItemOrZero, IsItemOrOne, node_at}
+use Rattle.path_expr.specs.Holds.{IsItemOrZero, node_at}
+use Rattle.path_expr.proofs.ReadyWays.{turn-taken}
 use Rattle.path_expr.proofs.arrival.later_way.Goals as goal
 
 pub arrive-requires-clause-holds : goal.arrive-requires-clause-holds
 arrive-requires-clause-holds g c =
-    let source = c.requires.holds.0 in let f = c.requires.holds.1 in (
-      source,
-      f,
-      c.requires.holds.2,
-      c.requires.holds.3,
-      subst (λ o. IsItemOrOne g.A.Algebra.fits g.A.Algebra.spans c.args.algebra.now (star_of (f c.args.n c.args.n)) o (node_at source c.args.n)) (sym c.take-turn.ensures.value) c.requires.holds.4,
-    )
+    let given = c.requires.holds in (given.0, given.1, given.2, given.3, turn-taken _ _ _ _ _ c.take-turn.ensures.value given.4)
 
 pub returns-in-Ok-Some-clause-made : goal.returns-in-Ok-Some-clause-made
 returns-in-Ok-Some-clause-made g c = λ source f h hw ht.
-    let m = c.in-Ok-Some.ensures.made source f h hw
-    (subst (λ o. IsItemOrOne g.A.Algebra.fits g.A.Algebra.spans c.args.algebra.now (star_of (f c.args.n c.args.n)) o (node_at source c.args.n)) (sym c.take-turn.ensures.value) ht) in
+    let m = c.in-Ok-Some.ensures.made source f h hw (turn-taken _ _ _ _ _ c.take-turn.ensures.value ht) in
     record {
       run = m.run;
       good = subst (λ o. IsItemOrZero g.A.Algebra.fits g.A.Algebra.spans c.arrive.new.algebra (arrivals f c.args.n (ways f c.args.n) 0 Zero) o (node_at source 0) (node_at source c.args.n))
@@ -26,8 +20,7 @@ returns-in-Ok-Some-clause-made g c = λ source f h hw ht.
 
 pub returns-in-Ok-None-clause-made : goal.returns-in-Ok-None-clause-made
 returns-in-Ok-None-clause-made g c = λ source f h hw ht.
-    let m = c.in-Ok-None.ensures.made source f h hw
-    (subst (λ o. IsItemOrOne g.A.Algebra.fits g.A.Algebra.spans c.args.algebra.now (star_of (f c.args.n c.args.n)) o (node_at source c.args.n)) (sym c.take-turn.ensures.value) ht) in
+    let m = c.in-Ok-None.ensures.made source f h hw (turn-taken _ _ _ _ _ c.take-turn.ensures.value ht) in
     record {
       run = m.run;
       good = subst (λ o. IsItemOrZero g.A.Algebra.fits g.A.Algebra.spans c.arrive.new.algebra (arrivals f c.args.n (ways f c.args.n) 0 Zero) o (node_at source 0) (node_at source c.args.n))
@@ -36,6 +29,5 @@ returns-in-Ok-None-clause-made g c = λ source f h hw ht.
 
 pub returns-clause-made : goal.returns-clause-made
 returns-clause-made g c = λ source f h hw ht.
-    let m = c.in-Err.ensures.made source f h hw
-    (subst (λ o. IsItemOrOne g.A.Algebra.fits g.A.Algebra.spans c.args.algebra.now (star_of (f c.args.n c.args.n)) o (node_at source c.args.n)) (sym c.take-turn.ensures.value) ht) in
+    let m = c.in-Err.ensures.made source f h hw (turn-taken _ _ _ _ _ c.take-turn.ensures.value ht) in
     record { run = m.run; good = tt }
