@@ -38,7 +38,8 @@ module _ (program : Program) (c : CheckAt) (check : IsCheckOf program c) where
       let stop_is : slice_get (stops_in (slice_get flows c.proc)) c.check ≡ Some stop = ap (λ o. slice_get (stops_in o) c.check) is_flow ∙ is_stop in
       λ i. asserted_if program (check.is i) (graph_is i) (is_entry i) (stop_is i)
 
--- what stands at the place of an assertion's procedure: its entry, its flow, and in that the formula of where it stands
+-- what stands at the place of an assertion's procedure: its entry, its flow, and in that the
+-- formula of where it stands
 pub record StandsAt (program : Program) (c : CheckAt) (check : IsCheckOf program c) (entries : List (Option Transition)) (flows : List Flow) (entry : Option Transition) (flow : Flow) : Type 0 where
   pub entry_is : slice_get entries c.proc ≡ Some entry
   pub flow_is : slice_get flows c.proc ≡ Some flow

@@ -1,4 +1,5 @@
--- Calls whose notes come with their value: the log has none while they run, and those before come back.
+-- Calls whose notes come with their value: the log has none while they run, and those before come
+-- back.
 --     path_apart                  a path is one of the computation apart, without notes
 --     leads_apart                 so is what a call did
 --     value_apart, error_apart    a call that came to its value, and one that failed

@@ -1,4 +1,5 @@
--- The analysis notes nothing beside its report: a call that follows it leaves the notes of its log as they were.
+-- The analysis notes nothing beside its report: a call that follows it leaves the notes of its log
+-- as they were.
 --     quiet-bind, quiet-each, quiet-apart    how quiet computations are put together
 --     quiet-kept                             what a call that follows one does to the notes
 --     analysed-quiet                         the whole analysis is one

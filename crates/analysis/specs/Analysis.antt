@@ -28,20 +28,28 @@ block_of program p formula notes =
       notes = notes;
     }
 
-abbrev pub block_onto : Program → Proc → Option Transition → List Note → List ProcBlock → List ProcBlock
+abbrev pub block_onto : Program → Proc → Option Transition → List Note → List ProcBlock
+    → List ProcBlock
 block_onto program p None notes blocks = blocks
 block_onto program p (Some f) notes blocks = block_of program p f notes ∷ blocks
 
-abbrev pub blocks_by : Program → List Proc → List (Option Transition) → List (List Note) → List ProcBlock
-blocks_by program (p ∷ procs) (f ∷ known) (notes ∷ others) = block_onto program p f notes (blocks_by program procs known others)
+abbrev pub blocks_by : Program → List Proc → List (Option Transition) → List (List Note)
+    → List ProcBlock
+blocks_by program (p ∷ procs) (f ∷ known) (notes ∷ others) =
+    block_onto program p f notes (blocks_by program procs known others)
 blocks_by program _ _ _ = []
 
 -- ---- the whole
 
-unfoldable pub report_by : Program → List TextPlace → Found → List (Option Transition) → List Note → Posing Report
+unfoldable pub report_by : Program → List TextPlace → Found → List (Option Transition) → List Note
+    → Posing Report
 report_by program places found entries notes =
     judged_by program places entries (flows_in found) >>= λ judged.
-    Done record { procs = blocks_by program program.procs found.known found.notes; notes = notes; judged = judged }
+    Done record {
+      procs = blocks_by program program.procs found.known found.notes;
+      notes = notes;
+      judged = judged;
+    }
 
 unfoldable pub ended_by : Program → List TextPlace → Found → Posing Report
 ended_by program places found =

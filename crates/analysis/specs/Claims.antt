@@ -1,4 +1,5 @@
--- What is asked where a group is summed up, what parts and findings are like, and what they say of executions.
+-- What is asked where a group is summed up, what parts and findings are like, and what they say of
+-- executions.
 use Rattle.std.specs.Prelude.{◌≡◌, ◌<◌, ◌≤◌, ◌+◌, ℕ, All, List, [], ◌∷◌, ◌++◌, Option, Some, length, slice_get}
 use Rattle.std.specs.List.{Contains}
 use Rattle.syntax_tree.specs.declared.program.Proc.{Proc}
@@ -31,7 +32,8 @@ use Rattle.analysis.specs.Plan.{ArePlannedOf}
 -- the callees of each of these procedures are known
 abbrev pub KnowAllCallees : Program → List ℕ → List (Option Transition) → Type 0
 KnowAllCallees program procs known =
-    (proc : ℕ) (p : Proc) → Contains procs proc → slice_get program.procs proc ≡ Some p → KnowsCallees p known
+    (proc : ℕ) (p : Proc) → Contains procs proc → slice_get program.procs proc ≡ Some p
+    → KnowsCallees p known
 
 -- what the procedures of a group call is known, or of the group where that is recursive
 abbrev pub KnowsFor : GroupKind → Program → List ℕ → List (Option Transition) → Type 0
@@ -44,8 +46,10 @@ IsLinearIf Plain program procs = Unit {0}
 IsLinearIf Linear program procs = IsLinear program procs
 IsLinearIf Rounds program procs = Unit {0}
 
--- it is a group of procedures of the program whose callees outside are known, and it is linear where the plan says so
-pub record IsReadyGroup (program : Program) (planned : Planned) (known : List (Option Transition)) : Type 0 where
+-- it is a group of procedures of the program whose callees outside are known, and it is linear
+-- where the plan says so
+pub record IsReadyGroup (program : Program) (planned : Planned)
+    (known : List (Option Transition)) : Type 0 where
   pub there : All (λ proc. proc < length program.procs) planned.procs
   pub few : length planned.procs ≤ length program.procs
   pub callees : KnowsFor planned.kind program planned.procs known
@@ -55,14 +59,16 @@ pub record IsReadyGroup (program : Program) (planned : Planned) (known : List (O
 
 -- it fits the procedure of this number
 abbrev pub FitsAt : Program → ℕ → Flow → Type 0
-FitsAt program proc flow = (p : Proc) → slice_get program.procs proc ≡ Some p → FitsFlow program p flow
+FitsAt program proc flow = (p : Proc) → slice_get program.procs proc ≡ Some p
+    → FitsFlow program p flow
 
 abbrev pub IsKnownAt : Program → ℕ → Transition → Type 0
 IsKnownAt program proc f = (p : Proc) → slice_get program.procs proc ≡ Some p → IsKnown program p f
 
 -- each element has to do with the procedure at its place
 abbrev pub EachOf : {X : Type 0} → (ℕ → X → Type 0) → List ℕ → List X → Type 0
-EachOf {X} P procs xs = (place proc : ℕ) (x : X) → slice_get procs place ≡ Some proc → slice_get xs place ≡ Some x → P proc x
+EachOf {X} P procs xs = (place proc : ℕ) (x : X) → slice_get procs place ≡ Some proc
+    → slice_get xs place ≡ Some x → P proc x
 
 -- one that fits for each procedure of the group
 pub record FitFlows (program : Program) (procs : List ℕ) (flows : List Flow) : Type 0 where
@@ -74,25 +80,29 @@ abbrev pub AreFlowsOf : Program → List ℕ → List Flow → Type 0
 AreFlowsOf program procs flows = EachOf (FlowHolds program) procs flows
 
 -- a flow more, and a summary more, of a procedure by known formulas
-pub record AddsFlow (program : Program) (known : List (Option Transition)) (proc : ℕ) (made next : List Flow) : Type 0 where
+pub record AddsFlow (program : Program) (known : List (Option Transition)) (proc : ℕ)
+    (made next : List Flow) : Type 0 where
   pub flow : Flow
   pub is : next ≡ made ++ flow ∷ []
   pub fits : FitsAt program proc flow
   pub holds : AreMet program known → FlowHolds program proc flow
 
-pub record AddsSummary (program : Program) (known : List (Option Transition)) (proc : ℕ) (made next : List Transition) : Type 0 where
+pub record AddsSummary (program : Program) (known : List (Option Transition)) (proc : ℕ)
+    (made next : List Transition) : Type 0 where
   pub formula : Transition
   pub is : next ≡ made ++ formula ∷ []
   pub fits : IsKnownAt program proc formula
   pub met : AreMet program known → SummaryIsMet program proc formula
 
 -- a summary and a flow for each procedure of the group
-pub record FitsGroup (program : Program) (procs : List ℕ) (formulas : List Transition) (flows : List Flow) : Type 0 where
+pub record FitsGroup (program : Program) (procs : List ℕ) (formulas : List Transition)
+    (flows : List Flow) : Type 0 where
   pub known : AreKnownMembers program procs formulas
   pub fit : FitFlows program procs flows
 
 -- the summaries are met, and the flows hold
-pub record GroupIsMet (program : Program) (procs : List ℕ) (formulas : List Transition) (flows : List Flow) : Type 0 where
+pub record GroupIsMet (program : Program) (procs : List ℕ) (formulas : List Transition)
+    (flows : List Flow) : Type 0 where
   pub summaries : AreMetMembers program procs formulas
   pub hold : AreFlowsOf program procs flows
 
@@ -103,7 +113,8 @@ pub record FitsFound (program : Program) (found : Found) : Type 0 where
   pub known : AreKnown program found.known
   pub flows : length found.flows ≡ length program.procs
   pub notes : length found.notes ≡ length program.procs
-  pub fit : (proc : ℕ) (flow : Flow) → slice_get found.flows proc ≡ Some (Some flow) → FitsAt program proc flow
+  pub fit : (proc : ℕ) (flow : Flow) → slice_get found.flows proc ≡ Some (Some flow)
+      → FitsAt program proc flow
 
 -- the summary and the flow of a procedure
 pub record IsFoundAt (found : Found) (proc : ℕ) : Type 0 where
@@ -130,7 +141,8 @@ pub record IsLeft (program : Program) (found : Found) (plan : List Planned) : Ty
 -- the summaries are met, and the flows hold
 pub record FoundIsMet (program : Program) (found : Found) : Type 0 where
   pub summaries : AreMet program found.known
-  pub flows : (proc : ℕ) (flow : Flow) → slice_get found.flows proc ≡ Some (Some flow) → FlowHolds program proc flow
+  pub flows : (proc : ℕ) (flow : Flow) → slice_get found.flows proc ≡ Some (Some flow)
+      → FlowHolds program proc flow
 
 -- ---- assertions
 
@@ -147,10 +159,12 @@ abbrev pub IsJudged : Program → ℕ → Judged → Type 0
 IsJudged program number judged = judged.verdict ≡ Proved → ¬ Fails program number
 
 abbrev pub AreJudged : Program → List Judged → Type 0
-AreJudged program judged = (n : ℕ) (j : Judged) → slice_get judged n ≡ Some j → IsJudged program (n + 1) j
+AreJudged program judged = (n : ℕ) (j : Judged) → slice_get judged n ≡ Some j
+    → IsJudged program (n + 1) j
 
 -- one more of a number, by entries and flows
-pub record AddsJudged (program : Program) (entries : List (Option Transition)) (flows : List Flow) (made : List Judged) (number : ℕ) (all : List Judged) : Type 0 where
+pub record AddsJudged (program : Program) (entries : List (Option Transition)) (flows : List Flow)
+    (made : List Judged) (number : ℕ) (all : List Judged) : Type 0 where
   pub judged : Judged
   pub is : all ≡ made ++ judged ∷ []
   pub sound : EntriesHold program entries → FlowsHold program flows → IsJudged program number judged

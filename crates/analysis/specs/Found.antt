@@ -22,7 +22,11 @@ noted_at [] notes all = all
 noted_at (first ∷ procs) notes all = slice_set all first notes
 
 abbrev pub nothing_found : ℕ → Found
-nothing_found procs = record { known = replicate procs None; flows = replicate procs None; notes = replicate procs [] }
+nothing_found procs = record {
+  known = replicate procs None;
+  flows = replicate procs None;
+  notes = replicate procs [];
+}
 
 abbrev pub with_part : Found → List ℕ → Part → Found
 with_part found procs part =
@@ -33,7 +37,8 @@ with_part found procs part =
     }
 
 unfoldable pub with_group : Program → Found → Planned → Posing Found
-with_group program found planned = part_of program planned found.known >>= λ part. Done (with_part found planned.procs part)
+with_group program found planned = part_of program planned found.known
+    >>= λ part. Done (with_part found planned.procs part)
 
 unfoldable pub found_by : Program → List Planned → Posing Found
 found_by program plan = each (with_group program) (nothing_found (length program.procs)) plan

@@ -64,8 +64,10 @@ abbrev pub asserted_at : Program → Proc → CheckPlace → Option Transition �
 asserted_at program p check entry stop =
     record { program = program; p = p; cond = check.cond; entry = entry; stand = stop.formula }
 
-abbrev pub asserted_if : Program → Option Proc → Option CheckPlace → Option (Option Transition) → Option Stop → Option Asserted
-asserted_if program (Some p) (Some check) (Some entry) (Some stop) = Some (asserted_at program p check entry stop)
+abbrev pub asserted_if : Program → Option Proc → Option CheckPlace → Option (Option Transition)
+    → Option Stop → Option Asserted
+asserted_if program (Some p) (Some check) (Some entry) (Some stop) =
+    Some (asserted_at program p check entry stop)
 asserted_if program _ _ _ _ = None
 
 abbrev pub stops_in : Option Flow → List Stop
@@ -74,10 +76,12 @@ stops_in (Some flow) = flow.checks
 
 abbrev pub asserted_by : Program → List (Option Transition) → List Flow → CheckAt → Option Asserted
 asserted_by program entries flows c =
-    asserted_if program (slice_get program.procs c.proc) (slice_get (graph_of program c.proc).checks c.check)
+    asserted_if program (slice_get program.procs c.proc)
+    (slice_get (graph_of program c.proc).checks c.check)
     (slice_get entries c.proc) (slice_get (stops_in (slice_get flows c.proc)) c.check)
 
-abbrev pub asserted_of : Program → List (Option Transition) → List Flow → Option CheckAt → Option Asserted
+abbrev pub asserted_of : Program → List (Option Transition) → List Flow → Option CheckAt
+    → Option Asserted
 asserted_of program entries flows None = None
 asserted_of program entries flows (Some c) = asserted_by program entries flows c
 
@@ -98,7 +102,15 @@ place_in places number = slice_index_or places (number - 1) no_place
 -- one that stands in no graph is not come to, and so never fails
 abbrev pub unreached : TextPlace → Judged
 unreached at =
-    record { at = at.at; line = at.line; column = at.column; named = []; shown = []; verdict = Proved; notes = [] }
+    record {
+      at = at.at;
+      line = at.line;
+      column = at.column;
+      named = [];
+      shown = [];
+      verdict = Proved;
+      notes = [];
+    }
 
 -- the columns that are told are the globals and those that have a name
 unfoldable pub judged_of : TextPlace → Option Asserted → Posing Judged
@@ -115,11 +127,14 @@ judged_of at (Some a) =
       notes = made.1;
     }
 
-unfoldable pub with_judged : Program → List TextPlace → List (Option Transition) → List Flow → List Judged → ℕ → Posing (List Judged)
+unfoldable pub with_judged : Program → List TextPlace → List (Option Transition) → List Flow
+    → List Judged → ℕ → Posing (List Judged)
 with_judged program places entries flows made number =
-    judged_of (place_in places number) (asserted program entries flows number) >>= λ judged. Done (made ++ judged ∷ [])
+    judged_of (place_in places number) (asserted program entries flows number)
+    >>= λ judged. Done (made ++ judged ∷ [])
 
 -- all assertions, in the order of their numbers
-unfoldable pub judged_by : Program → List TextPlace → List (Option Transition) → List Flow → Posing (List Judged)
+unfoldable pub judged_by : Program → List TextPlace → List (Option Transition) → List Flow
+    → Posing (List Judged)
 judged_by program places entries flows =
     each (with_judged program places entries flows) [] (range_with_len 1 (length program.checks))

@@ -1,4 +1,5 @@
--- What is found of one group: a summary and a flow for each of its procedures, and the notes of finding them.
+-- What is found of one group: a summary and a flow for each of its procedures, and the notes of
+-- finding them.
 use Rattle.std.specs.Prelude.{ℕ, false, true, List, [], ◌∷◌, ◌++◌, Option, map}
 use Rattle.std.specs.List.{slice_index_or}
 use Rattle.syntax_tree.specs.declared.program.Proc.{Proc}
@@ -22,8 +23,10 @@ use Rattle.analysis.specs.Apart.{apart}
 
 -- ---- summaries and flows
 
-unfoldable pub with_flow : Program → List (Option Transition) → List Flow → Proc → Posing (List Flow)
-with_flow program known made p = flow_from (subject_of program p known) >>= λ flow. Done (made ++ flow ∷ [])
+unfoldable pub with_flow : Program → List (Option Transition) → List Flow → Proc
+    → Posing (List Flow)
+with_flow program known made p = flow_from (subject_of program p known)
+    >>= λ flow. Done (made ++ flow ∷ [])
 
 -- a procedure that does not call itself: its flow, and its summary by that
 unfoldable pub with_plain : Program → List (Option Transition) → Summed → Proc → Posing Summed
@@ -37,20 +40,25 @@ plain_part program procs known =
     each (with_plain program known) record { formulas = []; flows = [] } (members_of program procs)
 
 -- a recursive group: its summaries, and then a flow for each procedure by these
-unfoldable pub recursive_part : Program → List ℕ → List (Option Transition) → Posing (List Transition) → Posing Summed
+unfoldable pub recursive_part : Program → List ℕ → List (Option Transition)
+    → Posing (List Transition) → Posing Summed
 recursive_part program procs known summaries =
     summaries >>= λ table.
-    each (with_flow program (with_table procs table known)) [] (members_of program procs) >>= λ flows.
+    each (with_flow program (with_table procs table known)) [] (members_of program procs)
+    >>= λ flows.
     Done record { formulas = table; flows = flows }
 
 unfoldable pub summed_by : GroupKind → Program → List ℕ → List (Option Transition) → Posing Summed
 summed_by Plain program procs known = plain_part program procs known
-summed_by Linear program procs known = recursive_part program procs known (closed_of true program procs known)
-summed_by Rounds program procs known = recursive_part program procs known (closed_of false program procs known)
+summed_by Linear program procs known =
+    recursive_part program procs known (closed_of true program procs known)
+summed_by Rounds program procs known =
+    recursive_part program procs known (closed_of false program procs known)
 
 -- ---- the group's notes
 
--- a dropped row is noted by the place of its procedure in the group; in the report that is its place in the program
+-- a dropped row is noted by the place of its procedure in the group; in the report that is its
+-- place in the program
 abbrev pub note_in : List ℕ → Note → Note
 note_in procs (note.Dropped place row by) = note.Dropped (slice_index_or procs place 0) row by
 note_in procs n = n
@@ -58,4 +66,8 @@ note_in procs n = n
 unfoldable pub part_of : Program → Planned → List (Option Transition) → Posing Part
 part_of program planned known =
     apart (summed_by planned.kind program planned.procs known) >>= λ made.
-    Done record { formulas = made.0.formulas; flows = made.0.flows; notes = map (note_in planned.procs) made.1 }
+    Done record {
+      formulas = made.0.formulas;
+      flows = made.0.flows;
+      notes = map (note_in planned.procs) made.1;
+    }

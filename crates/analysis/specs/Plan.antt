@@ -1,4 +1,5 @@
--- The groups of a program in the order in which they are summed up, each with the way in which that is done.
+-- The groups of a program in the order in which they are summed up, each with the way in which that
+-- is done.
 use Rattle.std.specs.Prelude.{◌≡◌, IsTrue, List, [], ◌∷◌}
 use Rattle.syntax_tree.specs.declared.program.Program.{Program}
 use Rattle.flow_graph.specs.declared.grouping.Group.{Group}
@@ -8,8 +9,8 @@ use Rattle.analysis.specs.declared.planning.GroupKind.{GroupKind}
 use Rattle.analysis.specs.declared.planning.GroupKind.TheVariants.{Plain, Linear, Rounds}
 use Rattle.analysis.specs.declared.planning.Planned.{Planned}
 
--- A group that is not recursive is plain. A recursive one is linear where no call of the group can follow another in one
--- activation; else its summaries are found by rounds.
+-- A group that is not recursive is plain. A recursive one is linear where no call of the group can
+-- follow another in one activation; else its summaries are found by rounds.
 abbrev pub IsKindOf : Program → Group → GroupKind → Type 0
 IsKindOf program group Plain = ¬ IsTrue group.recursive
 IsKindOf program group Linear = IsTrue group.recursive × IsLinear program group.procs
@@ -21,7 +22,8 @@ pub record IsPlannedOf (program : Program) (group : Group) (planned : Planned) :
 
 abbrev pub ArePlannedOf : Program → List Group → List Planned → Type 0
 ArePlannedOf program [] [] = Unit {0}
-ArePlannedOf program (group ∷ groups) (planned ∷ plan) = IsPlannedOf program group planned × ArePlannedOf program groups plan
+ArePlannedOf program (group ∷ groups) (planned ∷ plan) = IsPlannedOf program group planned
+    × ArePlannedOf program groups plan
 ArePlannedOf program [] (planned ∷ plan) = ⊥
 ArePlannedOf program (group ∷ groups) [] = ⊥
 

@@ -21,7 +21,8 @@ pub(crate) fn blocks_by(
     requires formed { IsWellFormed program.now }
     requires known { length known.now ≡ length program.now.procs }
     requires notes { length notes.now ≡ length program.now.procs }
-    ensures { IfOk result (λ blocks. blocks ≡ blocks_by program.now program.now.procs known.now notes.now) }
+    ensures { IfOk result
+        (λ blocks. blocks ≡ blocks_by program.now program.now.procs known.now notes.now) }
 {
     let mut blocks = Items::new(alloc);
     for (place, p) in program.procs.as_slice().iter().enumerate() {
@@ -39,7 +40,8 @@ fn add_block(
     blocks: &mut Items<ProcBlock>,
 ) -> Result<(), AllocError>
     requires { p.now.params ≤ length p.now.columns }
-    ensures { OnOk result (blocks.new ≡ blocks.old ++ block_onto program.now p.now formula.now notes.now []) }
+    ensures { OnOk result
+        (blocks.new ≡ blocks.old ++ block_onto program.now p.now formula.now notes.now []) }
 {
     if let Some(formula) = formula {
         blocks.push(block_of(alloc, program, p, formula, notes)?)?;
@@ -69,7 +71,9 @@ fn block_of(
 /// The names of the globals and the parameters.
 fn entry_names(alloc: Global, program: &Program, p: &Proc) -> Result<Items<Name>, AllocError>
     requires { p.now.params ≤ length p.now.columns }
-    ensures { IfOk result (λ names. names ≡ global_names program.now ++ column_names (take p.now.params p.now.columns)) }
+    ensures { IfOk result
+        (λ names. names ≡ global_names program.now
+        ++ column_names (take p.now.params p.now.columns)) }
 {
     let mut names = global_names(alloc, program)?;
     let params = &p.columns.as_slice()[..p.params as usize];

@@ -17,8 +17,8 @@ use std::vec::IntoIter;
 use syntax_tree::Program;
 use transition_formula::Formula;
 
-/// What is found of a program's procedures so far, by their places: their summaries, their flows, and the notes of a group
-/// at its first procedure.
+/// What is found of a program's procedures so far, by their places: their summaries, their flows,
+/// and the notes of a group at its first procedure.
 #[derive(Debug, Drop)]
 pub struct Found {
     pub known: Items<Option<Formula>>,
@@ -88,7 +88,8 @@ fn put_at<T: Drop>(places: &[u32], elements: Items<T>, all: Items<Option<T>>) ->
 fn put_next<T: Drop>(place: usize, left: &mut IntoIter<T>, all: Vec<Option<T>>) -> Vec<Option<T>>
     requires { place < length all.items }
     ensures long { length result.items ≡ length all.items }
-    ensures put { (more : List ℕ) → put_at more (into_iter_items left.new) result.items ≡ put_at (place ∷ more) (into_iter_items left.old) all.items }
+    ensures put { (more : List ℕ) → put_at more (into_iter_items left.new) result.items
+        ≡ put_at (place ∷ more) (into_iter_items left.old) all.items }
 {
     match left.next() {
         Some(element) => with_at(all, place, Some(element)),
@@ -128,7 +129,8 @@ pub(crate) fn found_by<O: Oracle>(
 ) -> Result<Found, WorkError>
     requires formed { IsWellFormed program.now }
     requires plan { IsPlan program.now plan.now }
-    ensures follows { Follows O.asking oracle.old oracle.new log.old log.new result (found_by program.now plan.now) }
+    ensures follows { Follows O.asking oracle.old oracle.new log.old log.new result
+        (found_by program.now plan.now) }
     ensures fits { IfOk result (FitsFound program.now) }
     ensures all { IfOk result (HasAll program.now) }
     ensures met { IfOk result (FoundIsMet program.now) }
@@ -152,9 +154,11 @@ fn with_group<O: Oracle>(
     requires formed { IsWellFormed program.now }
     requires found { FitsFound program.now found }
     requires ready { IsReadyGroup program.now planned.now found.known }
-    ensures follows { Follows O.asking oracle.old oracle.new log.old log.new result (with_group program.now found planned.now) }
+    ensures follows { Follows O.asking oracle.old oracle.new log.old log.new result
+        (with_group program.now found planned.now) }
     ensures fits { IfOk result (FitsFound program.now) }
-    ensures has { (come : List ℕ) → HasFound come found → IfOk result (HasFound (come ++ planned.now.procs)) }
+    ensures has { (come : List ℕ) → HasFound come found
+        → IfOk result (HasFound (come ++ planned.now.procs)) }
     ensures met { FoundIsMet program.now found → IfOk result (FoundIsMet program.now) }
 {
     let part = part_of(alloc, program, planned, found.known.as_slice(), oracle, log)?;

@@ -43,8 +43,10 @@ pub(crate) fn judged_by<O: Oracle>(
     requires formed { IsWellFormed program.now }
     requires entries { AreEntries program.now entries.now }
     requires flows { AreFlows program.now flows.now }
-    ensures follows { Follows O.asking oracle.old oracle.new log.old log.new result (judged_by program.now places.now entries.now flows.now) }
-    ensures sound { EntriesHold program.now entries.now → FlowsHold program.now flows.now → IfOk result (AreJudged program.now) }
+    ensures follows { Follows O.asking oracle.old oracle.new log.old log.new result
+        (judged_by program.now places.now entries.now flows.now) }
+    ensures sound { EntriesHold program.now entries.now → FlowsHold program.now flows.now
+        → IfOk result (AreJudged program.now) }
 {
     let checks = checks_of(alloc, program)?;
     let checks = checks.as_slice();
@@ -85,7 +87,8 @@ fn with_judged<O: Oracle>(
     requires entries { AreEntries program.now entries.now }
     requires flows { AreFlows program.now flows.now }
     requires number { 1 ≤ number }
-    ensures follows { Follows O.asking oracle.old oracle.new log.old log.new result (with_judged program.now places.now entries.now flows.now made number) }
+    ensures follows { Follows O.asking oracle.old oracle.new log.old log.new result
+        (with_judged program.now places.now entries.now flows.now made number) }
     ensures added { IfOk result (AddsJudged program.now entries.now flows.now made number) }
 {
     let judged = judged_of(
@@ -113,8 +116,11 @@ fn judged_of<O: Oracle>(
     requires entries { AreEntries program.now entries.now }
     requires flows { AreFlows program.now flows.now }
     requires number { 1 ≤ number }
-    ensures follows { Follows O.asking oracle.old oracle.new log.old log.new result (judged_of (place_in places.now number) (asserted program.now entries.now flows.now number)) }
-    ensures sound { EntriesHold program.now entries.now → FlowsHold program.now flows.now → IfOk result (IsJudged program.now number) }
+    ensures follows { Follows O.asking oracle.old oracle.new log.old log.new result
+        (judged_of (place_in places.now number)
+        (asserted program.now entries.now flows.now number)) }
+    ensures sound { EntriesHold program.now entries.now → FlowsHold program.now flows.now
+        → IfOk result (IsJudged program.now number) }
 {
     let at = place_in(places, number);
     match check_with(number, checks) {
@@ -153,8 +159,10 @@ fn judged_at<O: Oracle>(
     requires check { IsCheckOf program.now check }
     requires entries { AreEntries program.now entries.now }
     requires flows { AreFlows program.now flows.now }
-    ensures follows { Follows O.asking oracle.old oracle.new log.old log.new result (judged_of at (asserted_by program.now entries.now flows.now check)) }
-    ensures sound { EntriesHold program.now entries.now → FlowsHold program.now flows.now → IfOk result (IsJudged program.now check.number) }
+    ensures follows { Follows O.asking oracle.old oracle.new log.old log.new result
+        (judged_of at (asserted_by program.now entries.now flows.now check)) }
+    ensures sound { EntriesHold program.now entries.now → FlowsHold program.now flows.now
+        → IfOk result (IsJudged program.now check.number) }
 {
     let CheckAt { proc, check, .. } = check;
     let named = named_columns(alloc, program, proc)?;
@@ -187,10 +195,19 @@ fn verdict_apart<O: Oracle>(
     requires formed { IsWellFormed program.now }
     requires procedure { proc < length program.now.procs }
     requires assertion { check < length flow.now.checks }
-    requires flow { (p : Procedure) → slice_get program.now.procs proc ≡ Some p → FitsFlow program.now p flow.now }
-    requires entry { (p : Procedure) → slice_get program.now.procs proc ≡ Some p → IsEntryIf (entry_width program.now p) entry.now }
-    ensures follows { (p : Procedure) (at : CheckPlace) (stop : Stop) → slice_get program.now.procs proc ≡ Some p → slice_get (own_graph p).checks check ≡ Some at → slice_get flow.now.checks check ≡ Some stop → Follows O.asking oracle.old oracle.new log.old log.new result (apart (verdict_of (place_of program.now p) at.cond entry.now stop.formula)) }
-    ensures sound { (p : Procedure) (at : CheckPlace) → slice_get program.now.procs proc ≡ Some p → slice_get (own_graph p).checks check ≡ Some at → EntryHolds program.now proc entry.now → FlowHolds program.now proc flow.now → IfOk result (λ made. made.0 ≡ Proved → ¬ Fails program.now at.number) }
+    requires flow { (p : Procedure) → slice_get program.now.procs proc ≡ Some p
+        → FitsFlow program.now p flow.now }
+    requires entry { (p : Procedure) → slice_get program.now.procs proc ≡ Some p
+        → IsEntryIf (entry_width program.now p) entry.now }
+    ensures follows { (p : Procedure) (at : CheckPlace) (stop : Stop)
+        → slice_get program.now.procs proc ≡ Some p → slice_get (own_graph p).checks check ≡ Some at
+        → slice_get flow.now.checks check ≡ Some stop
+        → Follows O.asking oracle.old oracle.new log.old log.new result
+        (apart (verdict_of (place_of program.now p) at.cond entry.now stop.formula)) }
+    ensures sound { (p : Procedure) (at : CheckPlace) → slice_get program.now.procs proc ≡ Some p
+        → slice_get (own_graph p).checks check ≡ Some at → EntryHolds program.now proc entry.now
+        → FlowHolds program.now proc flow.now
+        → IfOk result (λ made. made.0 ≡ Proved → ¬ Fails program.now at.number) }
 {
     let others = mem::replace(&mut log.notes, Items::new(alloc));
     let result = verdict(alloc, program, proc, check, entry, flow, oracle, log);
@@ -200,7 +217,8 @@ fn verdict_apart<O: Oracle>(
 
 fn named_columns(alloc: Global, program: &Program, proc: u32) -> Result<Items<Name>, AllocError>
     requires { proc < length program.now.procs }
-    ensures { (p : Procedure) → slice_get program.now.procs proc ≡ Some p → IfOk result (λ names. names ≡ global_names program.now ++ column_names p.columns) }
+    ensures { (p : Procedure) → slice_get program.now.procs proc ≡ Some p
+        → IfOk result (λ names. names ≡ global_names program.now ++ column_names p.columns) }
 {
     let columns = program.procs.as_slice()[proc as usize].columns.as_slice();
     let mut names = global_names(alloc, program)?;
@@ -212,7 +230,8 @@ fn named_columns(alloc: Global, program: &Program, proc: u32) -> Result<Items<Na
 fn shown_columns(alloc: Global, program: &Program, proc: u32) -> Result<Items<u32>, AllocError>
     requires formed { IsWellFormed program.now }
     requires procedure { proc < length program.now.procs }
-    ensures { (p : Procedure) → slice_get program.now.procs proc ≡ Some p → IfOk result (λ shown. shown ≡ shown_of program.now p) }
+    ensures { (p : Procedure) → slice_get program.now.procs proc ≡ Some p
+        → IfOk result (λ shown. shown ≡ shown_of program.now p) }
 {
     let globals = program.globals.len() as u32;
     let columns = program.procs.as_slice()[proc as usize].columns.as_slice();

@@ -1,5 +1,5 @@
-//! The analysis of a program: the summaries of its procedures, group by group, then the entries of procedures, and then a
-//! verdict on each assertion, put together as a report.
+//! The analysis of a program: the summaries of its procedures, group by group, then the entries of
+//! procedures, and then a verdict on each assertion, put together as a report.
 #![tactic(auto)]
 
 mod blocks;

@@ -26,8 +26,9 @@ use std::mem;
 use syntax_tree::Program;
 use transition_formula::Formula;
 
-/// What is found of a group: a summary and a flow for each of its procedures, in their order, and the notes of finding
-/// these. In a note of a dropped row the procedure is told by its place in the program.
+/// What is found of a group: a summary and a flow for each of its procedures, in their order, and
+/// the notes of finding these. In a note of a dropped row the procedure is told by its place in the
+/// program.
 #[derive(Debug, Drop)]
 pub struct Part {
     pub formulas: Items<Formula>,
@@ -42,7 +43,8 @@ pub(crate) struct Summed {
     pub(crate) flows: Items<Flow>,
 }
 
-/// What is found of a group whose callees outside are known. The log gains the answers, and no notes.
+/// What is found of a group whose callees outside are known. The log gains the answers, and no
+/// notes.
 #[tactic(auto, using(posing::proofs::Following::following), unfolding(crate::specs::Parts::part_of))]
 pub fn part_of<O: Oracle>(
     alloc: Global,
@@ -55,9 +57,12 @@ pub fn part_of<O: Oracle>(
     requires formed { IsWellFormed program.now }
     requires known { AreKnown program.now known.now }
     requires ready { IsReadyGroup program.now planned.now known.now }
-    ensures follows { Follows O.asking oracle.old oracle.new log.old log.new result (part_of program.now planned.now known.now) }
-    ensures fits { IfOk result (λ part. FitsGroup program.now planned.now.procs part.formulas part.flows) }
-    ensures met { AreMet program.now known.now → IfOk result (λ part. GroupIsMet program.now planned.now.procs part.formulas part.flows) }
+    ensures follows { Follows O.asking oracle.old oracle.new log.old log.new result
+        (part_of program.now planned.now known.now) }
+    ensures fits { IfOk result
+        (λ part. FitsGroup program.now planned.now.procs part.formulas part.flows) }
+    ensures met { AreMet program.now known.now
+        → IfOk result (λ part. GroupIsMet program.now planned.now.procs part.formulas part.flows) }
 {
     let (summed, notes) = summed_apart(alloc, program, planned, known, oracle, log)?;
     let notes = notes_in(alloc, planned.procs.as_slice(), notes)?;
@@ -81,9 +86,13 @@ fn summed_apart<O: Oracle>(
     requires formed { IsWellFormed program.now }
     requires known { AreKnown program.now known.now }
     requires ready { IsReadyGroup program.now planned.now known.now }
-    ensures follows { Follows O.asking oracle.old oracle.new log.old log.new result (apart (summed_by planned.now.kind program.now planned.now.procs known.now)) }
-    ensures fits { IfOk result (λ made. FitsGroup program.now planned.now.procs made.0.formulas made.0.flows) }
-    ensures met { AreMet program.now known.now → IfOk result (λ made. GroupIsMet program.now planned.now.procs made.0.formulas made.0.flows) }
+    ensures follows { Follows O.asking oracle.old oracle.new log.old log.new result
+        (apart (summed_by planned.now.kind program.now planned.now.procs known.now)) }
+    ensures fits { IfOk result
+        (λ made. FitsGroup program.now planned.now.procs made.0.formulas made.0.flows) }
+    ensures met { AreMet program.now known.now
+        → IfOk result
+        (λ made. GroupIsMet program.now planned.now.procs made.0.formulas made.0.flows) }
 {
     let others = mem::replace(&mut log.notes, Items::new(alloc));
     let result = summed_by(alloc, program, planned, known, oracle, log);
@@ -103,9 +112,13 @@ fn summed_by<O: Oracle>(
     requires formed { IsWellFormed program.now }
     requires known { AreKnown program.now known.now }
     requires ready { IsReadyGroup program.now planned.now known.now }
-    ensures follows { Follows O.asking oracle.old oracle.new log.old log.new result (summed_by planned.now.kind program.now planned.now.procs known.now) }
-    ensures fits { IfOk result (λ summed. FitsGroup program.now planned.now.procs summed.formulas summed.flows) }
-    ensures met { AreMet program.now known.now → IfOk result (λ summed. GroupIsMet program.now planned.now.procs summed.formulas summed.flows) }
+    ensures follows { Follows O.asking oracle.old oracle.new log.old log.new result
+        (summed_by planned.now.kind program.now planned.now.procs known.now) }
+    ensures fits { IfOk result
+        (λ summed. FitsGroup program.now planned.now.procs summed.formulas summed.flows) }
+    ensures met { AreMet program.now known.now
+        → IfOk result
+        (λ summed. GroupIsMet program.now planned.now.procs summed.formulas summed.flows) }
 {
     let procs = planned.procs.as_slice();
     match planned.kind {
@@ -129,9 +142,12 @@ fn plain_part<O: Oracle>(
     requires there { All (λ proc. proc < length program.now.procs) procs.now }
     requires known { AreKnown program.now known.now }
     requires callees { KnowAllCallees program.now procs.now known.now }
-    ensures follows { Follows O.asking oracle.old oracle.new log.old log.new result (plain_part program.now procs.now known.now) }
-    ensures fits { IfOk result (λ summed. FitsGroup program.now procs.now summed.formulas summed.flows) }
-    ensures met { AreMet program.now known.now → IfOk result (λ summed. GroupIsMet program.now procs.now summed.formulas summed.flows) }
+    ensures follows { Follows O.asking oracle.old oracle.new log.old log.new result
+        (plain_part program.now procs.now known.now) }
+    ensures fits { IfOk result
+        (λ summed. FitsGroup program.now procs.now summed.formulas summed.flows) }
+    ensures met { AreMet program.now known.now
+        → IfOk result (λ summed. GroupIsMet program.now procs.now summed.formulas summed.flows) }
 {
     let mut made = Summed {
         formulas: Items::new(alloc),
@@ -157,10 +173,14 @@ fn with_plain<O: Oracle>(
     requires formed { IsWellFormed program.now }
     requires procedure { proc < length program.now.procs }
     requires known { AreKnown program.now known.now }
-    requires callees { (p : Procedure) → slice_get program.now.procs proc ≡ Some p → KnowsCallees p known.now }
-    ensures follows { (p : Procedure) → slice_get program.now.procs proc ≡ Some p → Follows O.asking oracle.old oracle.new log.old log.new result (with_plain program.now known.now made p) }
+    requires callees { (p : Procedure) → slice_get program.now.procs proc ≡ Some p
+        → KnowsCallees p known.now }
+    ensures follows { (p : Procedure) → slice_get program.now.procs proc ≡ Some p
+        → Follows O.asking oracle.old oracle.new log.old log.new result
+        (with_plain program.now known.now made p) }
     ensures flow { IfOk result (λ next. AddsFlow program.now known.now proc made.flows next.flows) }
-    ensures summary { IfOk result (λ next. AddsSummary program.now known.now proc made.formulas next.formulas) }
+    ensures summary { IfOk result
+        (λ next. AddsSummary program.now known.now proc made.formulas next.formulas) }
 {
     let own = flow(alloc, program, proc, known, oracle, log)?;
     let formula = project(alloc, program, proc, &own, oracle, log)?;
@@ -190,9 +210,13 @@ fn recursive_part<O: Oracle>(
     requires known { AreKnown program.now known.now }
     requires callees { KnowsOthers program.now procs.now known.now }
     requires linear { IsTrue linear → IsLinear program.now procs.now }
-    ensures follows { Follows O.asking oracle.old oracle.new log.old log.new result (recursive_part program.now procs.now known.now (closed_of linear program.now procs.now known.now)) }
-    ensures fits { IfOk result (λ summed. FitsGroup program.now procs.now summed.formulas summed.flows) }
-    ensures met { AreMet program.now known.now → IfOk result (λ summed. GroupIsMet program.now procs.now summed.formulas summed.flows) }
+    ensures follows { Follows O.asking oracle.old oracle.new log.old log.new result
+        (recursive_part program.now procs.now known.now
+        (closed_of linear program.now procs.now known.now)) }
+    ensures fits { IfOk result
+        (λ summed. FitsGroup program.now procs.now summed.formulas summed.flows) }
+    ensures met { AreMet program.now known.now
+        → IfOk result (λ summed. GroupIsMet program.now procs.now summed.formulas summed.flows) }
 {
     let formulas = close(alloc, program, procs, known, linear, oracle, log)?;
     let all = with_table(alloc, procs, formulas.as_slice(), known)?;
@@ -212,7 +236,8 @@ fn flows_by<O: Oracle>(
     requires there { All (λ proc. proc < length program.now.procs) procs.now }
     requires known { AreKnown program.now known.now }
     requires callees { KnowAllCallees program.now procs.now known.now }
-    ensures follows { Follows O.asking oracle.old oracle.new log.old log.new result (each (with_flow program.now known.now) [] (members_of program.now procs.now)) }
+    ensures follows { Follows O.asking oracle.old oracle.new log.old log.new result
+        (each (with_flow program.now known.now) [] (members_of program.now procs.now)) }
     ensures fits { IfOk result (FitFlows program.now procs.now) }
     ensures holds { AreMet program.now known.now → IfOk result (AreFlowsOf program.now procs.now) }
 {
@@ -236,8 +261,11 @@ fn with_flow<O: Oracle>(
     requires formed { IsWellFormed program.now }
     requires procedure { proc < length program.now.procs }
     requires known { AreKnown program.now known.now }
-    requires callees { (p : Procedure) → slice_get program.now.procs proc ≡ Some p → KnowsCallees p known.now }
-    ensures follows { (p : Procedure) → slice_get program.now.procs proc ≡ Some p → Follows O.asking oracle.old oracle.new log.old log.new result (with_flow program.now known.now made p) }
+    requires callees { (p : Procedure) → slice_get program.now.procs proc ≡ Some p
+        → KnowsCallees p known.now }
+    ensures follows { (p : Procedure) → slice_get program.now.procs proc ≡ Some p
+        → Follows O.asking oracle.old oracle.new log.old log.new result
+        (with_flow program.now known.now made p) }
     ensures added { IfOk result (AddsFlow program.now known.now proc made) }
 {
     let own = flow(alloc, program, proc, known, oracle, log)?;

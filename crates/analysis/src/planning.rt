@@ -27,7 +27,8 @@ pub struct Planned {
     pub kind: GroupKind,
 }
 
-/// The groups of a program in the order in which they are summed up. The one error is want of memory.
+/// The groups of a program in the order in which they are summed up. The one error is want of
+/// memory.
 pub fn plan(alloc: Global, program: &Program) -> Result<Items<Planned>, FormulaError>
     requires { IsWellFormed program.now }
     ensures { IfOk result (IsPlan program.now) }

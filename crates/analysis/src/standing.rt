@@ -9,7 +9,8 @@ use std::alloc::Global;
 use syntax_tree::Program;
 use transition_formula::FormulaError;
 
-/// Where an assertion stands: its number, its procedure, and its place among the assertions of that.
+/// Where an assertion stands: its number, its procedure, and its place among the assertions of
+/// that.
 #[derive(Clone, Copy, Debug, PartialEq, Eq)]
 pub(crate) struct CheckAt {
     pub(crate) number: u32,
@@ -38,7 +39,8 @@ fn add_checks(
 ) -> Result<(), FormulaError>
     requires formed { IsWellFormed program.now }
     requires procedure { proc < length program.now.procs }
-    ensures { OnOk result (checks.new ≡ checks.old ++ checks_from proc 0 (graph_of program.now proc).checks) }
+    ensures { OnOk result
+        (checks.new ≡ checks.old ++ checks_from proc 0 (graph_of program.now proc).checks) }
 {
     let Ok(graph) = graph(alloc, program, proc) else {
         return Err(FormulaError::Memory);

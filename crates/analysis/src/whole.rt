@@ -27,8 +27,9 @@ use std::mem;
 use syntax_tree::Program;
 use transition_formula::Formula;
 
-/// The report of a program, whose assertions stand at these places of its text. The log gains the answers that were taken,
-/// in the order of their questions, and no notes: these stand in the report.
+/// The report of a program, whose assertions stand at these places of its text. The log gains the
+/// answers that were taken, in the order of their questions, and no notes: these stand in the
+/// report.
 #[tactic(auto, using(posing::proofs::Following::following), unfolding(crate::specs::Analysis::analysed))]
 pub fn analyse<O: Oracle>(
     alloc: Global,
@@ -38,7 +39,9 @@ pub fn analyse<O: Oracle>(
     log: &mut Log,
 ) -> Result<Report, WorkError>
     requires formed { IsWellFormed program.now }
-    ensures follows { (plan : List PlannedGroup) → IsPlan program.now plan → Follows O.asking oracle.old oracle.new log.old log.new result (analysed program.now places.now plan) }
+    ensures follows { (plan : List PlannedGroup) → IsPlan program.now plan
+        → Follows O.asking oracle.old oracle.new log.old log.new result
+        (analysed program.now places.now plan) }
     ensures planned { IfOk result (λ report. (plan : List PlannedGroup) × IsPlan program.now plan) }
     ensures kept { log.new.notes ≡ log.old.notes }
     ensures met { IfOk result (ClaimsAreMet program.now) }
@@ -61,7 +64,8 @@ pub fn ended_by<O: Oracle>(
     requires formed { IsWellFormed program.now }
     requires found { FitsFound program.now found }
     requires all { HasAll program.now found }
-    ensures follows { Follows O.asking oracle.old oracle.new log.old log.new result (ended_by program.now places.now found) }
+    ensures follows { Follows O.asking oracle.old oracle.new log.old log.new result
+        (ended_by program.now places.now found) }
     ensures met { FoundIsMet program.now found → IfOk result (ClaimsAreMet program.now) }
 {
     let Found {
@@ -98,9 +102,11 @@ fn entries_apart<O: Oracle>(
 ) -> Result<(Items<Option<Formula>>, Items<Note>), WorkError>
     requires formed { IsWellFormed program.now }
     requires flows { AreFlows program.now flows.now }
-    ensures follows { Follows O.asking oracle.old oracle.new log.old log.new result (apart (entries_from program.now flows.now)) }
+    ensures follows { Follows O.asking oracle.old oracle.new log.old log.new result
+        (apart (entries_from program.now flows.now)) }
     ensures fits { IfOk result (λ made. AreEntries program.now made.0) }
-    ensures holds { FlowsHold program.now flows.now → IfOk result (λ made. EntriesHold program.now made.0) }
+    ensures holds { FlowsHold program.now flows.now
+        → IfOk result (λ made. EntriesHold program.now made.0) }
 {
     let others = mem::replace(&mut log.notes, Items::new(alloc));
     let result = entries(alloc, program, flows, oracle, log);

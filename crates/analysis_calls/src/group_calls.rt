@@ -39,9 +39,12 @@ pub fn close<O: Oracle>(
     requires there { All (λ proc. proc < length program.now.procs) procs.now }
     requires few { length procs.now ≤ length program.now.procs }
     requires known { AreKnown program.now known.now }
-    ensures follows { Follows O.asking oracle.old oracle.new log.old log.new result (closed_of linear program.now procs.now known.now) }
+    ensures follows { Follows O.asking oracle.old oracle.new log.old log.new result
+        (closed_of linear program.now procs.now known.now) }
     ensures known { IfOk result (AreKnownMembers program.now procs.now) }
-    ensures met { AreMet program.now known.now → KnowsOthers program.now procs.now known.now → (IsTrue linear → IsLinear program.now procs.now) → IfOk result (AreMetMembers program.now procs.now) }
+    ensures met { AreMet program.now known.now → KnowsOthers program.now procs.now known.now
+        → (IsTrue linear → IsLinear program.now procs.now)
+        → IfOk result (AreMetMembers program.now procs.now) }
 {
     newton_rounds::close(alloc, program, procs, known, linear, oracle, log)
 }

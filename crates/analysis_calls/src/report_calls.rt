@@ -33,7 +33,9 @@ pub fn analyse<O: Oracle>(
     log: &mut Log,
 ) -> Result<Report, WorkError>
     requires formed { IsWellFormed program.now }
-    ensures follows { (plan : List PlannedGroup) → IsPlan program.now plan → Follows O.asking oracle.old oracle.new log.old log.new result (analysed program.now places.now plan) }
+    ensures follows { (plan : List PlannedGroup) → IsPlan program.now plan
+        → Follows O.asking oracle.old oracle.new log.old log.new result
+        (analysed program.now places.now plan) }
     ensures planned { IfOk result (λ report. (plan : List PlannedGroup) × IsPlan program.now plan) }
     ensures kept { log.new.notes ≡ log.old.notes }
     ensures met { IfOk result (ClaimsAreMet program.now) }

@@ -23,7 +23,8 @@ use transition_formula::Formula;
 /// The first 32 different linear terms that a procedure compares.
 pub fn harvest(alloc: Global, program: &Program, proc: u32) -> Result<Items<Poly>, AllocError>
     requires { proc < length program.now.procs }
-    ensures { (p : Procedure) → slice_get program.now.procs proc ≡ Some p → IfOk result (λ terms. terms ≡ harvest_of p.body) }
+    ensures { (p : Procedure) → slice_get program.now.procs proc ≡ Some p
+        → IfOk result (λ terms. terms ≡ harvest_of p.body) }
 {
     vocabularies::harvest(alloc, program, proc)
 }
@@ -32,7 +33,8 @@ pub fn harvest(alloc: Global, program: &Program, proc: u32) -> Result<Items<Poly
 pub fn entry(alloc: Global, program: &Program, proc: u32) -> Result<Vocabulary, AllocError>
     requires formed { IsWellFormed program.now }
     requires there { proc < length program.now.procs }
-    ensures { (p : Procedure) → slice_get program.now.procs proc ≡ Some p → IfOk result (λ voc. voc ≡ entry_of program.now p) }
+    ensures { (p : Procedure) → slice_get program.now.procs proc ≡ Some p
+        → IfOk result (λ voc. voc ≡ entry_of program.now p) }
 {
     vocabularies::entry(alloc, program, proc)
 }
@@ -49,9 +51,13 @@ pub fn flow<O: Oracle>(
     requires formed { IsWellFormed program.now }
     requires procedure { proc < length program.now.procs }
     requires known { AreKnown program.now known.now }
-    requires callees { (p : Procedure) → slice_get program.now.procs proc ≡ Some p → KnowsCallees p known.now }
-    ensures follows { (p : Procedure) → slice_get program.now.procs proc ≡ Some p → Follows O.asking oracle.old oracle.new log.old log.new result (flow_from (subject_of program.now p known.now)) }
-    ensures fits { (p : Procedure) → slice_get program.now.procs proc ≡ Some p → IfOk result (FitsFlow program.now p) }
+    requires callees { (p : Procedure) → slice_get program.now.procs proc ≡ Some p
+        → KnowsCallees p known.now }
+    ensures follows { (p : Procedure) → slice_get program.now.procs proc ≡ Some p
+        → Follows O.asking oracle.old oracle.new log.old log.new result
+        (flow_from (subject_of program.now p known.now)) }
+    ensures fits { (p : Procedure) → slice_get program.now.procs proc ≡ Some p
+        → IfOk result (FitsFlow program.now p) }
     ensures holds { AreMet program.now known.now → IfOk result (FlowHolds program.now proc) }
 {
     proc_summary::flow(alloc, program, proc, known, oracle, log)
@@ -68,10 +74,15 @@ pub fn project<O: Oracle>(
 ) -> Result<Formula, WorkError>
     requires formed { IsWellFormed program.now }
     requires procedure { proc < length program.now.procs }
-    requires flow { (p : Procedure) → slice_get program.now.procs proc ≡ Some p → FitsFlow program.now p flow.now }
-    ensures follows { (p : Procedure) → slice_get program.now.procs proc ≡ Some p → Follows O.asking oracle.old oracle.new log.old log.new result (summary_from (ends_of program.now p) flow.now.exit.formula) }
-    ensures known { (p : Procedure) → slice_get program.now.procs proc ≡ Some p → IfOk result (IsKnown program.now p) }
-    ensures met { FlowHolds program.now proc flow.now → IfOk result (SummaryIsMet program.now proc) }
+    requires flow { (p : Procedure) → slice_get program.now.procs proc ≡ Some p
+        → FitsFlow program.now p flow.now }
+    ensures follows { (p : Procedure) → slice_get program.now.procs proc ≡ Some p
+        → Follows O.asking oracle.old oracle.new log.old log.new result
+        (summary_from (ends_of program.now p) flow.now.exit.formula) }
+    ensures known { (p : Procedure) → slice_get program.now.procs proc ≡ Some p
+        → IfOk result (IsKnown program.now p) }
+    ensures met { FlowHolds program.now proc flow.now
+        → IfOk result (SummaryIsMet program.now proc) }
 {
     proc_summary::project(alloc, program, proc, flow, oracle, log)
 }

@@ -30,10 +30,14 @@ pub fn reach<A: Algebra>(
     requires count { length links.now < 2 ^ 32 }
     requires graph { IsGraph nodes links.now }
     requires source { source < nodes }
-    requires ends { (k : ℕ) (l : SpecLink) → slice_get links.now k ≡ Some l → A.ends algebra.old k l.from l.to }
+    requires ends { (k : ℕ) (l : SpecLink) → slice_get links.now k ≡ Some l
+        → A.ends algebra.old k l.from l.to }
     ensures length { IfOk result (λ cells. length cells.items ≡ nodes) }
-    ensures cells { IfOk result (λ cells. AreCells A.fits A.spans source algebra.new (path_at nodes links.now source) cells.items) }
-    ensures run { Runs A.fits A.spans A.ends A.is_memory A.faults A.made A.stopped algebra.old algebra.new
+    ensures cells { IfOk result
+        (λ cells. AreCells A.fits A.spans source algebra.new (path_at nodes links.now source)
+        cells.items) }
+    ensures run { Runs A.fits A.spans A.ends A.is_memory A.faults A.made A.stopped algebra.old
+        algebra.new
         (operations nodes links.now source) (error_of result) }
 {
     path_expr::reach(alloc, algebra, nodes, links, source)
@@ -52,10 +56,17 @@ pub fn evaluate<O: Oracle>(
     requires graph { IsEvaluated (graph_of links.now leaves.now nodes.now) source }
     requires few_links { length links.now < 2 ^ 32 }
     requires few_nodes { length nodes.now < 2 ^ 32 }
-    ensures follows { Follows O.asking oracle.old oracle.new log.old log.new (result_map formulas_of result) (evaluated (graph_of links.now leaves.now nodes.now) source) }
-    ensures grown { IfOk result (λ cells. AreGrown (graph_of links.now leaves.now nodes.now) source log.old log.new (trees_of cells)) }
-    ensures holds { IfOk result (λ cells. CellsHold (graph_of links.now leaves.now nodes.now) source (formulas_of cells)) }
-    ensures fits { IfOk result (λ cells. AreFittedCells (graph_of links.now leaves.now nodes.now) source (formulas_of cells)) }
+    ensures follows { Follows O.asking oracle.old oracle.new log.old log.new
+        (result_map formulas_of result)
+        (evaluated (graph_of links.now leaves.now nodes.now) source) }
+    ensures grown { IfOk result
+        (λ cells. AreGrown (graph_of links.now leaves.now nodes.now) source log.old log.new
+        (trees_of cells)) }
+    ensures holds { IfOk result
+        (λ cells. CellsHold (graph_of links.now leaves.now nodes.now) source (formulas_of cells)) }
+    ensures fits { IfOk result
+        (λ cells. AreFittedCells (graph_of links.now leaves.now nodes.now) source
+        (formulas_of cells)) }
 {
     checked_tree::evaluate(alloc, links, leaves, nodes, source, oracle, log)
 }

@@ -35,7 +35,8 @@ pub fn entries<O: Oracle>(
 ) -> Result<Items<Option<Formula>>, WorkError>
     requires formed { IsWellFormed program.now }
     requires flows { AreFlows program.now flows.now }
-    ensures follows { Follows O.asking oracle.old oracle.new log.old log.new result (entries_from program.now flows.now) }
+    ensures follows { Follows O.asking oracle.old oracle.new log.old log.new result
+        (entries_from program.now flows.now) }
     ensures fits { IfOk result (AreEntries program.now) }
     ensures holds { FlowsHold program.now flows.now → IfOk result (EntriesHold program.now) }
 {
@@ -56,12 +57,22 @@ pub fn verdict<O: Oracle>(
     requires formed { IsWellFormed program.now }
     requires procedure { proc < length program.now.procs }
     requires assertion { check < length flow.now.checks }
-    requires flow { (p : Procedure) → slice_get program.now.procs proc ≡ Some p → FitsFlow program.now p flow.now }
-    requires entry { (p : Procedure) → slice_get program.now.procs proc ≡ Some p → IsEntryIf (entry_width program.now p) entry.now }
-    ensures follows { (p : Procedure) (at : CheckPlace) (stop : Stop) → slice_get program.now.procs proc ≡ Some p → slice_get (own_graph p).checks check ≡ Some at → slice_get flow.now.checks check ≡ Some stop → Follows O.asking oracle.old oracle.new log.old log.new result (verdict_of (place_of program.now p) at.cond entry.now stop.formula) }
-    ensures sound { (p : Procedure) (at : CheckPlace) → slice_get program.now.procs proc ≡ Some p → slice_get (own_graph p).checks check ≡ Some at → EntryHolds program.now proc entry.now → FlowHolds program.now proc flow.now → result ≡ Ok Proved → Fails program.now at.number → ⊥ }
+    requires flow { (p : Procedure) → slice_get program.now.procs proc ≡ Some p
+        → FitsFlow program.now p flow.now }
+    requires entry { (p : Procedure) → slice_get program.now.procs proc ≡ Some p
+        → IsEntryIf (entry_width program.now p) entry.now }
+    ensures follows { (p : Procedure) (at : CheckPlace) (stop : Stop)
+        → slice_get program.now.procs proc ≡ Some p → slice_get (own_graph p).checks check ≡ Some at
+        → slice_get flow.now.checks check ≡ Some stop
+        → Follows O.asking oracle.old oracle.new log.old log.new result
+        (verdict_of (place_of program.now p) at.cond entry.now stop.formula) }
+    ensures sound { (p : Procedure) (at : CheckPlace) → slice_get program.now.procs proc ≡ Some p
+        → slice_get (own_graph p).checks check ≡ Some at → EntryHolds program.now proc entry.now
+        → FlowHolds program.now proc flow.now → result ≡ Ok Proved → Fails program.now at.number
+        → ⊥ }
     ensures refuted { IfOk result IsRefuted }
-    ensures fits { (p : Procedure) → slice_get program.now.procs proc ≡ Some p → IfOk result (FitsVerdict (length (shown_of program.now p))) }
+    ensures fits { (p : Procedure) → slice_get program.now.procs proc ≡ Some p
+        → IfOk result (FitsVerdict (length (shown_of program.now p))) }
 {
     context::verdict(alloc, program, proc, check, entry, flow, oracle, log)
 }
@@ -74,7 +85,8 @@ pub fn judged<O: Oracle>(
     log: &mut Log,
 ) -> Result<Verdict, WorkError>
     requires { AreSolvable cases.now }
-    ensures follows { Follows O.asking oracle.old oracle.new log.old log.new result (judged_from cases.now) }
+    ensures follows { Follows O.asking oracle.old oracle.new log.old log.new result
+        (judged_from cases.now) }
     ensures known { IfOk result (IsVerdictOnAll cases.now) }
 {
     context::judged(alloc, cases, oracle, log)

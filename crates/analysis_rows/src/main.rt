@@ -1,6 +1,7 @@
-//! Worked rows: the reports of whole programs. Between two texts of standard input stands a line of three signs `=`. What is
-//! printed stands in `stdout` as a model of the rules gave it, but for the numbers of a point that refutes: another
-//! searcher may find another one, and that it refutes is proved.
+//! Worked rows: the reports of whole programs. Between two texts of standard input stands a line of
+//! three signs `=`. What is printed stands in `stdout` as a model of the rules gave it, but for the
+//! numbers of a point that refutes: another searcher may find another one, and that it refutes is
+//! proved.
 #![tactic(auto)]
 
 use analysis::{TextPlace, analyse};

@@ -24,7 +24,8 @@ is_number_shape (b ∷ bytes) = is_ascii_digit b && list_all is_number_byte byte
 
 -- the bytes have the shape of a word, of a number or of a mark
 abbrev pub HasShape : List ℕ → Type 0
-HasShape w = IsTrue (is_word_shape w) ⊎ (IsTrue (is_number_shape w) ⊎ ((m : Mark) × (w ≡ mark_bytes m)))
+HasShape w = IsTrue (is_word_shape w)
+    ⊎ (IsTrue (is_number_shape w) ⊎ ((m : Mark) × (w ≡ mark_bytes m)))
 
 -- ---- numbers (C11 6.4.4.1, without octal numbers and suffixes)
 
@@ -48,12 +49,14 @@ hexadecimal_value digits = fold (λ n d. 16 * n + hex_digit_value d) 0 digits
 -- what stands behind 0x or 0X, where it is one hexadecimal digit or more
 abbrev pub hexadecimal_digits : List ℕ → Option (List ℕ)
 hexadecimal_digits (z ∷ x ∷ d ∷ digits) =
-    if z == 48 && (x == 120 || x == 88) && list_all is_ascii_hexdigit (d ∷ digits) then Some (d ∷ digits) else None
+    if z == 48 && (x == 120 || x == 88) && list_all is_ascii_hexdigit (d ∷ digits)
+    then Some (d ∷ digits) else None
 hexadecimal_digits _ = None
 
 -- the number that the bytes spell, where they have one of the two forms
 abbrev pub number_of : List ℕ → Option ℕ
-number_of w = if is_decimal w then Some (decimal_value w) else option_map hexadecimal_value (hexadecimal_digits w)
+number_of w = if is_decimal w then Some (decimal_value w)
+    else option_map hexadecimal_value (hexadecimal_digits w)
 
 -- a number of a text is at most 2 ^ 63 - 1
 abbrev pub if_small : Option ℕ → Option ℕ
@@ -65,9 +68,11 @@ small_number w = if_small (number_of w)
 
 -- ---- kinds
 
--- The bytes spell a token of this kind. A word is no keyword, a number is at most 2 ^ 63 - 1, and nothing spells the end.
+-- The bytes spell a token of this kind. A word is no keyword, a number is at most 2 ^ 63 - 1, and
+-- nothing spells the end.
 abbrev pub Spells : Kind → List ℕ → Type 0
-Spells (kind.Word name) w = (name ≡ w) × IsTrue (is_word_shape w) × ((k : Keyword) → keyword_bytes k ≢ w)
+Spells (kind.Word name) w = (name ≡ w) × IsTrue (is_word_shape w)
+    × ((k : Keyword) → keyword_bytes k ≢ w)
 Spells (kind.Keyword k) w = w ≡ keyword_bytes k
 Spells (kind.Number z) w = (n : ℕ) × (z ≡ pos n) × (small_number w ≡ Some n)
 Spells (kind.Mark m) w = w ≡ mark_bytes m

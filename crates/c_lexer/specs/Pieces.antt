@@ -38,22 +38,27 @@ NeverEnds bytes = (at : ℕ) → ¬ EndsComment bytes at
 
 -- a comment begins with these bytes
 abbrev pub begins_comment : List ℕ → Bool
-begins_comment bytes = starts_with nat_eq bytes (codes "/*") || starts_with nat_eq bytes (codes "//")
+begins_comment bytes = starts_with nat_eq bytes (codes "/*") || starts_with nat_eq bytes
+    (codes "//")
 
 -- no longer front of what stands here has the shape of a token
 abbrev pub IsLongest : List ℕ → List ℕ → Type 0
-IsLongest spelling rest = (more later : List ℕ) → rest ≡ more ++ later → more ≢ [] → ¬ HasShape (spelling ++ more)
+IsLongest spelling rest = (more later : List ℕ) → rest ≡ more ++ later → more ≢ []
+    → ¬ HasShape (spelling ++ more)
 
--- What may stand at a place, before the bytes `rest`. `fresh` tells that no token stands since the last newline.
+-- What may stand at a place, before the bytes `rest`. `fresh` tells that no token stands since the
+-- last newline.
 abbrev pub PieceFits : Bool → Piece → List ℕ → Type 0
 PieceFits fresh (Blank byte) rest = IsTrue (is_blank byte)
 -- its `*/` is the first one behind its `/*`
 PieceFits fresh (BlockComment body) rest = NeverEnds body
 PieceFits fresh (LineComment body) rest = IsTrue (no_newline body) × EndsLine rest
 PieceFits fresh (SkippedLine blanks body) rest =
-    IsTrue fresh × IsTrue (list_all (λ b. is_blank b && not (is_newline b)) blanks) × IsTrue (no_newline body) × EndsLine rest
+    IsTrue fresh × IsTrue (list_all (λ b. is_blank b && not (is_newline b)) blanks)
+    × IsTrue (no_newline body) × EndsLine rest
 PieceFits fresh (Lexeme kind spelling) rest =
-    Spells kind spelling × IsLongest spelling rest × IsTrue (not (begins_comment (spelling ++ rest)))
+    Spells kind spelling × IsLongest spelling rest
+    × IsTrue (not (begins_comment (spelling ++ rest)))
 
 -- whether no token stands since the last newline, behind a piece
 abbrev pub fresh_after : Bool → Piece → Bool
@@ -66,7 +71,8 @@ fresh_after fresh (Lexeme kind spelling) = false
 -- the pieces may stand one after the other, before the bytes `rest`
 abbrev pub Fit : Bool → List Piece → List ℕ → Type 0
 Fit fresh [] rest = Unit {0}
-Fit fresh (piece ∷ pieces) rest = PieceFits fresh piece (text_of pieces ++ rest) × Fit (fresh_after fresh piece) pieces rest
+Fit fresh (piece ∷ pieces) rest = PieceFits fresh piece (text_of pieces ++ rest)
+    × Fit (fresh_after fresh piece) pieces rest
 
 -- the piece is no token
 abbrev pub IsSpace : Piece → Type 0

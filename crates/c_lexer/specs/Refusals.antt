@@ -24,27 +24,35 @@ pub record Reaches (text : List ℕ) (pieces : List Piece) (rest : List ℕ) : T
 -- one lexeme too many stands at the front
 abbrev pub IsOneTooMany : List Piece → List ℕ → Type 0
 IsOneTooMany pieces rest =
-    (length (lexemes_from 0 pieces) ≡ most_tokens) × (kind : Kind) × (spelling : List ℕ) × Stands (fresh_behind true pieces) rest (Lexeme kind spelling)
+    (length (lexemes_from 0 pieces) ≡ most_tokens) × (kind : Kind) × (spelling : List ℕ)
+    × Stands (fresh_behind true pieces) rest (Lexeme kind spelling)
 
 -- the cut stops at the place behind these pieces, with this error
 abbrev pub StopsAt : List Piece → List ℕ → LexError → Type 0
-StopsAt pieces rest (error.Byte at) = (at ≡ length (text_of pieces)) × (0 < length rest) × Tells_why (fresh_behind true pieces) rest stop.Byte
-StopsAt pieces rest (error.Comment at) = (at ≡ length (text_of pieces)) × Tells_why (fresh_behind true pieces) rest stop.Comment
-StopsAt pieces rest (error.Literal at) = (at ≡ length (text_of pieces)) × Tells_why (fresh_behind true pieces) rest stop.Literal
-StopsAt pieces rest (error.TooManyTokens at) = (at ≡ length (text_of pieces)) × IsOneTooMany pieces rest
+StopsAt pieces rest (error.Byte at) = (at ≡ length (text_of pieces)) × (0 < length rest)
+    × Tells_why (fresh_behind true pieces) rest stop.Byte
+StopsAt pieces rest (error.Comment at) = (at ≡ length (text_of pieces))
+    × Tells_why (fresh_behind true pieces) rest stop.Comment
+StopsAt pieces rest (error.Literal at) = (at ≡ length (text_of pieces))
+    × Tells_why (fresh_behind true pieces) rest stop.Literal
+StopsAt pieces rest (error.TooManyTokens at) = (at ≡ length (text_of pieces))
+    × IsOneTooMany pieces rest
 StopsAt pieces rest error.Memory = ⊥
 
 -- The cut of the text stops with this error.
 abbrev pub Stops : List ℕ → LexError → Type 0
-Stops text e = (pieces : List Piece) × (rest : List ℕ) × Reaches text pieces rest × StopsAt pieces rest e
+Stops text e = (pieces : List Piece) × (rest : List ℕ) × Reaches text pieces rest
+    × StopsAt pieces rest e
 
 -- a token is made at the front of these bytes: of a lexeme, or of the end of the text
 abbrev pub MakesToken : Bool → List ℕ → Type 0
-MakesToken fresh rest = (rest ≡ []) ⊎ ((kind : Kind) × (spelling : List ℕ) × Stands fresh rest (Lexeme kind spelling))
+MakesToken fresh rest = (rest ≡ [])
+    ⊎ ((kind : Kind) × (spelling : List ℕ) × Stands fresh rest (Lexeme kind spelling))
 
 -- Memory is taken for the text: a place is reached where a token is made.
 abbrev pub TakesMemory : List ℕ → Type 0
-TakesMemory text = (pieces : List Piece) × (rest : List ℕ) × Reaches text pieces rest × MakesToken (fresh_behind true pieces) rest
+TakesMemory text = (pieces : List Piece) × (rest : List ℕ) × Reaches text pieces rest
+    × MakesToken (fresh_behind true pieces) rest
 
 -- the place that a refusal tells
 abbrev pub place_of : LexError → ℕ
@@ -54,8 +62,10 @@ place_of (error.Literal at) = at
 place_of (error.TooManyTokens at) = at
 place_of error.Memory = 0
 
--- The text is refused: its cut stops, or the text is no UTF-8 from a place on, which comes first where both have one place.
+-- The text is refused: its cut stops, or the text is no UTF-8 from a place on, which comes first
+-- where both have one place.
 abbrev pub IsRefused : List ℕ → LexError → Type 0
 IsRefused text e =
     (Stops text e × ((at : ℕ) → IsValidUpTo text at → place_of e < at))
-    ⊎ ((at : ℕ) × IsValidUpTo text at × (e ≡ error.Byte at) × ((f : LexError) → Stops text f → at ≤ place_of f))
+    ⊎ ((at : ℕ) × IsValidUpTo text at × (e ≡ error.Byte at)
+    × ((f : LexError) → Stops text f → at ≤ place_of f))

@@ -33,14 +33,15 @@ refusal_at stop.Byte at = error.Byte at
 refusal_at stop.Comment at = error.Comment at
 refusal_at stop.Literal at = error.Literal at
 
--- why no piece is cut from the front of the bytes, which stand at a place: none stands there, or a name does, and there is
--- no memory for its copy
+-- why no piece is cut from the front of the bytes, which stand at a place: none stands there, or a
+-- name does, and there is no memory for its copy
 abbrev pub IsWhy : Bool → List ℕ → ℕ → LexError → Type 0
 IsWhy fresh bytes place (error.Byte at) = (at ≡ place) × Tells_why fresh bytes stop.Byte
 IsWhy fresh bytes place (error.Comment at) = (at ≡ place) × Tells_why fresh bytes stop.Comment
 IsWhy fresh bytes place (error.Literal at) = (at ≡ place) × Tells_why fresh bytes stop.Literal
 IsWhy fresh bytes place (error.TooManyTokens at) = ⊥
-IsWhy fresh bytes place error.Memory = (name : List ℕ) × Stands fresh bytes (Lexeme (kind.Word name) name)
+IsWhy fresh bytes place error.Memory = (name : List ℕ)
+    × Stands fresh bytes (Lexeme (kind.Word name) name)
 
 -- the text is cut up to a place, into pieces whose lexemes are these tokens
 pub record IsScanned (text : List ℕ) (at : ℕ) (fresh : Bool) (tokens : List Token) : Type 0 where

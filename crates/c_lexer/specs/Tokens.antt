@@ -10,7 +10,11 @@ use Rattle.c_lexer.specs.Pieces.{Piece, Lexeme, piece_bytes, text_of, Fit}
 abbrev pub lexemes_from : ℕ → List Piece → List Token
 lexemes_from at [] = []
 lexemes_from at (Lexeme kind spelling ∷ pieces) =
-    record { kind = kind; at = at; len = length spelling } ∷ lexemes_from (at + length spelling) pieces
+    record {
+      kind = kind;
+      at = at;
+      len = length spelling;
+    } ∷ lexemes_from (at + length spelling) pieces
 lexemes_from at (piece ∷ pieces) = lexemes_from (at + length (piece_bytes piece)) pieces
 
 -- behind the lexemes stands the end of the text

@@ -27,7 +27,8 @@ fn is_before(e: LexError, at: u32) -> bool
 
 /// Of a fault of the cut and of the place where a text stops being UTF-8, the one that comes first.
 fn first_fault(scanned: Result<Items<Token>, LexError>, at: u32) -> LexError
-    ensures first { (text : List ℕ) → IsValidUpTo text at → IfOk scanned (IsCut text) → IfErr scanned (λ e. e ≢ LexError.Memory → Stops text e) →
+    ensures first { (text : List ℕ) → IsValidUpTo text at → IfOk scanned (IsCut text)
+        → IfErr scanned (λ e. e ≢ LexError.Memory → Stops text e) →
         result ≢ LexError.Memory → IsRefused text result }
     ensures memory { result ≡ LexError.Memory → scanned ≡ Err LexError.Memory }
 {
@@ -51,8 +52,8 @@ fn tokens_of(alloc: Global, bytes: &[u8]) -> Result<Items<Token>, LexError>
     }
 }
 
-/// The tokens of a text of at most 2^20 bytes, the last of them `End` at its length, or the first fault in the
-/// order of the text.
+/// The tokens of a text of at most 2^20 bytes, the last of them `End` at its length, or the first
+/// fault in the order of the text.
 ///
 /// It takes one pass over the bytes to see that they are UTF-8, and one to cut them.
 pub fn lex(alloc: Global, bytes: &[u8]) -> Result<Items<Token>, LexError>
@@ -60,12 +61,15 @@ pub fn lex(alloc: Global, bytes: &[u8]) -> Result<Items<Token>, LexError>
     ensures found { IfOk result (Tokenizes bytes.now) }
     ensures refused { IfErr result (λ e. e ≢ LexError.Memory → IsRefused bytes.now e) }
 
-    // Memory is wanted only where a token is made: a fault in front of all tokens is always answered.
+    // Memory is wanted only where a token is made: a fault in front of all tokens is always
+    // answered.
     ensures memory { IfErr result (λ e. e ≡ LexError.Memory → TakesMemory bytes.now) }
 
     // What a text has, and why it is refused, is answered but for want of memory.
-    ensures tokens { (tokens : List Token) → Tokenizes bytes.now tokens → IfErr result (λ e. e ≡ LexError.Memory) × IfOk result (λ found. found ≡ tokens) }
-    ensures refusal { (e : LexError) → IsRefused bytes.now e → IfErr result (λ told. told ≢ LexError.Memory → told ≡ e) × IfOk result (λ _. ⊥) }
+    ensures tokens { (tokens : List Token) → Tokenizes bytes.now tokens
+        → IfErr result (λ e. e ≡ LexError.Memory) × IfOk result (λ found. found ≡ tokens) }
+    ensures refusal { (e : LexError) → IsRefused bytes.now e
+        → IfErr result (λ told. told ≢ LexError.Memory → told ≡ e) × IfOk result (λ _. ⊥) }
 {
     tokens_of(alloc, bytes)
 }

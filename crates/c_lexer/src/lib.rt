@@ -1,5 +1,5 @@
-//! From the bytes of a text to its tokens: words, keywords, numbers and marks of C (C11 6.4), with what stands
-//! between them left out, or the first fault in the order of the text.
+//! From the bytes of a text to its tokens: words, keywords, numbers and marks of C (C11 6.4), with
+//! what stands between them left out, or the first fault in the order of the text.
 #![tactic(auto)]
 
 mod bytes;

@@ -12,7 +12,8 @@ use crate::number::number_value;
 /// What stands at a place of a text.
 #[derive(Clone, Copy)]
 pub enum Found {
-    /// A blank, a comment or a skipped line, of so many bytes; whether a newline ended the line in it.
+    /// A blank, a comment or a skipped line, of so many bytes; whether a newline ended the line in
+    /// it.
     Space { len: usize, line: bool },
     /// A word or a keyword.
     Word(usize),
@@ -37,7 +38,8 @@ fn ends_comment(bytes: &[u8]) -> bool
 /// How many bytes stand before the first `*/`.
 #[tactic(auto, using(crate::proofs::Slices::take_drop_all))]
 fn comment_len(behind: &[u8]) -> Option<usize>
-    ensures { MatchOption result (NeverEnds behind.now) (λ n. EndsComment behind.now n × ((at : ℕ) → at < n → ¬ EndsComment behind.now at)) }
+    ensures { MatchOption result (NeverEnds behind.now)
+        (λ n. EndsComment behind.now n × ((at : ℕ) → at < n → ¬ EndsComment behind.now at)) }
 {
     for at in 0..behind.len() {
         if ends_comment(&behind[at..]) {
@@ -49,7 +51,8 @@ fn comment_len(behind: &[u8]) -> Option<usize>
 
 /// What stands behind the front, where the bytes begin with it.
 fn behind<'a>(bytes: &'a [u8], front: &[u8]) -> Option<&'a [u8]>
-    ensures { MatchOption result (starts_with nat_eq bytes.now front.now ≡ false) (λ rest. bytes.now ≡ front.now ++ rest.now) }
+    ensures { MatchOption result (starts_with nat_eq bytes.now front.now ≡ false)
+        (λ rest. bytes.now ≡ front.now ++ rest.now) }
 {
     if bytes.starts_with(front) {
         Some(&bytes[front.len()..])
@@ -60,7 +63,8 @@ fn behind<'a>(bytes: &'a [u8], front: &[u8]) -> Option<&'a [u8]>
 
 /// The space where a block comment began.
 fn block_comment(body: &[u8]) -> Result<Found, Stop>
-    ensures found { IfOk result (λ f. (fresh : Bool) (bytes : List ℕ) → bytes ≡ codes "/*" ++ body.now → Tells fresh bytes f) }
+    ensures found { IfOk result (λ f. (fresh : Bool) (bytes : List ℕ)
+        → bytes ≡ codes "/*" ++ body.now → Tells fresh bytes f) }
     ensures why { IfErr result (λ stop. (stop ≡ Stop.Comment) × NeverEnds body.now) }
 {
     match comment_len(body) {
@@ -75,7 +79,8 @@ fn block_comment(body: &[u8]) -> Result<Found, Stop>
 /// The space where a line comment began.
 #[tactic(auto, using(crate::proofs::Spaces::line_comment_tells))]
 fn line_comment(body: &[u8]) -> Found
-    ensures { (fresh : Bool) (bytes : List ℕ) → bytes ≡ codes "//" ++ body.now → Tells fresh bytes result }
+    ensures { (fresh : Bool) (bytes : List ℕ) → bytes ≡ codes "//" ++ body.now
+        → Tells fresh bytes result }
 {
     Found::Space {
         len: line_len(body) + 2,
@@ -86,7 +91,8 @@ fn line_comment(body: &[u8]) -> Found
 /// The space where a line with `#` began, where it is one that is skipped.
 fn skipped_line(after_mark: &[u8]) -> Option<Found>
     ensures { MatchOption result
-        ((after : List ℕ) → drop (prefix_len (λ b. is_blank b && not (is_newline b)) after_mark.now) after_mark.now ≢ codes "include" ++ after)
+        ((after : List ℕ) → drop (prefix_len (λ b. is_blank b && not (is_newline b)) after_mark.now)
+        after_mark.now ≢ codes "include" ++ after)
         (λ f. Tells true (35 ∷ after_mark.now) f) }
 {
     let indent = indent_len(after_mark);
@@ -139,7 +145,8 @@ fn token_at(bytes: &[u8], fresh: bool) -> Result<Found, Stop>
 /// The skipped line that begins here.
 #[tactic(auto, using(crate::proofs::Spaces::no_line_in_line, crate::proofs::Spaces::no_line_without_mark, crate::proofs::Spaces::no_line_without_word))]
 fn skipped_at(bytes: &[u8], fresh: bool) -> Option<Found>
-    ensures { MatchOption result ((blanks body : List ℕ) → ¬ Stands fresh bytes.now (SkippedLine blanks body)) (Tells fresh bytes.now) }
+    ensures { MatchOption result ((blanks body : List ℕ)
+        → ¬ Stands fresh bytes.now (SkippedLine blanks body)) (Tells fresh bytes.now) }
 {
     if !fresh {
         return None;
@@ -150,7 +157,8 @@ fn skipped_at(bytes: &[u8], fresh: bool) -> Option<Found>
     }
 }
 
-/// What stands at the front of the bytes; `fresh` tells that no token stands since the last newline.
+/// What stands at the front of the bytes; `fresh` tells that no token stands since the last
+/// newline.
 pub fn piece_at(bytes: &[u8], fresh: bool) -> Result<Found, Stop>
     requires { 0 < length bytes.now }
     ensures found { IfOk result (Tells fresh bytes.now) }

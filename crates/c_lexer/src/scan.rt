@@ -34,8 +34,8 @@ fn number_kind(value: u64) -> Kind
     Kind::Number(i128::from(value))
 }
 
-/// A piece at the front of a text: how long it is, whether no token stands since the last newline behind it, and
-/// what token it is, if it is one.
+/// A piece at the front of a text: how long it is, whether no token stands since the last newline
+/// behind it, and what token it is, if it is one.
 #[derive(Drop)]
 struct Cut {
     len: usize,

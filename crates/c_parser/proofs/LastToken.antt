@@ -3,7 +3,8 @@ use Rattle.std.proofs.Common.{◌≡◌, Bool, false, List, [], ◌∷◌, refl,
 use Rattle.std.specs.Prelude.{not, ◌&&◌}
 use Rattle.c_parser.specs.Spots.{Spot, ends_once, is_end}
 
--- whether the end stands last and nowhere else, where `ended` says whether it stood in front of these
+-- whether the end stands last and nowhere else, where `ended` says whether it stood in front of
+-- these
 abbrev pub ends_behind : Bool → List Spot → Bool
 ends_behind ended [] = ended
 ends_behind ended (spot ∷ rest) = not ended && ends_behind (is_end spot.kind) rest

@@ -1,4 +1,5 @@
--- Main theorems: which tree tokens read as, which refusal they have, that the lexer's tokens end once, and how many operators a tree has.
+-- Main theorems: which tree tokens read as, which refusal they have, that the lexer's tokens end
+-- once, and how many operators a tree has.
 pub mod Readings
 pub mod Refusals
 pub mod Lexed

@@ -145,7 +145,8 @@ shorter_begins front more begins =
     let goes = begins.1 in
     (begins.0, record { at = goes.at; rest = more ++ goes.rest; spells = goes.spells ∙ append_assoc front more goes.rest; made = goes.made }, begins.2)
 
--- two fronts of one list, and the tokens behind them, are the same, or one front has the other one's token too
+-- two fronts of one list, and the tokens behind them, are the same, or one front has the other
+-- one's token too
 two_fronts : {P : Type 0} (one other : List Spot) (s t : Spot) (x y : List Spot) → one ++ s ∷ x ≡ other ++ t ∷ y → (one ≡ other → s ≡ t → P)
     → ((z : List Spot) → other ≡ (one ++ s ∷ []) ++ z → P) → ((z : List Spot) → one ≡ (other ++ t ∷ []) ++ z → P) → P
 two_fronts [] [] s t x y e same longer shorter = same refl (cc)

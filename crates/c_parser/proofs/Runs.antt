@@ -1,4 +1,5 @@
--- How a run of a reader ends: behind a front it looks at one token, and all that begins with these goes the same way.
+-- How a run of a reader ends: behind a front it looks at one token, and all that begins with these
+-- goes the same way.
 use Rattle.std.proofs.Common.{◌≡◌, ℕ, zero, suc, ◌+◌, ◌<◌, Bool, true, false, List, [], ◌∷◌, ◌++◌, length, refl, sym, ap, subst, ◌∙◌, arith, append-nil, append_assoc}
 use Rattle.std.specs.Prelude.{not, Result, Ok, Err, if◌then◌else◌}
 use Rattle.items.specs.Gives.{◌>>=◌}
@@ -22,7 +23,8 @@ pub limit-sum : (more n : ℕ) → limit more n ≡ n + more
 limit-sum more zero = omega arith
 limit-sum more (suc n) = let rest = limit-sum more n in omega (arith, rest)
 
--- How the values of a reader hold the tokens that are left: how to set these, and what larger limits make of a value.
+-- How the values of a reader hold the tokens that are left: how to set these, and what larger
+-- limits make of a value.
 pub record Shape (V : Type 0) : Type 0 where
   pub set : V → List Spot → V
   pub up : ℕ → V → V
@@ -36,7 +38,8 @@ abbrev pub Finishes : {V : Type 0} → Shape V → (List Spot → Type 0) → (L
 Finishes sh F g [] = Unit {0}
 Finishes sh F g (s ∷ front) = (tail : List Spot) × ((later : List Spot) → F later → Finished sh (g (s ∷ (front ++ (tail ++ later)))) later)
 
--- what comes of the token behind the front: all is read before it, it is refused, or it passes a limit
+-- what comes of the token behind the front: all is read before it, it is refused, or it passes a
+-- limit
 pub data Outcome {V : Type 0} (sh : Shape V) (F : List Spot → Type 0) (f : ℕ → List Spot → Result V ParseError) (front : List Spot) (look : Spot) : Type 0 where
   Came : (v : V) → ((more : ℕ) (x : List Spot) → f more (front ++ look ∷ x) ≡ Ok (sh.set (sh.up more v) (look ∷ x))) → Outcome sh F f front look
   Refused : ((more : ℕ) (x : List Spot) → f more (front ++ look ∷ x) ≡ Err (refused (look ∷ []))) → Outcome sh F f front look

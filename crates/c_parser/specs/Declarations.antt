@@ -1,4 +1,5 @@
--- The grammar of a text (C11 6.7 and 6.9), as derivations that hold the place of each of their tokens.
+-- The grammar of a text (C11 6.7 and 6.9), as derivations that hold the place of each of their
+-- tokens.
 use Rattle.std.specs.Prelude.{ℕ, ℤ, pos, neg_ℤ, suc, max, Bool, true, false, ◌&&◌, Option, None, Some, List, [], ◌∷◌, ◌++◌}
 use Rattle.c_lexer.specs.declared.keyword.Keyword.TheVariants.{Int, Void, Extern}
 use Rattle.c_lexer.specs.declared.mark.Mark.TheVariants.{OpenRound, CloseRound, OpenBrace, CloseBrace, Comma, Semi, Assign, Minus}
@@ -40,20 +41,24 @@ pub data Parameters : Type 0 where
 -- a list of globals, a prototype, or a procedure with its body (C11 6.9)
 pub data Declaration : Type 0 where
   Globals : (type : ℕ) (shared : SharedList) (semi : ℕ) → Declaration
-  Prototype : (outside : Option ℕ) (returned : Returned) (at : ℕ) (name : List ℕ) (opened : ℕ) (params : Parameters) (closed semi : ℕ) → Declaration
-  Procedure : (returned : Returned) (at : ℕ) (name : List ℕ) (opened : ℕ) (params : Parameters) (closed begins : ℕ) (lines : Lines) (ends : ℕ) → Declaration
+  Prototype : (outside : Option ℕ) (returned : Returned) (at : ℕ) (name : List ℕ) (opened : ℕ)
+      (params : Parameters) (closed semi : ℕ) → Declaration
+  Procedure : (returned : Returned) (at : ℕ) (name : List ℕ) (opened : ℕ) (params : Parameters)
+      (closed begins : ℕ) (lines : Lines) (ends : ℕ) → Declaration
 
 -- ---- the tokens that are spelled
 
 abbrev pub shared_spots : Shared → List Spot
 shared_spots (Zero at name) = word at name ∷ []
-shared_spots (Positive at name assign digits value) = word at name ∷ mark assign Assign ∷ number digits value ∷ []
+shared_spots (Positive at name assign digits value) = word at name ∷ mark assign Assign
+    ∷ number digits value ∷ []
 shared_spots (Negative at name assign minus digits value) =
     word at name ∷ mark assign Assign ∷ mark minus Minus ∷ number digits (pos value) ∷ []
 
 abbrev pub shared_list_spots : SharedList → List Spot
 shared_list_spots (LastShared shared) = shared_spots shared
-shared_list_spots (AlsoShared shared comma rest) = shared_spots shared ++ mark comma Comma ∷ shared_list_spots rest
+shared_list_spots (AlsoShared shared comma rest) = shared_spots shared ++ mark comma Comma
+    ∷ shared_list_spots rest
 
 abbrev pub returned_spots : Returned → List Spot
 returned_spots (Number at) = keyword at Int ∷ []
@@ -77,13 +82,16 @@ outside_spots None = []
 outside_spots (Some at) = keyword at Extern ∷ []
 
 abbrev pub declaration_spots : Declaration → List Spot
-declaration_spots (Globals type shared semi) = keyword type Int ∷ (shared_list_spots shared ++ mark semi Semi ∷ [])
+declaration_spots (Globals type shared semi) =
+    keyword type Int ∷ (shared_list_spots shared ++ mark semi Semi ∷ [])
 declaration_spots (Prototype outside returned at name opened params closed semi) =
     outside_spots outside ++ returned_spots returned
-    ++ word at name ∷ mark opened OpenRound ∷ (parameters_spots params ++ mark closed CloseRound ∷ mark semi Semi ∷ [])
+    ++ word at name ∷ mark opened OpenRound
+    ∷ (parameters_spots params ++ mark closed CloseRound ∷ mark semi Semi ∷ [])
 declaration_spots (Procedure returned at name opened params closed begins lines ends) =
     returned_spots returned ++ word at name ∷ mark opened OpenRound
-    ∷ (parameters_spots params ++ mark closed CloseRound ∷ mark begins OpenBrace ∷ (lines_spots lines ++ mark ends CloseBrace ∷ []))
+    ∷ (parameters_spots params ++ mark closed CloseRound ∷ mark begins OpenBrace
+    ∷ (lines_spots lines ++ mark ends CloseBrace ∷ []))
 
 abbrev pub text_spots : List Declaration → List Spot
 text_spots [] = []
@@ -105,7 +113,8 @@ parameters_are_named (Listed slots) = are_named slots
 parameters_are_named _ = true
 
 abbrev pub declaration_is_made : Declaration → Bool
-declaration_is_made (Procedure returned at name opened params closed begins lines ends) = parameters_are_named params && lines_are_made lines
+declaration_is_made (Procedure returned at name opened params closed begins lines ends) =
+    parameters_are_named params && lines_are_made lines
 declaration_is_made _ = true
 
 abbrev pub text_is_made : List Declaration → Bool
@@ -151,9 +160,11 @@ named_parameters _ = []
 
 abbrev pub declaration_items : Declaration → List SourceItem
 declaration_items (Globals type shared semi) = shared_list_items shared
-declaration_items (Prototype outside returned at name opened params closed semi) = Proto name at (returns returned) (told_parameters params) ∷ []
+declaration_items (Prototype outside returned at name opened params closed semi) =
+    Proto name at (returns returned) (told_parameters params) ∷ []
 declaration_items (Procedure returned at name opened params closed begins lines ends) =
-    Body name at (returns returned) (named_parameters params) (lines_from (lines_lines lines)) ends ∷ []
+    Body name at (returns returned) (named_parameters params) (lines_from (lines_lines lines)) ends
+    ∷ []
 
 abbrev pub text_items : List Declaration → List SourceItem
 text_items [] = []
@@ -163,7 +174,8 @@ text_items (declaration ∷ rest) = declaration_items declaration ++ text_items 
 
 -- a procedure's block is a level
 abbrev pub declaration_levels : Declaration → ℕ
-declaration_levels (Procedure returned at name opened params closed begins lines ends) = suc (lines_levels lines)
+declaration_levels (Procedure returned at name opened params closed begins lines ends) =
+    suc (lines_levels lines)
 declaration_levels _ = 0
 
 abbrev pub text_levels : List Declaration → ℕ
@@ -171,7 +183,8 @@ text_levels [] = 0
 text_levels (declaration ∷ rest) = max (declaration_levels declaration) (text_levels rest)
 
 abbrev pub declaration_operators : Declaration → ℕ
-declaration_operators (Procedure returned at name opened params closed begins lines ends) = lines_operators lines
+declaration_operators (Procedure returned at name opened params closed begins lines ends) =
+    lines_operators lines
 declaration_operators _ = 0
 
 abbrev pub text_operators : List Declaration → ℕ

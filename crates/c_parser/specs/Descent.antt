@@ -43,7 +43,8 @@ begins_with m (spot ∷ _) = is_mark m spot.kind
 -- the refusal of the first token
 abbrev pub refused : List Spot → ParseError
 refused [] = error.Syntax 0
-refused (spot ∷ _) = if is_outside spot.kind then error.Unsupported spot.at else error.Syntax spot.at
+refused (spot ∷ _) = if is_outside spot.kind then error.Unsupported spot.at
+    else error.Syntax spot.at
 
 -- the place of the first token
 abbrev pub place_at : List Spot → ℕ
@@ -126,9 +127,11 @@ spend rest = one_less rest.spots rest.operators
 -- an operator that stands first, and its right operand
 abbrev pub link : Reader → ℕ → Op → SourceExpr × Rest → Result (SourceExpr × Rest) ParseError
 link operand at found left =
-    spend left.1 >>= λ rest. operand rest >>= λ right. Ok (source.Binary at found left.0 right.0, right.1)
+    spend left.1 >>= λ rest. operand rest
+    >>= λ right. Ok (source.Binary at found left.0 right.0, right.1)
 
-abbrev pub link_if : Reader → ℕ → Option Op → SourceExpr × Rest → Result (SourceExpr × Rest) ParseError
+abbrev pub link_if : Reader → ℕ → Option Op → SourceExpr × Rest
+    → Result (SourceExpr × Rest) ParseError
 link_if operand at None left = Ok left
 link_if operand at (Some found) left = link operand at found left
 
@@ -140,16 +143,19 @@ goes_on r left = is_some (op_at r left.1.spots)
 
 -- operators of this rank, from left to right
 abbrev pub links : ℕ → Reader → ℕ → SourceExpr × Rest → Result (SourceExpr × Rest) ParseError
-links r operand at left = repeat left_of (goes_on r) (λ read. link_if operand at (op_at r read.1.spots) read) left
+links r operand at left =
+    repeat left_of (goes_on r) (λ read. link_if operand at (op_at r read.1.spots) read) left
 
 -- an expression with operators of ranks below this one
 unfoldable pub joined : Reader → ℕ → Reader
 joined operand zero rest = operand rest
-joined operand (suc r) rest = joined operand r rest >>= links r (joined operand r) (place_at rest.spots)
+joined operand (suc r) rest = joined operand r rest >>= links r (joined operand r)
+    (place_at rest.spots)
 
 -- one argument more, behind a comma
 abbrev pub argument : Reader → List SourceExpr × Rest → Result (List SourceExpr × Rest) ParseError
-argument reader read = reader (with_spots read.1 (tail read.1.spots)) >>= λ next. Ok (read.0 ++ next.0 ∷ [], next.1)
+argument reader read = reader (with_spots read.1 (tail read.1.spots))
+    >>= λ next. Ok (read.0 ++ next.0 ∷ [], next.1)
 
 abbrev pub left_of_list : List SourceExpr × Rest → ℕ
 left_of_list read = length read.1.spots
@@ -157,7 +163,8 @@ left_of_list read = length read.1.spots
 abbrev pub has_comma : List SourceExpr × Rest → Bool
 has_comma read = begins_with marks.Comma read.1.spots
 
-abbrev pub more_arguments : Reader → List SourceExpr × Rest → Result (List SourceExpr × Rest) ParseError
+abbrev pub more_arguments : Reader → List SourceExpr × Rest
+    → Result (List SourceExpr × Rest) ParseError
 more_arguments reader read = repeat left_of_list has_comma (argument reader) read
 
 abbrev pub arguments : Reader → Rest → Result (List SourceExpr × Rest) ParseError
@@ -170,36 +177,43 @@ arguments reader rest =
 abbrev pub call_by : (ℕ → Reader) → ℕ → ℕ → List ℕ → Rest → Result (SourceExpr × Rest) ParseError
 call_by operand levels at name rest =
     deeper levels (place_at rest.spots) >>= λ level. behind marks.OpenRound rest >>= λ inside.
-    arguments (joined (operand level) 6) inside >>= λ args. behind marks.CloseRound args.1 >>= λ after.
+    arguments (joined (operand level) 6) inside >>= λ args. behind marks.CloseRound args.1
+    >>= λ after.
     Ok (source.Call at name (exprs_from args.0), after)
 
 abbrev pub named_by : (ℕ → Reader) → ℕ → ℕ → List ℕ → Rest → Result (SourceExpr × Rest) ParseError
 named_by operand levels at name rest =
-    if begins_with marks.OpenRound rest.spots then call_by operand levels at name rest else Ok (source.Var at name, rest)
+    if begins_with marks.OpenRound rest.spots then call_by operand levels at name rest
+    else Ok (source.Var at name, rest)
 
 -- an expression in brackets, whose bracket stands at `at` in front of the rest
 abbrev pub bracketed_by : (ℕ → Reader) → ℕ → ℕ → Rest → Result (SourceExpr × Rest) ParseError
 bracketed_by operand levels at rest =
-    deeper levels at >>= λ level. joined (operand level) 6 rest >>= λ inner. behind marks.CloseRound inner.1 >>= λ after.
+    deeper levels at >>= λ level. joined (operand level) 6 rest >>= λ inner. behind marks.CloseRound
+    inner.1 >>= λ after.
     Ok (placed at inner.0, after)
 
 -- what stands behind a sign at `at`
 abbrev pub signed_by : (ℕ → Reader) → ℕ → ℕ → Sign → Rest → Result (SourceExpr × Rest) ParseError
 signed_by operand levels at found rest =
-    deeper levels at >>= λ level. operand level rest >>= λ inner. Ok (source.Unary at found inner.0, inner.1)
+    deeper levels at >>= λ level. operand level rest
+    >>= λ inner. Ok (source.Unary at found inner.0, inner.1)
 
-abbrev pub signed_if : (ℕ → Reader) → ℕ → ℕ → Option Sign → ParseError → Rest → Result (SourceExpr × Rest) ParseError
+abbrev pub signed_if : (ℕ → Reader) → ℕ → ℕ → Option Sign → ParseError → Rest
+    → Result (SourceExpr × Rest) ParseError
 signed_if operand levels at None refusal rest = Err refusal
 signed_if operand levels at (Some found) refusal rest = signed_by operand levels at found rest
 
 -- what begins with a mark at `at`, which has this refusal where nothing begins with it
-abbrev pub marked_by : (ℕ → Reader) → ℕ → ℕ → Mark → ParseError → Rest → Result (SourceExpr × Rest) ParseError
+abbrev pub marked_by : (ℕ → Reader) → ℕ → ℕ → Mark → ParseError → Rest
+    → Result (SourceExpr × Rest) ParseError
 marked_by operand levels at m refusal rest =
     if sameb the_type m marks.OpenRound
     then bracketed_by operand levels at rest
     else signed_if operand levels at (sign_of m) refusal rest
 
-abbrev pub operand_by : (ℕ → Reader) → ℕ → Kind → ℕ → ParseError → Rest → Result (SourceExpr × Rest) ParseError
+abbrev pub operand_by : (ℕ → Reader) → ℕ → Kind → ℕ → ParseError → Rest
+    → Result (SourceExpr × Rest) ParseError
 operand_by operand levels (kind.Number value) at refusal rest = Ok (source.Lit at value, rest)
 operand_by operand levels (kind.Word name) at refusal rest = named_by operand levels at name rest
 operand_by operand levels (kind.Mark m) at refusal rest = marked_by operand levels at m refusal rest
@@ -210,7 +224,10 @@ operand_by operand levels kind.End at refusal rest = Err refusal
 abbrev pub operand_in : (ℕ → Reader) → ℕ → List Spot → ℕ → Result (SourceExpr × Rest) ParseError
 operand_in operand levels [] operators = Err (error.Syntax 0)
 operand_in operand levels (spot ∷ spots) operators =
-    operand_by operand levels spot.kind spot.at (refused (spot ∷ spots)) (record { spots = spots; operators = operators })
+    operand_by operand levels spot.kind spot.at (refused (spot ∷ spots)) (record {
+      spots = spots;
+      operators = operators;
+    })
 
 -- an operand, with so many levels left
 unfoldable pub operand : ℕ → Reader
@@ -227,7 +244,10 @@ call levels at name rest = call_by operand levels at name rest
 -- a whole expression, with so many operators at most
 abbrev pub whole : ℕ → ℕ → List Spot → Result (SourceExpr × List Spot) ParseError
 whole most levels spots =
-    expression levels (record { spots = spots; operators = most }) >>= λ read. Ok (read.0, read.1.spots)
+    expression levels (record {
+      spots = spots;
+      operators = most;
+    }) >>= λ read. Ok (read.0, read.1.spots)
 
 -- the rest that tokens are, with so many operators
 abbrev pub rest_of : List Token → ℕ → Rest
@@ -235,4 +255,7 @@ rest_of tokens operators = record { spots = spots_of tokens; operators = operato
 
 -- the arguments of a call that is a statement are one whole expression
 abbrev pub whole_call : ℕ → ℕ → ℕ → List ℕ → List Spot → Result (SourceExpr × List Spot) ParseError
-whole_call most levels at name spots = call levels at name (record { spots = spots; operators = most }) >>= λ read. Ok (read.0, read.1.spots)
+whole_call most levels at name spots = call levels at name (record {
+  spots = spots;
+  operators = most;
+}) >>= λ read. Ok (read.0, read.1.spots)

@@ -1,5 +1,5 @@
--- The grammar of expressions (C11 6.5): how an expression is derived, the tokens that a derivation spells, and
--- the tree that it stands for. A derivation holds the place of each of its tokens.
+-- The grammar of expressions (C11 6.5): how an expression is derived, the tokens that a derivation
+-- spells, and the tree that it stands for. A derivation holds the place of each of its tokens.
 use Rattle.std.specs.Prelude.{ℕ, ℤ, suc, ◌+◌, max, nat_lt, Bool, true, ◌&&◌, List, [], ◌∷◌, ◌++◌}
 use Rattle.c_lexer.specs.declared.mark.Mark.TheVariants.{OpenRound, CloseRound, Comma}
 use Rattle.syntax_tree.specs.declared.op.Op.{Op}
@@ -10,7 +10,8 @@ use Rattle.c_parser.specs.Operators.{op_mark, sign_mark, rank}
 use Rattle.c_parser.specs.Spots.{Spot, mark, word, number}
 
 mutual
-  -- A number, a name, a call, an expression in brackets, or a sign before one of these (C11 6.5.1 to 6.5.3).
+  -- A number, a name, a call, an expression in brackets, or a sign before one of these (C11 6.5.1
+  -- to 6.5.3).
   pub data Operand : Type 0 where
     Number : (at : ℕ) (value : ℤ) → Operand
     Named : (at : ℕ) (name : List ℕ) → Operand
@@ -42,12 +43,14 @@ abbrev mutual
   operand_spots (Number at value) = number at value ∷ []
   operand_spots (Named at name) = word at name ∷ []
   operand_spots (Called call) = call_spots call
-  operand_spots (Bracketed opened inner closed) = mark opened OpenRound ∷ (expression_spots inner ++ mark closed CloseRound ∷ [])
+  operand_spots (Bracketed opened inner closed) =
+      mark opened OpenRound ∷ (expression_spots inner ++ mark closed CloseRound ∷ [])
   operand_spots (Signed at sign inner) = mark at (sign_mark sign) ∷ operand_spots inner
 
   pub expression_spots : Expression → List Spot
   expression_spots (Single operand) = operand_spots operand
-  expression_spots (Joined left at op right) = expression_spots left ++ mark at (op_mark op) ∷ expression_spots right
+  expression_spots (Joined left at op right) = expression_spots left ++ mark at (op_mark op)
+      ∷ expression_spots right
 
   pub call_spots : Call → List Spot
   call_spots (Applied at name opened args closed) =
@@ -59,13 +62,14 @@ abbrev mutual
 
   pub more_spots : MoreArguments → List Spot
   more_spots NoMore = []
-  more_spots (Another comma next more) = mark comma Comma ∷ (expression_spots next ++ more_spots more)
+  more_spots (Another comma next more) =
+      mark comma Comma ∷ (expression_spots next ++ more_spots more)
 
 -- ---- which operator takes which operands
 
--- The operators of `binds n` outside brackets have ranks below `n`. On the left of an operator stand operators of its
--- own rank or below, on its right operators of ranks below: so operators of one rank go from left to right. There are
--- six ranks.
+-- The operators of `binds n` outside brackets have ranks below `n`. On the left of an operator
+-- stand operators of its own rank or below, on its right operators of ranks below: so operators of
+-- one rank go from left to right. There are six ranks.
 abbrev mutual
   pub operand_binds : Operand → Bool
   operand_binds (Number at value) = true
@@ -76,7 +80,8 @@ abbrev mutual
 
   pub binds : ℕ → Expression → Bool
   binds n (Single operand) = operand_binds operand
-  binds n (Joined left at op right) = nat_lt (rank op) n && binds (suc (rank op)) left && binds (rank op) right
+  binds n (Joined left at op right) = nat_lt (rank op) n && binds (suc (rank op)) left
+      && binds (rank op) right
 
   pub call_binds : Call → Bool
   call_binds (Applied at name opened args closed) = arguments_bind args
@@ -106,7 +111,8 @@ abbrev pub place : Expression → ℕ
 place (Single operand) = operand_place operand
 place (Joined left at op right) = place left
 
--- an expression with operators has the place of the bracket round it; a name, a call or a number keeps its own
+-- an expression with operators has the place of the bracket round it; a name, a call or a number
+-- keeps its own
 abbrev pub placed : ℕ → SourceExpr → SourceExpr
 placed at (source.Unary _ sign inner) = source.Unary at sign inner
 placed at (source.Binary _ op left right) = source.Binary at op left right

@@ -12,25 +12,32 @@ use Rattle.c_parser.specs.Spots.{ends_once, spots_of}
 
 -- a list of tokens reads as one tree at most
 abbrev pub ReadingIsOne : Type 0
-ReadingIsOne = (tokens : List Token) (one other : List SourceItem) → Reads tokens one → Reads tokens other → one ≡ other
+ReadingIsOne = (tokens : List Token) (one other : List SourceItem) → Reads tokens one
+    → Reads tokens other → one ≡ other
 
 -- tokens are refused for one reason at most
 abbrev pub RefusalIsOne : Type 0
-RefusalIsOne = (tokens : List Token) (one other : ParseError) → IsRefused tokens one → IsRefused tokens other → one ≡ other
+RefusalIsOne = (tokens : List Token) (one other : ParseError) → IsRefused tokens one
+    → IsRefused tokens other → one ≡ other
 
 -- tokens that read as a tree within the limits are not refused
 abbrev pub ReadingIsNotRefused : Type 0
-ReadingIsNotRefused = (tokens : List Token) (items : List SourceItem) (e : ParseError) → ReadsWithinLimits tokens items → IsRefused tokens e → ⊥
+ReadingIsNotRefused = (tokens : List Token) (items : List SourceItem) (e : ParseError)
+    → ReadsWithinLimits tokens items → IsRefused tokens e → ⊥
 
 -- tokens that end once read as a tree within the limits, or are refused
 abbrev pub TokensAreReadOrRefused : Type 0
 TokensAreReadOrRefused =
-    (tokens : List Token) → IsTrue (ends_once (spots_of tokens)) → ((items : List SourceItem) × ReadsWithinLimits tokens items) ⊎ ((e : ParseError) × IsRefused tokens e)
+    (tokens : List Token) → IsTrue (ends_once (spots_of tokens))
+    → ((items : List SourceItem) × ReadsWithinLimits tokens items)
+    ⊎ ((e : ParseError) × IsRefused tokens e)
 
 -- the last token of a text is its end, and no other is
 abbrev pub LexedEndsOnce : Type 0
-LexedEndsOnce = (text : List ℕ) (tokens : List Token) → Tokenizes text tokens → IsTrue (ends_once (spots_of tokens))
+LexedEndsOnce = (text : List ℕ) (tokens : List Token) → Tokenizes text tokens
+    → IsTrue (ends_once (spots_of tokens))
 
 -- each whole expression of a tree has fewer operators than there are tokens
 abbrev pub ReadingsAreShort : Type 0
-ReadingsAreShort = (tokens : List Token) (tree : Tree) → Reads tokens (source_items_of tree) → IsTrue (items_have_fewer (length tokens) tree.items)
+ReadingsAreShort = (tokens : List Token) (tree : Tree) → Reads tokens (source_items_of tree)
+    → IsTrue (items_have_fewer (length tokens) tree.items)

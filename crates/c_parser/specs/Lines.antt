@@ -1,5 +1,5 @@
--- The grammar of statements and of declarations in a block (C11 6.7 and 6.8), as derivations that hold the place of
--- each of their tokens.
+-- The grammar of statements and of declarations in a block (C11 6.7 and 6.8), as derivations that
+-- hold the place of each of their tokens.
 use Rattle.std.specs.Prelude.{ℕ, pos, suc, max, Bool, true, false, not, ◌&&◌, Option, None, Some, List, [], ◌∷◌, ◌++◌}
 use Rattle.c_lexer.specs.declared.keyword.Keyword.TheVariants as keywords
 use Rattle.c_lexer.specs.declared.mark.Mark.TheVariants.{OpenRound, CloseRound, OpenBrace, CloseBrace, Comma, Semi, Assign}
@@ -27,7 +27,8 @@ pub data Local : Type 0 where
 -- an assignment, a count up or down by one, or a call (C11 6.5.16, 6.5.2.4, 6.5.3.1 and 6.5.2.2)
 pub data Simple : Type 0 where
   Assigned : (at : ℕ) (name : List ℕ) (assign : ℕ) (value : Expression) → Simple
-  Changed : (at : ℕ) (name : List ℕ) (assign : ℕ) (compound : Compound) (value : Expression) → Simple
+  Changed : (at : ℕ) (name : List ℕ) (assign : ℕ) (compound : Compound) (value : Expression)
+      → Simple
   CountedAfter : (at : ℕ) (name : List ℕ) (sign : ℕ) (count : Count) → Simple
   CountedBefore : (sign : ℕ) (count : Count) (at : ℕ) (name : List ℕ) → Simple
   Acted : (call : Call) → Simple
@@ -44,10 +45,13 @@ mutual
     Empty : (semi : ℕ) → Line
     Plain : (simple : Simple) (semi : ℕ) → Line
     If : (at opened : ℕ) (cond : Expression) (closed : ℕ) (on_true : Line) → Line
-    IfElse : (at opened : ℕ) (cond : Expression) (closed : ℕ) (on_true : Line) (otherwise : ℕ) (on_false : Line) → Line
+    IfElse : (at opened : ℕ) (cond : Expression) (closed : ℕ) (on_true : Line) (otherwise : ℕ)
+        (on_false : Line) → Line
     While : (at opened : ℕ) (cond : Expression) (closed : ℕ) (body : Line) → Line
-    DoWhile : (at : ℕ) (body : Line) (tested opened : ℕ) (cond : Expression) (closed semi : ℕ) → Line
-    For : (at opened : ℕ) (init : Init) (cond : Option Expression) (semi : ℕ) (step : Option Simple) (closed : ℕ) (body : Line) → Line
+    DoWhile : (at : ℕ) (body : Line) (tested opened : ℕ) (cond : Expression) (closed semi : ℕ)
+        → Line
+    For : (at opened : ℕ) (init : Init) (cond : Option Expression) (semi : ℕ) (step : Option Simple)
+        (closed : ℕ) (body : Line) → Line
     Break : (at semi : ℕ) → Line
     Continue : (at semi : ℕ) → Line
     Return : (at : ℕ) (value : Option Expression) (semi : ℕ) → Line
@@ -62,18 +66,23 @@ mutual
 
 abbrev pub variable_spots : Variable → List Spot
 variable_spots (Bare at name) = word at name ∷ []
-variable_spots (Initialised at name assign value) = word at name ∷ mark assign Assign ∷ expression_spots value
+variable_spots (Initialised at name assign value) = word at name ∷ mark assign Assign
+    ∷ expression_spots value
 
 abbrev pub variables_spots : Variables → List Spot
 variables_spots (Last variable) = variable_spots variable
-variables_spots (Also variable comma rest) = variable_spots variable ++ mark comma Comma ∷ variables_spots rest
+variables_spots (Also variable comma rest) = variable_spots variable ++ mark comma Comma
+    ∷ variables_spots rest
 
 abbrev pub local_spots : Local → List Spot
-local_spots (Declared at variables semi) = keyword at keywords.Int ∷ (variables_spots variables ++ mark semi Semi ∷ [])
+local_spots (Declared at variables semi) =
+    keyword at keywords.Int ∷ (variables_spots variables ++ mark semi Semi ∷ [])
 
 abbrev pub simple_spots : Simple → List Spot
-simple_spots (Assigned at name assign value) = word at name ∷ mark assign Assign ∷ expression_spots value
-simple_spots (Changed at name assign compound value) = word at name ∷ mark assign (compound_mark compound) ∷ expression_spots value
+simple_spots (Assigned at name assign value) = word at name ∷ mark assign Assign ∷ expression_spots
+    value
+simple_spots (Changed at name assign compound value) =
+    word at name ∷ mark assign (compound_mark compound) ∷ expression_spots value
 simple_spots (CountedAfter at name sign count) = word at name ∷ mark sign (count_mark count) ∷ []
 simple_spots (CountedBefore sign count at name) = mark sign (count_mark count) ∷ word at name ∷ []
 simple_spots (Acted call) = call_spots call
@@ -92,25 +101,35 @@ init_spots (InitLocal local) = local_spots local
 init_spots (InitSimple simple semi) = if_simple simple ++ mark semi Semi ∷ []
 
 abbrev pub bracketed_spots : ℕ → Expression → ℕ → List Spot
-bracketed_spots opened cond closed = mark opened OpenRound ∷ (expression_spots cond ++ mark closed CloseRound ∷ [])
+bracketed_spots opened cond closed =
+    mark opened OpenRound ∷ (expression_spots cond ++ mark closed CloseRound ∷ [])
 
 abbrev mutual
   pub line_spots : Line → List Spot
-  line_spots (Block opened lines closed) = mark opened OpenBrace ∷ (lines_spots lines ++ mark closed CloseBrace ∷ [])
+  line_spots (Block opened lines closed) =
+      mark opened OpenBrace ∷ (lines_spots lines ++ mark closed CloseBrace ∷ [])
   line_spots (Empty semi) = mark semi Semi ∷ []
   line_spots (Plain simple semi) = simple_spots simple ++ mark semi Semi ∷ []
-  line_spots (If at opened cond closed on_true) = keyword at keywords.If ∷ (bracketed_spots opened cond closed ++ line_spots on_true)
+  line_spots (If at opened cond closed on_true) =
+      keyword at keywords.If ∷ (bracketed_spots opened cond closed ++ line_spots on_true)
   line_spots (IfElse at opened cond closed on_true otherwise on_false) =
-      keyword at keywords.If ∷ (bracketed_spots opened cond closed ++ line_spots on_true ++ keyword otherwise keywords.Else ∷ line_spots on_false)
-  line_spots (While at opened cond closed body) = keyword at keywords.While ∷ (bracketed_spots opened cond closed ++ line_spots body)
+      keyword at keywords.If
+      ∷ (bracketed_spots opened cond closed ++ line_spots on_true ++ keyword otherwise
+      keywords.Else ∷ line_spots on_false)
+  line_spots (While at opened cond closed body) = keyword at keywords.While
+      ∷ (bracketed_spots opened cond closed ++ line_spots body)
   line_spots (DoWhile at body tested opened cond closed semi) =
-      keyword at keywords.Do ∷ (line_spots body ++ keyword tested keywords.While ∷ (bracketed_spots opened cond closed ++ mark semi Semi ∷ []))
+      keyword at keywords.Do
+      ∷ (line_spots body ++ keyword tested keywords.While
+      ∷ (bracketed_spots opened cond closed ++ mark semi Semi ∷ []))
   line_spots (For at opened init cond semi step closed body) =
       keyword at keywords.For ∷ mark opened OpenRound
-      ∷ (init_spots init ++ if_expression cond ++ mark semi Semi ∷ (if_simple step ++ mark closed CloseRound ∷ line_spots body))
+      ∷ (init_spots init ++ if_expression cond ++ mark semi Semi
+      ∷ (if_simple step ++ mark closed CloseRound ∷ line_spots body))
   line_spots (Break at semi) = keyword at keywords.Break ∷ mark semi Semi ∷ []
   line_spots (Continue at semi) = keyword at keywords.Continue ∷ mark semi Semi ∷ []
-  line_spots (Return at value semi) = keyword at keywords.Return ∷ (if_expression value ++ mark semi Semi ∷ [])
+  line_spots (Return at value semi) = keyword at keywords.Return
+      ∷ (if_expression value ++ mark semi Semi ∷ [])
 
   pub lines_spots : Lines → List Spot
   lines_spots NoLines = []
@@ -156,8 +175,8 @@ abbrev pub init_binds : Init → Bool
 init_binds (InitLocal local) = local_binds local
 init_binds (InitSimple simple semi) = if_simple_binds simple
 
--- The operators of each expression take the right operands, and an `else` belongs to the nearest `if` (C11 6.8.4.1):
--- the line before it could not take it.
+-- The operators of each expression take the right operands, and an `else` belongs to the nearest
+-- `if` (C11 6.8.4.1): the line before it could not take it.
 abbrev mutual
   pub line_is_made : Line → Bool
   line_is_made (Block opened lines closed) = lines_are_made lines
@@ -190,15 +209,18 @@ variables_lines (Also variable comma rest) = variable_line variable ∷ variable
 abbrev pub local_lines : Local → List SourceLine
 local_lines (Declared at variables semi) = variables_lines variables
 
--- `x op= e` is `x = x op (e)`, and a count is `x = x + 1` or `x = x - 1`; what is added has the place of the name
+-- `x op= e` is `x = x op (e)`, and a count is `x = x + 1` or `x = x - 1`; what is added has the
+-- place of the name
 abbrev pub simple_line : Simple → SourceLine
 simple_line (Assigned at name assign value) = line.Assign name at (tree value)
 simple_line (Changed at name assign compound value) =
     line.Assign name at (source.Binary at (compound_op compound) (source.Var at name) (tree value))
 simple_line (CountedAfter at name sign count) =
-    line.Assign name at (source.Binary at (count_op count) (source.Var at name) (source.Lit at (pos 1)))
+    line.Assign name at
+    (source.Binary at (count_op count) (source.Var at name) (source.Lit at (pos 1)))
 simple_line (CountedBefore sign count at name) =
-    line.Assign name at (source.Binary at (count_op count) (source.Var at name) (source.Lit at (pos 1)))
+    line.Assign name at
+    (source.Binary at (count_op count) (source.Var at name) (source.Lit at (pos 1)))
 simple_line (Acted call) = line.Act (call_tree call)
 
 abbrev pub if_simple_lines : Option Simple → List SourceLine
@@ -224,13 +246,17 @@ abbrev mutual
   line_lines (Block opened lines closed) = line.Block (lines_from (lines_lines lines)) ∷ []
   line_lines (Empty semi) = []
   line_lines (Plain simple semi) = simple_line simple ∷ []
-  line_lines (If at opened cond closed on_true) = line.If (tree cond) (lines_from (line_lines on_true)) line.End ∷ []
+  line_lines (If at opened cond closed on_true) =
+      line.If (tree cond) (lines_from (line_lines on_true)) line.End ∷ []
   line_lines (IfElse at opened cond closed on_true otherwise on_false) =
       line.If (tree cond) (lines_from (line_lines on_true)) (lines_from (line_lines on_false)) ∷ []
-  line_lines (While at opened cond closed body) = line.Loop line.End (tree cond) line.End (lines_from (line_lines body)) false ∷ []
-  line_lines (DoWhile at body tested opened cond closed semi) = line.Loop line.End (tree cond) line.End (lines_from (line_lines body)) true ∷ []
+  line_lines (While at opened cond closed body) =
+      line.Loop line.End (tree cond) line.End (lines_from (line_lines body)) false ∷ []
+  line_lines (DoWhile at body tested opened cond closed semi) =
+      line.Loop line.End (tree cond) line.End (lines_from (line_lines body)) true ∷ []
   line_lines (For at opened init cond semi step closed body) =
-      line.Loop (lines_from (init_lines init)) (cond_or_one cond semi) (lines_from (if_simple_lines step)) (lines_from (line_lines body)) false ∷ []
+      line.Loop (lines_from (init_lines init)) (cond_or_one cond semi)
+      (lines_from (if_simple_lines step)) (lines_from (line_lines body)) false ∷ []
   line_lines (Break at semi) = line.Break at ∷ []
   line_lines (Continue at semi) = line.Continue at ∷ []
   line_lines (Return at value semi) = line.Return at (if_tree value) ∷ []
@@ -282,9 +308,11 @@ abbrev mutual
   line_levels (IfElse at opened cond closed on_true otherwise on_false) =
       suc (max (levels cond) (max (line_levels on_true) (line_levels on_false)))
   line_levels (While at opened cond closed body) = suc (max (levels cond) (line_levels body))
-  line_levels (DoWhile at body tested opened cond closed semi) = suc (max (levels cond) (line_levels body))
+  line_levels (DoWhile at body tested opened cond closed semi) =
+      suc (max (levels cond) (line_levels body))
   line_levels (For at opened init cond semi step closed body) =
-      suc (max (max (init_levels init) (if_levels cond)) (max (if_simple_levels step) (line_levels body)))
+      suc (max (max (init_levels init) (if_levels cond))
+      (max (if_simple_levels step) (line_levels body)))
   line_levels (Break at semi) = 0
   line_levels (Continue at semi) = 0
   line_levels (Return at value semi) = if_levels value
@@ -301,7 +329,8 @@ variable_operators (Initialised at name assign value) = operators value
 
 abbrev pub variables_operators : Variables → ℕ
 variables_operators (Last variable) = variable_operators variable
-variables_operators (Also variable comma rest) = max (variable_operators variable) (variables_operators rest)
+variables_operators (Also variable comma rest) =
+    max (variable_operators variable) (variables_operators rest)
 
 abbrev pub local_operators : Local → ℕ
 local_operators (Declared at variables semi) = variables_operators variables
@@ -333,9 +362,11 @@ abbrev mutual
   line_operators (IfElse at opened cond closed on_true otherwise on_false) =
       max (operators cond) (max (line_operators on_true) (line_operators on_false))
   line_operators (While at opened cond closed body) = max (operators cond) (line_operators body)
-  line_operators (DoWhile at body tested opened cond closed semi) = max (operators cond) (line_operators body)
+  line_operators (DoWhile at body tested opened cond closed semi) =
+      max (operators cond) (line_operators body)
   line_operators (For at opened init cond semi step closed body) =
-      max (max (init_operators init) (if_operators cond)) (max (if_simple_operators step) (line_operators body))
+      max (max (init_operators init) (if_operators cond))
+      (max (if_simple_operators step) (line_operators body))
   line_operators (Break at semi) = 0
   line_operators (Continue at semi) = 0
   line_operators (Return at value semi) = if_operators value

@@ -28,7 +28,8 @@ op_mark Mul = marks.Star
 op_mark Div = marks.Slash
 op_mark Rem = marks.Percent
 
--- how loosely an operator binds: one number for each of the clauses C11 6.5.5, 6.5.6, 6.5.8, 6.5.9, 6.5.13 and 6.5.14
+-- how loosely an operator binds: one number for each of the clauses C11 6.5.5, 6.5.6, 6.5.8, 6.5.9,
+-- 6.5.13 and 6.5.14
 abbrev pub rank : Op → ℕ
 rank Mul = 0
 rank Div = 0

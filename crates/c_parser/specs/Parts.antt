@@ -20,6 +20,11 @@ for_end most level spots =
 -- a `for` by these parts
 abbrev pub for_parts : ℕ → (ℕ → LineReader) → ℕ → ℕ → List Spot → LinesRead
 for_parts most reader levels at rest =
-    deeper levels at >>= λ level. for_begin most level rest >>= λ first. for_condition most level first.1 >>= λ cond.
+    deeper levels at >>= λ level. for_begin most level rest >>= λ first. for_condition most level
+    first.1 >>= λ cond.
     for_end most level cond.1 >>= λ step. reader level step.1 >>= λ body.
-    Ok (line.Loop (lines_from first.0) cond.0 (lines_from step.0) (lines_from body.0) false ∷ [], body.1)
+    Ok (
+      line.Loop (lines_from first.0) cond.0 (lines_from step.0) (lines_from body.0) false
+          ∷ [],
+      body.1,
+    )

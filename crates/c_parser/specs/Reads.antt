@@ -7,7 +7,8 @@ use Rattle.c_parser.specs.SourceItem.{SourceItem}
 use Rattle.c_parser.specs.Spots.{spots_of, end}
 
 -- these declarations, one behind the other, spell the tokens and stand for the tree
-pub record IsReading (tokens : List Token) (items : List SourceItem) (text : List Declaration) : Type 0 where
+pub record IsReading (tokens : List Token) (items : List SourceItem)
+    (text : List Declaration) : Type 0 where
   pub at : ℕ
   pub spells : spots_of tokens ≡ text_spots text ++ end at ∷ []
   pub made : IsTrue (text_is_made text)
@@ -21,4 +22,5 @@ pub record IsWithinLimits (text : List Declaration) : Type 0 where
   pub short : text_operators text ≤ most_binary_operators
 
 abbrev pub ReadsWithinLimits : List Token → List SourceItem → Type 0
-ReadsWithinLimits tokens items = (text : List Declaration) × IsReading tokens items text × IsWithinLimits text
+ReadsWithinLimits tokens items = (text : List Declaration) × IsReading tokens items text
+    × IsWithinLimits text

@@ -1,4 +1,5 @@
--- Why tokens have no tree: the first of them that no text of the grammar has behind those before it.
+-- Why tokens have no tree: the first of them that no text of the grammar has behind those before
+-- it.
 use Rattle.std.specs.Prelude.{◌≡◌, ℕ, List, [], ◌∷◌, ◌++◌, ◌⊎◌, IsTrue, if◌then◌else◌}
 use Rattle.c_lexer.specs.declared.token.Token.{Token}
 use Rattle.c_parser.specs.declared.error.ParseError.{ParseError}
@@ -24,7 +25,8 @@ abbrev pub BeginsWithin : List Spot → Type 0
 BeginsWithin spots = (text : List Declaration) × GoesOn spots text × IsWithinLimits text
 
 -- some text within the limits begins with the tokens before this one, and none with this one too
-pub record IsStop (tokens : List Token) (before : List Spot) (spot : Spot) (after : List Spot) : Type 0 where
+pub record IsStop (tokens : List Token) (before : List Spot) (spot : Spot)
+    (after : List Spot) : Type 0 where
   pub cut : spots_of tokens ≡ before ++ spot ∷ after
   pub begun : BeginsWithin before
   pub stops : BeginsWithin (before ++ spot ∷ []) → ⊥
@@ -35,8 +37,10 @@ refusal_of spot = if is_outside spot.kind then error.Unsupported spot.at else er
 
 -- A token that some text has there passes a limit.
 abbrev pub IsTold : List Spot → Spot → ParseError → Type 0
-IsTold before spot e = (Begins (before ++ spot ∷ []) × (e ≡ error.Deep spot.at)) ⊎ ((Begins (before ++ spot ∷ []) → ⊥) × (e ≡ refusal_of spot))
+IsTold before spot e = (Begins (before ++ spot ∷ []) × (e ≡ error.Deep spot.at))
+    ⊎ ((Begins (before ++ spot ∷ []) → ⊥) × (e ≡ refusal_of spot))
 
 -- The tokens are refused so.
 abbrev pub IsRefused : List Token → ParseError → Type 0
-IsRefused tokens e = (before : List Spot) × (spot : Spot) × (after : List Spot) × IsStop tokens before spot after × IsTold before spot e
+IsRefused tokens e = (before : List Spot) × (spot : Spot) × (after : List Spot)
+    × IsStop tokens before spot after × IsTold before spot e

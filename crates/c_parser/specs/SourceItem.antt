@@ -14,7 +14,8 @@ pub record Parameter : Type 0 where
 pub data SourceItem : Type 0 where
   Global : (name : List ℕ) (at : ℕ) (init : ℤ) → SourceItem
   Proto : (name : List ℕ) (at : ℕ) (returns : Bool) (params : Option ℕ) → SourceItem
-  Body : (name : List ℕ) (at : ℕ) (returns : Bool) (params : List Parameter) (lines : SourceLines) (end : ℕ) → SourceItem
+  Body : (name : List ℕ) (at : ℕ) (returns : Bool) (params : List Parameter) (lines : SourceLines)
+      (end : ℕ) → SourceItem
 
 abbrev pub parameter_of : Param → Parameter
 parameter_of param = record { name = param.name; at = param.at }
@@ -23,7 +24,8 @@ parameter_of param = record { name = param.name; at = param.at }
 abbrev pub source_item_of : Item → SourceItem
 source_item_of (item.Global name at init) = Global name at init
 source_item_of (item.Proto name at returns params) = Proto name at returns params
-source_item_of (item.Body name at returns params lines end) = Body name at returns (map parameter_of params) (source_lines_of lines) end
+source_item_of (item.Body name at returns params lines end) =
+    Body name at returns (map parameter_of params) (source_lines_of lines) end
 
 -- the plain form of a tree
 abbrev pub source_items_of : Tree → List SourceItem

@@ -90,7 +90,8 @@ count_at (spot ∷ _) = count_in spot.kind
 -- ---- assignments, counts and calls
 
 abbrev pub changed : ℕ → List ℕ → Op → SourceExpr → SourceLine
-changed at name found value = line.Assign name at (source.Binary at found (source.Var at name) value)
+changed at name found value =
+    line.Assign name at (source.Binary at found (source.Var at name) value)
 
 abbrev pub counted : ℕ → List ℕ → Op → SourceLine
 counted at name found = changed at name found (source.Lit at (pos 1))
@@ -100,29 +101,35 @@ LineRead = Result (SourceLine × List Spot) ParseError
 
 -- `= e`, behind a name
 abbrev pub assigned : ℕ → ℕ → ℕ → List ℕ → List Spot → LineRead
-assigned most levels at name spots = whole most levels (tail spots) >>= λ value. Ok (line.Assign name at value.0, value.1)
+assigned most levels at name spots = whole most levels (tail spots)
+    >>= λ value. Ok (line.Assign name at value.0, value.1)
 
 abbrev pub acted : ℕ → ℕ → ℕ → List ℕ → List Spot → LineRead
-acted most levels at name spots = whole_call most levels at name spots >>= λ read. Ok (line.Act read.0, read.1)
+acted most levels at name spots = whole_call most levels at name spots
+    >>= λ read. Ok (line.Act read.0, read.1)
 
 abbrev pub counted_or : Option Op → ℕ → ℕ → ℕ → List ℕ → List Spot → LineRead
 counted_or None most levels at name spots =
-    if begins_with marks.OpenRound spots then acted most levels at name spots else Err (refused spots)
+    if begins_with marks.OpenRound spots then acted most levels at name spots
+    else Err (refused spots)
 counted_or (Some found) most levels at name spots = Ok (counted at name found, tail spots)
 
 abbrev pub compound_or : Option Op → ℕ → ℕ → ℕ → List ℕ → List Spot → LineRead
 compound_or None most levels at name spots = counted_or (count_at spots) most levels at name spots
-compound_or (Some found) most levels at name spots = whole most levels (tail spots) >>= λ value. Ok (changed at name found value.0, value.1)
+compound_or (Some found) most levels at name spots = whole most levels (tail spots)
+    >>= λ value. Ok (changed at name found value.0, value.1)
 
 -- what goes on behind a name
 abbrev pub behind_name : ℕ → ℕ → ℕ → List ℕ → List Spot → LineRead
 behind_name most levels at name spots =
-    if begins_with marks.Assign spots then assigned most levels at name spots else compound_or (compound_at spots) most levels at name spots
+    if begins_with marks.Assign spots then assigned most levels at name spots
+    else compound_or (compound_at spots) most levels at name spots
 
 -- a count in front of its name
 abbrev pub counted_before : Option Op → List Spot → ParseError → LineRead
 counted_before None spots refusal = Err refusal
-counted_before (Some found) spots refusal = word_at spots >>= λ word. Ok (counted word.at word.name found, word.rest)
+counted_before (Some found) spots refusal =
+    word_at spots >>= λ word. Ok (counted word.at word.name found, word.rest)
 
 abbrev pub simple_by : ℕ → ℕ → Kind → ℕ → List Spot → ParseError → LineRead
 simple_by most levels (kind.Word name) at rest refusal = behind_name most levels at name rest
@@ -133,17 +140,20 @@ simple_by most levels kind.End at rest refusal = Err refusal
 
 abbrev pub simple : ℕ → ℕ → List Spot → LineRead
 simple most levels [] = Err (error.Syntax 0)
-simple most levels (spot ∷ rest) = simple_by most levels spot.kind spot.at rest (refused (spot ∷ rest))
+simple most levels (spot ∷ rest) = simple_by most levels spot.kind spot.at rest
+    (refused (spot ∷ rest))
 
 -- ---- locals
 
 abbrev pub initialised : ℕ → ℕ → ℕ → List ℕ → List Spot → LineRead
-initialised most levels at name spots = whole most levels (tail spots) >>= λ value. Ok (line.Local name at (Some value.0), value.1)
+initialised most levels at name spots = whole most levels (tail spots)
+    >>= λ value. Ok (line.Local name at (Some value.0), value.1)
 
 abbrev pub variable : ℕ → ℕ → List Spot → LineRead
 variable most levels spots =
     word_at spots >>= λ word.
-    if begins_with marks.Assign word.rest then initialised most levels word.at word.name word.rest else Ok (line.Local word.name word.at None, word.rest)
+    if begins_with marks.Assign word.rest then initialised most levels word.at word.name word.rest
+    else Ok (line.Local word.name word.at None, word.rest)
 
 abbrev pub LinesRead : Type 0
 LinesRead = Result (List SourceLine × List Spot) ParseError
@@ -155,7 +165,8 @@ abbrev pub comma_stands : List SourceLine × List Spot → Bool
 comma_stands read = begins_with marks.Comma read.1
 
 abbrev pub one_variable : ℕ → ℕ → List SourceLine × List Spot → LinesRead
-one_variable most levels read = variable most levels (tail read.1) >>= λ next. Ok (read.0 ++ next.0 ∷ [], next.1)
+one_variable most levels read = variable most levels (tail read.1)
+    >>= λ next. Ok (read.0 ++ next.0 ∷ [], next.1)
 
 abbrev pub variables : ℕ → ℕ → List SourceLine × List Spot → LinesRead
 variables most levels read = repeat lines_left comma_stands (one_variable most levels) read
@@ -174,7 +185,8 @@ LineReader = List Spot → LinesRead
 -- an expression in brackets
 abbrev pub condition : ℕ → ℕ → List Spot → Result (SourceExpr × List Spot) ParseError
 condition most levels spots =
-    past marks.OpenRound spots >>= λ inside. whole most levels inside >>= λ cond. past marks.CloseRound cond.1 >>= λ after. Ok (cond.0, after)
+    past marks.OpenRound spots >>= λ inside. whole most levels inside
+    >>= λ cond. past marks.CloseRound cond.1 >>= λ after. Ok (cond.0, after)
 
 abbrev pub simple_line : ℕ → ℕ → List Spot → LinesRead
 simple_line most levels spots =
@@ -185,41 +197,50 @@ stands_open read = not (begins_with marks.CloseBrace read.1)
 
 -- a local or a line
 abbrev pub entry : ℕ → LineReader → ℕ → List Spot → LinesRead
-entry most reader level spots = if begins_with_keyword keywords.Int spots then local most level (tail spots) else reader spots
+entry most reader level spots = if begins_with_keyword keywords.Int spots
+    then local most level (tail spots) else reader spots
 
 abbrev pub one_entry : ℕ → LineReader → ℕ → List SourceLine × List Spot → LinesRead
-one_entry most reader level read = entry most reader level read.1 >>= λ next. Ok (read.0 ++ next.0, next.1)
+one_entry most reader level read = entry most reader level read.1
+    >>= λ next. Ok (read.0 ++ next.0, next.1)
 
 -- what stands in a block, up to its closing brace
 abbrev pub entries : ℕ → LineReader → ℕ → List SourceLine × List Spot → LinesRead
 entries most reader level read = repeat lines_left stands_open (one_entry most reader level) read
 
 -- behind an opening brace, up to behind the closing one, which stands at the place that is told
-abbrev pub block : ℕ → LineReader → ℕ → List Spot → Result (List SourceLine × ℕ × List Spot) ParseError
+abbrev pub block : ℕ → LineReader → ℕ → List Spot
+    → Result (List SourceLine × ℕ × List Spot) ParseError
 block most reader level spots =
-    entries most reader level ([], spots) >>= λ read. past marks.CloseBrace read.1 >>= λ after. Ok (read.0, place_at read.1, after)
+    entries most reader level ([], spots) >>= λ read. past marks.CloseBrace read.1
+    >>= λ after. Ok (read.0, place_at read.1, after)
 
 abbrev pub block_by : ℕ → (ℕ → LineReader) → ℕ → ℕ → List Spot → LinesRead
 block_by most reader levels at rest =
-    deeper levels at >>= λ level. block most (reader level) level rest >>= λ read. Ok (line.Block (lines_from read.0) ∷ [], read.2)
+    deeper levels at >>= λ level. block most (reader level) level rest
+    >>= λ read. Ok (line.Block (lines_from read.0) ∷ [], read.2)
 
 abbrev pub otherwise : LineReader → List Spot → LinesRead
-otherwise reader spots = if begins_with_keyword keywords.Else spots then reader (tail spots) else Ok ([], spots)
+otherwise reader spots = if begins_with_keyword keywords.Else spots then reader (tail spots)
+    else Ok ([], spots)
 
 abbrev pub if_by : ℕ → (ℕ → LineReader) → ℕ → ℕ → List Spot → LinesRead
 if_by most reader levels at rest =
-    deeper levels at >>= λ level. condition most level rest >>= λ cond. reader level cond.1 >>= λ on_true.
+    deeper levels at >>= λ level. condition most level rest >>= λ cond. reader level cond.1
+    >>= λ on_true.
     otherwise (reader level) on_true.1 >>= λ on_false.
     Ok (line.If cond.0 (lines_from on_true.0) (lines_from on_false.0) ∷ [], on_false.1)
 
 abbrev pub while_by : ℕ → (ℕ → LineReader) → ℕ → ℕ → List Spot → LinesRead
 while_by most reader levels at rest =
-    deeper levels at >>= λ level. condition most level rest >>= λ cond. reader level cond.1 >>= λ body.
+    deeper levels at >>= λ level. condition most level rest >>= λ cond. reader level cond.1
+    >>= λ body.
     Ok (line.Loop line.End cond.0 line.End (lines_from body.0) false ∷ [], body.1)
 
 abbrev pub do_by : ℕ → (ℕ → LineReader) → ℕ → ℕ → List Spot → LinesRead
 do_by most reader levels at rest =
-    deeper levels at >>= λ level. reader level rest >>= λ body. past_keyword keywords.While body.1 >>= λ test.
+    deeper levels at >>= λ level. reader level rest >>= λ body. past_keyword keywords.While body.1
+    >>= λ test.
     condition most level test >>= λ cond. past marks.Semi cond.1 >>= λ after.
     Ok (line.Loop line.End cond.0 line.End (lines_from body.0) true ∷ [], after)
 
@@ -227,27 +248,38 @@ do_by most reader levels at rest =
 abbrev pub init : ℕ → ℕ → List Spot → LinesRead
 init most level spots =
     if begins_with_keyword keywords.Int spots then local most level (tail spots)
-    else (if begins_with marks.Semi spots then Ok ([], tail spots) else simple_line most level spots)
+    else (if begins_with marks.Semi spots then Ok ([], tail spots)
+    else simple_line most level spots)
 
 abbrev pub for_condition : ℕ → ℕ → List Spot → Result (SourceExpr × List Spot) ParseError
-for_condition most level spots = if begins_with marks.Semi spots then Ok (source.Lit (place_at spots) (pos 1), spots) else whole most level spots
+for_condition most level spots = if begins_with marks.Semi spots
+    then Ok (source.Lit (place_at spots) (pos 1), spots) else whole most level spots
 
 abbrev pub for_step : ℕ → ℕ → List Spot → LinesRead
 for_step most level spots =
-    if begins_with marks.CloseRound spots then Ok ([], spots) else (simple most level spots >>= λ read. Ok (read.0 ∷ [], read.1))
+    if begins_with marks.CloseRound spots then Ok ([], spots)
+    else (simple most level spots >>= λ read. Ok (read.0 ∷ [], read.1))
 
 abbrev pub for_by : ℕ → (ℕ → LineReader) → ℕ → ℕ → List Spot → LinesRead
 for_by most reader levels at rest =
-    deeper levels at >>= λ level. past marks.OpenRound rest >>= λ inside. init most level inside >>= λ first.
-    for_condition most level first.1 >>= λ cond. past marks.Semi cond.1 >>= λ then_step. for_step most level then_step >>= λ step.
+    deeper levels at >>= λ level. past marks.OpenRound rest >>= λ inside. init most level inside
+    >>= λ first.
+    for_condition most level first.1 >>= λ cond. past marks.Semi cond.1 >>= λ then_step. for_step
+    most level then_step >>= λ step.
     past marks.CloseRound step.1 >>= λ then_body. reader level then_body >>= λ body.
-    Ok (line.Loop (lines_from first.0) cond.0 (lines_from step.0) (lines_from body.0) false ∷ [], body.1)
+    Ok (
+      line.Loop (lines_from first.0) cond.0 (lines_from step.0) (lines_from body.0) false
+          ∷ [],
+      body.1,
+    )
 
 abbrev pub returned : ℕ → ℕ → List Spot → Result (Option SourceExpr × List Spot) ParseError
-returned most levels spots = if begins_with marks.Semi spots then Ok (None, spots) else (whole most levels spots >>= λ value. Ok (Some value.0, value.1))
+returned most levels spots = if begins_with marks.Semi spots then Ok (None, spots)
+    else (whole most levels spots >>= λ value. Ok (Some value.0, value.1))
 
 abbrev pub return_by : ℕ → ℕ → ℕ → List Spot → LinesRead
-return_by most levels at rest = returned most levels rest >>= λ value. past marks.Semi value.1 >>= λ after. Ok (line.Return at value.0 ∷ [], after)
+return_by most levels at rest = returned most levels rest >>= λ value. past marks.Semi value.1
+    >>= λ after. Ok (line.Return at value.0 ∷ [], after)
 
 abbrev pub single_by : SourceLine → List Spot → LinesRead
 single_by made rest = past marks.Semi rest >>= λ after. Ok (made ∷ [], after)
@@ -264,13 +296,16 @@ keyword_by most reader levels _ at rest refusal = Err refusal
 
 abbrev pub keyword_or : ℕ → (ℕ → LineReader) → ℕ → Option Keyword → List Spot → LinesRead
 keyword_or most reader levels None spots = simple_line most levels spots
-keyword_or most reader levels (Some k) spots = keyword_by most reader levels k (place_at spots) (tail spots) (refused spots)
+keyword_or most reader levels (Some k) spots = keyword_by most reader levels k (place_at spots)
+    (tail spots) (refused spots)
 
 -- a line, whose parts are read with fewer levels
 abbrev pub line_in : ℕ → (ℕ → LineReader) → ℕ → List Spot → LinesRead
 line_in most reader levels spots =
-    if begins_with marks.OpenBrace spots then block_by most reader levels (place_at spots) (tail spots)
-    else (if begins_with marks.Semi spots then Ok ([], tail spots) else keyword_or most reader levels (keyword_at spots) spots)
+    if begins_with marks.OpenBrace spots
+    then block_by most reader levels (place_at spots) (tail spots)
+    else (if begins_with marks.Semi spots then Ok ([], tail spots)
+    else keyword_or most reader levels (keyword_at spots) spots)
 
 -- a line, with so many levels left
 unfoldable pub line_read : ℕ → ℕ → LineReader

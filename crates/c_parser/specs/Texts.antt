@@ -1,4 +1,5 @@
--- How the parser goes through the declarations of a text: for each of its functions, what it comes to.
+-- How the parser goes through the declarations of a text: for each of its functions, what it comes
+-- to.
 use Rattle.std.specs.Prelude.{ℕ, ℤ, pos, negsuc, neg_ℤ, ◌+◌, nat_eq, Bool, true, false, not, ◌&&◌, Option, None, Some, Result, Ok, Err, List, [], ◌∷◌, ◌++◌, length, if◌then◌else◌}
 use Rattle.items.specs.Gives.{◌>>=◌}
 use Rattle.c_lexer.specs.declared.keyword.Keyword.TheVariants as keywords
@@ -65,7 +66,8 @@ shared_list read = repeat items_left comma_stands one_shared read
 
 abbrev pub globals : Word → ItemsRead
 globals word =
-    shared word >>= λ first. shared_list (first.0 ∷ [], first.1) >>= λ all. past marks.Semi all.1 >>= λ after. Ok (all.0, after)
+    shared word >>= λ first. shared_list (first.0 ∷ [], first.1) >>= λ all. past marks.Semi all.1
+    >>= λ after. Ok (all.0, after)
 
 -- ---- parameters
 
@@ -92,7 +94,11 @@ behind_name (_ ∷ _) spots = tail spots
 abbrev pub slot : Slots → List Spot → Result Slots ParseError
 slot slots spots =
     past_keyword keywords.Int spots >>= λ rest.
-    Ok (record { count = slots.count + 1; named = slots.named ++ name_at rest; rest = behind_name (name_at rest) rest })
+    Ok (record {
+      count = slots.count + 1;
+      named = slots.named ++ name_at rest;
+      rest = behind_name (name_at rest) rest;
+    })
 
 abbrev pub slots_left : Slots → ℕ
 slots_left slots = length slots.rest
@@ -120,12 +126,23 @@ pub record Signature : Type 0 where
   pub rest : List Spot
 
 abbrev pub signature_of : Slots → Signature
-signature_of slots = record { told = Some slots.count; count = slots.count; named = slots.named; rest = slots.rest }
+signature_of slots = record {
+  told = Some slots.count;
+  count = slots.count;
+  named = slots.named;
+  rest = slots.rest;
+}
 
 abbrev pub signature : List Spot → Result Signature ParseError
 signature spots =
-    if begins_with_keyword keywords.Void spots then Ok (record { told = Some 0; count = 0; named = []; rest = tail spots })
-    else (if begins_with_keyword keywords.Int spots then (slot_list spots >>= λ slots. Ok (signature_of slots))
+    if begins_with_keyword keywords.Void spots then Ok (record {
+      told = Some 0;
+      count = 0;
+      named = [];
+      rest = tail spots;
+    })
+    else (if begins_with_keyword keywords.Int spots
+    then (slot_list spots >>= λ slots. Ok (signature_of slots))
     else Ok (record { told = None; count = 0; named = []; rest = spots }))
 
 -- ---- procedures
@@ -140,7 +157,8 @@ pub record Head : Type 0 where
 -- a body, whose brace stands first
 abbrev pub body : ℕ → ℕ → Head → List Parameter → List Spot → ItemsRead
 body most levels head params spots =
-    deeper levels (place_at spots) >>= λ level. block most (line_read most level) level (tail spots) >>= λ read.
+    deeper levels (place_at spots) >>= λ level. block most (line_read most level) level (tail spots)
+    >>= λ read.
     Ok (Body head.name head.at head.returns params (lines_from read.0) read.1 ∷ [], read.2)
 
 -- a body may follow where all parameters have names and no `extern` stands in front
@@ -149,17 +167,20 @@ may_have_body head signature = not head.outside && nat_eq (length signature.name
 
 abbrev pub body_or : ℕ → ℕ → Head → Signature → List Spot → ItemsRead
 body_or most levels head signature spots =
-    if begins_with marks.OpenBrace spots && may_have_body head signature then body most levels head signature.named spots else Err (refused spots)
+    if begins_with marks.OpenBrace spots && may_have_body head signature
+    then body most levels head signature.named spots else Err (refused spots)
 
 abbrev pub behind_signature : ℕ → ℕ → Head → Signature → List Spot → ItemsRead
 behind_signature most levels head signature spots =
-    if begins_with marks.Semi spots then Ok (Proto head.name head.at head.returns signature.told ∷ [], tail spots)
+    if begins_with marks.Semi spots
+    then Ok (Proto head.name head.at head.returns signature.told ∷ [], tail spots)
     else body_or most levels head signature spots
 
 -- a prototype or a procedure, behind its opening bracket
 abbrev pub procedure : ℕ → ℕ → Head → List Spot → ItemsRead
 procedure most levels head spots =
-    signature spots >>= λ read. past marks.CloseRound read.rest >>= λ after. behind_signature most levels head read after
+    signature spots >>= λ read. past marks.CloseRound read.rest >>= λ after. behind_signature most
+    levels head read after
 
 -- ---- the text
 
@@ -167,20 +188,28 @@ procedure most levels head spots =
 abbrev pub behind_word : ℕ → ℕ → Bool → Bool → Word → ItemsRead
 behind_word most levels outside returns word =
     if begins_with marks.OpenRound word.rest
-    then procedure most levels (record { outside = outside; returns = returns; at = word.at; name = word.name }) (tail word.rest)
+    then procedure most levels (record {
+      outside = outside;
+      returns = returns;
+      at = word.at;
+      name = word.name;
+    }) (tail word.rest)
     else (if returns && not outside then globals word else Err (refused word.rest))
 
 abbrev pub behind_type : ℕ → ℕ → Bool → Bool → List Spot → ItemsRead
-behind_type most levels outside returns spots = word_at spots >>= λ word. behind_word most levels outside returns word
+behind_type most levels outside returns spots = word_at spots >>= λ word. behind_word most levels
+    outside returns word
 
 abbrev pub typed : ℕ → ℕ → Bool → List Spot → ItemsRead
 typed most levels outside spots =
     if begins_with_keyword keywords.Int spots then behind_type most levels outside true (tail spots)
-    else (if begins_with_keyword keywords.Void spots then behind_type most levels outside false (tail spots) else Err (refused spots))
+    else (if begins_with_keyword keywords.Void spots
+    then behind_type most levels outside false (tail spots) else Err (refused spots))
 
 abbrev pub declaration : ℕ → ℕ → List Spot → ItemsRead
 declaration most levels spots =
-    if begins_with_keyword keywords.Extern spots then typed most levels true (tail spots) else typed most levels false spots
+    if begins_with_keyword keywords.Extern spots then typed most levels true (tail spots)
+    else typed most levels false spots
 
 abbrev pub at_end : List Spot → Bool
 at_end [] = false
@@ -190,7 +219,8 @@ abbrev pub goes_on : List SourceItem × List Spot → Bool
 goes_on read = not (at_end read.1)
 
 abbrev pub one_declaration : ℕ → ℕ → List SourceItem × List Spot → ItemsRead
-one_declaration most levels read = declaration most levels read.1 >>= λ next. Ok (read.0 ++ next.0, next.1)
+one_declaration most levels read = declaration most levels read.1
+    >>= λ next. Ok (read.0 ++ next.0, next.1)
 
 -- the declarations up to the end
 abbrev pub text : ℕ → ℕ → List SourceItem × List Spot → ItemsRead

@@ -1,7 +1,8 @@
 use std::alloc::{AllocError, AllocFailed};
 use thiserror::Error;
 
-/// Why tokens have no tree, with the place of the token that cannot stand where it is, as an offset in bytes.
+/// Why tokens have no tree, with the place of the token that cannot stand where it is, as an offset
+/// in bytes.
 #[derive(Clone, Copy, Debug, PartialEq, Eq, Error)]
 pub enum ParseError {
     /// The grammar has another token here.

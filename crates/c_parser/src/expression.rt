@@ -41,7 +41,8 @@ pub(crate) fn copied(name: &Name) -> Result<Name, ParseError>
 /// An operand, with so many levels left.
 #[cycle(expression)]
 fn operand(alloc: Global, levels: usize, rest: Rest) -> Result<(Expr, Rest), ParseError>
-    ensures exact { Gives told (λ x. (source_expr_of x.0, rest_of x.1.tokens.now x.1.operators)) result (operand levels (rest_of rest.entry.tokens.now rest.entry.operators)) }
+    ensures exact { Gives told (λ x. (source_expr_of x.0, rest_of x.1.tokens.now x.1.operators))
+        result (operand levels (rest_of rest.entry.tokens.now rest.entry.operators)) }
     ensures shorter { IfOk result (λ x. length x.1.tokens.now < length rest.entry.tokens.now) }
 {
     match rest.tokens {
@@ -65,7 +66,10 @@ fn begun<'a>(
     refusal: ParseError,
     rest: Rest<'a>,
 ) -> Result<(Expr, Rest<'a>), ParseError>
-    ensures exact { refusal ≢ ParseError.Memory → Gives told (λ x. (source_expr_of x.0, rest_of x.1.tokens.now x.1.operators)) result (operand_by operand levels token.now.kind token.now.at refusal (rest_of rest.entry.tokens.now rest.entry.operators)) }
+    ensures exact { refusal ≢ ParseError.Memory
+        → Gives told (λ x. (source_expr_of x.0, rest_of x.1.tokens.now x.1.operators)) result
+        (operand_by operand levels token.now.kind token.now.at refusal
+        (rest_of rest.entry.tokens.now rest.entry.operators)) }
     ensures within { IfOk result (λ x. length x.1.tokens.now ≤ length rest.entry.tokens.now) }
 {
     let at = token.at;
@@ -78,8 +82,8 @@ fn begun<'a>(
     }
 }
 
-/// What begins with a mark, which stands in front of the rest: an operand in brackets or with a sign, or
-/// the refusal.
+/// What begins with a mark, which stands in front of the rest: an operand in brackets or with a
+/// sign, or the refusal.
 #[cycle(expression)]
 fn marked(
     alloc: Global,
@@ -89,7 +93,10 @@ fn marked(
     refusal: ParseError,
     rest: Rest,
 ) -> Result<(Expr, Rest), ParseError>
-    ensures exact { refusal ≢ ParseError.Memory → Gives told (λ x. (source_expr_of x.0, rest_of x.1.tokens.now x.1.operators)) result (marked_by operand levels at mark refusal (rest_of rest.entry.tokens.now rest.entry.operators)) }
+    ensures exact { refusal ≢ ParseError.Memory
+        → Gives told (λ x. (source_expr_of x.0, rest_of x.1.tokens.now x.1.operators)) result
+        (marked_by operand levels at mark refusal
+        (rest_of rest.entry.tokens.now rest.entry.operators)) }
     ensures shorter { IfOk result (λ x. length x.1.tokens.now < length rest.entry.tokens.now) }
 {
     if mark == Mark::OpenRound {
@@ -111,7 +118,9 @@ fn signed(
     sign: Sign,
     rest: Rest,
 ) -> Result<(Expr, Rest), ParseError>
-    ensures exact { Gives told (λ x. (source_expr_of x.0, rest_of x.1.tokens.now x.1.operators)) result (signed_by operand levels at sign (rest_of rest.entry.tokens.now rest.entry.operators)) }
+    ensures exact { Gives told (λ x. (source_expr_of x.0, rest_of x.1.tokens.now x.1.operators))
+        result (signed_by operand levels at sign
+        (rest_of rest.entry.tokens.now rest.entry.operators)) }
     ensures shorter { IfOk result (λ x. length x.1.tokens.now < length rest.entry.tokens.now) }
 {
     let level = deeper(levels, at)?;
@@ -123,7 +132,9 @@ fn signed(
 /// An expression in brackets, the first of which stands in front of the rest.
 #[cycle(expression)]
 fn bracketed(alloc: Global, levels: usize, at: u32, rest: Rest) -> Result<(Expr, Rest), ParseError>
-    ensures exact { Gives told (λ x. (source_expr_of x.0, rest_of x.1.tokens.now x.1.operators)) result (bracketed_by operand levels at (rest_of rest.entry.tokens.now rest.entry.operators)) }
+    ensures exact { Gives told (λ x. (source_expr_of x.0, rest_of x.1.tokens.now x.1.operators))
+        result (bracketed_by operand levels at
+        (rest_of rest.entry.tokens.now rest.entry.operators)) }
     ensures shorter { IfOk result (λ x. length x.1.tokens.now < length rest.entry.tokens.now) }
 {
     let level = deeper(levels, at)?;
@@ -141,7 +152,9 @@ fn named<'a>(
     name: &Name,
     rest: Rest<'a>,
 ) -> Result<(Expr, Rest<'a>), ParseError>
-    ensures exact { Gives told (λ x. (source_expr_of x.0, rest_of x.1.tokens.now x.1.operators)) result (named_by operand levels at name.now (rest_of rest.entry.tokens.now rest.entry.operators)) }
+    ensures exact { Gives told (λ x. (source_expr_of x.0, rest_of x.1.tokens.now x.1.operators))
+        result (named_by operand levels at name.now
+        (rest_of rest.entry.tokens.now rest.entry.operators)) }
     ensures within { IfOk result (λ x. length x.1.tokens.now ≤ length rest.entry.tokens.now) }
 {
     if begins_with(rest.tokens, Mark::OpenRound) {
@@ -160,7 +173,8 @@ fn call<'a>(
     name: &Name,
     rest: Rest<'a>,
 ) -> Result<(Expr, Rest<'a>), ParseError>
-    ensures exact { Gives told (λ x. (source_expr_of x.0, rest_of x.1.tokens.now x.1.operators)) result (call levels at name.now (rest_of rest.entry.tokens.now rest.entry.operators)) }
+    ensures exact { Gives told (λ x. (source_expr_of x.0, rest_of x.1.tokens.now x.1.operators))
+        result (call levels at name.now (rest_of rest.entry.tokens.now rest.entry.operators)) }
     ensures shorter { IfOk result (λ x. length x.1.tokens.now < length rest.entry.tokens.now) }
 {
     let level = deeper(levels, place_at(rest.tokens))?;
@@ -173,7 +187,9 @@ fn call<'a>(
 /// Expressions with commas between them, or none in front of a closing bracket.
 #[cycle(expression)]
 fn arguments(alloc: Global, level: usize, rest: Rest) -> Result<(Items<Expr>, Rest), ParseError>
-    ensures exact { Gives told (λ x. (map source_expr_of x.0, rest_of x.1.tokens.now x.1.operators)) result (arguments (joined (operand level) 6) (rest_of rest.entry.tokens.now rest.entry.operators)) }
+    ensures exact { Gives told (λ x. (map source_expr_of x.0, rest_of x.1.tokens.now x.1.operators))
+        result (arguments (joined (operand level) 6)
+        (rest_of rest.entry.tokens.now rest.entry.operators)) }
     ensures within { IfOk result (λ x. length x.1.tokens.now ≤ length rest.entry.tokens.now) }
 {
     let mut args = Items::new(alloc);
@@ -198,7 +214,8 @@ fn arguments(alloc: Global, level: usize, rest: Rest) -> Result<(Items<Expr>, Re
 #[cycle(expression)]
 #[tactic(auto, using(crate::proofs::Equations::joining))]
 fn joined(alloc: Global, ranks: usize, level: usize, rest: Rest) -> Result<(Expr, Rest), ParseError>
-    ensures exact { Gives told (λ x. (source_expr_of x.0, rest_of x.1.tokens.now x.1.operators)) result (joined (operand level) ranks (rest_of rest.entry.tokens.now rest.entry.operators)) }
+    ensures exact { Gives told (λ x. (source_expr_of x.0, rest_of x.1.tokens.now x.1.operators))
+        result (joined (operand level) ranks (rest_of rest.entry.tokens.now rest.entry.operators)) }
     ensures shorter { IfOk result (λ x. length x.1.tokens.now < length rest.entry.tokens.now) }
 {
     if ranks == 0 {
@@ -226,7 +243,9 @@ fn link(
     left: Expr,
     rest: Rest,
 ) -> Result<(Expr, Rest), ParseError>
-    ensures exact { Gives told (λ x. (source_expr_of x.0, rest_of x.1.tokens.now x.1.operators)) result (link (joined (operand level) rank) at op (source_expr_of left, rest_of rest.entry.tokens.now rest.entry.operators)) }
+    ensures exact { Gives told (λ x. (source_expr_of x.0, rest_of x.1.tokens.now x.1.operators))
+        result (link (joined (operand level) rank) at op
+        (source_expr_of left, rest_of rest.entry.tokens.now rest.entry.operators)) }
     ensures shorter { IfOk result (λ x. length x.1.tokens.now < length rest.entry.tokens.now) }
 {
     let left = Boxed::new(alloc, left)?;
@@ -242,7 +261,8 @@ pub(crate) fn whole(
     levels: usize,
     tokens: &[Token],
 ) -> Result<(Expr, &[Token]), ParseError>
-    ensures exact { Gives told (λ x. (source_expr_of x.0, spots_of x.1.now)) result (whole most_binary_operators levels (spots_of tokens.now)) }
+    ensures exact { Gives told (λ x. (source_expr_of x.0, spots_of x.1.now)) result
+        (whole most_binary_operators levels (spots_of tokens.now)) }
     ensures shorter { IfOk result (λ x. length x.1.now < length tokens.now) }
 {
     let rest = Rest {
@@ -261,7 +281,8 @@ pub(crate) fn whole_call<'a>(
     name: &Name,
     tokens: &'a [Token],
 ) -> Result<(Expr, &'a [Token]), ParseError>
-    ensures exact { Gives told (λ x. (source_expr_of x.0, spots_of x.1.now)) result (whole_call most_binary_operators levels at name.now (spots_of tokens.now)) }
+    ensures exact { Gives told (λ x. (source_expr_of x.0, spots_of x.1.now)) result
+        (whole_call most_binary_operators levels at name.now (spots_of tokens.now)) }
     ensures shorter { IfOk result (λ x. length x.1.now < length tokens.now) }
 {
     let rest = Rest {

@@ -21,7 +21,8 @@ use syntax_tree::{Item, Name, Param};
 /// The number that has to stand first.
 #[tactic(auto, using(crate::proofs::FirstTokens::refused_no_memory))]
 fn number_at(tokens: &[Token]) -> Result<(i128, &[Token]), ParseError>
-    ensures exact { Gives told (λ x. (x.0, spots_of x.1.now)) result (number_at (spots_of tokens.now)) }
+    ensures exact { Gives told (λ x. (x.0, spots_of x.1.now)) result
+        (number_at (spots_of tokens.now)) }
     ensures shorter { IfOk result (λ x. length x.1.now < length tokens.now) }
     ensures memory { IfErr result (λ e. e ≢ ParseError.Memory) }
 {
@@ -37,7 +38,8 @@ fn number_at(tokens: &[Token]) -> Result<(i128, &[Token]), ParseError>
 /// The opposite of the number that has to stand first, which has no sign of its own.
 #[tactic(auto, using(crate::proofs::FirstTokens::refused_no_memory))]
 fn negative_at(tokens: &[Token]) -> Result<(i128, &[Token]), ParseError>
-    ensures exact { Gives told (λ x. (x.0, spots_of x.1.now)) result (negative_at (spots_of tokens.now)) }
+    ensures exact { Gives told (λ x. (x.0, spots_of x.1.now)) result
+        (negative_at (spots_of tokens.now)) }
     ensures shorter { IfOk result (λ x. length x.1.now < length tokens.now) }
     ensures memory { IfErr result (λ e. e ≢ ParseError.Memory) }
 {
@@ -51,7 +53,8 @@ fn negative_at(tokens: &[Token]) -> Result<(i128, &[Token]), ParseError>
 
 /// A number, with a minus or without.
 fn constant(tokens: &[Token]) -> Result<(i128, &[Token]), ParseError>
-    ensures exact { Gives told (λ x. (x.0, spots_of x.1.now)) result (constant (spots_of tokens.now)) }
+    ensures exact { Gives told (λ x. (x.0, spots_of x.1.now)) result
+        (constant (spots_of tokens.now)) }
     ensures within { IfOk result (λ x. length x.1.now ≤ length tokens.now) }
     ensures memory { IfErr result (λ e. e ≢ ParseError.Memory) }
 {
@@ -64,7 +67,8 @@ fn constant(tokens: &[Token]) -> Result<(i128, &[Token]), ParseError>
 
 /// The number that a global begins with: 0 where none is told.
 fn initial(tokens: &[Token]) -> Result<(i128, &[Token]), ParseError>
-    ensures exact { Gives told (λ x. (x.0, spots_of x.1.now)) result (initial (spots_of tokens.now)) }
+    ensures exact { Gives told (λ x. (x.0, spots_of x.1.now)) result
+        (initial (spots_of tokens.now)) }
     ensures within { IfOk result (λ x. length x.1.now ≤ length tokens.now) }
     ensures memory { IfErr result (λ e. e ≢ ParseError.Memory) }
 {
@@ -77,7 +81,9 @@ fn initial(tokens: &[Token]) -> Result<(i128, &[Token]), ParseError>
 
 /// A global, whose name is read.
 fn shared(word: Word) -> Result<(Item, &[Token]), ParseError>
-    ensures exact { Gives told (λ x. (source_item_of x.0, spots_of x.1.now)) result (shared (record { at = word.entry.at; name = word.entry.name.now; rest = spots_of word.entry.rest.now })) }
+    ensures exact { Gives told (λ x. (source_item_of x.0, spots_of x.1.now)) result
+        (shared (record
+        { at = word.entry.at; name = word.entry.name.now; rest = spots_of word.entry.rest.now })) }
     ensures within { IfOk result (λ x. length x.1.now ≤ length word.entry.rest.now) }
 {
     let (init, after) = initial(word.rest)?;
@@ -88,7 +94,8 @@ fn shared(word: Word) -> Result<(Item, &[Token]), ParseError>
 
 /// A global.
 fn next_shared(tokens: &[Token]) -> Result<(Item, &[Token]), ParseError>
-    ensures exact { Gives told (λ x. (source_item_of x.0, spots_of x.1.now)) result (next_shared (spots_of tokens.now)) }
+    ensures exact { Gives told (λ x. (source_item_of x.0, spots_of x.1.now)) result
+        (next_shared (spots_of tokens.now)) }
     ensures shorter { IfOk result (λ x. length x.1.now < length tokens.now) }
 {
     let word = word_at(tokens)?;
@@ -100,7 +107,8 @@ fn shared_list<'a>(
     first: Items<Item>,
     tokens: &'a [Token],
 ) -> Result<(Items<Item>, &'a [Token]), ParseError>
-    ensures exact { Gives told (λ x. (map source_item_of x.0, spots_of x.1.now)) result (shared_list (map source_item_of first, spots_of tokens.now)) }
+    ensures exact { Gives told (λ x. (map source_item_of x.0, spots_of x.1.now)) result
+        (shared_list (map source_item_of first, spots_of tokens.now)) }
     ensures within { IfOk result (λ x. length x.1.now ≤ length tokens.now) }
 {
     let mut items = first;
@@ -124,7 +132,9 @@ fn single(alloc: Global, item: Item) -> Result<Items<Item>, ParseError>
 
 /// Globals, of which the first name is read, and their semicolon.
 fn globals<'a>(alloc: Global, word: Word<'a>) -> Result<(Items<Item>, &'a [Token]), ParseError>
-    ensures exact { Gives told (λ x. (map source_item_of x.0, spots_of x.1.now)) result (globals (record { at = word.entry.at; name = word.entry.name.now; rest = spots_of word.entry.rest.now })) }
+    ensures exact { Gives told (λ x. (map source_item_of x.0, spots_of x.1.now)) result
+        (globals (record
+        { at = word.entry.at; name = word.entry.name.now; rest = spots_of word.entry.rest.now })) }
     ensures shorter { IfOk result (λ x. length x.1.now < length word.entry.rest.now) }
 {
     let (first, after) = shared(word)?;
@@ -133,7 +143,8 @@ fn globals<'a>(alloc: Global, word: Word<'a>) -> Result<(Items<Item>, &'a [Token
     Ok((items, after))
 }
 
-/// How many parameters there are so far, those of them that have names, and what is left behind them.
+/// How many parameters there are so far, those of them that have names, and what is left behind
+/// them.
 #[derive(Drop)]
 struct Slots<'a> {
     count: u32,
@@ -153,7 +164,19 @@ fn push_parameter(named: &mut Items<Param>, name: &Name, at: u32) -> Result<(), 
 
 /// One parameter more. A number of parameters past 32 bits is want of memory.
 fn slot<'a>(slots: Slots<'a>, tokens: &'a [Token]) -> Result<Slots<'a>, ParseError>
-    ensures exact { Gives told (λ x. record { count = x.count; named = map parameter_of x.named; rest = spots_of x.rest.now }) result (slot (record { count = slots.entry.count; named = map parameter_of slots.entry.named; rest = spots_of slots.entry.rest.now }) (spots_of tokens.now)) }
+    ensures exact { Gives told
+        (λ x. record {
+          count = x.count;
+          named = map parameter_of x.named;
+          rest = spots_of
+              x.rest.now;
+        }) result
+        (slot (record {
+          count = slots.entry.count;
+          named = map parameter_of slots.entry.named;
+          rest = spots_of
+              slots.entry.rest.now;
+        }) (spots_of tokens.now)) }
     ensures shorter { IfOk result (λ x. length x.rest.now < length tokens.now) }
 {
     let rest = past_keyword(tokens, Keyword::Int)?;
@@ -181,7 +204,19 @@ fn slot<'a>(slots: Slots<'a>, tokens: &'a [Token]) -> Result<Slots<'a>, ParseErr
 
 /// The parameters that go on behind these, each with its comma in front.
 fn more_slots(first: Slots) -> Result<Slots, ParseError>
-    ensures exact { Gives told (λ x. record { count = x.count; named = map parameter_of x.named; rest = spots_of x.rest.now }) result (more_slots (record { count = first.entry.count; named = map parameter_of first.entry.named; rest = spots_of first.entry.rest.now })) }
+    ensures exact { Gives told
+        (λ x. record {
+          count = x.count;
+          named = map parameter_of x.named;
+          rest = spots_of
+              x.rest.now;
+        }) result
+        (more_slots (record {
+          count = first.entry.count;
+          named = map parameter_of first.entry.named;
+          rest = spots_of
+              first.entry.rest.now;
+        })) }
     ensures within { IfOk result (λ x. length x.rest.now ≤ length first.entry.rest.now) }
 {
     let mut slots = first;
@@ -194,7 +229,13 @@ fn more_slots(first: Slots) -> Result<Slots, ParseError>
 
 /// Parameters with commas between them.
 fn slot_list(alloc: Global, tokens: &[Token]) -> Result<Slots, ParseError>
-    ensures exact { Gives told (λ x. record { count = x.count; named = map parameter_of x.named; rest = spots_of x.rest.now }) result (slot_list (spots_of tokens.now)) }
+    ensures exact { Gives told
+        (λ x. record {
+          count = x.count;
+          named = map parameter_of x.named;
+          rest = spots_of
+              x.rest.now;
+        }) result (slot_list (spots_of tokens.now)) }
     ensures shorter { IfOk result (λ x. length x.rest.now < length tokens.now) }
 {
     let none = Slots {
@@ -206,8 +247,8 @@ fn slot_list(alloc: Global, tokens: &[Token]) -> Result<Slots, ParseError>
     more_slots(first)
 }
 
-/// What stands in the brackets of a procedure: how many parameters are told, how many there are, those that have
-/// names, and what is left.
+/// What stands in the brackets of a procedure: how many parameters are told, how many there are,
+/// those that have names, and what is left.
 #[derive(Drop)]
 struct Signature<'a> {
     told: Option<u32>,
@@ -218,7 +259,13 @@ struct Signature<'a> {
 
 /// The parameters in the brackets of a procedure.
 fn signature_at(alloc: Global, tokens: &[Token]) -> Result<Signature, ParseError>
-    ensures exact { Gives told (λ x. record { told = x.told; count = x.count; named = map parameter_of x.named; rest = spots_of x.rest.now }) result (signature (spots_of tokens.now)) }
+    ensures exact { Gives told
+        (λ x. record {
+          told = x.told;
+          count = x.count;
+          named = map parameter_of x.named;
+          rest = spots_of x.rest.now;
+        }) result (signature (spots_of tokens.now)) }
     ensures within { IfOk result (λ x. length x.rest.now ≤ length tokens.now) }
 {
     if begins_with_keyword(tokens, Keyword::Void) {
@@ -265,7 +312,10 @@ fn body<'a>(
     tokens: &'a [Token],
 ) -> Result<(Items<Item>, &'a [Token]), ParseError>
     requires { 0 < length tokens.now }
-    ensures exact { Gives told (λ x. (map source_item_of x.0, spots_of x.1.now)) result (body most_binary_operators levels (record { outside = head.outside; returns = head.returns; at = head.at; name = head.name }) (map parameter_of params) (spots_of tokens.now)) }
+    ensures exact { Gives told (λ x. (map source_item_of x.0, spots_of x.1.now)) result
+        (body most_binary_operators levels
+        (record { outside = head.outside; returns = head.returns; at = head.at; name = head.name })
+        (map parameter_of params) (spots_of tokens.now)) }
     ensures shorter { IfOk result (λ x. length x.1.now < length tokens.now) }
 {
     let level = deeper(levels, place_at(tokens))?;
@@ -295,8 +345,17 @@ fn behind_signature<'a>(
     signature: Signature,
     tokens: &'a [Token],
 ) -> Result<(Items<Item>, &'a [Token]), ParseError>
-    ensures exact { Gives told (λ x. (map source_item_of x.0, spots_of x.1.now)) result (behind_signature most_binary_operators levels (record { outside = head.outside; returns = head.returns; at = head.at; name = head.name })
-        (record { told = signature.entry.told; count = signature.entry.count; named = map parameter_of signature.entry.named; rest = spots_of signature.entry.rest.now }) (spots_of tokens.now)) }
+    ensures exact { Gives told (λ x. (map source_item_of x.0, spots_of x.1.now)) result
+        (behind_signature most_binary_operators levels
+        (record { outside = head.outside; returns = head.returns; at = head.at; name = head.name })
+        (record {
+          told = signature.entry.told;
+          count = signature.entry.count;
+          named = map
+              parameter_of signature.entry.named;
+          rest = spots_of signature.entry.rest.now;
+        })
+        (spots_of tokens.now)) }
     ensures shorter { IfOk result (λ x. length x.1.now < length tokens.now) }
 {
     let Signature {
@@ -334,7 +393,10 @@ fn procedure(
     head: Head,
     tokens: &[Token],
 ) -> Result<(Items<Item>, &[Token]), ParseError>
-    ensures exact { Gives told (λ x. (map source_item_of x.0, spots_of x.1.now)) result (procedure most_binary_operators levels (record { outside = head.outside; returns = head.returns; at = head.at; name = head.name }) (spots_of tokens.now)) }
+    ensures exact { Gives told (λ x. (map source_item_of x.0, spots_of x.1.now)) result
+        (procedure most_binary_operators levels
+        (record { outside = head.outside; returns = head.returns; at = head.at; name = head.name })
+        (spots_of tokens.now)) }
     ensures shorter { IfOk result (λ x. length x.1.now < length tokens.now) }
 {
     let signature = signature_at(alloc, tokens)?;
@@ -350,7 +412,14 @@ fn behind_word<'a>(
     returns: bool,
     word: Word<'a>,
 ) -> Result<(Items<Item>, &'a [Token]), ParseError>
-    ensures exact { Gives told (λ x. (map source_item_of x.0, spots_of x.1.now)) result (behind_word most_binary_operators levels outside returns (record { at = word.entry.at; name = word.entry.name.now; rest = spots_of word.entry.rest.now })) }
+    ensures exact { Gives told (λ x. (map source_item_of x.0, spots_of x.1.now)) result
+        (behind_word most_binary_operators levels outside returns
+        (record {
+          at = word.entry.at;
+          name = word.entry.name.now;
+          rest = spots_of
+              word.entry.rest.now;
+        })) }
     ensures shorter { IfOk result (λ x. length x.1.now < length word.entry.rest.now) }
 {
     if begins_with(word.rest, Mark::OpenRound) {
@@ -377,7 +446,8 @@ fn behind_type(
     returns: bool,
     tokens: &[Token],
 ) -> Result<(Items<Item>, &[Token]), ParseError>
-    ensures exact { Gives told (λ x. (map source_item_of x.0, spots_of x.1.now)) result (behind_type most_binary_operators levels outside returns (spots_of tokens.now)) }
+    ensures exact { Gives told (λ x. (map source_item_of x.0, spots_of x.1.now)) result
+        (behind_type most_binary_operators levels outside returns (spots_of tokens.now)) }
     ensures shorter { IfOk result (λ x. length x.1.now < length tokens.now) }
 {
     let word = word_at(tokens)?;
@@ -391,7 +461,8 @@ fn typed(
     outside: bool,
     tokens: &[Token],
 ) -> Result<(Items<Item>, &[Token]), ParseError>
-    ensures exact { Gives told (λ x. (map source_item_of x.0, spots_of x.1.now)) result (typed most_binary_operators levels outside (spots_of tokens.now)) }
+    ensures exact { Gives told (λ x. (map source_item_of x.0, spots_of x.1.now)) result
+        (typed most_binary_operators levels outside (spots_of tokens.now)) }
     ensures shorter { IfOk result (λ x. length x.1.now < length tokens.now) }
 {
     if begins_with_keyword(tokens, Keyword::Int) {
@@ -410,7 +481,8 @@ fn declaration(
     levels: usize,
     tokens: &[Token],
 ) -> Result<(Items<Item>, &[Token]), ParseError>
-    ensures exact { Gives told (λ x. (map source_item_of x.0, spots_of x.1.now)) result (declaration most_binary_operators levels (spots_of tokens.now)) }
+    ensures exact { Gives told (λ x. (map source_item_of x.0, spots_of x.1.now)) result
+        (declaration most_binary_operators levels (spots_of tokens.now)) }
     ensures shorter { IfOk result (λ x. length x.1.now < length tokens.now) }
 {
     if begins_with_keyword(tokens, Keyword::Extern) {
@@ -438,7 +510,8 @@ pub(crate) fn text(
     levels: usize,
     tokens: &[Token],
 ) -> Result<(Items<Item>, &[Token]), ParseError>
-    ensures { Gives told (λ x. (map source_item_of x.0, spots_of x.1.now)) result (text most_binary_operators levels ([], spots_of tokens.now)) }
+    ensures { Gives told (λ x. (map source_item_of x.0, spots_of x.1.now)) result
+        (text most_binary_operators levels ([], spots_of tokens.now)) }
 {
     let mut items = Items::new(alloc);
     let mut after = tokens;

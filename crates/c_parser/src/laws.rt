@@ -25,8 +25,8 @@ pub fn lexed_ends_once()
     ensures { LexedEndsOnce }
 {}
 
-/// Each whole expression of a tree has fewer operators than there are tokens: signs, calls' arguments and the operators of
-/// `+=` and `++` are counted.
+/// Each whole expression of a tree has fewer operators than there are tokens: signs, calls'
+/// arguments and the operators of `+=` and `++` are counted.
 pub fn readings_are_short()
     ensures { ReadingsAreShort }
 {}

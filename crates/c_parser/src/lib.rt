@@ -1,5 +1,6 @@
-//! From the tokens of a text to its tree, by the grammar of a part of C (C11 6.5 to 6.9). `specs` has the grammar:
-//! `Expressions`, `Lines` and `Declarations` say what is derived, `Reads` which tree tokens read as.
+//! From the tokens of a text to its tree, by the grammar of a part of C (C11 6.5 to 6.9). `specs`
+//! has the grammar: `Expressions`, `Lines` and `Declarations` say what is derived, `Reads` which
+//! tree tokens read as.
 #![tactic(auto)]
 
 mod ends;

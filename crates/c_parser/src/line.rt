@@ -30,7 +30,8 @@ fn line(
     levels: usize,
     tokens: &[Token],
 ) -> Result<(Items<Line>, &[Token]), ParseError>
-    ensures exact { Gives told (λ x. (map source_line_of x.0, spots_of x.1.now)) result (line_read most_binary_operators levels (spots_of tokens.now)) }
+    ensures exact { Gives told (λ x. (map source_line_of x.0, spots_of x.1.now)) result
+        (line_read most_binary_operators levels (spots_of tokens.now)) }
     ensures shorter { IfOk result (λ x. length x.1.now < length tokens.now) }
 {
     if begins_with(tokens, Mark::OpenBrace) {
@@ -54,7 +55,10 @@ fn keyword_line(
     tokens: &[Token],
 ) -> Result<(Items<Line>, &[Token]), ParseError>
     requires { 0 < length tokens.now }
-    ensures exact { Gives told (λ x. (map source_line_of x.0, spots_of x.1.now)) result (keyword_by most_binary_operators (line_read most_binary_operators) levels keyword (place_at (spots_of tokens.now)) (tail (spots_of tokens.now)) (refused (spots_of tokens.now))) }
+    ensures exact { Gives told (λ x. (map source_line_of x.0, spots_of x.1.now)) result
+        (keyword_by most_binary_operators (line_read most_binary_operators) levels keyword
+        (place_at (spots_of tokens.now)) (tail (spots_of tokens.now))
+        (refused (spots_of tokens.now))) }
     ensures shorter { IfOk result (λ x. length x.1.now < length tokens.now) }
 {
     let at = place_at(tokens);
@@ -79,7 +83,9 @@ fn block_line(
     at: u32,
     tokens: &[Token],
 ) -> Result<(Items<Line>, &[Token]), ParseError>
-    ensures exact { Gives told (λ x. (map source_line_of x.0, spots_of x.1.now)) result (block_by most_binary_operators (line_read most_binary_operators) levels at (spots_of tokens.now)) }
+    ensures exact { Gives told (λ x. (map source_line_of x.0, spots_of x.1.now)) result
+        (block_by most_binary_operators (line_read most_binary_operators) levels at
+        (spots_of tokens.now)) }
     ensures shorter { IfOk result (λ x. length x.1.now < length tokens.now) }
 {
     let level = deeper(levels, at)?;
@@ -87,14 +93,17 @@ fn block_line(
     Ok((single(alloc, Line::Block(lines))?, after))
 }
 
-/// What stands behind an opening brace: the lines, the place of the closing brace, and what is behind it.
+/// What stands behind an opening brace: the lines, the place of the closing brace, and what is
+/// behind it.
 #[cycle(line)]
 pub(crate) fn block(
     alloc: Global,
     level: usize,
     tokens: &[Token],
 ) -> Result<(Items<Line>, u32, &[Token]), ParseError>
-    ensures exact { Gives told (λ x. (map source_line_of x.0, x.1, spots_of x.2.now)) result (block most_binary_operators (line_read most_binary_operators level) level (spots_of tokens.now)) }
+    ensures exact { Gives told (λ x. (map source_line_of x.0, x.1, spots_of x.2.now)) result
+        (block most_binary_operators (line_read most_binary_operators level) level
+        (spots_of tokens.now)) }
     ensures shorter { IfOk result (λ x. length x.2.now < length tokens.now) }
 {
     let (lines, closing) = entries(alloc, level, tokens)?;
@@ -109,7 +118,9 @@ fn entries(
     level: usize,
     tokens: &[Token],
 ) -> Result<(Items<Line>, &[Token]), ParseError>
-    ensures exact { Gives told (λ x. (map source_line_of x.0, spots_of x.1.now)) result (entries most_binary_operators (line_read most_binary_operators level) level ([], spots_of tokens.now)) }
+    ensures exact { Gives told (λ x. (map source_line_of x.0, spots_of x.1.now)) result
+        (entries most_binary_operators (line_read most_binary_operators level) level
+        ([], spots_of tokens.now)) }
     ensures within { IfOk result (λ x. length x.1.now ≤ length tokens.now) }
 {
     let mut lines = Items::new(alloc);
@@ -129,7 +140,9 @@ fn entry(
     level: usize,
     tokens: &[Token],
 ) -> Result<(Items<Line>, &[Token]), ParseError>
-    ensures exact { Gives told (λ x. (map source_line_of x.0, spots_of x.1.now)) result (entry most_binary_operators (line_read most_binary_operators level) level (spots_of tokens.now)) }
+    ensures exact { Gives told (λ x. (map source_line_of x.0, spots_of x.1.now)) result
+        (entry most_binary_operators (line_read most_binary_operators level) level
+        (spots_of tokens.now)) }
     ensures shorter { IfOk result (λ x. length x.1.now < length tokens.now) }
 {
     if begins_with_keyword(tokens, Keyword::Int) {
@@ -147,7 +160,9 @@ fn if_line(
     at: u32,
     tokens: &[Token],
 ) -> Result<(Items<Line>, &[Token]), ParseError>
-    ensures exact { Gives told (λ x. (map source_line_of x.0, spots_of x.1.now)) result (if_by most_binary_operators (line_read most_binary_operators) levels at (spots_of tokens.now)) }
+    ensures exact { Gives told (λ x. (map source_line_of x.0, spots_of x.1.now)) result
+        (if_by most_binary_operators (line_read most_binary_operators) levels at
+        (spots_of tokens.now)) }
     ensures shorter { IfOk result (λ x. length x.1.now < length tokens.now) }
 {
     let level = deeper(levels, at)?;
@@ -164,7 +179,8 @@ fn otherwise(
     level: usize,
     tokens: &[Token],
 ) -> Result<(Items<Line>, &[Token]), ParseError>
-    ensures exact { Gives told (λ x. (map source_line_of x.0, spots_of x.1.now)) result (otherwise (line_read most_binary_operators level) (spots_of tokens.now)) }
+    ensures exact { Gives told (λ x. (map source_line_of x.0, spots_of x.1.now)) result
+        (otherwise (line_read most_binary_operators level) (spots_of tokens.now)) }
     ensures within { IfOk result (λ x. length x.1.now ≤ length tokens.now) }
 {
     if begins_with_keyword(tokens, Keyword::Else) {
@@ -183,7 +199,9 @@ fn loop_line(
     body: Items<Line>,
     first: bool,
 ) -> Result<Items<Line>, ParseError>
-    ensures { Gives told (λ x. map source_line_of x) result (Ok (Loop (lines_from (map source_line_of init)) (source_expr_of cond) (lines_from (map source_line_of step)) (lines_from (map source_line_of body)) first ∷ [])) }
+    ensures { Gives told (λ x. map source_line_of x) result
+        (Ok (Loop (lines_from (map source_line_of init)) (source_expr_of cond)
+        (lines_from (map source_line_of step)) (lines_from (map source_line_of body)) first ∷ [])) }
 {
     let made = Line::Loop {
         init,
@@ -203,7 +221,9 @@ fn while_line(
     at: u32,
     tokens: &[Token],
 ) -> Result<(Items<Line>, &[Token]), ParseError>
-    ensures exact { Gives told (λ x. (map source_line_of x.0, spots_of x.1.now)) result (while_by most_binary_operators (line_read most_binary_operators) levels at (spots_of tokens.now)) }
+    ensures exact { Gives told (λ x. (map source_line_of x.0, spots_of x.1.now)) result
+        (while_by most_binary_operators (line_read most_binary_operators) levels at
+        (spots_of tokens.now)) }
     ensures shorter { IfOk result (λ x. length x.1.now < length tokens.now) }
 {
     let level = deeper(levels, at)?;
@@ -222,7 +242,9 @@ fn do_line(
     at: u32,
     tokens: &[Token],
 ) -> Result<(Items<Line>, &[Token]), ParseError>
-    ensures exact { Gives told (λ x. (map source_line_of x.0, spots_of x.1.now)) result (do_by most_binary_operators (line_read most_binary_operators) levels at (spots_of tokens.now)) }
+    ensures exact { Gives told (λ x. (map source_line_of x.0, spots_of x.1.now)) result
+        (do_by most_binary_operators (line_read most_binary_operators) levels at
+        (spots_of tokens.now)) }
     ensures shorter { IfOk result (λ x. length x.1.now < length tokens.now) }
 {
     let level = deeper(levels, at)?;
@@ -243,7 +265,9 @@ fn for_line(
     at: u32,
     tokens: &[Token],
 ) -> Result<(Items<Line>, &[Token]), ParseError>
-    ensures exact { Gives told (λ x. (map source_line_of x.0, spots_of x.1.now)) result (for_parts most_binary_operators (line_read most_binary_operators) levels at (spots_of tokens.now)) }
+    ensures exact { Gives told (λ x. (map source_line_of x.0, spots_of x.1.now)) result
+        (for_parts most_binary_operators (line_read most_binary_operators) levels at
+        (spots_of tokens.now)) }
     ensures shorter { IfOk result (λ x. length x.1.now < length tokens.now) }
 {
     let level = deeper(levels, at)?;
@@ -260,7 +284,8 @@ fn for_begin(
     level: usize,
     tokens: &[Token],
 ) -> Result<(Items<Line>, &[Token]), ParseError>
-    ensures exact { Gives told (λ x. (map source_line_of x.0, spots_of x.1.now)) result (for_begin most_binary_operators level (spots_of tokens.now)) }
+    ensures exact { Gives told (λ x. (map source_line_of x.0, spots_of x.1.now)) result
+        (for_begin most_binary_operators level (spots_of tokens.now)) }
     ensures shorter { IfOk result (λ x. length x.1.now < length tokens.now) }
 {
     let inside = past(tokens, Mark::OpenRound)?;
@@ -273,7 +298,8 @@ fn for_end(
     level: usize,
     tokens: &[Token],
 ) -> Result<(Items<Line>, &[Token]), ParseError>
-    ensures exact { Gives told (λ x. (map source_line_of x.0, spots_of x.1.now)) result (for_end most_binary_operators level (spots_of tokens.now)) }
+    ensures exact { Gives told (λ x. (map source_line_of x.0, spots_of x.1.now)) result
+        (for_end most_binary_operators level (spots_of tokens.now)) }
     ensures shorter { IfOk result (λ x. length x.1.now < length tokens.now) }
 {
     let after = past(tokens, Mark::Semi)?;
@@ -288,7 +314,8 @@ fn init(
     level: usize,
     tokens: &[Token],
 ) -> Result<(Items<Line>, &[Token]), ParseError>
-    ensures exact { Gives told (λ x. (map source_line_of x.0, spots_of x.1.now)) result (init most_binary_operators level (spots_of tokens.now)) }
+    ensures exact { Gives told (λ x. (map source_line_of x.0, spots_of x.1.now)) result
+        (init most_binary_operators level (spots_of tokens.now)) }
     ensures within { IfOk result (λ x. length x.1.now ≤ length tokens.now) }
 {
     if begins_with_keyword(tokens, Keyword::Int) {
@@ -307,7 +334,8 @@ fn for_condition(
     level: usize,
     tokens: &[Token],
 ) -> Result<(Expr, &[Token]), ParseError>
-    ensures exact { Gives told (λ x. (source_expr_of x.0, spots_of x.1.now)) result (for_condition most_binary_operators level (spots_of tokens.now)) }
+    ensures exact { Gives told (λ x. (source_expr_of x.0, spots_of x.1.now)) result
+        (for_condition most_binary_operators level (spots_of tokens.now)) }
     ensures within { IfOk result (λ x. length x.1.now ≤ length tokens.now) }
 {
     if begins_with(tokens, Mark::Semi) {
@@ -323,7 +351,8 @@ fn for_step(
     level: usize,
     tokens: &[Token],
 ) -> Result<(Items<Line>, &[Token]), ParseError>
-    ensures exact { Gives told (λ x. (map source_line_of x.0, spots_of x.1.now)) result (for_step most_binary_operators level (spots_of tokens.now)) }
+    ensures exact { Gives told (λ x. (map source_line_of x.0, spots_of x.1.now)) result
+        (for_step most_binary_operators level (spots_of tokens.now)) }
     ensures within { IfOk result (λ x. length x.1.now ≤ length tokens.now) }
 {
     if begins_with(tokens, Mark::CloseRound) {
@@ -335,7 +364,8 @@ fn for_step(
 
 /// An expression in brackets.
 fn condition(alloc: Global, level: usize, tokens: &[Token]) -> Result<(Expr, &[Token]), ParseError>
-    ensures exact { Gives told (λ x. (source_expr_of x.0, spots_of x.1.now)) result (condition most_binary_operators level (spots_of tokens.now)) }
+    ensures exact { Gives told (λ x. (source_expr_of x.0, spots_of x.1.now)) result
+        (condition most_binary_operators level (spots_of tokens.now)) }
     ensures shorter { IfOk result (λ x. length x.1.now < length tokens.now) }
 {
     let inside = past(tokens, Mark::OpenRound)?;
@@ -350,7 +380,8 @@ fn simple_line(
     levels: usize,
     tokens: &[Token],
 ) -> Result<(Items<Line>, &[Token]), ParseError>
-    ensures exact { Gives told (λ x. (map source_line_of x.0, spots_of x.1.now)) result (simple_line most_binary_operators levels (spots_of tokens.now)) }
+    ensures exact { Gives told (λ x. (map source_line_of x.0, spots_of x.1.now)) result
+        (simple_line most_binary_operators levels (spots_of tokens.now)) }
     ensures shorter { IfOk result (λ x. length x.1.now < length tokens.now) }
 {
     let (line, after) = simple(alloc, levels, tokens)?;
@@ -365,7 +396,8 @@ fn single_line(
     line: Line,
     tokens: &[Token],
 ) -> Result<(Items<Line>, &[Token]), ParseError>
-    ensures exact { Gives told (λ x. (map source_line_of x.0, spots_of x.1.now)) result (single_by (source_line_of line) (spots_of tokens.now)) }
+    ensures exact { Gives told (λ x. (map source_line_of x.0, spots_of x.1.now)) result
+        (single_by (source_line_of line) (spots_of tokens.now)) }
     ensures shorter { IfOk result (λ x. length x.1.now < length tokens.now) }
 {
     let lines = single(alloc, line)?;
@@ -379,7 +411,8 @@ fn returned(
     levels: usize,
     tokens: &[Token],
 ) -> Result<(Option<Expr>, &[Token]), ParseError>
-    ensures exact { Gives told (λ x. (option_map source_expr_of x.0, spots_of x.1.now)) result (returned most_binary_operators levels (spots_of tokens.now)) }
+    ensures exact { Gives told (λ x. (option_map source_expr_of x.0, spots_of x.1.now)) result
+        (returned most_binary_operators levels (spots_of tokens.now)) }
     ensures within { IfOk result (λ x. length x.1.now ≤ length tokens.now) }
 {
     if begins_with(tokens, Mark::Semi) {
@@ -396,7 +429,8 @@ fn return_line(
     at: u32,
     tokens: &[Token],
 ) -> Result<(Items<Line>, &[Token]), ParseError>
-    ensures exact { Gives told (λ x. (map source_line_of x.0, spots_of x.1.now)) result (return_by most_binary_operators levels at (spots_of tokens.now)) }
+    ensures exact { Gives told (λ x. (map source_line_of x.0, spots_of x.1.now)) result
+        (return_by most_binary_operators levels at (spots_of tokens.now)) }
     ensures shorter { IfOk result (λ x. length x.1.now < length tokens.now) }
 {
     let (value, after) = returned(alloc, levels, tokens)?;

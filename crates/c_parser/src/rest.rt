@@ -28,7 +28,8 @@ pub(crate) fn tail(tokens: &[Token]) -> &[Token]
 
 /// What is left behind a mark that has to stand first.
 pub(crate) fn behind(rest: Rest, mark: Mark) -> Result<Rest, ParseError>
-    ensures exact { Gives told (λ x. rest_of x.tokens.now x.operators) result (behind mark (rest_of rest.entry.tokens.now rest.entry.operators)) }
+    ensures exact { Gives told (λ x. rest_of x.tokens.now x.operators) result
+        (behind mark (rest_of rest.entry.tokens.now rest.entry.operators)) }
     ensures shorter { IfOk result (λ x. length x.tokens.now < length rest.entry.tokens.now) }
     ensures memory { IfErr result (λ e. e ≢ ParseError.Memory) }
 {
@@ -54,7 +55,8 @@ pub(crate) fn deeper(levels: usize, at: u32) -> Result<usize, ParseError>
 
 /// One operator less, behind the operator that stands first.
 pub(crate) fn spend(rest: Rest) -> Result<Rest, ParseError>
-    ensures exact { Gives told (λ x. rest_of x.tokens.now x.operators) result (spend (rest_of rest.entry.tokens.now rest.entry.operators)) }
+    ensures exact { Gives told (λ x. rest_of x.tokens.now x.operators) result
+        (spend (rest_of rest.entry.tokens.now rest.entry.operators)) }
     ensures within { IfOk result (λ x. length x.tokens.now ≤ length rest.entry.tokens.now) }
     ensures memory { IfErr result (λ e. e ≢ ParseError.Memory) }
 {

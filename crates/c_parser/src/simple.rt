@@ -20,7 +20,8 @@ use syntax_tree::{Expr, Line, Name, Op};
 
 /// `name = name op value`, all that is added at the place of the name.
 fn changed(alloc: Global, at: u32, name: &Name, op: Op, value: Expr) -> Result<Line, ParseError>
-    ensures { Gives told source_line_of result (Ok (changed at name.now op (source_expr_of value))) }
+    ensures { Gives told source_line_of result
+        (Ok (changed at name.now op (source_expr_of value))) }
 {
     let right = Boxed::new(alloc, value)?;
     let left = Boxed::new(alloc, Expr::Var(at, copied(name)?))?;
@@ -44,7 +45,8 @@ fn assigned<'a>(
     name: &Name,
     tokens: &'a [Token],
 ) -> Result<(Line, &'a [Token]), ParseError>
-    ensures exact { Gives told (λ x. (source_line_of x.0, spots_of x.1.now)) result (assigned most_binary_operators levels at name.now (spots_of tokens.now)) }
+    ensures exact { Gives told (λ x. (source_line_of x.0, spots_of x.1.now)) result
+        (assigned most_binary_operators levels at name.now (spots_of tokens.now)) }
     ensures shorter { IfOk result (λ x. length x.1.now < length tokens.now) }
 {
     let (value, after) = whole(alloc, levels, tail(tokens))?;
@@ -60,7 +62,8 @@ fn acted<'a>(
     name: &Name,
     tokens: &'a [Token],
 ) -> Result<(Line, &'a [Token]), ParseError>
-    ensures exact { Gives told (λ x. (source_line_of x.0, spots_of x.1.now)) result (acted most_binary_operators levels at name.now (spots_of tokens.now)) }
+    ensures exact { Gives told (λ x. (source_line_of x.0, spots_of x.1.now)) result
+        (acted most_binary_operators levels at name.now (spots_of tokens.now)) }
     ensures shorter { IfOk result (λ x. length x.1.now < length tokens.now) }
 {
     let (call, after) = whole_call(alloc, levels, at, name, tokens)?;
@@ -75,7 +78,8 @@ fn behind_name<'a>(
     name: &Name,
     tokens: &'a [Token],
 ) -> Result<(Line, &'a [Token]), ParseError>
-    ensures exact { Gives told (λ x. (source_line_of x.0, spots_of x.1.now)) result (behind_name most_binary_operators levels at name.now (spots_of tokens.now)) }
+    ensures exact { Gives told (λ x. (source_line_of x.0, spots_of x.1.now)) result
+        (behind_name most_binary_operators levels at name.now (spots_of tokens.now)) }
     ensures within { IfOk result (λ x. length x.1.now ≤ length tokens.now) }
 {
     if begins_with(tokens, Mark::Assign) {
@@ -97,7 +101,8 @@ fn behind_name<'a>(
 
 /// A count whose mark stands in front of the tokens.
 fn counted_before(alloc: Global, op: Op, tokens: &[Token]) -> Result<(Line, &[Token]), ParseError>
-    ensures exact { Gives told (λ x. (source_line_of x.0, spots_of x.1.now)) result (counted_before (Some op) (spots_of tokens.now) ParseError.Memory) }
+    ensures exact { Gives told (λ x. (source_line_of x.0, spots_of x.1.now)) result
+        (counted_before (Some op) (spots_of tokens.now) ParseError.Memory) }
     ensures within { IfOk result (λ x. length x.1.now ≤ length tokens.now) }
 {
     let word = word_at(tokens)?;
@@ -110,7 +115,8 @@ pub(crate) fn simple(
     levels: usize,
     tokens: &[Token],
 ) -> Result<(Line, &[Token]), ParseError>
-    ensures exact { Gives told (λ x. (source_line_of x.0, spots_of x.1.now)) result (simple most_binary_operators levels (spots_of tokens.now)) }
+    ensures exact { Gives told (λ x. (source_line_of x.0, spots_of x.1.now)) result
+        (simple most_binary_operators levels (spots_of tokens.now)) }
     ensures shorter { IfOk result (λ x. length x.1.now < length tokens.now) }
 {
     match tokens {
@@ -136,7 +142,8 @@ fn initialised<'a>(
     name: &Name,
     tokens: &'a [Token],
 ) -> Result<(Line, &'a [Token]), ParseError>
-    ensures exact { Gives told (λ x. (source_line_of x.0, spots_of x.1.now)) result (initialised most_binary_operators levels at name.now (spots_of tokens.now)) }
+    ensures exact { Gives told (λ x. (source_line_of x.0, spots_of x.1.now)) result
+        (initialised most_binary_operators levels at name.now (spots_of tokens.now)) }
     ensures shorter { IfOk result (λ x. length x.1.now < length tokens.now) }
 {
     let (value, after) = whole(alloc, levels, tail(tokens))?;
@@ -147,7 +154,8 @@ fn initialised<'a>(
 
 /// A local, with its value or without.
 fn variable(alloc: Global, levels: usize, tokens: &[Token]) -> Result<(Line, &[Token]), ParseError>
-    ensures exact { Gives told (λ x. (source_line_of x.0, spots_of x.1.now)) result (variable most_binary_operators levels (spots_of tokens.now)) }
+    ensures exact { Gives told (λ x. (source_line_of x.0, spots_of x.1.now)) result
+        (variable most_binary_operators levels (spots_of tokens.now)) }
     ensures shorter { IfOk result (λ x. length x.1.now < length tokens.now) }
 {
     let word = word_at(tokens)?;
@@ -171,7 +179,8 @@ fn variables<'a>(
     first: Items<Line>,
     tokens: &'a [Token],
 ) -> Result<(Items<Line>, &'a [Token]), ParseError>
-    ensures exact { Gives told (λ x. (map source_line_of x.0, spots_of x.1.now)) result (variables most_binary_operators levels (map source_line_of first, spots_of tokens.now)) }
+    ensures exact { Gives told (λ x. (map source_line_of x.0, spots_of x.1.now)) result
+        (variables most_binary_operators levels (map source_line_of first, spots_of tokens.now)) }
     ensures within { IfOk result (λ x. length x.1.now ≤ length tokens.now) }
 {
     let mut lines = first;
@@ -190,7 +199,8 @@ pub(crate) fn local(
     levels: usize,
     tokens: &[Token],
 ) -> Result<(Items<Line>, &[Token]), ParseError>
-    ensures exact { Gives told (λ x. (map source_line_of x.0, spots_of x.1.now)) result (local most_binary_operators levels (spots_of tokens.now)) }
+    ensures exact { Gives told (λ x. (map source_line_of x.0, spots_of x.1.now)) result
+        (local most_binary_operators levels (spots_of tokens.now)) }
     ensures shorter { IfOk result (λ x. length x.1.now < length tokens.now) }
 {
     let (first, after) = variable(alloc, levels, tokens)?;

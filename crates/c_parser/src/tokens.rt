@@ -118,7 +118,8 @@ pub(crate) fn place_at(tokens: &[Token]) -> u32
 /// The tokens behind a mark that has to stand first.
 #[tactic(auto, using(crate::proofs::FirstTokens::refused_no_memory))]
 pub(crate) fn past(tokens: &[Token], mark: Mark) -> Result<&[Token], ParseError>
-    ensures exact { Gives told (λ rest. spots_of rest.now) result (past mark (spots_of tokens.now)) }
+    ensures exact { Gives told (λ rest. spots_of rest.now) result
+        (past mark (spots_of tokens.now)) }
     ensures shorter { IfOk result (λ rest. length rest.now < length tokens.now) }
     ensures memory { IfErr result (λ e. e ≢ ParseError.Memory) }
 {
@@ -215,7 +216,8 @@ pub(crate) fn keyword_at(tokens: &[Token]) -> Option<Keyword>
 /// The tokens behind a keyword that has to stand first.
 #[tactic(auto, using(crate::proofs::FirstTokens::refused_no_memory))]
 pub(crate) fn past_keyword(tokens: &[Token], keyword: Keyword) -> Result<&[Token], ParseError>
-    ensures exact { Gives told (λ rest. spots_of rest.now) result (past_keyword keyword (spots_of tokens.now)) }
+    ensures exact { Gives told (λ rest. spots_of rest.now) result
+        (past_keyword keyword (spots_of tokens.now)) }
     ensures shorter { IfOk result (λ rest. length rest.now < length tokens.now) }
     ensures memory { IfErr result (λ e. e ≢ ParseError.Memory) }
 {
@@ -236,7 +238,9 @@ pub(crate) struct Word<'a> {
 /// The name that has to stand first.
 #[tactic(auto, using(crate::proofs::FirstTokens::refused_no_memory))]
 pub(crate) fn word_at(tokens: &[Token]) -> Result<Word, ParseError>
-    ensures exact { Gives told (λ word. record { at = word.at; name = word.name.now; rest = spots_of word.rest.now }) result (word_at (spots_of tokens.now)) }
+    ensures exact { Gives told
+        (λ word. record { at = word.at; name = word.name.now; rest = spots_of word.rest.now })
+        result (word_at (spots_of tokens.now)) }
     ensures shorter { IfOk result (λ word. length word.rest.now < length tokens.now) }
     ensures memory { IfErr result (λ e. e ≢ ParseError.Memory) }
 {

@@ -1,4 +1,5 @@
--- Each step of the evaluation of a plan leaves growths of which each path that was made has its tree.
+-- Each step of the evaluation of a plan leaves growths of which each path that was made has its
+-- tree.
 use Rattle.std.specs.Prelude.{Bool, true, false, ◌==◌, slice_set}
 use Rattle.std.specs.List.{flat_map}
 use Rattle.std.proofs.Common.{◌≡◌, ◌<◌, ℕ, zero, suc, List, [], ◌∷◌, ◌++◌, length, map, replicate, Some, refl, sym, ◌∙◌, ap, subst, inl, inr, ◌⊎◌, append_assoc, eqb-true, eq-eqb, true≢false}

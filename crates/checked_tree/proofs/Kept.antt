@@ -1,4 +1,5 @@
--- What a log gained in a call is what the call kept, and calls that end for want of memory behind one.
+-- What a log gained in a call is what the call kept, and calls that end for want of memory behind
+-- one.
 use Rattle.std.specs.Prelude.{Result, IfOk}
 use Rattle.std.proofs.Common.{◌≡◌, ℕ, ◌<◌, get_or, List, ◌++◌, length, drop, Ok, Err, IsErrAnd, refl, sym, ◌∙◌, ap, subst, ◌≤◌, arith}
 use Rattle.std.proofs.lemmas.List.{length-append}

@@ -1,5 +1,5 @@
--- A plan that is ready to be evaluated: its graph is given once more by vocabularies that are shared, and its keys, its
--- order and its cells as slices.
+-- A plan that is ready to be evaluated: its graph is given once more by vocabularies that are
+-- shared, and its keys, its order and its cells as slices.
 use Rattle.std.specs.Prelude.{ℕ, length, map, replicate}
 use Rattle.std.specs.List.{IsDistinct}
 use Rattle.std.proofs.Common.{◌≡◌, List, [], sym, subst, ap, ◌∙◌}

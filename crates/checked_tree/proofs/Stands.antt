@@ -1,4 +1,5 @@
--- What an operation of a sequence, a join or a star asks of what was made before, and what it adds to it.
+-- What an operation of a sequence, a join or a star asks of what was made before, and what it adds
+-- to it.
 use Rattle.std.proofs.Common.{◌≡◌, ℕ, List, [], ◌∷◌, ◌++◌, refl, sym, ◌∙◌, subst, inl, inr, ◌⊎◌, append_assoc}
 use Rattle.std.proofs.lemmas.List.{append-nil}
 use Rattle.path_expr.specs.PathExpr.{PathExpr, Zero, One, Edge, Seq, Join, Star, seq_of, join_of, star_of}

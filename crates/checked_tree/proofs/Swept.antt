@@ -1,4 +1,5 @@
--- Each operation of the stated elimination is ready where it stands, and the way to each node is made.
+-- Each operation of the stated elimination is ready where it stands, and the way to each node is
+-- made.
 use Rattle.std.proofs.Common.{◌≡◌, ℕ, zero, suc, ◌+◌, ◌-◌, ◌<◌, ◌≤◌, ◌&&◌, ltb, List, [], ◌∷◌, ◌++◌, length, Some, refl, sym, ◌∙◌, ap, subst, inl, inr, ◌⊎◌, arith, add-zero}
 use Rattle.std.specs.List.{slice_get}
 use Rattle.std.specs.Option.{unwrap_or}
@@ -30,7 +31,8 @@ module _ (g : Graph) (source : ℕ) (here : IsGraph (length g.nodes) g.links) (s
   abbrev at : ℕ → ℕ
   at place = node_at source place
 
-  -- operations at each number below one: each gives something of its own, where those before gave theirs
+  -- operations at each number below one: each gives something of its own, where those before gave
+  -- theirs
   below-gives : (ops : ℕ → List PathExpr) (Before : List PathExpr → Type 0) (Got : ℕ → List PathExpr → Type 0) → IsKept Before → ((k : ℕ) → IsKept (Got k)) → (n : ℕ) →
       ((k : ℕ) (d : List PathExpr) → k < n → Before d → ((m : ℕ) → m < k → Got m d) → Gives g d (ops k) (Got k)) →
       (done : List PathExpr) → Before done → Gives g done (below ops n) (λ d. Before d × ((m : ℕ) → m < n → Got m d))

@@ -27,7 +27,8 @@ use Rattle.checked_tree.specs.TreeLaw.{IsLinked, Relates, TreesHold, TreesFit, R
 use Rattle.checked_tree.proofs.Along.{run-split}
 use Rattle.checked_tree.proofs.Between.{settled_and_fitted-between, settled_and_fitted-covers, sequence-from, sequence-solvable, sequence-canonical, joined-from, fitted-between, fitted-covered, starred, star-between, same_from, after-length}
 
--- what every end of a computation has, so long as the answers are true, its value under answers that pass has
+-- what every end of a computation has, so long as the answers are true, its value under answers
+-- that pass has
 pub kept-always : {A : Type 0} (p : Posing A) (value : A) (notes : List Note) (answers : List Answer) (P : A → Type 0)
     → Keeps Passes p value notes answers → Always P p → P value
 kept-always p value notes answers P kept holds =

@@ -37,14 +37,24 @@ key_at keys n = unwrap_or (slice_get keys n) (key.Edge 0)
 -- the nodes that the path of a key leads from and to
 abbrev pub ends_by : Graph → Entries → Key → Link
 ends_by g entries (key.Edge number) = link_at g number
-ends_by g entries (key.Seq i j) = record { from = (entry_at entries i).from; to = (entry_at entries j).to }
-ends_by g entries (key.Join i j) = record { from = (entry_at entries i).from; to = (entry_at entries i).to }
-ends_by g entries (key.Star i) = record { from = (entry_at entries i).from; to = (entry_at entries i).from }
+ends_by g entries (key.Seq i j) = record {
+  from = (entry_at entries i).from;
+  to = (entry_at entries j).to;
+}
+ends_by g entries (key.Join i j) = record {
+  from = (entry_at entries i).from;
+  to = (entry_at entries i).to;
+}
+ends_by g entries (key.Star i) = record {
+  from = (entry_at entries i).from;
+  to = (entry_at entries i).from;
+}
 
 -- the formula of a link, between the vocabularies of its ends
 abbrev pub link_formula : Graph → ℕ → Posing Transition
 link_formula g number =
-    leaf_formula (leaf_at g number) (vocabulary_at g (link_at g number).from) (vocabulary_at g (link_at g number).to)
+    leaf_formula (leaf_at g number) (vocabulary_at g (link_at g number).from)
+    (vocabulary_at g (link_at g number).to)
 
 -- its formula, from those of its operands
 abbrev pub formula_by : Graph → Entries → Key → Posing Transition
@@ -55,15 +65,21 @@ formula_by g entries (key.Seq i j) =
 formula_by g entries (key.Join i j) =
     join_formula (entry_at entries i).formula (entry_at entries j).formula
     (vocabulary_at g (entry_at entries i).from) (vocabulary_at g (entry_at entries i).to)
-formula_by g entries (key.Star i) = star_of (entry_at entries i).formula (vocabulary_at g (entry_at entries i).from)
+formula_by g entries (key.Star i) =
+    star_of (entry_at entries i).formula (vocabulary_at g (entry_at entries i).from)
 
 abbrev pub entry_of : Graph → Entries → Key → Transition → Entry
-entry_of g entries k f = record { from = (ends_by g entries k).from; to = (ends_by g entries k).to; formula = f }
+entry_of g entries k f = record {
+  from = (ends_by g entries k).from;
+  to = (ends_by g entries k).to;
+  formula = f;
+}
 
 -- one operation more, of the path of a number
 unfoldable pub with_number : Graph → List Key → Entries → ℕ → Posing Entries
 with_number g keys entries n =
-    formula_by g entries (key_at keys n) >>= λ f. Done (slice_set entries n (entry_of g entries (key_at keys n) f))
+    formula_by g entries (key_at keys n)
+    >>= λ f. Done (slice_set entries n (entry_of g entries (key_at keys n) f))
 
 -- all operations of a plan
 unfoldable pub entries_of : Graph → List Key → List ℕ → Posing Entries
@@ -75,11 +91,16 @@ cell_by entries known.Zero = known.Zero
 cell_by entries known.One = known.One
 cell_by entries (known.Item n) = known.Item (entry_at entries n).formula
 
-unfoldable pub evaluated_by : Graph → List Key → List ℕ → List (Cell ℕ) → Posing (List (Cell Transition))
-evaluated_by g keys order cells = entries_of g keys order >>= λ entries. Done (map (cell_by entries) cells)
+unfoldable pub evaluated_by : Graph → List Key → List ℕ → List (Cell ℕ)
+    → Posing (List (Cell Transition))
+evaluated_by g keys order cells = entries_of g keys order
+    >>= λ entries. Done (map (cell_by entries) cells)
 
--- it is the evaluation of the graph: the same questions and notes in the same order, and the same formulas
+-- it is the evaluation of the graph: the same questions and notes in the same order, and the same
+-- formulas
 abbrev pub PlansEvaluate : Type 0
 PlansEvaluate =
     (g : Graph) (source : ℕ) (keys : List Key) (order : List ℕ) (cells : List (Cell ℕ)) →
-    IsEvaluated g source → AreDistinct keys → IsPlanned (length g.nodes) g.links source keys order cells → evaluated g source ≡ evaluated_by g keys order cells
+    IsEvaluated g source → AreDistinct keys
+    → IsPlanned (length g.nodes) g.links source keys order cells
+    → evaluated g source ≡ evaluated_by g keys order cells

@@ -1,5 +1,5 @@
--- Trees at each of whose steps the formula is what the stated operation comes to, from the formulas below it, under the
--- answers that the step keeps, each of which passes.
+-- Trees at each of whose steps the formula is what the stated operation comes to, from the formulas
+-- below it, under the answers that the step keeps, each of which passes.
 use Rattle.std.specs.Prelude.{◌≡◌}
 use Rattle.farkas_check.specs.Tested.{Passes}
 use Rattle.posing.specs.Posing.{Posing}
@@ -11,7 +11,8 @@ use Rattle.checked_tree.specs.Evaluation.{leaf_formula, sequence_formula, join_f
 use Rattle.checked_tree.specs.Law.{IsEnd, IsFrom}
 use Rattle.checked_tree.specs.Tree.{Own, Tree, Leaf, Seq, Join, Star, own_of}
 
--- the step's own notes and answers lead this operation to its formula, whose rows are in canonical form
+-- the step's own notes and answers lead this operation to its formula, whose rows are in canonical
+-- form
 pub record IsMade (own : Own) (p : Posing Transition) : Type 0 where
   pub kept : Keeps Passes p own.formula own.log.notes own.log.answers
   pub canonical : HaveCanonicalRows own.formula.cases
@@ -49,6 +50,8 @@ pub record IsStarStep (turn own : Own) : Type 0 where
 
 abbrev pub IsChecked : Tree → Type 0
 IsChecked (Leaf number given own) = IsLeafStep given own
-IsChecked (Seq first second own) = IsChecked first × IsChecked second × IsSeqStep (own_of first) (own_of second) own
-IsChecked (Join left right own) = IsChecked left × IsChecked right × IsJoinStep (own_of left) (own_of right) own
+IsChecked (Seq first second own) = IsChecked first × IsChecked second
+    × IsSeqStep (own_of first) (own_of second) own
+IsChecked (Join left right own) = IsChecked left × IsChecked right
+    × IsJoinStep (own_of left) (own_of right) own
 IsChecked (Star turn own) = IsChecked turn × IsStarStep (own_of turn) own

@@ -1,4 +1,5 @@
--- The evaluation of a graph: a formula for each operation of the stated elimination, in their order.
+-- The evaluation of a graph: a formula for each operation of the stated elimination, in their
+-- order.
 use Rattle.std.specs.Prelude.{ℕ, List, [], ◌∷◌, ◌++◌, map, length, if◌then◌else◌}
 use Rattle.std.specs.List.{range_with_len}
 use Rattle.path_expr.specs.PathExpr.{PathExpr, Zero, One, Edge, Seq, Join, Star}
@@ -27,7 +28,8 @@ paths_of made = map (λ entry. entry.0) made
 -- of a path that was made twice the later formula counts
 abbrev pub latest : PathExpr → Transition → Made → Transition
 latest path found [] = found
-latest path found (entry ∷ made) = latest path (if same_path entry.0 path then entry.1 else found) made
+latest path found (entry ∷ made) = latest path (if same_path entry.0 path then entry.1 else found)
+    made
 
 -- the formula of a path; nothing where it was not made
 abbrev pub formula_at : Made → PathExpr → Transition
@@ -43,24 +45,29 @@ unfoldable pub leaf_formula : Transition → Vocabulary → Vocabulary → Posin
 leaf_formula leaf from to = settled_and_fitted leaf from to
 
 -- so is a sequence, whose losses are noted before the first question
-unfoldable pub sequence_formula : Transition → Transition → Vocabulary → Vocabulary → Posing Transition
+unfoldable pub sequence_formula : Transition → Transition → Vocabulary → Vocabulary
+    → Posing Transition
 sequence_formula first second from to =
-    Noted (loss_notes (lost_in_sequence first second)) (settled_and_fitted (sequence_of first second) from to)
+    Noted (loss_notes (lost_in_sequence first second))
+    (settled_and_fitted (sequence_of first second) from to)
 
 -- a join is fitted
 unfoldable pub join_formula : Transition → Transition → Vocabulary → Vocabulary → Posing Transition
 join_formula left right from to = fitted (joined left right) from to
 
--- the formula of an operation, from those of its operands: a leaf's, a sequence's, a join's, or star at its node's
--- vocabulary
+-- the formula of an operation, from those of its operands: a leaf's, a sequence's, a join's, or
+-- star at its node's vocabulary
 abbrev pub own : Graph → Made → PathExpr → Posing Transition
 own g made Zero = Done nothing
 own g made One = Done nothing
 own g made (Edge number) =
-    leaf_formula (leaf_at g number) (start_vocabulary g (Edge number)) (end_vocabulary g (Edge number))
+    leaf_formula (leaf_at g number) (start_vocabulary g (Edge number))
+    (end_vocabulary g (Edge number))
 own g made (Seq a b) =
-    sequence_formula (formula_at made a) (formula_at made b) (start_vocabulary g a) (end_vocabulary g b)
-own g made (Join a b) = join_formula (formula_at made a) (formula_at made b) (start_vocabulary g a) (end_vocabulary g a)
+    sequence_formula (formula_at made a) (formula_at made b) (start_vocabulary g a)
+    (end_vocabulary g b)
+own g made (Join a b) = join_formula (formula_at made a) (formula_at made b) (start_vocabulary g a)
+    (end_vocabulary g a)
 own g made (Star a) = star_of (formula_at made a) (start_vocabulary g a)
 
 -- ---- all operations

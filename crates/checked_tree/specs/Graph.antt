@@ -36,7 +36,13 @@ leaf_at g number = unwrap_or (slice_get g.leaves number) nothing
 
 abbrev pub vocabulary_at : Graph → ℕ → Vocabulary
 vocabulary_at g node =
-    unwrap_or (slice_get g.nodes node) record { columns = 0; named = []; harvested = []; rule = 0; extra = [] }
+    unwrap_or (slice_get g.nodes node) record {
+      columns = 0;
+      named = [];
+      harvested = [];
+      rule = 0;
+      extra = [];
+    }
 
 -- the node that a path leads from, by its first links
 abbrev pub start_of : Graph → PathExpr → ℕ

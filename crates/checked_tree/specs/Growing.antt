@@ -60,7 +60,11 @@ formula_in (Some t) = formula_of t
 
 -- growths, by their formulas alone
 abbrev pub entry_of_growth : Growth → Entry
-entry_of_growth growth = record { from = growth.from; to = growth.to; formula = formula_in (grown_tree growth) }
+entry_of_growth growth = record {
+  from = growth.from;
+  to = growth.to;
+  formula = formula_in (grown_tree growth);
+}
 
 abbrev pub entries_in : List Growth → Entries
 entries_in growths = map entry_of_growth growths
@@ -104,11 +108,14 @@ pub record IsRound (g : Graph) (turn : Growth) : Type 0 where
 
 -- the link's leaf is there, or the operands have trees that meet
 abbrev pub IsGrowable : Graph → List Growth → Key → Type 0
-IsGrowable g growths (key.Edge number) = IsDueLink g number × HaveCanonicalRows (leaf_at g number).cases
+IsGrowable g growths (key.Edge number) = IsDueLink g number
+    × HaveCanonicalRows (leaf_at g number).cases
 IsGrowable g growths (key.Seq i j) =
-    (i < length growths) × (j < length growths) × AreInLine g (growth_at growths i) (growth_at growths j)
+    (i < length growths) × (j < length growths)
+    × AreInLine g (growth_at growths i) (growth_at growths j)
 IsGrowable g growths (key.Join i j) =
-    (i < length growths) × (j < length growths) × AreBeside g (growth_at growths i) (growth_at growths j)
+    (i < length growths) × (j < length growths)
+    × AreBeside g (growth_at growths i) (growth_at growths j)
 IsGrowable g growths (key.Star i) = (i < length growths) × IsRound g (growth_at growths i)
 
 pub record IsNextGrowth (g : Graph) (keys : List Key) (growths : List Growth) (n : ℕ) : Type 0 where
@@ -125,16 +132,19 @@ pub record IsLeafOf (g : Graph) (number : ℕ) (t : Tree) : Type 0 where
 abbrev pub IsTreeBy : Graph → List Growth → Key → Tree → Type 0
 IsTreeBy g growths (key.Edge number) t = IsLeafOf g number t
 IsTreeBy g growths (key.Seq i j) t =
-    (a : Tree) × (b : Tree) × (grown_tree (growth_at growths i) ≡ Some a) × (grown_tree (growth_at growths j) ≡ Some b)
+    (a : Tree) × (b : Tree) × (grown_tree (growth_at growths i) ≡ Some a)
+    × (grown_tree (growth_at growths j) ≡ Some b)
     × (t ≡ Seq a b (own_of t))
 IsTreeBy g growths (key.Join i j) t =
-    (a : Tree) × (b : Tree) × (grown_tree (growth_at growths i) ≡ Some a) × (grown_tree (growth_at growths j) ≡ Some b)
+    (a : Tree) × (b : Tree) × (grown_tree (growth_at growths i) ≡ Some a)
+    × (grown_tree (growth_at growths j) ≡ Some b)
     × (t ≡ Join a b (own_of t))
 IsTreeBy g growths (key.Star i) t =
     (a : Tree) × (grown_tree (growth_at growths i) ≡ Some a) × (t ≡ Star a (own_of t))
 
 -- growths with that of one number set, by a new tree of its key
-pub record HasGrown (g : Graph) (keys : List Key) (growths : List Growth) (n : ℕ) (before after : Log) (next : List Growth) : Type 0 where
+pub record HasGrown (g : Graph) (keys : List Key) (growths : List Growth) (n : ℕ)
+    (before after : Log) (next : List Growth) : Type 0 where
   pub growth : Growth
   pub tree : Tree
   pub set : next ≡ slice_set growths n growth
@@ -169,14 +179,16 @@ pub record IsPlantable (g : Graph) (source : ℕ) (keys : List Key) : Type 0 whe
   pub distinct : AreDistinct keys
   pub leaves : HaveCanonicalLeaves g
 
--- the growths have a tree for each path that was made, the log is what each step kept, and what is left are the numbers
--- of paths that are ready where they stand
-pub record AreGrowing (g : Graph) (source : ℕ) (keys : List Key) (start log : Log) (growths : List Growth) (rest : List ℕ) : Type 0 where
+-- the growths have a tree for each path that was made, the log is what each step kept, and what is
+-- left are the numbers of paths that are ready where they stand
+pub record AreGrowing (g : Graph) (source : ℕ) (keys : List Key) (start log : Log)
+    (growths : List Growth) (rest : List ℕ) : Type 0 where
   pub plantable : IsPlantable g source keys
   pub steps : List Tree
   pub paths : List PathExpr
   pub long : length growths ≡ length keys
-  pub grown : (p : PathExpr) (n : ℕ) → IsPathOf keys p n → IsAmong p (map path_of steps) → IsGrownAs g steps (growth_at growths n) p
+  pub grown : (p : PathExpr) (n : ℕ) → IsPathOf keys p n → IsAmong p (map path_of steps)
+      → IsGrownAs g steps (growth_at growths n) p
   pub ready : AreReady g (map path_of steps) paths
   pub numbers : ArePathsOf keys paths rest
   pub parts : map path_of steps ++ paths ≡ operations (length g.nodes) g.links source
@@ -185,12 +197,15 @@ pub record AreGrowing (g : Graph) (source : ℕ) (keys : List Key) (start log : 
   pub shared : AreBuilt [] steps
 
 -- growths that are under way at one log and order, become such at others
-abbrev pub KeepsGrowing : Graph → List Key → Log → List Growth → List ℕ → Log → List Growth → List ℕ → Type 0
+abbrev pub KeepsGrowing : Graph → List Key → Log → List Growth → List ℕ → Log → List Growth → List ℕ
+    → Type 0
 KeepsGrowing g keys before growths order after next rest =
-    (source : ℕ) (start : Log) → AreGrowing g source keys start before growths order → AreGrowing g source keys start after next rest
+    (source : ℕ) (start : Log) → AreGrowing g source keys start before growths order
+    → AreGrowing g source keys start after next rest
 
 -- growths that are under way, at some source and from some log on
-pub record AreUnderWay (g : Graph) (keys : List Key) (log : Log) (growths : List Growth) (order : List ℕ) : Type 0 where
+pub record AreUnderWay (g : Graph) (keys : List Key) (log : Log) (growths : List Growth)
+    (order : List ℕ) : Type 0 where
   pub source : ℕ
   pub start : Log
   pub growing : AreGrowing g source keys start log growths order
@@ -199,7 +214,12 @@ pub record AreUnderWay (g : Graph) (keys : List Key) (log : Log) (growths : List
 
 -- what stands for a tree where there is none
 abbrev pub no_tree : Tree
-no_tree = Leaf 0 nothing record { from = vocabulary_at (bare []) 0; to = vocabulary_at (bare []) 0; formula = nothing; log = log_of [] [] }
+no_tree = Leaf 0 nothing record {
+  from = vocabulary_at (bare []) 0;
+  to = vocabulary_at (bare []) 0;
+  formula = nothing;
+  log = log_of [] [];
+}
 
 abbrev pub tree_cell : List Growth → Cell ℕ → Cell Tree
 tree_cell growths known.Zero = known.Zero
@@ -219,4 +239,5 @@ IsGrownCell growths known.One = Unit {0}
 IsGrownCell growths (known.Item n) = IsGrownAt growths n
 
 abbrev pub AreGrownCells : List Growth → List (Cell ℕ) → Type 0
-AreGrownCells growths cells = (node : ℕ) (cell : Cell ℕ) → slice_get cells node ≡ Some cell → IsGrownCell growths cell
+AreGrownCells growths cells = (node : ℕ) (cell : Cell ℕ) → slice_get cells node ≡ Some cell
+    → IsGrownCell growths cell

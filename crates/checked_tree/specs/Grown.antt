@@ -48,8 +48,10 @@ abbrev pub AreBuilt : List Tree → List Tree → Type 0
 AreBuilt before [] = Unit {0}
 AreBuilt before (t ∷ steps) = IsBuilt before t × AreBuilt (before ++ t ∷ []) steps
 
--- the tree of a node is one of the steps, of the node's path, between the vocabularies of the source and of the node
-pub record IsTreeAt (g : Graph) (source : ℕ) (steps : List Tree) (node : ℕ) (t : Tree) : Type 0 where
+-- the tree of a node is one of the steps, of the node's path, between the vocabularies of the
+-- source and of the node
+pub record IsTreeAt (g : Graph) (source : ℕ) (steps : List Tree) (node : ℕ)
+    (t : Tree) : Type 0 where
   pub path : path_of t ≡ path_at (length g.nodes) g.links source node
   pub among : IsAmong t steps
   pub checked : IsChecked t
@@ -63,13 +65,16 @@ StandsAt g source steps node known.Zero = path_at (length g.nodes) g.links sourc
 StandsAt g source steps node known.One = path_at (length g.nodes) g.links source node ≡ One
 StandsAt g source steps node (known.Item t) = IsTreeAt g source steps node t
 
--- what an evaluation made: a step for each operation of the stated elimination, in their order, of which the log is
--- what each kept, one after another; a tree that several steps share stands there once
-pub record AreGrown (g : Graph) (source : ℕ) (before after : Log) (cells : List (Cell Tree)) : Type 0 where
+-- what an evaluation made: a step for each operation of the stated elimination, in their order, of
+-- which the log is what each kept, one after another; a tree that several steps share stands there
+-- once
+pub record AreGrown (g : Graph) (source : ℕ) (before after : Log)
+    (cells : List (Cell Tree)) : Type 0 where
   pub steps : List Tree
   pub paths : map path_of steps ≡ operations (length g.nodes) g.links source
   pub noted : after.notes ≡ before.notes ++ flat_map (λ t. (own_of t).log.notes) steps
   pub answered : after.answers ≡ before.answers ++ flat_map (λ t. (own_of t).log.answers) steps
   pub shared : AreBuilt [] steps
   pub one_each : length cells ≡ length g.nodes
-  pub cells_are : (node : ℕ) (cell : Cell Tree) → slice_get cells node ≡ Some cell → StandsAt g source steps node cell
+  pub cells_are : (node : ℕ) (cell : Cell Tree) → slice_get cells node ≡ Some cell
+      → StandsAt g source steps node cell

@@ -24,7 +24,8 @@ pub record IsFrom (from to : Vocabulary) (f : Transition) : Type 0 where
 -- a leaf goes between the columns of its link's ends, and can be put in order
 pub record IsLeaf (g : Graph) (number : ℕ) : Type 0 where
   pub between :
-      IsFrom (vocabulary_at g (link_at g number).from) (vocabulary_at g (link_at g number).to) (leaf_at g number)
+      IsFrom (vocabulary_at g (link_at g number).from) (vocabulary_at g (link_at g number).to)
+      (leaf_at g number)
   pub solvable : AreSolvable (leaf_at g number).cases
 
 -- a vocabulary of at most 63 columns
@@ -57,11 +58,12 @@ HoldsCell (known.Item f) before after = Holds f before after
 -- the formula holds of each run along a word of the path, from a state that has its columns
 abbrev pub HoldsAlong : Graph → PathExpr → Transition → Type 0
 HoldsAlong g path f =
-    (word : List ℕ) (before after : List ℤ) → InLanguage path word → length before ≡ (start_vocabulary g path).columns →
+    (word : List ℕ) (before after : List ℤ) → InLanguage path word
+    → length before ≡ (start_vocabulary g path).columns →
     IsRun g word before after → Holds f before after
 
--- each leaf's rows have their monomials in print order, each once, as their types keep them; so have those of each
--- formula made
+-- each leaf's rows have their monomials in print order, each once, as their types keep them; so
+-- have those of each formula made
 abbrev pub HaveCanonicalLeaves : Graph → Type 0
 HaveCanonicalLeaves g = AllByRecursion (λ (f : Transition). HaveCanonicalRows f.cases) g.leaves
 
@@ -73,7 +75,8 @@ AreCanonicalMade made = AllByRecursion (λ entry. HaveCanonicalRows entry.1.case
 -- the cell of a node holds of each run along a walk from the source to it
 abbrev pub HoldsOfWalks : Graph → ℕ → Made → Type 0
 HoldsOfWalks g source made =
-    (node : ℕ) → node < length g.nodes → (word : List ℕ) → IsWalk g.links source node word → (before after : List ℤ) →
+    (node : ℕ) → node < length g.nodes → (word : List ℕ) → IsWalk g.links source node word
+    → (before after : List ℤ) →
     length before ≡ (vocabulary_at g source).columns → IsRun g word before after →
     HoldsCell (cell_at g source made node) before after
 
@@ -97,7 +100,8 @@ abbrev pub EvaluationFits : Type 0
 EvaluationFits =
     (g : Graph) (source : ℕ) → IsEvaluated g source →
     Always (λ made. (node : ℕ) → node < length g.nodes →
-    FitsCell (vocabulary_at g source) (vocabulary_at g node) (cell_at g source made node)) (evaluation g source)
+    FitsCell (vocabulary_at g source) (vocabulary_at g node) (cell_at g source made node))
+    (evaluation g source)
 
 -- a cell for each node, and each as it has to be
 pub record AreFittedCells (g : Graph) (source : ℕ) (cells : List (Cell Transition)) : Type 0 where
@@ -109,5 +113,6 @@ pub record AreFittedCells (g : Graph) (source : ℕ) (cells : List (Cell Transit
 abbrev pub CellsHold : Graph → ℕ → List (Cell Transition) → Type 0
 CellsHold g source cells =
     (node : ℕ) (cell : Cell Transition) → slice_get cells node ≡ Some cell → (word : List ℕ) →
-    IsWalk g.links source node word → (before after : List ℤ) → length before ≡ (vocabulary_at g source).columns →
+    IsWalk g.links source node word → (before after : List ℤ)
+    → length before ≡ (vocabulary_at g source).columns →
     IsRun g word before after → HoldsCell cell before after

@@ -15,7 +15,8 @@ pub mod Evaluation
 pub mod Law
 -- what operations ask of their operands
 pub mod Operands
--- trees of evaluated steps, what is so of a checked one, what it says, and those that an evaluation makes
+-- trees of evaluated steps, what is so of a checked one, what it says, and those that an evaluation
+-- makes
 pub mod Tree
 pub mod Checked
 pub mod TreeLaw

@@ -1,5 +1,5 @@
--- Operations by numbers: each path has one number, and a plan lists the numbers of the paths that are made, in their
--- order.
+-- Operations by numbers: each path has one number, and a plan lists the numbers of the paths that
+-- are made, in their order.
 use Rattle.std.specs.Prelude.{◌≡◌, ℕ, List, [], ◌∷◌, ◌++◌, length, Some}
 use Rattle.std.specs.List.{slice_get}
 use Rattle.path_expr.specs.declared.cell.Cell.{Cell}
@@ -17,14 +17,17 @@ IsPathOf keys Zero n = ⊥
 IsPathOf keys One n = ⊥
 IsPathOf keys (Edge number) n = slice_get keys n ≡ Some (key.Edge number)
 IsPathOf keys (Seq a b) n =
-    (i : ℕ) × (j : ℕ) × (slice_get keys n ≡ Some (key.Seq i j)) × IsPathOf keys a i × IsPathOf keys b j
+    (i : ℕ) × (j : ℕ) × (slice_get keys n ≡ Some (key.Seq i j)) × IsPathOf keys a i
+    × IsPathOf keys b j
 IsPathOf keys (Join a b) n =
-    (i : ℕ) × (j : ℕ) × (slice_get keys n ≡ Some (key.Join i j)) × IsPathOf keys a i × IsPathOf keys b j
+    (i : ℕ) × (j : ℕ) × (slice_get keys n ≡ Some (key.Join i j)) × IsPathOf keys a i
+    × IsPathOf keys b j
 IsPathOf keys (Star a) n = (i : ℕ) × (slice_get keys n ≡ Some (key.Star i)) × IsPathOf keys a i
 
 -- no key stands in two places, so that a path has one number
 abbrev pub AreDistinct : List Key → Type 0
-AreDistinct keys = (m n : ℕ) (k : Key) → slice_get keys m ≡ Some k → slice_get keys n ≡ Some k → m ≡ n
+AreDistinct keys = (m n : ℕ) (k : Key) → slice_get keys m ≡ Some k → slice_get keys n ≡ Some k
+    → m ≡ n
 
 -- the paths of these numbers, one for each
 abbrev pub ArePathsOf : List Key → List PathExpr → List ℕ → Type 0

@@ -14,7 +14,8 @@ IsReady g done Zero = ⊥
 IsReady g done One = ⊥
 IsReady g done (Edge number) = number < length g.links
 IsReady g done (Seq a b) = IsAmong a done × IsAmong b done × (end_of g a ≡ start_of g b)
-IsReady g done (Join a b) = IsAmong a done × IsAmong b done × (start_of g a ≡ start_of g b) × (end_of g a ≡ end_of g b)
+IsReady g done (Join a b) = IsAmong a done × IsAmong b done × (start_of g a ≡ start_of g b)
+    × (end_of g a ≡ end_of g b)
 IsReady g done (Star a) = IsAmong a done × (start_of g a ≡ end_of g a)
 
 -- each is, behind those before it

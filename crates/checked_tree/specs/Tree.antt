@@ -1,5 +1,5 @@
--- A tree of evaluated steps as plain data, by whose cases its meaning is defined. `tree_of` leaves out how the steps are
--- kept in memory, and nothing else.
+-- A tree of evaluated steps as plain data, by whose cases its meaning is defined. `tree_of` leaves
+-- out how the steps are kept in memory, and nothing else.
 use Rattle.std.specs.Prelude.{ℕ}
 use Rattle.path_expr.specs.PathExpr.{PathExpr}
 use Rattle.path_expr.specs.PathExpr as expr
@@ -9,15 +9,16 @@ use Rattle.transition_formula.specs.Transition.{Transition}
 use Rattle.checked_tree.specs.declared.step.TreeStep.{TreeStep, fold-TreeStep}
 use Rattle.checked_tree.specs.declared.step.Node.TheOpen.{Node-F, TreeStep-F}
 
--- what a step has beside its operation: the vocabularies of its two ends, its formula, and what its operation alone
--- noted and was answered
+-- what a step has beside its operation: the vocabularies of its two ends, its formula, and what its
+-- operation alone noted and was answered
 pub record Own : Type 0 where
   pub from : Vocabulary
   pub to : Vocabulary
   pub formula : Transition
   pub log : Log
 
--- a link's number and the formula that it was given, one step and then another, either of two, and any number of turns
+-- a link's number and the formula that it was given, one step and then another, either of two, and
+-- any number of turns
 pub data Tree : Type 0 where
   Leaf : (number : ℕ) (given : Transition) (own : Own) → Tree
   Seq : (first second : Tree) (own : Own) → Tree
@@ -48,7 +49,12 @@ node_layer (Node-F.Star turn) own = Star turn.value own
 
 abbrev pub step_layer : TreeStep-F (Own → Tree) Tree → Tree
 step_layer step =
-    step.node record { from = step.from.value; to = step.to.value; formula = step.formula; log = step.log }
+    step.node record {
+      from = step.from.value;
+      to = step.to.value;
+      formula = step.formula;
+      log = step.log;
+    }
 
 -- the plain form of a step
 abbrev pub tree_of : TreeStep → Tree

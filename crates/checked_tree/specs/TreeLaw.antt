@@ -12,15 +12,16 @@ abbrev pub IsLinked : (List ℤ → List ℤ → Type 0) → List ℤ → List (
 IsLinked R first [] = Unit {0}
 IsLinked R first (next ∷ more) = R first next × IsLinked R next more
 
--- what the leaves of a tree relate: what the formula of a leaf holds of; two states with one between them; either; and
--- the ends of a chain of states, of one state alone too
+-- what the leaves of a tree relate: what the formula of a leaf holds of; two states with one
+-- between them; either; and the ends of a chain of states, of one state alone too
 abbrev pub Relates : Tree → List ℤ → List ℤ → Type 0
 Relates (Leaf number given own) before after = Holds given before after
 Relates (Seq first second own) before after =
     (middle : List ℤ) × Relates first before middle × Relates second middle after
 Relates (Join left right own) before after = Relates left before after ⊎ Relates right before after
 Relates (Star turn own) before after =
-    (states : List (List ℤ)) × IsLinked (Relates turn) before states × (last_of before states ≡ after)
+    (states : List (List ℤ)) × IsLinked (Relates turn) before states
+    × (last_of before states ≡ after)
 
 -- the formula of a checked tree holds of what its leaves relate
 abbrev pub TreesHold : Type 0
@@ -42,5 +43,6 @@ IsOf g (Star turn own) = IsOf g turn
 -- the leaves of a graph's tree relate the states of each run along a word of its path
 abbrev pub RunsAreRelated : Type 0
 RunsAreRelated =
-    (g : Graph) (t : Tree) → IsOf g t → (word : List ℕ) → InLanguage (path_of t) word → (before after : List ℤ) →
+    (g : Graph) (t : Tree) → IsOf g t → (word : List ℕ) → InLanguage (path_of t) word
+    → (before after : List ℤ) →
     IsRun g word before after → Relates t before after

@@ -29,9 +29,10 @@ pub record Agrees (g : Graph) (keys : List Key) (made : Made) (entries : Entries
   pub same : (p : PathExpr) (n : ℕ) → IsPathOf keys p n → IsAmong p (paths_of made) →
       entry_at entries n ≡ entry_for g made p
 
--- The entries are those of what was made, each known, and what is left are the numbers of paths that are ready where
--- they stand.
-pub record IsUnderWay (g : Graph) (keys : List Key) (entries : Entries) (rest : List ℕ) : Type 0 where
+-- The entries are those of what was made, each known, and what is left are the numbers of paths
+-- that are ready where they stand.
+pub record IsUnderWay (g : Graph) (keys : List Key) (entries : Entries)
+    (rest : List ℕ) : Type 0 where
   pub made : Made
   pub paths : List PathExpr
   pub agrees : Agrees g keys made entries
@@ -48,5 +49,7 @@ PlansGoOn =
 
 abbrev pub PlansBegin : Type 0
 PlansBegin =
-    (g : Graph) (source : ℕ) (keys : List Key) (order : List ℕ) (cells : List (Cell ℕ)) → IsEvaluated g source →
-    IsPlanned (length g.nodes) g.links source keys order cells → IsUnderWay g keys (replicate (length keys) blank) order
+    (g : Graph) (source : ℕ) (keys : List Key) (order : List ℕ) (cells : List (Cell ℕ))
+    → IsEvaluated g source →
+    IsPlanned (length g.nodes) g.links source keys order cells
+    → IsUnderWay g keys (replicate (length keys) blank) order

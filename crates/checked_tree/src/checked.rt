@@ -22,8 +22,8 @@ use std::marker::Model;
 use std::rc::Rc;
 use transition_formula::Formula;
 
-/// A tree, at each of whose steps the formula is what the stated operation comes to, from the formulas below it, under
-/// the answers that the step keeps, each of which passes.
+/// A tree, at each of whose steps the formula is what the stated operation comes to, from the
+/// formulas below it, under the answers that the step keeps, each of which passes.
 #[derive(Debug, Drop)]
 pub struct Checked {
     root: Rc<TreeStep>,
@@ -102,8 +102,11 @@ impl Checked {
         requires end { IsEnd to.now.value }
         requires solvable { AreSolvable given.now.cases }
         requires canonical { HaveCanonicalRows given.now.cases }
-        ensures follows { Follows O.asking oracle.old oracle.new log.old log.new (result_map (λ tree. formula_of (tree_of tree)) result) (leaf_formula given.now from.now.value to.now.value) }
-        ensures is { IfOk result (λ tree. tree_of tree ≡ Leaf number given.now (own_of (tree_of tree))) }
+        ensures follows { Follows O.asking oracle.old oracle.new log.old log.new
+            (result_map (λ tree. formula_of (tree_of tree)) result)
+            (leaf_formula given.now from.now.value to.now.value) }
+        ensures is { IfOk result
+            (λ tree. tree_of tree ≡ Leaf number given.now (own_of (tree_of tree))) }
         ensures from_is { IfOk result (λ tree. (own_of (tree_of tree)).from ≡ from.now.value) }
         ensures to_is { IfOk result (λ tree. (own_of (tree_of tree)).to ≡ to.now.value) }
         ensures new { IfOk result (λ tree. IsNew log.old log.new (tree_of tree)) }
@@ -125,10 +128,13 @@ impl Checked {
         mark: Mark,
         log: &Log,
     ) -> Result<Checked, AllocError>
-        requires step { IsLeafStep given.now (own_with from.now.value to.now.value formula mark log.now) }
+        requires step { IsLeafStep given.now
+            (own_with from.now.value to.now.value formula mark log.now) }
         requires notes { mark.notes ≤ length log.now.notes }
         requires answers { mark.answers ≤ length log.now.answers }
-        ensures is { IfOk result (λ tree. tree_of tree ≡ Leaf number given.now (own_with from.now.value to.now.value formula mark log.now)) }
+        ensures is { IfOk result
+            (λ tree. tree_of tree
+            ≡ Leaf number given.now (own_with from.now.value to.now.value formula mark log.now)) }
         ensures checked { IfOk result (λ tree. IsChecked (tree_of tree)) }
     {
         let step = TreeStep {
@@ -151,8 +157,13 @@ impl Checked {
         log: &mut Log,
     ) -> Result<Checked, WorkError>
         requires { (own_of (tree_of first.now)).to ≡ (own_of (tree_of second.now)).from }
-        ensures follows { Follows O.asking oracle.old oracle.new log.old log.new (result_map (λ tree. formula_of (tree_of tree)) result) (sequence_formula (formula_of (tree_of first.now)) (formula_of (tree_of second.now)) (own_of (tree_of first.now)).from (own_of (tree_of second.now)).to) }
-        ensures is { IfOk result (λ tree. tree_of tree ≡ Seq (tree_of first.now) (tree_of second.now) (own_of (tree_of tree))) }
+        ensures follows { Follows O.asking oracle.old oracle.new log.old log.new
+            (result_map (λ tree. formula_of (tree_of tree)) result)
+            (sequence_formula (formula_of (tree_of first.now)) (formula_of (tree_of second.now))
+            (own_of (tree_of first.now)).from (own_of (tree_of second.now)).to) }
+        ensures is { IfOk result
+            (λ tree. tree_of tree ≡ Seq (tree_of first.now) (tree_of second.now)
+            (own_of (tree_of tree))) }
         ensures new { IfOk result (λ tree. IsNew log.old log.new (tree_of tree)) }
     {
         let mark = Mark::of(log);
@@ -170,7 +181,9 @@ impl Checked {
         log: &mut Log,
     ) -> Result<Formula, WorkError>
         requires { (own_of (tree_of first.now)).to ≡ (own_of (tree_of second.now)).from }
-        ensures follows { Follows O.asking oracle.old oracle.new log.old log.new result (sequence_formula (formula_of (tree_of first.now)) (formula_of (tree_of second.now)) (own_of (tree_of first.now)).from (own_of (tree_of second.now)).to) }
+        ensures follows { Follows O.asking oracle.old oracle.new log.old log.new result
+            (sequence_formula (formula_of (tree_of first.now)) (formula_of (tree_of second.now))
+            (own_of (tree_of first.now)).from (own_of (tree_of second.now)).to) }
         ensures canonical { IfOk result (λ f. HaveCanonicalRows f.cases) }
     {
         let from = first.from();
@@ -190,10 +203,15 @@ impl Checked {
         mark: Mark,
         log: &Log,
     ) -> Result<Checked, AllocError>
-        requires step { IsSeqStep (own_of (tree_of first.now)) (own_of (tree_of second.now)) (own_with (own_of (tree_of first.now)).from (own_of (tree_of second.now)).to formula mark log.now) }
+        requires step { IsSeqStep (own_of (tree_of first.now)) (own_of (tree_of second.now))
+            (own_with (own_of (tree_of first.now)).from (own_of (tree_of second.now)).to formula
+            mark log.now) }
         requires notes { mark.notes ≤ length log.now.notes }
         requires answers { mark.answers ≤ length log.now.answers }
-        ensures is { IfOk result (λ tree. tree_of tree ≡ Seq (tree_of first.now) (tree_of second.now) (own_with (own_of (tree_of first.now)).from (own_of (tree_of second.now)).to formula mark log.now)) }
+        ensures is { IfOk result
+            (λ tree. tree_of tree ≡ Seq (tree_of first.now) (tree_of second.now)
+            (own_with (own_of (tree_of first.now)).from (own_of (tree_of second.now)).to formula
+            mark log.now)) }
         ensures checked { IfOk result (λ tree. IsChecked (tree_of tree)) }
     {
         let step = TreeStep {
@@ -217,8 +235,13 @@ impl Checked {
     ) -> Result<Checked, WorkError>
         requires starts { (own_of (tree_of left.now)).from ≡ (own_of (tree_of right.now)).from }
         requires ends { (own_of (tree_of left.now)).to ≡ (own_of (tree_of right.now)).to }
-        ensures follows { Follows O.asking oracle.old oracle.new log.old log.new (result_map (λ tree. formula_of (tree_of tree)) result) (join_formula (formula_of (tree_of left.now)) (formula_of (tree_of right.now)) (own_of (tree_of left.now)).from (own_of (tree_of left.now)).to) }
-        ensures is { IfOk result (λ tree. tree_of tree ≡ Join (tree_of left.now) (tree_of right.now) (own_of (tree_of tree))) }
+        ensures follows { Follows O.asking oracle.old oracle.new log.old log.new
+            (result_map (λ tree. formula_of (tree_of tree)) result)
+            (join_formula (formula_of (tree_of left.now)) (formula_of (tree_of right.now))
+            (own_of (tree_of left.now)).from (own_of (tree_of left.now)).to) }
+        ensures is { IfOk result
+            (λ tree. tree_of tree ≡ Join (tree_of left.now) (tree_of right.now)
+            (own_of (tree_of tree))) }
         ensures new { IfOk result (λ tree. IsNew log.old log.new (tree_of tree)) }
     {
         let mark = Mark::of(log);
@@ -237,7 +260,9 @@ impl Checked {
     ) -> Result<Formula, WorkError>
         requires starts { (own_of (tree_of left.now)).from ≡ (own_of (tree_of right.now)).from }
         requires ends { (own_of (tree_of left.now)).to ≡ (own_of (tree_of right.now)).to }
-        ensures follows { Follows O.asking oracle.old oracle.new log.old log.new result (join_formula (formula_of (tree_of left.now)) (formula_of (tree_of right.now)) (own_of (tree_of left.now)).from (own_of (tree_of left.now)).to) }
+        ensures follows { Follows O.asking oracle.old oracle.new log.old log.new result
+            (join_formula (formula_of (tree_of left.now)) (formula_of (tree_of right.now))
+            (own_of (tree_of left.now)).from (own_of (tree_of left.now)).to) }
         ensures canonical { IfOk result (λ f. HaveCanonicalRows f.cases) }
     {
         let from = left.from();
@@ -257,10 +282,15 @@ impl Checked {
         mark: Mark,
         log: &Log,
     ) -> Result<Checked, AllocError>
-        requires step { IsJoinStep (own_of (tree_of left.now)) (own_of (tree_of right.now)) (own_with (own_of (tree_of left.now)).from (own_of (tree_of left.now)).to formula mark log.now) }
+        requires step { IsJoinStep (own_of (tree_of left.now)) (own_of (tree_of right.now))
+            (own_with (own_of (tree_of left.now)).from (own_of (tree_of left.now)).to formula mark
+            log.now) }
         requires notes { mark.notes ≤ length log.now.notes }
         requires answers { mark.answers ≤ length log.now.answers }
-        ensures is { IfOk result (λ tree. tree_of tree ≡ Join (tree_of left.now) (tree_of right.now) (own_with (own_of (tree_of left.now)).from (own_of (tree_of left.now)).to formula mark log.now)) }
+        ensures is { IfOk result
+            (λ tree. tree_of tree ≡ Join (tree_of left.now) (tree_of right.now)
+            (own_with (own_of (tree_of left.now)).from (own_of (tree_of left.now)).to formula mark
+            log.now)) }
         ensures checked { IfOk result (λ tree. IsChecked (tree_of tree)) }
     {
         let step = TreeStep {
@@ -282,8 +312,11 @@ impl Checked {
         log: &mut Log,
     ) -> Result<Checked, WorkError>
         requires { (own_of (tree_of turn.now)).to ≡ (own_of (tree_of turn.now)).from }
-        ensures follows { Follows O.asking oracle.old oracle.new log.old log.new (result_map (λ tree. formula_of (tree_of tree)) result) (star_of (formula_of (tree_of turn.now)) (own_of (tree_of turn.now)).from) }
-        ensures is { IfOk result (λ tree. tree_of tree ≡ Star (tree_of turn.now) (own_of (tree_of tree))) }
+        ensures follows { Follows O.asking oracle.old oracle.new log.old log.new
+            (result_map (λ tree. formula_of (tree_of tree)) result)
+            (star_of (formula_of (tree_of turn.now)) (own_of (tree_of turn.now)).from) }
+        ensures is { IfOk result
+            (λ tree. tree_of tree ≡ Star (tree_of turn.now) (own_of (tree_of tree))) }
         ensures new { IfOk result (λ tree. IsNew log.old log.new (tree_of tree)) }
     {
         let mark = Mark::of(log);
@@ -300,7 +333,8 @@ impl Checked {
         log: &mut Log,
     ) -> Result<Formula, WorkError>
         requires { (own_of (tree_of turn.now)).to ≡ (own_of (tree_of turn.now)).from }
-        ensures follows { Follows O.asking oracle.old oracle.new log.old log.new result (star_of (formula_of (tree_of turn.now)) (own_of (tree_of turn.now)).from) }
+        ensures follows { Follows O.asking oracle.old oracle.new log.old log.new result
+            (star_of (formula_of (tree_of turn.now)) (own_of (tree_of turn.now)).from) }
         ensures canonical { IfOk result (λ f. HaveCanonicalRows f.cases) }
     {
         let voc = turn.from();
@@ -317,10 +351,16 @@ impl Checked {
         mark: Mark,
         log: &Log,
     ) -> Result<Checked, AllocError>
-        requires step { IsStarStep (own_of (tree_of turn.now)) (own_with (own_of (tree_of turn.now)).from (own_of (tree_of turn.now)).from formula mark log.now) }
+        requires step { IsStarStep (own_of (tree_of turn.now))
+            (own_with (own_of (tree_of turn.now)).from (own_of (tree_of turn.now)).from formula mark
+            log.now) }
         requires notes { mark.notes ≤ length log.now.notes }
         requires answers { mark.answers ≤ length log.now.answers }
-        ensures is { IfOk result (λ tree. tree_of tree ≡ Star (tree_of turn.now) (own_with (own_of (tree_of turn.now)).from (own_of (tree_of turn.now)).from formula mark log.now)) }
+        ensures is { IfOk result
+            (λ tree. tree_of tree
+            ≡ Star (tree_of turn.now)
+            (own_with (own_of (tree_of turn.now)).from (own_of (tree_of turn.now)).from formula mark
+            log.now)) }
         ensures checked { IfOk result (λ tree. IsChecked (tree_of tree)) }
     {
         let step = TreeStep {

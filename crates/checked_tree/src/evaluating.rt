@@ -23,15 +23,16 @@ use std::alloc::Global;
 use std::rc::Rc;
 use transition_formula::Formula;
 
-/// The formulas of the walks from a source: at each node's place its cell. The links lead between nodes, each link has
-/// a formula between its ends' vocabularies, and each node a vocabulary of at most 63 columns.
+/// The formulas of the walks from a source: at each node's place its cell. The links lead between
+/// nodes, each link has a formula between its ends' vocabularies, and each node a vocabulary of at
+/// most 63 columns.
 ///
-/// A cell holds of the first and the last state of every run along a walk from the source to its node, as long as the
-/// answers are true. An item goes from the source's columns to its node's, by at most 16 cases of at most 64 rows and
-/// 64 auxiliaries.
+/// A cell holds of the first and the last state of every run along a walk from the source to its
+/// node, as long as the answers are true. An item goes from the source's columns to its node's, by
+/// at most 16 cases of at most 64 rows and 64 auxiliaries.
 ///
-/// The operations are those of the stated elimination, in its order, each with its questions; what is lost is noted.
-/// An error is a question that the oracle refused, or want of memory.
+/// The operations are those of the stated elimination, in its order, each with its questions; what
+/// is lost is noted. An error is a question that the oracle refused, or want of memory.
 pub fn evaluate_formulas<O: Oracle>(
     alloc: Global,
     links: &[Link],
@@ -44,7 +45,8 @@ pub fn evaluate_formulas<O: Oracle>(
     requires graph { IsEvaluated (graph_of links.now leaves.now nodes.now) source }
     requires few_links { length links.now < 2 ^ 32 }
     requires few_nodes { length nodes.now < 2 ^ 32 }
-    ensures follows { Follows O.asking oracle.old oracle.new log.old log.new result (evaluated (graph_of links.now leaves.now nodes.now) source) }
+    ensures follows { Follows O.asking oracle.old oracle.new log.old log.new result
+        (evaluated (graph_of links.now leaves.now nodes.now) source) }
     ensures holds { IfOk result (CellsHold (graph_of links.now leaves.now nodes.now) source) }
     ensures fits { IfOk result (AreFittedCells (graph_of links.now leaves.now nodes.now) source) }
 {
@@ -53,9 +55,10 @@ pub fn evaluate_formulas<O: Oracle>(
     Ok(formulas)
 }
 
-/// The trees of the walks from a source, at each node's place its cell: each step keeps its own notes and answers, and
-/// the log is what the steps keep, one after another. A tree that several trees share is kept once. Their formulas are
-/// those of `evaluate_formulas`, under the same answers.
+/// The trees of the walks from a source, at each node's place its cell: each step keeps its own
+/// notes and answers, and the log is what the steps keep, one after another. A tree that several
+/// trees share is kept once. Their formulas are those of `evaluate_formulas`, under the same
+/// answers.
 pub fn evaluate<O: Oracle>(
     alloc: Global,
     links: &[Link],
@@ -68,10 +71,17 @@ pub fn evaluate<O: Oracle>(
     requires graph { IsEvaluated (graph_of links.now leaves.now nodes.now) source }
     requires few_links { length links.now < 2 ^ 32 }
     requires few_nodes { length nodes.now < 2 ^ 32 }
-    ensures follows { Follows O.asking oracle.old oracle.new log.old log.new (result_map formulas_of result) (evaluated (graph_of links.now leaves.now nodes.now) source) }
-    ensures grown { IfOk result (λ cells. AreGrown (graph_of links.now leaves.now nodes.now) source log.old log.new (trees_of cells)) }
-    ensures holds { IfOk result (λ cells. CellsHold (graph_of links.now leaves.now nodes.now) source (formulas_of cells)) }
-    ensures fits { IfOk result (λ cells. AreFittedCells (graph_of links.now leaves.now nodes.now) source (formulas_of cells)) }
+    ensures follows { Follows O.asking oracle.old oracle.new log.old log.new
+        (result_map formulas_of result)
+        (evaluated (graph_of links.now leaves.now nodes.now) source) }
+    ensures grown { IfOk result
+        (λ cells. AreGrown (graph_of links.now leaves.now nodes.now) source log.old log.new
+        (trees_of cells)) }
+    ensures holds { IfOk result
+        (λ cells. CellsHold (graph_of links.now leaves.now nodes.now) source (formulas_of cells)) }
+    ensures fits { IfOk result
+        (λ cells. AreFittedCells (graph_of links.now leaves.now nodes.now) source
+        (formulas_of cells)) }
 {
     see_leaves(leaves);
     let shared = shared(alloc, nodes)?;
@@ -105,9 +115,14 @@ fn growths_of<O: Oracle>(
     oracle: &mut O,
     log: &mut Log,
 ) -> Result<Items<Growth>, WorkError>
-    requires { AreUnderWay (graph_of links.now leaves.now (map rc_value nodes.now)) keys.now log.now (replicate (length keys.now) bare_growth) order.now }
-    ensures follows { Follows O.asking oracle.old oracle.new log.old log.new (result_map entries_in result) (entries_of (graph_of links.now leaves.now (map rc_value nodes.now)) keys.now order.now) }
-    ensures grown { IfOk result (λ all. KeepsGrowing (graph_of links.now leaves.now (map rc_value nodes.now)) keys.now log.old (replicate (length keys.now) bare_growth) order.now log.new all []) }
+    requires { AreUnderWay (graph_of links.now leaves.now (map rc_value nodes.now)) keys.now log.now
+        (replicate (length keys.now) bare_growth) order.now }
+    ensures follows { Follows O.asking oracle.old oracle.new log.old log.new
+        (result_map entries_in result)
+        (entries_of (graph_of links.now leaves.now (map rc_value nodes.now)) keys.now order.now) }
+    ensures grown { IfOk result
+        (λ all. KeepsGrowing (graph_of links.now leaves.now (map rc_value nodes.now)) keys.now
+        log.old (replicate (length keys.now) bare_growth) order.now log.new all []) }
 {
     let growths = bare_growths(alloc, keys.len())?;
     with_numbers(
@@ -127,9 +142,15 @@ fn with_numbers<O: Oracle>(
     oracle: &mut O,
     log: &mut Log,
 ) -> Result<Items<Growth>, WorkError>
-    requires { AreUnderWay (graph_of links.now leaves.now (map rc_value nodes.now)) keys.now log.now growths order.now }
-    ensures follows { Follows O.asking oracle.old oracle.new log.old log.new (result_map entries_in result) (each (with_number (graph_of links.now leaves.now (map rc_value nodes.now)) keys.now) (entries_in growths) order.now) }
-    ensures grown { IfOk result (λ all. KeepsGrowing (graph_of links.now leaves.now (map rc_value nodes.now)) keys.now log.old growths order.now log.new all []) }
+    requires { AreUnderWay (graph_of links.now leaves.now (map rc_value nodes.now)) keys.now log.now
+        growths order.now }
+    ensures follows { Follows O.asking oracle.old oracle.new log.old log.new
+        (result_map entries_in result)
+        (each (with_number (graph_of links.now leaves.now (map rc_value nodes.now)) keys.now)
+        (entries_in growths) order.now) }
+    ensures grown { IfOk result
+        (λ all. KeepsGrowing (graph_of links.now leaves.now (map rc_value nodes.now)) keys.now
+        log.old growths order.now log.new all []) }
 {
     let mut made = growths;
     for number in order {

@@ -1,5 +1,5 @@
-//! Formulas of the walks of a graph: each link has a formula, and each node comes to one that holds of all walks from a
-//! source, by the stated elimination.
+//! Formulas of the walks of a graph: each link has a formula, and each node comes to one that holds
+//! of all walks from a source, by the stated elimination.
 #![tactic(auto)]
 
 mod checked;

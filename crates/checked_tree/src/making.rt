@@ -81,9 +81,14 @@ fn of_link<O: Oracle>(
     log: &mut Log,
 ) -> Result<Checked, WorkError>
     requires due { IsDueLink (graph_of links.now leaves.now (map rc_value nodes.now)) number }
-    requires canonical { HaveCanonicalRows (leaf_at (graph_of links.now leaves.now (map rc_value nodes.now)) number).cases }
-    ensures follows { Follows O.asking oracle.old oracle.new log.old log.new (result_map (λ tree. formula_of (tree_of tree)) result) (link_formula (graph_of links.now leaves.now (map rc_value nodes.now)) number) }
-    ensures of_leaf { IfOk result (λ tree. IsLeafOf (graph_of links.now leaves.now (map rc_value nodes.now)) number (tree_of tree)) }
+    requires canonical { HaveCanonicalRows
+        (leaf_at (graph_of links.now leaves.now (map rc_value nodes.now)) number).cases }
+    ensures follows { Follows O.asking oracle.old oracle.new log.old log.new
+        (result_map (λ tree. formula_of (tree_of tree)) result)
+        (link_formula (graph_of links.now leaves.now (map rc_value nodes.now)) number) }
+    ensures of_leaf { IfOk result
+        (λ tree. IsLeafOf (graph_of links.now leaves.now (map rc_value nodes.now)) number
+        (tree_of tree)) }
     ensures new { IfOk result (λ tree. IsNew log.old log.new (tree_of tree)) }
 {
     let link = link_at(links, number);
@@ -105,8 +110,13 @@ fn tree_by<O: Oracle>(
     log: &mut Log,
 ) -> Result<Checked, WorkError>
     requires { IsGrowable (graph_of links.now leaves.now (map rc_value nodes.now)) growths.now key }
-    ensures follows { Follows O.asking oracle.old oracle.new log.old log.new (result_map (λ tree. formula_of (tree_of tree)) result) (formula_by (graph_of links.now leaves.now (map rc_value nodes.now)) (entries_in growths.now) key) }
-    ensures by { IfOk result (λ tree. IsTreeBy (graph_of links.now leaves.now (map rc_value nodes.now)) growths.now key (tree_of tree)) }
+    ensures follows { Follows O.asking oracle.old oracle.new log.old log.new
+        (result_map (λ tree. formula_of (tree_of tree)) result)
+        (formula_by (graph_of links.now leaves.now (map rc_value nodes.now))
+        (entries_in growths.now) key) }
+    ensures by { IfOk result
+        (λ tree. IsTreeBy (graph_of links.now leaves.now (map rc_value nodes.now)) growths.now key
+        (tree_of tree)) }
     ensures new { IfOk result (λ tree. IsNew log.old log.new (tree_of tree)) }
 {
     match key {
@@ -141,9 +151,15 @@ pub(crate) fn with_number<O: Oracle>(
     oracle: &mut O,
     log: &mut Log,
 ) -> Result<Items<Growth>, WorkError>
-    requires { IsNextGrowth (graph_of links.now leaves.now (map rc_value nodes.now)) keys.now growths number }
-    ensures follows { Follows O.asking oracle.old oracle.new log.old log.new (result_map entries_in result) (with_number (graph_of links.now leaves.now (map rc_value nodes.now)) keys.now (entries_in growths) number) }
-    ensures grown { IfOk result (λ next. HasGrown (graph_of links.now leaves.now (map rc_value nodes.now)) keys.now growths number log.old log.new next) }
+    requires { IsNextGrowth (graph_of links.now leaves.now (map rc_value nodes.now)) keys.now
+        growths number }
+    ensures follows { Follows O.asking oracle.old oracle.new log.old log.new
+        (result_map entries_in result)
+        (with_number (graph_of links.now leaves.now (map rc_value nodes.now)) keys.now
+        (entries_in growths) number) }
+    ensures grown { IfOk result
+        (λ next. HasGrown (graph_of links.now leaves.now (map rc_value nodes.now)) keys.now growths
+        number log.old log.new next) }
 {
     let key = key_at(keys, number);
     let made = growths.as_slice();

@@ -15,7 +15,8 @@ pub(crate) struct Mark {
 
 impl Mark {
     pub(crate) fn of(log: &Log) -> Mark
-        ensures { result ≡ record { notes = length log.now.notes; answers = length log.now.answers } }
+        ensures { result
+            ≡ record { notes = length log.now.notes; answers = length log.now.answers } }
     {
         Mark {
             notes: log.notes.len(),

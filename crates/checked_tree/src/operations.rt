@@ -25,14 +25,15 @@ fn settled_and_fitted<O: Oracle>(
     requires start { IsEnd from.now }
     requires end { IsEnd to.now }
     requires solvable { AreSolvable f.now.cases }
-    ensures { Follows O.asking oracle.old oracle.new log.old log.new result (settled_and_fitted f.now from.now to.now) }
+    ensures { Follows O.asking oracle.old oracle.new log.old log.new result
+        (settled_and_fitted f.now from.now to.now) }
 {
     let settled = settle(alloc, f, oracle, log)?;
     fit(alloc, &settled, from, to, oracle, log)
 }
 
-/// The formula of a link, from the one that it was given: settled, then fitted between the vocabularies of the link's
-/// ends.
+/// The formula of a link, from the one that it was given: settled, then fitted between the
+/// vocabularies of the link's ends.
 #[tactic(auto, using(posing::proofs::Following::following), unfolding(crate::specs::Evaluation::leaf_formula))]
 pub fn leaf<O: Oracle>(
     alloc: Global,
@@ -46,13 +47,15 @@ pub fn leaf<O: Oracle>(
     requires start { IsEnd from.now }
     requires end { IsEnd to.now }
     requires solvable { AreSolvable f.now.cases }
-    ensures { Follows O.asking oracle.old oracle.new log.old log.new result (leaf_formula f.now from.now to.now) }
+    ensures { Follows O.asking oracle.old oracle.new log.old log.new result
+        (leaf_formula f.now from.now to.now) }
 {
     settled_and_fitted(alloc, f, from, to, oracle, log)
 }
 
-/// The formula of one path and then another: the sequence of both, whose losses are noted before the first question,
-/// settled and fitted between the vocabularies of its ends. The first goes to a vocabulary that the second goes on from.
+/// The formula of one path and then another: the sequence of both, whose losses are noted before
+/// the first question, settled and fitted between the vocabularies of its ends. The first goes to a
+/// vocabulary that the second goes on from.
 #[tactic(auto, using(posing::proofs::Following::following), unfolding(crate::specs::Evaluation::sequence_formula))]
 pub fn sequence<O: Oracle>(
     alloc: Global,
@@ -64,7 +67,8 @@ pub fn sequence<O: Oracle>(
     log: &mut Log,
 ) -> Result<Formula, WorkError>
     requires { AreInSequence from.now to.now first.now second.now }
-    ensures { Follows O.asking oracle.old oracle.new log.old log.new result (sequence_formula first.now second.now from.now to.now) }
+    ensures { Follows O.asking oracle.old oracle.new log.old log.new result
+        (sequence_formula first.now second.now from.now to.now) }
 {
     let mut losses = Items::new(alloc);
     let f = seq(alloc, first, second, &mut losses)?;
@@ -72,8 +76,8 @@ pub fn sequence<O: Oracle>(
     settled_and_fitted(alloc, &f, from, to, oracle, log)
 }
 
-/// The formula of either of two paths between the same nodes: the cases of both, fitted between the vocabularies of
-/// these nodes.
+/// The formula of either of two paths between the same nodes: the cases of both, fitted between the
+/// vocabularies of these nodes.
 #[tactic(auto, using(posing::proofs::Following::following), unfolding(crate::specs::Evaluation::join_formula))]
 pub fn either<O: Oracle>(
     alloc: Global,
@@ -85,7 +89,8 @@ pub fn either<O: Oracle>(
     log: &mut Log,
 ) -> Result<Formula, WorkError>
     requires { AreEither from.now to.now left.now right.now }
-    ensures { Follows O.asking oracle.old oracle.new log.old log.new result (join_formula left.now right.now from.now to.now) }
+    ensures { Follows O.asking oracle.old oracle.new log.old log.new result
+        (join_formula left.now right.now from.now to.now) }
 {
     let f = join(alloc, left, right)?;
     fit(alloc, &f, from, to, oracle, log)

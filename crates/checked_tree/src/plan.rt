@@ -8,8 +8,8 @@ use items::Items;
 use path_expr::{Algebra, Cell, Link, reach};
 use std::alloc::{AllocError, Global};
 
-/// The operations that evaluate a graph: the key of each path once, and the numbers of the paths in the order of
-/// making.
+/// The operations that evaluate a graph: the key of each path once, and the numbers of the paths in
+/// the order of making.
 #[derive(Drop)]
 pub struct Plan {
     pub keys: IndexSet<Key>,
@@ -19,7 +19,9 @@ pub struct Plan {
 impl Plan {
     /// Notes an operation and gives its path's number. Where memory is wanting, nothing changes.
     fn note(&mut self, key: Key) -> Result<usize, AllocError>
-        ensures noted { IfOk result (λ n. HasNoted self.old.keys.keys self.new.keys.keys self.old.order self.new.order key n) }
+        ensures noted { IfOk result
+            (λ n. HasNoted self.old.keys.keys self.new.keys.keys self.old.order self.new.order key
+            n) }
         ensures keys { OnErr result (self.new.keys.keys ≡ self.old.keys.keys) }
         ensures order { OnErr result (self.new.order ≡ self.old.order) }
     {
@@ -88,7 +90,8 @@ pub fn planned(
     requires count { length links.now < 2 ^ 32 }
     requires graph { IsGraph nodes links.now }
     requires source { source < nodes }
-    ensures { IfOk result (λ made. IsPlanned nodes links.now source made.0.keys.keys made.0.order made.1.items) }
+    ensures { IfOk result
+        (λ made. IsPlanned nodes links.now source made.0.keys.keys made.0.order made.1.items) }
 {
     let mut plan = Plan {
         keys: IndexSet::new(alloc),

@@ -2,8 +2,8 @@ use polyhedra::{Log, Vocabulary};
 use std::rc::Rc;
 use transition_formula::Formula;
 
-/// A step of an evaluation: by which operation on which steps it came, what holds between the states at its two ends,
-/// and what this operation alone noted and was answered.
+/// A step of an evaluation: by which operation on which steps it came, what holds between the
+/// states at its two ends, and what this operation alone noted and was answered.
 #[cycle(step)]
 #[derive(Debug, Drop)]
 pub struct TreeStep {

@@ -17,7 +17,8 @@ use std::alloc::{AllocError, Global};
 use std::rc::Rc;
 use transition_formula::Formula;
 
-/// Each case's rows have their monomials in print order, each once. It goes over the cases and has no part in an answer.
+/// Each case's rows have their monomials in print order, each once. It goes over the cases and has
+/// no part in an answer.
 pub(crate) fn see_cases(cases: &[Case])
     ensures { HaveCanonicalRows cases.now }
 {
@@ -77,7 +78,11 @@ pub(crate) fn tree_at(growths: &[Growth], number: usize) -> &Checked
 
 /// The nodes that the path of a number leads from and to.
 pub(crate) fn ends_at(growths: &[Growth], number: usize) -> Link
-    ensures { result ≡ record { from = (growth_at growths.now number).from; to = (growth_at growths.now number).to } }
+    ensures { result
+        ≡ record {
+          from = (growth_at growths.now number).from;
+          to = (growth_at growths.now number).to;
+        } }
 {
     match growths.get(number) {
         Some(growth) => Link {

@@ -7,7 +7,8 @@ use Rattle.closed_form.specs.Differences.{Sequence, IsConstant, third_difference
 
 -- ---- one step of each sum
 
--- a number and a sum of equal ones, twice a number and a sum of such sums, and six times a number and a sum of these
+-- a number and a sum of equal ones, twice a number and a sum of such sums, and six times a number
+-- and a sum of these
 abbrev pub sums : ℤ → ℤ → ℤ → ℤ
 sums before d1 k = before +ℤ k *ℤ d1
 

@@ -1,5 +1,6 @@
--- The rows of Newton's forward difference formula and of the sum of a progression, as the operations on polynomials make
--- them. The formulas are stated six times and twice over, so that nothing is divided.
+-- The rows of Newton's forward difference formula and of the sum of a progression, as the
+-- operations on polynomials make them. The formulas are stated six times and twice over, so that
+-- nothing is divided.
 use Rattle.std.specs.Prelude.{ℤ, pos, Result, Ok}
 use Rattle.linear_terms.specs.declared.col.Col.{Col}
 use Rattle.linear_terms.specs.declared.error.TermError.{TermError}
@@ -16,12 +17,14 @@ closed_poly after before d1 d2 d3 k =
 
 -- that it is zero
 abbrev pub closed_row : (after before d1 d2 d3 : Polynomial) → Col → Result Row TermError
-closed_row after before d1 d2 d3 k = equation (closed_poly (Ok after) (Ok before) (Ok d1) (Ok d2) (Ok d3) (column k))
+closed_row after before d1 d2 d3 k =
+    equation (closed_poly (Ok after) (Ok before) (Ok d1) (Ok d2) (Ok d3) (column k))
 
 -- 2 change - 2 k s - e k (k - 1) - 2 c k
 abbrev pub sum_poly : Made → Made → ℤ → ℤ → Made → Made
 sum_poly change s e c k =
-    whole (pos 2) ⊠ change ⊟ whole (pos 2) ⊠ k ⊠ s ⊟ whole e ⊠ k ⊠ (k ⊟ whole (pos 1)) ⊟ whole (pos 2) ⊠ whole c ⊠ k
+    whole (pos 2) ⊠ change ⊟ whole (pos 2) ⊠ k ⊠ s ⊟ whole e ⊠ k ⊠ (k ⊟ whole (pos 1)) ⊟ whole
+    (pos 2) ⊠ whole c ⊠ k
 
 -- that it is not positive
 abbrev pub sum_row : (change s : Polynomial) → (e c : ℤ) → Col → Result Row TermError

@@ -11,11 +11,13 @@ use crate::products::{less_product, pairs, times_less};
 use linear_terms::{Col, Kind, Poly, Row, TermError, difference, mul};
 use std::alloc::Global;
 
-/// The row `6*after - 6*before - 6k*d1 - 3k(k-1)*d2 - k(k-1)(k-2)*d3 = 0`, or the first step of making it that leaves
-/// 128 bits or passes degree 4: products bind closer than differences, and both are made from the left.
+/// The row `6*after - 6*before - 6k*d1 - 3k(k-1)*d2 - k(k-1)(k-2)*d3 = 0`, or the first step of
+/// making it that leaves 128 bits or passes degree 4: products bind closer than differences, and
+/// both are made from the left.
 ///
-/// Where `before`, `d1`, `d2` and `d3` are a sequence's number and its differences at the start, the third of them
-/// constant, and `after` is its number after `k` steps, the row holds. Source: Newton's forward difference formula.
+/// Where `before`, `d1`, `d2` and `d3` are a sequence's number and its differences at the start,
+/// the third of them constant, and `after` is its number after `k` steps, the row holds. Source:
+/// Newton's forward difference formula.
 pub fn row(
     alloc: Global,
     after: &Poly,
@@ -25,12 +27,14 @@ pub fn row(
     d3: &Poly,
     k: Col,
 ) -> Result<Row, TermError>
-    ensures exact { Gives cause (λ r. r) result (closed_row after.now before.now d1.now d2.now d3.now k) }
+    ensures exact { Gives cause (λ r. r) result
+        (closed_row after.now before.now d1.now d2.now d3.now k) }
     ensures value { (at : Valuation) → IfOk result (λ r. RowHolds at r ↔
         IsForwardSum (value_of at after.now) (value_of at before.now)
         (value_of at d1.now) (value_of at d2.now) (value_of at d3.now) (at k)) }
     ensures holds { (at : Valuation) (u : Sequence) (n : ℕ) → IsConstant (third_difference u) →
-        ReadsAs at (run_of u n) after.now before.now d1.now d2.now d3.now k → IfOk result (RowHolds at) }
+        ReadsAs at (run_of u n) after.now before.now d1.now d2.now d3.now k
+        → IfOk result (RowHolds at) }
     ensures holds_on_runs { (at : Valuation) (run : Run) → IsRun run →
         ReadsAs at run after.now before.now d1.now d2.now d3.now k → IfOk result (RowHolds at) }
 {
@@ -53,7 +57,8 @@ fn closed_poly(
     k: &Poly,
 ) -> Result<Poly, TermError>
     ensures { Gives cause (λ p. p) result
-        (closed_poly (Ok after.now) (Ok before.now) (Ok d1.now) (Ok d2.now) (Ok d3.now) (Ok k.now)) }
+        (closed_poly (Ok after.now) (Ok before.now) (Ok d1.now) (Ok d2.now) (Ok d3.now)
+        (Ok k.now)) }
 {
     let linear = linear(alloc, after, before, d1, k)?;
     let quadratic = less_second(alloc, &linear, k, d2)?;
@@ -68,7 +73,8 @@ fn linear(
     d1: &Poly,
     k: &Poly,
 ) -> Result<Poly, TermError>
-    ensures { Gives cause (λ p. p) result (whole (pos 6) ⊠ Ok after.now ⊟ whole (pos 6) ⊠ Ok before.now
+    ensures { Gives cause (λ p. p) result
+        (whole (pos 6) ⊠ Ok after.now ⊟ whole (pos 6) ⊠ Ok before.now
         ⊟ whole (pos 6) ⊠ Ok k.now ⊠ Ok d1.now) }
 {
     let change = change(alloc, after, before)?;
@@ -77,7 +83,8 @@ fn linear(
 
 /// `6*after - 6*before`
 fn change(alloc: Global, after: &Poly, before: &Poly) -> Result<Poly, TermError>
-    ensures { Gives cause (λ p. p) result (whole (pos 6) ⊠ Ok after.now ⊟ whole (pos 6) ⊠ Ok before.now) }
+    ensures { Gives cause (λ p. p) result
+        (whole (pos 6) ⊠ Ok after.now ⊟ whole (pos 6) ⊠ Ok before.now) }
 {
     let left = sixfold(alloc, after)?;
     let right = sixfold(alloc, before)?;
@@ -113,7 +120,8 @@ fn less_second(alloc: Global, from: &Poly, k: &Poly, d2: &Poly) -> Result<Poly, 
 /// `from - k(k-1)(k-2)*d3`
 fn less_third(alloc: Global, from: &Poly, k: &Poly, d3: &Poly) -> Result<Poly, TermError>
     ensures { Gives cause (λ p. p) result
-        (Ok from.now ⊟ Ok k.now ⊠ (Ok k.now ⊟ whole (pos 1)) ⊠ (Ok k.now ⊟ whole (pos 2)) ⊠ Ok d3.now) }
+        (Ok from.now ⊟ Ok k.now ⊠ (Ok k.now ⊟ whole (pos 1)) ⊠ (Ok k.now ⊟ whole (pos 2)) ⊠ Ok
+        d3.now) }
 {
     let factor = triples(alloc, k)?;
     let term = mul(alloc, &factor, d3)?;

@@ -11,11 +11,13 @@ use crate::products::{less_product, pairs};
 use linear_terms::{Col, Kind, Poly, Row, TermError, difference, mul};
 use std::alloc::Global;
 
-/// The row `2*change - 2k*s - e*k*(k-1) - 2c*k <= 0`, or the first step of making it that leaves 128 bits or passes
-/// degree 4: products bind closer than differences, and both are made from the left.
+/// The row `2*change - 2k*s - e*k*(k-1) - 2c*k <= 0`, or the first step of making it that leaves
+/// 128 bits or passes degree 4: products bind closer than differences, and both are made from the
+/// left.
 ///
-/// Where a number changes by `change` in `k` turns, in each by at most a slope and `c`, and the slope is `s` at the start and
-/// grows by `e` in each turn, the row holds. Source: the sum of an arithmetic progression.
+/// Where a number changes by `change` in `k` turns, in each by at most a slope and `c`, and the
+/// slope is `s` at the start and grows by `e` in each turn, the row holds. Source: the sum of an
+/// arithmetic progression.
 pub fn sum_row(
     alloc: Global,
     change: &Poly,

@@ -1,4 +1,5 @@
--- The calls among the edges of a procedure's graph can be made links, and each has a stop in its flow.
+-- The calls among the edges of a procedure's graph can be made links, and each has a stop in its
+-- flow.
 use Rattle.std.proofs.Common.{◌≡◌, ℕ, length, map, List, [], ◌∷◌, Option, Some, refl, sym, ap, subst, ◌∙◌, length-append, arith}
 use Rattle.std.specs.Prelude.{All, slice_get}
 use Rattle.std.specs.List.{AllByRecursion}

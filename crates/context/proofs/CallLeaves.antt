@@ -1,4 +1,5 @@
--- The leaf of a call goes from its procedure's entry to the callee's, has few auxiliaries, and holds of how both begin.
+-- The leaf of a call goes from its procedure's entry to the callee's, has few auxiliaries, and
+-- holds of how both begin.
 use Rattle.std.proofs.Common.{◌≡◌, ℕ, ◌+◌, ◌-◌, ◌<◌, ◌≤◌, ◌^◌, ℤ, length, map, take, List, ◌++◌, Option, None, Some, refl, sym, ap, subst, ◌∙◌, append_assoc, arith}
 use Rattle.std.specs.Prelude.{All}
 use Rattle.std.specs.Option.{is_none}
@@ -112,7 +113,8 @@ module _ (w : Widths) (wide : AreWidths w) (stand : Option Transition) (fit : Fi
         few-solvable (190 + (2 ^ 31 - 1) + (w.globals + length args)) (call_leaf w stand args) leaf-fits
         (sequence-few 190 (2 ^ 31 - 1) (told_of w stand) (handing_of w args) handing-fits told-few handing-few) (omega (arith, few, globals, count))
 
-    -- from the first columns of a state that leads to the call, to the globals and the values of the arguments
+    -- from the first columns of a state that leads to the call, to the globals and the values of
+    -- the arguments
     pub leaf-holds : (before final values : List ℤ) → HoldsIf stand before final → values_of args final ≡ Some values
         → Holds (call_leaf w stand args) (take w.entry before) (take w.globals final ++ values)
     leaf-holds before final values h values_are =

@@ -1,4 +1,5 @@
--- An activation on a stack from `main` is at the end of a walk of the entry graph, along which the leaves hold of how it began.
+-- An activation on a stack from `main` is at the end of a walk of the entry graph, along which the
+-- leaves hold of how it began.
 use mathlib.Core.Path.{transport}
 use Rattle.std.proofs.Common.{◌≡◌, inl, ℕ, zero, suc, ◌+◌, ◌<◌, ◌^◌, ℤ, pos, length, map, take, List, [], ◌∷◌, ◌++◌, Option, Some, refl, sym, ap, subst, ◌∙◌, append_assoc, append-nil, length-append, arith}
 use Rattle.std.specs.Prelude.{◌==◌, Bool, true, false, if◌then◌else◌, nat_lt, slice_get, unwrap_or}
@@ -93,7 +94,8 @@ module _ (program : Program) (flows : List Flow) (formed : IsWellFormed program)
   abbrev ways : List Way
   ways = ways_of program flows
 
-  -- a walk from the start to the entry of the activation's procedure, along which the leaves hold of how it began
+  -- a walk from the start to the entry of the activation's procedure, along which the leaves hold
+  -- of how it began
   record Arrival (at : Beginning) : Type 0 where
     word : List ℕ
     walk : IsWalk g.links 0 (node_of program.main at.proc) word

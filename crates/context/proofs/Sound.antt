@@ -1,4 +1,5 @@
--- Where no state that the entry and the flow lead to makes the condition false, no execution fails the assertion.
+-- Where no state that the entry and the flow lead to makes the condition false, no execution fails
+-- the assertion.
 use Rattle.std.proofs.Common.{◌≡◌, ℕ, length, List, [], ◌∷◌, ◌++◌, Option, Some, sym, ap, subst, ◌∙◌, append_assoc, length-append, arith}
 use Rattle.std.specs.Prelude.{slice_get}
 use Rattle.std.specs.Option.{option_map}

@@ -1,4 +1,5 @@
--- Each way of a program leads between the entries of procedures, and its leaf goes between their columns.
+-- Each way of a program leads between the entries of procedures, and its leaf goes between their
+-- columns.
 use Rattle.std.proofs.Common.{◌≡◌, ℕ, suc, ◌+◌, ◌*◌, ◌<◌, ◌≤◌, ◌^◌, length, map, List, [], ◌∷◌, Option, None, Some, refl, sym, ap, ◌∙◌, length-append, arith}
 use Rattle.std.specs.Prelude.{IsSomeAnd, IsTrue, true, if◌then◌else◌, nat_lt, slice_get}
 use Rattle.std.specs.List.{AllByRecursion, list_all}

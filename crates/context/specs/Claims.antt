@@ -18,15 +18,18 @@ use Rattle.report.specs.declared.verdict.Verdict.TheVariants.{Proved, Unproved, 
 -- one for each procedure, which fits it
 pub record AreFlows (program : Program) (flows : List Flow) : Type 0 where
   pub each : length flows ≡ length program.procs
-  pub fit : (proc : ℕ) (p : Proc) (flow : Flow) → slice_get program.procs proc ≡ Some p → slice_get flows proc ≡ Some flow → FitsFlow program p flow
+  pub fit : (proc : ℕ) (p : Proc) (flow : Flow) → slice_get program.procs proc ≡ Some p
+      → slice_get flows proc ≡ Some flow → FitsFlow program p flow
 
 -- and holds of its activations
 abbrev pub FlowsHold : Program → List Flow → Type 0
-FlowsHold program flows = (proc : ℕ) (flow : Flow) → slice_get flows proc ≡ Some flow → FlowHolds program proc flow
+FlowsHold program flows = (proc : ℕ) (flow : Flow) → slice_get flows proc ≡ Some flow
+    → FlowHolds program proc flow
 
 -- ---- what entries are like
 
--- from no columns to the globals and parameters, by at most 16 cases of at most 64 rows and 64 auxiliaries
+-- from no columns to the globals and parameters, by at most 16 cases of at most 64 rows and 64
+-- auxiliaries
 pub record IsEntry (columns : ℕ) (f : Transition) : Type 0 where
   pub from : f.from ≡ 0
   pub to : f.to ≡ columns
@@ -39,7 +42,9 @@ IsEntryIf columns (Some f) = IsEntry columns f
 
 pub record AreEntries (program : Program) (entries : List (Option Transition)) : Type 0 where
   pub each : length entries ≡ length program.procs
-  pub fit : (proc : ℕ) (p : Proc) (entry : Option Transition) → slice_get program.procs proc ≡ Some p → slice_get entries proc ≡ Some entry → IsEntryIf (entry_width program p) entry
+  pub fit : (proc : ℕ) (p : Proc) (entry : Option Transition)
+      → slice_get program.procs proc ≡ Some p → slice_get entries proc ≡ Some entry
+      → IsEntryIf (entry_width program p) entry
 
 -- ---- what they say of executions
 
@@ -47,16 +52,19 @@ pub record AreEntries (program : Program) (entries : List (Option Transition)) :
 abbrev pub start_of_main : Program → Beginning
 start_of_main program = record { proc = program.main; globals = initial_globals program; args = [] }
 
--- The entry holds of the globals and the arguments with which each activation of the procedure begins that stands at the top of
--- the stack in an execution from `main`, whether or not those below it ever return.
+-- The entry holds of the globals and the arguments with which each activation of the procedure
+-- begins that stands at the top of the stack in an execution from `main`, whether or not those
+-- below it ever return.
 abbrev pub EntryHolds : Program → ℕ → Option Transition → Type 0
 EntryHolds program proc entry =
-    (config : Config) (chain : IsChain program (start_of_main program) config) → chain.top.proc ≡ proc →
+    (config : Config) (chain : IsChain program (start_of_main program) config)
+    → chain.top.proc ≡ proc →
     HoldsIf entry [] (chain.top.globals ++ chain.top.args)
 
 abbrev pub EntriesHold : Program → List (Option Transition) → Type 0
 EntriesHold program entries =
-    (proc : ℕ) (entry : Option Transition) → slice_get entries proc ≡ Some entry → EntryHolds program proc entry
+    (proc : ℕ) (entry : Option Transition) → slice_get entries proc ≡ Some entry
+    → EntryHolds program proc entry
 
 -- ---- verdicts
 

@@ -10,7 +10,8 @@ use Rattle.transition_formula.specs.Transition.{Transition, IsTransition}
 use Rattle.proc_summary.specs.Claims.{HoldsIf}
 use Rattle.context.specs.declared.place.Place.{Place}
 
--- the vocabularies have these columns, at most 63, and the columns that are told are among them, at most 63 too
+-- the vocabularies have these columns, at most 63, and the columns that are told are among them, at
+-- most 63 too
 pub record IsPlace (place : Place) : Type 0 where
   pub entry : place.entry ≤ place.columns
   pub start_columns : place.start.columns ≡ 0
@@ -38,20 +39,24 @@ HasFew most f = All (λ case. case.aux ≤ most) f.cases
 -- it holds of each state that begins with what the entry holds of
 abbrev pub HoldsBegun : ℕ → Option Transition → Transition → Type 0
 HoldsBegun columns entry f =
-    (begun others : List ℤ) → HoldsIf entry [] begun → length (begun ++ others) ≡ columns → Holds f [] (begun ++ others)
+    (begun others : List ℤ) → HoldsIf entry [] begun → length (begun ++ others) ≡ columns
+    → Holds f [] (begun ++ others)
 
 -- it holds of each state to which one formula and then another lead
 abbrev pub HoldsAfter : Transition → Transition → Transition → Type 0
-HoldsAfter begun stand f = (between final : List ℤ) → Holds begun [] between → Holds stand between final → Holds f [] final
+HoldsAfter begun stand f = (between final : List ℤ) → Holds begun [] between
+    → Holds stand between final → Holds f [] final
 
 -- it holds of what is told of each state in which the condition is false
 abbrev pub HoldsFailing : List ℕ → Term → Transition → Transition → Type 0
-HoldsFailing shown cond f g = (final : List ℤ) → Holds f [] final → IsFalseIn cond final → Holds g [] (numbers_at shown final)
+HoldsFailing shown cond f g = (final : List ℤ) → Holds f [] final → IsFalseIn cond final
+    → Holds g [] (numbers_at shown final)
 
 -- no state that begins with what the entry holds of leads to one in which the condition is false
 abbrev pub NoneFails : Place → Term → Option Transition → Option Transition → Type 0
 NoneFails place cond entry stand =
-    (begun others final : List ℤ) → HoldsIf entry [] begun → length (begun ++ others) ≡ place.columns →
+    (begun others final : List ℤ) → HoldsIf entry [] begun
+    → length (begun ++ others) ≡ place.columns →
     HoldsIf stand (begun ++ others) final → IsFalseIn cond final → ⊥
 
 -- the formula holds of no state in which the condition is false

@@ -1,5 +1,6 @@
--- The entries of a program's procedures: a graph whose nodes are the start and the entries of procedures, and whose links are
--- the calls. Its evaluation gives each entry a formula of the globals and parameters with which the procedure begins.
+-- The entries of a program's procedures: a graph whose nodes are the start and the entries of
+-- procedures, and whose links are the calls. Its evaluation gives each entry a formula of the
+-- globals and parameters with which the procedure begins.
 use Rattle.std.specs.Prelude.{ℕ, ◌+◌, ◌==◌, nat_lt, Bool, true, false, List, [], ◌∷◌, ◌++◌, Option, None, Some, length, map, slice_get, option_to_list, if◌then◌else◌}
 use Rattle.std.specs.List.{flat_map, range_with_len}
 use Rattle.linear_terms.specs.declared.row.Case.{Case}
@@ -29,7 +30,8 @@ use Rattle.proc_summary.specs.Flow.{formula_at}
 use Rattle.proc_summary.specs.Subject.{own_graph}
 use Rattle.context.specs.declared.stand.Widths.{Widths}
 
--- ---- nodes: 0 is where the program starts, 1 the entry of `main`, and then come the other procedures in the order of the text
+-- ---- nodes: 0 is where the program starts, 1 the entry of `main`, and then come the other
+-- procedures in the order of the text
 
 abbrev pub node_of : ℕ → ℕ → ℕ
 node_of main proc = if proc == main then 1 else (if nat_lt proc main then proc + 2 else proc + 1)
@@ -42,7 +44,8 @@ unless_main false own others = own ∷ others
 abbrev pub others_from : Program → ℕ → List Proc → List Vocabulary
 others_from program number [] = []
 others_from program number (p ∷ procs) =
-    unless_main (number == program.main) (entry_of program p) (others_from program (number + 1) procs)
+    unless_main (number == program.main) (entry_of program p)
+    (others_from program (number + 1) procs)
 
 abbrev pub main_entry : Program → List Vocabulary
 main_entry program = map (entry_of program) (option_to_list (slice_get program.procs program.main))
@@ -59,13 +62,25 @@ pub record Way : Type 0 where
 
 -- where the program starts, each global takes its first value, and `main` has no parameters
 abbrev pub start_case : Program → Case
-start_case program = record { aux = 0; rows = []; post = map (λ g. constant_of g.init) program.globals }
+start_case program = record {
+  aux = 0;
+  rows = [];
+  post = map (λ g. constant_of g.init) program.globals;
+}
 
 abbrev pub start_leaf : Program → Transition
-start_leaf program = record { from = 0; to = length program.globals; cases = start_case program ∷ [] }
+start_leaf program = record {
+  from = 0;
+  to = length program.globals;
+  cases = start_case program ∷ [];
+}
 
 abbrev pub start_way : Program → Way
-start_way program = record { link = record { from = 0; to = 1 }; leaf = start_leaf program; lost = [] }
+start_way program = record {
+  link = record { from = 0; to = 1 };
+  leaf = start_leaf program;
+  lost = [];
+}
 
 -- a call by its procedure and its arguments
 pub record Calling : Type 0 where
@@ -79,12 +94,18 @@ calling_by _ = []
 abbrev pub callings_in : List Arc → List Calling
 callings_in ways = flat_map (λ way. calling_by way.act) ways
 
--- how many columns the states of a procedure have, how many of these its entry has, and how many are globals
+-- how many columns the states of a procedure have, how many of these its entry has, and how many
+-- are globals
 abbrev pub widths_of : Program → Proc → Widths
 widths_of program p =
-    record { columns = width_of program p; entry = entry_width program p; globals = length program.globals }
+    record {
+      columns = width_of program p;
+      entry = entry_width program p;
+      globals = length program.globals;
+    }
 
--- where a call stands, as a formula from the entry of its procedure; no case where no way leads there
+-- where a call stands, as a formula from the entry of its procedure; no case where no way leads
+-- there
 abbrev pub stand_of : ℕ → Option Transition → Transition
 stand_of columns None = nothing_of columns
 stand_of columns (Some f) = f
@@ -134,7 +155,8 @@ ways_of program flows = start_way program ∷ ways_from program 0 program.procs 
 
 abbrev pub entry_graph : Program → List Flow → Graph
 entry_graph program flows =
-    graph_of (map (λ way. way.link) (ways_of program flows)) (map (λ way. way.leaf) (ways_of program flows)) (nodes_of program)
+    graph_of (map (λ way. way.link) (ways_of program flows))
+    (map (λ way. way.leaf) (ways_of program flows)) (nodes_of program)
 
 abbrev pub lost_on_ways : Program → List Flow → List Loss
 lost_on_ways program flows = flat_map (λ way. way.lost) (ways_of program flows)
@@ -142,7 +164,8 @@ lost_on_ways program flows = flat_map (λ way. way.lost) (ways_of program flows)
 -- the entry of each procedure in the order of the text; none where no way leads to it
 abbrev pub entries_in : Program → List (Cell Transition) → List (Option Transition)
 entries_in program cells =
-    map (λ proc. formula_at 0 cells (node_of program.main proc)) (range_with_len 0 (length program.procs))
+    map (λ proc. formula_at 0 cells (node_of program.main proc))
+    (range_with_len 0 (length program.procs))
 
 -- what was lost in making the leaves is noted before the first question
 unfoldable pub entries_from : Program → List Flow → Posing (List (Option Transition))

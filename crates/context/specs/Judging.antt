@@ -26,7 +26,8 @@ pub record IsVerdictOn (case : Case) (verdict : Verdict) : Type 0 where
 -- one for each case
 abbrev pub AreVerdictsOn : List Case → List Verdict → Type 0
 AreVerdictsOn [] [] = Unit {0}
-AreVerdictsOn (case ∷ cases) (verdict ∷ verdicts) = IsVerdictOn case verdict × AreVerdictsOn cases verdicts
+AreVerdictsOn (case ∷ cases) (verdict ∷ verdicts) = IsVerdictOn case verdict
+    × AreVerdictsOn cases verdicts
 AreVerdictsOn [] (verdict ∷ verdicts) = ⊥
 AreVerdictsOn (case ∷ cases) [] = ⊥
 
@@ -40,7 +41,8 @@ pub record AddsVerdict (case : Case) (made all : List Verdict) : Type 0 where
 pub record IsVerdictOnAll (cases : List Case) (verdict : Verdict) : Type 0 where
   pub dead : verdict ≡ Proved → AllByRecursion IsDead cases
   pub refuted : IsRefuted verdict
-  pub fits : (shown : ℕ) → AllByRecursion (λ case. IsTrue (fits 0 shown case)) cases → FitsVerdict shown verdict
+  pub fits : (shown : ℕ) → AllByRecursion (λ case. IsTrue (fits 0 shown case)) cases
+      → FitsVerdict shown verdict
 
 -- what is left of a case in order
 abbrev pub FitsLeft : ℕ → ℕ → Option Case → Type 0
@@ -60,4 +62,5 @@ pub record IsAnswered (case : Case) (answer : Answer) : Type 0 where
 abbrev pub stronger : Verdict → Verdict → Verdict
 stronger Proved second = second
 stronger (Unproved case point) second = Unproved case point
-stronger (UnprovedLimit case limit) second = if is_refuted second then second else UnprovedLimit case limit
+stronger (UnprovedLimit case limit) second = if is_refuted second then second
+    else UnprovedLimit case limit

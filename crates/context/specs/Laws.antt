@@ -14,12 +14,14 @@ use Rattle.context.specs.Claims.{EntryHolds}
 use Rattle.context.specs.Ends.{NoneFails}
 use Rattle.context.specs.Verdicts.{place_of}
 
--- Where no state to which the entry of its procedure and the formula of its node lead makes the condition of an assertion
--- false, no execution of the program fails it.
+-- Where no state to which the entry of its procedure and the formula of its node lead makes the
+-- condition of an assertion false, no execution of the program fails it.
 abbrev pub AssertionsHold : Type 0
 AssertionsHold =
-    (program : Program) (proc check : ℕ) (p : Proc) (at : CheckPlace) (flow : Flow) (stop : Stop) (entry : Option Transition) →
-    IsWellFormed program → slice_get program.procs proc ≡ Some p → slice_get (own_graph p).checks check ≡ Some at →
+    (program : Program) (proc check : ℕ) (p : Proc) (at : CheckPlace) (flow : Flow) (stop : Stop)
+    (entry : Option Transition) →
+    IsWellFormed program → slice_get program.procs proc ≡ Some p
+    → slice_get (own_graph p).checks check ≡ Some at →
     slice_get flow.checks check ≡ Some stop → FitsFlow program p flow →
     EntryHolds program proc entry → FlowHolds program proc flow →
     NoneFails (place_of program p) at.cond entry stop.formula → Fails program at.number → ⊥

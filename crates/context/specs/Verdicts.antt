@@ -1,5 +1,5 @@
--- The verdict on an assertion: the cases in which it would fail, from the start of the program to where it stands, and what is
--- answered of each.
+-- The verdict on an assertion: the cases in which it would fail, from the start of the program to
+-- where it stands, and what is answered of each.
 use Rattle.std.specs.Prelude.{ℕ, ◌+◌, ◌-◌, Bool, true, false, List, [], ◌∷◌, ◌++◌, Option, None, Some, length, map, drop, unwrap_or, if◌then◌else◌}
 use Rattle.std.specs.List.{filter_map, find, list_any, range_with_len}
 use Rattle.linear_terms.specs.declared.col.Col.TheVariants.{Aux}
@@ -33,8 +33,8 @@ use Rattle.context.specs.Entries.{stand_of}
 
 -- ---- where it stands
 
--- how many columns the procedure's entry and its states have, the vocabularies of the start and of its states, and the columns
--- that are told: those that have a name in the text
+-- how many columns the procedure's entry and its states have, the vocabularies of the start and of
+-- its states, and the columns that are told: those that have a name in the text
 abbrev pub shown_of : Program → Proc → List ℕ
 shown_of program p =
     range_with_len 0 (length program.globals) ++ named_from (length program.globals) p.columns
@@ -104,10 +104,12 @@ verdict_by case (answer.Bound at certs place point) = Unproved case []
 verdict_by case (answer.Unbounded place point ray) = Unproved case []
 verdict_by case (answer.Basis relations spots free) = Unproved case []
 
--- a case without rows is refuted by the empty point; of another it is asked whether its rows are infeasible
+-- a case without rows is refuted by the empty point; of another it is asked whether its rows are
+-- infeasible
 abbrev pub verdict_at : Case → List Row → Posing Verdict
 verdict_at case [] = Done (Unproved case [])
-verdict_at case (row ∷ rows) = answer_to (Infeasible (row ∷ rows)) >>= λ answer. Done (verdict_by case answer)
+verdict_at case (row ∷ rows) = answer_to (Infeasible (row ∷ rows))
+    >>= λ answer. Done (verdict_by case answer)
 
 abbrev pub verdict_left : Option Case → Posing Verdict
 verdict_left None = Done Proved
@@ -153,7 +155,8 @@ limits_of verdicts =
 -- all cases are asked about, whatever is found of the first ones; limits are noted last
 unfoldable pub judged_from : List Case → Posing Verdict
 judged_from cases =
-    each with_verdict [] cases >>= λ verdicts. Noted (limits_of verdicts) (Done (verdict_from verdicts))
+    each with_verdict [] cases >>= λ verdicts. Noted (limits_of verdicts)
+    (Done (verdict_from verdicts))
 
 -- ---- the assertion
 
@@ -164,4 +167,5 @@ failed_from place cond f =
 -- by its condition, the entry of its procedure, and the formula of where it stands
 unfoldable pub verdict_of : Place → Term → Option Transition → Option Transition → Posing Verdict
 verdict_of place cond entry stand =
-    reached_from place (begun_of place entry) (stand_of place.columns stand) >>= failed_from place cond
+    reached_from place (begun_of place entry) (stand_of place.columns stand)
+    >>= failed_from place cond

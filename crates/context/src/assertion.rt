@@ -35,11 +35,12 @@ use std::alloc::Global;
 use syntax_tree::{Core, Program};
 use transition_formula::{Formula, FormulaError, seq, with_posts};
 
-/// The verdict on an assertion of a procedure, by the entry of the procedure and its flow. Proved says that no
-/// execution from `main` fails there, where the entry holds of the activations on a stack from `main` and the flow of
-/// those of its procedure, as long as the answers are true. Unproved carries the first case with a point, and the
-/// point, which makes its rows true; UnprovedLimit the first with a limit, where no case has a point. The case tells
-/// the globals and the named columns. What is lost is noted before the next question.
+/// The verdict on an assertion of a procedure, by the entry of the procedure and its flow. Proved
+/// says that no execution from `main` fails there, where the entry holds of the activations on a
+/// stack from `main` and the flow of those of its procedure, as long as the answers are true.
+/// Unproved carries the first case with a point, and the point, which makes its rows true;
+/// UnprovedLimit the first with a limit, where no case has a point. The case tells the globals and
+/// the named columns. What is lost is noted before the next question.
 ///
 /// # Errors
 ///
@@ -57,12 +58,22 @@ pub fn verdict<O: Oracle>(
     requires formed { IsWellFormed program.now }
     requires procedure { proc < length program.now.procs }
     requires assertion { check < length flow.now.checks }
-    requires flow { (p : Procedure) → slice_get program.now.procs proc ≡ Some p → FitsFlow program.now p flow.now }
-    requires entry { (p : Procedure) → slice_get program.now.procs proc ≡ Some p → IsEntryIf (entry_width program.now p) entry.now }
-    ensures follows { (p : Procedure) (at : CheckPlace) (stop : Stop) → slice_get program.now.procs proc ≡ Some p → slice_get (own_graph p).checks check ≡ Some at → slice_get flow.now.checks check ≡ Some stop → Follows O.asking oracle.old oracle.new log.old log.new result (verdict_of (place_of program.now p) at.cond entry.now stop.formula) }
-    ensures sound { (p : Procedure) (at : CheckPlace) → slice_get program.now.procs proc ≡ Some p → slice_get (own_graph p).checks check ≡ Some at → EntryHolds program.now proc entry.now → FlowHolds program.now proc flow.now → result ≡ Ok Proved → Fails program.now at.number → ⊥ }
+    requires flow { (p : Procedure) → slice_get program.now.procs proc ≡ Some p
+        → FitsFlow program.now p flow.now }
+    requires entry { (p : Procedure) → slice_get program.now.procs proc ≡ Some p
+        → IsEntryIf (entry_width program.now p) entry.now }
+    ensures follows { (p : Procedure) (at : CheckPlace) (stop : Stop)
+        → slice_get program.now.procs proc ≡ Some p → slice_get (own_graph p).checks check ≡ Some at
+        → slice_get flow.now.checks check ≡ Some stop
+        → Follows O.asking oracle.old oracle.new log.old log.new result
+        (verdict_of (place_of program.now p) at.cond entry.now stop.formula) }
+    ensures sound { (p : Procedure) (at : CheckPlace) → slice_get program.now.procs proc ≡ Some p
+        → slice_get (own_graph p).checks check ≡ Some at → EntryHolds program.now proc entry.now
+        → FlowHolds program.now proc flow.now → result ≡ Ok Proved → Fails program.now at.number
+        → ⊥ }
     ensures refuted { IfOk result IsRefuted }
-    ensures fits { (p : Procedure) → slice_get program.now.procs proc ≡ Some p → IfOk result (FitsVerdict (length (shown_of program.now p))) }
+    ensures fits { (p : Procedure) → slice_get program.now.procs proc ≡ Some p
+        → IfOk result (FitsVerdict (length (shown_of program.now p))) }
 {
     let stand = &flow.checks.as_slice()[check as usize].formula;
     let graph = graph_of(alloc, program, proc)?;
@@ -86,8 +97,10 @@ fn verdict_at<O: Oracle>(
     requires cond { IsCondition place.now.columns (term_of cond.now) }
     requires entry { IsEntryIf place.now.entry entry.now }
     requires stand { FitsIf place.now.columns stand.now }
-    ensures follows { Follows O.asking oracle.old oracle.new log.old log.new result (verdict_of place.now (term_of cond.now) entry.now stand.now) }
-    ensures sound { result ≡ Ok Proved → NoneFails place.now (term_of cond.now) entry.now stand.now }
+    ensures follows { Follows O.asking oracle.old oracle.new log.old log.new result
+        (verdict_of place.now (term_of cond.now) entry.now stand.now) }
+    ensures sound { result ≡ Ok Proved
+        → NoneFails place.now (term_of cond.now) entry.now stand.now }
     ensures refuted { IfOk result IsRefuted }
     ensures fits { IfOk result (FitsVerdict (length place.now.shown)) }
 {
@@ -157,7 +170,8 @@ fn extended_case(alloc: Global, more: u32, case: &Case) -> Result<Case, FormulaE
 /// So many auxiliaries from a number on.
 fn auxiliaries(alloc: Global, first: u32, count: u32) -> Result<Items<Poly>, FormulaError>
     requires { first + count < 2 ^ 32 }
-    ensures { IfOk result (λ made. made ≡ map (λ n. column_of (Aux n)) (range_with_len first count)) }
+    ensures { IfOk result
+        (λ made. made ≡ map (λ n. column_of (Aux n)) (range_with_len first count)) }
 {
     let mut made = Items::new(alloc);
     for number in first..first + count {
@@ -189,7 +203,8 @@ fn reached<O: Oracle>(
     requires begun { IsFromStart place.now.columns begun.now }
     requires few { HasFew 127 begun.now }
     requires stand { IsBetweenStates place.now.columns stand.now }
-    ensures follows { Follows O.asking oracle.old oracle.new log.old log.new result (reached_from place.now begun.now stand.now) }
+    ensures follows { Follows O.asking oracle.old oracle.new log.old log.new result
+        (reached_from place.now begun.now stand.now) }
     ensures fits { IfOk result (IsFromStart place.now.columns) }
     ensures few { IfOk result (HasFew 64) }
     ensures holds { IfOk result (HoldsAfter begun.now stand.now) }
@@ -215,7 +230,8 @@ fn failed<O: Oracle>(
     requires cond { IsCondition place.now.columns (term_of cond.now) }
     requires formula { IsFromStart place.now.columns f.now }
     requires few { HasFew 64 f.now }
-    ensures follows { Follows O.asking oracle.old oracle.new log.old log.new result (failed_from place.now (term_of cond.now) f.now) }
+    ensures follows { Follows O.asking oracle.old oracle.new log.old log.new result
+        (failed_from place.now (term_of cond.now) f.now) }
     ensures sound { result ≡ Ok Proved → NoneFailsAt (term_of cond.now) f.now }
     ensures refuted { IfOk result IsRefuted }
     ensures fits { IfOk result (FitsVerdict (length place.now.shown)) }
@@ -224,7 +240,8 @@ fn failed<O: Oracle>(
     judged(alloc, failing.cases(), oracle, log)
 }
 
-/// The formula where the condition is false, with the posts of the columns that are told; what is lost is noted.
+/// The formula where the condition is false, with the posts of the columns that are told; what is
+/// lost is noted.
 fn failing(
     alloc: Global,
     place: &Place,
@@ -236,7 +253,8 @@ fn failing(
     requires cond { IsCondition place.now.columns (term_of cond.now) }
     requires formula { IsFromStart place.now.columns f.now }
     requires few { HasFew 64 f.now }
-    ensures noted { Adds (loss_notes (lost_in_failing place.now (term_of cond.now) f.now)) log.old log.new result }
+    ensures noted { Adds (loss_notes (lost_in_failing place.now (term_of cond.now) f.now)) log.old
+        log.new result }
     ensures exact { IfOk result (λ g. g ≡ failing_of place.now (term_of cond.now) f.now) }
     ensures solvable { IfOk result (λ g. AreSolvable g.cases) }
     ensures fits { IfOk result (IsFromStart (length place.now.shown)) }

@@ -29,8 +29,13 @@ pub(crate) fn with_calls(
 ) -> Result<Edges, FormulaError>
     requires formed { IsWellFormed program.now }
     requires procedure { number < length program.now.procs }
-    requires flow { (p : Procedure) → slice_get program.now.procs number ≡ Some p → FitsFlow program.now p flow.now }
-    ensures { (p : Procedure) → slice_get program.now.procs number ≡ Some p → IfOk result (λ all. all ≡ with_ways made (call_ways program.now.main number (widths_of program.now p) (callings_in (own_graph p).arcs) flow.now.calls)) }
+    requires flow { (p : Procedure) → slice_get program.now.procs number ≡ Some p
+        → FitsFlow program.now p flow.now }
+    ensures { (p : Procedure) → slice_get program.now.procs number ≡ Some p
+        → IfOk result
+        (λ all. all ≡ with_ways made
+        (call_ways program.now.main number (widths_of program.now p)
+        (callings_in (own_graph p).arcs) flow.now.calls)) }
 {
     let graph = graph_of(alloc, program, number)?;
     let caller = Caller {
@@ -61,10 +66,13 @@ impl Caller {
         made: Edges,
     ) -> Result<Edges, FormulaError>
         requires caller { IsCaller self }
-        requires calls { All (λ edge. IsCallFit self.widths.columns (statement_of_act edge.act)) edges.now }
+        requires calls { All (λ edge. IsCallFit self.widths.columns (statement_of_act edge.act))
+            edges.now }
         requires stops { All (FitsStop self.widths.columns) stops.now }
         requires as_many { length (callings_on edges.now) ≡ length stops.now }
-        ensures { IfOk result (λ all. all ≡ with_ways made (call_ways self.main self.number self.widths (callings_on edges.now) stops.now)) }
+        ensures { IfOk result
+            (λ all. all ≡ with_ways made
+            (call_ways self.main self.number self.widths (callings_on edges.now) stops.now)) }
     {
         let mut all = made;
         let mut place = 0;
@@ -76,8 +84,8 @@ impl Caller {
         Ok(all)
     }
 
-    /// The links, and behind them that of an edge if it is a call, which stands at the stop with this number; and the
-    /// number of the next call.
+    /// The links, and behind them that of an edge if it is a call, which stands at the stop with
+    /// this number; and the number of the next call.
     fn with_edge(
         self,
         alloc: Global,
@@ -89,9 +97,15 @@ impl Caller {
         requires caller { IsCaller self }
         requires call { IsCallFit self.widths.columns (statement_of_act edge.now.act) }
         requires stops { All (FitsStop self.widths.columns) stops.now }
-        requires there { place + length (calling_by (statement_of_act edge.now.act)) ≤ length stops.now }
-        ensures made { IfOk result (λ both. both.0 ≡ with_ways made (call_ways self.main self.number self.widths (calling_by (statement_of_act edge.now.act)) (drop place stops.now))) }
-        ensures next { IfOk result (λ both. both.1 ≡ place + length (calling_by (statement_of_act edge.now.act))) }
+        requires there { place + length (calling_by (statement_of_act edge.now.act))
+            ≤ length stops.now }
+        ensures made { IfOk result
+            (λ both. both.0
+            ≡ with_ways made
+            (call_ways self.main self.number self.widths
+            (calling_by (statement_of_act edge.now.act)) (drop place stops.now))) }
+        ensures next { IfOk result
+            (λ both. both.1 ≡ place + length (calling_by (statement_of_act edge.now.act))) }
     {
         match &edge.act {
             Act::Call { proc, args, .. } => {
@@ -116,7 +130,10 @@ impl Caller {
         requires callee { callee ≤ 256 }
         requires arguments { AreArguments self.widths.columns (map term_of args.now) }
         requires stop { FitsStop self.widths.columns stop.now }
-        ensures { IfOk result (λ all. all ≡ with_ways made (call_way self.main self.number self.widths (calling_of callee (map term_of args.now)) stop.now ∷ [])) }
+        ensures { IfOk result
+            (λ all. all ≡ with_ways made
+            (call_way self.main self.number self.widths (calling_of callee (map term_of args.now))
+            stop.now ∷ [])) }
     {
         let Edges {
             mut links,

@@ -17,13 +17,13 @@ use std::alloc::Global;
 use syntax_tree::Program;
 use transition_formula::{Formula, FormulaError, identity};
 
-/// The entry of each procedure, by the flows of all: from no columns to the globals and parameters with which it
-/// begins, by at most 16 cases of at most 64 rows and 64 auxiliaries. None for a procedure to which no calls lead from
-/// `main`.
+/// The entry of each procedure, by the flows of all: from no columns to the globals and parameters
+/// with which it begins, by at most 16 cases of at most 64 rows and 64 auxiliaries. None for a
+/// procedure to which no calls lead from `main`.
 ///
-/// Where the flows hold of activations, and as long as the answers are true, an entry holds of each activation in an
-/// execution from `main`, whether or not those below it on the stack return. What is lost in making the leaves is
-/// noted before the first question.
+/// Where the flows hold of activations, and as long as the answers are true, an entry holds of each
+/// activation in an execution from `main`, whether or not those below it on the stack return. What
+/// is lost in making the leaves is noted before the first question.
 ///
 /// # Errors
 ///
@@ -38,7 +38,8 @@ pub fn entries<O: Oracle>(
 ) -> Result<Items<Option<Formula>>, WorkError>
     requires formed { IsWellFormed program.now }
     requires flows { AreFlows program.now flows.now }
-    ensures follows { Follows O.asking oracle.old oracle.new log.old log.new result (entries_from program.now flows.now) }
+    ensures follows { Follows O.asking oracle.old oracle.new log.old log.new result
+        (entries_from program.now flows.now) }
     ensures fits { IfOk result (AreEntries program.now) }
     ensures holds { FlowsHold program.now flows.now → IfOk result (EntriesHold program.now) }
 {

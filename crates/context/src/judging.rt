@@ -17,10 +17,11 @@ use report::Verdict;
 use std::alloc::{AllocError, Global};
 use transition_formula::{FormulaError, Solved, solve};
 
-/// The verdict on cases in which an assertion would fail: the first that has a point, else the first with a limit,
-/// else it is proved. Each case is put in order and it is asked whether its rows are infeasible; a case without rows
-/// has the empty point. All cases are asked about, whatever is found of the first ones; limits are noted last, but
-/// for the one that the verdict carries.
+/// The verdict on cases in which an assertion would fail: the first that has a point, else the
+/// first with a limit, else it is proved. Each case is put in order and it is asked whether its
+/// rows are infeasible; a case without rows has the empty point. All cases are asked about,
+/// whatever is found of the first ones; limits are noted last, but for the one that the verdict
+/// carries.
 ///
 /// # Errors
 ///
@@ -33,7 +34,8 @@ pub fn judged<O: Oracle>(
     log: &mut Log,
 ) -> Result<Verdict, WorkError>
     requires { AreSolvable cases.now }
-    ensures follows { Follows O.asking oracle.old oracle.new log.old log.new result (judged_from cases.now) }
+    ensures follows { Follows O.asking oracle.old oracle.new log.old log.new result
+        (judged_from cases.now) }
     ensures known { IfOk result (IsVerdictOnAll cases.now) }
 {
     let verdicts = verdicts_on(alloc, cases, oracle, log)?;
@@ -48,7 +50,8 @@ fn verdicts_on<O: Oracle>(
     log: &mut Log,
 ) -> Result<Items<Verdict>, WorkError>
     requires { AreSolvable cases.now }
-    ensures follows { Follows O.asking oracle.old oracle.new log.old log.new result (each with_verdict [] cases.now) }
+    ensures follows { Follows O.asking oracle.old oracle.new log.old log.new result
+        (each with_verdict [] cases.now) }
     ensures known { IfOk result (AreVerdictsOn cases.now) }
 {
     let mut made = Items::new(alloc);
@@ -68,7 +71,8 @@ fn with_verdict<O: Oracle>(
     log: &mut Log,
 ) -> Result<Items<Verdict>, WorkError>
     requires { IsSolvable case.now }
-    ensures follows { Follows O.asking oracle.old oracle.new log.old log.new result (with_verdict made case.now) }
+    ensures follows { Follows O.asking oracle.old oracle.new log.old log.new result
+        (with_verdict made case.now) }
     ensures known { IfOk result (AddsVerdict case.now made) }
 {
     let verdict = case_verdict(alloc, case, oracle, log)?;
@@ -86,7 +90,8 @@ fn case_verdict<O: Oracle>(
     log: &mut Log,
 ) -> Result<Verdict, WorkError>
     requires { IsSolvable case.now }
-    ensures follows { Follows O.asking oracle.old oracle.new log.old log.new result (case_verdict case.now) }
+    ensures follows { Follows O.asking oracle.old oracle.new log.old log.new result
+        (case_verdict case.now) }
     ensures known { IfOk result (IsVerdictOn case.now) }
 {
     match solve_noted(alloc, case, log)? {
@@ -119,7 +124,8 @@ fn verdict_at<O: Oracle>(
     oracle: &mut O,
     log: &mut Log,
 ) -> Result<Verdict, WorkError>
-    ensures follows { Follows O.asking oracle.old oracle.new log.old log.new result (verdict_at case case.rows) }
+    ensures follows { Follows O.asking oracle.old oracle.new log.old log.new result
+        (verdict_at case case.rows) }
     ensures known { IfOk result (IsVerdictOn case) }
 {
     if case.rows.is_empty() {

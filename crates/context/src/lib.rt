@@ -1,5 +1,5 @@
-//! Entries of procedures and verdicts on assertions: the globals and parameters with which a procedure may begin, and
-//! whether an assertion can fail, by the cases in which it would.
+//! Entries of procedures and verdicts on assertions: the globals and parameters with which a
+//! procedure may begin, and whether an assertion can fail, by the cases in which it would.
 #![tactic(auto)]
 
 mod assertion;

@@ -10,8 +10,8 @@ use std::alloc::{AllocError, Global};
 use syntax_tree::Program;
 use vocabularies::{entry, start};
 
-/// The vocabularies of the entry graph's nodes: of the start, of the entry of `main`, and of those of the other
-/// procedures in the order of the text.
+/// The vocabularies of the entry graph's nodes: of the start, of the entry of `main`, and of those
+/// of the other procedures in the order of the text.
 pub(crate) fn nodes_of(alloc: Global, program: &Program) -> Result<Items<Vocabulary>, AllocError>
     requires { IsWellFormed program.now }
     ensures { IfOk result (λ nodes. nodes ≡ nodes_of program.now) }
@@ -34,7 +34,10 @@ fn with_other(
 ) -> Result<Items<Vocabulary>, AllocError>
     requires formed { IsWellFormed program.now }
     requires procedure { number < length program.now.procs }
-    ensures { (p : Procedure) → slice_get program.now.procs number ≡ Some p → IfOk result (λ all. all ≡ nodes ++ unless_main (number == program.now.main) (entry_of program.now p) []) }
+    ensures { (p : Procedure) → slice_get program.now.procs number ≡ Some p
+        → IfOk result
+        (λ all. all ≡ nodes ++ unless_main (number == program.now.main) (entry_of program.now p)
+        []) }
 {
     if number == program.main {
         return Ok(nodes);

@@ -11,8 +11,8 @@ use std::alloc::{AllocError, Global};
 use syntax_tree::Program;
 use vocabularies::{full, start};
 
-/// Where an assertion stands: how many columns its procedure's entry and its states have, the vocabularies of the
-/// program's start and of these states, and the columns that are told.
+/// Where an assertion stands: how many columns its procedure's entry and its states have, the
+/// vocabularies of the program's start and of these states, and the columns that are told.
 #[derive(Debug, Drop)]
 pub(crate) struct Place {
     pub(crate) entry: u32,
@@ -25,7 +25,8 @@ pub(crate) struct Place {
 pub(crate) fn place_of(alloc: Global, program: &Program, proc: u32) -> Result<Place, AllocError>
     requires formed { IsWellFormed program.now }
     requires procedure { proc < length program.now.procs }
-    ensures exact { (p : Procedure) → slice_get program.now.procs proc ≡ Some p → IfOk result (λ place. place ≡ place_of program.now p) }
+    ensures exact { (p : Procedure) → slice_get program.now.procs proc ≡ Some p
+        → IfOk result (λ place. place ≡ place_of program.now p) }
     ensures known { IfOk result IsPlace }
 {
     let start = start(alloc, program)?;
@@ -56,7 +57,8 @@ fn shown_in(alloc: Global, full: &Vocabulary) -> Result<Items<u32>, AllocError>
 pub(crate) fn entry_width(program: &Program, proc: u32) -> u32
     requires formed { IsWellFormed program.now }
     requires procedure { proc < length program.now.procs }
-    ensures { (p : Procedure) → slice_get program.now.procs proc ≡ Some p → result ≡ entry_width program.now p }
+    ensures { (p : Procedure) → slice_get program.now.procs proc ≡ Some p
+        → result ≡ entry_width program.now p }
 {
     program.globals.len() as u32 + program.procs.as_slice()[proc as usize].params
 }

@@ -12,7 +12,8 @@ use std::alloc::Global;
 use syntax_tree::{Core, Program};
 use transition_formula::{Formula, FormulaError, Loss, hidden, seq};
 
-/// How many columns the states of a procedure have, how many of these its entry has, and how many are globals.
+/// How many columns the states of a procedure have, how many of these its entry has, and how many
+/// are globals.
 #[derive(Clone, Copy, Debug, PartialEq, Eq)]
 pub(crate) struct Widths {
     pub(crate) columns: u32,
@@ -23,7 +24,8 @@ pub(crate) struct Widths {
 pub(crate) fn widths_of(program: &Program, proc: u32) -> Widths
     requires formed { IsWellFormed program.now }
     requires procedure { proc < length program.now.procs }
-    ensures exact { (p : Procedure) → slice_get program.now.procs proc ≡ Some p → result ≡ widths_of program.now p }
+    ensures exact { (p : Procedure) → slice_get program.now.procs proc ≡ Some p
+        → result ≡ widths_of program.now p }
     ensures known { AreWidths result }
 {
     let p = &program.procs.as_slice()[proc as usize];
@@ -51,8 +53,9 @@ pub(crate) fn stand_of(
     }
 }
 
-/// From the entry of a procedure to where a call stands, with the entry's other columns as auxiliaries, and then to the
-/// globals and the arguments of the callee. Losses are noted behind those that are there.
+/// From the entry of a procedure to where a call stands, with the entry's other columns as
+/// auxiliaries, and then to the globals and the arguments of the callee. Losses are noted behind
+/// those that are there.
 pub(crate) fn call_leaf(
     alloc: Global,
     widths: Widths,
@@ -64,7 +67,8 @@ pub(crate) fn call_leaf(
     requires stand { FitsIf widths.columns stand.now }
     requires arguments { AreArguments widths.columns (map term_of args.now) }
     ensures exact { IfOk result (λ f. f ≡ call_leaf widths stand.now (map term_of args.now)) }
-    ensures noted { OnOk result (losses.new ≡ losses.old ++ lost_in_call widths stand.now (map term_of args.now)) }
+    ensures noted { OnOk result
+        (losses.new ≡ losses.old ++ lost_in_call widths stand.now (map term_of args.now)) }
 {
     let stand = stand_of(alloc, widths.columns, stand)?;
     let told = hidden(alloc, &stand, widths.entry, losses)?;

@@ -1,4 +1,5 @@
--- What the analysis under the answers of a replay came to is what its computation comes to under them.
+-- What the analysis under the answers of a replay came to is what its computation comes to under
+-- them.
 use Rattle.std.proofs.Common.{◌≡◌, ℕ, ◌+◌, List, [], ◌∷◌, ◌++◌, length, Some, refl, ap, ◌∙◌, inl, inr}
 use Rattle.std.specs.Prelude.{◌-◌, IfOk, Result, Ok, Err, codes}
 use Rattle.farkas_check.specs.declared.answer.Answer.{Answer}

@@ -1,4 +1,5 @@
--- Reading in pieces: what was read stands before what is left, until nothing is left or the limit is passed.
+-- Reading in pieces: what was read stands before what is left, until nothing is left or the limit
+-- is passed.
 use Rattle.std.proofs.Common.{◌≡◌, ℕ, ◌+◌, ◌≤◌, List, ◌++◌, length, take, Option, None, Some, refl, sym, ap, ◌∙◌, arith, append_assoc, append-nil}
 use Rattle.std.proofs.Math.Seq.{take-append_seam}
 use Rattle.std.proofs.lemmas.List.{take_all}

@@ -1,4 +1,5 @@
--- What clap makes of the words that are listed: it takes them, or tells that help or the version is asked for.
+-- What clap makes of the words that are listed: it takes them, or tells that help or the version is
+-- asked for.
 use Rattle.std.proofs.Common.{refl, sym, subst, ap, codes, true, false, List, ℕ, [], ◌∷◌, Option, Some, None, ◌≡◌, ◌≢◌, ◌⊎◌, inl, inr, Bool, zero, suc, ◌≤◌, ◌-◌, ◌+◌, arith, option_map, true≢false, length, if◌then◌else◌, ◌∙◌}
 use Rattle.std.proofs.lemmas.Bool.{leb-true}
 use Rattle.std.specs.Prelude.{nat_le, ◌&&◌}
@@ -37,7 +38,8 @@ IsAnswered kinds = (kinds ≡ []) ⊎ ((kinds ≡ kind.DisplayHelp ∷ []) ⊎ (
 abbrev pub name_of : Option (Text × List Row) → Option Text
 name_of = option_map (λ p. p.0)
 
--- Words that clap takes ask for what is listed for their subcommand, and listed words are taken, or are a request.
+-- Words that clap takes ask for what is listed for their subcommand, and listed words are taken, or
+-- are a request.
 pub record Fits (words : List (List ℕ)) : Type 0 where
   pub matched : fault_of commands words ≡ [] → matched_work (name_of (subcommand_of commands words)) words ≡ work_of words
   pub answered : (work : Work) → work_of words ≡ Some work → IsAnswered (fault_of commands words)

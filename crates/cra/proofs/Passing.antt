@@ -1,4 +1,5 @@
--- Certificate files: one whose text is accepted passes or does not, and the output of `certify` passes.
+-- Certificate files: one whose text is accepted passes or does not, and the output of `certify`
+-- passes.
 use Rattle.std.proofs.Common.{◌≡◌, ◌≢◌, ℕ, ◌≤◌, ◌⊎◌, Bool, true, false, List, [], ◌++◌, length, Option, Ok, inl, inr, refl, sym, ap, subst, ◌∙◌, arith, length-append}
 use Rattle.std.proofs.lemmas.Bool.{ltb-true}
 use Rattle.std.proofs.lemmas.Slice.Eq.{bytes_eq-Decides}

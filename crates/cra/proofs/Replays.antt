@@ -1,4 +1,5 @@
--- Inputs on which an execution is followed: their texts are short, and what a trace and a refusal answer to them.
+-- Inputs on which an execution is followed: their texts are short, and what a trace and a refusal
+-- answer to them.
 use Rattle.std.proofs.Common.{◌≡◌, ◌≤◌, ℕ, ℤ, Bool, true, false, List, length, Option, Some, Result, Ok, Err, codes, refl, subst, ap, ◌∙◌, inl}
 use Rattle.std.proofs.lemmas.Bool.{leb-true}
 use Rattle.std.specs.Prelude.{None, IfOk, nat_le, if◌then◌else◌}

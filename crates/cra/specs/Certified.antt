@@ -11,8 +11,10 @@ use Rattle.wire.specs.Sharing.{IsShared}
 use Rattle.wire.specs.Written.{certificate_data}
 use Rattle.cra.specs.Stated.{IsAnalysed}
 
--- A file of the second version has a text, the text of a report, and answers, of which each stands once.
-pub record IsFileOf (text : List ℕ) (answers : List Answer) (report : Report) (file : Certificate) : Type 0 where
+-- A file of the second version has a text, the text of a report, and answers, of which each stands
+-- once.
+pub record IsFileOf (text : List ℕ) (answers : List Answer) (report : Report)
+    (file : Certificate) : Type 0 where
   pub version : file.version ≡ Second
   pub text_is : file.text ≡ text
   pub report_is : file.report ≡ text_of report
@@ -22,8 +24,8 @@ pub record IsFileOf (text : List ℕ) (answers : List Answer) (report : Report) 
 abbrev pub file_text : Certificate → List ℕ
 file_text file = compact_text (certificate_data file)
 
--- The text is accepted, and the file has its report and the answers under which its analysis comes to that. It is read back
--- from how it is written.
+-- The text is accepted, and the file has its report and the answers under which its analysis comes
+-- to that. It is read back from how it is written.
 pub record IsCertified (text : List ℕ) (file : Certificate) : Type 0 where
   pub answers : List Answer
   pub report : Report

@@ -29,9 +29,10 @@ abbrev pub IsMetBy : Program → Posed Report → Type 0
 IsMetBy program (Finished report notes left) = ClaimsAreMet program report
 IsMetBy program (Stuck question left) = Unit {0}
 
--- The text is accepted, and the analysis of its program comes to this under listed answers and a rule. Whoever listed
--- them, the claims of a report to which it comes are met.
-pub record IsShown (rule : ℕ) (text : List ℕ) (answers : List Answer) (posed : Posed Report) : Type 0 where
+-- The text is accepted, and the analysis of its program comes to this under listed answers and a
+-- rule. Whoever listed them, the claims of a report to which it comes are met.
+pub record IsShown (rule : ℕ) (text : List ℕ) (answers : List Answer)
+    (posed : Posed Report) : Type 0 where
   pub program : Program
   pub is_posed : IsPosed rule text program answers posed
   pub met : IsMetBy program posed

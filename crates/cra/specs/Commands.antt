@@ -18,7 +18,8 @@ top = record { top = record (plain (codes "cra")) { has_version = true }; subs =
 -- the program's command, with a subcommand for each of its commands
 abbrev pub commands : App
 commands =
-    with_subcommand (with_subcommand (with_subcommand (with_subcommand (with_subcommand (with_subcommand top
+    with_subcommand
+    (with_subcommand (with_subcommand (with_subcommand (with_subcommand (with_subcommand top
     (plain (codes "analyse")))
     (plain (codes "certify")))
     (plain (codes "check")))

@@ -58,4 +58,5 @@ refusal_line (Typing fault) = typing_line fault
 -- the word, and the line and column of the place
 abbrev pub refusal_text : List ℕ → Line → List ℕ
 refusal_text text line =
-    codes "refused " ++ line.word ++ codes " at " ++ decimal (line_at text line.at) ++ codes ":" ++ decimal (column_at text line.at) ++ codes "\n"
+    codes "refused " ++ line.word ++ codes " at " ++ decimal (line_at text line.at) ++ codes ":"
+    ++ decimal (column_at text line.at) ++ codes "\n"

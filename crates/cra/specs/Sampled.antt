@@ -8,7 +8,8 @@ use Rattle.cra.specs.declared.status.Status.TheVariants as ended
 -- a procedure that counts up to its argument
 abbrev pub procedure_text : ℕ → List ℕ
 procedure_text number =
-    codes "int p" ++ decimal number ++ codes "(int n) {\n  int i = 0;\n  while (i < n) i++;\n  assert(i >= n);\n  return i;\n}\n"
+    codes "int p" ++ decimal number
+    ++ codes "(int n) {\n  int i = 0;\n  while (i < n) i++;\n  assert(i >= n);\n  return i;\n}\n"
 
 -- its call
 abbrev pub call_text : ℕ → List ℕ

@@ -9,8 +9,8 @@ use Rattle.summary_cache.specs.declared.working.Analysed.{Analysed}
 use Rattle.summary_cache.specs.Accepted.{IsRefusedBy}
 use Rattle.summary_cache.specs.Stated.{IsAnalysedBy}
 
--- The text is accepted, and the report is what the analysis of its program comes to under these answers, each of which is
--- one that the finder gives. Its claims are met.
+-- The text is accepted, and the report is what the analysis of its program comes to under these
+-- answers, each of which is one that the finder gives. Its claims are met.
 abbrev pub IsAnalysed : List ℕ → List Answer → Report → Type 0
 IsAnalysed text answers report = IsAnalysedBy IsFound 2 text answers report
 

@@ -20,6 +20,7 @@ code_of WantOfMemory = 6
 code_of WrongInput = 7
 code_of TooLong = 9
 
--- a status that answers the words and the input, and tells no fault of the source, the sink or memory
+-- a status that answers the words and the input, and tells no fault of the source, the sink or
+-- memory
 abbrev pub IsAnswer : Status → Type 0
 IsAnswer status = (status ≢ SourceFailed) × (status ≢ SinkFailed) × (status ≢ WantOfMemory)

@@ -7,7 +7,10 @@ use Rattle.summary_cache.specs.declared.working.Analysed.{Analysed}
 use Rattle.summary_cache.specs.Stated.{IsAnalysedBy}
 use Rattle.summary_cache.specs.Submitted.{IsCause}
 
--- The text is analysed under the answers that the oracle had next, or there is a cause why it is not.
-abbrev pub IsSubmitted : {S : Type 0} → Asking S → ℕ → S → S → List ℕ → Result Analysed SubmitError → Type 0
-IsSubmitted O rule old new text (Ok last) = IsAnalysedBy O.allows rule text last.answers last.report × (O.left old ≡ with_all last.answers (O.left new))
+-- The text is analysed under the answers that the oracle had next, or there is a cause why it is
+-- not.
+abbrev pub IsSubmitted : {S : Type 0} → Asking S → ℕ → S → S → List ℕ → Result Analysed SubmitError
+    → Type 0
+IsSubmitted O rule old new text (Ok last) = IsAnalysedBy O.allows rule text last.answers last.report
+    × (O.left old ≡ with_all last.answers (O.left new))
 IsSubmitted O rule old new text (Err error) = IsCause O rule old new text error

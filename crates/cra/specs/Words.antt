@@ -23,20 +23,22 @@ is_digit code = nat_le 48 code && nat_le code 57
 -- one to three decimal digits without a leading zero
 abbrev pub is_short_number : List ℕ → Bool
 is_short_number [] = false
-is_short_number (first ∷ rest) = nat_le 49 first && (nat_le first 57 && (nat_le (length rest) 2 && list_all is_digit rest))
+is_short_number (first ∷ rest) =
+    nat_le 49 first && (nat_le first 57 && (nat_le (length rest) 2 && list_all is_digit rest))
 
 -- the most procedures of a made text, without `main`
 abbrev pub most_procedures : ℕ
 most_procedures = 250
 
 abbrev pub count_of : List ℕ → Option ℕ
-count_of text = if is_short_number text && nat_le (digits_value 10 text) most_procedures then Some (digits_value 10 text) else None
+count_of text = if is_short_number text && nat_le (digits_value 10 text) most_procedures
+    then Some (digits_value 10 text) else None
 
 abbrev pub sample_of : List ℕ → Option Work
 sample_of text = option_map Sample (count_of text)
 
--- What a command line asks for: the program's name and one word, or `sample` and a number, before which two dashes may
--- stand. Every other list of words asks for nothing.
+-- What a command line asks for: the program's name and one word, or `sample` and a number, before
+-- which two dashes may stand. Every other list of words asks for nothing.
 abbrev pub work_of : List (List ℕ) → Option Work
 work_of (name ∷ word ∷ []) = work_named word
 work_of (name ∷ word ∷ text ∷ []) = if bytes_eq word (codes "sample") then sample_of text else None

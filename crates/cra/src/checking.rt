@@ -44,8 +44,10 @@ fn failed(alloc: Global, before: &[u8], number: u128, after: &[u8]) -> Result<Re
 /// Whether both have the same byte at a place.
 fn same_at(one: &[u8], other: &[u8], at: usize) -> bool
     ensures more { result ≡ true → at < length one.now }
-    ensures next { result ≡ true → common_prefix_len nat_eq (drop at one.now) (drop at other.now) ≡ 1 + common_prefix_len nat_eq (drop (at + 1) one.now) (drop (at + 1) other.now) }
-    ensures end { result ≡ false → common_prefix_len nat_eq (drop at one.now) (drop at other.now) ≡ 0 }
+    ensures next { result ≡ true → common_prefix_len nat_eq (drop at one.now) (drop at other.now)
+        ≡ 1 + common_prefix_len nat_eq (drop (at + 1) one.now) (drop (at + 1) other.now) }
+    ensures end { result ≡ false → common_prefix_len nat_eq (drop at one.now) (drop at other.now)
+        ≡ 0 }
 {
     match (one.get(at), other.get(at)) {
         (Some(byte), Some(beside)) => *byte == *beside,
@@ -97,7 +99,8 @@ fn finished_reply(
     failed(alloc, b"", left as u128, b" answers left")
 }
 
-/// The answer where the analysis came to a question without an answer that passes: so many are left of all.
+/// The answer where the analysis came to a question without an answer that passes: so many are left
+/// of all.
 fn stuck_reply(alloc: Global, all: usize, left: usize) -> Result<Reply, AllocError>
     ensures reply { IfOk result (λ reply. reply ≡ failed (codes "answer ") (all - left + 1) []) }
     ensures status { IfOk result (λ reply. IsAnswer reply.status) }
@@ -140,7 +143,8 @@ fn rule_of(version: Version) -> u32
     }
 }
 
-/// The replay of the answers of a file of a version, in the order of the questions that they are for.
+/// The replay of the answers of a file of a version, in the order of the questions that they are
+/// for.
 fn replay_of(version: Version, answers: Items<Answer>, order: Items<usize>) -> Replay
     requires { IsOrder version (length answers) order }
     ensures { result.left ≡ answers_in version answers order }

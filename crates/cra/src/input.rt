@@ -50,11 +50,14 @@ fn read_piece<S: Source>(
     bytes: &mut Vec<u8>,
 ) -> Result<bool, InputError>
     requires { 0 < length piece.old }
-    ensures told { IfOk result (λ _. (all : Option (List ℕ)) → all ≡ prepend_known bytes.old.items (S.left source.old) → all ≡ prepend_known bytes.new.items (S.left source.new)) }
+    ensures told { IfOk result (λ _. (all : Option (List ℕ))
+        → all ≡ prepend_known bytes.old.items (S.left source.old)
+        → all ≡ prepend_known bytes.new.items (S.left source.new)) }
     ensures within { IfOk result (λ _. vec_len bytes.new ≤ vec_len bytes.old + length piece.old) }
     ensures more { IfOk result (λ came. came ≡ true → vec_len bytes.old < vec_len bytes.new) }
     ensures end { IfOk result (λ came. came ≡ false → IsAtEnd (S.left source.new)) }
-    ensures failed { result ≡ Err InputError.Failed → Rose (S.faults source.old) (S.faults source.new) }
+    ensures failed { result ≡ Err InputError.Failed
+        → Rose (S.faults source.old) (S.faults source.new) }
     ensures counted { result ≢ Err InputError.Failed → S.faults source.new ≡ S.faults source.old }
 {
     let count = source.read(piece)?;
@@ -72,8 +75,10 @@ pub fn read_input<S: Source>(
     requires limit { limit < 2 ^ 63 }
     requires piece { 0 < len }
     ensures input { IfOk result (λ bytes. IsInput limit (S.left source.old) bytes.items) }
-    ensures rest { IfOk result (λ bytes. S.left source.old ≡ prepend_known bytes.items (S.left source.new)) }
-    ensures failed { result ≡ Err InputError.Failed → Rose (S.faults source.old) (S.faults source.new) }
+    ensures rest { IfOk result
+        (λ bytes. S.left source.old ≡ prepend_known bytes.items (S.left source.new)) }
+    ensures failed { result ≡ Err InputError.Failed
+        → Rose (S.faults source.old) (S.faults source.new) }
     ensures counted { result ≢ Err InputError.Failed → S.faults source.new ≡ S.faults source.old }
 {
     let mut bytes = Vec::new(alloc);

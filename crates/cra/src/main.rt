@@ -1,5 +1,5 @@
-//! `cra`: a verified analyser of numeric C. The words of the command line, standard input and standard output
-//! go to `run`, whose contract says what the program does.
+//! `cra`: a verified analyser of numeric C. The words of the command line, standard input and
+//! standard output go to `run`, whose contract says what the program does.
 #![tactic(auto)]
 
 use cra_io::{ReadSource, WriteSink};

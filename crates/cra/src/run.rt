@@ -33,7 +33,8 @@ fn answer_to<R: Source>(
     ensures answer { IfOk result (IsReplyToWork work (R.left source.old) (R.left source.new)) }
     ensures status { IfOk result (λ reply. IsAnswer reply.status) }
     ensures unread { reads_source work ≡ false → source.new ≡ source.old }
-    ensures failed { result ≡ Err InputError.Failed → Rose (R.faults source.old) (R.faults source.new) }
+    ensures failed { result ≡ Err InputError.Failed
+        → Rose (R.faults source.old) (R.faults source.new) }
     ensures counted { result ≢ Err InputError.Failed → R.faults source.new ≡ R.faults source.old }
 {
     match work {
@@ -66,17 +67,21 @@ fn answer_to<R: Source>(
 
 /// Reads what the words ask for, and makes the whole answer.
 fn compose<R: Source>(alloc: Global, words: &[String], source: &mut R) -> Result<Reply, InputError>
-    ensures answer { IfOk result (IsReply (map string_bytes words.now) (R.left source.old) (R.left source.new)) }
+    ensures answer { IfOk result
+        (IsReply (map string_bytes words.now) (R.left source.old) (R.left source.new)) }
     ensures status { IfOk result (λ reply. IsAnswer reply.status) }
-    ensures unread { reads_source (work_of (map string_bytes words.now)) ≡ false → source.new ≡ source.old }
-    ensures failed { result ≡ Err InputError.Failed → Rose (R.faults source.old) (R.faults source.new) }
+    ensures unread { reads_source (work_of (map string_bytes words.now)) ≡ false
+        → source.new ≡ source.old }
+    ensures failed { result ≡ Err InputError.Failed
+        → Rose (R.faults source.old) (R.faults source.new) }
     ensures counted { result ≢ Err InputError.Failed → R.faults source.new ≡ R.faults source.old }
 {
     let work = work_of(alloc, words)?;
     answer_to(alloc, work, source)
 }
 
-/// Runs the program: reads what its words ask for, makes the whole answer in memory, and only then writes it.
+/// Runs the program: reads what its words ask for, makes the whole answer in memory, and only then
+/// writes it.
 ///
 /// The answer is the status with whose number the process ends.
 pub fn run<R: Source, W: Sink>(
@@ -85,41 +90,70 @@ pub fn run<R: Source, W: Sink>(
     source: &mut R,
     sink: &mut W,
 ) -> Status
-    // Every status but those of the source, the sink and memory is the answer to the words and to the input.
-    ensures answered { IsAnswer result → (reply : Answer) × IsReply (map string_bytes words.now) (R.left source.old) (R.left source.new) reply
-        × (result ≡ reply.status) × (W.taken sink.new ≡ append_known (W.taken sink.old) reply.text) }
-    ensures unread { reads_source (work_of (map string_bytes words.now)) ≡ false → source.new ≡ source.old }
+    // Every status but those of the source, the sink and memory is the answer to the words and to
+    // the input.
+    ensures answered { IsAnswer result → (reply : Answer)
+        × IsReply (map string_bytes words.now) (R.left source.old) (R.left source.new) reply
+        × (result ≡ reply.status)
+        × (W.taken sink.new ≡ append_known (W.taken sink.old) reply.text) }
+    ensures unread { reads_source (work_of (map string_bytes words.now)) ≡ false
+        → source.new ≡ source.old }
 
-    // A text that is accepted has its report, where memory is not wanting and no count of faults rose.
-    ensures complete { IsToAnalyse (map string_bytes words.now) (R.left source.old) → ¬ Rose (R.faults source.old) (R.faults source.new)
-        → ¬ Rose (W.faults sink.old) (W.faults sink.new) → (result ≡ Status.AllProved) ⊎ (result ≡ Status.SomeUnproved) ⊎ (result ≡ Status.WantOfMemory) }
+    // A text that is accepted has its report, where memory is not wanting and no count of faults
+    // rose.
+    ensures complete { IsToAnalyse (map string_bytes words.now) (R.left source.old)
+        → ¬ Rose (R.faults source.old) (R.faults source.new)
+        → ¬ Rose (W.faults sink.old) (W.faults sink.new)
+        → (result ≡ Status.AllProved) ⊎ (result ≡ Status.SomeUnproved)
+        ⊎ (result ≡ Status.WantOfMemory) }
 
     // So has its certificate file, which is written where it is within the limit.
-    ensures complete_certify { IsToCertify (map string_bytes words.now) (R.left source.old) → ¬ Rose (R.faults source.old) (R.faults source.new)
-        → ¬ Rose (W.faults sink.old) (W.faults sink.new) → (result ≡ Status.Certified) ⊎ (result ≡ Status.TooLong) ⊎ (result ≡ Status.WantOfMemory) }
+    ensures complete_certify { IsToCertify (map string_bytes words.now) (R.left source.old)
+        → ¬ Rose (R.faults source.old) (R.faults source.new)
+        → ¬ Rose (W.faults sink.old) (W.faults sink.new)
+        → (result ≡ Status.Certified) ⊎ (result ≡ Status.TooLong)
+        ⊎ (result ≡ Status.WantOfMemory) }
 
-    // A certificate file whose text is accepted passes or does not, and where it passes it is made anew.
-    ensures complete_check { IsToCheck (map string_bytes words.now) (R.left source.old) → ¬ Rose (R.faults source.old) (R.faults source.new)
-        → ¬ Rose (W.faults sink.old) (W.faults sink.new) → (result ≡ Status.CheckPassed) ⊎ (result ≡ Status.CheckFailed) ⊎ (result ≡ Status.WantOfMemory) }
-    ensures complete_renew { IsToRenew (map string_bytes words.now) (R.left source.old) → ¬ Rose (R.faults source.old) (R.faults source.new)
-        → ¬ Rose (W.faults sink.old) (W.faults sink.new) → (result ≡ Status.Certified) ⊎ (result ≡ Status.TooLong) ⊎ (result ≡ Status.CheckFailed) ⊎ (result ≡ Status.WantOfMemory) }
+    // A certificate file whose text is accepted passes or does not, and where it passes it is made
+    // anew.
+    ensures complete_check { IsToCheck (map string_bytes words.now) (R.left source.old)
+        → ¬ Rose (R.faults source.old) (R.faults source.new)
+        → ¬ Rose (W.faults sink.old) (W.faults sink.new)
+        → (result ≡ Status.CheckPassed) ⊎ (result ≡ Status.CheckFailed)
+        ⊎ (result ≡ Status.WantOfMemory) }
+    ensures complete_renew { IsToRenew (map string_bytes words.now) (R.left source.old)
+        → ¬ Rose (R.faults source.old) (R.faults source.new)
+        → ¬ Rose (W.faults sink.old) (W.faults sink.new)
+        → (result ≡ Status.Certified) ⊎ (result ≡ Status.TooLong)
+        ⊎ (result ≡ Status.CheckFailed) ⊎ (result ≡ Status.WantOfMemory) }
 
     // What `certify` printed passes.
-    ensures passes { IsToCheckCertified (map string_bytes words.now) (R.left source.old) → ¬ Rose (R.faults source.old) (R.faults source.new)
-        → ¬ Rose (W.faults sink.old) (W.faults sink.new) → (result ≡ Status.CheckPassed) ⊎ (result ≡ Status.WantOfMemory) }
+    ensures passes { IsToCheckCertified (map string_bytes words.now) (R.left source.old)
+        → ¬ Rose (R.faults source.old) (R.faults source.new)
+        → ¬ Rose (W.faults sink.old) (W.faults sink.new)
+        → (result ≡ Status.CheckPassed) ⊎ (result ≡ Status.WantOfMemory) }
 
-    // An input whose text is accepted has its trace, where memory is not wanting and no count of faults rose.
-    ensures complete_replay { IsToReplay (map string_bytes words.now) (R.left source.old) → ¬ Rose (R.faults source.old) (R.faults source.new)
-        → ¬ Rose (W.faults sink.old) (W.faults sink.new) → (result ≡ Status.NoneFailed) ⊎ (result ≡ Status.SomeFailed) ⊎ (result ≡ Status.WantOfMemory) }
+    // An input whose text is accepted has its trace, where memory is not wanting and no count of
+    // faults rose.
+    ensures complete_replay { IsToReplay (map string_bytes words.now) (R.left source.old)
+        → ¬ Rose (R.faults source.old) (R.faults source.new)
+        → ¬ Rose (W.faults sink.old) (W.faults sink.new)
+        → (result ≡ Status.NoneFailed) ⊎ (result ≡ Status.SomeFailed)
+        ⊎ (result ≡ Status.WantOfMemory) }
 
     // The source failed: exactly where its count of faults rose, and then nothing is written.
-    ensures source_failed { result ≡ Status.SourceFailed → Rose (R.faults source.old) (R.faults source.new) × (sink.new ≡ sink.old) }
-    ensures source_counted { result ≢ Status.SourceFailed → R.faults source.new ≡ R.faults source.old }
+    ensures source_failed { result ≡ Status.SourceFailed
+        → Rose (R.faults source.old) (R.faults source.new) × (sink.new ≡ sink.old) }
+    ensures source_counted { result ≢ Status.SourceFailed
+        → R.faults source.new ≡ R.faults source.old }
 
-    // The sink failed: exactly where its count of faults rose, and then a part of the answer is written.
-    ensures sink_failed { result ≡ Status.SinkFailed → Rose (W.faults sink.old) (W.faults sink.new) }
+    // The sink failed: exactly where its count of faults rose, and then a part of the answer is
+    // written.
+    ensures sink_failed { result ≡ Status.SinkFailed
+        → Rose (W.faults sink.old) (W.faults sink.new) }
     ensures sink_counted { result ≢ Status.SinkFailed → W.faults sink.new ≡ W.faults sink.old }
-    ensures part { result ≡ Status.SinkFailed → (reply : Answer) × IsReply (map string_bytes words.now) (R.left source.old) (R.left source.new) reply
+    ensures part { result ≡ Status.SinkFailed → (reply : Answer)
+        × IsReply (map string_bytes words.now) (R.left source.old) (R.left source.new) reply
         × TookPart (W.taken sink.old) (W.taken sink.new) reply.text }
 
     // Want of memory comes before anything is written.

@@ -15,7 +15,9 @@ use summary_cache::{Counts, MOST_BYTES, Session, SubmitError, TextError};
 
 /// A number between two texts.
 fn put_between(text: &mut Text, before: &[u8], number: u128, after: &[u8]) -> Result<(), AllocError>
-    ensures { OnOk result (text.new.bytes.items ≡ text.old.bytes.items ++ (before.now ++ decimal number ++ after.now)) }
+    ensures { OnOk result
+        (text.new.bytes.items ≡ text.old.bytes.items
+        ++ (before.now ++ decimal number ++ after.now)) }
 {
     text.put(before)?;
     text.put_count(number)?;
@@ -44,7 +46,9 @@ fn put_call(text: &mut Text, number: u32) -> Result<(), AllocError>
 
 /// The procedures of a made text.
 fn put_procedures(text: &mut Text, count: u32) -> Result<(), AllocError>
-    ensures { OnOk result (text.new.bytes.items ≡ text.old.bytes.items ++ flat_map procedure_text (range_with_len 1 count)) }
+    ensures { OnOk result
+        (text.new.bytes.items ≡ text.old.bytes.items ++ flat_map procedure_text
+        (range_with_len 1 count)) }
 {
     for number in 0..count {
         put_procedure(text, number + 1)?;
@@ -54,7 +58,9 @@ fn put_procedures(text: &mut Text, count: u32) -> Result<(), AllocError>
 
 /// The calls of a made text.
 fn put_calls(text: &mut Text, count: u32) -> Result<(), AllocError>
-    ensures { OnOk result (text.new.bytes.items ≡ text.old.bytes.items ++ flat_map call_text (range_with_len 1 count)) }
+    ensures { OnOk result
+        (text.new.bytes.items ≡ text.old.bytes.items ++ flat_map call_text
+        (range_with_len 1 count)) }
 {
     for number in 0..count {
         put_call(text, number + 1)?;

@@ -16,7 +16,8 @@ pub enum Status {
     Certified,
     /// A certificate file passed.
     CheckPassed,
-    /// An answer of a certificate file does not pass, answers are left over, or its report is another.
+    /// An answer of a certificate file does not pass, answers are left over, or its report is
+    /// another.
     CheckFailed,
     /// The help or the version was told.
     Told,

@@ -97,7 +97,8 @@ refused byte at 1:18 | {\"answers\":[],\"order\":[],\"report\":\"\",\"text\":\"i
 refused main at 1:1 | {\"answers\":[{\"limit\":\"pivots\"}],\"report\":\"\",\"text\":\"\"}
 ";
 
-/// A certificate file of version 1 for a text with a loop, that an independent model of the rules gives.
+/// A certificate file of version 1 for a text with a loop, that an independent model of the rules
+/// gives.
 pub(crate) const LOOP_FILE: &str = "\
 {\"answers\":[{\"point\":[\"0\"]},{\"point\":[\"1\",\"0\"]},{\"point\":[\"0\",\"0\"]},{\"point\":[\"0\",\"0\
 \"]},{\"point\":[\"1\",\"0\"]},{\"basis\":{\"free\":[[\"-1\"]],\"relations\":[{\"a\":[\"1\"],\"b\":[],\"c\":\
@@ -143,7 +144,8 @@ t\":[\"2\",\"1\"]},{\"point\":[\"1\"]},{\"point\":[\"1\"]},{\"point\":[\"1\"]},{
 sertion 1 at 6:3 proved\\ntotal 1 proved, 0 unproved\\n\",\"text\":\"int main(void) {\\n  int n = __VERIFIER\
 _nondet_int();\\n  int i = 0;\\n  assume(n >= 0);\\n  while (i < n) i++;\\n  assert(i == n);\\n}\\n\"}";
 
-/// Changes of that file: the status and the line that `check` answers with, what is changed, and into what.
+/// Changes of that file: the status and the line that `check` answers with, what is changed, and
+/// into what.
 pub(crate) const CHANGES: &str = "\
 0 check passed | x | x
 8 check failed: answer 44 | \"infeasible\":[\"1\" | \"infeasible\":[\"-1\"

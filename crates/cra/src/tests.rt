@@ -271,7 +271,8 @@ fn reports(rt: HostRuntime) -> Result<(), Fail> {
     Ok(())
 }
 
-/// Each input of a table is answered by `check` with this status and the line that stands before it.
+/// Each input of a table is answered by `check` with this status and the line that stands before
+/// it.
 fn checked(alloc: Global, rt: &impl Abort, status: u8, table: &str) -> Result<(), Fail> {
     for row in table.lines() {
         let (line, file) = row.split_once(" | ").ok_or("no row")?;
@@ -478,7 +479,8 @@ fn lengths(rt: HostRuntime) -> Result<(), Fail> {
     ends(alloc, &rt, &["cra", "replay"], &past, 9, TOO_LONG)
 }
 
-/// A run over pieces of one byte, where one read or one write fails, ends with a status and so many bytes of the report.
+/// A run over pieces of one byte, where one read or one write fails, ends with a status and so many
+/// bytes of the report.
 fn cut_short(
     alloc: Global,
     rt: &impl Abort,

@@ -74,7 +74,8 @@ fn digit_of(byte: u8) -> Option<u32>
 
 /// The value of one to three decimal digits.
 fn number_of(text: &[u8]) -> Option<u32>
-    ensures { result ≡ (if is_short_number text.now then Some (digits_value 10 text.now) else None) }
+    ensures { result ≡ (if is_short_number text.now then Some (digits_value 10 text.now)
+        else None) }
 {
     match text {
         [b'0', ..] => None,

@@ -3,8 +3,8 @@ use Rattle.std.specs.Prelude.{ℕ, Bool, List, ◌==◌, ◌&&◌, ◌||◌, nat
 use Rattle.std.specs.List.{list_any}
 use Rattle.whole_numbers.specs.Counters.{next_count}
 
--- a source over memory: the bytes left, the most that one read gives, the numbers (from 0) of the reads that fail,
--- how many reads there were, and how many of them failed
+-- a source over memory: the bytes left, the most that one read gives, the numbers (from 0) of the
+-- reads that fail, how many reads there were, and how many of them failed
 pub record Reading : Type 0 where
   pub left : List ℕ
   pub most : ℕ
@@ -12,8 +12,8 @@ pub record Reading : Type 0 where
   pub calls : ℕ
   pub faults : ℕ
 
--- a sink over memory: the bytes taken, the room left, the most that one write takes, the numbers (from 0) of the
--- writes that fail, how many writes there were, and how many of them failed
+-- a sink over memory: the bytes taken, the room left, the most that one write takes, the numbers
+-- (from 0) of the writes that fail, how many writes there were, and how many of them failed
 pub record Writing : Type 0 where
   pub taken : List ℕ
   pub room : ℕ
@@ -30,7 +30,8 @@ is_failing fails call = list_any (λ number. number == call) fails
 abbrev pub given_count : Reading → ℕ → ℕ
 given_count s len = min len (min s.most (length s.left))
 
--- whether the write of a piece of this length fails: it is one of those that fail, or there is no room for a byte of it
+-- whether the write of a piece of this length fails: it is one of those that fail, or there is no
+-- room for a byte of it
 abbrev pub is_refused : Writing → ℕ → Bool
 is_refused s len = is_failing s.fails s.calls || (nat_lt 0 len && s.room == 0)
 
@@ -47,7 +48,8 @@ after_failed_read s = record s { calls = next_count s.calls; faults = next_count
 
 -- the sink after a write that took n bytes of a piece, and after one that failed
 abbrev pub after_write : Writing → List ℕ → ℕ → Writing
-after_write s piece n = record s { taken = s.taken ++ take n piece; room = s.room - n; calls = next_count s.calls }
+after_write s piece n =
+    record s { taken = s.taken ++ take n piece; room = s.room - n; calls = next_count s.calls }
 
 abbrev pub after_failed_write : Writing → Writing
 after_failed_write s = record s { calls = next_count s.calls; faults = next_count s.faults }

@@ -23,8 +23,8 @@ impl From<AllocError> for SinkError {
     }
 }
 
-/// A sink that keeps its bytes in memory, in room that is taken when it is made, and whose writes are as short
-/// as is wanted and fail where it is wanted.
+/// A sink that keeps its bytes in memory, in room that is taken when it is made, and whose writes
+/// are as short as is wanted and fail where it is wanted.
 #[derive(Debug, Drop)]
 pub struct MemorySink {
     bytes: Vec<u8>,
@@ -41,14 +41,23 @@ impl Model for MemorySink {
 
     ghost Value = { Writing };
 
-    ghost view = { λ s. record { taken = s.bytes.items; room = s.room; most = s.most; fails = s.fails.items; calls = s.calls; faults = s.faults } };
+    ghost view = { λ s.
+        record {
+          taken = s.bytes.items;
+          room = s.room;
+          most = s.most;
+          fails = s.fails.items;
+          calls = s.calls;
+          faults = s.faults;
+        } };
 
     ghost invariant = { λ s. (vec_len s.bytes + s.room ≤ vec_capacity s.bytes) × (1 ≤ s.most) };
 }
 
 impl MemorySink {
-    /// A sink with room for this many bytes, which takes at most `most` of them in one write. Exactly the
-    /// writes whose numbers, from 0, are in `fails`, and those of a byte where no room is left, fail.
+    /// A sink with room for this many bytes, which takes at most `most` of them in one write.
+    /// Exactly the writes whose numbers, from 0, are in `fails`, and those of a byte where no room
+    /// is left, fail.
     pub fn new(
         alloc: Global,
         room: usize,
@@ -56,7 +65,15 @@ impl MemorySink {
         fails: Vec<u64>,
     ) -> Result<MemorySink, SinkError>
         requires { 1 ≤ most }
-        ensures { IfOk result (λ s. s ≡ record { taken = []; room = room; most = most; fails = fails.items; calls = 0; faults = 0 }) }
+        ensures { IfOk result
+            (λ s. s ≡ record {
+              taken = [];
+              room = room;
+              most = most;
+              fails = fails.items;
+              calls = 0;
+              faults = 0;
+            }) }
     {
         let bytes = Vec::with_capacity(alloc, room)?;
         Ok(MemorySink {

@@ -5,7 +5,8 @@ ghost use Rattle.cra_io.specs.Memory.{Reading, is_failing, given_count, after_re
 use crate::traits::{Failed, Source};
 use std::marker::Model;
 
-/// A source over bytes in memory, whose reads are as short as is wanted and fail where it is wanted.
+/// A source over bytes in memory, whose reads are as short as is wanted and fail where it is
+/// wanted.
 #[derive(Debug, Drop)]
 pub struct MemorySource {
     bytes: Vec<u8>,
@@ -22,17 +23,31 @@ impl Model for MemorySource {
 
     ghost Value = { Reading };
 
-    ghost view = { λ s. record { left = drop s.at s.bytes.items; most = s.most; fails = s.fails.items; calls = s.calls; faults = s.faults } };
+    ghost view = { λ s.
+        record {
+          left = drop s.at s.bytes.items;
+          most = s.most;
+          fails = s.fails.items;
+          calls = s.calls;
+          faults = s.faults;
+        } };
 
     ghost invariant = { λ s. (s.at ≤ length s.bytes.items) × (1 ≤ s.most) };
 }
 
 impl MemorySource {
-    /// A source of these bytes that gives at most `most` of them in one read. Exactly the reads whose numbers,
-    /// from 0, are in `fails` fail.
+    /// A source of these bytes that gives at most `most` of them in one read. Exactly the reads
+    /// whose numbers, from 0, are in `fails` fail.
     pub fn new(bytes: Vec<u8>, most: usize, fails: Vec<u64>) -> MemorySource
         requires { 1 ≤ most }
-        ensures { result ≡ record { left = bytes.items; most = most; fails = fails.items; calls = 0; faults = 0 } }
+        ensures { result
+            ≡ record {
+              left = bytes.items;
+              most = most;
+              fails = fails.items;
+              calls = 0;
+              faults = 0;
+            } }
     {
         MemorySource {
             bytes,

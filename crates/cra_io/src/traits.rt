@@ -14,11 +14,12 @@ pub trait Source {
     // How many reads failed.
     ghost faults: { Self → ℕ };
 
-    /// Fills the first n bytes of the buffer, and answers n. Zero for a buffer that is not empty is the end of
-    /// the input. A failed read gives nothing.
+    /// Fills the first n bytes of the buffer, and answers n. Zero for a buffer that is not empty is
+    /// the end of the input. A failed read gives nothing.
     fn read(&mut self, into: &mut [u8]) -> Result<usize, Failed>
         ensures within { IfOk result (λ n. n ≤ length into.new) }
-        ensures bytes { IfOk result (λ n. left self.old ≡ prepend_known (take n into.new) (left self.new)) }
+        ensures bytes { IfOk result
+            (λ n. left self.old ≡ prepend_known (take n into.new) (left self.new)) }
         ensures end { IfOk result (λ n. n ≡ 0 → 0 < length into.new → IsAtEnd (left self.new)) }
         ensures kept { OnErr result (left self.new ≡ left self.old) }
         ensures cause { HasCause (faults self.old) (faults self.new) result };
@@ -32,12 +33,13 @@ pub trait Sink {
     // How many writes failed.
     ghost faults: { Self → ℕ };
 
-    /// Takes the first n bytes of the piece, and answers n, which is zero for an empty piece alone. A failed
-    /// write takes nothing.
+    /// Takes the first n bytes of the piece, and answers n, which is zero for an empty piece alone.
+    /// A failed write takes nothing.
     fn write(&mut self, piece: &[u8]) -> Result<usize, Failed>
         ensures within { IfOk result (λ n. n ≤ length piece.now) }
         ensures moves { IfOk result (λ n. 0 < length piece.now → 0 < n) }
-        ensures bytes { IfOk result (λ n. taken self.new ≡ append_known (taken self.old) (take n piece.now)) }
+        ensures bytes { IfOk result
+            (λ n. taken self.new ≡ append_known (taken self.old) (take n piece.now)) }
         ensures kept { OnErr result (taken self.new ≡ taken self.old) }
         ensures cause { HasCause (faults self.old) (faults self.new) result };
 }

@@ -4,8 +4,8 @@ ghost use Rattle.cra_io.specs.Adapters.{write_faults};
 use crate::traits::{Failed, Sink};
 use std::io::Write;
 
-/// A sink over a writer of std. It tells no content, and each error of the writer is a fault, and so is a
-/// write that takes nothing of a piece that is not empty.
+/// A sink over a writer of std. It tells no content, and each error of the writer is a fault, and
+/// so is a write that takes nothing of a piece that is not empty.
 #[derive(Debug, Drop)]
 pub struct WriteSink<W> {
     writer: W,

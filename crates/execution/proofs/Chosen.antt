@@ -1,4 +1,5 @@
--- The chosen execution of a well-formed program is one of its executions, and its steps have all that they need.
+-- The chosen execution of a well-formed program is one of its executions, and its steps have all
+-- that they need.
 use Rattle.std.proofs.Common.{◌≡◌, ◌≢◌, ◌≤◌, ◌+◌, ◌-◌, ℕ, suc, ℤ, pos, Bool, true, false, List, [], ◌∷◌, ◌++◌, length, take, drop, Option, None, Some, Result, Ok, refl, sym, ap, subst, ◌∙◌, arith, ⊎_elim, inl, inr, length-append}
 use Rattle.std.specs.Prelude.{IsSomeAnd, IsTrue, All, is_some, slice_get, slice_set, if◌then◌else◌}
 use Rattle.std.proofs.lemmas.Bool.Decides.{Decides-eqb}

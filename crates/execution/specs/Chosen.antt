@@ -1,5 +1,6 @@
--- The chosen execution: every column of a new frame that is no parameter is 0, and a column that takes any number takes the
--- one that is handed in. Numbers have 128 bits. So each step, or why there is none, is a function of the configuration.
+-- The chosen execution: every column of a new frame that is no parameter is 0, and a column that
+-- takes any number takes the one that is handed in. Numbers have 128 bits. So each step, or why
+-- there is none, is a function of the configuration.
 use Rattle.std.specs.Prelude.{◌-◌, ◌+◌, ℕ, ℤ, pos, zero, suc, Option, None, Some, Result, Ok, Err, List, [], ◌∷◌, ◌++◌, length, map, slice_get, slice_set, if◌then◌else◌}
 use Rattle.items.specs.Gives.{◌>>=◌}
 use Rattle.syntax_tree.specs.declared.evaluation.EvalWide.{EvalWide}
@@ -66,7 +67,8 @@ abbrev pub assigned : Top → List Item → ℕ → ℤ → Config
 assigned top rest col v = with_state top (slice_set (state_of top) col v) rest
 
 abbrev pub chosen_set : Top → List Item → ℕ → Term → Result Stepped Stop
-chosen_set top rest col value = number_in value (state_of top) >>= λ v. quietly (assigned top rest col v)
+chosen_set top rest col value = number_in value (state_of top)
+    >>= λ v. quietly (assigned top rest col v)
 
 -- a column takes the number that is handed in
 abbrev pub chosen_any : Option ℤ → Top → List Item → ℕ → Result Stepped Stop
@@ -79,14 +81,17 @@ passed event otherwise top rest v =
     if is_true v then Ok (record { event = event; next = with_items top rest }) else Err otherwise
 
 abbrev pub chosen_pass : Option Event → Stop → Top → List Item → Term → Result Stepped Stop
-chosen_pass event otherwise top rest cond = number_in cond (state_of top) >>= passed event otherwise top rest
+chosen_pass event otherwise top rest cond = number_in cond (state_of top) >>= passed event otherwise
+    top rest
 
 -- a condition that chooses what is to do
 abbrev pub branched : Top → List Item → List Item → ℤ → Config
-branched top on_true on_false v = if is_true v then with_items top on_true else with_items top on_false
+branched top on_true on_false v = if is_true v then with_items top on_true
+    else with_items top on_false
 
 abbrev pub chosen_branch : Top → List Item → List Item → Term → Result Stepped Stop
-chosen_branch top on_true on_false cond = number_in cond (state_of top) >>= λ v. quietly (branched top on_true on_false v)
+chosen_branch top on_true on_false cond = number_in cond (state_of top)
+    >>= λ v. quietly (branched top on_true on_false v)
 
 -- a call puts a new frame on top
 abbrev pub called : Program → ℕ → Option ℕ → Top → List Item → List ℤ → Config
@@ -103,21 +108,32 @@ chosen_call program top rest proc args into = numbers_in args (state_of top) >>=
 abbrev pub chosen_return : Top → List Frame → Result Stepped Stop
 chosen_return top [] = Err (stop.Done (returned top.frame))
 chosen_return top (caller ∷ below) = showing (event.Return top.frame.proc (returned top.frame))
-    (resumed top.frame.into (returned top.frame) (record { globals = top.globals; frame = caller; below = below }))
+    (resumed top.frame.into (returned top.frame) (record {
+      globals = top.globals;
+      frame = caller;
+      below = below;
+    }))
 
 -- The step by the first item, where `rest` are the others.
 abbrev pub chosen_by : Program → Option ℤ → Top → List Item → Result Stepped Stop
 chosen_by program number top [] = chosen_return top top.below
 chosen_by program number top (Do (Set col value) ∷ rest) = chosen_set top rest col value
 chosen_by program number top (Do (Any col) ∷ rest) = chosen_any number top rest col
-chosen_by program number top (Do (Call proc args into) ∷ rest) = chosen_call program top rest proc args into
+chosen_by program number top (Do (Call proc args into) ∷ rest) =
+    chosen_call program top rest proc args into
 chosen_by program number top (Do (Guard cond) ∷ rest) = chosen_pass None stop.Guard top rest cond
 chosen_by program number top (Do (Check n cond) ∷ rest) =
     chosen_pass (Some (event.Holds n)) (stop.Failed n) top rest cond
 chosen_by program number top (Do (If cond on_true on_false) ∷ rest) =
     chosen_branch top (pending on_true rest) (pending on_false rest) cond
 chosen_by program number top (Do (Loop pre cond body step first) ∷ rest) =
-    quietly (with_items top (at_begin (record { pre = pre; cond = cond; body = body; step = step; first = first }) rest))
+    quietly (with_items top (at_begin (record {
+      pre = pre;
+      cond = cond;
+      body = body;
+      step = step;
+      first = first;
+    }) rest))
 chosen_by program number top (Do Break ∷ rest) = quietly (with_items top (after_loop rest))
 chosen_by program number top (Do Continue ∷ rest) = quietly (with_items top (to_tail rest))
 chosen_by program number top (Do Return ∷ rest) = quietly (with_items top [])
@@ -130,7 +146,11 @@ chosen_by program number top (Tail loop ∷ rest) = quietly (with_items top (at_
 abbrev pub chosen_from : Program → Option ℤ → State → List Frame → Result Stepped Stop
 chosen_from program number globals [] = Err (stop.Done (pos 0))
 chosen_from program number globals (frame ∷ below) =
-    chosen_by program number (record { globals = globals; frame = frame; below = below }) frame.items
+    chosen_by program number (record {
+      globals = globals;
+      frame = frame;
+      below = below;
+    }) frame.items
 
 -- The chosen step from a configuration, where this number is handed in.
 abbrev pub chosen_step : Program → Option ℤ → Config → Result Stepped Stop

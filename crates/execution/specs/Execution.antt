@@ -7,22 +7,25 @@ use Rattle.syntax_tree.specs.Value.{State}
 use Rattle.execution.specs.Machine.{Config, Do, Frame, Item, Top, config_of, returned, state_of}
 use Rattle.execution.specs.Step.{IsEntered, IsFalseIn, Steps}
 
--- Steps lead from a configuration over each of the list to the last: the list has one configuration a step.
+-- Steps lead from a configuration over each of the list to the last: the list has one configuration
+-- a step.
 abbrev pub Runs : Program → Config → List Config → Config → Type 0
 Runs program first [] last = first ≡ last
 Runs program first (next ∷ rest) last = Steps program first next × Runs program next rest last
 
--- An execution begins in a procedure, with a value for each global and these arguments: there is one frame,
--- whose body is still to do.
-pub record Begins (program : Program) (proc : ℕ) (globals args : State) (first : Config) : Type 0 where
+-- An execution begins in a procedure, with a value for each global and these arguments: there is
+-- one frame, whose body is still to do.
+pub record Begins (program : Program) (proc : ℕ) (globals args : State)
+    (first : Config) : Type 0 where
   pub width : length globals ≡ length program.globals
   pub frame : Frame
   pub entered : IsEntered program proc args None frame
   pub first_is : first ≡ record { globals = globals; frames = frame ∷ [] }
 
--- An execution that begins in a procedure comes to its end: its one frame has nothing left to do, and returns
--- a value. It leaves the globals `after`.
-pub record Returns (program : Program) (proc : ℕ) (globals args after : State) (value : ℤ) : Type 0 where
+-- An execution that begins in a procedure comes to its end: its one frame has nothing left to do,
+-- and returns a value. It leaves the globals `after`.
+pub record Returns (program : Program) (proc : ℕ) (globals args after : State)
+    (value : ℤ) : Type 0 where
   pub first : Config
   pub begins : Begins program proc globals args first
   pub steps : List Config

@@ -1,4 +1,5 @@
--- The interpreter's configurations as those of the machine. Its lists have the top call and the next task last.
+-- The interpreter's configurations as those of the machine. Its lists have the top call and the
+-- next task last.
 use Rattle.std.specs.Prelude.{◌≡◌, Option, Result, Ok, Err, List, [], ◌∷◌}
 use Rattle.items.specs.Gives.{FailsBy}
 use Rattle.syntax_tree.specs.Term.{term_of}
@@ -37,7 +38,12 @@ abbrev pub items_of : List Task → List Item
 items_of tasks = items_onto tasks []
 
 abbrev pub frame_of : Activation → Frame
-frame_of call = record { proc = call.proc; own = call.own; items = items_of call.tasks; into = call.into }
+frame_of call = record {
+  proc = call.proc;
+  own = call.own;
+  items = items_of call.tasks;
+  into = call.into;
+}
 
 abbrev pub frames_onto : List Activation → List Frame → List Frame
 frames_onto [] rest = rest
@@ -52,9 +58,14 @@ machine_config machine = record { globals = machine.globals; frames = frames_of 
 
 -- a call on top of the others
 abbrev pub machine_top : Machine → Activation → Top
-machine_top machine call = record { globals = machine.globals; frame = frame_of call; below = frames_of machine.calls }
+machine_top machine call = record {
+  globals = machine.globals;
+  frame = frame_of call;
+  below = frames_of machine.calls;
+}
 
--- A step came to what is stated: the machine goes on from there, or there is none. Want of memory is free.
+-- A step came to what is stated: the machine goes on from there, or there is none. Want of memory
+-- is free.
 abbrev pub Takes : Machine → Result (Option Event) Stop → Result Stepped Stop → Type 0
 Takes after (Ok event) stated = stated ≡ Ok (record { event = event; next = machine_config after })
 Takes after (Err stop) stated = FailsBy (cause stop) stated

@@ -48,7 +48,8 @@ ColumnsDetermineStep = (program : Program) (config one other : Config)
 
 -- after a failed assertion there is no step
 abbrev pub FailedCheckStops : Type 0
-FailedCheckStops = (program : Program) (top : Top) (number : ℕ) (cond : Term) (rest : List Item) (next : Config)
+FailedCheckStops = (program : Program) (top : Top) (number : ℕ) (cond : Term) (rest : List Item)
+    (next : Config)
     → top.frame.items ≡ Do (Check number cond) ∷ rest → IsFalseIn cond (state_of top)
     → Steps program (config_of top) next → ⊥
 
@@ -58,7 +59,8 @@ Above below frames = (top : Frame) × (between : List Frame) × (frames ≡ top 
 
 -- frames stay as they are while there is one above them
 abbrev pub FramesBelowStay : Type 0
-FramesBelowStay = (program : Program) (below : List Frame) (first last : Config) (steps : List Config)
+FramesBelowStay = (program : Program) (below : List Frame) (first last : Config)
+    (steps : List Config)
     → Above below first.frames → Runs program first steps last
     → All (λ config. length below < length config.frames) steps → Above below last.frames
 
@@ -92,7 +94,8 @@ is_straight End = true
 is_straight (Then statement code) = is_simple statement && is_straight code
 
 abbrev pub RunsChange : Type 0
-RunsChange = (program : Program) (top : Top) (code : Code) (rest : List Item) (steps : List Config) (last : Config)
+RunsChange = (program : Program) (top : Top) (code : Code) (rest : List Item) (steps : List Config)
+    (last : Config)
     → top.frame.items ≡ pending code rest → is_straight code ≡ true
     → length steps ≡ code_length code → Runs program (config_of top) steps last
     → (after : State) × ChangesBy code (state_of top) after × (last ≡ with_state top after rest)
@@ -105,21 +108,25 @@ GlobalsStay = (program : Program) (first last : Config) (steps : List Config)
 -- the chosen execution begins as executions from `main` do
 abbrev pub ChosenBegins : Type 0
 ChosenBegins = (program : Program) → IsWellFormed program
-    → Begins program program.main (initial_globals program) [] (chosen_start program) × ConfigCanRun program (chosen_start program)
+    → Begins program program.main (initial_globals program) [] (chosen_start program)
+    × ConfigCanRun program (chosen_start program)
 
 -- each chosen step is a step
 abbrev pub ChosenSteps : Type 0
-ChosenSteps = (program : Program) (number : Option ℤ) (config : Config) (stepped : Stepped) → ConfigCanRun program config
+ChosenSteps = (program : Program) (number : Option ℤ) (config : Config) (stepped : Stepped)
+    → ConfigCanRun program config
     → chosen_step program number config ≡ Ok stepped → Steps program config stepped.next
 
 -- a well-formed program comes only to configurations whose steps have all that they need
 abbrev pub StepsCanRun : Type 0
-StepsCanRun = (program : Program) (config next : Config) → IsWellFormed program → ConfigCanRun program config
+StepsCanRun = (program : Program) (config next : Config) → IsWellFormed program
+    → ConfigCanRun program config
     → Steps program config next → ConfigCanRun program next
 
 -- the chosen execution has no step exactly for these causes
 abbrev pub ChosenStops : Type 0
-ChosenStops = (program : Program) (number : Option ℤ) (config : Config) (why : Stop) → ConfigCanRun program config
+ChosenStops = (program : Program) (number : Option ℤ) (config : Config) (why : Stop)
+    → ConfigCanRun program config
     → (chosen_step program number config ≡ Err why) ↔ StopsAt number config why
 
 -- where it has none there is no step at all, unless a number is past 128 bits or none is handed in

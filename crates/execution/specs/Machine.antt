@@ -1,12 +1,13 @@
--- The machine on which a program of the core runs: the values of the globals, and a stack of frames, one for
--- each call that has not returned (C11 6.2.4, 6.8). It has no memory beside them, and its numbers have no bound.
+-- The machine on which a program of the core runs: the values of the globals, and a stack of
+-- frames, one for each call that has not returned (C11 6.2.4, 6.8). It has no memory beside them,
+-- and its numbers have no bound.
 use Rattle.std.specs.Prelude.{ℕ, ℤ, pos, ◌-◌, Bool, Option, List, [], ◌∷◌, ◌++◌, length, take, drop, slice_index_or}
 use Rattle.syntax_tree.specs.Term.{Term}
 use Rattle.syntax_tree.specs.Code.{Statement, Code, End, Then}
 use Rattle.syntax_tree.specs.Value.{State}
 
--- A loop that was begun. It does `pre`, tests `cond`, does `body` and then `step`, and so on; where `first`
--- holds, as in `do .. while`, it begins with `body` and has no `step` (C11 6.8.5).
+-- A loop that was begun. It does `pre`, tests `cond`, does `body` and then `step`, and so on; where
+-- `first` holds, as in `do .. while`, it begins with `body` and has no `step` (C11 6.8.5).
 pub record LoopParts : Type 0 where
   pub pre : Code
   pub cond : Term
@@ -14,16 +15,17 @@ pub record LoopParts : Type 0 where
   pub step : Code
   pub first : Bool
 
--- What a frame has still to do: a statement, or of a loop what comes before its `pre`, before its test, or
--- after its body.
+-- What a frame has still to do: a statement, or of a loop what comes before its `pre`, before its
+-- test, or after its body.
 pub data Item : Type 0 where
   Do : (statement : Statement) → Item
   Head : (loop : LoopParts) → Item
   Test : (loop : LoopParts) → Item
   Tail : (loop : LoopParts) → Item
 
--- A call that has not returned: its procedure, the values of its columns past the globals, of which the last
--- is the value that it returns, what it has still to do, and the column of its caller that awaits its value.
+-- A call that has not returned: its procedure, the values of its columns past the globals, of which
+-- the last is the value that it returns, what it has still to do, and the column of its caller that
+-- awaits its value.
 pub record Frame : Type 0 where
   pub proc : ℕ
   pub own : State
@@ -53,7 +55,8 @@ abbrev pub pending : Code → List Item → List Item
 pending End rest = rest
 pending (Then statement code) rest = Do statement ∷ pending code rest
 
--- what is left after the innermost loop, and from the end of its body on; a well-formed program has the loop
+-- what is left after the innermost loop, and from the end of its body on; a well-formed program has
+-- the loop
 abbrev pub after_loop : List Item → List Item
 after_loop [] = []
 after_loop (Tail loop ∷ rest) = rest
@@ -66,7 +69,10 @@ to_tail (_ ∷ rest) = to_tail rest
 
 -- the top frame with other items
 abbrev pub with_items : Top → List Item → Config
-with_items top items = record { globals = top.globals; frames = record top.frame { items = items } ∷ top.below }
+with_items top items = record {
+  globals = top.globals;
+  frames = record top.frame { items = items } ∷ top.below;
+}
 
 -- the top frame with other items and other values of its columns
 abbrev pub with_state : Top → State → List Item → Config

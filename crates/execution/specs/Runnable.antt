@@ -1,5 +1,6 @@
--- Configurations whose steps need nothing that isn't there: each column that is read has a number, and each procedure that is
--- called is there, with columns for its arguments. A well-formed program comes to no others.
+-- Configurations whose steps need nothing that isn't there: each column that is read has a number,
+-- and each procedure that is called is there, with columns for its arguments. A well-formed program
+-- comes to no others.
 use Rattle.std.specs.Prelude.{◌≡◌, ◌≤◌, ℕ, ◌+◌, Some, IsTrue, List, [], ◌∷◌, length, slice_get}
 use Rattle.syntax_tree.specs.declared.program.Proc.{Proc}
 use Rattle.syntax_tree.specs.declared.program.Program.{Program}
@@ -26,7 +27,8 @@ abbrev mutual
   StatementCanRun program width (Guard cond) = IsTrue (columns_below width cond)
   StatementCanRun program width (Check number cond) = IsTrue (columns_below width cond)
   StatementCanRun program width (If cond on_true on_false) =
-      IsTrue (columns_below width cond) × CodeCanRun program width on_true × CodeCanRun program width on_false
+      IsTrue (columns_below width cond) × CodeCanRun program width on_true
+      × CodeCanRun program width on_false
   StatementCanRun program width (Loop pre cond body step first) =
       CodeCanRun program width pre × IsTrue (columns_below width cond)
       × CodeCanRun program width body × CodeCanRun program width step
@@ -36,7 +38,8 @@ abbrev mutual
 
   pub CodeCanRun : Program → ℕ → Code → Type 0
   CodeCanRun program width End = Unit {0}
-  CodeCanRun program width (Then statement rest) = StatementCanRun program width statement × CodeCanRun program width rest
+  CodeCanRun program width (Then statement rest) = StatementCanRun program width statement
+      × CodeCanRun program width rest
 
 abbrev pub LoopCanRun : Program → ℕ → LoopParts → Type 0
 LoopCanRun program width loop =
@@ -51,13 +54,15 @@ ItemCanRun program width (Tail loop) = LoopCanRun program width loop
 
 abbrev pub ItemsCanRun : Program → ℕ → List Item → Type 0
 ItemsCanRun program width [] = Unit {0}
-ItemsCanRun program width (item ∷ rest) = ItemCanRun program width item × ItemsCanRun program width rest
+ItemsCanRun program width (item ∷ rest) = ItemCanRun program width item
+    × ItemsCanRun program width rest
 
 -- where so many columns are globals
 abbrev pub FramesCanRun : Program → ℕ → List Frame → Type 0
 FramesCanRun program globals [] = Unit {0}
 FramesCanRun program globals (frame ∷ below) =
-    ItemsCanRun program (globals + length frame.own) frame.items × FramesCanRun program globals below
+    ItemsCanRun program (globals + length frame.own) frame.items
+    × FramesCanRun program globals below
 
 pub record ConfigCanRun (program : Program) (config : Config) : Type 0 where
   pub frames : FramesCanRun program (length config.globals) config.frames

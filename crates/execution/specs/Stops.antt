@@ -24,10 +24,12 @@ needed _ = []
 
 abbrev pub HaveNumbers : List Term → State → Type 0
 HaveNumbers [] state = Unit {0}
-HaveNumbers (e ∷ rest) state = ((v : ℤ) × (evaluated e state ≡ Ok (Some v))) × HaveNumbers rest state
+HaveNumbers (e ∷ rest) state = ((v : ℤ) × (evaluated e state ≡ Ok (Some v)))
+    × HaveNumbers rest state
 
 -- the first of several expressions that has no number in 128 bits, and what it has instead
-pub record IsFirstWithout (terms : List Term) (state : State) (gave : Result (Option ℤ) EvalWide) : Type 0 where
+pub record IsFirstWithout (terms : List Term) (state : State)
+    (gave : Result (Option ℤ) EvalWide) : Type 0 where
   pub before : List Term
   pub e : Term
   pub after : List Term
@@ -37,19 +39,28 @@ pub record IsFirstWithout (terms : List Term) (state : State) (gave : Result (Op
 
 -- why there is no step from a top frame, where this number is handed in
 abbrev pub StopsBy : Option ℤ → Top → Stop → Type 0
-StopsBy number top (stop.Done v) = (top.frame.items ≡ []) × (top.below ≡ []) × (returned top.frame ≡ v)
+StopsBy number top (stop.Done v) = (top.frame.items ≡ []) × (top.below ≡ [])
+    × (returned top.frame ≡ v)
 StopsBy number top (stop.Failed n) = (cond : Term) × (rest : List Item)
-    × (top.frame.items ≡ Do (Check n cond) ∷ rest) × (evaluated cond (state_of top) ≡ Ok (Some (pos 0)))
+    × (top.frame.items ≡ Do (Check n cond) ∷ rest)
+    × (evaluated cond (state_of top) ≡ Ok (Some (pos 0)))
 StopsBy number top stop.Guard = (cond : Term) × (rest : List Item)
-    × (top.frame.items ≡ Do (Guard cond) ∷ rest) × (evaluated cond (state_of top) ≡ Ok (Some (pos 0)))
+    × (top.frame.items ≡ Do (Guard cond) ∷ rest)
+    × (evaluated cond (state_of top) ≡ Ok (Some (pos 0)))
 StopsBy number top stop.Zero = IsFirstWithout (needed top.frame.items) (state_of top) (Ok None)
-StopsBy number top stop.Dry = (col : ℕ) × (rest : List Item) × (top.frame.items ≡ Do (Any col) ∷ rest) × (number ≡ None)
-StopsBy number top (stop.Wide wide) = IsFirstWithout (needed top.frame.items) (state_of top) (Err wide)
+StopsBy number top stop.Dry = (col : ℕ) × (rest : List Item)
+    × (top.frame.items ≡ Do (Any col) ∷ rest) × (number ≡ None)
+StopsBy number top (stop.Wide wide) = IsFirstWithout (needed top.frame.items) (state_of top)
+    (Err wide)
 StopsBy number top stop.Memory = ⊥
 
 abbrev pub StopsFrom : Option ℤ → State → List Frame → Stop → Type 0
 StopsFrom number globals [] why = ⊥
-StopsFrom number globals (frame ∷ below) why = StopsBy number (record { globals = globals; frame = frame; below = below }) why
+StopsFrom number globals (frame ∷ below) why = StopsBy number (record {
+  globals = globals;
+  frame = frame;
+  below = below;
+}) why
 
 abbrev pub StopsAt : Option ℤ → Config → Stop → Type 0
 StopsAt number config why = StopsFrom number config.globals config.frames why

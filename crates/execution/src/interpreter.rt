@@ -62,11 +62,13 @@ fn push_code<'p>(tasks: &mut Items<Task<'p>>, code: &'p [Stmt]) -> Result<(), Al
     Ok(())
 }
 
-// Takes what is left of a body away, and the end of the loop too. Where there is no loop, nothing is left.
+// Takes what is left of a body away, and the end of the loop too. Where there is no loop, nothing
+// is left.
 #[tactic(auto, using(crate::proofs::Tasks::tasks))]
 fn pop_to_tail<'p>(tasks: &mut Items<Task<'p>>) -> Option<Repeat<'p>>
     ensures left { items_of tasks.new ≡ after_loop (items_of tasks.old) }
-    ensures tail { MatchOption result ((to_tail (items_of tasks.old) ≡ []) × (items_of tasks.new ≡ []))
+    ensures tail { MatchOption result
+        ((to_tail (items_of tasks.old) ≡ []) × (items_of tasks.new ≡ []))
         (λ r. to_tail (items_of tasks.old) ≡ Tail (parts_of r) ∷ items_of tasks.new) }
 {
     while let Some(task) = tasks.pop() {
@@ -129,8 +131,10 @@ fn numbers_at(
     own: &Items<i128>,
     args: &[Core],
 ) -> Result<Items<i128>, Stop>
-    requires { IsTrue (all_columns_below (length globals.now + length own.now) (map term_of args.now)) }
-    ensures { Gives cause (λ vs. vs) result (numbers_in (map term_of args.now) (globals.now ++ own.now)) }
+    requires { IsTrue
+        (all_columns_below (length globals.now + length own.now) (map term_of args.now)) }
+    ensures { Gives cause (λ vs. vs) result
+        (numbers_in (map term_of args.now) (globals.now ++ own.now)) }
 {
     let state = columns(alloc, globals, own)?;
     values(alloc, args, state.as_slice())
@@ -139,7 +143,8 @@ fn numbers_at(
 // Puts a call with these tasks on top.
 #[tactic(auto, using(crate::proofs::Tasks::tasks))]
 fn resume<'p>(machine: &mut Machine<'p>, call: Activation<'p>) -> Result<(), AllocError>
-    ensures { OnOk result (machine_config machine.new ≡ config_of (machine_top machine.old call.entry)) }
+    ensures { OnOk result
+        (machine_config machine.new ≡ config_of (machine_top machine.old call.entry)) }
 {
     machine.calls.push(call)?;
     Ok(())
@@ -160,7 +165,8 @@ fn go_on_with<'p>(
     code: &'p [Stmt],
 ) -> Result<Option<Event>, Stop>
     ensures { Takes machine.new result (quietly
-        (with_items (machine_top machine.old call.entry) (pending (code_of code.now) (items_of call.entry.tasks)))) }
+        (with_items (machine_top machine.old call.entry)
+        (pending (code_of code.now) (items_of call.entry.tasks)))) }
 {
     let mut call = call;
     push_code(&mut call.tasks, code)?;
@@ -169,7 +175,8 @@ fn go_on_with<'p>(
 
 #[tactic(auto, using(crate::proofs::Tasks::tasks))]
 fn begin_loop<'p>(tasks: &mut Items<Task<'p>>, repeat: Repeat<'p>) -> Result<(), AllocError>
-    ensures { OnOk result (items_of tasks.new ≡ at_begin (parts_of repeat.entry) (items_of tasks.old)) }
+    ensures { OnOk result
+        (items_of tasks.new ≡ at_begin (parts_of repeat.entry) (items_of tasks.old)) }
 {
     if repeat.first {
         tasks.push(Task::Tail(repeat))?;
@@ -182,7 +189,8 @@ fn begin_loop<'p>(tasks: &mut Items<Task<'p>>, repeat: Repeat<'p>) -> Result<(),
 
 #[tactic(auto, using(crate::proofs::Tasks::tasks))]
 fn head_loop<'p>(tasks: &mut Items<Task<'p>>, repeat: Repeat<'p>) -> Result<(), AllocError>
-    ensures { OnOk result (items_of tasks.new ≡ at_head (parts_of repeat.entry) (items_of tasks.old)) }
+    ensures { OnOk result
+        (items_of tasks.new ≡ at_head (parts_of repeat.entry) (items_of tasks.old)) }
 {
     tasks.push(Task::Test(repeat))?;
     push_code(tasks, repeat.pre)
@@ -199,7 +207,8 @@ fn enter_body<'p>(tasks: &mut Items<Task<'p>>, repeat: Repeat<'p>) -> Result<(),
 
 #[tactic(auto, using(crate::proofs::Tasks::tasks))]
 fn tail_loop<'p>(tasks: &mut Items<Task<'p>>, repeat: Repeat<'p>) -> Result<(), AllocError>
-    ensures { OnOk result (items_of tasks.new ≡ at_tail (parts_of repeat.entry) (items_of tasks.old)) }
+    ensures { OnOk result
+        (items_of tasks.new ≡ at_tail (parts_of repeat.entry) (items_of tasks.old)) }
 {
     if repeat.first {
         return head_loop(tasks, repeat);
@@ -270,9 +279,11 @@ fn set_column<'p>(
     col: u32,
     e: &Core,
 ) -> Result<Option<Event>, Stop>
-    requires { IsTrue (columns_below (length machine.old.globals + length call.own) (term_of e.now)) }
+    requires { IsTrue
+        (columns_below (length machine.old.globals + length call.own) (term_of e.now)) }
     ensures { Takes machine.new result
-        (chosen_set (machine_top machine.old call.entry) (items_of call.entry.tasks) col (term_of e.now)) }
+        (chosen_set (machine_top machine.old call.entry) (items_of call.entry.tasks) col
+        (term_of e.now)) }
 {
     let number = number_at(alloc, &machine.globals, &call.own, e)?;
     store(alloc, machine, call, col, number)?;
@@ -286,7 +297,8 @@ fn any_column<'p>(
     col: u32,
     number: Option<i128>,
 ) -> Result<Option<Event>, Stop>
-    ensures { Takes machine.new result (chosen_any number (machine_top machine.old call.entry) (items_of call.entry.tasks) col) }
+    ensures { Takes machine.new result
+        (chosen_any number (machine_top machine.old call.entry) (items_of call.entry.tasks) col) }
 {
     match number {
         Some(number) => {
@@ -306,9 +318,11 @@ fn pass<'p>(
     shown: Option<Event>,
     otherwise: Stop,
 ) -> Result<Option<Event>, Stop>
-    requires { IsTrue (columns_below (length machine.old.globals + length call.own) (term_of cond.now)) }
+    requires { IsTrue
+        (columns_below (length machine.old.globals + length call.own) (term_of cond.now)) }
     ensures { Takes machine.new result
-        (chosen_pass shown otherwise (machine_top machine.old call.entry) (items_of call.entry.tasks) (term_of cond.now)) }
+        (chosen_pass shown otherwise (machine_top machine.old call.entry)
+        (items_of call.entry.tasks) (term_of cond.now)) }
 {
     if number_at(alloc, &machine.globals, &call.own, cond)? == 0 {
         return Err(otherwise);
@@ -356,7 +370,8 @@ fn put_callee<'p>(
 ) -> Result<(), AllocError>
     requires { IsCallable program.now proc (length args) }
     ensures { OnOk result (machine_config machine.new ≡
-        called program.now proc into (machine_top machine.old call.entry) (items_of call.entry.tasks) args) }
+        called program.now proc into (machine_top machine.old call.entry)
+        (items_of call.entry.tasks) args) }
 {
     let callee = enter(alloc, program, proc, args, into)?;
     resume(machine, call)?;
@@ -372,10 +387,12 @@ fn enter_call<'p>(
     args: &[Core],
     into: Option<u32>,
 ) -> Result<Option<Event>, Stop>
-    requires below { IsTrue (all_columns_below (length machine.old.globals + length call.own) (map term_of args.now)) }
+    requires below { IsTrue
+        (all_columns_below (length machine.old.globals + length call.own) (map term_of args.now)) }
     requires callee { IsCallable program.now proc (length args.now) }
     ensures { Takes machine.new result
-        (chosen_call program.now (machine_top machine.old call.entry) (items_of call.entry.tasks) proc (map term_of args.now) into) }
+        (chosen_call program.now (machine_top machine.old call.entry) (items_of call.entry.tasks)
+        proc (map term_of args.now) into) }
 {
     let values = numbers_at(alloc, &machine.globals, &call.own, args)?;
     let shown = Items::from_slice(alloc, values.as_slice())?;
@@ -392,9 +409,11 @@ fn branch<'p>(
     yes: &'p [Stmt],
     no: &'p [Stmt],
 ) -> Result<Option<Event>, Stop>
-    requires { IsTrue (columns_below (length machine.old.globals + length call.own) (term_of cond.now)) }
+    requires { IsTrue
+        (columns_below (length machine.old.globals + length call.own) (term_of cond.now)) }
     ensures { Takes machine.new result (chosen_branch (machine_top machine.old call.entry)
-        (pending (code_of yes.now) (items_of call.entry.tasks)) (pending (code_of no.now) (items_of call.entry.tasks)) (term_of cond.now)) }
+        (pending (code_of yes.now) (items_of call.entry.tasks))
+        (pending (code_of no.now) (items_of call.entry.tasks)) (term_of cond.now)) }
 {
     if number_at(alloc, &machine.globals, &call.own, cond)? != 0 {
         go_on_with(machine, call, yes)
@@ -409,7 +428,8 @@ fn turn_loop<'p>(
     repeat: Repeat<'p>,
 ) -> Result<Option<Event>, Stop>
     ensures { Takes machine.new result (quietly (with_items (machine_top machine.old call.entry)
-        (pending (parts_of repeat.entry).body (Tail (parts_of repeat.entry) ∷ items_of call.entry.tasks)))) }
+        (pending (parts_of repeat.entry).body
+        (Tail (parts_of repeat.entry) ∷ items_of call.entry.tasks)))) }
 {
     let mut call = call;
     enter_body(&mut call.tasks, repeat)?;
@@ -422,9 +442,11 @@ fn test_loop<'p>(
     call: Activation<'p>,
     repeat: Repeat<'p>,
 ) -> Result<Option<Event>, Stop>
-    requires { IsTrue (columns_below (length machine.old.globals + length call.own) (parts_of repeat).cond) }
+    requires { IsTrue
+        (columns_below (length machine.old.globals + length call.own) (parts_of repeat).cond) }
     ensures { Takes machine.new result (chosen_branch (machine_top machine.old call.entry)
-        (pending (parts_of repeat.entry).body (Tail (parts_of repeat.entry) ∷ items_of call.entry.tasks)) (items_of call.entry.tasks)
+        (pending (parts_of repeat.entry).body
+        (Tail (parts_of repeat.entry) ∷ items_of call.entry.tasks)) (items_of call.entry.tasks)
         (parts_of repeat.entry).cond) }
 {
     if number_at(alloc, &machine.globals, &call.own, repeat.cond)? != 0 {
@@ -436,7 +458,9 @@ fn test_loop<'p>(
 
 #[tactic(auto, using(crate::proofs::Tasks::leaves))]
 fn leave_loop<'p>(machine: &mut Machine<'p>, call: Activation<'p>) -> Result<Option<Event>, Stop>
-    ensures { Takes machine.new result (quietly (with_items (machine_top machine.old call.entry) (after_loop (items_of call.entry.tasks)))) }
+    ensures { Takes machine.new result
+        (quietly (with_items (machine_top machine.old call.entry)
+        (after_loop (items_of call.entry.tasks)))) }
 {
     let mut call = call;
     let _left = pop_to_tail(&mut call.tasks);
@@ -445,7 +469,9 @@ fn leave_loop<'p>(machine: &mut Machine<'p>, call: Activation<'p>) -> Result<Opt
 
 #[tactic(auto, using(crate::proofs::Tasks::leaves))]
 fn next_turn<'p>(machine: &mut Machine<'p>, call: Activation<'p>) -> Result<Option<Event>, Stop>
-    ensures { Takes machine.new result (quietly (with_items (machine_top machine.old call.entry) (to_tail (items_of call.entry.tasks)))) }
+    ensures { Takes machine.new result
+        (quietly (with_items (machine_top machine.old call.entry)
+        (to_tail (items_of call.entry.tasks)))) }
 {
     let mut call = call;
     if let Some(repeat) = pop_to_tail(&mut call.tasks) {
@@ -459,7 +485,8 @@ fn leave_call<'p>(
     machine: &mut Machine<'p>,
     call: Activation<'p>,
 ) -> Result<Option<Event>, Stop>
-    ensures { Takes machine.new result (quietly (with_items (machine_top machine.old call.entry) [])) }
+    ensures { Takes machine.new result
+        (quietly (with_items (machine_top machine.old call.entry) [])) }
 {
     let Activation {
         proc,
@@ -485,7 +512,8 @@ fn start_loop<'p>(
     repeat: Repeat<'p>,
 ) -> Result<Option<Event>, Stop>
     ensures { Takes machine.new result (quietly
-        (with_items (machine_top machine.old call.entry) (at_begin (parts_of repeat.entry) (items_of call.entry.tasks)))) }
+        (with_items (machine_top machine.old call.entry)
+        (at_begin (parts_of repeat.entry) (items_of call.entry.tasks)))) }
 {
     let mut call = call;
     begin_loop(&mut call.tasks, repeat)?;
@@ -500,7 +528,8 @@ fn take_value<'p>(
     into: Option<u32>,
     value: i128,
 ) -> Result<(), AllocError>
-    ensures { OnOk result (machine_config machine.new ≡ resumed into value (machine_top machine.old call.entry)) }
+    ensures { OnOk result
+        (machine_config machine.new ≡ resumed into value (machine_top machine.old call.entry)) }
 {
     match into {
         None => resume(machine, call),
@@ -515,7 +544,8 @@ fn go_back<'p>(
     machine: &mut Machine<'p>,
     call: Activation<'p>,
 ) -> Result<Option<Event>, Stop>
-    ensures { Takes machine.new result (chosen_return (machine_top machine.old call.entry) (frames_of machine.old.calls)) }
+    ensures { Takes machine.new result
+        (chosen_return (machine_top machine.old call.entry) (frames_of machine.old.calls)) }
 {
     let Activation {
         proc,
@@ -550,8 +580,10 @@ fn do_stmt<'p>(
     stmt: &'p Stmt,
     number: Option<i128>,
 ) -> Result<Option<Event>, Stop>
-    requires { StatementCanRun program.now (length machine.old.globals + length call.own) (statement_of stmt.now) }
-    ensures { Takes machine.new result (chosen_by program.now number (machine_top machine.old call.entry)
+    requires { StatementCanRun program.now (length machine.old.globals + length call.own)
+        (statement_of stmt.now) }
+    ensures { Takes machine.new result
+        (chosen_by program.now number (machine_top machine.old call.entry)
         (Do (statement_of stmt.now) ∷ items_of call.entry.tasks)) }
 {
     match stmt {
@@ -614,8 +646,10 @@ fn do_task<'p>(
     task: Task<'p>,
     number: Option<i128>,
 ) -> Result<Option<Event>, Stop>
-    requires { ItemCanRun program.now (length machine.old.globals + length call.own) (item_of task) }
-    ensures { Takes machine.new result (chosen_by program.now number (machine_top machine.old call.entry)
+    requires { ItemCanRun program.now (length machine.old.globals + length call.own)
+        (item_of task) }
+    ensures { Takes machine.new result
+        (chosen_by program.now number (machine_top machine.old call.entry)
         (item_of task.entry ∷ items_of call.entry.tasks)) }
 {
     let mut call = call;
@@ -652,7 +686,8 @@ impl<'p> Machine<'p> {
         Ok(machine)
     }
 
-    /// The chosen step, and what it shows. An error says why there is none, and the machine is of no more use then.
+    /// The chosen step, and what it shows. An error says why there is none, and the machine is of
+    /// no more use then.
     #[tactic(auto, using(crate::proofs::Tasks::stepping))]
     pub fn step(
         &mut self,

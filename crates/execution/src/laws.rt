@@ -45,13 +45,15 @@ pub fn chosen_steps()
     ensures goes_on { StepsCanRun }
 {}
 
-/// Where the chosen execution has no step, and that there is none at all unless a number is missing or too wide.
+/// Where the chosen execution has no step, and that there is none at all unless a number is missing
+/// or too wide.
 pub fn chosen_stops()
     ensures causes { ChosenStops }
     ensures no_step { StopsHaveNoStep }
 {}
 
-/// `continue` in a `do` loop, a `break` in a nested loop, and a call that never returns, step by step.
+/// `continue` in a `do` loop, a `break` in a nested loop, and a call that never returns, step by
+/// step.
 pub fn worked_examples()
     ensures continues { ContinueInDo }
     ensures breaks { BreakInNestedLoop }

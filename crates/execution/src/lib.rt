@@ -1,6 +1,6 @@
-//! What it means to run a program of the core: configurations, one step, executions, and how they return
-//! or fail. Laws that show what was meant are the contracts of functions that do nothing, and a plain
-//! slow interpreter makes these steps and no others.
+//! What it means to run a program of the core: configurations, one step, executions, and how they
+//! return or fail. Laws that show what was meant are the contracts of functions that do nothing,
+//! and a plain slow interpreter makes these steps and no others.
 #![tactic(auto)]
 
 mod interpreter;

@@ -1,9 +1,11 @@
--- What an answer that passes means: it is true over whole numbers, and the truth about rational points.
+-- What an answer that passes means: it is true over whole numbers, and the truth about rational
+-- points.
 pub mod Tight
 -- Infeasible and Sup: sums of multiples of rows at a point, and the bounds that certificates give.
 pub mod Farkas
 mod Bounds
--- Stratum: ties make a relation vanish on a case, spots show that there are no others, and the lines are a reduced basis.
+-- Stratum: ties make a relation vanish on a case, spots show that there are no others, and the
+-- lines are a reduced basis.
 mod Basis
 pub mod Vanishing
 pub mod Spots

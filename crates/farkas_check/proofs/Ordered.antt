@@ -1,4 +1,5 @@
--- Terms in print order: the coefficient at a place, or that there is none, and the first term after a monomial.
+-- Terms in print order: the coefficient at a place, or that there is none, and the first term after
+-- a monomial.
 use Rattle.std.proofs.Common.{◌≡◌, ℕ, zero, suc, ◌≤◌, ◌<◌, ◌+◌, ◌-◌, ℤ, pos, Bool, true, false, cond, List, [], ◌∷◌, length, get_or, Option, Some, None, refl, sym, ap, subst, ◌∙◌, arith}
 use Rattle.std.specs.Prelude.{slice_get}
 use Rattle.std.specs.List.{AllByRecursion}

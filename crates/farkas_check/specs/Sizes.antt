@@ -1,4 +1,5 @@
--- The size of a question, and which questions are dead, slim or narrow. These words speak of the question alone.
+-- The size of a question, and which questions are dead, slim or narrow. These words speak of the
+-- question alone.
 use Rattle.std.specs.Prelude.{◌≡◌, ◌⊎◌, ℕ, ◌+◌, ◌≤◌, pos, unsigned_abs, List, [], ◌∷◌, ◌++◌, map, length, slice_get, Some, ⊤}
 use Rattle.std.specs.List.{AllByRecursion}
 use Rattle.linear_terms.specs.declared.col.Col.{Col}
@@ -63,8 +64,8 @@ pub record HasEmptyCase (cases : List (List Row)) : Type 0 where
   pub is : slice_get cases place ≡ Some rows
   pub empty : HasRationalPoint rows → ⊥
 
--- A dead question may have no answer that passes but a limit: a Sup question without a case, or a Sup or Stratum question
--- one of whose cases has no rational point.
+-- A dead question may have no answer that passes but a limit: a Sup question without a case, or a
+-- Sup or Stratum question one of whose cases has no rational point.
 abbrev pub IsDead : Question → Type 0
 IsDead (Infeasible rows) = ⊥
 IsDead (Sup goals) = (goals ≡ []) ⊎ HasEmptyCase (case_rows (Sup goals))
@@ -94,9 +95,11 @@ pub record HasNumbersUpTo (most : ℕ) (p : Polynomial) : Type 0 where
   pub terms : AllByRecursion (λ t. unsigned_abs t.1 ≤ most) p.terms
   pub rest : unsigned_abs p.rest ≤ most
 
--- no equation is stated or implied: a polynomial that is 0 at each rational point of the rows has no monomial
+-- no equation is stated or implied: a polynomial that is 0 at each rational point of the rows has
+-- no monomial
 abbrev pub HasNoEquation : List Row → Type 0
-HasNoEquation rows = (p : Polynomial) → IsCanonical p.terms → ((point : RationalPoint) → Refutes point rows → sum_at point p ≡ pos 0) → p.terms ≡ []
+HasNoEquation rows = (p : Polynomial) → IsCanonical p.terms
+    → ((point : RationalPoint) → Refutes point rows → sum_at point p ≡ pos 0) → p.terms ≡ []
 
 -- a case whose rows leave room in each direction
 pub record HasRoom (case : Change) : Type 0 where
@@ -119,8 +122,9 @@ HasNarrowCases (Infeasible rows) = ⊤
 HasNarrowCases (Sup goals) = (goals ≡ [] → ⊥) × AllByRecursion GoalHasPoint goals
 HasNarrowCases (Stratum asked) = (term_count asked.cases ≤ 2) × AllByRecursion HasRoom asked.cases
 
--- A narrow question is one that elimination always answers: it is slim and has small numbers. A Sup question has a case, and
--- each case a point; a Stratum question has at most two terms, and no equation in a case.
+-- A narrow question is one that elimination always answers: it is slim and has small numbers. A Sup
+-- question has a case, and each case a point; a Stratum question has at most two terms, and no
+-- equation in a case.
 pub record IsNarrow (question : Question) : Type 0 where
   pub slim : IsSlim question
   pub few_cases : length (case_rows question) ≤ 4294967296

@@ -30,12 +30,14 @@ goal_columns goal = columns goal.rows goal.objective.terms
 -- the sum of the multiples is a positive constant
 abbrev pub tested_yes : List Row → List ℤ → Result Bool Step.Wide
 tested_yes rows by =
-    and_then (Ok (are_multipliers rows by)) (sum_of_multiples rows by (columns rows []) >>= λ form. Ok (is_positive_constant form))
+    and_then (Ok (are_multipliers rows by))
+    (sum_of_multiples rows by (columns rows []) >>= λ form. Ok (is_positive_constant form))
 
 -- one number for each column, and every row is true
 abbrev pub tested_no : List Row → List Fraction → Result Bool Step.Wide
 tested_no rows point =
-    and_then (Ok (length point == length (columns rows []))) (meets (ratio_value (ratio_at (columns rows []) point)) rows)
+    and_then (Ok (length point == length (columns rows [])))
+    (meets (ratio_value (ratio_at (columns rows []) point)) rows)
 
 -- ---- Sup
 
@@ -43,39 +45,47 @@ tested_no rows point =
 abbrev pub tested_sum : Goal → Cert → Result Bool Step.Wide
 tested_sum goal cert =
     sum_of_multiples goal.rows cert.by (goal_columns goal) >>= λ left.
-    scaled_form cert.scale cert.sum goal.objective (goal_columns goal) >>= λ right. Ok (same_form left right)
+    scaled_form cert.scale cert.sum goal.objective (goal_columns goal)
+    >>= λ right. Ok (same_form left right)
 
--- the bound `sum / scale` is below the next whole number: sum <= scale * (at + 1) - 1, made from the inside
+-- the bound `sum / scale` is below the next whole number: sum <= scale * (at + 1) - 1, made from
+-- the inside
 abbrev pub tested_below : ℤ → Cert → Result Bool Step.Wide
 tested_below at cert =
-    sum_of at (pos 1) >>= λ next. product_of cert.scale next >>= λ limit. sum_of limit (negsuc 0) >>= λ most. Ok (int_le cert.sum most)
+    sum_of at (pos 1) >>= λ next. product_of cert.scale next >>= λ limit. sum_of limit (negsuc 0)
+    >>= λ most. Ok (int_le cert.sum most)
 
 -- the certificate is one of its case, and bounds it below the next whole number
 abbrev pub tested_cert : ℤ → Goal → Cert → Result Bool Step.Wide
 tested_cert at goal cert =
-    and_then (Ok (are_multipliers goal.rows cert.by && int_le (pos 1) cert.scale)) (and_then (tested_sum goal cert) (tested_below at cert))
+    and_then (Ok (are_multipliers goal.rows cert.by && int_le (pos 1) cert.scale))
+    (and_then (tested_sum goal cert) (tested_below at cert))
 
 -- a certificate for each case
 abbrev pub tested_certs : ℤ → List Goal → List Cert → Result Bool Step.Wide
 tested_certs at [] certs = Ok true
 tested_certs at (goal ∷ goals) [] = Ok true
-tested_certs at (goal ∷ goals) (cert ∷ certs) = and_then (tested_cert at goal cert) (tested_certs at goals certs)
+tested_certs at (goal ∷ goals) (cert ∷ certs) =
+    and_then (tested_cert at goal cert) (tested_certs at goals certs)
 
 -- the point has one number for each column of the case, and makes its rows true
 abbrev pub tested_point : Goal → List Fraction → Result Bool Step.Wide
 tested_point goal point =
-    and_then (Ok (length point == length (goal_columns goal))) (meets (ratio_value (ratio_at (goal_columns goal) point)) goal.rows)
+    and_then (Ok (length point == length (goal_columns goal)))
+    (meets (ratio_value (ratio_at (goal_columns goal) point)) goal.rows)
 
 -- the point's objective is at least `at`
 abbrev pub tested_reached : ℤ → Goal → List Fraction → Result Bool Step.Wide
 tested_reached at goal point =
-    and_then (tested_point goal point) (ratio_value (ratio_at (goal_columns goal) point) goal.objective >>= λ v. is_at_least v at)
+    and_then (tested_point goal point)
+    (ratio_value (ratio_at (goal_columns goal) point) goal.objective >>= λ v. is_at_least v at)
 
 -- on the ray the rows without constants are true, and the objective without its constant is above 0
 abbrev pub tested_ray : Goal → List Fraction → Result Bool Step.Wide
 tested_ray goal ray =
     and_then
-    (and_then (Ok (length ray == length (goal_columns goal))) (meets (slope_at (ratio_at (goal_columns goal) ray)) goal.rows))
+    (and_then (Ok (length ray == length (goal_columns goal)))
+    (meets (slope_at (ratio_at (goal_columns goal) ray)) goal.rows))
     (slope_at (ratio_at (goal_columns goal) ray) goal.objective >>= λ v. Ok (int_lt (pos 0) v.num))
 
 -- a part that speaks of the case at a place; false where there is none
@@ -90,11 +100,13 @@ of_case goals case part = of_found (slice_get goals case)
 abbrev pub tested_bound : ℤ → List Goal → List Cert → ℕ → List Fraction → Result Bool Step.Wide
 tested_bound at goals certs case point =
     and_then (Ok (length certs == length goals))
-    (and_then (tested_certs at goals certs) (of_case goals case (λ goal. tested_reached at goal point)))
+    (and_then (tested_certs at goals certs)
+    (of_case goals case (λ goal. tested_reached at goal point)))
 
 -- a point of a case, and a ray along which its objective grows
 abbrev pub tested_unbounded : List Goal → ℕ → List Fraction → List Fraction → Result Bool Step.Wide
-tested_unbounded goals case point ray = of_case goals case (λ goal. and_then (tested_point goal point) (tested_ray goal ray))
+tested_unbounded goals case point ray =
+    of_case goals case (λ goal. and_then (tested_point goal point) (tested_ray goal ray))
 
 -- ---- limits
 
@@ -105,7 +117,8 @@ is_limit Pivots = true
 
 -- ---- all
 
--- what the test of an answer comes to: true or false, or the first sum or product that leaves 128 bits
+-- what the test of an answer comes to: true or false, or the first sum or product that leaves 128
+-- bits
 abbrev pub outcome : Question → Answer → Result Bool Step.Wide
 outcome question (answer.Limit limit) = Ok (is_limit limit)
 outcome (Infeasible rows) (answer.Yes by) = tested_yes rows by
@@ -122,7 +135,8 @@ outcome (Stratum asked) (answer.Yes by) = Ok false
 outcome (Stratum asked) (answer.No point) = Ok false
 outcome (Stratum asked) (answer.Bound at certs case point) = Ok false
 outcome (Stratum asked) (answer.Unbounded case point ray) = Ok false
-outcome (Stratum asked) (answer.Basis relations spots free) = tested_basis asked.cases asked.lower relations spots free
+outcome (Stratum asked) (answer.Basis relations spots free) =
+    tested_basis asked.cases asked.lower relations spots free
 
 -- whether that is true; where a step leaves 128 bits it is not
 abbrev pub is_passed : Result Bool Step.Wide → Bool

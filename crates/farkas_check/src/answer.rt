@@ -16,7 +16,8 @@ pub struct Cert {
 /// Why a question has no other answer.
 #[derive(Clone, Copy, Debug, PartialEq, Eq, Hash)]
 pub enum Limit {
-    /// The product, where `times` holds, or else the sum of these two numbers is no number of 128 bits.
+    /// The product, where `times` holds, or else the sum of these two numbers is no number of 128
+    /// bits.
     Wide {
         left: i128,
         right: i128,
@@ -26,16 +27,16 @@ pub enum Limit {
     Pivots,
 }
 
-/// An answer, with what shows that it is true. Points and rays have one number for each column of their case,
-/// in print order.
+/// An answer, with what shows that it is true. Points and rays have one number for each column of
+/// their case, in print order.
 #[derive(Debug, PartialEq, Eq, Hash, Drop)]
 pub enum Answer {
     /// No point makes the rows true: one multiplier for each row.
     Yes(Items<i128>),
     /// This point makes the rows true.
     No(Items<Ratio>),
-    /// The greatest whole number that is not above the supremum: a certificate for each case, and a point of
-    /// the case at that place, which reaches it.
+    /// The greatest whole number that is not above the supremum: a certificate for each case, and a
+    /// point of the case at that place, which reaches it.
     Bound {
         at: i128,
         certs: Items<Cert>,
@@ -48,8 +49,9 @@ pub enum Answer {
         point: Items<Ratio>,
         ray: Items<Ratio>,
     },
-    /// The reduced basis of all relations, each tied to 0 in each case. For each unknown that is no pivot there is
-    /// one number for each spot; that sum of the spots' differences is 1 there, and 0 at the others.
+    /// The reduced basis of all relations, each tied to 0 in each case. For each unknown that is no
+    /// pivot there is one number for each spot; that sum of the spots' differences is 1 there, and
+    /// 0 at the others.
     Basis {
         relations: Items<Relation>,
         spots: Items<Spot>,

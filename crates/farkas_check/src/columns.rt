@@ -49,8 +49,9 @@ fn list_columns(source: &Source<'_>, listed: &mut [Option<Mono>])
     }
 }
 
-/// The first column after another one, or the first of all; none after the last. The columns are monomials in
-/// print order, each once. The place is where the next one is looked for first: that of the last one, and one more.
+/// The first column after another one, or the first of all; none after the last. The columns are
+/// monomials in print order, each once. The place is where the next one is looked for first: that
+/// of the last one, and one more.
 #[tactic(auto, using(crate::proofs::Listing::listing))]
 pub(crate) fn next_column(columns: &Columns<'_>, last: &Option<Mono>, place: usize) -> Option<Mono>
     ensures { IsNext result last.now (columns_in columns.now) }
@@ -169,7 +170,8 @@ fn least_in_cases(cases: &[Change], last: &Option<Mono>) -> Option<Mono>
 }
 
 fn least_in_case(case: &Change, last: &Option<Mono>, known: Option<Mono>) -> Option<Mono>
-    ensures { result ≡ least_in_polys last.now (least_in_rows last.now known case.now.rows) case.now.terms }
+    ensures { result ≡ least_in_polys last.now (least_in_rows last.now known case.now.rows)
+        case.now.terms }
 {
     let least = least_in_rows(case.rows.as_slice(), last, known);
     least_in_polys(case.terms.as_slice(), last, least)
@@ -254,8 +256,8 @@ pub(crate) fn has_length(columns: &Columns<'_>, point: &[Ratio]) -> bool
     next_column(columns, &last, point.len()).is_none()
 }
 
-/// The columns of a case of rows with one more list of terms (an objective's, or none): their monomials in print
-/// order, each once.
+/// The columns of a case of rows with one more list of terms (an objective's, or none): their
+/// monomials in print order, each once.
 pub fn case_columns(
     alloc: Global,
     rows: &[Row],

@@ -66,7 +66,8 @@ pub(crate) fn tested_spots(
 
 /// Minus the value of a polynomial at a point.
 fn minus_value(columns: &Columns<'_>, point: &[Ratio], poly: &Poly) -> Result<Ratio, Wide>
-    ensures { result ≡ minus_value (ratio_value (ratio_at (columns_in columns.now) point.now)) poly.now }
+    ensures { result ≡ minus_value (ratio_value (ratio_at (columns_in columns.now) point.now))
+        poly.now }
 {
     let value = ratio_value(columns, point, poly)?;
     value.product(&Ratio::whole(-1))
@@ -117,7 +118,9 @@ fn spots_sum(
     by: &[Ratio],
 ) -> Result<Ratio, Wide>
     requires { length by.now ≡ length basis.now.spots.now }
-    ensures { result ≡ spots_from (λ spot. spot_side (columns_in columns.now) basis.now.cases.now basis.now.lower.now spot place) (whole (pos 0)) basis.now.spots.now by.now }
+    ensures { result
+        ≡ spots_from (λ spot. spot_side (columns_in columns.now) basis.now.cases.now
+        basis.now.lower.now spot place) (whole (pos 0)) basis.now.spots.now by.now }
 {
     let mut total = Ratio::whole(0);
     for (i, spot) in basis.spots.iter().enumerate() {
@@ -138,7 +141,8 @@ fn tested_at(
     other: usize,
 ) -> Result<bool, Wide>
     requires { length by.now ≡ length basis.now.spots.now }
-    ensures { result ≡ tested_at (side_in basis.now columns.now) basis.now.spots.now place by.now other }
+    ensures { result ≡ tested_at (side_in basis.now columns.now) basis.now.spots.now place by.now
+        other }
 {
     let total = spots_sum(basis, columns, other, by)?;
     total.is_exactly(unit_at(place, other))
@@ -159,7 +163,8 @@ fn unless_pivot(
     other: usize,
 ) -> Result<bool, Wide>
     requires { length by.now ≡ length basis.now.spots.now }
-    ensures { result ≡ unless_pivot (lines_in basis.now) (tested_at (side_in basis.now columns.now) basis.now.spots.now place by.now) other }
+    ensures { result ≡ unless_pivot (lines_in basis.now)
+        (tested_at (side_in basis.now columns.now) basis.now.spots.now place by.now) other }
 {
     if is_pivot(basis.relations, other) {
         return Ok(true);
@@ -176,7 +181,10 @@ fn tested_each(
     by: &[Ratio],
 ) -> Result<bool, Wide>
     requires { length by.now ≡ length basis.now.spots.now }
-    ensures { result ≡ all_of (unless_pivot (lines_in basis.now) (tested_at (side_in basis.now columns.now) basis.now.spots.now place by.now)) (places basis.now.count) }
+    ensures { result
+        ≡ all_of (unless_pivot (lines_in basis.now)
+        (tested_at (side_in basis.now columns.now) basis.now.spots.now place by.now))
+        (places basis.now.count) }
 {
     for other in 0..basis.count {
         if !unless_pivot(basis, columns, place, by, other)? {
@@ -193,7 +201,8 @@ fn tested_unit(
     place: usize,
     by: &[Ratio],
 ) -> Result<bool, Wide>
-    ensures { result ≡ tested_unit (side_in basis.now columns.now) basis.now.spots.now (free_places (lines_in basis.now) basis.now.count) place by.now }
+    ensures { result ≡ tested_unit (side_in basis.now columns.now) basis.now.spots.now
+        (free_places (lines_in basis.now) basis.now.count) place by.now }
 {
     if by.len() != basis.spots.len() {
         return Ok(false);
@@ -227,7 +236,8 @@ fn free_count(relations: &[Relation], count: usize) -> usize
     total
 }
 
-/// The unit at a place by the numbers that stand next, where the place is free and numbers are left.
+/// The unit at a place by the numbers that stand next, where the place is free and numbers are
+/// left.
 fn part_with(
     basis: &Basis<'_>,
     columns: &Columns<'_>,
@@ -235,7 +245,9 @@ fn part_with(
     free: &[Items<Ratio>],
     next: usize,
 ) -> Result<bool, Wide>
-    ensures { result ≡ part_with (is_free (lines_in basis.now) place) (tested_unit (side_in basis.now columns.now) basis.now.spots.now (free_places (lines_in basis.now) basis.now.count) place) (slice_get free.now next) }
+    ensures { result ≡ part_with (is_free (lines_in basis.now) place)
+        (tested_unit (side_in basis.now columns.now) basis.now.spots.now
+        (free_places (lines_in basis.now) basis.now.count) place) (slice_get free.now next) }
 {
     if !is_free(basis.relations, place) {
         return Ok(true);
@@ -253,7 +265,9 @@ fn tested_units(
     columns: &Columns<'_>,
     free: &[Items<Ratio>],
 ) -> Result<bool, Wide>
-    ensures { result ≡ units_from (lines_in basis.now) (tested_unit (side_in basis.now columns.now) basis.now.spots.now (free_places (lines_in basis.now) basis.now.count)) free.now 0 (places basis.now.count) }
+    ensures { result ≡ units_from (lines_in basis.now)
+        (tested_unit (side_in basis.now columns.now) basis.now.spots.now
+        (free_places (lines_in basis.now) basis.now.count)) free.now 0 (places basis.now.count) }
 {
     let mut next = 0;
     for place in 0..basis.count {
@@ -272,7 +286,8 @@ pub(crate) fn tested_free(
     columns: &Columns<'_>,
     free: &[Items<Ratio>],
 ) -> Result<bool, Wide>
-    ensures { result ≡ tested_free (side_in basis.now columns.now) basis.now.spots.now (free_places (lines_in basis.now) basis.now.count) free.now }
+    ensures { result ≡ tested_free (side_in basis.now columns.now) basis.now.spots.now
+        (free_places (lines_in basis.now) basis.now.count) free.now }
 {
     if free.len() != free_count(basis.relations, basis.count) {
         return Ok(false);

@@ -6,8 +6,8 @@ use crate::{Answer, Change, Goal, Question, Ratio, Spot, Stratum};
 use items::Items;
 use linear_terms::{Poly, Row};
 
-/// Goes over a question. Afterwards it is known that the monomials of its polynomials stand in print order, each
-/// once, as their types keep them.
+/// Goes over a question. Afterwards it is known that the monomials of its polynomials stand in
+/// print order, each once, as their types keep them.
 pub fn canonicity(question: &Question)
     ensures { IsCanonicalQuestion question.now }
 {

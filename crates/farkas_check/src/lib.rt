@@ -1,6 +1,6 @@
-//! Questions about rational points, answers with certificates, and the test of an answer. The test is small
-//! and takes no memory: multipliers by Farkas, points and rays. A test that is passed means that the answer
-//! is true.
+//! Questions about rational points, answers with certificates, and the test of an answer. The test
+//! is small and takes no memory: multipliers by Farkas, points and rays. A test that is passed
+//! means that the answer is true.
 #![tactic(auto)]
 
 mod answer;

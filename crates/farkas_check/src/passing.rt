@@ -35,7 +35,8 @@ pub fn test(question: &Question, answer: &Answer) -> bool
     }
 }
 
-/// An answer that passes is true over whole numbers, and the truth about rational points unless it is a limit.
+/// An answer that passes is true over whole numbers, and the truth about rational points unless it
+/// is a limit.
 pub fn truth_of_passing()
     ensures { PassingIsTrue }
 {}
@@ -65,8 +66,8 @@ fn outcome(question: &Question, answer: &Answer) -> Result<bool, Wide>
     }
 }
 
-/// What the test of an answer to the question Infeasible of these rows comes to: whether it passes, or the first sum
-/// or product that leaves 128 bits.
+/// What the test of an answer to the question Infeasible of these rows comes to: whether it passes,
+/// or the first sum or product that leaves 128 bits.
 pub fn rows_outcome(rows: &[Row], answer: &Answer) -> Result<bool, Wide>
     ensures { result ≡ outcome (question.Infeasible rows.now) answer.now }
 {
@@ -283,7 +284,8 @@ fn tested_basis(
     spots: &[Spot],
     free: &[Items<Ratio>],
 ) -> Result<bool, Wide>
-    ensures { result ≡ tested_basis stratum.now.cases stratum.now.lower relations.now spots.now free.now }
+    ensures { result ≡ tested_basis stratum.now.cases stratum.now.lower relations.now spots.now
+        free.now }
 {
     let cases = stratum.cases();
     let lower = stratum.lower();

@@ -10,8 +10,8 @@ use crate::source::Columns;
 use linear_terms::{Kind, Mono, Poly, Row};
 use whole_numbers::Wide;
 
-/// The number that a point has at a column, and the place of the column, from which the search for the next one
-/// begins: the monomials of a polynomial stand in the same order as the columns.
+/// The number that a point has at a column, and the place of the column, from which the search for
+/// the next one begins: the monomials of a polynomial stand in the same order as the columns.
 #[tactic(auto, using(crate::proofs::Listing::listing))]
 fn ratio_and_place(
     columns: &Columns<'_>,
@@ -60,7 +60,8 @@ fn ratio_at(columns: &Columns<'_>, point: &[Ratio], column: &Mono) -> Ratio
 
 /// The value of terms at a point, or the first step that leaves 128 bits.
 fn terms_value(columns: &Columns<'_>, point: &[Ratio], of: &[(Mono, i128)]) -> Result<Ratio, Wide>
-    ensures { result ≡ value_from (ratio_at (columns_in columns.now) point.now) (whole (pos 0)) of.now }
+    ensures { result ≡ value_from (ratio_at (columns_in columns.now) point.now) (whole (pos 0))
+        of.now }
 {
     let mut total = Ratio::whole(0);
     let mut place = 0;

@@ -29,8 +29,8 @@ impl Model for Ratio {
 }
 
 impl Ratio {
-    /// A numerator over a denominator; none where the denominator is not positive or the two have a common
-    /// divisor other than 1.
+    /// A numerator over a denominator; none where the denominator is not positive or the two have a
+    /// common divisor other than 1.
     pub fn new(num: i128, den: i128) -> Option<Ratio>
         ensures { SomeIff result (IsTrue (is_lowest num den)) (record { num = num; den = den }) }
     {
@@ -176,8 +176,8 @@ impl Eq for Ratio {
     ghost laws = { ratio_eq_equiv };
 }
 
-/// Sums and products of ratios, and values of polynomials at points, are what they say wherever their steps have 128
-/// bits.
+/// Sums and products of ratios, and values of polynomials at points, are what they say wherever
+/// their steps have 128 bits.
 pub fn exactness_of_ratios()
     ensures sums { SumsAreExact }
     ensures products { ProductsAreExact }

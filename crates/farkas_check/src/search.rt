@@ -4,8 +4,8 @@ ghost use Rattle.farkas_check.specs.Walk.{IsFirstBehind, is_after};
 
 use linear_terms::Mono;
 
-/// The coefficient of a monomial in terms that stand in print order; zero where it is not there. Its own term is the
-/// last one that does not stand behind it.
+/// The coefficient of a monomial in terms that stand in print order; zero where it is not there.
+/// Its own term is the last one that does not stand behind it.
 #[tactic(auto, using(crate::proofs::Ordered::ordered))]
 pub(crate) fn coefficient(terms: &[(Mono, i128)], mono: &Mono) -> i128
     requires { IsCanonical terms.now }

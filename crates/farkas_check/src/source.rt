@@ -4,7 +4,8 @@ ghost use Rattle.farkas_check.specs.Walk.{IsListing};
 use crate::Change;
 use linear_terms::{Mono, Poly, Row};
 
-/// Where columns come from: the rows and the terms of a case, or all cases and lower terms of a stratum question.
+/// Where columns come from: the rows and the terms of a case, or all cases and lower terms of a
+/// stratum question.
 #[derive(Clone, Copy)]
 pub(crate) enum Source<'a> {
     OfCase(&'a [Row], &'a [(Mono, i128)]),
@@ -14,8 +15,8 @@ pub(crate) enum Source<'a> {
 /// How many columns are listed at most.
 pub(crate) const LISTED: usize = 64;
 
-/// Columns. The first of them are listed in place, which takes no memory; the others are found by going over all
-/// terms.
+/// Columns. The first of them are listed in place, which takes no memory; the others are found by
+/// going over all terms.
 #[derive(Clone, Copy)]
 pub(crate) struct Columns<'a> {
     pub(crate) source: Source<'a>,

@@ -20,7 +20,8 @@ pub(crate) enum Place {
     Constant,
 }
 
-/// Which half of a tie: the multiples of the rows give the difference times the scale, or minus that.
+/// Which half of a tie: the multiples of the rows give the difference times the scale, or minus
+/// that.
 #[derive(Clone, Copy)]
 pub(crate) enum Half {
     Up,
@@ -71,7 +72,8 @@ fn less_lower(total: &i128, number: &i128, place: &Place, poly: &Poly) -> Result
 
 /// A sum so far less a number, which stands in the constant alone.
 fn less_constant(total: &i128, number: &i128, place: &Place) -> Result<i128, Wide>
-    ensures { result ≡ with_side (value_in place.now) (is_constant place.now) total.now number.now One }
+    ensures { result ≡ with_side (value_in place.now) (is_constant place.now) total.now number.now
+        One }
 {
     match place {
         Place::At(_column) => Ok(*total),
@@ -113,7 +115,8 @@ fn difference_at(
 ) -> Result<i128, Wide>
     requires terms { length relation.now.a ≡ length terms.now }
     requires lower { length relation.now.b ≡ length lower.now }
-    ensures { result ≡ with_sides (value_in place.now) (is_constant place.now) (pos 0) (numbers_of relation.now) (sides terms.now lower.now) }
+    ensures { result ≡ with_sides (value_in place.now) (is_constant place.now) (pos 0)
+        (numbers_of relation.now) (sides terms.now lower.now) }
 {
     let terms_sum = with_terms(relation.a.as_slice(), terms, place)?;
     let both = less_lowers(&terms_sum, relation.b.as_slice(), lower, place)?;
@@ -139,7 +142,8 @@ fn difference_number(
 ) -> Result<i128, Wide>
     requires terms { length relation.now.a ≡ length terms.now }
     requires lower { length relation.now.b ≡ length lower.now }
-    ensures { result ≡ with_sides (coefficient_at column) false (pos 0) (numbers_of relation.now) (sides terms.now lower.now) }
+    ensures { result ≡ with_sides (coefficient_at column) false (pos 0) (numbers_of relation.now)
+        (sides terms.now lower.now) }
 {
     difference_at(relation, terms, lower, &Place::At(column))
 }
@@ -154,7 +158,10 @@ fn differences_cancel(
 ) -> Result<bool, Wide>
     requires terms { length relation.now.a ≡ length terms.now }
     requires lower { length relation.now.b ≡ length lower.now }
-    ensures { result ≡ sums_cancel true (difference_numbers (numbers_of relation.now) (sides terms.now lower.now) (columns_in columns.now)) }
+    ensures { result
+        ≡ sums_cancel true
+        (difference_numbers (numbers_of relation.now) (sides terms.now lower.now)
+        (columns_in columns.now)) }
 {
     let mut last = None;
     let mut place = 0;
@@ -168,7 +175,8 @@ fn differences_cancel(
     Ok(cancel)
 }
 
-/// Whether the sum of the multiples is a multiple of the difference at each column. The sum is made first.
+/// Whether the sum of the multiples is a multiple of the difference at each column. The sum is made
+/// first.
 #[tactic(auto, using(crate::proofs::Walks::walk))]
 fn are_multiples(
     relation: &Relation,
@@ -180,7 +188,9 @@ fn are_multiples(
     requires terms { length relation.now.a ≡ length case.now.terms }
     requires lower { length relation.now.b ≡ length lower.now }
     requires by { length multiples.now.by.now ≡ length case.now.rows }
-    ensures { result ≡ are_multiples (scaled_by multiples.now.half multiples.now.scale) true case.now.rows multiples.now.by.now (numbers_of relation.now) (sides case.now.terms lower.now) (columns_in columns.now) }
+    ensures { result ≡ are_multiples (scaled_by multiples.now.half multiples.now.scale) true
+        case.now.rows multiples.now.by.now (numbers_of relation.now)
+        (sides case.now.terms lower.now) (columns_in columns.now) }
 {
     let mut last = None;
     let mut place = 0;
@@ -205,7 +215,9 @@ fn is_multiple_at(
     requires terms { length relation.now.a ≡ length case.now.terms }
     requires lower { length relation.now.b ≡ length lower.now }
     requires by { length multiples.now.by.now ≡ length case.now.rows }
-    ensures { result ≡ are_multiples (scaled_by multiples.now.half multiples.now.scale) true case.now.rows multiples.now.by.now (numbers_of relation.now) (sides case.now.terms lower.now) (column.now ∷ []) }
+    ensures { result ≡ are_multiples (scaled_by multiples.now.half multiples.now.scale) true
+        case.now.rows multiples.now.by.now (numbers_of relation.now)
+        (sides case.now.terms lower.now) (column.now ∷ []) }
 {
     let left = column_sum(case.rows.as_slice(), multiples.by, column)?;
     let own = difference_number(relation, case.terms.as_slice(), lower, *column)?;
@@ -224,7 +236,10 @@ fn tested_multiple(
     requires terms { length relation.now.a ≡ length case.now.terms }
     requires lower { length relation.now.b ≡ length lower.now }
     requires by { length multiples.now.by.now ≡ length case.now.rows }
-    ensures { result ≡ tested_multiple (scaled_by multiples.now.half multiples.now.scale) (columns_in columns.now) case.now.rows (difference_form (numbers_of relation.now) (sides case.now.terms lower.now) (columns_in columns.now)) multiples.now.by.now }
+    ensures { result ≡ tested_multiple (scaled_by multiples.now.half multiples.now.scale)
+        (columns_in columns.now) case.now.rows
+        (difference_form (numbers_of relation.now) (sides case.now.terms lower.now)
+        (columns_in columns.now)) multiples.now.by.now }
 {
     let rows = case.rows.as_slice();
     let terms = case.terms.as_slice();
@@ -247,7 +262,10 @@ fn tested_half(
 ) -> Result<bool, Wide>
     requires terms { length relation.now.a ≡ length case.now.terms }
     requires lower { length relation.now.b ≡ length lower.now }
-    ensures { result ≡ tested_half (scaled_by multiples.now.half) (columns_in columns.now) case.now.rows (difference_form (numbers_of relation.now) (sides case.now.terms lower.now) (columns_in columns.now)) multiples.now.scale multiples.now.by.now }
+    ensures { result ≡ tested_half (scaled_by multiples.now.half) (columns_in columns.now)
+        case.now.rows
+        (difference_form (numbers_of relation.now) (sides case.now.terms lower.now)
+        (columns_in columns.now)) multiples.now.scale multiples.now.by.now }
 {
     if !are_multipliers(case.rows.as_slice(), multiples.by) {
         return Ok(false);
@@ -268,7 +286,8 @@ fn tested_tie(
 ) -> Result<bool, Wide>
     requires terms { length relation.now.a ≡ length case.now.terms }
     requires lower { length relation.now.b ≡ length lower.now }
-    ensures { result ≡ tested_tie (columns_in columns.now) lower.now (numbers_of relation.now) case.now tie.now }
+    ensures { result ≡ tested_tie (columns_in columns.now) lower.now (numbers_of relation.now)
+        case.now tie.now }
 {
     let up = Multiples {
         half: Half::Up,
@@ -296,7 +315,9 @@ fn tested_ties(
     requires terms { list_all (has_count (length relation.now.a)) cases.now ≡ true }
     requires lower { length relation.now.b ≡ length lower.now }
     requires ties { length ties.now ≡ length cases.now }
-    ensures { result ≡ all_of (λ p. tested_tie (columns_in columns.now) lower.now (numbers_of relation.now) p.0 p.1) (zip cases.now ties.now) }
+    ensures { result
+        ≡ all_of (λ p. tested_tie (columns_in columns.now) lower.now (numbers_of relation.now) p.0
+        p.1) (zip cases.now ties.now) }
 {
     for (i, case) in cases.iter().enumerate() {
         if !tested_tie(relation, case, lower, columns, &ties[i])? {
@@ -334,7 +355,8 @@ pub(crate) fn tested_relations(
 ) -> Result<bool, Wide>
     requires even { have_equally_many cases.now ≡ true }
     requires counts { list_all (has_unknowns cases.now lower.now) relations.now ≡ true }
-    ensures { result ≡ all_of (tested_relation (columns_in columns.now) cases.now lower.now) relations.now }
+    ensures { result ≡ all_of (tested_relation (columns_in columns.now) cases.now lower.now)
+        relations.now }
 {
     for relation in relations {
         if !tested_relation(relation, cases, lower, columns)? {

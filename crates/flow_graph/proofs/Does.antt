@@ -1,5 +1,5 @@
--- What an activation does, with each call as one step: a tree, whose executions on the machine stand at any place of
--- a stack.
+-- What an activation does, with each call as one step: a tree, whose executions on the machine
+-- stand at any place of a stack.
 use Rattle.std.proofs.Common.{◌≡◌, ◌≤◌, ℕ, ℤ, ◌+◌, Option, Some, None, List, [], ◌∷◌, ◌++◌, refl, sym, subst, arith, length, take, drop, length-append}
 use Rattle.std.specs.Prelude.{max, slice_get}
 use Rattle.std.proofs.lemmas.List.{take-append-drop, length-take-le}

@@ -1,4 +1,5 @@
--- ---- the walks of a graph are the executions: `returns_are_walks`, `checks_are_walks`, `calls_are_walks`
+-- ---- the walks of a graph are the executions: `returns_are_walks`, `checks_are_walks`,
+-- `calls_are_walks`
 pub mod Theorems
 -- what a step of the machine does to a frame, and frames of a stack
 pub mod Moves
@@ -13,9 +14,11 @@ pub mod Explained
 pub mod Live
 pub mod Activations
 pub mod Walking
--- ---- what returns has a tree of calls: `returns_have_heights`, and induction on it: `returns-by_height`
+-- ---- what returns has a tree of calls: `returns_have_heights`, and induction on it:
+-- `returns-by_height`
 pub mod Heights
--- ---- the stack of an execution is a chain of activations: `stacks_are_chains`, `failures_are_in_chains`
+-- ---- the stack of an execution is a chain of activations: `stacks_are_chains`,
+-- `failures_are_in_chains`
 pub mod StackChain
 -- ---- a program has one list of groups: `groups_are_determined`
 pub mod OneList

@@ -1,4 +1,5 @@
--- A program has one list of groups: the group that is next is determined by the procedures that have come.
+-- A program has one list of groups: the group that is next is determined by the procedures that
+-- have come.
 use Rattle.std.proofs.Common.{◌≡◌, ◌<◌, ℕ, Bool, true, false, List, [], ◌∷◌, ◌++◌, length, inl, inr, ⊎_elim, refl, sym, subst, arith}
 use Rattle.std.specs.Prelude.{IsTrue}
 use Rattle.std.proofs.lemmas.Bool.{cases_lt}

@@ -10,7 +10,8 @@ use Rattle.flow_graph.proofs.Each.{EachFrom, from_get, from_has}
 abbrev pub Holds : Type 1
 Holds = ℕ → List Item → Type 0
 
--- What holds of each node of a code that begins at node `c`, and of the items that are left there: `rest` at its end.
+-- What holds of each node of a code that begins at node `c`, and of the items that are left there:
+-- `rest` at its end.
 abbrev mutual
   pub Placed : Holds → ℕ → Code → List Item → Type 0
   Placed P c End rest = P c rest

@@ -1,5 +1,5 @@
--- The stack of an execution is a chain of activations: what each frame did, with the calls that returned as one step each, goes
--- on with every step of the machine.
+-- The stack of an execution is a chain of activations: what each frame did, with the calls that
+-- returned as one step each, goes on with every step of the machine.
 use Rattle.std.proofs.Common.{◌≡◌, ◌≤◌, ℕ, Option, Some, None, List, [], ◌∷◌, ◌++◌, refl, sym, ap, subst, ◌∙◌, arith, length, take, drop}
 use Rattle.std.proofs.lemmas.List.{take-append-drop, length-take-le}
 use Rattle.syntax_tree.specs.declared.program.Program.{Program}

@@ -1,6 +1,6 @@
--- The flow graph of a procedure (Allen 1970) as plain data. Nodes are numbers. A list of statements that begins at
--- node `c` makes the nodes from `c + 1` on, in order, and ends at the last of them; so the number of each node
--- is found by counting, also that of a node which comes later.
+-- The flow graph of a procedure (Allen 1970) as plain data. Nodes are numbers. A list of statements
+-- that begins at node `c` makes the nodes from `c + 1` on, in order, and ends at the last of them;
+-- so the number of each node is found by counting, also that of a node which comes later.
 use Rattle.std.specs.Prelude.{ℕ, pos, ◌+◌, true, false, List, [], ◌∷◌, ◌++◌, Option, None, Some, slice_get}
 use Rattle.syntax_tree.specs.declared.op.Sign.TheVariants.{Not}
 use Rattle.syntax_tree.specs.declared.program.Proc.{Proc}
@@ -10,7 +10,8 @@ use Rattle.syntax_tree.specs.Code.{Statement, Set, Any, Call, Guard, Check, If, 
 use Rattle.flow_graph.specs.declared.making.Targets.{Targets}
 use Rattle.syntax_tree.specs.Nodes.{code_nodes, graph_nodes, statement_nodes}
 
--- An edge. What it does is a statement: a guard, an assignment, a column set to any number, or a call.
+-- An edge. What it does is a statement: a guard, an assignment, a column set to any number, or a
+-- call.
 pub record Arc : Type 0 where
   pub from : ℕ
   pub to : ℕ
@@ -40,12 +41,16 @@ unless cond = Guard (Unary Not cond)
 
 -- where `break` and `continue` lead inside the body of a loop; `return` leads where it led before
 abbrev pub inside : Targets → ℕ → ℕ → Targets
-inside t break_to continue_to = record { break_to = break_to; continue_to = continue_to; exit = t.exit }
+inside t break_to continue_to = record {
+  break_to = break_to;
+  continue_to = continue_to;
+  exit = t.exit;
+}
 
--- The edges of a statement that begins at node `c`, and of a list of statements (C11 6.8), in order. A branch
--- ends in a node of its own, and both lead on to the last. A loop comes back to the node behind its beginning;
--- what it does before its test and after its body stands outside the body, so that `break` there is that of
--- the loop around it.
+-- The edges of a statement that begins at node `c`, and of a list of statements (C11 6.8), in
+-- order. A branch ends in a node of its own, and both lead on to the last. A loop comes back to the
+-- node behind its beginning; what it does before its test and after its body stands outside the
+-- body, so that `break` there is that of the loop around it.
 abbrev mutual
   pub statement_arcs : Targets → ℕ → Statement → List Arc
   statement_arcs t c (Set col value) = arc c (c + 1) (Set col value) ∷ []
@@ -64,7 +69,8 @@ abbrev mutual
       let end_body : ℕ = test + 1 + code_nodes body in
       let end_step : ℕ = end_body + 1 + code_nodes step in
       arc c (c + 1) skip ∷ code_arcs t (c + 1) pre
-      ++ arc test (test + 1) (Guard cond) ∷ code_arcs (inside t (end_step + 1) (end_body + 1)) (test + 1) body
+      ++ arc test (test + 1) (Guard cond) ∷ code_arcs (inside t (end_step + 1) (end_body + 1))
+      (test + 1) body
       ++ arc end_body (end_body + 1) skip ∷ code_arcs t (end_body + 1) step
       ++ arc end_step (c + 1) skip ∷ arc test (end_step + 1) (unless cond) ∷ []
   statement_arcs t c (Loop pre cond body step true) =
@@ -79,7 +85,8 @@ abbrev mutual
 
   pub code_arcs : Targets → ℕ → Code → List Arc
   code_arcs t c End = []
-  code_arcs t c (Then statement rest) = statement_arcs t c statement ++ code_arcs t (c + statement_nodes statement) rest
+  code_arcs t c (Then statement rest) = statement_arcs t c statement
+      ++ code_arcs t (c + statement_nodes statement) rest
 
 -- the assertions of a statement that begins at node `c`, and of a list of statements, in order
 abbrev mutual
@@ -89,7 +96,8 @@ abbrev mutual
       code_checks_at (c + 1) on_true ++ code_checks_at (c + 1 + code_nodes on_true + 1) on_false
   checks_at c (Loop pre cond body step false) =
       let body_at : ℕ = c + 1 + code_nodes pre + 1 in
-      code_checks_at (c + 1) pre ++ code_checks_at body_at body ++ code_checks_at (body_at + code_nodes body + 1) step
+      code_checks_at (c + 1) pre ++ code_checks_at body_at body ++ code_checks_at
+      (body_at + code_nodes body + 1) step
   checks_at c (Loop pre cond body step true) =
       code_checks_at (c + 1) body ++ code_checks_at (c + 1 + code_nodes body + 1) pre
   checks_at c _ = []

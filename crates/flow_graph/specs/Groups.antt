@@ -44,19 +44,22 @@ abbrev pub IsAscending : List ℕ → Type 0
 IsAscending [] = Unit {0}
 IsAscending (p ∷ rest) = ((q : ℕ) → Contains rest q → p < q) × IsAscending rest
 
--- The group that is next where these procedures have come: of the groups that are ready, the one with the first procedure
--- in the text. Its procedures are in the order of the text, and it is recursive where they reach themselves.
+-- The group that is next where these procedures have come: of the groups that are ready, the one
+-- with the first procedure in the text. Its procedures are in the order of the text, and it is
+-- recursive where they reach themselves.
 pub record IsNext (program : Program) (come : List ℕ) (group : Group) : Type 0 where
   pub first : ℕ
   pub there : first < length program.procs
   pub new : Contains come first → ⊥
   pub ready : IsReady program come first
   pub least : (p : ℕ) → p < first → IsReady program come p → Contains come p
-  pub members : (q : ℕ) → Contains group.procs q ↔ ((q < length program.procs) × InOneGroup program first q)
+  pub members : (q : ℕ) → Contains group.procs q
+      ↔ ((q < length program.procs) × InOneGroup program first q)
   pub in_order : IsAscending group.procs
   pub recursive : IsTrue group.recursive ↔ Reaches program first first
 
--- These are the groups behind the procedures that have come, one after the other, until all have come.
+-- These are the groups behind the procedures that have come, one after the other, until all have
+-- come.
 abbrev pub AreGroupsAfter : Program → List ℕ → List Group → Type 0
 AreGroupsAfter program come [] = (q : ℕ) → q < length program.procs → Contains come q
 AreGroupsAfter program come (group ∷ rest) =
@@ -67,4 +70,5 @@ AreGroups program groups = AreGroupsAfter program [] groups
 
 -- A program has no other list of groups.
 abbrev pub GroupsAreDetermined : Type 0
-GroupsAreDetermined = (program : Program) (one other : List Group) → AreGroups program one → AreGroups program other → one ≡ other
+GroupsAreDetermined = (program : Program) (one other : List Group) → AreGroups program one
+    → AreGroups program other → one ≡ other

@@ -1,5 +1,6 @@
--- A procedure that returns does so with a tree of calls: each call on its walk returns with a tree that is lower. Induction
--- on the height is how a property of all procedures of a recursive group is shown.
+-- A procedure that returns does so with a tree of calls: each call on its walk returns with a tree
+-- that is lower. Induction on the height is how a property of all procedures of a recursive group
+-- is shown.
 use Rattle.std.specs.Prelude.{◌≡◌, ◌↔◌, ◌≤◌, ℕ, zero, suc, ℤ, ◌+◌, Some, List, ◌++◌, length, take, slice_get}
 use Rattle.syntax_tree.specs.declared.program.Proc.{Proc}
 use Rattle.syntax_tree.specs.declared.program.Program.{Program}
@@ -10,7 +11,8 @@ use Rattle.flow_graph.specs.Laws.{last_of}
 use Rattle.flow_graph.specs.Walks.{CallMeaning, Stride, Walks}
 
 -- A procedure returns over a walk from the entry of its graph to the exit, where calls mean this.
-pub record ReturnsOver (calls : CallMeaning) (program : Program) (proc : ℕ) (globals args after : State) (value : ℤ) : Type 0 where
+pub record ReturnsOver (calls : CallMeaning) (program : Program) (proc : ℕ)
+    (globals args after : State) (value : ℤ) : Type 0 where
   pub width : length globals ≡ length program.globals
   pub callee : Proc
   pub is : slice_get program.procs proc ≡ Some callee
@@ -33,9 +35,12 @@ ReturnsWithin program (suc n) proc globals args after value =
 -- exactly the calls that return have such a tree
 abbrev pub ReturnsHaveHeights : Type 0
 ReturnsHaveHeights = (program : Program) (proc : ℕ) (globals args after : State) (value : ℤ)
-    → Returns program proc globals args after value ↔ ((n : ℕ) × ReturnsWithin program n proc globals args after value)
+    → Returns program proc globals args after value
+    ↔ ((n : ℕ) × ReturnsWithin program n proc globals args after value)
 
 -- a bound on the height may grow
 abbrev pub HeightsGrow : Type 0
-HeightsGrow = (program : Program) (n m : ℕ) (proc : ℕ) (globals args after : State) (value : ℤ) → n ≤ m
-    → ReturnsWithin program n proc globals args after value → ReturnsWithin program m proc globals args after value
+HeightsGrow = (program : Program) (n m : ℕ) (proc : ℕ) (globals args after : State) (value : ℤ)
+    → n ≤ m
+    → ReturnsWithin program n proc globals args after value
+    → ReturnsWithin program m proc globals args after value

@@ -9,14 +9,21 @@ use Rattle.flow_graph.specs.FlowGraph.{Arc, body_of, graph_of}
 use Rattle.flow_graph.specs.Walks.{Stands, WalksTo}
 
 abbrev pub parts : Code → Term → Code → Code → Bool → LoopParts
-parts pre cond body step first = record { pre = pre; cond = cond; body = body; step = step; first = first }
+parts pre cond body step first = record {
+  pre = pre;
+  cond = cond;
+  body = body;
+  step = step;
+  first = first;
+}
 
--- The items that are left at each node of a list of statements, in order of the nodes: `rest` at its end. Those of the nodes
--- after it follow.
+-- The items that are left at each node of a list of statements, in order of the nodes: `rest` at
+-- its end. Those of the nodes after it follow.
 abbrev mutual
   pub items_at : Code → List Item → List (List Item) → List (List Item)
   items_at End rest after = rest ∷ after
-  items_at (Then statement code) rest after = (Do statement ∷ pending code rest) ∷ items_in statement (pending code rest) (items_at code rest after)
+  items_at (Then statement code) rest after = (Do statement ∷ pending code rest)
+      ∷ items_in statement (pending code rest) (items_at code rest after)
 
   pub items_in : Statement → List Item → List (List Item) → List (List Item)
   items_in (Set col value) rest after = after
@@ -24,7 +31,8 @@ abbrev mutual
   items_in (Call proc args into) rest after = after
   items_in (Guard cond) rest after = after
   items_in (Check number cond) rest after = after
-  items_in (If cond on_true on_false) rest after = items_at on_true rest (items_at on_false rest after)
+  items_in (If cond on_true on_false) rest after =
+      items_at on_true rest (items_at on_false rest after)
   items_in (Loop pre cond body step false) rest after =
       items_at pre (Test (parts pre cond body step false) ∷ rest)
       (items_at body (Tail (parts pre cond body step false) ∷ rest)
@@ -43,11 +51,15 @@ all_items body = items_at body [] ([] ∷ [])
 abbrev pub At : Code → ℕ → List Item → Type 0
 At body node items = slice_get (all_items body) node ≡ Some items
 
--- An activation stands at a call with these items behind it exactly as a walk leads to the beginning of an edge that is the
--- call and at whose end these items are left. So two equal calls in one procedure are told apart.
+-- An activation stands at a call with these items behind it exactly as a walk leads to the
+-- beginning of an edge that is the call and at whose end these items are left. So two equal calls
+-- in one procedure are told apart.
 abbrev pub CallsAreEdges : Type 0
-CallsAreEdges = (program : Program) (proc : ℕ) (globals args : State) (callee : ℕ) (values : List Term) (into : Option ℕ)
+CallsAreEdges = (program : Program) (proc : ℕ) (globals args : State) (callee : ℕ)
+    (values : List Term) (into : Option ℕ)
     (rest : List Item) (final : State)
-    → Stands program proc globals args (Do (Call callee values into) ∷ rest) final ↔ ((way : Arc) × (k : ℕ)
+    → Stands program proc globals args (Do (Call callee values into) ∷ rest) final
+    ↔ ((way : Arc) × (k : ℕ)
     × (slice_get (graph_of program proc).arcs k ≡ Some way) × (way.act ≡ Call callee values into)
-    × At (body_of (slice_get program.procs proc)) way.to rest × WalksTo program proc globals args way.from final)
+    × At (body_of (slice_get program.procs proc)) way.to rest
+    × WalksTo program proc globals args way.from final)

@@ -21,13 +21,17 @@ empty_rows zero = []
 empty_rows (suc n) = [] ∷ empty_rows n
 
 -- the tables have the first procedures, each in the row of its group, and what they call
-pub record AreFilled (calls : List (List ℕ)) (groups : List ℕ) (count k : ℕ) (members rows : List (List ℕ)) : Type 0 where
+pub record AreFilled (calls : List (List ℕ)) (groups : List ℕ) (count k : ℕ)
+    (members rows : List (List ℕ)) : Type 0 where
   pub many : length members ≡ count
   pub rows_many : length rows ≡ count
-  pub listed : (g q : ℕ) → Contains (slice_index_or members g []) q ↔ ((q < k) × (group_at groups q ≡ g))
+  pub listed : (g q : ℕ) → Contains (slice_index_or members g []) q
+      ↔ ((q < k) × (group_at groups q ≡ g))
   pub in_order : (g : ℕ) → IsAscending (slice_index_or members g [])
-  pub called : (p q : ℕ) → p < k → Calls calls p q → Contains (slice_index_or rows (group_at groups p) []) q
-  pub callers : (g q : ℕ) → Contains (slice_index_or rows g []) q → (p : ℕ) × (p < k) × (group_at groups p ≡ g) × Calls calls p q
+  pub called : (p q : ℕ) → p < k → Calls calls p q
+      → Contains (slice_index_or rows (group_at groups p) []) q
+  pub callers : (g q : ℕ) → Contains (slice_index_or rows g []) q
+      → (p : ℕ) × (p < k) × (group_at groups p ≡ g) × Calls calls p q
 
 -- the groups of the first numbers have rows
 abbrev pub AreBelow : List ℕ → ℕ → ℕ → Type 0

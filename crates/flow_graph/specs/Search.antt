@@ -6,7 +6,8 @@ use Rattle.flow_graph.specs.declared.components.Mark.TheVariants.{New, OnPath, D
 use Rattle.flow_graph.specs.declared.components.Search.{Search}
 use Rattle.flow_graph.specs.Reaching.{Calls, Reaches}
 
--- how far each number is, the numbers on the path, the places of the path at which its groups start, and how many groups are done
+-- how far each number is, the numbers on the path, the places of the path at which its groups
+-- start, and how many groups are done
 pub record State : Type 0 where
   pub marks : List Mark
   pub path : List ℕ
@@ -14,7 +15,12 @@ pub record State : Type 0 where
   pub groups : ℕ
 
 abbrev pub state_of : Search → State
-state_of s = record { marks = s.marks.items; path = s.path.items; starts = s.starts.items; groups = s.groups }
+state_of s = record {
+  marks = s.marks.items;
+  path = s.path.items;
+  starts = s.starts.items;
+  groups = s.groups;
+}
 
 abbrev pub is_new : Mark → Bool
 is_new New = true
@@ -41,7 +47,8 @@ entered s p = record {
 -- the last group of the path, which starts at a place, is done
 abbrev pub left_mark : ℕ → ℕ → ℕ → Mark → Mark
 left_mark at end groups New = New
-left_mark at end groups (OnPath place) = if nat_le at place && nat_lt place end then Done groups else OnPath place
+left_mark at end groups (OnPath place) = if nat_le at place && nat_lt place end then Done groups
+    else OnPath place
 left_mark at end groups (Done group) = Done group
 
 abbrev pub left : State → ℕ → State
@@ -78,9 +85,12 @@ pub record IsSound (calls : List (List ℕ)) (s : State) : Type 0 where
   -- each place of the path reaches all later ones, and those of its own group
   pub reaches : (at before : ℕ) → at < length s.path → before < length s.path → IsJoined s at before
       → Reaches calls (on_path s at) (on_path s before)
-  -- what is done calls what is done, of its own group or an earlier one, and each group is strongly connected
-  pub closed : (p q group : ℕ) → mark_of s p ≡ Done group → Calls calls p q → (other : ℕ) × (mark_of s q ≡ Done other) × (other ≤ group)
-  pub strong : (p q group : ℕ) → mark_of s p ≡ Done group → mark_of s q ≡ Done group → Reaches calls p q
+  -- what is done calls what is done, of its own group or an earlier one, and each group is strongly
+  -- connected
+  pub closed : (p q group : ℕ) → mark_of s p ≡ Done group → Calls calls p q
+      → (other : ℕ) × (mark_of s q ≡ Done other) × (other ≤ group)
+  pub strong : (p q group : ℕ) → mark_of s p ≡ Done group → mark_of s q ≡ Done group
+      → Reaches calls p q
   pub counted : (p group : ℕ) → mark_of s p ≡ Done group → group < s.groups
   pub some : (group : ℕ) → group < s.groups → (p : ℕ) × (mark_of s p ≡ Done group)
   pub few : s.groups + length s.path + count_by is_new s.marks ≤ length s.marks
@@ -95,7 +105,8 @@ pub record Follows (s t : State) : Type 0 where
   pub fewer : count_by is_new t.marks ≤ count_by is_new s.marks
   pub all : length t.marks ≡ length s.marks
 
--- a call from a place of the path is taken into account: it leads to what is done, or to no earlier group
+-- a call from a place of the path is taken into account: it leads to what is done, or to no earlier
+-- group
 pub record IsOnLater (s : State) (at q : ℕ) : Type 0 where
   pub place : ℕ
   pub marked : mark_of s q ≡ OnPath place
@@ -106,7 +117,8 @@ IsSettled s at q = ((group : ℕ) × (mark_of s q ≡ Done group)) ⊎ IsOnLater
 
 -- all calls from the places of the path from `from` on are taken into account
 abbrev pub AreSettled : List (List ℕ) → State → ℕ → Type 0
-AreSettled calls s from = (at q : ℕ) → from ≤ at → at < length s.path → Calls calls (on_path s at) q → IsSettled s at q
+AreSettled calls s from = (at q : ℕ) → from ≤ at → at < length s.path → Calls calls (on_path s at) q
+    → IsSettled s at q
 
 -- the starts up to a place are left
 pub record IsCut (old new : List ℕ) (place : ℕ) : Type 0 where
@@ -125,9 +137,11 @@ last_start s = slice_index_or s.starts (length s.starts - 1) 0
 
 -- how a number stands behind the search from it: done, or on the path from a place on
 abbrev pub IsSeen : State → ℕ → ℕ → Type 0
-IsSeen s p from = ((group : ℕ) × (mark_of s p ≡ Done group)) ⊎ ((place : ℕ) × (mark_of s p ≡ OnPath place) × (from ≤ place))
+IsSeen s p from = ((group : ℕ) × (mark_of s p ≡ Done group))
+    ⊎ ((place : ℕ) × (mark_of s p ≡ OnPath place) × (from ≤ place))
 
--- the search from a number that was new: what is behind the path that was there is taken into account
+-- the search from a number that was new: what is behind the path that was there is taken into
+-- account
 pub record Visited (calls : List (List ℕ)) (s t : State) (p : ℕ) : Type 0 where
   pub sound : IsSound calls t
   pub follows : Follows s t

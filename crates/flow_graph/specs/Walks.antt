@@ -1,5 +1,5 @@
--- Walks of a flow graph, and what an activation of a procedure comes to. A state has one number for each column;
--- the globals are the first columns, and the last is the value that is returned.
+-- Walks of a flow graph, and what an activation of a procedure comes to. A state has one number for
+-- each column; the globals are the first columns, and the last is the value that is returned.
 use Rattle.std.specs.Prelude.{◌≡◌, ℕ, ℤ, ◌+◌, Option, None, Some, List, [], ◌∷◌, ◌++◌, length, take, drop, slice_get, slice_set}
 use Rattle.syntax_tree.specs.declared.program.Proc.{Proc}
 use Rattle.syntax_tree.specs.declared.program.Program.{Program}
@@ -20,9 +20,10 @@ abbrev pub received : Option ℕ → ℤ → State → State
 received None value state = state
 received (Some col) value state = slice_set state col value
 
--- A call takes the globals and the values of its arguments, and leaves the columns past the globals but for the one
--- that awaits its value.
-pub record CallRelates (calls : CallMeaning) (globals : ℕ) (proc : ℕ) (args : List Term) (into : Option ℕ) (before after : State) : Type 0 where
+-- A call takes the globals and the values of its arguments, and leaves the columns past the globals
+-- but for the one that awaits its value.
+pub record CallRelates (calls : CallMeaning) (globals : ℕ) (proc : ℕ) (args : List Term)
+    (into : Option ℕ) (before after : State) : Type 0 where
   pub values : List ℤ
   pub are : values_of args before ≡ Some values
   pub left : State
@@ -30,10 +31,11 @@ pub record CallRelates (calls : CallMeaning) (globals : ℕ) (proc : ℕ) (args 
   pub returns : calls proc (take globals before) values left value
   pub after_is : after ≡ received into value (left ++ drop globals before)
 
--- The relation of an edge, by what it does, where so many columns are globals: a call relates as those that are there
--- say, every other statement as it changes a state.
+-- The relation of an edge, by what it does, where so many columns are globals: a call relates as
+-- those that are there say, every other statement as it changes a state.
 abbrev pub EdgeRelates : CallMeaning → ℕ → Statement → State → State → Type 0
-EdgeRelates calls globals (Call proc args into) before after = CallRelates calls globals proc args into before after
+EdgeRelates calls globals (Call proc args into) before after =
+    CallRelates calls globals proc args into before after
 EdgeRelates calls globals statement before after = Changes statement before after
 
 -- one edge of a walk, by its place in the list of edges, and the state behind it
@@ -49,9 +51,10 @@ Walks calls globals arcs node state (stride ∷ path) last final =
     × EdgeRelates calls globals way.act state stride.state
     × Walks calls globals arcs way.to stride.state path last final
 
--- A walk of the graph of a procedure leads from its entry to a node. It begins with these globals and arguments and any
--- numbers in the other columns, and calls are those that return.
-pub record WalksTo (program : Program) (proc : ℕ) (globals args : State) (node : ℕ) (final : State) : Type 0 where
+-- A walk of the graph of a procedure leads from its entry to a node. It begins with these globals
+-- and arguments and any numbers in the other columns, and calls are those that return.
+pub record WalksTo (program : Program) (proc : ℕ) (globals args : State) (node : ℕ)
+    (final : State) : Type 0 where
   pub width : length globals ≡ length program.globals
   pub callee : Proc
   pub is : slice_get program.procs proc ≡ Some callee
@@ -62,9 +65,10 @@ pub record WalksTo (program : Program) (proc : ℕ) (globals args : State) (node
   pub walk : Walks (Returns program) (length program.globals) (graph_of program proc).arcs
       0 (globals ++ (args ++ others)) path node final
 
--- An activation stands at these items in this state: an execution that begins in the procedure comes to them, and
--- no call that it made is open.
-pub record Stands (program : Program) (proc : ℕ) (globals args : State) (items : List Item) (final : State) : Type 0 where
+-- An activation stands at these items in this state: an execution that begins in the procedure
+-- comes to them, and no call that it made is open.
+pub record Stands (program : Program) (proc : ℕ) (globals args : State) (items : List Item)
+    (final : State) : Type 0 where
   pub first : Config
   pub begins : Begins program proc globals args first
   pub steps : List Config

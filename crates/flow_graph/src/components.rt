@@ -15,8 +15,8 @@ pub(crate) enum Mark {
     Done(usize),
 }
 
-/// A search: the marks of all numbers, the numbers on the path, the places of the path at which its groups
-/// start, and how many groups are done.
+/// A search: the marks of all numbers, the numbers on the path, the places of the path at which its
+/// groups start, and how many groups are done.
 #[derive(Debug, Drop)]
 pub(crate) struct Search {
     marks: Vec<Mark>,
@@ -25,8 +25,8 @@ pub(crate) struct Search {
     groups: usize,
 }
 
-/// The strong components of numbers: for each number its component. Components are numbered so that a call
-/// leads to no later one.
+/// The strong components of numbers: for each number its component. Components are numbered so that
+/// a call leads to no later one.
 #[derive(Debug, Drop)]
 pub(crate) struct Components {
     pub(crate) group_of: Items<usize>,
@@ -171,8 +171,8 @@ fn groups_in(alloc: Global, marks: &[Mark]) -> Result<Items<usize>, GraphError>
     Ok(groups)
 }
 
-/// The strong components of numbers below `count`, each with what it calls, by a path-based depth-first search
-/// (Gabow 2000). It takes time with the number of calls.
+/// The strong components of numbers below `count`, each with what it calls, by a path-based
+/// depth-first search (Gabow 2000). It takes time with the number of calls.
 #[tactic(auto, using(crate::proofs::Searching::are_components))]
 pub(crate) fn strong_components(
     alloc: Global,

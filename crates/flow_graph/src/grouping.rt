@@ -19,9 +19,10 @@ pub struct Group {
     pub recursive: bool,
 }
 
-/// The groups of a program's procedures, each behind those that it calls; of several that could come next, the
-/// one with the first procedure in the text. It takes time with the number of calls, but for the order among
-/// those that could come next, which takes the logarithm of their number for each group.
+/// The groups of a program's procedures, each behind those that it calls; of several that could
+/// come next, the one with the first procedure in the text. It takes time with the number of calls,
+/// but for the order among those that could come next, which takes the logarithm of their number
+/// for each group.
 pub fn groups(alloc: Global, program: &Program) -> Result<Items<Group>, GraphError>
     ensures { IfOk result (λ groups. AreGroups program.now groups) }
 {

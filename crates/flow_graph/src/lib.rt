@@ -1,6 +1,6 @@
-//! The flow graph of a procedure: nodes and edges, each of which does one simple thing or one call. The walks
-//! of the graph are exactly what one activation of the procedure can do; the laws are the contracts of functions
-//! that do nothing.
+//! The flow graph of a procedure: nodes and edges, each of which does one simple thing or one call.
+//! The walks of the graph are exactly what one activation of the procedure can do; the laws are the
+//! contracts of functions that do nothing.
 #![tactic(auto)]
 
 mod components;

@@ -1,4 +1,5 @@
-//! Walks once over the statements of a procedure, and puts their edges and assertions behind those that stand.
+//! Walks once over the statements of a procedure, and puts their edges and assertions behind those
+//! that stand.
 ghost use Rattle.std.specs.Prelude.{◌≡◌, ◌≤◌, ◌<◌, ◌+◌, ◌∷◌, [], ◌++◌, All, IfOk, OnOk, true, false, map, slice_get, length};
 ghost use Rattle.syntax_tree.specs.Code.{code_of, statement_of};
 ghost use Rattle.syntax_tree.specs.Nodes.{code_nodes, graph_nodes, statement_nodes};
@@ -206,12 +207,15 @@ impl Made {
         at: u32,
         targets: Targets,
     ) -> Result<u32, GraphError>
-        requires { at + (3 + code_nodes (code_of yes.now) + code_nodes (code_of no.now)) < MOST_NODES }
+        requires { at + (3 + code_nodes (code_of yes.now) + code_nodes (code_of no.now))
+            < MOST_NODES }
         ensures edges { OnOk result (map arc_of self.new.edges ≡ map arc_of self.old.edges
-            ++ statement_arcs targets at (If (term_of cond.now) (code_of yes.now) (code_of no.now))) }
+            ++ statement_arcs targets at
+            (If (term_of cond.now) (code_of yes.now) (code_of no.now))) }
         ensures checks { OnOk result (map check_of self.new.checks ≡ map check_of self.old.checks
             ++ checks_at at (If (term_of cond.now) (code_of yes.now) (code_of no.now))) }
-        ensures node { IfOk result (λ n. n ≡ at + (3 + code_nodes (code_of yes.now) + code_nodes (code_of no.now))) }
+        ensures node { IfOk result
+            (λ n. n ≡ at + (3 + code_nodes (code_of yes.now) + code_nodes (code_of no.now))) }
     {
         let act = guard(self.alloc, cond)?;
         self.edge(at, at + 1, act)?;
@@ -234,12 +238,19 @@ impl Made {
         at: u32,
         targets: Targets,
     ) -> Result<u32, GraphError>
-        requires { at + (4 + code_nodes (code_of pre.now) + code_nodes (code_of body.now) + code_nodes (code_of step.now)) < MOST_NODES }
+        requires { at + (4 + code_nodes (code_of pre.now) + code_nodes
+            (code_of body.now) + code_nodes (code_of step.now)) < MOST_NODES }
         ensures edges { OnOk result (map arc_of self.new.edges ≡ map arc_of self.old.edges
-            ++ statement_arcs targets at (Loop (code_of pre.now) (term_of cond.now) (code_of body.now) (code_of step.now) false)) }
+            ++ statement_arcs targets at
+            (Loop (code_of pre.now) (term_of cond.now) (code_of body.now) (code_of step.now)
+            false)) }
         ensures checks { OnOk result (map check_of self.new.checks ≡ map check_of self.old.checks
-            ++ checks_at at (Loop (code_of pre.now) (term_of cond.now) (code_of body.now) (code_of step.now) false)) }
-        ensures node { IfOk result (λ n. n ≡ at + (4 + code_nodes (code_of pre.now) + code_nodes (code_of body.now) + code_nodes (code_of step.now))) }
+            ++ checks_at at
+            (Loop (code_of pre.now) (term_of cond.now) (code_of body.now) (code_of step.now)
+            false)) }
+        ensures node { IfOk result
+            (λ n. n ≡ at + (4 + code_nodes (code_of pre.now) + code_nodes
+            (code_of body.now) + code_nodes (code_of step.now))) }
     {
         self.edge(at, at + 1, skip())?;
         let test = self.code(pre, at + 1, targets)?;
@@ -266,12 +277,16 @@ impl Made {
         at: u32,
         targets: Targets,
     ) -> Result<u32, GraphError>
-        requires { at + (3 + code_nodes (code_of pre.now) + code_nodes (code_of body.now)) < MOST_NODES }
+        requires { at + (3 + code_nodes (code_of pre.now) + code_nodes (code_of body.now))
+            < MOST_NODES }
         ensures edges { OnOk result (map arc_of self.new.edges ≡ map arc_of self.old.edges
-            ++ statement_arcs targets at (Loop (code_of pre.now) (term_of cond.now) (code_of body.now) End true)) }
+            ++ statement_arcs targets at
+            (Loop (code_of pre.now) (term_of cond.now) (code_of body.now) End true)) }
         ensures checks { OnOk result (map check_of self.new.checks ≡ map check_of self.old.checks
-            ++ checks_at at (Loop (code_of pre.now) (term_of cond.now) (code_of body.now) End true)) }
-        ensures node { IfOk result (λ n. n ≡ at + (3 + code_nodes (code_of pre.now) + code_nodes (code_of body.now))) }
+            ++ checks_at at
+            (Loop (code_of pre.now) (term_of cond.now) (code_of body.now) End true)) }
+        ensures node { IfOk result
+            (λ n. n ≡ at + (3 + code_nodes (code_of pre.now) + code_nodes (code_of body.now))) }
     {
         let turn = at + 1 + nodes_of(body) + 1;
         let after = turn + nodes_of(pre) + 1;
@@ -287,13 +302,14 @@ impl Made {
     }
 }
 
-/// The flow graph of the procedure at this place of a program. Its edges lead between its nodes, and its
-/// assertions stand at them.
+/// The flow graph of the procedure at this place of a program. Its edges lead between its nodes,
+/// and its assertions stand at them.
 pub fn graph(alloc: Global, program: &Program, proc: u32) -> Result<Graph, GraphError>
     requires fit { IsWellFormed program.now }
     requires there { proc < length program.now.procs }
     ensures exact { IfOk result (λ g. plain g ≡ graph_of program.now proc) }
-    ensures edges { IfOk result (λ g. All (λ edge. (edge.from < g.nodes) × (edge.to < g.nodes)) g.edges) }
+    ensures edges { IfOk result
+        (λ g. All (λ edge. (edge.from < g.nodes) × (edge.to < g.nodes)) g.edges) }
     ensures checks { IfOk result (λ g. All (λ check. check.node < g.nodes) g.checks) }
 {
     whole(alloc, program, proc)

@@ -34,8 +34,8 @@ pub struct CheckNode {
     pub cond: Core,
 }
 
-/// The flow graph of a procedure. Nodes are numbered from 0, the entry, to the exit, which is the last; nodes and
-/// edges are in the order in which the statements make them.
+/// The flow graph of a procedure. Nodes are numbered from 0, the entry, to the exit, which is the
+/// last; nodes and edges are in the order in which the statements make them.
 #[derive(Drop)]
 pub struct Graph {
     pub nodes: u32,

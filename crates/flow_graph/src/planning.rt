@@ -100,7 +100,9 @@ fn empty_rows(alloc: Global, count: usize) -> Result<Vec<Items<u32>>, GraphError
 
 fn add(rows: &mut Vec<Items<u32>>, at: usize, p: u32) -> Result<(), GraphError>
     requires { at < length rows.old.items }
-    ensures { OnOk result (rows.new.items ≡ slice_set rows.old.items at (slice_index_or rows.old.items at [] ++ p ∷ [])) }
+    ensures { OnOk result
+        (rows.new.items
+        ≡ slice_set rows.old.items at (slice_index_or rows.old.items at [] ++ p ∷ [])) }
 {
     rows[at].push(p)?;
     Ok(())
@@ -108,7 +110,9 @@ fn add(rows: &mut Vec<Items<u32>>, at: usize, p: u32) -> Result<(), GraphError>
 
 fn extend(rows: &mut Vec<Items<u32>>, at: usize, more: Items<u32>) -> Result<(), GraphError>
     requires { at < length rows.old.items }
-    ensures { OnOk result (rows.new.items ≡ slice_set rows.old.items at (slice_index_or rows.old.items at [] ++ more)) }
+    ensures { OnOk result
+        (rows.new.items
+        ≡ slice_set rows.old.items at (slice_index_or rows.old.items at [] ++ more)) }
 {
     rows[at].append(more)?;
     Ok(())
@@ -125,7 +129,9 @@ pub(crate) fn plan(
 ) -> Result<Plan, GraphError>
     requires all { total ≡ length calls.now }
     requires within { AreBelow groups (length calls.now) count }
-    ensures { IfOk result (λ plan. (plan.groups ≡ groups) × AreFilled calls.now groups count (length calls.now) plan.members plan.rows) }
+    ensures { IfOk result
+        (λ plan. (plan.groups ≡ groups) × AreFilled calls.now groups count (length calls.now)
+        plan.members plan.rows) }
 {
     let mut members = empty_rows(alloc, count)?;
     let mut rows = empty_rows(alloc, count)?;

@@ -13,7 +13,8 @@ use std::alloc::Global;
 use std::collections::BTreeSet;
 use syntax_tree::Program;
 
-/// What is known of groups: of each procedure its group, of each group its procedures and what they call.
+/// What is known of groups: of each procedure its group, of each group its procedures and what they
+/// call.
 #[derive(Debug, Drop)]
 pub(crate) struct Plan {
     pub(crate) groups: Items<usize>,
@@ -21,8 +22,8 @@ pub(crate) struct Plan {
     pub(crate) rows: Items<Items<u32>>,
 }
 
-/// Which groups have come, which wait at each group, at which place of its calls each goes on, and the first
-/// procedures of those that are ready.
+/// Which groups have come, which wait at each group, at which place of its calls each goes on, and
+/// the first procedures of those that are ready.
 #[derive(Drop)]
 pub(crate) struct Order {
     come: Vec<bool>,
@@ -90,7 +91,9 @@ fn blocked(groups: &[usize], come: &[bool], row: &[u32], group: usize, from: usi
 
 fn wait(waiting: &mut Vec<Items<usize>>, at: usize, group: usize) -> Result<(), GraphError>
     requires { at < length waiting.old.items }
-    ensures { OnOk result (waiting.new.items ≡ slice_set waiting.old.items at (slice_index_or waiting.old.items at [] ++ group ∷ [])) }
+    ensures { OnOk result
+        (waiting.new.items
+        ≡ slice_set waiting.old.items at (slice_index_or waiting.old.items at [] ++ group ∷ [])) }
 {
     waiting[at].push(group)?;
     Ok(())
@@ -128,7 +131,8 @@ impl Order {
         todo: &[usize],
     ) -> Result<(), GraphError>
         requires { Going program.now plan.now (stage_of self.old) todo.now }
-        ensures { OnOk result (Going program.now plan.now (stage_of self.new) [] × (self.new.come.items ≡ self.old.come.items)) }
+        ensures { OnOk result (Going program.now plan.now (stage_of self.new) []
+            × (self.new.come.items ≡ self.old.come.items)) }
     {
         for group in todo {
             self.settle(plan, *group)?;
@@ -176,8 +180,10 @@ impl Order {
         plan: &Plan,
         group: usize,
     ) -> Result<(), GraphError>
-        requires { Going program.now plan.now (stage_of self.old) (slice_index_or self.old.waiting.items group []) }
-        ensures { OnOk result (Going program.now plan.now (stage_of self.new) [] × (self.new.come.items ≡ self.old.come.items)) }
+        requires { Going program.now plan.now (stage_of self.old)
+            (slice_index_or self.old.waiting.items group []) }
+        ensures { OnOk result (Going program.now plan.now (stage_of self.new) []
+            × (self.new.come.items ≡ self.old.come.items)) }
     {
         let todo = Items::from_slice(alloc, waiters(&self.waiting, group))?;
         self.settle_all(program, plan, todo.as_slice())
@@ -186,7 +192,8 @@ impl Order {
 
 // The group of a number, as it comes.
 fn made(alloc: Global, plan: &Plan, group: usize) -> Result<Group, GraphError>
-    ensures { IfOk result (λ made. (made.procs ≡ members_of plan.now group) × (made.recursive ≡ leads_back plan.now.groups group (row_of plan.now group))) }
+    ensures { IfOk result (λ made. (made.procs ≡ members_of plan.now group)
+        × (made.recursive ≡ leads_back plan.now.groups group (row_of plan.now group))) }
 {
     let procs = Items::from_slice(alloc, members_of(plan, group))?;
     let recursive = leads_back(plan.groups.as_slice(), group, row_of(plan, group));

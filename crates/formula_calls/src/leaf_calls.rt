@@ -30,13 +30,23 @@ pub fn leaf(
     requires procedure { proc < length program.now.procs }
     requires edge { IsActOf program.now proc (statement_of_act act.now) }
     requires known { AreKnown program.now known.now }
-    ensures exact { IfOk result (λ f. f ≡ leaf_of (columns_at program.now proc) (length program.now.globals) known.now (statement_of_act act.now)) }
-    ensures noted { OnOk result (losses.new ≡ losses.old ++ lost_in_leaf (columns_at program.now proc) (length program.now.globals) known.now (statement_of_act act.now)) }
+    ensures exact { IfOk result
+        (λ f. f ≡ leaf_of (columns_at program.now proc) (length program.now.globals) known.now
+        (statement_of_act act.now)) }
+    ensures noted { OnOk result
+        (losses.new ≡ losses.old ++ lost_in_leaf (columns_at program.now proc)
+        (length program.now.globals) known.now (statement_of_act act.now)) }
     ensures kept { OnErr result (losses.new ≡ losses.old) }
     ensures cases { IfOk result (λ f. length f.cases ≤ 4096) }
     ensures few { IfOk result (λ f. All (λ case. case.aux < 2 ^ 31) f.cases) }
-    ensures at_least { (before after : List ℤ) → IfOk result (λ f. length before ≡ columns_at program.now proc → EdgeRelates (KnownCalls known.now) (length program.now.globals) (statement_of_act act.now) before after → Holds f before after) }
-    ensures at_most { (before after : List ℤ) → losses.new ≡ losses.old → IfOk result (λ f. Holds f before after → EdgeRelates (KnownCalls known.now) (length program.now.globals) (statement_of_act act.now) before after) }
+    ensures at_least { (before after : List ℤ)
+        → IfOk result (λ f. length before ≡ columns_at program.now proc
+        → EdgeRelates (KnownCalls known.now) (length program.now.globals) (statement_of_act act.now)
+        before after → Holds f before after) }
+    ensures at_most { (before after : List ℤ) → losses.new ≡ losses.old
+        → IfOk result (λ f. Holds f before after
+        → EdgeRelates (KnownCalls known.now) (length program.now.globals) (statement_of_act act.now)
+        before after) }
 {
     leaf_cases::leaf(alloc, program, proc, act, known, losses)
 }
@@ -54,8 +64,12 @@ pub fn truth(
     ensures noted { OnOk result (losses.new ≡ losses.old ++ (lists_of (term_of e.now)).truth.lost) }
     ensures kept { OnErr result (losses.new ≡ losses.old) }
     ensures few { IfOk result (λ f. All (λ case. case.aux < 2 ^ 31) f.cases) }
-    ensures at_least { (state : List ℤ) → IfOk result (λ f. length state ≡ columns → IsTrueIn (term_of e.now) state → Holds f state state) }
-    ensures at_most { (before after : List ℤ) → losses.new ≡ losses.old → IfOk result (λ f. Holds f before after → ((after ≡ before) × IsTrueIn (term_of e.now) before)) }
+    ensures at_least { (state : List ℤ)
+        → IfOk result (λ f. length state ≡ columns → IsTrueIn (term_of e.now) state
+        → Holds f state state) }
+    ensures at_most { (before after : List ℤ) → losses.new ≡ losses.old
+        → IfOk result (λ f. Holds f before after
+        → ((after ≡ before) × IsTrueIn (term_of e.now) before)) }
 {
     leaf_cases::truth(alloc, e, columns, losses)
 }

@@ -21,7 +21,8 @@ pub fn settle<O: Oracle>(
     log: &mut Log,
 ) -> Result<Formula, WorkError>
     requires { AreSolvable f.now.cases }
-    ensures follows { Follows O.asking oracle.old oracle.new log.old log.new result (settled f.now) }
+    ensures follows { Follows O.asking oracle.old oracle.new log.old log.new result
+        (settled f.now) }
     ensures covers { IfOk result (λ g. Covers g f.now) }
 {
     polyhedra::settle(alloc, f, oracle, log)
@@ -34,7 +35,8 @@ pub fn thin<O: Oracle>(
     oracle: &mut O,
     log: &mut Log,
 ) -> Result<Case, WorkError>
-    ensures follows { Follows O.asking oracle.old oracle.new log.old log.new result (thinned case.now) }
+    ensures follows { Follows O.asking oracle.old oracle.new log.old log.new result
+        (thinned case.now) }
     ensures covers { IfOk result (IsWider case.now) }
 {
     polyhedra::thin(alloc, case, oracle, log)
@@ -50,7 +52,8 @@ pub fn fit<O: Oracle>(
     log: &mut Log,
 ) -> Result<Formula, WorkError>
     requires { IsBetween f.now from.now to.now }
-    ensures follows { Follows O.asking oracle.old oracle.new log.old log.new result (fitted f.now from.now to.now) }
+    ensures follows { Follows O.asking oracle.old oracle.new log.old log.new result
+        (fitted f.now from.now to.now) }
     ensures covers { IfOk result (λ g. Covers g f.now) }
     ensures small { IfOk result (IsSmall f.now) }
 {

@@ -18,7 +18,8 @@ pub fn star<O: Oracle>(
     log: &mut Log,
 ) -> Result<Formula, WorkError>
     requires { IsStarred body.now voc.now }
-    ensures follows { Follows O.asking oracle.old oracle.new log.old log.new result (star_of body.now voc.now) }
+    ensures follows { Follows O.asking oracle.old oracle.new log.old log.new result
+        (star_of body.now voc.now) }
     ensures holds { IfOk result (HoldsOfChains body.now) }
     ensures fits { IfOk result (IsStar body.now.to) }
 {

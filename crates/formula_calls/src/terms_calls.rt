@@ -12,7 +12,8 @@ use std::alloc::Global;
 /// The first polynomial less the second.
 pub fn difference(alloc: Global, a: &Poly, b: &Poly) -> Result<Poly, TermError>
     ensures exact { Gives cause (λ p. p) result (difference_of_polys a.now b.now) }
-    ensures value { (at : Valuation) → IfOk result (λ p. value_of at p ≡ value_of at a.now -ℤ value_of at b.now) }
+    ensures value { (at : Valuation)
+        → IfOk result (λ p. value_of at p ≡ value_of at a.now -ℤ value_of at b.now) }
     ensures no_degree { IfErr result (λ e. e ≢ Degree) }
 {
     linear_terms::difference(alloc, a, b)

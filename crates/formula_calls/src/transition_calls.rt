@@ -15,7 +15,9 @@ pub fn join(alloc: Global, a: &Formula, b: &Formula) -> Result<Formula, FormulaE
     requires from { a.now.from ≡ b.now.from }
     requires to { a.now.to ≡ b.now.to }
     ensures exact { IfOk result (λ f. f ≡ joined a.now b.now) }
-    ensures holds { (before after : List ℤ) → IfOk result (λ f. Holds f before after ↔ (Holds a.now before after ⊎ Holds b.now before after)) }
+    ensures holds { (before after : List ℤ)
+        → IfOk result
+        (λ f. Holds f before after ↔ (Holds a.now before after ⊎ Holds b.now before after)) }
 {
     transition_formula::join(alloc, a, b)
 }
@@ -31,8 +33,12 @@ pub fn seq(
     requires few { AreFew a.now b.now }
     ensures exact { IfOk result (λ f. f ≡ sequence_of a.now b.now) }
     ensures noted { OnOk result (losses.new ≡ losses.old ++ lost_in_sequence a.now b.now) }
-    ensures at_least { (before middle after : List ℤ) → IfOk result (λ f. Holds a.now before middle → Holds b.now middle after → Holds f before after) }
-    ensures at_most { (before after : List ℤ) → losses.new ≡ losses.old → IfOk result (λ f. Holds f before after → ((middle : List ℤ) × (Holds a.now before middle × Holds b.now middle after))) }
+    ensures at_least { (before middle after : List ℤ)
+        → IfOk result (λ f. Holds a.now before middle → Holds b.now middle after
+        → Holds f before after) }
+    ensures at_most { (before after : List ℤ) → losses.new ≡ losses.old
+        → IfOk result (λ f. Holds f before after
+        → ((middle : List ℤ) × (Holds a.now before middle × Holds b.now middle after))) }
 {
     transition_formula::seq(alloc, a, b, losses)
 }
@@ -43,9 +49,12 @@ pub fn solve(alloc: Global, case: &Case, losses: &mut Items<Loss>) -> Result<Sol
     requires few { case.now.aux + length case.now.post < 2 ^ 32 }
     ensures exact { IfOk result (λ made. made ≡ solved (in_order case.now).left) }
     ensures noted { OnOk result (losses.new ≡ losses.old ++ (in_order case.now).losses) }
-    ensures at_least { (before after : List ℤ) → IfOk result (λ made. HoldsCase case.now before after → HoldsSolved made before after) }
-    ensures at_most { (before after : List ℤ) → losses.new ≡ losses.old → IfOk result (λ made. HoldsSolved made before after → HoldsCase case.now before after) }
-    ensures fits { (from to : ℕ) → IsTrue (fits from to case.now) → IfOk result (Stays (λ c. IsTrue (fits from to c))) }
+    ensures at_least { (before after : List ℤ)
+        → IfOk result (λ made. HoldsCase case.now before after → HoldsSolved made before after) }
+    ensures at_most { (before after : List ℤ) → losses.new ≡ losses.old
+        → IfOk result (λ made. HoldsSolved made before after → HoldsCase case.now before after) }
+    ensures fits { (from to : ℕ) → IsTrue (fits from to case.now)
+        → IfOk result (Stays (λ c. IsTrue (fits from to c))) }
 {
     transition_formula::solve(alloc, case, losses)
 }

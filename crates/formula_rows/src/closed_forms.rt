@@ -22,7 +22,8 @@ fn closed(alloc: Global, given: &str) -> Option<String> {
     shown(alloc, made)
 }
 
-/// The change of a variable and the term that bounds it; and behind a semicolon the term's growth and the constant.
+/// The change of a variable and the term that bounds it; and behind a semicolon the term's growth
+/// and the constant.
 fn sum_bound(alloc: Global, given: &str) -> Option<String> {
     let (polys, numbers) = given.split_once(';')?;
     let (growth, constant) = numbers.split_once('|')?;

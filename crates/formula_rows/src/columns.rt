@@ -18,7 +18,8 @@ pub(crate) fn small_numbers(alloc: Global, text: &str) -> Option<Vec<u32>> {
     Some(made)
 }
 
-/// The columns before and after, what the operation takes, and the cases: what comes of the formula.
+/// The columns before and after, what the operation takes, and the cases: what comes of the
+/// formula.
 pub(crate) fn outcome(alloc: Global, kind: &str, given: &str) -> Option<String> {
     let (head, cases) = given.split_once(" : ")?;
     let head = small_numbers(alloc, head)?;

@@ -67,7 +67,8 @@ fn have_few(cases: &[Case]) -> bool
 
 /// Whether the auxiliaries of both are surely few enough for a sequence.
 pub(crate) fn are_few(first: &[Case], second: &[Case], to: u32) -> bool
-    ensures { IsTrue result → All (λ x. All (λ y. x.aux + y.aux + to < 2 ^ 32) second.now) first.now }
+    ensures { IsTrue result
+        → All (λ x. All (λ y. x.aux + y.aux + to < 2 ^ 32) second.now) first.now }
 {
     if to >= 1000 {
         return false;

@@ -32,8 +32,8 @@ fn monomial(alloc: Global, given: &str) -> Option<String> {
     }
 }
 
-/// A polynomial: its terms without the constant; the numbers at x0*x1 and at $2; which of the columns x0 to x2 and of two
-/// auxiliaries it has; and its first and its fourth term.
+/// A polynomial: its terms without the constant; the numbers at x0*x1 and at $2; which of the
+/// columns x0 to x2 and of two auxiliaries it has; and its first and its fourth term.
 fn parts(alloc: Global, given: &str) -> Option<String> {
     let a = poly(alloc, given).ok()?;
     let parts = parts_text(alloc, &a)?;

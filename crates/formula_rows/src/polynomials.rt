@@ -57,7 +57,8 @@ fn put_in(alloc: Global, a: &Poly, at: &[Poly], aux: &[Poly]) -> Option<String> 
     shown(alloc, subst(alloc, a, at, aux))
 }
 
-/// A polynomial, and what is put in for its second auxiliary; behind a semicolon its terms without that.
+/// A polynomial, and what is put in for its second auxiliary; behind a semicolon its terms without
+/// that.
 fn auxiliary(alloc: Global, given: &str) -> Option<String> {
     let (a, by) = two_polys(alloc, given)?;
     let mut text = shown(alloc, subst_aux(alloc, &a, 1, &by))?;

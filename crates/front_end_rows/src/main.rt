@@ -1,6 +1,7 @@
-//! Worked rows for the way from the bytes of a text to its program. A row of standard input is a line: its kind and
-//! a text, in which `~` and two hexadecimal digits stand for one byte. A kind with a star has a text of many parts.
-//! What is printed stands in `stdout` as another implementation of the rules gave it.
+//! Worked rows for the way from the bytes of a text to its program. A row of standard input is a
+//! line: its kind and a text, in which `~` and two hexadecimal digits stand for one byte. A kind
+//! with a star has a text of many parts. What is printed stands in `stdout` as another
+//! implementation of the rules gave it.
 #![tactic(auto)]
 
 mod expressions;
@@ -29,7 +30,8 @@ fn told(alloc: Global, kind: &str, text: &[u8]) -> Option<String> {
     }
 }
 
-/// What a line comes to; a heading stays as it is. Of a text of many parts the first two words are told.
+/// What a line comes to; a heading stays as it is. Of a text of many parts the first two words are
+/// told.
 fn outcome(alloc: Global, line: &str) -> Option<String> {
     if line.starts_with('#') {
         return format!(in alloc; "{line}").ok();

@@ -35,7 +35,8 @@ fn put_numbered(out: &mut String, part: &str, number: usize) -> Result<(), Alloc
     Ok(())
 }
 
-/// A text of many parts. Between two `~~` stand in turn a text, a part that comes behind it, and how often that comes.
+/// A text of many parts. Between two `~~` stand in turn a text, a part that comes behind it, and
+/// how often that comes.
 pub(crate) fn text_of_parts(alloc: Global, text: &str) -> Option<String> {
     let mut out = String::new(alloc);
     let mut pieces = text.split("~~");

@@ -1,5 +1,5 @@
-//! What texts are cut into, and where they are refused. A token is told by a letter (`w` a word, `k` a keyword, `m` a
-//! mark, `e` the end) or by its number and `@`, its place and its length.
+//! What texts are cut into, and where they are refused. A token is told by a letter (`w` a word,
+//! `k` a keyword, `m` a mark, `e` the end) or by its number and `@`, its place and its length.
 use crate::words::show_place;
 use c_lexer::{
     Kind, LexError, Token, lex, refusal_is_one, tokens_are_not_refused, tokens_are_one,

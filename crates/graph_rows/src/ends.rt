@@ -9,7 +9,8 @@ use std::fmt::Write;
 use syntax_tree::Program;
 use vocabularies::{entry, exit, full, harvest, pair, start};
 
-/// A line for a vocabulary: the columns, those that are named, and the terms. There is no space at its end.
+/// A line for a vocabulary: the columns, those that are named, and the terms. There is no space at
+/// its end.
 fn write_voc(text: &mut String, kind: &str, voc: &Vocabulary) -> Result<(), AllocError> {
     write!(text, "{kind} {}:", voc.columns())?;
     for number in voc.named() {

@@ -104,7 +104,8 @@ fn is_known(program: &Program, proc: &Proc, formula: &Formula) -> bool
 /// Whether a formula, if there is one, may be known of a procedure.
 fn may_be_known(program: &Program, proc: &Proc, formula: &Option<Formula>) -> bool
     requires { IsWellFormed program.now }
-    ensures { (f : Transition) → IsTrue result → formula.now ≡ Some f → IsKnown program.now proc.now f }
+    ensures { (f : Transition) → IsTrue result → formula.now ≡ Some f
+        → IsKnown program.now proc.now f }
 {
     match formula {
         Some(formula) => is_known(program, proc, formula),

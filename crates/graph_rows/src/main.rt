@@ -1,7 +1,8 @@
-//! Worked rows for the libraries of graphs: how programs run, the flow graphs and the groups of their procedures, the
-//! vocabularies of procedures, the formulas of edges, the paths of graphs, and the trees of procedures. The rows of
-//! standard input have an empty line between two. A row is a line with its kind and what belongs to it, and then the
-//! text of a C program or of a graph. What is printed stands in `stdout` as another implementation gave it.
+//! Worked rows for the libraries of graphs: how programs run, the flow graphs and the groups of
+//! their procedures, the vocabularies of procedures, the formulas of edges, the paths of graphs,
+//! and the trees of procedures. The rows of standard input have an empty line between two. A row is
+//! a line with its kind and what belongs to it, and then the text of a C program or of a graph.
+//! What is printed stands in `stdout` as another implementation gave it.
 #![tactic(auto)]
 
 mod ends;

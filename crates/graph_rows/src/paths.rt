@@ -7,8 +7,8 @@ use path_expr::{Algebra, Cell, Link, Path, PlainPaths, ReachError, paths_are_wal
 use std::alloc::{AllocError, Global};
 use std::fmt::Write;
 
-// An algebra of expressions as texts. It refuses each call after so many, and keeps what the first of these was to
-// make.
+// An algebra of expressions as texts. It refuses each call after so many, and keeps what the first
+// of these was to make.
 #[derive(Drop)]
 struct Texts {
     left: u32,
@@ -26,7 +26,8 @@ impl Texts {
     }
 
     fn answer(&mut self, text: String) -> Result<String, bool>
-        ensures refused { IfErr result (λ fault. (fault ≡ false) × IsSome self.new.refused × Rose self.old.faults self.new.faults) }
+        ensures refused { IfErr result (λ fault. (fault ≡ false) × IsSome self.new.refused
+            × Rose self.old.faults self.new.faults) }
         ensures later { self.old.faults ≤ self.new.faults }
     {
         if self.left == 0 {

@@ -1,4 +1,5 @@
-//! Plans of graphs: the key of each path, the numbers of the paths in the order of making, and the cells.
+//! Plans of graphs: the key of each path, the numbers of the paths in the order of making, and the
+//! cells.
 
 use crate::links::{is_graph, links_of};
 use checked_tree::{Key, Plan, law_of_evaluation, law_of_plans, planned};

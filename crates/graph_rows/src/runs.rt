@@ -78,8 +78,8 @@ fn values_of(alloc: Global, numbers: &str) -> Option<Vec<i128>> {
     Some(values)
 }
 
-/// The trace of a program, for a number of turns and values that have a blank between two: what the steps show, why
-/// there are no more, and how many.
+/// The trace of a program, for a number of turns and values that have a blank between two: what the
+/// steps show, why there are no more, and how many.
 pub(crate) fn trace_text(alloc: Global, given: &str, numbers: &str) -> Option<String> {
     let program = program_of(alloc, given)?;
     if !program.is_well_formed() {

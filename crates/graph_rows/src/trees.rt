@@ -78,7 +78,8 @@ fn cells_text(alloc: Global, cells: &[Cell<Checked>], log: &Log) -> Result<Strin
 fn has_node(alloc: Global, program: &Program, proc: u32, node: u32) -> bool
     requires formed { IsWellFormed program.now }
     requires procedure { proc < length program.now.procs }
-    ensures { (p : Procedure) → slice_get program.now.procs proc ≡ Some p → IsTrue result → node < (own_graph p).nodes }
+    ensures { (p : Procedure) → slice_get program.now.procs proc ≡ Some p → IsTrue result
+        → node < (own_graph p).nodes }
 {
     match graph(alloc, program, proc) {
         Ok(made) => node < made.nodes,
@@ -109,7 +110,8 @@ fn trees_of(alloc: Global, program: &Program, proc: u32, source: u32) -> Option<
     cells_text(alloc, cells.as_slice(), &log).ok()
 }
 
-/// The trees of a procedure of a text from a node: the procedure's number, the node's, and the text.
+/// The trees of a procedure of a text from a node: the procedure's number, the node's, and the
+/// text.
 pub(crate) fn trees_text(alloc: Global, given: &str, with: &str) -> Option<String> {
     let (proc, source) = with.split_once(' ')?;
     let proc = proc.parse::<u32>().ok()?;

@@ -1,5 +1,6 @@
--- Facts on std's `AllByRecursion`, by induction over the list: a list of which each element has a property. That it says the same
--- as `All` is `All-from_recursion` and `recursion_from_All` of std's `Elements`.
+-- Facts on std's `AllByRecursion`, by induction over the list: a list of which each element has a
+-- property. That it says the same as `All` is `All-from_recursion` and `recursion_from_All` of
+-- std's `Elements`.
 use Rattle.std.proofs.Common.{◌≡◌, ℕ, zero, suc, Bool, map, List, [], ◌∷◌, ◌++◌, Some, refl, subst}
 use Rattle.std.specs.Prelude.{IsTrue, slice_get}
 use Rattle.std.specs.List.{AllByRecursion, list_all, flat_map}

@@ -1,7 +1,7 @@
 -- What a call answers, where every error is exact but want of memory.
 --
--- The answer that a call should give is stated by a function on plain values, into a `Result`: the value, or
--- the first fault. A call may answer want of memory in its place, and nothing else.
+-- The answer that a call should give is stated by a function on plain values, into a `Result`: the
+-- value, or the first fault. A call may answer want of memory in its place, and nothing else.
 use Rattle.std.specs.Prelude.{◌≡◌, Option, None, Some, Result, Ok, Err}
 use Rattle.std.specs.Result.{result_map_both}
 
@@ -15,7 +15,8 @@ abbrev pub ◌>>=◌ : {A B E : Type 0} → Result A E → (A → Result B E) �
 abbrev pub lifted : {A E F : Type 0} → (E → F) → Result A E → Result A F
 lifted as_fault = result_map_both (λ x. x) as_fault
 
--- An error stands for a fault of the stated answer, or for none: then it is want of memory, which is free.
+-- An error stands for a fault of the stated answer, or for none: then it is want of memory, which
+-- is free.
 abbrev pub FailsBy : {Y F : Type 0} → Option F → Result Y F → Type 0
 FailsBy None stated = Unit {0}
 FailsBy (Some fault) stated = stated ≡ Err fault

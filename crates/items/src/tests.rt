@@ -1,5 +1,6 @@
-//! The types at concrete elements and inside a type that reaches itself, and the shapes in which the clause
-//! `Gives` is used: two steps through `?`, a loop that makes a list, and a call with an error type of its own.
+//! The types at concrete elements and inside a type that reaches itself, and the shapes in which
+//! the clause `Gives` is used: two steps through `?`, a loop that makes a list, and a call with an
+//! error type of its own.
 ghost use Rattle.std.specs.Prelude.{◌≡◌, ◌-◌, true, Option, Some, None, if◌then◌else◌, IfOk};
 ghost use Rattle.items.specs.Gives.{Gives};
 ghost use Rattle.items.specs.Examples.{byte_sum, byte_sum_of_three, doubles_of};
@@ -40,7 +41,8 @@ struct SumError {
 }
 
 fn sum(left: u8, right: u8) -> Result<u8, SumError>
-    ensures { Gives (λ e. if e.memory then None else Some e.sum) (λ x. x) result (byte_sum left right) }
+    ensures { Gives (λ e. if e.memory then None else Some e.sum) (λ x. x) result
+        (byte_sum left right) }
 {
     left.checked_add(right).ok_or(SumError {
         memory: false,
@@ -50,7 +52,8 @@ fn sum(left: u8, right: u8) -> Result<u8, SumError>
 
 /// Two steps through `?`.
 fn sum_of_three(a: u8, b: u8, c: u8) -> Result<u8, SumError>
-    ensures { Gives (λ e. if e.memory then None else Some e.sum) (λ x. x) result (byte_sum_of_three a b c) }
+    ensures { Gives (λ e. if e.memory then None else Some e.sum) (λ x. x) result
+        (byte_sum_of_three a b c) }
 {
     let s = sum(a, b)?;
     sum(s, c)
@@ -87,7 +90,8 @@ impl From<SumError> for DoubleError {
 
 /// A loop that makes a list, with a step whose error type is another one.
 fn doubles(alloc: Global, numbers: &[u8]) -> Result<Items<u8>, DoubleError>
-    ensures { Gives (λ e. if e.memory then None else Some e.past) (λ made. made) result (doubles_of numbers.now) }
+    ensures { Gives (λ e. if e.memory then None else Some e.past) (λ made. made) result
+        (doubles_of numbers.now) }
 {
     let mut made = Items::new(alloc);
     for x in numbers {

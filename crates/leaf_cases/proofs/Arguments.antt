@@ -1,4 +1,5 @@
--- The cases of arguments: they fit between the state and the arguments' values, have few auxiliaries, and mean these values.
+-- The cases of arguments: they fit between the state and the arguments' values, have few
+-- auxiliaries, and mean these values.
 use Rattle.std.proofs.Common.{◌≡◌, inl, inr, ℕ, suc, ◌+◌, ◌*◌, ◌<◌, ◌≤◌, ◌^◌, ℤ, pos, length, map, take, drop, get_or, List, [], ◌∷◌, ◌++◌, Option, Some, None, Ok, Err, refl, sym, ap, subst, ◌∙◌, append_assoc, append-nil, length-append, arith}
 use Rattle.std.specs.Prelude.{IsTrue}
 use Rattle.std.specs.List.{AllByRecursion, flat_map, list_all}

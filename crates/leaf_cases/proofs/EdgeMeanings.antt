@@ -205,7 +205,8 @@ after-long from to (case ∷ cases) fit s t (inl h) =
     sym (ap length h.1.posts) ∙ length-map case.post (value_of (numbers s h.0)) ∙ f.length_is
 after-long from to (case ∷ cases) fit s t (inr h) = after-long from to cases (both (fits from to case) (list_all (fits from to) cases) fit).1 s t h
 
--- what is asked for a call: the callee's formula is known, and goes from its entry columns to its exit columns
+-- what is asked for a call: the callee's formula is known, and goes from its entry columns to its
+-- exit columns
 pub record CallAsks (columns globals : ℕ) (args : List Term) (into : Option ℕ) (known : List (Option Transition)) (proc : ℕ) (f : Transition) : Type 0 where
   pub widths : globals ≤ columns
   pub below : IsTrue (all_columns_below columns args)

@@ -1,4 +1,5 @@
--- ---- the formula of an edge holds exactly where the edge leads, and known formulas that are met tell of executions
+-- ---- the formula of an edge holds exactly where the edge leads, and known formulas that are met
+-- tell of executions
 pub mod ReadyCalls
 pub mod Leaves
 pub mod MetCalls

@@ -1,4 +1,5 @@
--- What steps make of cases holds of the numbers that they give, and of no others where nothing is lost.
+-- What steps make of cases holds of the numbers that they give, and of no others where nothing is
+-- lost.
 use Rattle.std.proofs.Common.{◌≡◌, ◌⊎◌, inl, inr, ℕ, zero, suc, ◌+◌, Bool, true, false, ℤ, ◌-ℤ◌, ◌*ℤ◌, map, List, [], ◌∷◌, Ok, Err, refl, sym, ap, ◌∙◌, arith}
 use Rattle.std.specs.Prelude.{int_div}
 use Rattle.std.proofs.lemmas.Int.{ints}

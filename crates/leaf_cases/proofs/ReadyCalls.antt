@@ -1,4 +1,5 @@
--- A call that an edge makes, by what its code has read: what the edge comes to, and what the call is given.
+-- A call that an edge makes, by what its code has read: what the edge comes to, and what the call
+-- is given.
 use Rattle.std.proofs.Common.{◌≡◌, ℕ, ◌<◌, ◌≤◌, List, length, map, get_or, Option, Some, refl, sym, ap, subst, ◌∙◌}
 use Rattle.std.specs.Prelude.{slice_get}
 use Rattle.std.proofs.lemmas.Option.{slice_get_read}

@@ -1,4 +1,5 @@
--- The cases of an expression have few auxiliaries, and no columns but these and those of the expression.
+-- The cases of an expression have few auxiliaries, and no columns but these and those of the
+-- expression.
 use Rattle.std.proofs.Common.{◌≡◌, ℕ, zero, suc, ◌+◌, ◌≤◌, Bool, true, false, ℤ, pos, negsuc, map, List, [], ◌∷◌, Ok, Err, refl, ◌∙◌, arith}
 use Rattle.std.specs.Prelude.{IsTrue, slice_get, unwrap_or}
 use Rattle.std.specs.List.{AllByRecursion, list_all, flat_map, cons_option}

@@ -29,7 +29,11 @@ lost_of claims = flat_map (λ claim. losses_of claim.poly) claims
 
 -- the case with more rows, and other posts over more auxiliaries
 abbrev pub limited : Case → ℕ → List Claim → List Polynomial → Case
-limited case more claims post = record { aux = case.aux + more; rows = case.rows ++ rows_of claims; post = post }
+limited case more claims post = record {
+  aux = case.aux + more;
+  rows = case.rows ++ rows_of claims;
+  post = post;
+}
 
 -- the case with this value alone; one that is lost may be any number: it becomes a new auxiliary
 abbrev pub valued : Case → Answer → Case

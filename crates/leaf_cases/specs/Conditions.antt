@@ -19,8 +19,9 @@ pub record IsActOf (program : Program) (proc : ℕ) (statement : Statement) : Ty
 abbrev pub exits_of : Program → Proc → ℕ
 exits_of program p = if p.returns then length program.globals + 1 else length program.globals
 
--- From the globals and the parameters to the globals and the returned value, with no more cases and auxiliaries than a fitted
--- formula has. Its rows may be more: a formula that is tried in rounds has one for each direction of its pairs.
+-- From the globals and the parameters to the globals and the returned value, with no more cases and
+-- auxiliaries than a fitted formula has. Its rows may be more: a formula that is tried in rounds
+-- has one for each direction of its pairs.
 pub record IsKnown (program : Program) (p : Proc) (f : Transition) : Type 0 where
   pub enters : f.from ≡ length program.globals + p.params
   pub leaves : f.to ≡ exits_of program p
@@ -31,11 +32,13 @@ pub record IsKnown (program : Program) (p : Proc) (f : Transition) : Type 0 wher
 -- one for each procedure, some of them unknown
 pub record AreKnown (program : Program) (known : List (Option Transition)) : Type 0 where
   pub each : length known ≡ length program.procs
-  pub fit : (proc : ℕ) (p : Proc) (f : Transition) → slice_get program.procs proc ≡ Some p → slice_get known proc ≡ Some (Some f) → IsKnown program p f
+  pub fit : (proc : ℕ) (p : Proc) (f : Transition) → slice_get program.procs proc ≡ Some p
+      → slice_get known proc ≡ Some (Some f) → IsKnown program p f
 
--- What known formulas say of a call: that of the procedure holds of the globals and arguments before, and of the globals and,
--- where there is one, the value after.
-pub record KnownCalls (known : List (Option Transition)) (proc : ℕ) (globals args left : List ℤ) (value : ℤ) : Type 0 where
+-- What known formulas say of a call: that of the procedure holds of the globals and arguments
+-- before, and of the globals and, where there is one, the value after.
+pub record KnownCalls (known : List (Option Transition)) (proc : ℕ) (globals args left : List ℤ)
+    (value : ℤ) : Type 0 where
   pub formula : Transition
   pub is : slice_get known proc ≡ Some (Some formula)
   pub same : length left ≡ length globals

@@ -1,5 +1,6 @@
--- Division as rows (C11 6.5.5): the dividend is the quotient times the divisor and the remainder. The quotient is truncated toward
--- zero, so the remainder is smaller than the divisor in size, and never on the other side of zero than the dividend.
+-- Division as rows (C11 6.5.5): the dividend is the quotient times the divisor and the remainder.
+-- The quotient is truncated toward zero, so the remainder is smaller than the divisor in size, and
+-- never on the other side of zero than the dividend.
 use Rattle.std.specs.Prelude.{pos, negsuc, List, [], ◌∷◌, Bool, true, false}
 use Rattle.items.specs.Gives.{◌>>=◌}
 use Rattle.linear_terms.specs.declared.row.Kind.TheVariants.{AtMost, Equal}
@@ -19,7 +20,8 @@ minus_one = constant_of (negsuc 0)
 
 -- a - q*b - r
 abbrev pub equation : Polynomial → Polynomial → Polynomial → Polynomial → Answer
-equation a b q r = product_of_polys q b >>= λ p. difference_of_polys a p >>= λ d. difference_of_polys d r
+equation a b q r = product_of_polys q b >>= λ p. difference_of_polys a p
+    >>= λ d. difference_of_polys d r
 
 -- 1 <= b, or b <= -1
 abbrev pub divisor_sign : Bool → Polynomial → Answer
@@ -34,13 +36,15 @@ dividend_sign false a = difference_of_polys a minus_one
 -- 0 <= r for a dividend that is not negative; otherwise -b + 1 <= r or b + 1 <= r, by the sign of b
 abbrev pub lower_bound : Bool → Bool → Polynomial → Polynomial → Answer
 lower_bound divisor true b r = difference_of_polys zero r
-lower_bound true false b r = multiple_of b (negsuc 0) >>= λ turned. sum_of_polys turned one >>= λ least. difference_of_polys least r
+lower_bound true false b r = multiple_of b (negsuc 0) >>= λ turned. sum_of_polys turned one
+    >>= λ least. difference_of_polys least r
 lower_bound false false b r = sum_of_polys b one >>= λ least. difference_of_polys least r
 
 -- r <= b - 1 or r <= -b - 1 for a dividend that is not negative, by the sign of b; otherwise r <= 0
 abbrev pub upper_bound : Bool → Bool → Polynomial → Polynomial → Answer
 upper_bound true true b r = difference_of_polys b one >>= λ most. difference_of_polys r most
-upper_bound false true b r = multiple_of b (negsuc 0) >>= λ turned. difference_of_polys turned one >>= λ most. difference_of_polys r most
+upper_bound false true b r = multiple_of b (negsuc 0) >>= λ turned. difference_of_polys turned one
+    >>= λ most. difference_of_polys r most
 upper_bound divisor false b r = difference_of_polys r zero
 
 -- what must be 0, and what must be at most 0

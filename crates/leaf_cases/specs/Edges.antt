@@ -19,15 +19,24 @@ abbrev pub set_case : ℕ → ℕ → Case → Case
 set_case columns col case = with_posts (slice_set (columns_of columns) col (operand 0 case)) case
 
 abbrev pub set_of : ℕ → ℕ → List Case → Transition
-set_of columns col cases = record { from = columns; to = columns; cases = map (set_case columns col) cases }
+set_of columns col cases = record {
+  from = columns;
+  to = columns;
+  cases = map (set_case columns col) cases;
+}
 
 abbrev pub any_case : ℕ → ℕ → Case
-any_case columns col = record { aux = 1; rows = []; post = slice_set (columns_of columns) col (column_of (Aux 0)) }
+any_case columns col = record {
+  aux = 1;
+  rows = [];
+  post = slice_set (columns_of columns) col (column_of (Aux 0));
+}
 
 abbrev pub any_of : ℕ → ℕ → Transition
 any_of columns col = record { from = columns; to = columns; cases = any_case columns col ∷ [] }
 
--- ---- a call: the arguments are made, then the callee's formula follows, and its posts are put into the caller's columns
+-- ---- a call: the arguments are made, then the callee's formula follows, and its posts are put
+-- into the caller's columns
 
 -- the values of several expressions behind those that are made, the first outermost
 abbrev pub arguments_after : Listed → List Term → Listed
@@ -43,11 +52,19 @@ arguments_of args = arguments_after no_values args
 -- the globals stand before the arguments
 abbrev pub entering : ℕ → ℕ → ℕ → List Case → Transition
 entering columns globals args cases =
-    record { from = columns; to = globals + args; cases = map (λ case. with_posts (columns_of globals ++ case.post) case) cases }
+    record {
+      from = columns;
+      to = globals + args;
+      cases = map (λ case. with_posts (columns_of globals ++ case.post) case) cases;
+    }
 
 -- so many posts of each case
 abbrev pub cut : ℕ → Transition → Transition
-cut to f = record { from = f.from; to = to; cases = map (λ case. with_posts (take to case.post) case) f.cases }
+cut to f = record {
+  from = f.from;
+  to = to;
+  cases = map (λ case. with_posts (take to case.post) case) f.cases;
+}
 
 -- the globals, and the returned value where it is awaited
 abbrev pub awaited : ℕ → Option ℕ → ℕ
@@ -59,23 +76,32 @@ abbrev pub received : Option ℕ → Polynomial → List Polynomial → List Pol
 received None value posts = posts
 received (Some col) value posts = slice_set posts col value
 
--- the globals take the callee's posts, and the other columns stay, but for the one that awaits the value
+-- the globals take the callee's posts, and the other columns stay, but for the one that awaits the
+-- value
 abbrev pub leaving_case : ℕ → ℕ → Option ℕ → Case → Case
 leaving_case columns globals into case =
-    with_posts (received into (operand globals case) (take globals case.post ++ drop globals (columns_of columns))) case
+    with_posts (received into (operand globals case)
+    (take globals case.post ++ drop globals (columns_of columns))) case
 
 abbrev pub call_sequence : ℕ → ℕ → List Term → Option ℕ → Transition → Transition
 call_sequence columns globals args into callee =
-    sequence_of (entering columns globals (length args) (arguments_of args).cases) (cut (awaited globals into) callee)
+    sequence_of (entering columns globals (length args) (arguments_of args).cases)
+    (cut (awaited globals into) callee)
 
 abbrev pub call_of : ℕ → ℕ → List Term → Option ℕ → Transition → Transition
 call_of columns globals args into callee =
-    record { from = columns; to = columns; cases = map (leaving_case columns globals into) (call_sequence columns globals args into callee).cases }
+    record {
+      from = columns;
+      to = columns;
+      cases = map (leaving_case columns globals into)
+          (call_sequence columns globals args into callee).cases;
+    }
 
 abbrev pub lost_in_call : ℕ → ℕ → List Term → Option ℕ → Transition → List Loss
 lost_in_call columns globals args into callee =
     (arguments_of args).lost
-    ++ lost_in_sequence (entering columns globals (length args) (arguments_of args).cases) (cut (awaited globals into) callee)
+    ++ lost_in_sequence (entering columns globals (length args) (arguments_of args).cases)
+    (cut (awaited globals into) callee)
 
 -- a formula that holds of nothing
 abbrev pub nothing_of : ℕ → Transition
@@ -86,8 +112,10 @@ abbrev pub known_call : ℕ → ℕ → List Term → Option ℕ → Option (Opt
 known_call columns globals args into (Some (Some callee)) = call_of columns globals args into callee
 known_call columns globals args into _ = nothing_of columns
 
-abbrev pub lost_in_known_call : ℕ → ℕ → List Term → Option ℕ → Option (Option Transition) → List Loss
-lost_in_known_call columns globals args into (Some (Some callee)) = lost_in_call columns globals args into callee
+abbrev pub lost_in_known_call : ℕ → ℕ → List Term → Option ℕ → Option (Option Transition)
+    → List Loss
+lost_in_known_call columns globals args into (Some (Some callee)) =
+    lost_in_call columns globals args into callee
 lost_in_known_call columns globals args into _ = []
 
 -- ---- an edge, by what it does; the other statements stand at no edge
@@ -96,12 +124,14 @@ abbrev pub leaf_of : ℕ → ℕ → List (Option Transition) → Statement → 
 leaf_of columns globals known (Guard cond) = guard_of columns (lists_of cond).truth.cases
 leaf_of columns globals known (Set col value) = set_of columns col (lists_of value).value.cases
 leaf_of columns globals known (Any col) = any_of columns col
-leaf_of columns globals known (Call proc args into) = known_call columns globals args into (slice_get known proc)
+leaf_of columns globals known (Call proc args into) =
+    known_call columns globals args into (slice_get known proc)
 leaf_of columns globals known _ = nothing_of columns
 
 abbrev pub lost_in_leaf : ℕ → ℕ → List (Option Transition) → Statement → List Loss
 lost_in_leaf columns globals known (Guard cond) = (lists_of cond).truth.lost
 lost_in_leaf columns globals known (Set col value) = (lists_of value).value.lost
 lost_in_leaf columns globals known (Any col) = []
-lost_in_leaf columns globals known (Call proc args into) = lost_in_known_call columns globals args into (slice_get known proc)
+lost_in_leaf columns globals known (Call proc args into) =
+    lost_in_known_call columns globals args into (slice_get known proc)
 lost_in_leaf columns globals known _ = []

@@ -1,5 +1,5 @@
--- The cases of an expression, by its shape: those of its value, of its truth and of its falsity. Of two operands the cases of the
--- left one are outermost.
+-- The cases of an expression, by its shape: those of its value, of its truth and of its falsity. Of
+-- two operands the cases of the left one are outermost.
 use Rattle.std.specs.Prelude.{ℤ, pos, List, [], ◌∷◌, ◌++◌, map}
 use Rattle.linear_terms.specs.declared.col.Col.TheVariants.{At}
 use Rattle.linear_terms.specs.Polynomial.{Polynomial, column_of, constant_of}
@@ -25,7 +25,10 @@ pub record Lists : Type 0 where
 
 -- the steps at each case of a list
 abbrev pub by : List Step → Listed → Listed
-by steps list = record { cases = cases_by steps list.cases; lost = list.lost ++ lost_by steps list.cases }
+by steps list = record {
+  cases = cases_by steps list.cases;
+  lost = list.lost ++ lost_by steps list.cases;
+}
 
 -- one case without rows
 abbrev pub known : Polynomial → Listed
@@ -38,12 +41,20 @@ numbered value list = record { cases = map (with_number value) list.cases; lost 
 -- a number is true below 0 and above 0, and false at 0
 abbrev pub of_number : Listed → Lists
 of_number value =
-    record { value = value; truth = by (Test Negative ∷ Test Positive ∷ []) value; falsity = by (Test Zero ∷ []) value }
+    record {
+      value = value;
+      truth = by (Test Negative ∷ Test Positive ∷ []) value;
+      falsity = by (Test Zero ∷ []) value;
+    }
 
 -- a test is 1 where it is true and 0 where it is false
 abbrev pub of_test : Listed → Listed → Lists
 of_test truth falsity =
-    record { value = either (numbered (pos 1) truth) (numbered (pos 0) falsity); truth = truth; falsity = falsity }
+    record {
+      value = either (numbered (pos 1) truth) (numbered (pos 0) falsity);
+      truth = truth;
+      falsity = falsity;
+    }
 
 abbrev pub sign_lists : Sign → Lists → Lists
 sign_lists Plus inner = of_number inner.value
@@ -80,7 +91,8 @@ compared op left right = by (tests_of op) (together left.value right.value)
 abbrev pub comparison : Op → Lists → Lists → Lists
 comparison op left right = of_test (compared op left right) (compared (opposite op) left right)
 
--- Where the left operand of `&&` is false, or that of `||` true, the right one has no part (C11 6.5.13, 6.5.14).
+-- Where the left operand of `&&` is false, or that of `||` true, the right one has no part (C11
+-- 6.5.13, 6.5.14).
 abbrev pub operator_lists : Op → Lists → Lists → Lists
 operator_lists Add left right = calculated (Value Sum) left right
 operator_lists Sub left right = calculated (Value Difference) left right
@@ -88,9 +100,11 @@ operator_lists Mul left right = calculated (Value Product) left right
 operator_lists Div left right = calculated (Divide Quotient) left right
 operator_lists Rem left right = calculated (Divide Remainder) left right
 operator_lists And left right =
-    of_test (together left.truth right.truth) (either left.falsity (together left.truth right.falsity))
+    of_test (together left.truth right.truth)
+    (either left.falsity (together left.truth right.falsity))
 operator_lists Or left right =
-    of_test (either left.truth (together left.falsity right.truth)) (together left.falsity right.falsity)
+    of_test (either left.truth (together left.falsity right.truth))
+    (together left.falsity right.falsity)
 operator_lists Lt left right = comparison Lt left right
 operator_lists Le left right = comparison Le left right
 operator_lists Gt left right = comparison Gt left right

@@ -16,8 +16,13 @@ with_posts post case = record { aux = case.aux; rows = case.rows; post = post }
 
 -- where one of the cases is, all stays as it is
 abbrev pub guard_of : ℕ → List Case → Transition
-guard_of columns cases = record { from = columns; to = columns; cases = map (with_posts (columns_of columns)) cases }
+guard_of columns cases = record {
+  from = columns;
+  to = columns;
+  cases = map (with_posts (columns_of columns)) cases;
+}
 
 -- the rows of each case have no columns but its auxiliaries and that many of the state
 abbrev pub AreCovered : ℕ → List Case → Type 0
-AreCovered columns cases = IsTrue (list_all (λ case. every_column_of (is_below columns case.aux) case) cases)
+AreCovered columns cases =
+    IsTrue (list_all (λ case. every_column_of (is_below columns case.aux) case) cases)

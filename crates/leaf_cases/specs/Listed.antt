@@ -1,5 +1,6 @@
--- Cases of expressions. A case has rows and posts over the columns of a state and over auxiliaries of its own. Its posts are
--- the values that some expressions have in that state: one post for the value of an expression, none for a test.
+-- Cases of expressions. A case has rows and posts over the columns of a state and over auxiliaries
+-- of its own. Its posts are the values that some expressions have in that state: one post for the
+-- value of an expression, none for a test.
 use Rattle.std.specs.Prelude.{ℕ, ◌+◌, List, ◌++◌, map, Bool, ◌&&◌, nat_lt, IsTrue}
 use Rattle.std.specs.List.{flat_map, list_all}
 use Rattle.linear_terms.specs.declared.row.Case.{Case}

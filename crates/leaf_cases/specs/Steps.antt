@@ -36,7 +36,8 @@ value_at Product a b = product_of_polys a b
 abbrev pub one_more : Polynomial → Polynomial → Answer
 one_more a b = difference_of_polys a b >>= λ d. sum_of_polys d one
 
--- what a test says of its operands, or of its one operand and 0: `a < b` is the row `a - b + 1 <= 0`
+-- what a test says of its operands, or of its one operand and 0: `a < b` is the row `a - b + 1 <=
+-- 0`
 abbrev pub test_at : Relation → Polynomial → Polynomial → Answer
 test_at Less a b = one_more a b
 test_at LessOrEqual a b = difference_of_polys a b
@@ -58,15 +59,22 @@ part_at Quotient next = next
 part_at Remainder next = next + 1
 
 abbrev pub division_at : Signs → Case → List Claim
-division_at signs case = division signs (operand 0 case) (operand 1 case) (column_of (Aux case.aux)) (column_of (Aux (case.aux + 1)))
+division_at signs case = division signs (operand 0 case) (operand 1 case) (column_of (Aux case.aux))
+    (column_of (Aux (case.aux + 1)))
 
 abbrev pub test_claim : Relation → Case → Claim
-test_claim relation case = record { kind = kind_of relation; poly = test_at relation (operand 0 case) (operand 1 case) }
+test_claim relation case = record {
+  kind = kind_of relation;
+  poly = test_at relation (operand 0 case) (operand 1 case);
+}
 
 -- the cases that a step makes of one
 abbrev pub made_at : Step → Case → List Case
-made_at (Value arithmetic) case = valued case (value_at arithmetic (operand 0 case) (operand 1 case)) ∷ []
-made_at (Divide part) case = map (λ signs. limited case 2 (division_at signs case) (column_of (Aux (part_at part case.aux)) ∷ [])) all_signs
+made_at (Value arithmetic) case =
+    valued case (value_at arithmetic (operand 0 case) (operand 1 case)) ∷ []
+made_at (Divide part) case =
+    map (λ signs. limited case 2 (division_at signs case)
+    (column_of (Aux (part_at part case.aux)) ∷ [])) all_signs
 made_at (Test relation) case = limited case 0 (test_claim relation case ∷ []) [] ∷ []
 
 abbrev pub lost_at : Step → Case → List Loss

@@ -27,7 +27,8 @@ pub(crate) fn set(
     requires col { col < columns }
     requires below { IsTrue (columns_below columns (term_of e.now)) }
     requires operators { operators_of (term_of e.now) ≤ MOST_OPERATORS + 1 }
-    ensures exact { IfOk result (λ f. f ≡ set_of columns col (lists_of (term_of e.now)).value.cases) }
+    ensures exact { IfOk result
+        (λ f. f ≡ set_of columns col (lists_of (term_of e.now)).value.cases) }
     ensures noted { OnOk result (losses.new ≡ losses.old ++ (lists_of (term_of e.now)).value.lost) }
 {
     let values = cases_of(alloc, e, Sought::Value, losses)?;
@@ -43,7 +44,9 @@ fn set_cases(
     col: u32,
     cases: &[Case],
 ) -> Result<Items<Case>, FormulaError>
-    ensures { IfOk result (λ made. made ≡ map (λ case. with_posts (slice_set same.now col (operand 0 case)) case) cases.now) }
+    ensures { IfOk result
+        (λ made. made ≡ map (λ case. with_posts (slice_set same.now col (operand 0 case)) case)
+        cases.now) }
 {
     let mut made = Items::new(alloc);
     for case in cases {
@@ -53,7 +56,8 @@ fn set_cases(
 }
 
 fn set_case(alloc: Global, same: &Items<Poly>, col: u32, case: &Case) -> Result<Case, FormulaError>
-    ensures { IfOk result (λ c. c ≡ with_posts (slice_set same.now col (operand 0 case.now)) case.now) }
+    ensures { IfOk result
+        (λ c. c ≡ with_posts (slice_set same.now col (operand 0 case.now)) case.now) }
 {
     let rows = case.rows.clone()?;
     let zero = Poly::constant(alloc, 0);

@@ -20,8 +20,8 @@ use std::alloc::Global;
 use syntax_tree::Core;
 use transition_formula::{Formula, FormulaError, Loss, seq};
 
-/// A call: the arguments are made, the callee's formula follows, and what it leaves is put into the caller's
-/// columns. What is lost is noted.
+/// A call: the arguments are made, the callee's formula follows, and what it leaves is put into the
+/// caller's columns. What is lost is noted.
 pub(crate) fn call(
     alloc: Global,
     widths: Widths,
@@ -38,8 +38,11 @@ pub(crate) fn call(
     requires enters { callee.now.from ≡ widths.globals + length args.now }
     requires leaves { awaited widths.globals into ≤ callee.now.to }
     requires few { All (λ case. case.aux ≤ 64) callee.now.cases }
-    ensures exact { IfOk result (λ f. f ≡ call_of widths.columns widths.globals (map term_of args.now) into callee.now) }
-    ensures noted { OnOk result (losses.new ≡ losses.old ++ lost_in_call widths.columns widths.globals (map term_of args.now) into callee.now) }
+    ensures exact { IfOk result
+        (λ f. f ≡ call_of widths.columns widths.globals (map term_of args.now) into callee.now) }
+    ensures noted { OnOk result
+        (losses.new ≡ losses.old ++ lost_in_call widths.columns widths.globals
+        (map term_of args.now) into callee.now) }
 {
     let values = arguments(alloc, args, losses)?;
     let count = callee.from() - widths.globals;
@@ -50,9 +53,9 @@ pub(crate) fn call(
     Ok(formula)
 }
 
-/// What a call does before its callee begins: from the caller's state, whose first columns are the globals, to the
-/// globals and the values of the arguments. What is lost is noted after the losses that are there; after an error nothing
-/// is noted.
+/// What a call does before its callee begins: from the caller's state, whose first columns are the
+/// globals, to the globals and the values of the arguments. What is lost is noted after the losses
+/// that are there; after an error nothing is noted.
 pub fn call_entry(
     alloc: Global,
     columns: u32,
@@ -65,11 +68,16 @@ pub fn call_entry(
     requires few_arguments { length args.now ≤ 8 }
     requires below { IsTrue (all_columns_below columns (map term_of args.now)) }
     requires operators { joint_operators (map term_of args.now) ≤ MOST_OPERATORS }
-    ensures exact { IfOk result (λ f. f ≡ entering columns globals (length args.now) (arguments_of (map term_of args.now)).cases) }
-    ensures noted { OnOk result (losses.new ≡ losses.old ++ (arguments_of (map term_of args.now)).lost) }
+    ensures exact { IfOk result
+        (λ f. f ≡ entering columns globals (length args.now)
+        (arguments_of (map term_of args.now)).cases) }
+    ensures noted { OnOk result
+        (losses.new ≡ losses.old ++ (arguments_of (map term_of args.now)).lost) }
     ensures kept { OnErr result (losses.new ≡ losses.old) }
     ensures few { IfOk result (λ f. All (λ case. case.aux < 2 ^ 31) f.cases) }
-    ensures at_least { (state values : List ℤ) → IfOk result (λ f. length state ≡ columns → values_of (map term_of args.now) state ≡ Some values → Holds f state (take globals state ++ values)) }
+    ensures at_least { (state values : List ℤ)
+        → IfOk result (λ f. length state ≡ columns → values_of (map term_of args.now) state
+        ≡ Some values → Holds f state (take globals state ++ values)) }
 {
     let mut lost = Items::new(alloc);
     let values = arguments(alloc, args, &mut lost)?;
@@ -94,7 +102,8 @@ fn arguments(
 ) -> Result<Items<Case>, FormulaError>
     requires { joint_operators (map term_of args.now) ≤ MOST_OPERATORS }
     ensures exact { IfOk result (λ made. made ≡ (arguments_of (map term_of args.now)).cases) }
-    ensures noted { OnOk result (losses.new ≡ losses.old ++ (arguments_of (map term_of args.now)).lost) }
+    ensures noted { OnOk result
+        (losses.new ≡ losses.old ++ (arguments_of (map term_of args.now)).lost) }
 {
     let mut made = Items::new(alloc);
     made.push(Case {
@@ -132,7 +141,8 @@ fn entering_cases(
     front: &Items<Poly>,
     cases: &[Case],
 ) -> Result<Items<Case>, FormulaError>
-    ensures { IfOk result (λ made. made ≡ map (λ case. with_posts (front.now ++ case.post) case) cases.now) }
+    ensures { IfOk result
+        (λ made. made ≡ map (λ case. with_posts (front.now ++ case.post) case) cases.now) }
 {
     let mut made = Items::new(alloc);
     for case in cases {
@@ -155,7 +165,8 @@ fn entering_case(front: &Items<Poly>, case: &Case) -> Result<Case, FormulaError>
     })
 }
 
-/// How many of its posts are asked of a callee: the globals, and the returned value where it is awaited.
+/// How many of its posts are asked of a callee: the globals, and the returned value where it is
+/// awaited.
 fn awaited(globals: u32, into: Option<u32>) -> u32
     requires { awaited globals into < 2 ^ 32 }
     ensures { result ≡ awaited globals into }
@@ -177,7 +188,8 @@ fn cut(alloc: Global, to: u32, f: &Formula) -> Result<Formula, FormulaError>
 
 /// Each case with so many posts.
 fn cut_cases(alloc: Global, to: u32, cases: &[Case]) -> Result<Items<Case>, FormulaError>
-    ensures { IfOk result (λ made. made ≡ map (λ case. with_posts (take to case.post) case) cases.now) }
+    ensures { IfOk result
+        (λ made. made ≡ map (λ case. with_posts (take to case.post) case) cases.now) }
 {
     let mut made = Items::new(alloc);
     for case in cases {
@@ -239,14 +251,21 @@ fn leaving(
 ) -> Result<Formula, FormulaError>
     requires globals { widths.globals ≤ widths.columns }
     requires cases { IsTransition widths.columns (awaited widths.globals into) cases.now }
-    ensures { IfOk result (λ f. f ≡ record { from = widths.columns; to = widths.columns; cases = map (leaving_case widths.columns widths.globals into) cases.now }) }
+    ensures { IfOk result
+        (λ f. f ≡ record {
+          from = widths.columns;
+          to = widths.columns;
+          cases = map
+              (leaving_case widths.columns widths.globals into) cases.now;
+        }) }
 {
     let same = columns_below(alloc, widths.columns)?;
     let made = leaving_cases(alloc, widths.globals, same.as_slice(), into, cases)?;
     Ok(formula(widths.columns, widths.columns, made))
 }
 
-/// Each case with its first posts before the rest of the columns, and its last in the place that awaits it.
+/// Each case with its first posts before the rest of the columns, and its last in the place that
+/// awaits it.
 fn leaving_cases(
     alloc: Global,
     globals: u32,
@@ -254,7 +273,11 @@ fn leaving_cases(
     into: Option<u32>,
     cases: &[Case],
 ) -> Result<Items<Case>, FormulaError>
-    ensures { IfOk result (λ made. made ≡ map (λ case. with_posts (received into (operand globals case) (take globals case.post ++ drop globals same.now)) case) cases.now) }
+    ensures { IfOk result
+        (λ made. made
+        ≡ map (λ case. with_posts
+        (received into (operand globals case) (take globals case.post ++ drop globals same.now))
+        case) cases.now) }
 {
     let mut made = Items::new(alloc);
     for case in cases {
@@ -270,7 +293,10 @@ fn leaving_case(
     into: Option<u32>,
     case: &Case,
 ) -> Result<Case, FormulaError>
-    ensures { IfOk result (λ c. c ≡ with_posts (received into (operand globals case.now) (take globals case.now.post ++ drop globals same.now)) case.now) }
+    ensures { IfOk result
+        (λ c. c ≡ with_posts
+        (received into (operand globals case.now)
+        (take globals case.now.post ++ drop globals same.now)) case.now) }
 {
     let rows = case.rows.clone()?;
     let mut post = first_of(alloc, case.post.as_slice(), globals as usize)?;

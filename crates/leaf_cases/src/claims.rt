@@ -29,7 +29,8 @@ pub(crate) fn push_claim(
     rows: &mut Items<Row>,
     losses: &mut Items<Loss>,
 ) -> Result<(), FormulaError>
-    ensures made { OnOk result (rows.new ≡ rows.old ++ rows_of (record { kind = kind; poly = poly } ∷ [])) }
+    ensures made { OnOk result
+        (rows.new ≡ rows.old ++ rows_of (record { kind = kind; poly = poly } ∷ [])) }
     ensures noted { OnOk result (losses.new ≡ losses.old ++ losses_of poly) }
     ensures told { OnOk result (poly ≢ Err Memory) }
 {

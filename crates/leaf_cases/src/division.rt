@@ -42,8 +42,14 @@ impl Division<'_> {
         rows: &mut Items<Row>,
         losses: &mut Items<Loss>,
     ) -> Result<(), FormulaError>
-        ensures made { OnOk result (rows.new ≡ rows.old ++ rows_of (division signs self.now.dividend.now self.now.divisor.now self.now.quotient.now self.now.remainder.now)) }
-        ensures noted { OnOk result (losses.new ≡ losses.old ++ lost_of (division signs self.now.dividend.now self.now.divisor.now self.now.quotient.now self.now.remainder.now)) }
+        ensures made { OnOk result
+            (rows.new ≡ rows.old
+            ++ rows_of (division signs self.now.dividend.now self.now.divisor.now
+            self.now.quotient.now self.now.remainder.now)) }
+        ensures noted { OnOk result
+            (losses.new ≡ losses.old
+            ++ lost_of (division signs self.now.dividend.now self.now.divisor.now
+            self.now.quotient.now self.now.remainder.now)) }
     {
         let Division {
             dividend,

@@ -15,9 +15,9 @@ use std::alloc::Global;
 use syntax_tree::Program;
 use transition_formula::{Formula, FormulaError, Loss};
 
-/// The formula of an edge of a procedure's graph, by the known formulas of the procedures. A call of a
-/// procedure without a known formula has no cases. What is lost is noted after the losses that are there; after
-/// an error nothing is noted.
+/// The formula of an edge of a procedure's graph, by the known formulas of the procedures. A call
+/// of a procedure without a known formula has no cases. What is lost is noted after the losses that
+/// are there; after an error nothing is noted.
 pub fn leaf(
     alloc: Global,
     program: &Program,
@@ -30,13 +30,23 @@ pub fn leaf(
     requires procedure { proc < length program.now.procs }
     requires edge { IsActOf program.now proc (statement_of_act act.now) }
     requires known { AreKnown program.now known.now }
-    ensures exact { IfOk result (λ f. f ≡ leaf_of (columns_at program.now proc) (length program.now.globals) known.now (statement_of_act act.now)) }
-    ensures noted { OnOk result (losses.new ≡ losses.old ++ lost_in_leaf (columns_at program.now proc) (length program.now.globals) known.now (statement_of_act act.now)) }
+    ensures exact { IfOk result
+        (λ f. f ≡ leaf_of (columns_at program.now proc) (length program.now.globals) known.now
+        (statement_of_act act.now)) }
+    ensures noted { OnOk result
+        (losses.new ≡ losses.old ++ lost_in_leaf (columns_at program.now proc)
+        (length program.now.globals) known.now (statement_of_act act.now)) }
     ensures kept { OnErr result (losses.new ≡ losses.old) }
     ensures cases { IfOk result (λ f. length f.cases ≤ 4096) }
     ensures few { IfOk result (λ f. All (λ case. case.aux < 2 ^ 31) f.cases) }
-    ensures at_least { (before after : List ℤ) → IfOk result (λ f. length before ≡ columns_at program.now proc → EdgeRelates (KnownCalls known.now) (length program.now.globals) (statement_of_act act.now) before after → Holds f before after) }
-    ensures at_most { (before after : List ℤ) → losses.new ≡ losses.old → IfOk result (λ f. Holds f before after → EdgeRelates (KnownCalls known.now) (length program.now.globals) (statement_of_act act.now) before after) }
+    ensures at_least { (before after : List ℤ)
+        → IfOk result (λ f. length before ≡ columns_at program.now proc
+        → EdgeRelates (KnownCalls known.now) (length program.now.globals) (statement_of_act act.now)
+        before after → Holds f before after) }
+    ensures at_most { (before after : List ℤ) → losses.new ≡ losses.old
+        → IfOk result (λ f. Holds f before after
+        → EdgeRelates (KnownCalls known.now) (length program.now.globals) (statement_of_act act.now)
+        before after) }
 {
     let mut lost = Items::new(alloc);
     let formula = act_formula(alloc, program, proc, act, known, &mut lost)?;
@@ -57,8 +67,12 @@ fn act_formula(
     requires procedure { proc < length program.now.procs }
     requires edge { IsActOf program.now proc (statement_of_act act.now) }
     requires known { AreKnown program.now known.now }
-    ensures exact { IfOk result (λ f. f ≡ leaf_of (columns_at program.now proc) (length program.now.globals) known.now (statement_of_act act.now)) }
-    ensures noted { OnOk result (losses.new ≡ losses.old ++ lost_in_leaf (columns_at program.now proc) (length program.now.globals) known.now (statement_of_act act.now)) }
+    ensures exact { IfOk result
+        (λ f. f ≡ leaf_of (columns_at program.now proc) (length program.now.globals) known.now
+        (statement_of_act act.now)) }
+    ensures noted { OnOk result
+        (losses.new ≡ losses.old ++ lost_in_leaf (columns_at program.now proc)
+        (length program.now.globals) known.now (statement_of_act act.now)) }
 {
     let widths = widths_of(program, proc);
     match act {

@@ -43,7 +43,8 @@ const GREATER_OR_EQUAL: Step = Step::Test(Relation::GreaterOrEqual);
 
 const SAME: Step = Step::Test(Relation::Same);
 
-/// The cases of an expression's value, of its truth or of its falsity. What is lost on the way is noted.
+/// The cases of an expression's value, of its truth or of its falsity. What is lost on the way is
+/// noted.
 #[cycle(expression)]
 #[tactic(auto, using(syntax_tree::proofs::Terms::terms, crate::proofs::Shapes::shapes))]
 pub(crate) fn cases_of(
@@ -53,8 +54,10 @@ pub(crate) fn cases_of(
     losses: &mut Items<Loss>,
 ) -> Result<Items<Case>, FormulaError>
     requires { operators_of (term_of e.now) ≤ MOST_OPERATORS + 1 }
-    ensures exact { IfOk result (λ made. made ≡ (sought_in sought (lists_of (term_of e.now))).cases) }
-    ensures noted { OnOk result (losses.new ≡ losses.old ++ (sought_in sought (lists_of (term_of e.now))).lost) }
+    ensures exact { IfOk result
+        (λ made. made ≡ (sought_in sought (lists_of (term_of e.now))).cases) }
+    ensures noted { OnOk result
+        (losses.new ≡ losses.old ++ (sought_in sought (lists_of (term_of e.now))).lost) }
 {
     match e {
         Core::Lit(value) => {
@@ -93,8 +96,12 @@ fn number_cases(
     losses: &mut Items<Loss>,
 ) -> Result<Items<Case>, FormulaError>
     requires { AreFew (2 ^ 31) values }
-    ensures exact { IfOk result (λ made. made ≡ (sought_in sought (of_number (record { cases = values; lost = [] }))).cases) }
-    ensures noted { OnOk result (losses.new ≡ losses.old ++ (sought_in sought (of_number (record { cases = values; lost = [] }))).lost) }
+    ensures exact { IfOk result
+        (λ made. made
+        ≡ (sought_in sought (of_number (record { cases = values; lost = [] }))).cases) }
+    ensures noted { OnOk result
+        (losses.new ≡ losses.old
+        ++ (sought_in sought (of_number (record { cases = values; lost = [] }))).lost) }
 {
     match sought {
         Sought::Value => Ok(values),
@@ -114,7 +121,9 @@ fn number_cases(
 
 /// The cases of a test's value: 1 where it is true, and 0 where it is false.
 fn test_value(alloc: Global, truth: &[Case], falsity: &[Case]) -> Result<Items<Case>, FormulaError>
-    ensures { IfOk result (λ made. made ≡ map (with_number (pos 1)) truth.now ++ map (with_number (pos 0)) falsity.now) }
+    ensures { IfOk result
+        (λ made. made ≡ map (with_number (pos 1)) truth.now ++ map (with_number (pos 0))
+        falsity.now) }
 {
     let mut made = Items::new(alloc);
     numbered(alloc, 1, truth, &mut made)?;
@@ -131,8 +140,11 @@ fn sign_cases(
     losses: &mut Items<Loss>,
 ) -> Result<Items<Case>, FormulaError>
     requires { operators_of (term_of inner.now) ≤ MOST_OPERATORS + 1 }
-    ensures exact { IfOk result (λ made. made ≡ (sought_in sought (sign_lists sign (lists_of (term_of inner.now)))).cases) }
-    ensures noted { OnOk result (losses.new ≡ losses.old ++ (sought_in sought (sign_lists sign (lists_of (term_of inner.now)))).lost) }
+    ensures exact { IfOk result
+        (λ made. made ≡ (sought_in sought (sign_lists sign (lists_of (term_of inner.now)))).cases) }
+    ensures noted { OnOk result
+        (losses.new ≡ losses.old
+        ++ (sought_in sought (sign_lists sign (lists_of (term_of inner.now)))).lost) }
 {
     match sign {
         Sign::Plus => {
@@ -168,8 +180,14 @@ fn operator_cases(
 ) -> Result<Items<Case>, FormulaError>
     requires left { operators_of (term_of left.now) ≤ MOST_OPERATORS + 1 }
     requires right { operators_of (term_of right.now) ≤ MOST_OPERATORS + 1 }
-    ensures exact { IfOk result (λ made. made ≡ (sought_in sought (operator_lists op (lists_of (term_of left.now)) (lists_of (term_of right.now)))).cases) }
-    ensures noted { OnOk result (losses.new ≡ losses.old ++ (sought_in sought (operator_lists op (lists_of (term_of left.now)) (lists_of (term_of right.now)))).lost) }
+    ensures exact { IfOk result
+        (λ made. made
+        ≡ (sought_in sought
+        (operator_lists op (lists_of (term_of left.now)) (lists_of (term_of right.now)))).cases) }
+    ensures noted { OnOk result
+        (losses.new ≡ losses.old
+        ++ (sought_in sought
+        (operator_lists op (lists_of (term_of left.now)) (lists_of (term_of right.now)))).lost) }
 {
     match op {
         Op::Add => calculation_cases(alloc, SUM, left, right, sought, losses),
@@ -200,8 +218,14 @@ fn calculation_cases(
 ) -> Result<Items<Case>, FormulaError>
     requires left { operators_of (term_of left.now) ≤ MOST_OPERATORS + 1 }
     requires right { operators_of (term_of right.now) ≤ MOST_OPERATORS + 1 }
-    ensures exact { IfOk result (λ made. made ≡ (sought_in sought (calculated step (lists_of (term_of left.now)) (lists_of (term_of right.now)))).cases) }
-    ensures noted { OnOk result (losses.new ≡ losses.old ++ (sought_in sought (calculated step (lists_of (term_of left.now)) (lists_of (term_of right.now)))).lost) }
+    ensures exact { IfOk result
+        (λ made. made
+        ≡ (sought_in sought
+        (calculated step (lists_of (term_of left.now)) (lists_of (term_of right.now)))).cases) }
+    ensures noted { OnOk result
+        (losses.new ≡ losses.old
+        ++ (sought_in sought
+        (calculated step (lists_of (term_of left.now)) (lists_of (term_of right.now)))).lost) }
 {
     let pairs = joint_cases(alloc, left, Sought::Value, right, Sought::Value, losses)?;
     let steps = [step];
@@ -221,8 +245,14 @@ fn comparison_cases(
 ) -> Result<Items<Case>, FormulaError>
     requires left { operators_of (term_of left.now) ≤ MOST_OPERATORS + 1 }
     requires right { operators_of (term_of right.now) ≤ MOST_OPERATORS + 1 }
-    ensures exact { IfOk result (λ made. made ≡ (sought_in sought (comparison op (lists_of (term_of left.now)) (lists_of (term_of right.now)))).cases) }
-    ensures noted { OnOk result (losses.new ≡ losses.old ++ (sought_in sought (comparison op (lists_of (term_of left.now)) (lists_of (term_of right.now)))).lost) }
+    ensures exact { IfOk result
+        (λ made. made
+        ≡ (sought_in sought
+        (comparison op (lists_of (term_of left.now)) (lists_of (term_of right.now)))).cases) }
+    ensures noted { OnOk result
+        (losses.new ≡ losses.old
+        ++ (sought_in sought
+        (comparison op (lists_of (term_of left.now)) (lists_of (term_of right.now)))).lost) }
 {
     match sought {
         Sought::Truth => compared(alloc, op, left, right, losses),
@@ -246,8 +276,12 @@ fn compared(
 ) -> Result<Items<Case>, FormulaError>
     requires left { operators_of (term_of left.now) ≤ MOST_OPERATORS + 1 }
     requires right { operators_of (term_of right.now) ≤ MOST_OPERATORS + 1 }
-    ensures exact { IfOk result (λ made. made ≡ (compared op (lists_of (term_of left.now)) (lists_of (term_of right.now))).cases) }
-    ensures noted { OnOk result (losses.new ≡ losses.old ++ (compared op (lists_of (term_of left.now)) (lists_of (term_of right.now))).lost) }
+    ensures exact { IfOk result
+        (λ made. made
+        ≡ (compared op (lists_of (term_of left.now)) (lists_of (term_of right.now))).cases) }
+    ensures noted { OnOk result
+        (losses.new ≡ losses.old
+        ++ (compared op (lists_of (term_of left.now)) (lists_of (term_of right.now))).lost) }
 {
     let pairs = joint_cases(alloc, left, Sought::Value, right, Sought::Value, losses)?;
     tests_by(alloc, op, pairs.as_slice(), losses)
@@ -303,8 +337,16 @@ fn conjunction_cases(
 ) -> Result<Items<Case>, FormulaError>
     requires left { operators_of (term_of left.now) ≤ MOST_OPERATORS + 1 }
     requires right { operators_of (term_of right.now) ≤ MOST_OPERATORS + 1 }
-    ensures exact { IfOk result (λ made. made ≡ (sought_in sought (operator_lists Op.And (lists_of (term_of left.now)) (lists_of (term_of right.now)))).cases) }
-    ensures noted { OnOk result (losses.new ≡ losses.old ++ (sought_in sought (operator_lists Op.And (lists_of (term_of left.now)) (lists_of (term_of right.now)))).lost) }
+    ensures exact { IfOk result
+        (λ made. made
+        ≡ (sought_in sought
+        (operator_lists Op.And (lists_of (term_of left.now))
+        (lists_of (term_of right.now)))).cases) }
+    ensures noted { OnOk result
+        (losses.new ≡ losses.old
+        ++ (sought_in sought
+        (operator_lists Op.And (lists_of (term_of left.now))
+        (lists_of (term_of right.now)))).lost) }
 {
     match sought {
         Sought::Truth => joint_cases(alloc, left, Sought::Truth, right, Sought::Truth, losses),
@@ -329,8 +371,15 @@ fn disjunction_cases(
 ) -> Result<Items<Case>, FormulaError>
     requires left { operators_of (term_of left.now) ≤ MOST_OPERATORS + 1 }
     requires right { operators_of (term_of right.now) ≤ MOST_OPERATORS + 1 }
-    ensures exact { IfOk result (λ made. made ≡ (sought_in sought (operator_lists Op.Or (lists_of (term_of left.now)) (lists_of (term_of right.now)))).cases) }
-    ensures noted { OnOk result (losses.new ≡ losses.old ++ (sought_in sought (operator_lists Op.Or (lists_of (term_of left.now)) (lists_of (term_of right.now)))).lost) }
+    ensures exact { IfOk result
+        (λ made. made
+        ≡ (sought_in sought
+        (operator_lists Op.Or (lists_of (term_of left.now))
+        (lists_of (term_of right.now)))).cases) }
+    ensures noted { OnOk result
+        (losses.new ≡ losses.old
+        ++ (sought_in sought
+        (operator_lists Op.Or (lists_of (term_of left.now)) (lists_of (term_of right.now)))).lost) }
 {
     match sought {
         Sought::Truth => early_cases(alloc, left, right, Sought::Truth, Sought::Falsity, losses),
@@ -358,8 +407,14 @@ fn joint_cases(
 ) -> Result<Items<Case>, FormulaError>
     requires left { operators_of (term_of left.now) ≤ MOST_OPERATORS + 1 }
     requires right { operators_of (term_of right.now) ≤ MOST_OPERATORS + 1 }
-    ensures exact { IfOk result (λ made. made ≡ (together (sought_in first (lists_of (term_of left.now))) (sought_in second (lists_of (term_of right.now)))).cases) }
-    ensures noted { OnOk result (losses.new ≡ losses.old ++ (together (sought_in first (lists_of (term_of left.now))) (sought_in second (lists_of (term_of right.now)))).lost) }
+    ensures exact { IfOk result
+        (λ made. made
+        ≡ (together (sought_in first (lists_of (term_of left.now)))
+        (sought_in second (lists_of (term_of right.now)))).cases) }
+    ensures noted { OnOk result
+        (losses.new ≡ losses.old
+        ++ (together (sought_in first (lists_of (term_of left.now)))
+        (sought_in second (lists_of (term_of right.now)))).lost) }
 {
     let firsts = cases_of(alloc, left, first, losses)?;
     let seconds = cases_of(alloc, right, second, losses)?;
@@ -378,8 +433,16 @@ fn early_cases(
 ) -> Result<Items<Case>, FormulaError>
     requires left { operators_of (term_of left.now) ≤ MOST_OPERATORS + 1 }
     requires right { operators_of (term_of right.now) ≤ MOST_OPERATORS + 1 }
-    ensures exact { IfOk result (λ made. made ≡ (either (sought_in decided (lists_of (term_of left.now))) (together (sought_in rest (lists_of (term_of left.now))) (sought_in decided (lists_of (term_of right.now))))).cases) }
-    ensures noted { OnOk result (losses.new ≡ losses.old ++ (either (sought_in decided (lists_of (term_of left.now))) (together (sought_in rest (lists_of (term_of left.now))) (sought_in decided (lists_of (term_of right.now))))).lost) }
+    ensures exact { IfOk result
+        (λ made. made
+        ≡ (either (sought_in decided (lists_of (term_of left.now)))
+        (together (sought_in rest (lists_of (term_of left.now)))
+        (sought_in decided (lists_of (term_of right.now))))).cases) }
+    ensures noted { OnOk result
+        (losses.new ≡ losses.old
+        ++ (either (sought_in decided (lists_of (term_of left.now)))
+        (together (sought_in rest (lists_of (term_of left.now)))
+        (sought_in decided (lists_of (term_of right.now))))).lost) }
 {
     let mut made = cases_of(alloc, left, decided, losses)?;
     let late = joint_cases(alloc, left, rest, right, decided, losses)?;

@@ -15,8 +15,9 @@ use std::alloc::Global;
 use syntax_tree::Core;
 use transition_formula::{Formula, FormulaError, Loss, column};
 
-/// Says that an expression is true, and that nothing changes. What is lost is noted after the losses that
-/// are there: a lost row is left out, and a lost value may be any number. After an error nothing is noted.
+/// Says that an expression is true, and that nothing changes. What is lost is noted after the
+/// losses that are there: a lost row is left out, and a lost value may be any number. After an
+/// error nothing is noted.
 pub fn truth(
     alloc: Global,
     e: &Core,
@@ -29,8 +30,12 @@ pub fn truth(
     ensures noted { OnOk result (losses.new ≡ losses.old ++ (lists_of (term_of e.now)).truth.lost) }
     ensures kept { OnErr result (losses.new ≡ losses.old) }
     ensures few { IfOk result (λ f. All (λ case. case.aux < 2 ^ 31) f.cases) }
-    ensures at_least { (state : List ℤ) → IfOk result (λ f. length state ≡ columns → IsTrueIn (term_of e.now) state → Holds f state state) }
-    ensures at_most { (before after : List ℤ) → losses.new ≡ losses.old → IfOk result (λ f. Holds f before after → ((after ≡ before) × IsTrueIn (term_of e.now) before)) }
+    ensures at_least { (state : List ℤ)
+        → IfOk result (λ f. length state ≡ columns → IsTrueIn (term_of e.now) state
+        → Holds f state state) }
+    ensures at_most { (before after : List ℤ) → losses.new ≡ losses.old
+        → IfOk result (λ f. Holds f before after
+        → ((after ≡ before) × IsTrueIn (term_of e.now) before)) }
 {
     let mut lost = Items::new(alloc);
     let cases = cases_of(alloc, e, Sought::Truth, &mut lost)?;
@@ -48,12 +53,18 @@ pub fn falsity(
 ) -> Result<Formula, FormulaError>
     requires below { IsTrue (columns_below columns (term_of e.now)) }
     requires operators { operators_of (term_of e.now) ≤ MOST_OPERATORS + 1 }
-    ensures exact { IfOk result (λ f. f ≡ guard_of columns (lists_of (term_of e.now)).falsity.cases) }
-    ensures noted { OnOk result (losses.new ≡ losses.old ++ (lists_of (term_of e.now)).falsity.lost) }
+    ensures exact { IfOk result
+        (λ f. f ≡ guard_of columns (lists_of (term_of e.now)).falsity.cases) }
+    ensures noted { OnOk result
+        (losses.new ≡ losses.old ++ (lists_of (term_of e.now)).falsity.lost) }
     ensures kept { OnErr result (losses.new ≡ losses.old) }
     ensures few { IfOk result (λ f. All (λ case. case.aux < 2 ^ 31) f.cases) }
-    ensures at_least { (state : List ℤ) → IfOk result (λ f. length state ≡ columns → IsFalseIn (term_of e.now) state → Holds f state state) }
-    ensures at_most { (before after : List ℤ) → losses.new ≡ losses.old → IfOk result (λ f. Holds f before after → ((after ≡ before) × IsFalseIn (term_of e.now) before)) }
+    ensures at_least { (state : List ℤ)
+        → IfOk result (λ f. length state ≡ columns → IsFalseIn (term_of e.now) state
+        → Holds f state state) }
+    ensures at_most { (before after : List ℤ) → losses.new ≡ losses.old
+        → IfOk result (λ f. Holds f before after
+        → ((after ≡ before) × IsFalseIn (term_of e.now) before)) }
 {
     let mut lost = Items::new(alloc);
     let cases = cases_of(alloc, e, Sought::Falsity, &mut lost)?;

@@ -1,6 +1,6 @@
-//! Cases of expressions and the formulas of edges: the formula of an edge holds of two states exactly where
-//! the edge leads from one to the other, up to what is lost because a step leaves 128 bits or passes
-//! degree 4.
+//! Cases of expressions and the formulas of edges: the formula of an edge holds of two states
+//! exactly where the edge leads from one to the other, up to what is lost because a step leaves 128
+//! bits or passes degree 4.
 #![tactic(auto)]
 
 mod assignment;

@@ -97,8 +97,10 @@ impl Later<'_> {
         made: &mut Items<Row>,
     ) -> Result<(), FormulaError>
         requires numbers { self.now.numbers.now ≡ range_with_len self.now.first self.now.count }
-        requires numbered { IsTrue (list_all (λ row. every_column (is_numbered self.now.count) row.poly) rows.now) }
-        ensures { OnOk result (made.new ≡ made.old ++ map (renumbered_row (λ n. self.now.first + n)) rows.now) }
+        requires numbered { IsTrue
+            (list_all (λ row. every_column (is_numbered self.now.count) row.poly) rows.now) }
+        ensures { OnOk result
+            (made.new ≡ made.old ++ map (renumbered_row (λ n. self.now.first + n)) rows.now) }
     {
         for row in rows {
             let poly = self.poly(alloc, &row.poly)?;
@@ -118,8 +120,10 @@ impl Later<'_> {
         made: &mut Items<Poly>,
     ) -> Result<(), FormulaError>
         requires numbers { self.now.numbers.now ≡ range_with_len self.now.first self.now.count }
-        requires numbered { IsTrue (list_all (every_column (is_numbered self.now.count)) posts.now) }
-        ensures { OnOk result (made.new ≡ made.old ++ map (renumbered (λ n. self.now.first + n)) posts.now) }
+        requires numbered { IsTrue
+            (list_all (every_column (is_numbered self.now.count)) posts.now) }
+        ensures { OnOk result
+            (made.new ≡ made.old ++ map (renumbered (λ n. self.now.first + n)) posts.now) }
     {
         for post in posts {
             made.push(self.poly(alloc, post)?)?;

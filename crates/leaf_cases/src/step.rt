@@ -127,8 +127,11 @@ fn calculated(
     losses: &mut Items<Loss>,
 ) -> Result<Case, FormulaError>
     requires { case.now.aux < 2 ^ 31 }
-    ensures exact { IfOk result (λ c. c ≡ valued case.now (value_at arithmetic (operand 0 case.now) (operand 1 case.now))) }
-    ensures noted { OnOk result (losses.new ≡ losses.old ++ losses_of (value_at arithmetic (operand 0 case.now) (operand 1 case.now))) }
+    ensures exact { IfOk result
+        (λ c. c ≡ valued case.now (value_at arithmetic (operand 0 case.now) (operand 1 case.now))) }
+    ensures noted { OnOk result
+        (losses.new ≡ losses.old
+        ++ losses_of (value_at arithmetic (operand 0 case.now) (operand 1 case.now))) }
 {
     let zero = Poly::constant(alloc, 0);
     let first = operand(case, 0, &zero);
@@ -159,8 +162,10 @@ fn tested(
     case: &Case,
     losses: &mut Items<Loss>,
 ) -> Result<Case, FormulaError>
-    ensures exact { IfOk result (λ c. c ≡ limited case.now 0 (test_claim relation case.now ∷ []) []) }
-    ensures noted { OnOk result (losses.new ≡ losses.old ++ lost_of (test_claim relation case.now ∷ [])) }
+    ensures exact { IfOk result
+        (λ c. c ≡ limited case.now 0 (test_claim relation case.now ∷ []) []) }
+    ensures noted { OnOk result
+        (losses.new ≡ losses.old ++ lost_of (test_claim relation case.now ∷ [])) }
 {
     let zero = Poly::constant(alloc, 0);
     let first = operand(case, 0, &zero);
@@ -227,8 +232,8 @@ fn push_divided(
     Ok(())
 }
 
-/// The case with the rows of a division whose divisor is above zero or not, and its dividend not below zero
-/// or below it, and the quotient or the remainder as its value.
+/// The case with the rows of a division whose divisor is above zero or not, and its dividend not
+/// below zero or below it, and the quotient or the remainder as its value.
 fn divided(
     alloc: Global,
     part: Part,
@@ -238,8 +243,13 @@ fn divided(
     losses: &mut Items<Loss>,
 ) -> Result<Case, FormulaError>
     requires { case.now.aux < 2 ^ 31 }
-    ensures exact { IfOk result (λ c. c ≡ limited case.now 2 (division_at (record { divisor = divisor; dividend = dividend }) case.now) (column_of (Aux (part_at part case.now.aux)) ∷ [])) }
-    ensures noted { OnOk result (losses.new ≡ losses.old ++ lost_of (division_at (record { divisor = divisor; dividend = dividend }) case.now)) }
+    ensures exact { IfOk result
+        (λ c. c ≡ limited case.now 2
+        (division_at (record { divisor = divisor; dividend = dividend }) case.now)
+        (column_of (Aux (part_at part case.now.aux)) ∷ [])) }
+    ensures noted { OnOk result
+        (losses.new ≡ losses.old
+        ++ lost_of (division_at (record { divisor = divisor; dividend = dividend }) case.now)) }
 {
     let zero = Poly::constant(alloc, 0);
     let quotient = column(alloc, Col::Aux(case.aux))?;

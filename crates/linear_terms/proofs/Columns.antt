@@ -1,4 +1,5 @@
--- The columns of what an operation answers are among those of its operands: what holds of each column of these holds of each of its own.
+-- The columns of what an operation answers are among those of its operands: what holds of each
+-- column of these holds of each of its own.
 use Rattle.std.proofs.Common.{◌≡◌, Bool, true, false, cond, ℤ, pos, List, [], ◌∷◌, ◌++◌, ◌+◌, length, fold, Result, Ok, Err, ap, subst}
 use Rattle.std.specs.Prelude.{nat_lt}
 use Rattle.std.specs.List.{AllByRecursion}
@@ -111,7 +112,8 @@ module _ (P : Col → Type 0) where
   pub product_of_polys-each : (a b p : Polynomial) → product_of_polys a b ≡ Ok p → EachColumn P a.terms → EachColumn P b.terms → EachColumn P p.terms
   product_of_polys-each a b p e h k = add_rows-each (parts a) (parts b) (constant_of (pos 0)) p e (parts-each a h) (parts-each b k) tt
 
--- ---- substitution: each column that is replaced has the one property, and each column put in for such a one the other
+-- ---- substitution: each column that is replaced has the one property, and each column put in for
+-- such a one the other
 
 module _ (P Q : Col → Type 0) (put_in : Col → Polynomial) (covers : (c : Col) → P c → EachColumn Q (put_in c).terms) where
   product_on-each : (m : List Col) (made p : Polynomial) → product_on put_in made m ≡ Ok p → AllByRecursion P m → EachColumn Q made.terms → EachColumn Q p.terms

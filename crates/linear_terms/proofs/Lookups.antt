@@ -1,4 +1,5 @@
--- A number put into terms that stand in print order, by a look-up and one change of the map that keeps them.
+-- A number put into terms that stand in print order, by a look-up and one change of the map that
+-- keeps them.
 use Rattle.std.proofs.Common.{◌≡◌, Bool, true, false, cond, ℤ, pos, List, [], ◌∷◌, Result, Ok, Err, Option, Some, None, ◌≢◌, refl, sym, ap, ◌∙◌}
 use Rattle.std.specs.List.{AllByRecursion}
 use Rattle.std.specs.BTreeMap.{insert_entry, is_at}

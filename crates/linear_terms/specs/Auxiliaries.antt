@@ -1,4 +1,5 @@
--- One column of a polynomial: where it occurs; what is put in for an auxiliary, and new numbers for all of them.
+-- One column of a polynomial: where it occurs; what is put in for an auxiliary, and new numbers for
+-- all of them.
 use Rattle.std.specs.Prelude.{◌<◌, ℕ, List, map, Bool, true, false, ◌==◌, nat_lt, not, IsTrue, if◌then◌else◌}
 use Rattle.std.specs.List.{list_any, filter}
 use Rattle.linear_terms.specs.declared.col.Col.{Col}
@@ -42,7 +43,10 @@ renumbered_column number (At m) = At m
 renumbered_column number (Aux m) = Aux (number m)
 
 abbrev pub renumbered : (ℕ → ℕ) → Polynomial → Polynomial
-renumbered number p = record { terms = map (λ t. (map (renumbered_column number) t.0, t.1)) p.terms; rest = p.rest }
+renumbered number p = record {
+  terms = map (λ t. (map (renumbered_column number) t.0, t.1)) p.terms;
+  rest = p.rest;
+}
 
 -- the column is no auxiliary, or one with a number below `end`
 abbrev pub is_numbered : ℕ → Col → Bool
@@ -51,4 +55,5 @@ is_numbered end (Aux m) = nat_lt m end
 
 -- of two auxiliaries that occur the smaller one keeps the smaller number
 abbrev pub KeepsOrder : (ℕ → ℕ) → (ℕ → Bool) → Type 0
-KeepsOrder number occurring = (m n : ℕ) → IsTrue (occurring m) → IsTrue (occurring n) → m < n → number m < number n
+KeepsOrder number occurring = (m n : ℕ) → IsTrue (occurring m) → IsTrue (occurring n) → m < n
+    → number m < number n

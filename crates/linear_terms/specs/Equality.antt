@@ -20,5 +20,6 @@ pub poly_eq_equiv : IsEquivalence poly_eq
 poly_eq_equiv =
     and_equiv
     (on_equiv (λ (p : Polynomial). p.terms)
-    (lists_equiv (and_equiv (on_equiv (λ (t : List Col × ℤ). t.0) (eq_by_cmp_equiv mono_cmp_total)) (on_equiv (λ (t : List Col × ℤ). t.1) int_eq_equiv))))
+    (lists_equiv (and_equiv (on_equiv (λ (t : List Col × ℤ). t.0) (eq_by_cmp_equiv mono_cmp_total))
+    (on_equiv (λ (t : List Col × ℤ). t.1) int_eq_equiv))))
     (on_equiv (λ (p : Polynomial). p.rest) int_eq_equiv)

@@ -1,6 +1,7 @@
--- Expressions over polynomials: what an expression comes to, or the first step of making it that leaves 128 bits or passes
--- degree 4. An operation makes its left side, then its right side, and then takes the step itself; products bind closer
--- than sums and differences, and each of them groups to the left. So a rule of the analysis reads here as it is written.
+-- Expressions over polynomials: what an expression comes to, or the first step of making it that
+-- leaves 128 bits or passes degree 4. An operation makes its left side, then its right side, and
+-- then takes the step itself; products bind closer than sums and differences, and each of them
+-- groups to the left. So a rule of the analysis reads here as it is written.
 use Rattle.std.specs.Prelude.{ℤ, pos, negsuc, List, [], ◌∷◌, Result, Ok, Err}
 use Rattle.items.specs.Gives.{◌>>=◌}
 use Rattle.linear_terms.specs.declared.col.Col.{Col}
@@ -58,7 +59,8 @@ abbrev pub all_of : List Made → Result (List Polynomial) TermError
 all_of [] = Ok []
 all_of (m ∷ ms) = m >>= λ p. all_of ms >>= λ ps. Ok (p ∷ ps)
 
--- ---- numbers times columns, and numbers times polynomials. Where one list is longer, its end counts for nothing.
+-- ---- numbers times columns, and numbers times polynomials. Where one list is longer, its end
+-- counts for nothing.
 
 -- the terms with these numbers at these columns; no term where the number is zero
 abbrev pub coefficients : List ℤ → List Col → Terms
@@ -91,7 +93,8 @@ abbrev pub or_zero : Made → Polynomial
 or_zero (Ok p) = p
 or_zero (Err e) = constant_of (pos 0)
 
--- what follows, where each of the columns has a value that can be made; else the first value that cannot
+-- what follows, where each of the columns has a value that can be made; else the first value that
+-- cannot
 abbrev pub when_made : (Col → Made) → List Col → Made → Made
 when_made values [] next = next
 when_made values (c ∷ cs) next = values c >>= λ p. when_made values cs next
@@ -100,6 +103,7 @@ abbrev pub when_all_made : (Col → Made) → Terms → Made → Made
 when_all_made values [] next = next
 when_all_made values (t ∷ ts) next = when_made values t.0 (when_all_made values ts next)
 
--- a polynomial with expressions put in for its columns; a value that cannot be made comes before any step of the substitution
+-- a polynomial with expressions put in for its columns; a value that cannot be made comes before
+-- any step of the substitution
 abbrev pub put_into : (Col → Made) → Polynomial → Made
 put_into values p = when_all_made values p.terms (substituted (λ c. or_zero (values c)) p)

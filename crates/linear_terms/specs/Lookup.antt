@@ -22,4 +22,5 @@ added (Some had) t = plus had t.1 >>= λ s. Ok (t.0, s)
 
 -- the terms with s as the coefficient of m, and without m where s is zero
 abbrev pub stored : List Col → ℤ → Terms → Terms
-stored m s ts = if int_eq s (pos 0) then remove_entry (is_at (mono_cmp m)) ts else insert_entry mono_cmp ts m s
+stored m s ts = if int_eq s (pos 0) then remove_entry (is_at (mono_cmp m)) ts
+    else insert_entry mono_cmp ts m s

@@ -15,7 +15,8 @@ abbrev pub placed : List Col → Col → List Col
 placed [] c = c ∷ []
 placed (d ∷ m) c = if is_lt (col_cmp c d) then c ∷ placed m d else d ∷ placed m c
 
--- the columns put in order, the smaller first: each in turn is put at its place among those before it
+-- the columns put in order, the smaller first: each in turn is put at its place among those before
+-- it
 abbrev pub in_order : List Col → List Col
 in_order columns = fold placed [] columns
 

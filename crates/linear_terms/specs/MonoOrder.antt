@@ -37,4 +37,5 @@ pub col_cmp_total : IsTotalOrder col_cmp
 col_cmp_total = record { antisymm = antisymm; trans = trans; congr = congr }
 
 pub mono_cmp_total : IsTotalOrder mono_cmp
-mono_cmp_total = then_total (back_total (on_total (λ (m : List Col). length m) nat_cmp_total)) (lists_total col_cmp_total)
+mono_cmp_total = then_total (back_total (on_total (λ (m : List Col). length m) nat_cmp_total))
+    (lists_total col_cmp_total)

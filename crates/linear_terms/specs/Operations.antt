@@ -1,5 +1,5 @@
--- What the operations on polynomials answer: a polynomial, or the first step that leaves 128 bits or passes degree 4.
--- Sums run over monomials in print order, the constant last.
+-- What the operations on polynomials answer: a polynomial, or the first step that leaves 128 bits
+-- or passes degree 4. Sums run over monomials in print order, the constant last.
 use Rattle.std.specs.Prelude.{◌+◌, ℤ, pos, negsuc, List, [], ◌∷◌, ◌++◌, length, Result, Ok, Err, nat_lt, if◌then◌else◌}
 use Rattle.std.specs.Ordering.{int_eq, match_ordering}
 use Rattle.items.specs.Gives.{◌>>=◌}
@@ -20,7 +20,8 @@ kept m c ts = if int_eq c (pos 0) then ts else (m, c) ∷ ts
 abbrev pub put : List Col → ℤ → Terms → Result Terms TermError
 put m c [] = Ok (kept m c [])
 put m c (t ∷ ts) =
-    match_ordering (mono_cmp m t.0) (Ok (kept m c (t ∷ ts))) (plus t.1 c >>= λ s. Ok (kept t.0 s ts)) (put m c ts >>= λ made. Ok (t ∷ made))
+    match_ordering (mono_cmp m t.0) (Ok (kept m c (t ∷ ts)))
+    (plus t.1 c >>= λ s. Ok (kept t.0 s ts)) (put m c ts >>= λ made. Ok (t ∷ made))
 
 -- the terms with others added, one after another
 abbrev pub put_all : Terms → Terms → Result Terms TermError
@@ -28,7 +29,10 @@ put_all ts [] = Ok ts
 put_all ts (t ∷ more) = put t.0 t.1 ts >>= λ made. put_all made more
 
 abbrev pub sum_of_polys : Polynomial → Polynomial → Result Polynomial TermError
-sum_of_polys a b = put_all a.terms b.terms >>= λ ts. plus a.rest b.rest >>= λ r. Ok record { terms = ts; rest = r }
+sum_of_polys a b = put_all a.terms b.terms >>= λ ts. plus a.rest b.rest >>= λ r. Ok record {
+  terms = ts;
+  rest = r;
+}
 
 -- ---- multiples: the polynomial's number is left
 
@@ -37,13 +41,17 @@ times_each [] by = Ok []
 times_each (t ∷ ts) by = times t.1 by >>= λ c. times_each ts by >>= λ made. Ok (kept t.0 c made)
 
 abbrev pub multiple_of : Polynomial → ℤ → Result Polynomial TermError
-multiple_of p by = times_each p.terms by >>= λ ts. times p.rest by >>= λ r. Ok record { terms = ts; rest = r }
+multiple_of p by = times_each p.terms by >>= λ ts. times p.rest by >>= λ r. Ok record {
+  terms = ts;
+  rest = r;
+}
 
 -- what is subtracted is multiplied by -1 and then added
 abbrev pub difference_of_polys : Polynomial → Polynomial → Result Polynomial TermError
 difference_of_polys a b = multiple_of b (negsuc 0) >>= λ turned. sum_of_polys a turned
 
--- ---- products: each pair is multiplied, then added; the pairs in the order of the first, then of the second
+-- ---- products: each pair is multiplied, then added; the pairs in the order of the first, then of
+-- the second
 
 -- the constant counts as the last term, at the monomial of no columns
 abbrev pub parts : Polynomial → Terms
@@ -60,7 +68,8 @@ put_part (x ∷ m) c p = put_term (x ∷ m) c p
 -- the sum so far with the product of two terms
 abbrev pub add_product : List Col → ℤ → List Col → ℤ → Polynomial → Result Polynomial TermError
 add_product m c n d sum =
-    if nat_lt 4 (length m + length n) then Err Degree else (times c d >>= λ e. put_part (in_order (m ++ n)) e sum)
+    if nat_lt 4 (length m + length n) then Err Degree
+    else (times c d >>= λ e. put_part (in_order (m ++ n)) e sum)
 
 -- with the products of one term and each of a list
 abbrev pub add_row : List Col → ℤ → Terms → Polynomial → Result Polynomial TermError
@@ -80,7 +89,8 @@ product_of_polys a b = add_rows (parts a) (parts b) (constant_of (pos 0))
 -- what is made so far times what is put in for each column, from the left
 abbrev pub product_on : (Col → Polynomial) → Polynomial → List Col → Result Polynomial TermError
 product_on put_in made [] = Ok made
-product_on put_in made (c ∷ m) = product_of_polys made (put_in c) >>= λ next. product_on put_in next m
+product_on put_in made (c ∷ m) = product_of_polys made (put_in c) >>= λ next. product_on put_in next
+    m
 
 -- the product of what is put in for the columns of a monomial
 abbrev pub product_in : (Col → Polynomial) → List Col → Result Polynomial TermError
@@ -95,9 +105,14 @@ replaced put_in m c = product_in put_in m >>= λ product. multiple_of product c
 abbrev pub add_substituted : (Col → Polynomial) → Terms → Polynomial → Result Polynomial TermError
 add_substituted put_in [] sum = Ok sum
 add_substituted put_in (t ∷ ts) sum =
-    replaced put_in t.0 t.1 >>= λ term. sum_of_polys sum term >>= λ made. add_substituted put_in ts made
+    replaced put_in t.0 t.1 >>= λ term. sum_of_polys sum term >>= λ made. add_substituted put_in ts
+    made
 
 -- each column replaced by a polynomial
 abbrev pub substituted : (Col → Polynomial) → Polynomial → Result Polynomial TermError
 substituted put_in p =
-    add_substituted put_in p.terms (constant_of (pos 0)) >>= λ sum. plus sum.rest p.rest >>= λ r. Ok record { terms = sum.terms; rest = r }
+    add_substituted put_in p.terms (constant_of (pos 0)) >>= λ sum. plus sum.rest p.rest
+    >>= λ r. Ok record {
+      terms = sum.terms;
+      rest = r;
+    }

@@ -1,4 +1,5 @@
--- What is put in for columns: a list of polynomials for the entry columns, and one for the auxiliaries.
+-- What is put in for columns: a list of polynomials for the entry columns, and one for the
+-- auxiliaries.
 use Rattle.std.specs.Prelude.{ℕ, pos, ◌<◌, List, length, slice_get, unwrap_or}
 use Rattle.linear_terms.specs.declared.col.Col.{Col}
 use Rattle.linear_terms.specs.declared.col.Col.TheVariants.{At, Aux}

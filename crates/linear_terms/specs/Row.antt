@@ -54,14 +54,21 @@ with_positive_first p = if starts_negative p.terms then multiple_of p (negsuc 0)
 -- of a row with columns, by the greatest common divisor g of its coefficients
 abbrev pub reduced : Kind → ℕ → Polynomial → Result Normal TermError
 reduced AtMost g p =
-    Ok (Kept record { poly = record { terms = divided g p.terms; rest = ceiling_of p.rest g }; kind = AtMost })
+    Ok (Kept record {
+      poly = record { terms = divided g p.terms; rest = ceiling_of p.rest g };
+      kind = AtMost;
+    })
 reduced Equal g p =
     if divides g (unsigned_abs p.rest)
-    then (with_positive_first record { terms = divided g p.terms; rest = int_div p.rest (pos g) } >>= λ q. Ok (Kept record { poly = q; kind = Equal }))
+    then (with_positive_first record {
+      terms = divided g p.terms;
+      rest = int_div p.rest (pos g);
+    } >>= λ q. Ok (Kept record { poly = q; kind = Equal }))
     else Ok (Constant false)
 
--- A row without columns is true or false. Else the coefficients are divided by their greatest common divisor; the constant of
--- an inequality is rounded up, an equation whose constant is not divisible is false, and its first coefficient is made positive.
+-- A row without columns is true or false. Else the coefficients are divided by their greatest
+-- common divisor; the constant of an inequality is rounded up, an equation whose constant is not
+-- divisible is false, and its first coefficient is made positive.
 abbrev pub normal_form : Row → Result Normal TermError
 normal_form row = of_terms row.poly.terms
   where
@@ -81,10 +88,12 @@ abbrev pub StartsPositive : Terms → Type 0
 StartsPositive [] = ⊥
 StartsPositive (t ∷ ts) = pos 0 <ℤ t.1
 
--- the coefficients have no common divisor but 1, and that of an equation's first monomial is positive
+-- the coefficients have no common divisor but 1, and that of an equation's first monomial is
+-- positive
 abbrev pub IsNormal : Normal → Type 0
 IsNormal (Constant holds) = Unit {0}
-IsNormal (Kept row) = (gcd_of_all (values_of row.poly.terms) ≡ 1) × (row.kind ≡ Equal → StartsPositive row.poly.terms)
+IsNormal (Kept row) = (gcd_of_all (values_of row.poly.terms) ≡ 1)
+    × (row.kind ≡ Equal → StartsPositive row.poly.terms)
 
 abbrev pub HasCanonicalTerms : Normal → Type 0
 HasCanonicalTerms (Constant holds) = Unit {0}

@@ -17,7 +17,8 @@ plus a b = lifted wide (sum_of a b)
 abbrev pub times : ℤ → ℤ → Result ℤ TermError
 times a b = lifted wide (product_of a b)
 
--- what an error tells: want of memory tells nothing, and each other is a fault of the operation itself
+-- what an error tells: want of memory tells nothing, and each other is a fault of the operation
+-- itself
 abbrev pub cause : TermError → Option TermError
 cause (Wide left right times) = Some (Wide left right times)
 cause Degree = Some Degree

@@ -9,7 +9,8 @@ use Rattle.linear_terms.specs.declared.row.Kind.TheVariants.{AtMost, Equal}
 use Rattle.linear_terms.specs.declared.row.Row.{Row}
 use Rattle.linear_terms.specs.Polynomial.{Terms, Polynomial}
 
--- a column where no names are known: an entry column by its number, and an auxiliary by its number from 1
+-- a column where no names are known: an entry column by its number, and an auxiliary by its number
+-- from 1
 abbrev pub plain_name : Col → List ℕ
 plain_name (At number) = codes "x" ++ decimal number
 plain_name (Aux number) = codes "$" ++ decimal (number + 1)
@@ -33,7 +34,8 @@ abbrev pub size_text : ℕ → List ℕ
 size_text n = if n == 1 then [] else decimal n ++ codes "*"
 
 abbrev pub term_text : (Col → List ℕ) → Bool → List Col × ℤ → List ℕ
-term_text name first t = sign_text first (int_lt t.1 (pos 0)) ++ size_text (unsigned_abs t.1) ++ mono_text name t.0
+term_text name first t = sign_text first (int_lt t.1 (pos 0)) ++ size_text (unsigned_abs t.1)
+    ++ mono_text name t.0
 
 abbrev pub constant_text : Bool → ℤ → List ℕ
 constant_text first z = sign_text first (int_lt z (pos 0)) ++ decimal (unsigned_abs z)

@@ -19,7 +19,8 @@ terms_value at (t ∷ ts) = t.1 *ℤ mono_value at t.0 +ℤ terms_value at ts
 abbrev pub value_of : Valuation → Polynomial → ℤ
 value_of at p = terms_value at p.terms +ℤ p.rest
 
--- the sum of the products of what stands at the same place in two lists; the end of the longer one counts for nothing
+-- the sum of the products of what stands at the same place in two lists; the end of the longer one
+-- counts for nothing
 abbrev pub dot : List ℤ → List ℤ → ℤ
 dot [] xs = pos 0
 dot (n ∷ ns) [] = pos 0

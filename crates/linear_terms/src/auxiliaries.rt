@@ -14,7 +14,9 @@ use std::alloc::{AllocError, Global};
 /// An auxiliary replaced by a polynomial; the other columns stand for themselves.
 pub fn subst_aux(alloc: Global, a: &Poly, aux: u32, by: &Poly) -> Result<Poly, TermError>
     ensures exact { Gives cause (λ p. p) result (substituted (put_for aux by.now) a.now) }
-    ensures value { (numbers : Valuation) → IfOk result (λ p. value_of numbers p ≡ value_of (λ c. value_of numbers (put_for aux by.now c)) a.now) }
+    ensures value { (numbers : Valuation)
+        → IfOk result
+        (λ p. value_of numbers p ≡ value_of (λ c. value_of numbers (put_for aux by.now c)) a.now) }
 {
     let made = substituted(alloc, a, aux, by)?;
     Ok(made)
@@ -38,8 +40,10 @@ fn add_replaced(
     aux: u32,
     by: &Poly,
 ) -> Result<(), TermError>
-    ensures ok { OnOk result (add_substituted (put_for aux by.now) (term.now ∷ []) total.old ≡ Ok total.new) }
-    ensures err { IfErr result (λ e. FailsBy (cause e) (add_substituted (put_for aux by.now) (term.now ∷ []) total.old)) }
+    ensures ok { OnOk result (add_substituted (put_for aux by.now) (term.now ∷ []) total.old
+        ≡ Ok total.new) }
+    ensures err { IfErr result
+        (λ e. FailsBy (cause e) (add_substituted (put_for aux by.now) (term.now ∷ []) total.old)) }
 {
     let made = replaced(alloc, term.0.columns(), term.1, aux, by)?;
     total.add(&made)
@@ -142,7 +146,8 @@ fn terms_without(
 
 /// The auxiliaries' numbers replaced by those at their places in a list, which keep their order.
 pub fn renumbered(alloc: Global, a: &Poly, numbers: &[u32]) -> Result<Poly, AllocError>
-    requires numbered { IsTrue (list_all (λ t. list_all (is_numbered (length numbers.now)) t.0) a.now.terms) }
+    requires numbered { IsTrue
+        (list_all (λ t. list_all (is_numbered (length numbers.now)) t.0) a.now.terms) }
     requires order { KeepsOrder (slice_index numbers.now) (λ n. occurs n a.now) }
     ensures { IfOk result (λ p. p ≡ renumbered (slice_index numbers.now) a.now) }
 {
@@ -158,9 +163,13 @@ fn terms_renumbered(
     terms: &[(Mono, i128)],
     numbers: &[u32],
 ) -> Result<Items<(Mono, i128)>, AllocError>
-    requires numbered { IsTrue (list_all (λ t. list_all (is_numbered (length numbers.now)) t.0) terms.now) }
-    requires order { KeepsOrder (slice_index numbers.now) (λ n. list_any (λ t. has_auxiliary n t.0) terms.now) }
-    ensures { IfOk result (λ made. made ≡ map (λ t. (map (renumbered_column (slice_index numbers.now)) t.0, t.1)) terms.now) }
+    requires numbered { IsTrue
+        (list_all (λ t. list_all (is_numbered (length numbers.now)) t.0) terms.now) }
+    requires order { KeepsOrder (slice_index numbers.now)
+        (λ n. list_any (λ t. has_auxiliary n t.0) terms.now) }
+    ensures { IfOk result
+        (λ made. made ≡ map (λ t. (map (renumbered_column (slice_index numbers.now)) t.0, t.1))
+        terms.now) }
 {
     let mut made = Items::new(alloc);
     for (mono, number) in terms {

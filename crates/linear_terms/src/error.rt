@@ -8,7 +8,8 @@ use whole_numbers::Wide;
 /// Why an operation has no answer.
 #[derive(Clone, Copy, Debug, PartialEq, Eq)]
 pub enum TermError {
-    /// The product, where `times` holds, or else the sum of these two numbers is no number of 128 bits.
+    /// The product, where `times` holds, or else the sum of these two numbers is no number of 128
+    /// bits.
     Wide {
         left: i128,
         right: i128,

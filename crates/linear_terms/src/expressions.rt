@@ -14,7 +14,8 @@ use std::alloc::Global;
 #[tactic(auto, using(crate::proofs::Values::difference_of_polys_value))]
 pub fn difference(alloc: Global, a: &Poly, b: &Poly) -> Result<Poly, TermError>
     ensures exact { Gives cause (λ p. p) result (difference_of_polys a.now b.now) }
-    ensures value { (at : Valuation) → IfOk result (λ p. value_of at p ≡ value_of at a.now -ℤ value_of at b.now) }
+    ensures value { (at : Valuation)
+        → IfOk result (λ p. value_of at p ≡ value_of at a.now -ℤ value_of at b.now) }
     ensures no_degree { IfErr result (λ e. e ≢ Degree) }
 {
     let turned = scale(alloc, b, -1)?;
@@ -24,7 +25,8 @@ pub fn difference(alloc: Global, a: &Poly, b: &Poly) -> Result<Poly, TermError>
 /// The row that holds exactly where the inequality `poly <= 0` does not: `-poly + 1 <= 0`.
 pub fn negation(alloc: Global, poly: &Poly) -> Result<Row, TermError>
     ensures exact { Gives cause (λ r. r) result (negation poly.now) }
-    ensures opposite { (at : Valuation) → IfOk result (λ r. RowHolds at r ↔ (value_of at poly.now ≤ℤ pos 0 → ⊥)) }
+    ensures opposite { (at : Valuation)
+        → IfOk result (λ r. RowHolds at r ↔ (value_of at poly.now ≤ℤ pos 0 → ⊥)) }
     ensures no_degree { IfErr result (λ e. e ≢ Degree) }
 {
     let turned = scale(alloc, poly, -1)?;
@@ -35,12 +37,14 @@ pub fn negation(alloc: Global, poly: &Poly) -> Result<Row, TermError>
     })
 }
 
-/// Numbers times polynomials, from the left: each number is made a constant on the left of its product, which is then
-/// added to the sum so far. Where one list is longer, its end counts for nothing.
+/// Numbers times polynomials, from the left: each number is made a constant on the left of its
+/// product, which is then added to the sum so far. Where one list is longer, its end counts for
+/// nothing.
 #[tactic(auto, using(crate::proofs::Worth::weighted_value))]
 pub fn combination(alloc: Global, numbers: &[i128], polys: &[Poly]) -> Result<Poly, TermError>
     ensures exact { Gives cause (λ p. p) result (weighted numbers.now polys.now) }
-    ensures value { (at : Valuation) → IfOk result (λ p. value_of at p ≡ dot numbers.now (map (value_of at) polys.now)) }
+    ensures value { (at : Valuation)
+        → IfOk result (λ p. value_of at p ≡ dot numbers.now (map (value_of at) polys.now)) }
 {
     let total = weighted(alloc, numbers, polys)?;
     Ok(total)

@@ -1,6 +1,6 @@
-//! Polynomials over columns with numbers of 128 bits, rows that they make, and the normal form of a row.
-//! Each operation answers what the operation on plain polynomials is, or the first step that leaves 128
-//! bits or passes degree 4.
+//! Polynomials over columns with numbers of 128 bits, rows that they make, and the normal form of a
+//! row. Each operation answers what the operation on plain polynomials is, or the first step that
+//! leaves 128 bits or passes degree 4.
 #![tactic(auto)]
 
 mod auxiliaries;

@@ -36,13 +36,15 @@ impl Model for Mono {
 
     ghost invariant = { IsMono };
 
-    ghost inverse = { λ m. record { cells = m ++ replicate (4 - length m) (At 0); len = length m } };
+    ghost inverse = { λ m.
+        record { cells = m ++ replicate (4 - length m) (At 0); len = length m } };
 }
 
 impl Mono {
     /// Puts one to four columns in order; none where there are no columns, or more.
     pub fn new(columns: &[Col]) -> Option<Mono>
-        ensures { SomeIff result ((1 ≤ length columns.now) × (length columns.now ≤ 4)) (in_order columns.now) }
+        ensures { SomeIff result ((1 ≤ length columns.now) × (length columns.now ≤ 4))
+            (in_order columns.now) }
     {
         if columns.is_empty() || DEGREE < columns.len() {
             return None;
@@ -126,7 +128,8 @@ impl Mono {
 fn renumber_each(cells: &mut [Col; DEGREE], columns: &[Col], numbers: &[u32])
     requires few { length columns.now ≤ 4 }
     requires numbered { IsTrue (list_all (is_numbered (length numbers.now)) columns.now) }
-    ensures written { take (length columns.now) cells.new ≡ map (renumbered_column (slice_index numbers.now)) columns.now }
+    ensures written { take (length columns.now) cells.new
+        ≡ map (renumbered_column (slice_index numbers.now)) columns.now }
     ensures after { drop (length columns.now) cells.new ≡ drop (length columns.now) cells.old }
 {
     for (i, col) in columns.iter().enumerate() {
@@ -137,8 +140,10 @@ fn renumber_each(cells: &mut [Col; DEGREE], columns: &[Col], numbers: &[u32])
 /// Puts each of the columns at its place among the first `len` cells and those put before.
 fn place_each(cells: &mut [Col; DEGREE], len: usize, columns: &[Col])
     requires { len + length columns.now ≤ 4 }
-    ensures placed { take (len + length columns.now) cells.new ≡ fold placed (take len cells.old) columns.now }
-    ensures after { drop (len + length columns.now) cells.new ≡ drop (len + length columns.now) cells.old }
+    ensures placed { take (len + length columns.now) cells.new ≡ fold placed (take len cells.old)
+        columns.now }
+    ensures after { drop (len + length columns.now) cells.new ≡ drop (len + length columns.now)
+        cells.old }
 {
     for (i, col) in columns.iter().enumerate() {
         place(cells, len + i, *col);
@@ -185,7 +190,8 @@ impl Eq for Mono {
 impl PartialOrd for Mono {
     ghost partial_cmp = { λ m n. Some (mono_cmp m n) };
 
-    ghost laws = { partial_order_from_agreeing_total mono_cmp mono_cmp_total (λ m n. refl) (λ m n. refl) };
+    ghost laws = { partial_order_from_agreeing_total mono_cmp mono_cmp_total (λ m n. refl)
+        (λ m n. refl) };
 
     fn partial_cmp(&self, other: &Self) -> Option<Ordering> {
         Some(self.cmp(other))

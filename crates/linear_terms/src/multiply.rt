@@ -12,7 +12,8 @@ use std::alloc::Global;
 #[tactic(auto, using(crate::proofs::Values::product_of_polys_value))]
 pub fn mul(alloc: Global, a: &Poly, b: &Poly) -> Result<Poly, TermError>
     ensures exact { Gives cause (λ p. p) result (product_of_polys a.now b.now) }
-    ensures value { (at : Valuation) → IfOk result (λ p. value_of at p ≡ value_of at a.now *ℤ value_of at b.now) }
+    ensures value { (at : Valuation)
+        → IfOk result (λ p. value_of at p ≡ value_of at a.now *ℤ value_of at b.now) }
 {
     let mut total = Total::new(alloc);
     for (mono, number) in a.terms.as_slice() {
@@ -24,8 +25,10 @@ pub fn mul(alloc: Global, a: &Poly, b: &Poly) -> Result<Poly, TermError>
 
 /// Adds the products of one term and each of a polynomial.
 fn add_row(total: &mut Total, columns: &[Col], number: &i128, b: &Poly) -> Result<(), TermError>
-    ensures ok { OnOk result (add_row columns.now number.now (parts b.now) total.old ≡ Ok total.new) }
-    ensures err { IfErr result (λ e. FailsBy (cause e) (add_row columns.now number.now (parts b.now) total.old)) }
+    ensures ok { OnOk result (add_row columns.now number.now (parts b.now) total.old
+        ≡ Ok total.new) }
+    ensures err { IfErr result
+        (λ e. FailsBy (cause e) (add_row columns.now number.now (parts b.now) total.old)) }
 {
     for (mono, other) in b.terms.as_slice() {
         total.add_product(columns, number, mono.columns(), other)?;

@@ -13,9 +13,9 @@ use items::Items;
 use std::alloc::{AllocError, Global};
 use whole_numbers::{gcd, quotient, quotient_up};
 
-/// The normal form of a row, which says the same: the coefficients have no common divisor but 1, and the
-/// first one of an equation is positive. A row without columns is true or false, and an equation whose
-/// constant the divisor of the coefficients does not divide is false.
+/// The normal form of a row, which says the same: the coefficients have no common divisor but 1,
+/// and the first one of an equation is positive. A row without columns is true or false, and an
+/// equation whose constant the divisor of the coefficients does not divide is false.
 #[tactic(auto, using(crate::proofs::Normals::normal_forms))]
 pub fn normal(alloc: Global, row: &Row) -> Result<Normal, TermError>
     ensures exact { Gives cause (λ n. n) result (normal_form row.now) }
@@ -85,7 +85,8 @@ fn reduced(alloc: Global, kind: Kind, divisor: u128, poly: &Poly) -> Result<Norm
 fn divided(alloc: Global, poly: &Poly, divisor: u128, rest: i128) -> Result<Poly, AllocError>
     requires some { 0 < divisor }
     requires divisor { divisor ≡ gcd_of_all (values_of poly.now.terms) }
-    ensures { IfOk result (λ p. p ≡ record { terms = divided divisor poly.now.terms; rest = rest }) }
+    ensures { IfOk result
+        (λ p. p ≡ record { terms = divided divisor poly.now.terms; rest = rest }) }
 {
     let terms = quotients(alloc, poly.terms.as_slice(), divisor)?;
     Ok(Poly { terms, rest })

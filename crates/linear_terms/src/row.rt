@@ -39,8 +39,9 @@ impl Clone for Row {
     }
 }
 
-/// Each row has its monomials in print order, each once, with numbers that are not zero. It goes over the rows and has no
-/// part in an answer: a list of rows does not hand out what the type of its polynomials keeps.
+/// Each row has its monomials in print order, each once, with numbers that are not zero. It goes
+/// over the rows and has no part in an answer: a list of rows does not hand out what the type of
+/// its polynomials keeps.
 pub fn see_rows(rows: &[Row])
     ensures { AreCanonical rows.now }
 {

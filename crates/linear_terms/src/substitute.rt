@@ -9,12 +9,15 @@ use crate::total::Total;
 use crate::{Col, Mono, Poly, TermError, mul, scale};
 use std::alloc::Global;
 
-/// Each column replaced by the polynomial at its number: an entry column by one of `at`, an auxiliary by
-/// one of `aux`.
+/// Each column replaced by the polynomial at its number: an entry column by one of `at`, an
+/// auxiliary by one of `aux`.
 pub fn subst(alloc: Global, a: &Poly, at: &[Poly], aux: &[Poly]) -> Result<Poly, TermError>
     requires { All (λ t. All (HasPoly at.now aux.now) t.0) a.now.terms }
     ensures exact { Gives cause (λ p. p) result (substituted (put_in at.now aux.now) a.now) }
-    ensures value { (numbers : Valuation) → IfOk result (λ p. value_of numbers p ≡ value_of (λ c. value_of numbers (put_in at.now aux.now c)) a.now) }
+    ensures value { (numbers : Valuation)
+        → IfOk result
+        (λ p. value_of numbers p ≡ value_of (λ c. value_of numbers (put_in at.now aux.now c))
+        a.now) }
 {
     let made = substituted(alloc, a, at, aux)?;
     Ok(made)
@@ -40,8 +43,11 @@ fn add_replaced(
     aux: &[Poly],
 ) -> Result<(), TermError>
     requires { All (HasPoly at.now aux.now) term.now.0 }
-    ensures ok { OnOk result (add_substituted (put_in at.now aux.now) (term.now ∷ []) total.old ≡ Ok total.new) }
-    ensures err { IfErr result (λ e. FailsBy (cause e) (add_substituted (put_in at.now aux.now) (term.now ∷ []) total.old)) }
+    ensures ok { OnOk result (add_substituted (put_in at.now aux.now) (term.now ∷ []) total.old
+        ≡ Ok total.new) }
+    ensures err { IfErr result
+        (λ e. FailsBy (cause e)
+        (add_substituted (put_in at.now aux.now) (term.now ∷ []) total.old)) }
 {
     let made = replaced(alloc, term.0.columns(), term.1, at, aux)?;
     total.add(&made)
@@ -77,7 +83,8 @@ fn product_on(
 ) -> Result<Poly, TermError>
     requires some { 1 ≤ length columns.now }
     requires covered { All (HasPoly at.now aux.now) columns.now }
-    ensures { Gives cause (λ p. p) result (product_on (put_in at.now aux.now) first.now columns.now) }
+    ensures { Gives cause (λ p. p) result
+        (product_on (put_in at.now aux.now) first.now columns.now) }
 {
     let mut product = mul(alloc, first, put_in(columns[0], at, aux))?;
     for col in &columns[1..] {

@@ -16,7 +16,8 @@ use whole_numbers::sum;
 #[tactic(auto, using(crate::proofs::Values::sum_of_polys_value, crate::proofs::Canonical::canonical))]
 pub fn add(alloc: Global, a: &Poly, b: &Poly) -> Result<Poly, TermError>
     ensures exact { Gives cause (λ p. p) result (sum_of_polys a.now b.now) }
-    ensures value { (at : Valuation) → IfOk result (λ p. value_of at p ≡ value_of at a.now +ℤ value_of at b.now) }
+    ensures value { (at : Valuation)
+        → IfOk result (λ p. value_of at p ≡ value_of at a.now +ℤ value_of at b.now) }
     ensures no_degree { IfErr result (λ e. e ≢ Degree) }
 {
     let terms = merged(alloc, a.terms.as_slice(), b.terms.as_slice())?;

@@ -1,5 +1,5 @@
-//! How polynomials and rows are written where no names of columns are known: `x0` is an entry column, `$1` the first
-//! auxiliary.
+//! How polynomials and rows are written where no names of columns are known: `x0` is an entry
+//! column, `$1` the first auxiliary.
 ghost use Rattle.std.specs.Prelude.{◌++◌, codes, false, Some};
 ghost use Rattle.std.specs.List.{flat_map};
 ghost use Rattle.linear_terms.specs.Texts.{plain_name, mono_text, sign_text, term_text, constant_text, terms_text, rest_text, poly_text, relation_text, row_text};

@@ -60,8 +60,11 @@ impl Total {
         right: &[Col],
         other: &i128,
     ) -> Result<(), TermError>
-        ensures ok { OnOk result (add_product left.now number.now right.now other.now self.old ≡ Ok self.new) }
-        ensures err { IfErr result (λ e. FailsBy (cause e) (add_product left.now number.now right.now other.now self.old)) }
+        ensures ok { OnOk result (add_product left.now number.now right.now other.now self.old
+            ≡ Ok self.new) }
+        ensures err { IfErr result
+            (λ e. FailsBy (cause e)
+            (add_product left.now number.now right.now other.now self.old)) }
     {
         if is_above_degree(left, right) {
             return Err(TermError::Degree);
@@ -73,8 +76,11 @@ impl Total {
     /// Adds a term of the columns of two; of no columns it is the constant.
     fn put_product(&mut self, left: &[Col], right: &[Col], number: &i128) -> Result<(), TermError>
         requires { length left.now + length right.now ≤ 4 }
-        ensures ok { OnOk result (put_part (in_order (left.now ++ right.now)) number.now self.old ≡ Ok self.new) }
-        ensures err { IfErr result (λ e. FailsBy (cause e) (put_part (in_order (left.now ++ right.now)) number.now self.old)) }
+        ensures ok { OnOk result (put_part (in_order (left.now ++ right.now)) number.now self.old
+            ≡ Ok self.new) }
+        ensures err { IfErr result
+            (λ e. FailsBy (cause e)
+            (put_part (in_order (left.now ++ right.now)) number.now self.old)) }
     {
         if left.is_empty() && right.is_empty() {
             return self.add_constant(number);
@@ -96,7 +102,8 @@ impl Total {
     #[tactic(auto, using(crate::proofs::Lookups::put_term_is))]
     fn put(&mut self, term: &(Mono, i128)) -> Result<(), TermError>
         ensures ok { OnOk result (put_term term.now.0 term.now.1 self.old ≡ Ok self.new) }
-        ensures err { IfErr result (λ e. FailsBy (cause e) (put_term term.now.0 term.now.1 self.old)) }
+        ensures err { IfErr result
+            (λ e. FailsBy (cause e) (put_term term.now.0 term.now.1 self.old)) }
     {
         let term = added(self.coefficient(&term.0), term)?;
         self.store(term)?;
@@ -111,7 +118,11 @@ impl Total {
     }
 
     fn store(&mut self, term: (Mono, i128)) -> Result<(), AllocError>
-        ensures { OnOk result (self.new ≡ record { terms = stored term.0 term.1 self.old.terms; rest = self.old.rest }) }
+        ensures { OnOk result
+            (self.new ≡ record {
+              terms = stored term.0 term.1 self.old.terms;
+              rest = self.old.rest;
+            }) }
     {
         if term.1 == 0 {
             self.terms.remove(&term.0);

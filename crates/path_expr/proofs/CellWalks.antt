@@ -105,7 +105,8 @@ module _ (source : ℕ) where
       either later = cond_both (fits_both l i j) (number ∷ links_between source (number + 1) ls i j) (links_between source (number + 1) ls i j)
           (λ xs. Among (number + suc at) xs) (λ _. inr later) (λ _. later)
 
--- the cell for p and n, when each place above n is eliminated: walks from p to n that keep above n between them
+-- the cell for p and n, when each place above n is eliminated: walks from p to n that keep above n
+-- between them
 module _ (links : List Link) (source nodes : ℕ) (bounded : (k i j : ℕ) → Joins source links k i j → j < nodes) where
   abbrev pub Step : ℕ → ℕ → ℕ → Type 0
   Step k i j = Joins source links k i j

@@ -1,4 +1,5 @@
--- What the next way, and the next arrival, are made from: what was known before the algebra was used is still known.
+-- What the next way, and the next arrival, are made from: what was known before the algebra was
+-- used is still known.
 use Rattle.std.proofs.Common.{◌≡◌, ℕ, ◌<◌, ◌≤◌, List, length, get_or, Option, Some, refl, sym, subst, arith}
 use Rattle.std.specs.Prelude.{slice_get}
 use Rattle.std.proofs.lemmas.Option.{slice_get_read}

@@ -1,7 +1,7 @@
 -- The stated elimination (Tarjan 1981): which path expression stands at each node.
 --
--- Nodes go by their places: the source has place 0, the others follow in their order. A table has a cell for each two
--- places, and its last place is eliminated first.
+-- Nodes go by their places: the source has place 0, the others follow in their order. A table has a
+-- cell for each two places, and its last place is eliminated first.
 use Rattle.std.specs.Prelude.{ℕ, zero, suc, ◌+◌, ◌-◌, ◌==◌, ◌&&◌, nat_lt, List, Bool, [], ◌∷◌, ◌++◌, if◌then◌else◌}
 use Rattle.path_expr.specs.declared.link.Link.{Link}
 use Rattle.path_expr.specs.PathExpr.{PathExpr, Zero, Edge, seq_of, join_of, star_of}
@@ -18,7 +18,8 @@ Table = ℕ → ℕ → PathExpr
 abbrev pub joins : ℕ → Link → ℕ → ℕ → Bool
 joins source link i j = place_of source link.from == i && place_of source link.to == j
 
--- the numbers, in order, of the links that lead from place i to place j, where these links are numbered from `number` on
+-- the numbers, in order, of the links that lead from place i to place j, where these links are
+-- numbered from `number` on
 abbrev pub links_between : ℕ → ℕ → List Link → ℕ → ℕ → List ℕ
 links_between source number [] i j = []
 links_between source number (link ∷ links) i j =
@@ -31,11 +32,13 @@ abbrev pub joined : PathExpr → List ℕ → PathExpr
 joined path [] = path
 joined path (number ∷ numbers) = joined (join_of path (Edge number)) numbers
 
--- the table at the beginning: a cell is the join of the links that lead from its one place to the other
+-- the table at the beginning: a cell is the join of the links that lead from its one place to the
+-- other
 unfoldable pub first_table : List Link → ℕ → Table
 first_table links source i j = joined Zero (links_between source 0 links i j)
 
--- the table after place n is eliminated: below n, a path may now lead through n, where it may turn at will
+-- the table after place n is eliminated: below n, a path may now lead through n, where it may turn
+-- at will
 unfoldable pub eliminated : ℕ → Table → Table
 eliminated n cells i j =
     (if nat_lt i n && nat_lt j n
@@ -45,18 +48,20 @@ eliminated n cells i j =
 -- the table after the last `count` places are eliminated, the last one first
 abbrev pub table_after : ℕ → List Link → ℕ → ℕ → Table
 table_after nodes links source zero = first_table links source
-table_after nodes links source (suc count) = eliminated (nodes - suc count) (table_after nodes links source count)
+table_after nodes links source (suc count) =
+    eliminated (nodes - suc count) (table_after nodes links source count)
 
 -- the table after all places but the source's are eliminated
 abbrev pub last_table : ℕ → List Link → ℕ → Table
 last_table nodes links source = table_after nodes links source (nodes - 1)
 
--- the joins, put behind a path, of the ways to place n: the way to a place below it, from p on, the cell from there to n,
--- and turns at n
+-- the joins, put behind a path, of the ways to place n: the way to a place below it, from p on, the
+-- cell from there to n, and turns at n
 abbrev pub arrivals : Table → ℕ → List PathExpr → ℕ → PathExpr → PathExpr
 arrivals cells n [] p path = path
 arrivals cells n (way ∷ ways) p path =
-    arrivals cells n ways (p + 1) (join_of path (seq_of (seq_of way (cells p n)) (star_of (cells n n))))
+    arrivals cells n ways (p + 1)
+    (join_of path (seq_of (seq_of way (cells p n)) (star_of (cells n n))))
 
 -- the way from the source to place n, from the ways to the places below it
 abbrev pub way_from : Table → ℕ → List PathExpr → PathExpr

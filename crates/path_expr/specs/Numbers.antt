@@ -21,12 +21,17 @@ abbrev pub joins_at : Rows (List ℕ) → ℕ → ℕ → List PathExpr
 joins_at numbers i j = join_operations Zero (numbers_at numbers i j)
 
 -- each of these links has its item, from the one node to the other
-pub record HaveItems {A T : Type 0} (fits : A → PathExpr → T → Type 0) (spans : A → T → ℕ → ℕ → Type 0)
+pub record HaveItems {A T : Type 0} (fits : A → PathExpr → T → Type 0) (spans : A → T → ℕ → ℕ
+    → Type 0)
     (algebra : A) (items : List T) (numbers : List ℕ) (from to : ℕ) : Type 0 where
   pub at : (k number : ℕ) → slice_get numbers k ≡ Some number →
-      (item : T) × (slice_get items number ≡ Some item) × IsItem fits spans algebra (Edge number) item from to
+      (item : T) × (slice_get items number ≡ Some item) × IsItem fits spans algebra (Edge number)
+      item from to
 
 -- so have all links
-pub record AllHaveItems {A T : Type 0} (fits : A → PathExpr → T → Type 0) (spans : A → T → ℕ → ℕ → Type 0) (source : ℕ)
+pub record AllHaveItems {A T : Type 0} (fits : A → PathExpr → T → Type 0) (spans : A → T → ℕ → ℕ
+    → Type 0) (source : ℕ)
     (algebra : A) (items : List T) (numbers : Rows (List ℕ)) : Type 0 where
-  pub at : (i j : ℕ) → HaveItems fits spans algebra items (numbers_at numbers i j) (node_at source i) (node_at source j)
+  pub at : (i j : ℕ)
+      → HaveItems fits spans algebra items (numbers_at numbers i j) (node_at source i)
+      (node_at source j)

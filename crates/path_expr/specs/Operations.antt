@@ -1,4 +1,5 @@
--- The operations of the stated elimination, each once and in their order. An operation with an operand Zero or One is none.
+-- The operations of the stated elimination, each once and in their order. An operation with an
+-- operand Zero or One is none.
 use Rattle.std.specs.Prelude.{ℕ, zero, suc, ◌+◌, ◌-◌, List, [], ◌∷◌, ◌++◌, length, Bool, true, false, ◌&&◌, if◌then◌else◌}
 use Rattle.path_expr.specs.declared.link.Link.{Link}
 use Rattle.path_expr.specs.PathExpr.{PathExpr, Zero, One, Edge, Seq, Join, Star, seq_of, join_of, star_of}
@@ -28,7 +29,8 @@ below operations_at (suc n) = below operations_at n ++ operations_at n
 -- the joins of a path and of links, from the left
 abbrev pub join_operations : PathExpr → List ℕ → List PathExpr
 join_operations path [] = []
-join_operations path (number ∷ numbers) = join_operation path (Edge number) ++ join_operations (join_of path (Edge number)) numbers
+join_operations path (number ∷ numbers) = join_operation path (Edge number) ++ join_operations
+    (join_of path (Edge number)) numbers
 
 -- the joins that begin the cells of a row
 unfoldable pub first_row_operations : ℕ → List Link → ℕ → ℕ → List PathExpr
@@ -43,7 +45,8 @@ cell_operations cells n i j =
 
 -- the operations at the cells of row i
 unfoldable pub row_operations : Table → ℕ → ℕ → List PathExpr
-row_operations cells n i = seq_operation (cells i n) (star_of (cells n n)) ++ below (cell_operations cells n i) n
+row_operations cells n i = seq_operation (cells i n) (star_of (cells n n))
+    ++ below (cell_operations cells n i) n
 
 -- the operations at all cells
 unfoldable pub place_operations : Table → ℕ → List PathExpr
@@ -53,27 +56,32 @@ place_operations cells n = star_operation (cells n n) ++ below (row_operations c
 abbrev pub eliminations : ℕ → List Link → ℕ → ℕ → List PathExpr
 eliminations nodes links source zero = []
 eliminations nodes links source (suc count) =
-    eliminations nodes links source count ++ place_operations (table_after nodes links source count) (nodes - suc count)
+    eliminations nodes links source count ++ place_operations (table_after nodes links source count)
+    (nodes - suc count)
 
 -- the operations that put the way over place p behind a path to place n
 unfoldable pub arrival_operations : Table → ℕ → PathExpr → ℕ → PathExpr → List PathExpr
 arrival_operations cells n way p path =
     let up = seq_of way (cells p n) in
-    seq_operation way (cells p n) ++ (seq_operation up (star_of (cells n n)) ++ join_operation path (seq_of up (star_of (cells n n))))
+    seq_operation way (cells p n)
+    ++ (seq_operation up (star_of (cells n n)) ++ join_operation path
+    (seq_of up (star_of (cells n n))))
 
 -- the operations of `arrivals`
 abbrev pub arrivals_operations : Table → ℕ → List PathExpr → ℕ → PathExpr → List PathExpr
 arrivals_operations cells n [] p path = []
 arrivals_operations cells n (way ∷ ways) p path =
     arrival_operations cells n way p path
-    ++ arrivals_operations cells n ways (p + 1) (join_of path (seq_of (seq_of way (cells p n)) (star_of (cells n n))))
+    ++ arrivals_operations cells n ways (p + 1)
+    (join_of path (seq_of (seq_of way (cells p n)) (star_of (cells n n))))
 
 -- the operations of the way to place n
 abbrev pub way_operations : Table → ℕ → List PathExpr
 way_operations cells zero = star_operation (cells 0 0)
 way_operations cells (suc n) = arrivals_operations cells (suc n) (ways cells (suc n)) 0 Zero
 
--- all operations: the edges, the joins that begin the cells, the eliminations from the last place down, and the ways
+-- all operations: the edges, the joins that begin the cells, the eliminations from the last place
+-- down, and the ways
 unfoldable pub operations : ℕ → List Link → ℕ → List PathExpr
 operations nodes links source =
     below (λ number. Edge number ∷ []) (length links)

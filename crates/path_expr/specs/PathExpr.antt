@@ -2,7 +2,8 @@
 use Rattle.std.specs.Prelude.{◌≡◌, ℕ, List, [], ◌∷◌, ◌++◌, All, ◌⊎◌}
 use Rattle.std.specs.List.{concat}
 
--- no path, the empty path alone, one link, one path and then another, either of two, and any number of turns of one
+-- no path, the empty path alone, one link, one path and then another, either of two, and any number
+-- of turns of one
 pub data PathExpr : Type 0 where
   Zero : PathExpr
   One : PathExpr
@@ -17,9 +18,11 @@ InLanguage Zero word = ⊥
 InLanguage One word = word ≡ []
 InLanguage (Edge number) word = word ≡ number ∷ []
 InLanguage (Seq first second) word =
-    (front : List ℕ) × (back : List ℕ) × (word ≡ front ++ back) × InLanguage first front × InLanguage second back
+    (front : List ℕ) × (back : List ℕ) × (word ≡ front ++ back) × InLanguage first front
+    × InLanguage second back
 InLanguage (Join left right) word = InLanguage left word ⊎ InLanguage right word
-InLanguage (Star turn) word = (turns : List (List ℕ)) × (word ≡ concat turns) × All (InLanguage turn) turns
+InLanguage (Star turn) word = (turns : List (List ℕ)) × (word ≡ concat turns)
+    × All (InLanguage turn) turns
 
 -- one path and then another, where no operation is spent on Zero and One
 abbrev pub seq_of : PathExpr → PathExpr → PathExpr

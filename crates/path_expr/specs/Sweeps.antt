@@ -16,9 +16,11 @@ row_written cells i j row a b = if a == i && nat_lt b j then row b else cells a 
 abbrev pub rows_written : Table → ℕ → Table → Table
 rows_written cells i other a b = if nat_lt a i then other a b else cells a b
 
--- the operations where a way to place n goes on by the cell for n and j, and is joined to the cell for i and j
+-- the operations where a way to place n goes on by the cell for n and j, and is joined to the cell
+-- for i and j
 abbrev pub step_operations : Table → PathExpr → ℕ → ℕ → ℕ → List PathExpr
-step_operations cells way n i j = seq_operation way (cells n j) ++ join_operation (cells i j) (seq_of way (cells n j))
+step_operations cells way n i j = seq_operation way (cells n j) ++ join_operation (cells i j)
+    (seq_of way (cells n j))
 
 -- the table when a way to place n went on to the columns below j, in row i
 abbrev pub swept : Table → PathExpr → ℕ → ℕ → ℕ → Table

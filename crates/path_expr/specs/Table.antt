@@ -21,7 +21,8 @@ row_count rows = length rows.maps.items
 -- the first place at or after `from` and below `end` that holds something, if there is one
 abbrev pub IsNext : {T : Type 0} → (ℕ → Option T) → ℕ → ℕ → Option ℕ → Type 0
 IsNext at from end None = (k : ℕ) → from ≤ k → k < end → at k ≡ None
-IsNext at from end (Some next) = (from ≤ next) × (next < end) × IsSome (at next) × ((k : ℕ) → from ≤ k → k < next → at k ≡ None)
+IsNext at from end (Some next) = (from ≤ next) × (next < end) × IsSome (at next)
+    × ((k : ℕ) → from ≤ k → k < next → at k ≡ None)
 
 -- the cell for places i and j
 unfoldable pub cell : {T : Type 0} → Table T → ℕ → ℕ → Option T

@@ -6,7 +6,8 @@ use Rattle.path_expr.specs.declared.link.Link.{Link}
 abbrev pub Leads : List Link → ℕ → ℕ → ℕ → Type 0
 Leads links number from to = slice_get links number ≡ Some (record { from = from; to = to })
 
--- the links with these numbers lead one after the other from a node to a node; nodes and links may come again
+-- the links with these numbers lead one after the other from a node to a node; nodes and links may
+-- come again
 abbrev pub IsWalk : List Link → ℕ → ℕ → List ℕ → Type 0
 IsWalk links from to [] = from ≡ to
 IsWalk links from to (number ∷ numbers) =

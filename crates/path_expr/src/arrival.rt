@@ -21,10 +21,14 @@ fn through_path<A: Algebra>(
     step: &A::Item,
     turn: &Option<A::Item>,
 ) -> Result<A::Item, ReachError<A::Fault>>
-    requires { (w : PathExpr) × (p : PathExpr) × (q : PathExpr) × (from : ℕ) × (at : ℕ) × (to : ℕ) × IsItem A.fits A.spans algebra.old w path.now from at
-        × IsItem A.fits A.spans algebra.old p step.now at to × IsItemOrOne A.fits A.spans algebra.old q turn.now to }
-    ensures made { (w p q : PathExpr) (from at to : ℕ) → IsItem A.fits A.spans algebra.old w path.now from at →
-        IsItem A.fits A.spans algebra.old p step.now at to → IsItemOrOne A.fits A.spans algebra.old q turn.now to →
+    requires { (w : PathExpr) × (p : PathExpr) × (q : PathExpr) × (from : ℕ) × (at : ℕ) × (to : ℕ)
+        × IsItem A.fits A.spans algebra.old w path.now from at
+        × IsItem A.fits A.spans algebra.old p step.now at to
+        × IsItemOrOne A.fits A.spans algebra.old q turn.now to }
+    ensures made { (w p q : PathExpr) (from at to : ℕ)
+        → IsItem A.fits A.spans algebra.old w path.now from at →
+        IsItem A.fits A.spans algebra.old p step.now at to
+        → IsItemOrOne A.fits A.spans algebra.old q turn.now to →
         Makes A.fits A.spans A.ends A.is_memory A.faults A.made A.stopped algebra.old algebra.new
         (seq_operation w p ++ seq_operation (seq_of w p) q) result
         (λ item. IsItem A.fits A.spans algebra.new (seq_of (seq_of w p) q) item from to) }
@@ -41,10 +45,14 @@ fn through<A: Algebra>(
     step: &A::Item,
     turn: &Option<A::Item>,
 ) -> Result<Option<A::Item>, ReachError<A::Fault>>
-    requires { (w : PathExpr) × (p : PathExpr) × (q : PathExpr) × (from : ℕ) × (at : ℕ) × (to : ℕ) × IsWay A.fits A.spans algebra.old w way.now from at
-        × IsItem A.fits A.spans algebra.old p step.now at to × IsItemOrOne A.fits A.spans algebra.old q turn.now to }
-    ensures made { (w p q : PathExpr) (from at to : ℕ) → IsWay A.fits A.spans algebra.old w way.now from at →
-        IsItem A.fits A.spans algebra.old p step.now at to → IsItemOrOne A.fits A.spans algebra.old q turn.now to →
+    requires { (w : PathExpr) × (p : PathExpr) × (q : PathExpr) × (from : ℕ) × (at : ℕ) × (to : ℕ)
+        × IsWay A.fits A.spans algebra.old w way.now from at
+        × IsItem A.fits A.spans algebra.old p step.now at to
+        × IsItemOrOne A.fits A.spans algebra.old q turn.now to }
+    ensures made { (w p q : PathExpr) (from at to : ℕ)
+        → IsWay A.fits A.spans algebra.old w way.now from at →
+        IsItem A.fits A.spans algebra.old p step.now at to
+        → IsItemOrOne A.fits A.spans algebra.old q turn.now to →
         Makes A.fits A.spans A.ends A.is_memory A.faults A.made A.stopped algebra.old algebra.new
         (seq_operation w p ++ seq_operation (seq_of w p) q) result
         (λ path. IsItemOrZero A.fits A.spans algebra.new (seq_of (seq_of w p) q) path from to) }
@@ -73,16 +81,21 @@ fn arrive_by<A: Algebra>(
     p: u32,
     n: u32,
 ) -> Result<Option<A::Item>, ReachError<A::Fault>>
-    requires { (source : ℕ) × (f : ℕ → ℕ → PathExpr) × (w : PathExpr) × (b : PathExpr) × HoldsAll A.fits A.spans source algebra.old f table.now
+    requires { (source : ℕ) × (f : ℕ → ℕ → PathExpr) × (w : PathExpr) × (b : PathExpr)
+        × HoldsAll A.fits A.spans source algebra.old f table.now
         × IsWay A.fits A.spans algebra.old w way.now (node_at source 0) (node_at source p)
         × IsItemOrOne A.fits A.spans algebra.old (star_of (f n n)) turn.now (node_at source n)
         × IsItemOrZero A.fits A.spans algebra.old b before (node_at source 0) (node_at source n) }
-    ensures made { (source : ℕ) (f : ℕ → ℕ → PathExpr) (w b : PathExpr) → HoldsAll A.fits A.spans source algebra.old f table.now →
+    ensures made { (source : ℕ) (f : ℕ → ℕ → PathExpr) (w b : PathExpr)
+        → HoldsAll A.fits A.spans source algebra.old f table.now →
         IsWay A.fits A.spans algebra.old w way.now (node_at source 0) (node_at source p) →
         IsItemOrOne A.fits A.spans algebra.old (star_of (f n n)) turn.now (node_at source n) →
         IsItemOrZero A.fits A.spans algebra.old b before (node_at source 0) (node_at source n) →
-        Makes A.fits A.spans A.ends A.is_memory A.faults A.made A.stopped algebra.old algebra.new (arrival_operations f n w p b) result
-        (λ path. IsItemOrZero A.fits A.spans algebra.new (join_of b (seq_of (seq_of w (f p n)) (star_of (f n n)))) path (node_at source 0) (node_at source n)) }
+        Makes A.fits A.spans A.ends A.is_memory A.faults A.made A.stopped algebra.old algebra.new
+        (arrival_operations f n w p b) result
+        (λ path. IsItemOrZero A.fits A.spans algebra.new
+        (join_of b (seq_of (seq_of w (f p n)) (star_of (f n n)))) path (node_at source 0)
+        (node_at source n)) }
 {
     let Some(step) = table.get(p, n) else {
         return Ok(before);
@@ -101,14 +114,18 @@ fn arrive<A: Algebra>(
     n: u32,
 ) -> Result<Option<A::Item>, ReachError<A::Fault>>
     requires below { length found.now ≡ n }
-    requires holds { (source : ℕ) × (f : ℕ → ℕ → PathExpr) × HoldsAll A.fits A.spans source algebra.old f table.now
+    requires holds { (source : ℕ) × (f : ℕ → ℕ → PathExpr)
+        × HoldsAll A.fits A.spans source algebra.old f table.now
         × AreWays A.fits A.spans source algebra.old (way_at f) found.now
         × IsItemOrOne A.fits A.spans algebra.old (star_of (f n n)) turn.now (node_at source n) }
-    ensures made { (source : ℕ) (f : ℕ → ℕ → PathExpr) → HoldsAll A.fits A.spans source algebra.old f table.now →
+    ensures made { (source : ℕ) (f : ℕ → ℕ → PathExpr)
+        → HoldsAll A.fits A.spans source algebra.old f table.now →
         AreWays A.fits A.spans source algebra.old (way_at f) found.now →
         IsItemOrOne A.fits A.spans algebra.old (star_of (f n n)) turn.now (node_at source n) →
-        Makes A.fits A.spans A.ends A.is_memory A.faults A.made A.stopped algebra.old algebra.new (arrivals_operations f n (ways f n) 0 Zero) result
-        (λ path. IsItemOrZero A.fits A.spans algebra.new (arrivals f n (ways f n) 0 Zero) path (node_at source 0) (node_at source n)) }
+        Makes A.fits A.spans A.ends A.is_memory A.faults A.made A.stopped algebra.old algebra.new
+        (arrivals_operations f n (ways f n) 0 Zero) result
+        (λ path. IsItemOrZero A.fits A.spans algebra.new (arrivals f n (ways f n) 0 Zero) path
+        (node_at source 0) (node_at source n)) }
 {
     let mut total = None;
     let mut from = 0;
@@ -130,15 +147,21 @@ fn later_way<A: Algebra>(
 ) -> Result<Cell<A::Item>, ReachError<A::Fault>>
     requires later { 0 < n }
     requires below { length found.now ≡ n }
-    requires holds { (source : ℕ) × (f : ℕ → ℕ → PathExpr) × HoldsAll A.fits A.spans source algebra.old f table.now
+    requires holds { (source : ℕ) × (f : ℕ → ℕ → PathExpr)
+        × HoldsAll A.fits A.spans source algebra.old f table.now
         × AreWays A.fits A.spans source algebra.old (way_at f) found.now
-        × IsItemOrOne A.fits A.spans algebra.old (star_of (f n n)) (cell stars.old n n) (node_at source n) }
+        × IsItemOrOne A.fits A.spans algebra.old (star_of (f n n)) (cell stars.old n n)
+        (node_at source n) }
     ensures others { (m : ℕ) → m ≢ n → cell stars.new m m ≡ cell stars.old m m }
-    ensures made { (source : ℕ) (f : ℕ → ℕ → PathExpr) → HoldsAll A.fits A.spans source algebra.old f table.now →
+    ensures made { (source : ℕ) (f : ℕ → ℕ → PathExpr)
+        → HoldsAll A.fits A.spans source algebra.old f table.now →
         AreWays A.fits A.spans source algebra.old (way_at f) found.now →
-        IsItemOrOne A.fits A.spans algebra.old (star_of (f n n)) (cell stars.old n n) (node_at source n) →
-        Makes A.fits A.spans A.ends A.is_memory A.faults A.made A.stopped algebra.old algebra.new (arrivals_operations f n (ways f n) 0 Zero) result
-        (λ way. IsWay A.fits A.spans algebra.new (arrivals f n (ways f n) 0 Zero) way (node_at source 0) (node_at source n)) }
+        IsItemOrOne A.fits A.spans algebra.old (star_of (f n n)) (cell stars.old n n)
+        (node_at source n) →
+        Makes A.fits A.spans A.ends A.is_memory A.faults A.made A.stopped algebra.old algebra.new
+        (arrivals_operations f n (ways f n) 0 Zero) result
+        (λ way. IsWay A.fits A.spans algebra.new (arrivals f n (ways f n) 0 Zero) way
+        (node_at source 0) (node_at source n)) }
 {
     let turn = stars.take(n, n);
     match arrive(alloc, algebra, table, found, &turn, n) {
@@ -154,10 +177,14 @@ fn first_way<A: Algebra>(
     algebra: &mut A,
     table: &Table<A::Item>,
 ) -> Result<Cell<A::Item>, ReachError<A::Fault>>
-    requires { (source : ℕ) × (f : ℕ → ℕ → PathExpr) × HoldsAll A.fits A.spans source algebra.old f table.now }
-    ensures made { (source : ℕ) (f : ℕ → ℕ → PathExpr) → HoldsAll A.fits A.spans source algebra.old f table.now →
-        Makes A.fits A.spans A.ends A.is_memory A.faults A.made A.stopped algebra.old algebra.new (way_operations f 0) result
-        (λ way. IsWay A.fits A.spans algebra.new (way_at f 0) way (node_at source 0) (node_at source 0)) }
+    requires { (source : ℕ) × (f : ℕ → ℕ → PathExpr) × HoldsAll A.fits A.spans source algebra.old f
+        table.now }
+    ensures made { (source : ℕ) (f : ℕ → ℕ → PathExpr)
+        → HoldsAll A.fits A.spans source algebra.old f table.now →
+        Makes A.fits A.spans A.ends A.is_memory A.faults A.made A.stopped algebra.old algebra.new
+        (way_operations f 0) result
+        (λ way. IsWay A.fits A.spans algebra.new (way_at f 0) way (node_at source 0)
+        (node_at source 0)) }
 {
     match turns(alloc, algebra, table, 0) {
         Ok(Some(turn)) => Ok(Cell::Item(turn)),
@@ -176,15 +203,21 @@ fn way<A: Algebra>(
     n: u32,
 ) -> Result<Cell<A::Item>, ReachError<A::Fault>>
     requires below { length found.now ≡ n }
-    requires holds { (source : ℕ) × (f : ℕ → ℕ → PathExpr) × HoldsAll A.fits A.spans source algebra.old f table.now
+    requires holds { (source : ℕ) × (f : ℕ → ℕ → PathExpr)
+        × HoldsAll A.fits A.spans source algebra.old f table.now
         × AreWays A.fits A.spans source algebra.old (way_at f) found.now
-        × (0 < n → IsItemOrOne A.fits A.spans algebra.old (star_of (f n n)) (cell stars.old n n) (node_at source n)) }
+        × (0 < n → IsItemOrOne A.fits A.spans algebra.old (star_of (f n n)) (cell stars.old n n)
+        (node_at source n)) }
     ensures others { (m : ℕ) → m ≢ n → cell stars.new m m ≡ cell stars.old m m }
-    ensures made { (source : ℕ) (f : ℕ → ℕ → PathExpr) → HoldsAll A.fits A.spans source algebra.old f table.now →
+    ensures made { (source : ℕ) (f : ℕ → ℕ → PathExpr)
+        → HoldsAll A.fits A.spans source algebra.old f table.now →
         AreWays A.fits A.spans source algebra.old (way_at f) found.now →
-        (0 < n → IsItemOrOne A.fits A.spans algebra.old (star_of (f n n)) (cell stars.old n n) (node_at source n)) →
-        Makes A.fits A.spans A.ends A.is_memory A.faults A.made A.stopped algebra.old algebra.new (way_operations f n) result
-        (λ way. IsWay A.fits A.spans algebra.new (way_at f n) way (node_at source 0) (node_at source n)) }
+        (0 < n → IsItemOrOne A.fits A.spans algebra.old (star_of (f n n)) (cell stars.old n n)
+        (node_at source n)) →
+        Makes A.fits A.spans A.ends A.is_memory A.faults A.made A.stopped algebra.old algebra.new
+        (way_operations f n) result
+        (λ way. IsWay A.fits A.spans algebra.new (way_at f n) way (node_at source 0)
+        (node_at source n)) }
 {
     if n == 0 {
         first_way(alloc, algebra, table)
@@ -201,12 +234,19 @@ pub(crate) fn find_ways<A: Algebra>(
     stars: &mut Table<A::Item>,
     nodes: u32,
 ) -> Result<Vec<Cell<A::Item>>, ReachError<A::Fault>>
-    requires { (source : ℕ) × (f : ℕ → ℕ → PathExpr) × HoldsAll A.fits A.spans source algebra.old f table.now
-        × ((m : ℕ) → 0 < m → m < nodes → IsItemOrOne A.fits A.spans algebra.old (star_of (f m m)) (cell stars.old m m) (node_at source m)) }
+    requires { (source : ℕ) × (f : ℕ → ℕ → PathExpr) × HoldsAll A.fits A.spans source algebra.old f
+        table.now
+        × ((m : ℕ) → 0 < m → m < nodes
+        → IsItemOrOne A.fits A.spans algebra.old (star_of (f m m)) (cell stars.old m m)
+        (node_at source m)) }
     ensures length { IfOk result (λ found. length found.items ≡ nodes) }
-    ensures made { (source : ℕ) (f : ℕ → ℕ → PathExpr) → HoldsAll A.fits A.spans source algebra.old f table.now →
-        ((m : ℕ) → 0 < m → m < nodes → IsItemOrOne A.fits A.spans algebra.old (star_of (f m m)) (cell stars.old m m) (node_at source m)) →
-        Makes A.fits A.spans A.ends A.is_memory A.faults A.made A.stopped algebra.old algebra.new (below (way_operations f) nodes) result
+    ensures made { (source : ℕ) (f : ℕ → ℕ → PathExpr)
+        → HoldsAll A.fits A.spans source algebra.old f table.now →
+        ((m : ℕ) → 0 < m → m < nodes
+        → IsItemOrOne A.fits A.spans algebra.old (star_of (f m m)) (cell stars.old m m)
+        (node_at source m)) →
+        Makes A.fits A.spans A.ends A.is_memory A.faults A.made A.stopped algebra.old algebra.new
+        (below (way_operations f) nodes) result
         (λ found. AreWays A.fits A.spans source algebra.new (way_at f) found.items) }
 {
     let mut found = Vec::new(alloc);

@@ -27,10 +27,13 @@ pub(crate) fn edges<A: Algebra>(
     links: &[Link],
 ) -> Result<Vec<A::Item>, ReachError<A::Fault>>
     requires count { length links.now < 2 ^ 32 }
-    requires ends { (k : ℕ) (l : SpecLink) → slice_get links.now k ≡ Some l → A.ends algebra.old k l.from l.to }
+    requires ends { (k : ℕ) (l : SpecLink) → slice_get links.now k ≡ Some l
+        → A.ends algebra.old k l.from l.to }
     ensures length { IfOk result (λ items. length items.items ≡ length links.now) }
-    ensures made { Makes A.fits A.spans A.ends A.is_memory A.faults A.made A.stopped algebra.old algebra.new
-        (below (λ number. Edge number ∷ []) (length links.now)) result (λ items. AreEdges A.fits A.spans algebra.new links.now items.items) }
+    ensures made { Makes A.fits A.spans A.ends A.is_memory A.faults A.made A.stopped algebra.old
+        algebra.new
+        (below (λ number. Edge number ∷ []) (length links.now)) result
+        (λ items. AreEdges A.fits A.spans algebra.new links.now items.items) }
 {
     let mut items = Vec::new(alloc);
     for number in 0..links.len() {
@@ -47,12 +50,15 @@ fn join_link<A: Algebra>(
     before: Option<A::Item>,
     link: &A::Item,
 ) -> Result<A::Item, ReachError<A::Fault>>
-    requires { (p : PathExpr) × (q : PathExpr) × (from : ℕ) × (to : ℕ) × IsItemOrZero A.fits A.spans algebra.old p before from to
+    requires { (p : PathExpr) × (q : PathExpr) × (from : ℕ) × (to : ℕ)
+        × IsItemOrZero A.fits A.spans algebra.old p before from to
         × IsItem A.fits A.spans algebra.old q link.now from to }
-    ensures made { (p q : PathExpr) (from to : ℕ) → IsItemOrZero A.fits A.spans algebra.old p before from to →
+    ensures made { (p q : PathExpr) (from to : ℕ)
+        → IsItemOrZero A.fits A.spans algebra.old p before from to →
         IsItem A.fits A.spans algebra.old q link.now from to →
         Makes A.fits A.spans A.ends A.is_memory A.faults A.made A.stopped algebra.old algebra.new
-        (join_operation p q) result (λ item. IsItem A.fits A.spans algebra.new (join_of p q) item from to) }
+        (join_operation p q) result
+        (λ item. IsItem A.fits A.spans algebra.new (join_of p q) item from to) }
 {
     let link = copy(alloc, algebra, link)?;
     join_onto(alloc, algebra, before, link)
@@ -65,10 +71,13 @@ fn first_cell<A: Algebra>(
     items: &[A::Item],
     numbers: &[u32],
 ) -> Result<Option<A::Item>, ReachError<A::Fault>>
-    requires { (from : ℕ) × (to : ℕ) × HaveItems A.fits A.spans algebra.old items.now numbers.now from to }
-    ensures made { (from to : ℕ) → HaveItems A.fits A.spans algebra.old items.now numbers.now from to →
+    requires { (from : ℕ) × (to : ℕ) × HaveItems A.fits A.spans algebra.old items.now numbers.now
+        from to }
+    ensures made { (from to : ℕ)
+        → HaveItems A.fits A.spans algebra.old items.now numbers.now from to →
         Makes A.fits A.spans A.ends A.is_memory A.faults A.made A.stopped algebra.old algebra.new
-        (join_operations Zero numbers.now) result (λ path. IsItemOrZero A.fits A.spans algebra.new (joined Zero numbers.now) path from to) }
+        (join_operations Zero numbers.now) result
+        (λ path. IsItemOrZero A.fits A.spans algebra.new (joined Zero numbers.now) path from to) }
 {
     let mut total = None;
     for number in numbers {
@@ -90,12 +99,16 @@ fn begin_cell<A: Algebra>(
 ) -> Result<(), ReachError<A::Fault>>
     requires from { i < place_count table.old }
     requires to { j < place_count table.old }
-    requires links { (source : ℕ) × AllHaveItems A.fits A.spans source algebra.old items.now numbers.now }
+    requires links { (source : ℕ) × AllHaveItems A.fits A.spans source algebra.old items.now
+        numbers.now }
     ensures places { place_count table.new ≡ place_count table.old }
-    ensures made { (source : ℕ) (f : ℕ → ℕ → PathExpr) → AllHaveItems A.fits A.spans source algebra.old items.now numbers.now →
+    ensures made { (source : ℕ) (f : ℕ → ℕ → PathExpr)
+        → AllHaveItems A.fits A.spans source algebra.old items.now numbers.now →
         HoldsAll A.fits A.spans source algebra.old f table.old → f i j ≡ Zero →
-        Makes A.fits A.spans A.ends A.is_memory A.faults A.made A.stopped algebra.old algebra.new (joins_at numbers.now i j) result
-        (λ _. HoldsAll A.fits A.spans source algebra.new (written f i j (joined_at numbers.now i j)) table.new) }
+        Makes A.fits A.spans A.ends A.is_memory A.faults A.made A.stopped algebra.old algebra.new
+        (joins_at numbers.now i j) result
+        (λ _. HoldsAll A.fits A.spans source algebra.new (written f i j (joined_at numbers.now i j))
+        table.new) }
 {
     let Some(these) = numbers.get(i, j) else {
         return Ok(());
@@ -120,13 +133,17 @@ fn begin_row<A: Algebra>(
 ) -> Result<(), ReachError<A::Fault>>
     requires row { i < nodes }
     requires places { place_count table.old ≡ nodes }
-    requires holds { (source : ℕ) × (f : ℕ → ℕ → PathExpr) × AllHaveItems A.fits A.spans source algebra.old items.now numbers.now
+    requires holds { (source : ℕ) × (f : ℕ → ℕ → PathExpr)
+        × AllHaveItems A.fits A.spans source algebra.old items.now numbers.now
         × HoldsAll A.fits A.spans source algebra.old f table.old × ((j : ℕ) → f i j ≡ Zero) }
     ensures places { place_count table.new ≡ place_count table.old }
-    ensures made { (source : ℕ) (f : ℕ → ℕ → PathExpr) → AllHaveItems A.fits A.spans source algebra.old items.now numbers.now →
+    ensures made { (source : ℕ) (f : ℕ → ℕ → PathExpr)
+        → AllHaveItems A.fits A.spans source algebra.old items.now numbers.now →
         HoldsAll A.fits A.spans source algebra.old f table.old → ((j : ℕ) → f i j ≡ Zero) →
-        Makes A.fits A.spans A.ends A.is_memory A.faults A.made A.stopped algebra.old algebra.new (below (joins_at numbers.now i) nodes) result
-        (λ _. HoldsAll A.fits A.spans source algebra.new (row_written f i nodes (joined_at numbers.now i)) table.new) }
+        Makes A.fits A.spans A.ends A.is_memory A.faults A.made A.stopped algebra.old algebra.new
+        (below (joins_at numbers.now i) nodes) result
+        (λ _. HoldsAll A.fits A.spans source algebra.new
+        (row_written f i nodes (joined_at numbers.now i)) table.new) }
 {
     let mut from = 0;
     while let Some(j) = numbers.next(i, from, nodes) {
@@ -144,11 +161,14 @@ fn begin_rows<A: Algebra>(
     numbers: &Rows<Items<u32>>,
     nodes: u32,
 ) -> Result<Table<A::Item>, ReachError<A::Fault>>
-    requires links { (source : ℕ) × AllHaveItems A.fits A.spans source algebra.old items.now numbers.now }
+    requires links { (source : ℕ) × AllHaveItems A.fits A.spans source algebra.old items.now
+        numbers.now }
     requires within { (i j : ℕ) → (nodes ≤ i) ⊎ (nodes ≤ j) → numbers_at numbers.now i j ≡ [] }
     ensures places { IfOk result (λ table. place_count table ≡ nodes) }
-    ensures made { (source : ℕ) → AllHaveItems A.fits A.spans source algebra.old items.now numbers.now →
-        Makes A.fits A.spans A.ends A.is_memory A.faults A.made A.stopped algebra.old algebra.new (below (λ i. below (joins_at numbers.now i) nodes) nodes) result
+    ensures made { (source : ℕ)
+        → AllHaveItems A.fits A.spans source algebra.old items.now numbers.now →
+        Makes A.fits A.spans A.ends A.is_memory A.faults A.made A.stopped algebra.old algebra.new
+        (below (λ i. below (joins_at numbers.now i) nodes) nodes) result
         (HoldsAll A.fits A.spans source algebra.new (joined_at numbers.now)) }
 {
     let mut table = Table::new(alloc, nodes)?;
@@ -173,8 +193,10 @@ pub(crate) fn begin_table<A: Algebra>(
     requires graph { IsGraph nodes links.now }
     requires source { source < nodes }
     ensures places { IfOk result (λ table. place_count table ≡ nodes) }
-    ensures made { Makes A.fits A.spans A.ends A.is_memory A.faults A.made A.stopped algebra.old algebra.new
-        (below (first_row_operations nodes links.now source) nodes) result (HoldsAll A.fits A.spans source algebra.new (first_table links.now source)) }
+    ensures made { Makes A.fits A.spans A.ends A.is_memory A.faults A.made A.stopped algebra.old
+        algebra.new
+        (below (first_row_operations nodes links.now source) nodes) result
+        (HoldsAll A.fits A.spans source algebra.new (first_table links.now source)) }
 {
     let numbers = link_numbers(alloc, links, source, nodes)?;
     begin_rows(alloc, algebra, items, &numbers, nodes)

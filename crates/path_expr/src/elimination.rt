@@ -26,13 +26,17 @@ fn eliminate_cell<A: Algebra>(
 ) -> Result<(), ReachError<A::Fault>>
     requires from { i < place_count table.old }
     requires to { j < place_count table.old }
-    requires holds { (source : ℕ) × (f : ℕ → ℕ → PathExpr) × (w : PathExpr) × HoldsAll A.fits A.spans source algebra.old f table.old
+    requires holds { (source : ℕ) × (f : ℕ → ℕ → PathExpr) × (w : PathExpr)
+        × HoldsAll A.fits A.spans source algebra.old f table.old
         × IsItem A.fits A.spans algebra.old w way.now (node_at source i) (node_at source n) }
     ensures places { place_count table.new ≡ place_count table.old }
-    ensures made { (source : ℕ) (f : ℕ → ℕ → PathExpr) (w : PathExpr) → HoldsAll A.fits A.spans source algebra.old f table.old →
+    ensures made { (source : ℕ) (f : ℕ → ℕ → PathExpr) (w : PathExpr)
+        → HoldsAll A.fits A.spans source algebra.old f table.old →
         IsItem A.fits A.spans algebra.old w way.now (node_at source i) (node_at source n) →
-        Makes A.fits A.spans A.ends A.is_memory A.faults A.made A.stopped algebra.old algebra.new (step_operations f w n i j) result
-        (λ _. HoldsAll A.fits A.spans source algebra.new (written f i j (join_of (f i j) (seq_of w (f n j)))) table.new) }
+        Makes A.fits A.spans A.ends A.is_memory A.faults A.made A.stopped algebra.old algebra.new
+        (step_operations f w n i j) result
+        (λ _. HoldsAll A.fits A.spans source algebra.new
+        (written f i j (join_of (f i j) (seq_of w (f n j)))) table.new) }
 {
     let Some(out) = table.get(n, j) else {
         return Ok(());
@@ -55,12 +59,15 @@ fn eliminate_cells<A: Algebra>(
 ) -> Result<(), ReachError<A::Fault>>
     requires within { n ≤ place_count table.old }
     requires above { i < n }
-    requires holds { (source : ℕ) × (f : ℕ → ℕ → PathExpr) × (w : PathExpr) × HoldsAll A.fits A.spans source algebra.old f table.old
+    requires holds { (source : ℕ) × (f : ℕ → ℕ → PathExpr) × (w : PathExpr)
+        × HoldsAll A.fits A.spans source algebra.old f table.old
         × IsItem A.fits A.spans algebra.old w way.now (node_at source i) (node_at source n) }
     ensures places { place_count table.new ≡ place_count table.old }
-    ensures made { (source : ℕ) (f : ℕ → ℕ → PathExpr) (w : PathExpr) → HoldsAll A.fits A.spans source algebra.old f table.old →
+    ensures made { (source : ℕ) (f : ℕ → ℕ → PathExpr) (w : PathExpr)
+        → HoldsAll A.fits A.spans source algebra.old f table.old →
         IsItem A.fits A.spans algebra.old w way.now (node_at source i) (node_at source n) →
-        Makes A.fits A.spans A.ends A.is_memory A.faults A.made A.stopped algebra.old algebra.new (below (step_operations f w n i) n) result
+        Makes A.fits A.spans A.ends A.is_memory A.faults A.made A.stopped algebra.old algebra.new
+        (below (step_operations f w n i) n) result
         (λ _. HoldsAll A.fits A.spans source algebra.new (swept f w n i n) table.new) }
 {
     let mut from = 0;
@@ -82,13 +89,17 @@ fn eliminate_row<A: Algebra>(
 ) -> Result<(), ReachError<A::Fault>>
     requires within { n ≤ place_count table.old }
     requires above { i < n }
-    requires holds { (source : ℕ) × (f : ℕ → ℕ → PathExpr) × HoldsAll A.fits A.spans source algebra.old f table.old
+    requires holds { (source : ℕ) × (f : ℕ → ℕ → PathExpr)
+        × HoldsAll A.fits A.spans source algebra.old f table.old
         × IsItemOrOne A.fits A.spans algebra.old (star_of (f n n)) turn.now (node_at source n) }
     ensures places { place_count table.new ≡ place_count table.old }
-    ensures made { (source : ℕ) (f : ℕ → ℕ → PathExpr) → HoldsAll A.fits A.spans source algebra.old f table.old →
+    ensures made { (source : ℕ) (f : ℕ → ℕ → PathExpr)
+        → HoldsAll A.fits A.spans source algebra.old f table.old →
         IsItemOrOne A.fits A.spans algebra.old (star_of (f n n)) turn.now (node_at source n) →
-        Makes A.fits A.spans A.ends A.is_memory A.faults A.made A.stopped algebra.old algebra.new (row_operations f n i) result
-        (λ _. HoldsAll A.fits A.spans source algebra.new (swept f (seq_of (f i n) (star_of (f n n))) n i n) table.new) }
+        Makes A.fits A.spans A.ends A.is_memory A.faults A.made A.stopped algebra.old algebra.new
+        (row_operations f n i) result
+        (λ _. HoldsAll A.fits A.spans source algebra.new
+        (swept f (seq_of (f i n) (star_of (f n n))) n i n) table.new) }
 {
     let Some(into) = table.get(i, n) else {
         return Ok(());
@@ -104,9 +115,12 @@ pub(crate) fn turns<A: Algebra>(
     table: &Table<A::Item>,
     n: u32,
 ) -> Result<Option<A::Item>, ReachError<A::Fault>>
-    requires { (source : ℕ) × (f : ℕ → ℕ → PathExpr) × HoldsAll A.fits A.spans source algebra.old f table.now }
-    ensures made { (source : ℕ) (f : ℕ → ℕ → PathExpr) → HoldsAll A.fits A.spans source algebra.old f table.now →
-        Makes A.fits A.spans A.ends A.is_memory A.faults A.made A.stopped algebra.old algebra.new (star_operation (f n n)) result
+    requires { (source : ℕ) × (f : ℕ → ℕ → PathExpr) × HoldsAll A.fits A.spans source algebra.old f
+        table.now }
+    ensures made { (source : ℕ) (f : ℕ → ℕ → PathExpr)
+        → HoldsAll A.fits A.spans source algebra.old f table.now →
+        Makes A.fits A.spans A.ends A.is_memory A.faults A.made A.stopped algebra.old algebra.new
+        (star_operation (f n n)) result
         (λ turn. IsItemOrOne A.fits A.spans algebra.new (star_of (f n n)) turn (node_at source n)) }
 {
     let Some(cell) = table.get(n, n) else {
@@ -126,10 +140,13 @@ fn eliminate_place<A: Algebra>(
     n: u32,
 ) -> Result<Option<A::Item>, ReachError<A::Fault>>
     requires within { n ≤ place_count table.old }
-    requires holds { (source : ℕ) × (f : ℕ → ℕ → PathExpr) × HoldsAll A.fits A.spans source algebra.old f table.old }
+    requires holds { (source : ℕ) × (f : ℕ → ℕ → PathExpr)
+        × HoldsAll A.fits A.spans source algebra.old f table.old }
     ensures places { place_count table.new ≡ place_count table.old }
-    ensures made { (source : ℕ) (f : ℕ → ℕ → PathExpr) → HoldsAll A.fits A.spans source algebra.old f table.old →
-        Makes A.fits A.spans A.ends A.is_memory A.faults A.made A.stopped algebra.old algebra.new (place_operations f n) result
+    ensures made { (source : ℕ) (f : ℕ → ℕ → PathExpr)
+        → HoldsAll A.fits A.spans source algebra.old f table.old →
+        Makes A.fits A.spans A.ends A.is_memory A.faults A.made A.stopped algebra.old algebra.new
+        (place_operations f n) result
         (λ turn. HoldsAll A.fits A.spans source algebra.new (eliminated n f) table.new
         × IsItemOrOne A.fits A.spans algebra.new (star_of (f n n)) turn (node_at source n)) }
 {
@@ -153,13 +170,17 @@ fn eliminate_next<A: Algebra>(
     requires within { n < place_count table.old }
     requires room { n < place_count stars.old }
     requires none { cell stars.old n n ≡ None }
-    requires holds { (source : ℕ) × (f : ℕ → ℕ → PathExpr) × HoldsAll A.fits A.spans source algebra.old f table.old }
+    requires holds { (source : ℕ) × (f : ℕ → ℕ → PathExpr)
+        × HoldsAll A.fits A.spans source algebra.old f table.old }
     ensures places { place_count table.new ≡ place_count table.old }
     ensures star_places { place_count stars.new ≡ place_count stars.old }
-    ensures made { (source : ℕ) (f : ℕ → ℕ → PathExpr) → HoldsAll A.fits A.spans source algebra.old f table.old →
-        Makes A.fits A.spans A.ends A.is_memory A.faults A.made A.stopped algebra.old algebra.new (place_operations f n) result
+    ensures made { (source : ℕ) (f : ℕ → ℕ → PathExpr)
+        → HoldsAll A.fits A.spans source algebra.old f table.old →
+        Makes A.fits A.spans A.ends A.is_memory A.faults A.made A.stopped algebra.old algebra.new
+        (place_operations f n) result
         (λ _. HoldsAll A.fits A.spans source algebra.new (eliminated n f) table.new
-        × IsItemOrOne A.fits A.spans algebra.new (star_of (f n n)) (cell stars.new n n) (node_at source n)) }
+        × IsItemOrOne A.fits A.spans algebra.new (star_of (f n n)) (cell stars.new n n)
+        (node_at source n)) }
     ensures others { OnOk result ((m : ℕ) → m ≢ n → cell stars.new m m ≡ cell stars.old m m) }
 {
     if let Some(turn) = eliminate_place(alloc, algebra, table, n)? {
@@ -180,9 +201,12 @@ pub(crate) fn eliminate_all<A: Algebra>(
     requires places { place_count table.old ≡ nodes }
     requires room { place_count stars.old ≡ nodes }
     requires none { (m : ℕ) → cell stars.old m m ≡ None }
-    requires holds { (source : ℕ) × (links : List Link) × HoldsAll A.fits A.spans source algebra.old (first_table links source) table.old }
-    ensures made { (source : ℕ) (links : List Link) → HoldsAll A.fits A.spans source algebra.old (first_table links source) table.old →
-        Makes A.fits A.spans A.ends A.is_memory A.faults A.made A.stopped algebra.old algebra.new (eliminations nodes links source (nodes - 1)) result
+    requires holds { (source : ℕ) × (links : List Link) × HoldsAll A.fits A.spans source algebra.old
+        (first_table links source) table.old }
+    ensures made { (source : ℕ) (links : List Link)
+        → HoldsAll A.fits A.spans source algebra.old (first_table links source) table.old →
+        Makes A.fits A.spans A.ends A.is_memory A.faults A.made A.stopped algebra.old algebra.new
+        (eliminations nodes links source (nodes - 1)) result
         (λ _. HoldsAll A.fits A.spans source algebra.new (last_table nodes links source) table.new
         × ((m : ℕ) → 0 < m → m < nodes → IsItemOrOne A.fits A.spans algebra.new
         (star_of (last_table nodes links source m m)) (cell stars.new m m) (node_at source m))) }

@@ -26,10 +26,14 @@ fn evaluate<A: Algebra>(
     requires count { length links.now < 2 ^ 32 }
     requires graph { IsGraph nodes links.now }
     requires source { source < nodes }
-    requires ends { (k : ℕ) (l : SpecLink) → slice_get links.now k ≡ Some l → A.ends algebra.old k l.from l.to }
+    requires ends { (k : ℕ) (l : SpecLink) → slice_get links.now k ≡ Some l
+        → A.ends algebra.old k l.from l.to }
     ensures length { IfOk result (λ found. length found.items ≡ nodes) }
-    ensures made { Makes A.fits A.spans A.ends A.is_memory A.faults A.made A.stopped algebra.old algebra.new
-        (operations nodes links.now source) result (λ found. AreWays A.fits A.spans source algebra.new (way_at (last_table nodes links.now source)) found.items) }
+    ensures made { Makes A.fits A.spans A.ends A.is_memory A.faults A.made A.stopped algebra.old
+        algebra.new
+        (operations nodes links.now source) result
+        (λ found. AreWays A.fits A.spans source algebra.new
+        (way_at (last_table nodes links.now source)) found.items) }
 {
     let items = edges(alloc, algebra, links)?;
     let mut table = begin_table(alloc, algebra, items.as_slice(), links, source, nodes)?;
@@ -38,9 +42,10 @@ fn evaluate<A: Algebra>(
     find_ways(alloc, algebra, &table, &mut stars, nodes)
 }
 
-/// The paths from the source to each node of a graph, put together by an algebra: at each node's place the cell
-/// of its path expression, by the operations of the stated elimination, each once and in its order. A cell is One at
-/// no node but the source. On an error a front of the operations was answered, and the next one was refused.
+/// The paths from the source to each node of a graph, put together by an algebra: at each node's
+/// place the cell of its path expression, by the operations of the stated elimination, each once
+/// and in its order. A cell is One at no node but the source. On an error a front of the operations
+/// was answered, and the next one was refused.
 pub fn reach<A: Algebra>(
     alloc: Global,
     algebra: &mut A,
@@ -51,10 +56,14 @@ pub fn reach<A: Algebra>(
     requires count { length links.now < 2 ^ 32 }
     requires graph { IsGraph nodes links.now }
     requires source { source < nodes }
-    requires ends { (k : ℕ) (l : SpecLink) → slice_get links.now k ≡ Some l → A.ends algebra.old k l.from l.to }
+    requires ends { (k : ℕ) (l : SpecLink) → slice_get links.now k ≡ Some l
+        → A.ends algebra.old k l.from l.to }
     ensures length { IfOk result (λ cells. length cells.items ≡ nodes) }
-    ensures cells { IfOk result (λ cells. AreCells A.fits A.spans source algebra.new (path_at nodes links.now source) cells.items) }
-    ensures run { Runs A.fits A.spans A.ends A.is_memory A.faults A.made A.stopped algebra.old algebra.new
+    ensures cells { IfOk result
+        (λ cells. AreCells A.fits A.spans source algebra.new (path_at nodes links.now source)
+        cells.items) }
+    ensures run { Runs A.fits A.spans A.ends A.is_memory A.faults A.made A.stopped algebra.old
+        algebra.new
         (operations nodes links.now source) (error_of result) }
 {
     let mut cells = evaluate(alloc, algebra, nodes, links, source)?;

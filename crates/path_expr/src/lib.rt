@@ -1,5 +1,6 @@
-//! Path expressions of a graph: regular expressions over its links that stand for all walks from a source, found
-//! by elimination of one node after the other (Tarjan 1981), for every algebra that can put paths together.
+//! Path expressions of a graph: regular expressions over its links that stand for all walks from a
+//! source, found by elimination of one node after the other (Tarjan 1981), for every algebra that
+//! can put paths together.
 #![tactic(auto)]
 
 mod algebra;

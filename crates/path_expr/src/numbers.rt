@@ -43,7 +43,8 @@ fn put_number(
     numbers.put(i, j, these)
 }
 
-/// The numbers of the links, by the places that the links lead from and to, each time in the order of the links.
+/// The numbers of the links, by the places that the links lead from and to, each time in the order
+/// of the links.
 pub(crate) fn link_numbers(
     alloc: Global,
     links: &[Link],
@@ -53,7 +54,8 @@ pub(crate) fn link_numbers(
     requires count { length links.now < 2 ^ 32 }
     requires graph { IsGraph nodes links.now }
     requires source { source < nodes }
-    ensures numbers { IfOk result (λ numbers. (i j : ℕ) → numbers_at numbers i j ≡ links_between source 0 links.now i j) }
+    ensures numbers { IfOk result (λ numbers. (i j : ℕ)
+        → numbers_at numbers i j ≡ links_between source 0 links.now i j) }
 {
     let mut numbers = Rows::new(alloc, nodes)?;
     for number in 0..links.len() {

@@ -54,7 +54,8 @@ impl<T> Rows<T> {
     pub(crate) fn take(&mut self, row: u32, column: u32) -> Option<T>
         ensures value { result ≡ entry self.old row column }
         ensures rows { row_count self.new ≡ row_count self.old }
-        ensures others { (i j : ℕ) → entry self.new i j ≡ (if i == row && j == column then None else entry self.old i j) }
+        ensures others { (i j : ℕ)
+            → entry self.new i j ≡ (if i == row && j == column then None else entry self.old i j) }
     {
         self.maps.get_mut(row as usize)?.remove(&column)
     }
@@ -65,7 +66,9 @@ impl<T> Rows<T> {
         T: Drop,
         requires { row < row_count self.old }
         ensures rows { row_count self.new ≡ row_count self.old }
-        ensures others { OnOk result ((i j : ℕ) → entry self.new i j ≡ (if i == row && j == column then Some item else entry self.old i j)) }
+        ensures others { OnOk result
+            ((i j : ℕ) → entry self.new i j
+            ≡ (if i == row && j == column then Some item else entry self.old i j)) }
     {
         self.maps[row as usize].insert(column, item)?;
         Ok(())

@@ -17,7 +17,8 @@ pub(crate) fn edge<A: Algebra>(
     requires { (from : ℕ) × (to : ℕ) × A.ends algebra.old number from to }
     ensures made { (from to : ℕ) → A.ends algebra.old number from to →
         Makes A.fits A.spans A.ends A.is_memory A.faults A.made A.stopped algebra.old algebra.new
-        (Edge number ∷ []) result (λ item. IsItem A.fits A.spans algebra.new (Edge number) item from to) }
+        (Edge number ∷ []) result
+        (λ item. IsItem A.fits A.spans algebra.new (Edge number) item from to) }
 {
     match algebra.edge(alloc, number) {
         Ok(item) => Ok(item),
@@ -32,11 +33,14 @@ pub(crate) fn seq<A: Algebra>(
     first: &A::Item,
     second: &A::Item,
 ) -> Result<A::Item, ReachError<A::Fault>>
-    requires { (from : ℕ) × (through : ℕ) × (to : ℕ) × A.spans algebra.old first.now from through × A.spans algebra.old second.now through to }
-    ensures made { (p q : PathExpr) (from through to : ℕ) → IsItem A.fits A.spans algebra.old p first.now from through →
+    requires { (from : ℕ) × (through : ℕ) × (to : ℕ) × A.spans algebra.old first.now from through
+        × A.spans algebra.old second.now through to }
+    ensures made { (p q : PathExpr) (from through to : ℕ)
+        → IsItem A.fits A.spans algebra.old p first.now from through →
         IsItem A.fits A.spans algebra.old q second.now through to →
         Makes A.fits A.spans A.ends A.is_memory A.faults A.made A.stopped algebra.old algebra.new
-        (seq_operation p q) result (λ item. IsItem A.fits A.spans algebra.new (seq_of p q) item from to) }
+        (seq_operation p q) result
+        (λ item. IsItem A.fits A.spans algebra.new (seq_of p q) item from to) }
 {
     match algebra.seq(alloc, first, second) {
         Ok(item) => Ok(item),
@@ -51,9 +55,11 @@ pub(crate) fn star<A: Algebra>(
     turn: &A::Item,
 ) -> Result<A::Item, ReachError<A::Fault>>
     requires { (node : ℕ) × A.spans algebra.old turn.now node node }
-    ensures made { (p : PathExpr) (node : ℕ) → IsItem A.fits A.spans algebra.old p turn.now node node →
+    ensures made { (p : PathExpr) (node : ℕ)
+        → IsItem A.fits A.spans algebra.old p turn.now node node →
         Makes A.fits A.spans A.ends A.is_memory A.faults A.made A.stopped algebra.old algebra.new
-        (star_operation p) result (λ item. IsItem A.fits A.spans algebra.new (star_of p) item node node) }
+        (star_operation p) result
+        (λ item. IsItem A.fits A.spans algebra.new (star_of p) item node node) }
 {
     match algebra.star(alloc, turn) {
         Ok(item) => Ok(item),
@@ -67,7 +73,8 @@ pub(crate) fn copy<A: Algebra>(
     algebra: &mut A,
     item: &A::Item,
 ) -> Result<A::Item, ReachError<A::Fault>>
-    ensures made { (p : PathExpr) (from to : ℕ) → IsItem A.fits A.spans algebra.old p item.now from to →
+    ensures made { (p : PathExpr) (from to : ℕ)
+        → IsItem A.fits A.spans algebra.old p item.now from to →
         Makes A.fits A.spans A.ends A.is_memory A.faults A.made A.stopped algebra.old algebra.new
         [] result (λ copy. IsItem A.fits A.spans algebra.new p copy from to) }
 {
@@ -84,12 +91,15 @@ pub(crate) fn join_onto<A: Algebra>(
     before: Option<A::Item>,
     path: A::Item,
 ) -> Result<A::Item, ReachError<A::Fault>>
-    requires { (p : PathExpr) × (q : PathExpr) × (from : ℕ) × (to : ℕ) × IsItemOrZero A.fits A.spans algebra.old p before from to
+    requires { (p : PathExpr) × (q : PathExpr) × (from : ℕ) × (to : ℕ)
+        × IsItemOrZero A.fits A.spans algebra.old p before from to
         × IsItem A.fits A.spans algebra.old q path from to }
-    ensures made { (p q : PathExpr) (from to : ℕ) → IsItemOrZero A.fits A.spans algebra.old p before from to →
+    ensures made { (p q : PathExpr) (from to : ℕ)
+        → IsItemOrZero A.fits A.spans algebra.old p before from to →
         IsItem A.fits A.spans algebra.old q path from to →
         Makes A.fits A.spans A.ends A.is_memory A.faults A.made A.stopped algebra.old algebra.new
-        (join_operation p q) result (λ item. IsItem A.fits A.spans algebra.new (join_of p q) item from to) }
+        (join_operation p q) result
+        (λ item. IsItem A.fits A.spans algebra.new (join_of p q) item from to) }
 {
     let Some(before) = before else {
         return Ok(path);
@@ -107,12 +117,15 @@ pub(crate) fn join_both<A: Algebra>(
     before: Option<A::Item>,
     path: Option<A::Item>,
 ) -> Result<Option<A::Item>, ReachError<A::Fault>>
-    requires { (p : PathExpr) × (q : PathExpr) × (from : ℕ) × (to : ℕ) × IsItemOrZero A.fits A.spans algebra.old p before from to
+    requires { (p : PathExpr) × (q : PathExpr) × (from : ℕ) × (to : ℕ)
+        × IsItemOrZero A.fits A.spans algebra.old p before from to
         × IsItemOrZero A.fits A.spans algebra.old q path from to }
-    ensures made { (p q : PathExpr) (from to : ℕ) → IsItemOrZero A.fits A.spans algebra.old p before from to →
+    ensures made { (p q : PathExpr) (from to : ℕ)
+        → IsItemOrZero A.fits A.spans algebra.old p before from to →
         IsItemOrZero A.fits A.spans algebra.old q path from to →
         Makes A.fits A.spans A.ends A.is_memory A.faults A.made A.stopped algebra.old algebra.new
-        (join_operation p q) result (λ joined. IsItemOrZero A.fits A.spans algebra.new (join_of p q) joined from to) }
+        (join_operation p q) result
+        (λ joined. IsItemOrZero A.fits A.spans algebra.new (join_of p q) joined from to) }
 {
     let Some(path) = path else {
         return Ok(before);
@@ -130,12 +143,15 @@ pub(crate) fn turned<A: Algebra>(
     path: &A::Item,
     turn: &Option<A::Item>,
 ) -> Result<A::Item, ReachError<A::Fault>>
-    requires { (p : PathExpr) × (q : PathExpr) × (from : ℕ) × (to : ℕ) × IsItem A.fits A.spans algebra.old p path.now from to
+    requires { (p : PathExpr) × (q : PathExpr) × (from : ℕ) × (to : ℕ)
+        × IsItem A.fits A.spans algebra.old p path.now from to
         × IsItemOrOne A.fits A.spans algebra.old q turn.now to }
-    ensures made { (p q : PathExpr) (from to : ℕ) → IsItem A.fits A.spans algebra.old p path.now from to →
+    ensures made { (p q : PathExpr) (from to : ℕ)
+        → IsItem A.fits A.spans algebra.old p path.now from to →
         IsItemOrOne A.fits A.spans algebra.old q turn.now to →
         Makes A.fits A.spans A.ends A.is_memory A.faults A.made A.stopped algebra.old algebra.new
-        (seq_operation p q) result (λ item. IsItem A.fits A.spans algebra.new (seq_of p q) item from to) }
+        (seq_operation p q) result
+        (λ item. IsItem A.fits A.spans algebra.new (seq_of p q) item from to) }
 {
     match turn {
         Some(turn) => seq(alloc, algebra, path, turn),

@@ -4,8 +4,9 @@ ghost use Rattle.std.specs.Option.{option_copied};
 use crate::rows::Rows;
 use std::alloc::{AllocError, Global};
 
-/// A cell for each two places, of which few hold something. It goes over the cells that lead into a place from those
-/// up to it, and over the cells that lead out of it to those below it, without a look at any other.
+/// A cell for each two places, of which few hold something. It goes over the cells that lead into a
+/// place from those up to it, and over the cells that lead out of it to those below it, without a
+/// look at any other.
 #[derive(Drop)]
 pub(crate) struct Table<T> {
     // The cell for i and j where i is not above j, in row j.
@@ -60,7 +61,8 @@ impl<T> Table<T> {
     pub(crate) fn take(&mut self, i: u32, j: u32) -> Option<T>
         ensures value { result ≡ cell self.old i j }
         ensures places { place_count self.new ≡ place_count self.old }
-        ensures others { (a b : ℕ) → cell self.new a b ≡ (if a == i && b == j then None else cell self.old a b) }
+        ensures others { (a b : ℕ)
+            → cell self.new a b ≡ (if a == i && b == j then None else cell self.old a b) }
     {
         if i <= j {
             self.into.take(j, i)
@@ -76,7 +78,9 @@ impl<T> Table<T> {
         requires from { i < place_count self.old }
         requires to { j < place_count self.old }
         ensures places { place_count self.new ≡ place_count self.old }
-        ensures others { OnOk result ((a b : ℕ) → cell self.new a b ≡ (if a == i && b == j then Some item else cell self.old a b)) }
+        ensures others { OnOk result
+            ((a b : ℕ) → cell self.new a b
+            ≡ (if a == i && b == j then Some item else cell self.old a b)) }
     {
         if i <= j {
             self.into.put(j, i, item)

@@ -201,8 +201,8 @@ module _ (body : Transition) (steps : ℕ) (states : ℕ → List ℤ) (run : Is
 
   -- ---- the rows over the run
 
-  -- numbers for the columns of a case of the whole run: entry columns at the start, polynomials for the variables and their
-  -- changes, and the number of turns
+  -- numbers for the columns of a case of the whole run: entry columns at the start, polynomials for
+  -- the variables and their changes, and the number of turns
   pub record IsOver (at : Valuation) (after moved : List Polynomial) (turns : Option Col) : Type 0 where
     pub starts : Reads at (states 0)
     pub ends : (v : ℕ) → value_of at (poly_at after v) ≡ number_in (states steps) v

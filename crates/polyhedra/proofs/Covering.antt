@@ -1,4 +1,5 @@
--- Directions have no columns but those of their vocabulary, and so none but those of the posts; what else the calls of a squash ask.
+-- Directions have no columns but those of their vocabulary, and so none but those of the posts;
+-- what else the calls of a squash ask.
 use Rattle.std.proofs.Common.{◌≡◌, ℕ, zero, suc, ◌+◌, ◌≤◌, List, [], ◌∷◌, Bool, true, false, map, length, refl, sym, ap, subst, ◌∙◌, arith}
 use Rattle.std.specs.Prelude.{IsTrue, All, ◌==◌, ◌&&◌, if◌then◌else◌}
 use Rattle.std.specs.List.{AllByRecursion, filter, list_all, range_with_len}

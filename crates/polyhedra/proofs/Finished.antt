@@ -1,4 +1,5 @@
--- Laws of finishing: what is left holds of all that the case holds of, fits where the case fits, and has few rows.
+-- Laws of finishing: what is left holds of all that the case holds of, fits where the case fits,
+-- and has few rows.
 use Rattle.std.proofs.Common.{ℕ, zero, suc, ◌≤◌, List, [], ◌∷◌, Bool, Option, None, Some, length, take, refl, sym, ap, subst, ◌∙◌, arith}
 use Rattle.std.specs.Prelude.{IsTrue}
 use Rattle.std.specs.List.{list_all}
@@ -43,7 +44,8 @@ finished-covers case canonical numbered = go (in_order case).left (in_order-hold
         always_bind (IsWider left) (KeepsLeft case) (thinned left) (λ thin. cut thin >>= λ kept. Done (Some kept)) (thinned-covers left)
         (λ thin wider before after h. cut-wider thin before after (wider before after (keeps before after h)))
 
--- ---- what is left fits where the case fits, and has at most 64 rows and no more auxiliaries than it has in order
+-- ---- what is left fits where the case fits, and has at most 64 rows and no more auxiliaries than
+-- it has in order
 
 pub record IsFinished (from to most : ℕ) (case : Case) : Type 0 where
   pub fit : IsTrue (fits from to case)

@@ -1,4 +1,5 @@
--- The laws of fitting: what comes of a formula holds of all that the formula holds of, is small, and goes between the same columns.
+-- The laws of fitting: what comes of a formula holds of all that the formula holds of, is small,
+-- and goes between the same columns.
 use Rattle.std.proofs.Common.{◌≡◌, inl, inr, ℕ, zero, suc, ◌+◌, ◌<◌, ◌≤◌, List, [], ◌∷◌, Bool, true, false, Ok, map, length, refl, sym, ap, subst, ◌∙◌, arith, ℤ, pos}
 use Rattle.std.specs.Prelude.{IsTrue, Option, None, Some, ◌==◌, ◌&&◌, nat_le, if◌then◌else◌, option_to_list}
 use Rattle.std.specs.List.{AllByRecursion, list_all, filter, range_with_len}

@@ -1,5 +1,6 @@
--- How many auxiliaries are left of a case in order. Where each auxiliary that occurs is a post by itself, or one of some that are
--- spared, that stays so: what is left has no more than there are posts and spared ones.
+-- How many auxiliaries are left of a case in order. Where each auxiliary that occurs is a post by
+-- itself, or one of some that are spared, that stays so: what is left has no more than there are
+-- posts and spared ones.
 use Rattle.std.proofs.Common.{◌≡◌, ◌⊎◌, inl, inr, ℕ, zero, suc, ◌+◌, ◌<◌, ◌≤◌, length, map, List, [], ◌∷◌, Bool, true, false, cond, Option, None, Some, Ok, Err, refl, sym, ap, subst, ◌∙◌, arith}
 use Rattle.std.specs.Prelude.{IsTrue, ◌&&◌, ◌||◌, ◌==◌, not, Result, slice_get, negsuc}
 use Rattle.std.specs.List.{AllByRecursion, list_all, list_any, filter, remove}
@@ -314,6 +315,7 @@ module _ (spare : List ℕ) where
         go None e ih = tt
         go (Some rows) e ih = first (with_rows case rows) (first_equation rows) (rows-left case rows (tidied-passes (owns case.post) case.rows rows e (rows-of case h)) h) ih
 
--- what is left of a case whose auxiliaries are posts or spared has no more than there are posts and spared ones
+-- what is left of a case whose auxiliaries are posts or spared has no more than there are posts and
+-- spared ones
 pub in_order-few : (spare : List ℕ) (case : Case) → IsOwned spare case → Stays (λ left. left.aux ≤ length spare + length case.post) (solved (in_order case).left)
 in_order-few spare case h = rounds-few spare (length case.post) (length case.rows) case (record { owned_all = h; posts = refl })

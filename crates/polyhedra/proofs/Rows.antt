@@ -1,5 +1,5 @@
--- Polynomials that operations make of others: their monomials stand in print order, and their columns pass a test that those of
--- their operands pass. So do rows made of them.
+-- Polynomials that operations make of others: their monomials stand in print order, and their
+-- columns pass a test that those of their operands pass. So do rows made of them.
 use Rattle.std.proofs.Common.{◌≡◌, ℕ, zero, suc, List, [], ◌∷◌, Bool, Ok, Err, refl, sym, subst, ◌∙◌, ℤ, pos, negsuc}
 use Rattle.std.specs.Prelude.{IsTrue, slice_get, unwrap_or}
 use Rattle.std.specs.List.{AllByRecursion}

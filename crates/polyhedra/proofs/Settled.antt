@@ -82,7 +82,8 @@ pub of_left : (o : Option Case) (before after : List ℤ) → HoldsLeft o before
 of_left None before after h = h
 of_left (Some case) before after h = inl h
 
--- each of the cases that are left can be put in order, and what held of all holds of what is made or of what is left
+-- each of the cases that are left can be put in order, and what held of all holds of what is made
+-- or of what is left
 record Keeps (whole xs made : List Case) : Type 0 where
   ready : AllByRecursion IsReady xs
   holds : (before after : List ℤ) → HoldsSome whole before after → HoldsSome made before after ⊎ HoldsSome xs before after

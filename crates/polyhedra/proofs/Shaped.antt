@@ -1,4 +1,5 @@
--- What each row has that bounds and relations give: a property of whatever rows can be made is one of all of them.
+-- What each row has that bounds and relations give: a property of whatever rows can be made is one
+-- of all of them.
 use Rattle.std.proofs.Common.{◌≡◌, List, [], ◌∷◌, Option, None, Some, Ok, Err, ℤ, refl}
 use Rattle.std.specs.Prelude.{Result}
 use Rattle.std.specs.List.{AllByRecursion}

@@ -1,4 +1,5 @@
--- Laws of thinning: what is left holds of all that the case holds of, and passes each test that all its rows pass.
+-- Laws of thinning: what is left holds of all that the case holds of, and passes each test that all
+-- its rows pass.
 use Rattle.std.proofs.Common.{◌≡◌, ℕ, zero, suc, List, [], ◌∷◌, ◌++◌, Option, None, Some, Bool, true, false, Result, Ok, Err, length, refl, sym, ap}
 use Rattle.std.specs.Prelude.{slice_get, IsTrue}
 use Rattle.std.specs.List.{remove, insert, list_all}

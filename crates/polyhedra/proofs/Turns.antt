@@ -35,7 +35,8 @@ post-number at [] v = refl
 post-number at (p ∷ post) zero = refl
 post-number at (p ∷ post) (suc v) = post-number at post v
 
--- what a turn makes of a number: where both ends have one vocabulary the difference, else the number afterwards
+-- what a turn makes of a number: where both ends have one vocabulary the difference, else the
+-- number afterwards
 abbrev pub moved_by : Bool → ℤ → ℤ → ℤ
 moved_by true before after = after -ℤ before
 moved_by false before after = after

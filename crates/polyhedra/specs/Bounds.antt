@@ -40,7 +40,10 @@ IsCoveredByPosts cases d = All (λ (case : Case). IsCovered (length case.post) d
 abbrev pub goals_of : (Case → Made) → List Case → Result (List Goal) TermError
 goals_of objective [] = Ok []
 goals_of objective (case ∷ cases) =
-    gives.◌>>=◌ (objective case) (λ p. gives.◌>>=◌ (goals_of objective cases) (λ goals. Ok (record { rows = case.rows; objective = p } ∷ goals)))
+    gives.◌>>=◌ (objective case) (λ p. gives.◌>>=◌ (goals_of objective cases) (λ goals. Ok (record {
+      rows = case.rows;
+      objective = p;
+    } ∷ goals)))
 
 -- goals, and then those that are stated of what is left
 abbrev pub goals_behind : List Goal → Result (List Goal) TermError → Result (List Goal) TermError
@@ -55,24 +58,27 @@ bound_in (answer.Basis relations spots free) = None
 bound_in (answer.Limit limit) = None
 
 unfoldable pub bound_by : Result (List Goal) TermError → Posing (Option ℤ)
-bound_by (Ok goals) = answer_to (Sup goals) >>= λ answer. Noted (limits_of answer) (Done (bound_in answer))
+bound_by (Ok goals) = answer_to (Sup goals) >>= λ answer. Noted (limits_of answer)
+    (Done (bound_in answer))
 bound_by (Err e) = Noted (loss_notes (noted e)) (Done None)
 
--- the greatest value of an objective over all cases, if it is known. An objective that cannot be made in some case is not asked:
--- its loss is noted. A limit is noted too.
+-- the greatest value of an objective over all cases, if it is known. An objective that cannot be
+-- made in some case is not asked: its loss is noted. A limit is noted too.
 abbrev pub bound_of : List Case → (Case → Made) → Posing (Option ℤ)
 bound_of cases objective = bound_by (goals_of objective cases)
 
 -- one more row where it can be made; else its loss is noted
 unfoldable pub with_row : List Row → Result Row TermError → Posing (List Row)
-with_row rows made = Noted (loss_notes (losses_of made)) (Done (rows ++ option_to_list (answered made)))
+with_row rows made =
+    Noted (loss_notes (losses_of made)) (Done (rows ++ option_to_list (answered made)))
 
 abbrev pub with_row_for : List Row → (ℤ → Result Row TermError) → Option ℤ → Posing (List Row)
 with_row_for rows row None = Done rows
 with_row_for rows row (Some most) = with_row rows (row most)
 
 -- the bound of an objective is asked; where there is one, it gives a row
-unfoldable pub bounded : List Case → (Case → Made) → (ℤ → Result Row TermError) → List Row → Posing (List Row)
+unfoldable pub bounded : List Case → (Case → Made) → (ℤ → Result Row TermError) → List Row
+    → Posing (List Row)
 bounded cases objective row rows = bound_of cases objective >>= λ most. with_row_for rows row most
 
 -- the bound before: of a direction on the entry columns
@@ -87,10 +93,12 @@ abbrev pub after_row : List Polynomial → Polynomial → ℤ → Result Row Ter
 after_row after d most = at_most (put_in_for after d ⊟ whole most)
 
 abbrev pub bounded_after : List Case → List Polynomial → List Row → Polynomial → Posing (List Row)
-bounded_after cases after rows d = bounded cases (λ case. put_in_for case.post d) (after_row after d) rows
+bounded_after cases after rows d = bounded cases (λ case. put_in_for case.post d)
+    (after_row after d) rows
 
--- the bound on differences: of a direction on the changes, where both ends have one vocabulary. `moved` has what stands for each
--- change in the row, which is at most the bound, or so many times the bound as a column says
+-- the bound on differences: of a direction on the changes, where both ends have one vocabulary.
+-- `moved` has what stands for each change in the row, which is at most the bound, or so many times
+-- the bound as a column says
 abbrev pub so_often : Option Col → Made → Made
 so_often None most = most
 so_often (Some turns) most = most ⊠ column turns
@@ -98,5 +106,8 @@ so_often (Some turns) most = most ⊠ column turns
 abbrev pub change_row : List Polynomial → Option Col → Polynomial → ℤ → Result Row TermError
 change_row moved turns d most = at_most (put_in_for moved d ⊟ so_often turns (whole most))
 
-abbrev pub bounded_change : List Case → List Polynomial → Option Col → List Row → Polynomial → Posing (List Row)
-bounded_change cases moved turns rows d = bounded cases (λ case. put_into (for_entries (change true case)) d) (change_row moved turns d) rows
+abbrev pub bounded_change : List Case → List Polynomial → Option Col → List Row → Polynomial
+    → Posing (List Row)
+bounded_change cases moved turns rows d =
+    bounded cases (λ case. put_into (for_entries (change true case)) d) (change_row moved turns d)
+    rows

@@ -18,7 +18,8 @@ use Rattle.posing.specs.Logs.{loss_notes}
 abbrev pub poly_at : List Polynomial → ℕ → Polynomial
 poly_at polys v = unwrap_or (slice_get polys v) (constant_of (pos 0))
 
--- the change of a variable: where both ends have one vocabulary its post less its entry column, else its post
+-- the change of a variable: where both ends have one vocabulary its post less its entry column,
+-- else its post
 abbrev pub change : Bool → Case → ℕ → Made
 change true case v = Ok (poly_at case.post v) ⊟ column (At v)
 change false case v = Ok (poly_at case.post v)
@@ -44,20 +45,27 @@ moving one f = filter (is_exact one f.cases) (modified one f)
 
 -- of each other modified variable the loss in the first case that has one
 abbrev pub lost_changes : Bool → Transition → List Note
-lost_changes one f = loss_notes (flat_map (λ v. take 1 (flat_map (λ case. losses_of (change one case v)) f.cases)) (modified one f))
+lost_changes one f =
+    loss_notes (flat_map (λ v. take 1 (flat_map (λ case. losses_of (change one case v)) f.cases))
+    (modified one f))
 
 -- ---- the terms of a stratum question
 
 -- the rows of a case, and the changes of variables in it
 abbrev pub changes_in : Bool → List ℕ → Case → Change
-changes_in one variables case = record { rows = case.rows; terms = map (λ v. or_zero (change one case v)) variables }
+changes_in one variables case = record {
+  rows = case.rows;
+  terms = map (λ v. or_zero (change one case v)) variables;
+}
 
 abbrev pub changes_of : Bool → Transition → List Change
 changes_of one f = map (changes_in one (moving one f)) f.cases
 
 -- the entry column occurs in a row or in a term
 abbrev pub occurs_in : List Change → ℕ → Bool
-occurs_in cases v = list_any (λ case. list_any (λ row. has_entry v row.poly) case.rows || list_any (has_entry v) case.terms) cases
+occurs_in cases v =
+    list_any (λ case. list_any (λ row. has_entry v row.poly) case.rows || list_any (has_entry v)
+    case.terms) cases
 
 -- the entry columns that occur in a row, or in the change of a variable that moves
 abbrev pub occurring : Bool → Transition → List ℕ

@@ -25,10 +25,12 @@ both_signs a = a ∷ turned a ∷ []
 abbrev pub less_others : List ℕ → ℕ → List Made
 less_others named u = map (λ v. column (At u) ⊟ column (At v)) (filter (λ v. not (u == v)) named)
 
--- each named column with both signs, each difference of two, and each harvested term with both signs
+-- each named column with both signs, each difference of two, and each harvested term with both
+-- signs
 abbrev pub candidates : Vocabulary → List Made
 candidates voc =
-    flat_map (λ v. both_signs (column (At v))) voc.named ++ flat_map (less_others voc.named) voc.named
+    flat_map (λ v. both_signs (column (At v))) voc.named ++ flat_map (less_others voc.named)
+    voc.named
     ++ flat_map (λ h. both_signs (Ok h)) voc.harvested
 
 -- those that can be made, each once

@@ -1,4 +1,5 @@
--- What is taken from the answer to a question: whether rows are infeasible, and the limit that it names.
+-- What is taken from the answer to a question: whether rows are infeasible, and the limit that it
+-- names.
 use Rattle.std.specs.Prelude.{List, [], ◌∷◌, Bool, true, false}
 use Rattle.linear_terms.specs.declared.row.Row.{Row}
 use Rattle.farkas_check.specs.declared.answer.Answer.{Answer}

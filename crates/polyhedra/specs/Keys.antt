@@ -25,7 +25,8 @@ key_cmp k l = ordering_then (slice_cmp term_cmp k.0 l.0) (int_cmp k.1 l.1)
 
 -- the set has the keys of those made
 abbrev pub TellsMade : BTreeSet Key → List Polynomial → Type 0
-TellsMade known made = (key : Key) → tree.contains key_cmp known key ≡ list_any (λ p. eq_by_cmp key_cmp key (key_of p)) made
+TellsMade known made = (key : Key) → tree.contains key_cmp known key
+    ≡ list_any (λ p. eq_by_cmp key_cmp key (key_of p)) made
 
 -- those made, and then each candidate that can be made and is new
 abbrev pub with_each : List Polynomial → List Made → List Polynomial

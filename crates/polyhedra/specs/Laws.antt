@@ -16,11 +16,13 @@ HaveCanonicalRows cases = All (λ (case : Case). AreCanonical case.rows) cases
 
 -- the second case holds of all that the first holds of
 abbrev pub IsWider : Case → Case → Type 0
-IsWider case made = (before after : List ℤ) → HoldsCase case before after → HoldsCase made before after
+IsWider case made = (before after : List ℤ) → HoldsCase case before after
+    → HoldsCase made before after
 
 -- a settled formula holds of all that the formula holds of
 abbrev pub SettlingCovers : Type 0
-SettlingCovers = (f : Transition) → HaveCanonicalRows f.cases → AreSolvable f.cases → Always (λ g. Covers g f) (settled f)
+SettlingCovers = (f : Transition) → HaveCanonicalRows f.cases → AreSolvable f.cases
+    → Always (λ g. Covers g f) (settled f)
 
 -- a thinned case holds of all that the case holds of
 abbrev pub ThinningCovers : Type 0
@@ -38,7 +40,8 @@ pub record IsBetween (f : Transition) (from to : Vocabulary) : Type 0 where
 
 -- what comes of fitting a formula holds of all that the formula holds of
 abbrev pub FittingCovers : Type 0
-FittingCovers = (f : Transition) (from to : Vocabulary) → IsBetween f from to → Always (λ g. Covers g f) (fitted f from to)
+FittingCovers = (f : Transition) (from to : Vocabulary) → IsBetween f from to
+    → Always (λ g. Covers g f) (fitted f from to)
 
 -- it goes between the same columns, by at most 16 cases of at most 64 rows and 64 auxiliaries
 pub record IsSmall (f g : Transition) : Type 0 where
@@ -48,4 +51,5 @@ pub record IsSmall (f g : Transition) : Type 0 where
   pub fitted : IsFitted g.cases
 
 abbrev pub FittingFits : Type 0
-FittingFits = (f : Transition) (from to : Vocabulary) → IsBetween f from to → Always (IsSmall f) (fitted f from to)
+FittingFits = (f : Transition) (from to : Vocabulary) → IsBetween f from to
+    → Always (IsSmall f) (fitted f from to)

@@ -23,7 +23,8 @@ abbrev pub feasible_left : Option Case → Posing (Option Case)
 feasible_left None = Done None
 feasible_left (Some case) = feasible case
 
--- what is left of a case in order, unless an answer calls it infeasible; losses are noted before the question
+-- what is left of a case in order, unless an answer calls it infeasible; losses are noted before
+-- the question
 unfoldable pub settled_case : Case → Posing (Option Case)
 settled_case case = Noted (loss_notes (in_order case).losses) (feasible_left (in_order case).left)
 
@@ -35,4 +36,8 @@ abbrev pub settled_cases : List Case → Posing (List Case)
 settled_cases cases = each with_settled [] cases
 
 unfoldable pub settled : Transition → Posing Transition
-settled f = settled_cases f.cases >>= λ cases. Done record { from = f.from; to = f.to; cases = cases }
+settled f = settled_cases f.cases >>= λ cases. Done record {
+  from = f.from;
+  to = f.to;
+  cases = cases;
+}

@@ -24,7 +24,8 @@ use Rattle.polyhedra.specs.Vocabulary.{Vocabulary}
 
 -- ---- what stands for a variable
 
--- afterwards, for one that no case modifies: its entry column where both ends have one vocabulary, else 0
+-- afterwards, for one that no case modifies: its entry column where both ends have one vocabulary,
+-- else 0
 abbrev pub unmodified : Bool → ℕ → Polynomial
 unmodified true v = column_of (At v)
 unmodified false v = constant_of (pos 0)
@@ -34,7 +35,8 @@ abbrev pub after_from : Bool → ℕ → List ℕ → ℕ → Polynomial
 after_from one n [] v = unmodified one v
 after_from one n (u ∷ us) v = if u == v then column_of (Aux n) else after_from one (n + 1) us v
 
--- for its change: where both ends have one vocabulary what stands for it afterwards less its entry column
+-- for its change: where both ends have one vocabulary what stands for it afterwards less its entry
+-- column
 abbrev pub change_after : Bool → List ℕ → ℕ → Polynomial
 change_after true us v = or_zero (Ok (after_from true 0 us v) ⊟ column (At v))
 change_after false us v = after_from false 0 us v
@@ -54,35 +56,42 @@ entries_of variables = map (λ v. column_of (At v)) variables
 abbrev pub relation_row : List Polynomial → List Polynomial → Relation → Result Row TermError
 relation_row terms lower r = equation (weighted r.a terms ⊟ weighted r.b lower ⊟ whole r.c)
 
-abbrev pub with_relation : List Polynomial → List Polynomial → List Row → Relation → Posing (List Row)
+abbrev pub with_relation : List Polynomial → List Polynomial → List Row → Relation
+    → Posing (List Row)
 with_relation terms lower rows r = with_row rows (relation_row terms lower r)
 
-abbrev pub with_relations : List Polynomial → List Polynomial → Option (List Relation) → Posing (List Row)
+abbrev pub with_relations : List Polynomial → List Polynomial → Option (List Relation)
+    → Posing (List Row)
 with_relations terms lower None = Done []
 with_relations terms lower (Some relations) = each (with_relation terms lower) [] relations
 
 -- the rows of relations that can be made, and what is lost of the others
 abbrev pub relation_rows : List Polynomial → List Polynomial → List Relation → List Row
-relation_rows terms lower relations = filter_map (λ r. answered (relation_row terms lower r)) relations
+relation_rows terms lower relations = filter_map (λ r. answered (relation_row terms lower r))
+    relations
 
 abbrev pub relation_losses : List Polynomial → List Polynomial → List Relation → List Loss
-relation_losses terms lower relations = flat_map (λ r. losses_of (relation_row terms lower r)) relations
+relation_losses terms lower relations = flat_map (λ r. losses_of (relation_row terms lower r))
+    relations
 
 -- between the changes of variables that can be made and the entry columns that occur
 unfoldable pub related : Bool → Transition → Posing (List Row)
 related one f =
     relations_of (changes_of one f) (entries_of (occurring one f))
-    >>= with_relations (map (change_after one (modified one f)) (moving one f)) (entries_of (occurring one f))
+    >>= with_relations (map (change_after one (modified one f)) (moving one f))
+    (entries_of (occurring one f))
 
 -- ---- the case
 
 -- bounds on differences are asked only where both ends have one vocabulary
 abbrev pub with_differences : Bool → Transition → Vocabulary → List Row → Posing (List Row)
-with_differences true f voc rows = each (bounded_change f.cases (changes_after true f) None) rows (directions voc)
+with_differences true f voc rows = each (bounded_change f.cases (changes_after true f) None) rows
+    (directions voc)
 with_differences false f voc rows = Done rows
 
 -- bounds before, after and on differences, behind other rows
-unfoldable pub with_bounds : Bool → Transition → Vocabulary → Vocabulary → List Row → Posing (List Row)
+unfoldable pub with_bounds : Bool → Transition → Vocabulary → Vocabulary → List Row
+    → Posing (List Row)
 with_bounds one f from to rows =
     each (bounded_before f.cases) rows (directions from) >>= λ before.
     each (bounded_after f.cases (posts_after one f)) before (directions to) >>= λ both.
@@ -94,18 +103,26 @@ squash_rows one f from to = related one f >>= with_bounds one f from to
 
 -- an auxiliary for each modified variable
 abbrev pub squash_case : Bool → Transition → List Row → Case
-squash_case one f rows = record { aux = length (modified one f); rows = rows; post = posts_after one f }
+squash_case one f rows = record {
+  aux = length (modified one f);
+  rows = rows;
+  post = posts_after one f;
+}
 
 -- losses of changes are noted before the first question
 unfoldable pub squashed_case : Bool → Transition → Vocabulary → Vocabulary → Posing Case
-squashed_case one f from to = Noted (lost_changes one f) (squash_rows one f from to >>= λ rows. Done (squash_case one f rows))
+squashed_case one f from to =
+    Noted (lost_changes one f) (squash_rows one f from to >>= λ rows. Done (squash_case one f rows))
 
 -- ---- the formula
 
 -- the vocabularies are equal
 abbrev pub are_same : Vocabulary → Vocabulary → Bool
 are_same v w =
-    v.columns == w.columns && (v.rule == w.rule && (pointwise (λ m n. m == n) v.named w.named && (pointwise poly_eq v.harvested w.harvested && pointwise poly_eq v.extra w.extra)))
+    v.columns == w.columns
+    && (v.rule == w.rule
+    && (pointwise (λ m n. m == n) v.named w.named
+    && (pointwise poly_eq v.harvested w.harvested && pointwise poly_eq v.extra w.extra)))
 
 unfoldable pub squashed : Transition → Vocabulary → Vocabulary → Posing Transition
 squashed f from to =

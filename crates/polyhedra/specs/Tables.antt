@@ -21,7 +21,8 @@ abbrev pub fault_of : Made → Option TermError
 fault_of (Ok p) = None
 fault_of (Err e) = Some e
 
--- the changes of the first so many variables of a case, 0 where they cannot be made, and why they cannot
+-- the changes of the first so many variables of a case, 0 where they cannot be made, and why they
+-- cannot
 abbrev pub table_of : Bool → ℕ → Case → Moves
 table_of one n case = record {
   polys = map (λ v. or_zero (change one case v)) (range_with_len 0 n);
@@ -30,7 +31,10 @@ table_of one n case = record {
 
 -- with one more change
 abbrev pub with_made : Moves → Made → Moves
-with_made moves made = record { polys = moves.polys ++ or_zero made ∷ []; faults = moves.faults ++ fault_of made ∷ [] }
+with_made moves made = record {
+  polys = moves.polys ++ or_zero made ∷ [];
+  faults = moves.faults ++ fault_of made ∷ [];
+}
 
 -- the tables of cases, and a direction over no other columns
 pub record AreTables (cases : List Case) (tables : List Moves) (d : Polynomial) : Type 0 where
@@ -60,7 +64,8 @@ first_fault faults (t ∷ ts) = or_else (first_in faults t.0) (first_fault fault
 
 -- the change of a variable is not zero, or cannot be made
 abbrev pub is_moved : ℕ → Moves → Bool
-is_moved v moves = is_some (fault_at moves.faults (At v)) || not (poly_eq (poly_at moves.polys v) (constant_of (pos 0)))
+is_moved v moves = is_some (fault_at moves.faults (At v))
+    || not (poly_eq (poly_at moves.polys v) (constant_of (pos 0)))
 
 abbrev pub is_moved_in : List Moves → ℕ → Bool
 is_moved_in tables v = list_any (is_moved v) tables
@@ -83,10 +88,14 @@ losses_at (Some e) = noted e
 
 -- the changes of some variables, over the rows of a case
 abbrev pub change_of : List ℕ → Case → Moves → Change
-change_of variables case moves = record { rows = case.rows; terms = map (poly_at moves.polys) variables }
+change_of variables case moves = record {
+  rows = case.rows;
+  terms = map (poly_at moves.polys) variables;
+}
 
 -- the same of each case
 abbrev pub changes_from : List ℕ → List Case → List Moves → List Change
 changes_from variables [] tables = []
 changes_from variables (case ∷ cases) [] = []
-changes_from variables (case ∷ cases) (moves ∷ tables) = change_of variables case moves ∷ changes_from variables cases tables
+changes_from variables (case ∷ cases) (moves ∷ tables) = change_of variables case moves
+    ∷ changes_from variables cases tables

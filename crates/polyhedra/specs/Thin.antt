@@ -18,7 +18,8 @@ without_if drops place rows = if drops then remove rows place else rows
 
 -- the row is left out where the others exclude its negation
 unfoldable pub thinned_with : Row → ℕ → List Row → Posing (List Row)
-thinned_with negation place rows = infeasible (remove rows place ++ negation ∷ []) >>= λ drops. Done (without_if drops place rows)
+thinned_with negation place rows = infeasible (remove rows place ++ negation ∷ [])
+    >>= λ drops. Done (without_if drops place rows)
 
 -- where the negation is lost, that is noted and the row stays
 unfoldable pub thinned_by : Result Row TermError → ℕ → List Row → Posing (List Row)
@@ -41,4 +42,8 @@ abbrev pub thinned_rows : List Row → Posing (List Row)
 thinned_rows rows = down thinned_at rows (length rows)
 
 unfoldable pub thinned : Case → Posing Case
-thinned case = thinned_rows case.rows >>= λ rows. Done record { aux = case.aux; rows = rows; post = case.post }
+thinned case = thinned_rows case.rows >>= λ rows. Done record {
+  aux = case.aux;
+  rows = rows;
+  post = case.post;
+}

@@ -7,7 +7,8 @@ use Rattle.linear_terms.specs.declared.col.Col.TheVariants.{At}
 use Rattle.linear_terms.specs.Polynomial.{Polynomial, IsCanonical}
 use Rattle.transition_formula.specs.Transition.{is_below}
 
--- the columns of an end, those that are named, linear terms that a text compares, the rule of the program, and further directions
+-- the columns of an end, those that are named, linear terms that a text compares, the rule of the
+-- program, and further directions
 pub record Vocabulary : Type 0 where
   pub columns : ℕ
   pub named : List ℕ
@@ -26,7 +27,8 @@ pub record IsDirectionOver (columns : ℕ) (d : Polynomial) : Type 0 where
   pub canonical : IsCanonical d.terms
   pub within : AllByRecursion (λ t. AllByRecursion (λ c. IsTrue (is_below columns 0 c)) t.0) d.terms
 
--- the named columns ascend and are columns; there are at most 32 harvested terms, and they and the further directions are directions
+-- the named columns ascend and are columns; there are at most 32 harvested terms, and they and the
+-- further directions are directions
 pub record IsVocabulary (voc : Vocabulary) : Type 0 where
   pub ascending : IsStrictlySortedBy nat_cmp voc.named
   pub named : AllByRecursion (λ v. v < voc.columns) voc.named

@@ -10,8 +10,8 @@ use items::Items;
 use linear_terms::{Col, Poly, TermError, difference};
 use std::alloc::{AllocError, Global};
 
-/// A polynomial for each variable afterwards: auxiliaries for those that are modified, in order; for another its entry column
-/// where both ends have one vocabulary, else 0.
+/// A polynomial for each variable afterwards: auxiliaries for those that are modified, in order;
+/// for another its entry column where both ends have one vocabulary, else 0.
 pub fn posts_after(
     alloc: Global,
     one: bool,
@@ -19,7 +19,8 @@ pub fn posts_after(
     to: u32,
 ) -> Result<Items<Poly>, AllocError>
     requires { length modified.now < 2 ^ 32 }
-    ensures { IfOk result (λ posts. posts ≡ map (after_from one 0 modified.now) (range_with_len 0 to)) }
+    ensures { IfOk result
+        (λ posts. posts ≡ map (after_from one 0 modified.now) (range_with_len 0 to)) }
 {
     let mut posts = Items::new(alloc);
     for v in 0..to {
@@ -36,7 +37,8 @@ pub fn changes_after(
     to: u32,
 ) -> Result<Items<Poly>, AllocError>
     requires { length modified.now < 2 ^ 32 }
-    ensures { IfOk result (λ changes. changes ≡ map (change_after one modified.now) (range_with_len 0 to)) }
+    ensures { IfOk result
+        (λ changes. changes ≡ map (change_after one modified.now) (range_with_len 0 to)) }
 {
     let mut changes = Items::new(alloc);
     for v in 0..to {
@@ -103,7 +105,8 @@ fn change_after(alloc: Global, one: bool, modified: &[u32], v: u32) -> Result<Po
 
 /// What could be made, or else 0; want of memory is an error here too.
 fn or_zero(alloc: Global, made: Result<Poly, TermError>) -> Result<Poly, AllocError>
-    ensures { (stated : Made) → Gives cause (λ p. p) made stated → IfOk result (λ p. p ≡ or_zero stated) }
+    ensures { (stated : Made) → Gives cause (λ p. p) made stated
+        → IfOk result (λ p. p ≡ or_zero stated) }
 {
     match made {
         Ok(poly) => Ok(poly),

@@ -47,8 +47,8 @@ fn bound_in(answer: &Answer) -> Option<i128>
     }
 }
 
-/// The greatest value of the objective of goals, if it is known. Where the objective is lost, its loss is noted and nothing is
-/// asked; a limit is noted too.
+/// The greatest value of the objective of goals, if it is known. Where the objective is lost, its
+/// loss is noted and nothing is asked; a limit is noted too.
 pub fn bound_by<O: Oracle>(
     alloc: Global,
     goals: Result<Items<Goal>, TermError>,
@@ -122,7 +122,8 @@ fn goal_of(case: &Case, objective: Poly) -> Result<Goal, AllocError>
 
 // ---- bounds before
 
-/// Each direction's greatest value on the entry columns is asked; where there is one, it gives a row behind the others.
+/// Each direction's greatest value on the entry columns is asked; where there is one, it gives a
+/// row behind the others.
 pub fn bounds_before<O: Oracle>(
     alloc: Global,
     rows: Items<Row>,
@@ -131,7 +132,8 @@ pub fn bounds_before<O: Oracle>(
     oracle: &mut O,
     log: &mut Log,
 ) -> Result<Items<Row>, WorkError>
-    ensures { Follows O.asking oracle.old oracle.new log.old log.new result (each (bounded_before cases.now) rows directions.now) }
+    ensures { Follows O.asking oracle.old oracle.new log.old log.new result
+        (each (bounded_before cases.now) rows directions.now) }
 {
     let mut made = rows;
     for d in directions {
@@ -148,7 +150,8 @@ fn bound_before<O: Oracle>(
     oracle: &mut O,
     log: &mut Log,
 ) -> Result<Items<Row>, WorkError>
-    ensures { Follows O.asking oracle.old oracle.new log.old log.new result (bounded_before cases.now rows d.now) }
+    ensures { Follows O.asking oracle.old oracle.new log.old log.new result
+        (bounded_before cases.now rows d.now) }
 {
     let goals = goals_before(alloc, cases, d);
     let bound = bound_by(alloc, goals, oracle, log)?;
@@ -186,8 +189,8 @@ fn before_row(alloc: Global, d: &Poly, most: &i128) -> Result<Row, TermError>
 
 // ---- bounds after
 
-/// Each direction's greatest value on the posts is asked; where there is one, it gives a row behind the others, in which
-/// `after` has what stands for each post.
+/// Each direction's greatest value on the posts is asked; where there is one, it gives a row behind
+/// the others, in which `after` has what stands for each post.
 pub fn bounds_after<O: Oracle>(
     alloc: Global,
     rows: Items<Row>,
@@ -199,7 +202,8 @@ pub fn bounds_after<O: Oracle>(
 ) -> Result<Items<Row>, WorkError>
     requires posts { All (IsCoveredByPosts cases.now) directions.now }
     requires rows { All (IsCovered (length after.now)) directions.now }
-    ensures { Follows O.asking oracle.old oracle.new log.old log.new result (each (bounded_after cases.now after.now) rows directions.now) }
+    ensures { Follows O.asking oracle.old oracle.new log.old log.new result
+        (each (bounded_after cases.now after.now) rows directions.now) }
 {
     let mut made = rows;
     for d in directions {
@@ -219,7 +223,8 @@ fn bound_after<O: Oracle>(
 ) -> Result<Items<Row>, WorkError>
     requires posts { IsCoveredByPosts cases.now d.now }
     requires rows { IsCovered (length after.now) d.now }
-    ensures { Follows O.asking oracle.old oracle.new log.old log.new result (bounded_after cases.now after.now rows d.now) }
+    ensures { Follows O.asking oracle.old oracle.new log.old log.new result
+        (bounded_after cases.now after.now rows d.now) }
 {
     let goals = goals_after(alloc, cases, d);
     let bound = bound_by(alloc, goals, oracle, log)?;
@@ -234,7 +239,8 @@ fn bound_after<O: Oracle>(
 
 fn goals_after(alloc: Global, cases: &[Case], d: &Poly) -> Result<Items<Goal>, TermError>
     requires { IsCoveredByPosts cases.now d.now }
-    ensures { Gives cause (λ g. g) result (goals_of (λ case. put_in_for case.post d.now) cases.now) }
+    ensures { Gives cause (λ g. g) result
+        (goals_of (λ case. put_in_for case.post d.now) cases.now) }
 {
     let mut goals = Items::new(alloc);
     for case in cases {
@@ -254,9 +260,10 @@ fn after_row(alloc: Global, after: &[Poly], d: &Poly, most: &i128) -> Result<Row
 
 // ---- bounds on changes
 
-/// Each direction's greatest value on the changes of the first `to` variables is asked, where both ends have one vocabulary;
-/// where there is one, it gives a row behind the others, in which `moved` has what stands for each change. The change is at
-/// most the bound, or so many times the bound as the column `turns` says.
+/// Each direction's greatest value on the changes of the first `to` variables is asked, where both
+/// ends have one vocabulary; where there is one, it gives a row behind the others, in which `moved`
+/// has what stands for each change. The change is at most the bound, or so many times the bound as
+/// the column `turns` says.
 pub fn bounds_on_changes<O: Oracle>(
     alloc: Global,
     rows: Items<Row>,
@@ -271,7 +278,8 @@ pub fn bounds_on_changes<O: Oracle>(
     requires posts { All (λ case. length case.post ≡ to) cases.now }
     requires columns { All (IsCovered to) directions.now }
     requires rows { All (IsCovered (length moved.now)) directions.now }
-    ensures { Follows O.asking oracle.old oracle.new log.old log.new result (each (bounded_change cases.now moved.now turns) rows directions.now) }
+    ensures { Follows O.asking oracle.old oracle.new log.old log.new result
+        (each (bounded_change cases.now moved.now turns) rows directions.now) }
 {
     let tables = tables_of(alloc, true, cases, to)?;
     let mut made = rows;
@@ -295,7 +303,8 @@ fn bound_on_changes<O: Oracle>(
 ) -> Result<Items<Row>, WorkError>
     requires tables { AreTables cases.now tables.now d.now }
     requires rows { IsCovered (length moved.now) d.now }
-    ensures { Follows O.asking oracle.old oracle.new log.old log.new result (bounded_change cases.now moved.now turns rows d.now) }
+    ensures { Follows O.asking oracle.old oracle.new log.old log.new result
+        (bounded_change cases.now moved.now turns rows d.now) }
 {
     let goals = goals_on_changes(alloc, cases, tables, d);
     let bound = bound_by(alloc, goals, oracle, log)?;
@@ -315,7 +324,8 @@ fn goals_on_changes(
     d: &Poly,
 ) -> Result<Items<Goal>, TermError>
     requires { AreTables cases.now tables.now d.now }
-    ensures { Gives cause (λ g. g) result (goals_of (λ case. put_into (for_entries (change true case)) d.now) cases.now) }
+    ensures { Gives cause (λ g. g) result
+        (goals_of (λ case. put_into (for_entries (change true case)) d.now) cases.now) }
 {
     let mut goals = Items::new(alloc);
     for (place, case) in cases.iter().enumerate() {

@@ -18,8 +18,9 @@ use std::collections::BTreeSet;
 /// What tells a direction from others: its terms and its constant.
 type Key = (Items<(Mono, i128)>, i128);
 
-/// The directions in which bounds are asked for: each named column with both signs, each difference of two named columns,
-/// and each harvested term with both signs, each once; one with a number past 128 bits is left out.
+/// The directions in which bounds are asked for: each named column with both signs, each difference
+/// of two named columns, and each harvested term with both signs, each once; one with a number past
+/// 128 bits is left out.
 #[tactic(auto, unfolding(crate::specs::Directions::directions))]
 pub fn directions(alloc: Global, voc: &Vocabulary) -> Result<Items<Poly>, AllocError>
     ensures { IfOk result (λ made. made ≡ directions voc.now) }
@@ -41,7 +42,9 @@ fn add_columns(
 ) -> Result<(), AllocError>
     requires { TellsMade known.old made.old.items }
     ensures known { OnOk result (TellsMade known.new made.new.items) }
-    ensures made { OnOk result (made.new.items ≡ with_each made.old.items (flat_map (λ v. both_signs (column (At v))) named.now)) }
+    ensures made { OnOk result
+        (made.new.items
+        ≡ with_each made.old.items (flat_map (λ v. both_signs (column (At v))) named.now)) }
 {
     for v in named {
         let poly = column(alloc, *v)?;
@@ -59,7 +62,8 @@ fn add_differences(
 ) -> Result<(), AllocError>
     requires { TellsMade known.old made.old.items }
     ensures known { OnOk result (TellsMade known.new made.new.items) }
-    ensures made { OnOk result (made.new.items ≡ with_each made.old.items (flat_map (less_others named.now) named.now)) }
+    ensures made { OnOk result
+        (made.new.items ≡ with_each made.old.items (flat_map (less_others named.now) named.now)) }
 {
     for u in named {
         add_less_others(alloc, made, known, named, *u)?;
@@ -77,7 +81,8 @@ fn add_less_others(
 ) -> Result<(), AllocError>
     requires { TellsMade known.old made.old.items }
     ensures known { OnOk result (TellsMade known.new made.new.items) }
-    ensures made { OnOk result (made.new.items ≡ with_each made.old.items (less_others named.now u)) }
+    ensures made { OnOk result
+        (made.new.items ≡ with_each made.old.items (less_others named.now u)) }
 {
     for v in named {
         if u != *v {
@@ -97,7 +102,9 @@ fn add_terms(
 ) -> Result<(), AllocError>
     requires { TellsMade known.old made.old.items }
     ensures known { OnOk result (TellsMade known.new made.new.items) }
-    ensures made { OnOk result (made.new.items ≡ with_each made.old.items (flat_map (λ h. both_signs (Ok h)) harvested.now)) }
+    ensures made { OnOk result
+        (made.new.items
+        ≡ with_each made.old.items (flat_map (λ h. both_signs (Ok h)) harvested.now)) }
 {
     for term in harvested {
         let poly = term.clone()?;
@@ -130,7 +137,8 @@ fn add(
 ) -> Result<(), AllocError>
     requires { TellsMade known.old made.old.items }
     ensures known { OnOk result (TellsMade known.new made.new.items) }
-    ensures made { (stated : Made) → Gives cause (λ p. p) candidate stated → OnOk result (made.new.items ≡ with_each made.old.items (stated ∷ [])) }
+    ensures made { (stated : Made) → Gives cause (λ p. p) candidate stated
+        → OnOk result (made.new.items ≡ with_each made.old.items (stated ∷ [])) }
 {
     match candidate {
         Ok(poly) => add_new(alloc, made, known, poly),

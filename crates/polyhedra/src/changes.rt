@@ -34,7 +34,8 @@ pub(crate) fn moves_of(alloc: Global, one: bool, case: &Case, to: u32) -> Result
     Ok(moves)
 }
 
-/// The change of a variable: where both ends have one vocabulary its post less its entry column, else its post.
+/// The change of a variable: where both ends have one vocabulary its post less its entry column,
+/// else its post.
 pub fn change(alloc: Global, one: bool, case: &Case, v: u32) -> Result<Poly, TermError>
     requires { v < length case.now.post }
     ensures { Gives cause (λ p. p) result (change one case.now v) }
@@ -61,7 +62,8 @@ fn with_change(
     moves: Moves,
     made: Result<Poly, TermError>,
 ) -> Result<Moves, AllocError>
-    ensures { (stated : Made) → Gives cause (λ p. p) made stated → IfOk result (λ all. all ≡ with_made moves stated) }
+    ensures { (stated : Made) → Gives cause (λ p. p) made stated
+        → IfOk result (λ all. all ≡ with_made moves stated) }
 {
     let mut polys = moves.polys;
     let mut faults = moves.faults;
@@ -79,7 +81,8 @@ fn with_change(
     Ok(Moves { polys, faults })
 }
 
-/// A direction with the changes of a case put in for its columns. A change that cannot be made comes before any step.
+/// A direction with the changes of a case put in for its columns. A change that cannot be made
+/// comes before any step.
 pub(crate) fn objective(alloc: Global, moves: &Moves, d: &Poly) -> Result<Poly, TermError>
     requires { IsCovered (length moves.now.polys) d.now }
     ensures { (one : Bool) (n : ℕ) (case : Case) → moves.now ≡ table_of one n case →

@@ -26,8 +26,9 @@ use linear_terms::{Case, Poly, Row};
 use std::alloc::{AllocError, Global};
 use transition_formula::Formula;
 
-/// The formula, if it has at most 16 cases, each of at most 64 rows and 64 auxiliaries; else one case that holds of all that it
-/// holds of, from relations and bounds that the answers give. It goes between the same columns.
+/// The formula, if it has at most 16 cases, each of at most 64 rows and 64 auxiliaries; else one
+/// case that holds of all that it holds of, from relations and bounds that the answers give. It
+/// goes between the same columns.
 pub fn fit<O: Oracle>(
     alloc: Global,
     f: &Formula,
@@ -37,14 +38,16 @@ pub fn fit<O: Oracle>(
     log: &mut Log,
 ) -> Result<Formula, WorkError>
     requires { IsBetween f.now from.now to.now }
-    ensures follows { Follows O.asking oracle.old oracle.new log.old log.new result (fitted f.now from.now to.now) }
+    ensures follows { Follows O.asking oracle.old oracle.new log.old log.new result
+        (fitted f.now from.now to.now) }
     ensures covers { IfOk result (λ g. Covers g f.now) }
     ensures small { IfOk result (IsSmall f.now) }
 {
     fitted(alloc, f, from, to, oracle, log)
 }
 
-/// What comes of fitting a formula holds of all that the formula holds of, whatever true answers are given.
+/// What comes of fitting a formula holds of all that the formula holds of, whatever true answers
+/// are given.
 pub fn coverage_of_fitting()
     ensures { FittingCovers }
 {}
@@ -65,7 +68,8 @@ fn fitted<O: Oracle>(
     log: &mut Log,
 ) -> Result<Formula, WorkError>
     requires { IsBetween f.now from.now to.now }
-    ensures { Follows O.asking oracle.old oracle.new log.old log.new result (fitted f.now from.now to.now) }
+    ensures { Follows O.asking oracle.old oracle.new log.old log.new result
+        (fitted f.now from.now to.now) }
 {
     if f.is_fitted() {
         let copy = f.clone()?;
@@ -85,7 +89,8 @@ fn noted_squash<O: Oracle>(
     log: &mut Log,
 ) -> Result<Formula, WorkError>
     requires { IsBetween f.now from.now to.now }
-    ensures { Follows O.asking oracle.old oracle.new log.old log.new result (noted_squash f.now from.now to.now) }
+    ensures { Follows O.asking oracle.old oracle.new log.old log.new result
+        (noted_squash f.now from.now to.now) }
 {
     let notes = squash_notes(alloc, f.cases().len())?;
     log.add_notes(notes)?;
@@ -111,7 +116,8 @@ fn squash<O: Oracle>(
     log: &mut Log,
 ) -> Result<Formula, WorkError>
     requires { IsBetween f.now from.now to.now }
-    ensures { Follows O.asking oracle.old oracle.new log.old log.new result (squashed f.now from.now to.now) }
+    ensures { Follows O.asking oracle.old oracle.new log.old log.new result
+        (squashed f.now from.now to.now) }
 {
     let one = from.same(to);
     let case = squashed_case(alloc, one, f, from, to, oracle, log)?;
@@ -143,7 +149,8 @@ fn squashed_case<O: Oracle>(
 ) -> Result<Case, WorkError>
     requires between { IsBetween f.now from.now to.now }
     requires one { one ≡ are_same from.now to.now }
-    ensures { Follows O.asking oracle.old oracle.new log.old log.new result (squashed_case one f.now from.now to.now) }
+    ensures { Follows O.asking oracle.old oracle.new log.old log.new result
+        (squashed_case one f.now from.now to.now) }
 {
     let movement = movement_of(alloc, one, f)?;
     let aux = movement.modified.len() as u32;
@@ -189,7 +196,8 @@ fn squash_rows<O: Oracle>(
     requires moving { movement.moving ≡ changes.moving one f.now }
     requires cases { movement.cases ≡ changes.changes_of one f.now }
     requires occurring { movement.occurring ≡ changes.occurring one f.now }
-    ensures { Follows O.asking oracle.old oracle.new log.old log.new result (squash_rows one f.now from.now to.now) }
+    ensures { Follows O.asking oracle.old oracle.new log.old log.new result
+        (squash_rows one f.now from.now to.now) }
 {
     let Movement {
         modified,
@@ -264,8 +272,12 @@ fn related_rows(
     log: &mut Log,
 ) -> Result<Items<Row>, AllocError>
     requires { length modified.now < 2 ^ 32 }
-    ensures noted { Adds (loss_notes (relation_losses (map (change_after one modified.now) moving.now) (entries_of occurring.now) relations.now)) log.old log.new result }
-    ensures exact { IfOk result (λ rows. rows ≡ relation_rows (map (change_after one modified.now) moving.now) (entries_of occurring.now) relations.now) }
+    ensures noted { Adds
+        (loss_notes (relation_losses (map (change_after one modified.now) moving.now)
+        (entries_of occurring.now) relations.now)) log.old log.new result }
+    ensures exact { IfOk result
+        (λ rows. rows ≡ relation_rows (map (change_after one modified.now) moving.now)
+        (entries_of occurring.now) relations.now) }
 {
     let terms = changes_of_some(alloc, one, modified, moving)?;
     let lower = entries_of(alloc, occurring)?;
@@ -299,7 +311,8 @@ fn bounds<O: Oracle>(
     requires between { IsBetween f.now from.now to.now }
     requires one { one ≡ are_same from.now to.now }
     requires modified { modified.now ≡ changes.modified one f.now }
-    ensures { Follows O.asking oracle.old oracle.new log.old log.new result (with_bounds one f.now from.now to.now rows) }
+    ensures { Follows O.asking oracle.old oracle.new log.old log.new result
+        (with_bounds one f.now from.now to.now rows) }
 {
     let entry = directions(alloc, from)?;
     let before = bounds_before(alloc, rows, f.cases(), entry.as_slice(), oracle, log)?;
@@ -333,7 +346,8 @@ fn exit_bounds<O: Oracle>(
     requires valid { IsVocabulary to.now }
     requires few { length modified.now < 2 ^ 32 }
     requires modified { modified.now ≡ changes.modified one f.now }
-    ensures { Follows O.asking oracle.old oracle.new log.old log.new result (each (bounded_after f.now.cases (posts_after one f.now)) rows (directions to.now)) }
+    ensures { Follows O.asking oracle.old oracle.new log.old log.new result
+        (each (bounded_after f.now.cases (posts_after one f.now)) rows (directions to.now)) }
 {
     let posts = posts_after(alloc, one, modified, f.to())?;
     let exit = directions(alloc, to)?;
@@ -366,7 +380,8 @@ fn differences<O: Oracle>(
     requires few { length modified.now < 2 ^ 32 }
     requires modified { modified.now ≡ changes.modified one f.now }
     requires entry { entry.now ≡ directions from.now }
-    ensures { Follows O.asking oracle.old oracle.new log.old log.new result (with_differences one f.now from.now rows) }
+    ensures { Follows O.asking oracle.old oracle.new log.old log.new result
+        (with_differences one f.now from.now rows) }
 {
     if !one {
         return Ok(rows);

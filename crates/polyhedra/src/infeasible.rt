@@ -31,7 +31,8 @@ fn noted_answer<O: Oracle>(
     oracle: &mut O,
     log: &mut Log,
 ) -> Result<Answer, WorkError>
-    ensures { Follows O.asking oracle.old oracle.new log.old log.new result (noted_answer question.now) }
+    ensures { Follows O.asking oracle.old oracle.new log.old log.new result
+        (noted_answer question.now) }
 {
     let answer = ask(alloc, question, oracle, log)?;
     note_limit(alloc, &answer, log)?;
@@ -45,7 +46,8 @@ pub(crate) fn answer_once<O: Oracle>(
     oracle: &mut O,
     log: &mut Log,
 ) -> Result<Answer, WorkError>
-    ensures { Follows O.asking oracle.old oracle.new log.old log.new result (noted_answer question) }
+    ensures { Follows O.asking oracle.old oracle.new log.old log.new result
+        (noted_answer question) }
 {
     noted_answer(alloc, &question, oracle, log)
 }

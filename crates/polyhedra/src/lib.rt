@@ -1,5 +1,6 @@
-//! Formulas made small with the help of an oracle: cases that hold of nothing are dropped, rows that follow from others
-//! are left out, and many cases are made one that holds of all that they hold of.
+//! Formulas made small with the help of an oracle: cases that hold of nothing are dropped, rows
+//! that follow from others are left out, and many cases are made one that holds of all that they
+//! hold of.
 #![tactic(auto)]
 
 mod after;

@@ -25,7 +25,8 @@ use linear_terms::{Kind, Poly, Row, TermError, combination, difference};
 use std::alloc::{AllocError, Global};
 use transition_formula::Loss;
 
-/// The relations between the terms of cases and lower terms that are true in each case, if they are known. A limit is noted.
+/// The relations between the terms of cases and lower terms that are true in each case, if they are
+/// known. A limit is noted.
 #[tactic(auto, using(posing::proofs::Following::following), unfolding(crate::specs::Relations::relations_of))]
 pub fn relations_of<O: Oracle>(
     alloc: Global,
@@ -33,7 +34,8 @@ pub fn relations_of<O: Oracle>(
     oracle: &mut O,
     log: &mut Log,
 ) -> Result<Option<Items<Relation>>, WorkError>
-    ensures { Follows O.asking oracle.old oracle.new log.old log.new result (relations_of stratum.cases stratum.lower) }
+    ensures { Follows O.asking oracle.old oracle.new log.old log.new result
+        (relations_of stratum.cases stratum.lower) }
 {
     let terms = term_count(stratum.cases());
     let lower = stratum.lower().len();
@@ -58,7 +60,8 @@ fn relations_in(
     terms: usize,
     lower: usize,
 ) -> Result<Option<Items<Relation>>, AllocError>
-    ensures { (cases : List Change) (lowers : List Polynomial) → terms ≡ term_count cases → lower ≡ length lowers → IfOk result (λ found. found ≡ relations_in cases lowers answer) }
+    ensures { (cases : List Change) (lowers : List Polynomial) → terms ≡ term_count cases
+        → lower ≡ length lowers → IfOk result (λ found. found ≡ relations_in cases lowers answer) }
 {
     match answer {
         Answer::Basis { relations, .. } => Ok(Some(with_unknowns(alloc, relations, terms, lower)?)),
@@ -72,7 +75,9 @@ fn with_unknowns(
     terms: usize,
     lower: usize,
 ) -> Result<Items<Relation>, AllocError>
-    ensures { (cases : List Change) (lowers : List Polynomial) → terms ≡ term_count cases → lower ≡ length lowers → IfOk result (λ kept. kept ≡ filter (has_unknowns cases lowers) relations) }
+    ensures { (cases : List Change) (lowers : List Polynomial) → terms ≡ term_count cases
+        → lower ≡ length lowers
+        → IfOk result (λ kept. kept ≡ filter (has_unknowns cases lowers) relations) }
 {
     let mut kept = Items::new(alloc);
     for relation in relations {
@@ -83,7 +88,8 @@ fn with_unknowns(
     Ok(kept)
 }
 
-/// The rows that say what relations say of the terms and the lower terms. A row that is lost is noted.
+/// The rows that say what relations say of the terms and the lower terms. A row that is lost is
+/// noted.
 pub fn relation_rows(
     alloc: Global,
     terms: &[Poly],
@@ -91,7 +97,8 @@ pub fn relation_rows(
     relations: &[Relation],
     log: &mut Log,
 ) -> Result<Items<Row>, AllocError>
-    ensures noted { Adds (loss_notes (relation_losses terms.now lower.now relations.now)) log.old log.new result }
+    ensures noted { Adds (loss_notes (relation_losses terms.now lower.now relations.now)) log.old
+        log.new result }
     ensures exact { IfOk result (λ rows. rows ≡ relation_rows terms.now lower.now relations.now) }
 {
     let mut rows = Items::new(alloc);
@@ -129,7 +136,8 @@ fn less_lower(
     lower: &[Poly],
     relation: &Relation,
 ) -> Result<Poly, TermError>
-    ensures { Gives cause (λ p. p) result (weighted relation.now.a terms.now ⊟ weighted relation.now.b lower.now) }
+    ensures { Gives cause (λ p. p) result
+        (weighted relation.now.a terms.now ⊟ weighted relation.now.b lower.now) }
 {
     let of_terms = combination(alloc, relation.a.as_slice(), terms)?;
     let of_lower = combination(alloc, relation.b.as_slice(), lower)?;
@@ -142,8 +150,10 @@ pub fn add_row(
     losses: &mut Items<Loss>,
     made: Result<Row, TermError>,
 ) -> Result<(), AllocError>
-    ensures rows { (stated : Result Row TermError) → Gives cause (λ r. r) made stated → OnOk result (rows.new ≡ rows.old ++ option_to_list (answered stated)) }
-    ensures losses { (stated : Result Row TermError) → Gives cause (λ r. r) made stated → OnOk result (losses.new ≡ losses.old ++ losses_of stated) }
+    ensures rows { (stated : Result Row TermError) → Gives cause (λ r. r) made stated
+        → OnOk result (rows.new ≡ rows.old ++ option_to_list (answered stated)) }
+    ensures losses { (stated : Result Row TermError) → Gives cause (λ r. r) made stated
+        → OnOk result (losses.new ≡ losses.old ++ losses_of stated) }
 {
     match made {
         Ok(row) => rows.push(row)?,

@@ -17,8 +17,8 @@ use linear_terms::{Case, Row, see_rows};
 use std::alloc::{AllocError, Global};
 use transition_formula::{Formula, FormulaError, Solved, solve};
 
-/// Puts each case in order and drops those that the answers call infeasible. What is left holds of all that the
-/// formula holds of.
+/// Puts each case in order and drops those that the answers call infeasible. What is left holds of
+/// all that the formula holds of.
 pub fn settle<O: Oracle>(
     alloc: Global,
     f: &Formula,
@@ -26,7 +26,8 @@ pub fn settle<O: Oracle>(
     log: &mut Log,
 ) -> Result<Formula, WorkError>
     requires { AreSolvable f.now.cases }
-    ensures follows { Follows O.asking oracle.old oracle.new log.old log.new result (settled f.now) }
+    ensures follows { Follows O.asking oracle.old oracle.new log.old log.new result
+        (settled f.now) }
     ensures covers { IfOk result (λ g. Covers g f.now) }
 {
     let given = f.cases();
@@ -40,8 +41,8 @@ pub fn coverage_of_settling()
     ensures { SettlingCovers }
 {}
 
-/// Each case's rows have their monomials in print order, each once, with numbers that are not zero. It goes over the cases
-/// and has no part in an answer.
+/// Each case's rows have their monomials in print order, each once, with numbers that are not zero.
+/// It goes over the cases and has no part in an answer.
 pub(crate) fn see_cases(cases: &[Case])
     ensures { HaveCanonicalRows cases.now }
 {
@@ -57,7 +58,8 @@ fn settle_cases<O: Oracle>(
     log: &mut Log,
 ) -> Result<Items<Case>, WorkError>
     requires { AreSolvable cases.now }
-    ensures { Follows O.asking oracle.old oracle.new log.old log.new result (settled_cases cases.now) }
+    ensures { Follows O.asking oracle.old oracle.new log.old log.new result
+        (settled_cases cases.now) }
 {
     let mut made = Items::new(alloc);
     for case in cases {
@@ -76,7 +78,8 @@ fn add_settled<O: Oracle>(
     log: &mut Log,
 ) -> Result<Items<Case>, WorkError>
     requires { IsSolvable case.now }
-    ensures { Follows O.asking oracle.old oracle.new log.old log.new result (with_settled made case.now) }
+    ensures { Follows O.asking oracle.old oracle.new log.old log.new result
+        (with_settled made case.now) }
 {
     let left = settle_case(alloc, case, oracle, log)?;
     Ok(with_left(made, left)?)
@@ -91,7 +94,8 @@ fn settle_case<O: Oracle>(
     log: &mut Log,
 ) -> Result<Option<Case>, WorkError>
     requires { IsSolvable case.now }
-    ensures { Follows O.asking oracle.old oracle.new log.old log.new result (settled_case case.now) }
+    ensures { Follows O.asking oracle.old oracle.new log.old log.new result
+        (settled_case case.now) }
 {
     match solve_noted(alloc, case, log)? {
         None => Ok(None),

@@ -17,8 +17,8 @@ use items::Items;
 use linear_terms::{Case, Kind, Row, TermError, negation};
 use std::alloc::{AllocError, Global};
 
-/// Leaves out inequalities that the other rows entail, from the last to the first. What is left holds of all that the case
-/// holds of.
+/// Leaves out inequalities that the other rows entail, from the last to the first. What is left
+/// holds of all that the case holds of.
 #[tactic(auto, using(posing::proofs::Following::following))]
 pub fn thin<O: Oracle>(
     alloc: Global,
@@ -26,7 +26,8 @@ pub fn thin<O: Oracle>(
     oracle: &mut O,
     log: &mut Log,
 ) -> Result<Case, WorkError>
-    ensures follows { Follows O.asking oracle.old oracle.new log.old log.new result (thinned case.now) }
+    ensures follows { Follows O.asking oracle.old oracle.new log.old log.new result
+        (thinned case.now) }
     ensures covers { IfOk result (IsWider case.now) }
 {
     let copy = case.clone()?;
@@ -78,7 +79,8 @@ fn thin_at<O: Oracle>(
     oracle: &mut O,
     log: &mut Log,
 ) -> Result<Items<Row>, WorkError>
-    ensures { Follows O.asking oracle.old oracle.new log.old log.new result (thinned_at rows place) }
+    ensures { Follows O.asking oracle.old oracle.new log.old log.new result
+        (thinned_at rows place) }
 {
     if place >= rows.len() {
         return Ok(rows);
@@ -103,7 +105,9 @@ fn thin_by<O: Oracle>(
     log: &mut Log,
 ) -> Result<Items<Row>, WorkError>
     requires { place < length rows }
-    ensures { (stated : Result Row TermError) → Gives cause (λ r. r) negation stated → Follows O.asking oracle.old oracle.new log.old log.new result (thinned_by stated place rows) }
+    ensures { (stated : Result Row TermError) → Gives cause (λ r. r) negation stated
+        → Follows O.asking oracle.old oracle.new log.old log.new result
+        (thinned_by stated place rows) }
 {
     match negation {
         Ok(row) => thin_with(alloc, rows, place, row, oracle, log),
@@ -125,7 +129,8 @@ fn thin_with<O: Oracle>(
     log: &mut Log,
 ) -> Result<Items<Row>, WorkError>
     requires { place < length rows }
-    ensures { Follows O.asking oracle.old oracle.new log.old log.new result (thinned_with negation place rows) }
+    ensures { Follows O.asking oracle.old oracle.new log.old log.new result
+        (thinned_with negation place rows) }
 {
     let (others, row) = parted(rows, place);
     let question = question_of(others, negation)?;
@@ -155,7 +160,8 @@ fn question_of(others: Items<Row>, negation: Row) -> Result<Question, AllocError
 
 /// The rows of the question without the last.
 fn others_of(alloc: Global, question: Question) -> Items<Row>
-    ensures { (others : List Row) (last : Row) → question ≡ Infeasible (others ++ last ∷ []) → result ≡ others }
+    ensures { (others : List Row) (last : Row) → question ≡ Infeasible (others ++ last ∷ [])
+        → result ≡ others }
 {
     let mut rows = rows_of(alloc, question);
     let _last = rows.pop();

@@ -54,7 +54,8 @@ pub fn movement_of(alloc: Global, one: bool, f: &Formula) -> Result<Movement, Al
 
 /// The variables whose change is not zero, or cannot be made, in some case.
 fn modified(alloc: Global, tables: &[Moves], to: u32) -> Result<Items<u32>, AllocError>
-    ensures { IfOk result (λ variables. variables ≡ filter (is_moved_in tables.now) (range_with_len 0 to)) }
+    ensures { IfOk result
+        (λ variables. variables ≡ filter (is_moved_in tables.now) (range_with_len 0 to)) }
 {
     let mut variables = Items::new(alloc);
     for v in 0..to {
@@ -120,7 +121,8 @@ fn lost_changes(
     tables: &[Moves],
     variables: &[u32],
 ) -> Result<Items<Loss>, AllocError>
-    ensures { IfOk result (λ losses. losses ≡ flat_map (λ v. losses_at (first_of tables.now v)) variables.now) }
+    ensures { IfOk result
+        (λ losses. losses ≡ flat_map (λ v. losses_at (first_of tables.now v)) variables.now) }
 {
     let mut losses = Items::new(alloc);
     for v in variables {
@@ -213,7 +215,8 @@ fn copy_at(alloc: Global, polys: &[Poly], v: u32) -> Result<Poly, AllocError>
 
 /// The entry columns, of so many, that occur in a row or in a term.
 fn occurring(alloc: Global, cases: &[Change], from: u32) -> Result<Items<u32>, AllocError>
-    ensures { IfOk result (λ columns. columns ≡ filter (occurs_in cases.now) (range_with_len 0 from)) }
+    ensures { IfOk result
+        (λ columns. columns ≡ filter (occurs_in cases.now) (range_with_len 0 from)) }
 {
     let mut columns = Items::new(alloc);
     for v in 0..from {

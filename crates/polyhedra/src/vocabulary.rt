@@ -6,9 +6,9 @@ use linear_terms::Poly;
 use std::alloc::AllocError;
 use std::marker::Model;
 
-/// What is asked of the ends of formulas: how many columns an end has, those that are named, in ascending order, at most 32
-/// linear terms that the text compares, the rule of the program, and further directions for loops. Terms and directions are
-/// linear and have no constant.
+/// What is asked of the ends of formulas: how many columns an end has, those that are named, in
+/// ascending order, at most 32 linear terms that the text compares, the rule of the program, and
+/// further directions for loops. Terms and directions are linear and have no constant.
 #[derive(Debug, Drop)]
 pub struct Vocabulary {
     columns: u32,
@@ -23,9 +23,23 @@ impl Model for Vocabulary {
 
     ghost Value = { plain.Vocabulary };
 
-    ghost view = { λ v. record { columns = v.columns; named = v.named; harvested = v.harvested; rule = v.rule; extra = v.extra } };
+    ghost view = { λ v.
+        record {
+          columns = v.columns;
+          named = v.named;
+          harvested = v.harvested;
+          rule = v.rule;
+          extra = v.extra;
+        } };
 
-    ghost invariant = { λ v. plain.IsVocabulary (record { columns = v.columns; named = v.named; harvested = v.harvested; rule = v.rule; extra = v.extra }) };
+    ghost invariant = { λ v. plain.IsVocabulary
+        (record {
+          columns = v.columns;
+          named = v.named;
+          harvested = v.harvested;
+          rule = v.rule;
+          extra = v.extra;
+        }) };
 }
 
 impl Vocabulary {
@@ -37,8 +51,22 @@ impl Vocabulary {
         rule: u32,
         extra: Items<Poly>,
     ) -> Vocabulary
-        requires { IsVocabulary (record { columns = columns; named = named; harvested = harvested; rule = rule; extra = extra }) }
-        ensures { result ≡ record { columns = columns; named = named; harvested = harvested; rule = rule; extra = extra } }
+        requires { IsVocabulary
+            (record {
+              columns = columns;
+              named = named;
+              harvested = harvested;
+              rule = rule;
+              extra = extra;
+            }) }
+        ensures { result
+            ≡ record {
+              columns = columns;
+              named = named;
+              harvested = harvested;
+              rule = rule;
+              extra = extra;
+            } }
     {
         Vocabulary {
             columns,

@@ -1,4 +1,5 @@
--- What calls that follow a computation come to, as a whole: under listed answers, and with parts that were kept.
+-- What calls that follow a computation come to, as a whole: under listed answers, and with parts
+-- that were kept.
 --     replayed, replay_stuck, replay_refused     a call with an oracle over listed answers: the value, or the question where they end
 --     follows_kept               what a call logged is kept
 --     kept_bind, kept_node       kept parts in a row; an operation over two kept operands
@@ -31,7 +32,8 @@ split : (answers : List Answer) (old new : Option (List Answer)) (all : List Ans
 split answers old None all e f = cc
 split answers old (Some left) all e f = (left, refl, (let same : Some all ≡ Some (answers ++ left) = sym e ∙ f in cc))
 
--- a call that came to a value: so does its computation under all the answers, with the notes that it made, and the same answers are left
+-- a call that came to a value: so does its computation under all the answers, with the notes that
+-- it made, and the same answers are left
 pub record Replayed {S A : Type 0} (O : Asking S) (new : S) (before after : Log) (p : Posing A) (value : A) (all : List Answer) : Type 0 where
   pub notes : List Note
   pub left : List Answer

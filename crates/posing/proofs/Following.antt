@@ -1,4 +1,5 @@
--- How calls that ask an oracle are composed. `following` has the steps by which a function's exits are proved.
+-- How calls that ask an oracle are composed. `following` has the steps by which a function's exits
+-- are proved.
 --     leads_none, leads_quiet     nothing was asked or noted
 --     leads_then                  a part of a call, and then another
 --     leads_into                  a part of a call with more to come

@@ -14,7 +14,8 @@ use Rattle.posing.specs.declared.note.Note.{Note}
 use Rattle.posing.specs.Posing.{Posing, Done, Asked, Path}
 
 -- what is known of an answer that an oracle gave
-pub record IsGood (allows : Question → Answer → Type 0) (question : Question) (answer : Answer) : Type 0 where
+pub record IsGood (allows : Question → Answer → Type 0) (question : Question)
+    (answer : Answer) : Type 0 where
   pub passes : Passes question answer
   pub is_true : IsTrueAnswer question answer
   pub allowed : allows question answer
@@ -25,11 +26,17 @@ with_all answers told = option_map (λ rest. answers ++ rest) told
 
 -- an oracle that tells no answers left
 abbrev pub silent : {S : Type 0} → Asking S → Asking S
-silent O = record { refusals = O.refusals; declines = O.declines; allows = O.allows; left = λ s. None }
+silent O = record {
+  refusals = O.refusals;
+  declines = O.declines;
+  allows = O.allows;
+  left = λ s. None;
+}
 
--- The log gained notes and answers that lead from one computation to what is left of it. They are those that the oracle had next,
--- and its count of refusals did not fall.
-pub record Leads {S A : Type 0} (O : Asking S) (old new : S) (before after : Log) (p q : Posing A) : Type 0 where
+-- The log gained notes and answers that lead from one computation to what is left of it. They are
+-- those that the oracle had next, and its count of refusals did not fall.
+pub record Leads {S A : Type 0} (O : Asking S) (old new : S) (before after : Log)
+    (p q : Posing A) : Type 0 where
   pub notes : List Note
   pub answers : List Answer
   pub noted : after.notes ≡ before.notes ++ notes
@@ -39,7 +46,8 @@ pub record Leads {S A : Type 0} (O : Asking S) (old new : S) (before after : Log
   pub path : Path (IsGood O.allows) p notes answers q
 
 -- the answers led to a question that the oracle refused
-pub record IsRefused {S A : Type 0} (O : Asking S) (old new : S) (before after : Log) (p : Posing A) : Type 0 where
+pub record IsRefused {S A : Type 0} (O : Asking S) (old new : S) (before after : Log)
+    (p : Posing A) : Type 0 where
   pub question : Question
   pub next : Answer → Posing A
   pub leads : Leads O old new before after p (Asked question next)
@@ -47,7 +55,8 @@ pub record IsRefused {S A : Type 0} (O : Asking S) (old new : S) (before after :
   pub rose : Rose (O.refusals old) (O.refusals new)
 
 -- memory was wanting somewhere on the way
-pub record IsHalted {S A : Type 0} (O : Asking S) (old new : S) (before after : Log) (p : Posing A) : Type 0 where
+pub record IsHalted {S A : Type 0} (O : Asking S) (old new : S) (before after : Log)
+    (p : Posing A) : Type 0 where
   pub rest : Posing A
   pub leads : Leads O old new before after p rest
 
@@ -57,10 +66,13 @@ FailsAt O old new before after Refused p = IsRefused O old new before after p
 FailsAt O old new before after Memory p = IsHalted O old new before after p
 
 -- a call came to its value, or failed on the way
-abbrev pub ComesTo : {S A : Type 0} → Asking S → S → S → Log → Log → Result A WorkError → Posing A → Type 0
+abbrev pub ComesTo : {S A : Type 0} → Asking S → S → S → Log → Log → Result A WorkError → Posing A
+    → Type 0
 ComesTo O old new before after (Ok value) p = Leads O old new before after p (Done value)
 ComesTo O old new before after (Err error) p = FailsAt O old new before after error p
 
--- A call did a stated computation to its end, or as far as it got. A record, so that it stays whole in goals.
-pub record Follows {S A : Type 0} (O : Asking S) (old new : S) (before after : Log) (result : Result A WorkError) (p : Posing A) : Type 0 where
+-- A call did a stated computation to its end, or as far as it got. A record, so that it stays whole
+-- in goals.
+pub record Follows {S A : Type 0} (O : Asking S) (old new : S) (before after : Log)
+    (result : Result A WorkError) (p : Posing A) : Type 0 where
   pub comes : ComesTo O old new before after result p

@@ -33,15 +33,16 @@ abbrev pub down : {B : Type 0} → (B → ℕ → Posing B) → B → ℕ → Po
 down step made zero = Done made
 down step made (suc n) = step made n >>= λ next. down step next n
 
--- rounds, each by what is made so far, until one says that it changed nothing, and no more than so many
+-- rounds, each by what is made so far, until one says that it changed nothing, and no more than so
+-- many
 abbrev pub until : {B : Type 0} → (B → Posing (B × Bool)) → ℕ → B → Posing B
 until step zero made = Done made
 until step (suc n) made = step made >>= λ next. if next.1 then until step n next.0 else Done next.0
 
 -- ---- under answers
 
--- what comes of it: a value with the notes and the answers that are not used, or the first question whose answer is missing or
--- does not pass, with the answers from there on
+-- what comes of it: a value with the notes and the answers that are not used, or the first question
+-- whose answer is missing or does not pass, with the answers from there on
 pub data Posed (A : Type 0) : Type 0 where
   Finished : (value : A) (notes : List Note) (left : List Answer) → Posed A
   Stuck : (question : Question) (left : List Answer) → Posed A
@@ -56,7 +57,8 @@ abbrev pub run : {A : Type 0} → Posing A → List Answer → Posed A
 run (Done value) answers = Finished value [] answers
 run (Noted notes next) answers = after_notes notes (run next answers)
 run (Asked question next) [] = Stuck question []
-run (Asked question next) (a ∷ answers) = if passes question a then run (next a) answers else Stuck question (a ∷ answers)
+run (Asked question next) (a ∷ answers) = if passes question a then run (next a) answers
+    else Stuck question (a ∷ answers)
 
 -- ---- whatever the answers
 
@@ -64,13 +66,19 @@ run (Asked question next) (a ∷ answers) = if passes question a then run (next 
 abbrev pub Always : {A : Type 0} → (A → Type 0) → Posing A → Type 0
 Always P (Done value) = P value
 Always P (Noted notes next) = Always P next
-Always P (Asked question next) = (answer : Answer) → IsTrueAnswer question answer → Always P (next answer)
+Always P (Asked question next) = (answer : Answer) → IsTrueAnswer question answer
+    → Always P (next answer)
 
 -- ---- how far answers lead
 
--- these notes and answers lead from one computation to what is left of it, and each answer is good for the question posed
-pub data Path {A : Type 0} (Good : Question → Answer → Type 0) : Posing A → List Note → List Answer → Posing A → Type 0 where
+-- these notes and answers lead from one computation to what is left of it, and each answer is good
+-- for the question posed
+pub data Path {A : Type 0} (Good : Question → Answer → Type 0) : Posing A → List Note → List Answer
+    → Posing A → Type 0 where
   here : (p : Posing A) → Path Good p [] [] p
-  noted : (notes more : List Note) (answers : List Answer) (p q : Posing A) → Path Good p more answers q → Path Good (Noted notes p) (notes ++ more) answers q
-  asked : (question : Question) (answer : Answer) (next : Answer → Posing A) (notes : List Note) (answers : List Answer) (q : Posing A)
-      → Good question answer → Path Good (next answer) notes answers q → Path Good (Asked question next) notes (answer ∷ answers) q
+  noted : (notes more : List Note) (answers : List Answer) (p q : Posing A)
+      → Path Good p more answers q → Path Good (Noted notes p) (notes ++ more) answers q
+  asked : (question : Question) (answer : Answer) (next : Answer → Posing A) (notes : List Note)
+      (answers : List Answer) (q : Posing A)
+      → Good question answer → Path Good (next answer) notes answers q
+      → Path Good (Asked question next) notes (answer ∷ answers) q

@@ -14,12 +14,15 @@ IsMissing question (answer ∷ answers) = passes question answer ≡ false
 
 -- what it refuses is a question whose next answer is missing or does not pass
 pub record IsReplay {S : Type 0} (O : Asking S) : Type 0 where
-  pub missing : (state : S) (question : Question) (left : List Answer) → O.left state ≡ Some left → O.declines state question → IsMissing question left
+  pub missing : (state : S) (question : Question) (left : List Answer) → O.left state ≡ Some left
+      → O.declines state question → IsMissing question left
 
 -- the number of the question at which it stopped, from 0
 abbrev pub stopped_at : List Answer → List Answer → ℕ
 stopped_at all left = length all - length left
 
--- notes and answers that were kept lead a computation to its value, each answer good for its question
-pub record Keeps {A : Type 0} (Good : Question → Answer → Type 0) (p : Posing A) (value : A) (notes : List Note) (answers : List Answer) : Type 0 where
+-- notes and answers that were kept lead a computation to its value, each answer good for its
+-- question
+pub record Keeps {A : Type 0} (Good : Question → Answer → Type 0) (p : Posing A) (value : A)
+    (notes : List Note) (answers : List Answer) : Type 0 where
   pub path : Path Good p notes answers (Done value)

@@ -10,14 +10,16 @@ use items::Items;
 use std::alloc::Global;
 use std::mem;
 
-/// Asks a question and logs its answer. An answer that is taken is logged, also where memory is wanting after it.
+/// Asks a question and logs its answer. An answer that is taken is logged, also where memory is
+/// wanting after it.
 pub fn ask<O: Oracle>(
     alloc: Global,
     question: &Question,
     oracle: &mut O,
     log: &mut Log,
 ) -> Result<Answer, WorkError>
-    ensures { Follows O.asking oracle.old oracle.new log.old log.new result (answer_to question.now) }
+    ensures { Follows O.asking oracle.old oracle.new log.old log.new result
+        (answer_to question.now) }
 {
     let mut answers = mem::replace(&mut log.answers, Items::new(alloc)).into_vec();
     let result = answer_into(alloc, question, oracle, &mut answers);
@@ -32,7 +34,9 @@ fn answer_into<O: Oracle>(
     oracle: &mut O,
     answers: &mut Vec<Answer>,
 ) -> Result<Answer, WorkError>
-    ensures { (notes : List Note) → Follows O.asking oracle.old oracle.new (log_of notes answers.old.items) (log_of notes answers.new.items) result (answer_to question.now) }
+    ensures { (notes : List Note)
+        → Follows O.asking oracle.old oracle.new (log_of notes answers.old.items)
+        (log_of notes answers.new.items) result (answer_to question.now) }
 {
     answers.reserve(1)?;
     let answer = oracle.ask(alloc, question)?;

@@ -1,5 +1,6 @@
-//! Calls that ask an oracle. Each is stated as a computation that makes notes and poses questions; its contract says
-//! how far the oracle's answers led it. Every property of what it gives is a law of the computation.
+//! Calls that ask an oracle. Each is stated as a computation that makes notes and poses questions;
+//! its contract says how far the oracle's answers led it. Every property of what it gives is a law
+//! of the computation.
 #![tactic(auto)]
 
 mod asking;

@@ -1,4 +1,5 @@
--- What is proved in the crates below, by the names that the proofs here cite, and the element at a place of a list.
+-- What is proved in the crates below, by the names that the proofs here cite, and the element at a
+-- place of a list.
 use Rattle.std.proofs.Common.{◌≡◌, ℕ, zero, suc, ◌<◌, List, [], ◌∷◌, length, refl, arith}
 use Rattle.std.specs.Prelude.{Some}
 use Rattle.std.specs.List.{slice_get}

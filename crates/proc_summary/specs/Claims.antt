@@ -59,7 +59,8 @@ abbrev pub HoldsIf : Option Transition → State → State → Type 0
 HoldsIf None before after = ⊥
 HoldsIf (Some f) before after = Holds f before after
 
--- it holds of each activation that comes to the node, whatever was in its other columns at the entry
+-- it holds of each activation that comes to the node, whatever was in its other columns at the
+-- entry
 abbrev pub StopHolds : Program → ℕ → Stop → Type 0
 StopHolds program proc stop =
     (globals args final : State) → (walk : WalksTo program proc globals args stop.node final) →
@@ -70,11 +71,14 @@ pub record FlowHolds (program : Program) (proc : ℕ) (flow : Flow) : Type 0 whe
   pub checks : All (StopHolds program proc) flow.checks
   pub calls : All (StopHolds program proc) flow.calls
 
--- The cell of each node holds of each walk from the source to it, from a state that has the columns of the procedure, where
--- calls mean what the known formulas say.
-abbrev pub HoldsOfWalks : Program → Proc → List (Option Transition) → ℕ → List (Cell Transition) → Type 0
+-- The cell of each node holds of each walk from the source to it, from a state that has the columns
+-- of the procedure, where calls mean what the known formulas say.
+abbrev pub HoldsOfWalks : Program → Proc → List (Option Transition) → ℕ → List (Cell Transition)
+    → Type 0
 HoldsOfWalks program p known source cells =
-    (node : ℕ) (cell : Cell Transition) → slice_get cells node ≡ Some cell → (path : List Stride) (before after : State) →
+    (node : ℕ) (cell : Cell Transition) → slice_get cells node ≡ Some cell
+    → (path : List Stride) (before after : State) →
     length before ≡ width_of program p →
-    Walks (KnownCalls known) (length program.globals) (own_graph p).arcs source before path node after →
+    Walks (KnownCalls known) (length program.globals) (own_graph p).arcs source before path node
+    after →
     HoldsCell cell before after

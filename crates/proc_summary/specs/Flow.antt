@@ -16,13 +16,15 @@ use Rattle.proc_summary.specs.Subject.{Subject, graph_by}
 
 -- ---- all nodes
 
--- what stands at each node, from a source: what was lost in the leaves is noted before the first question
+-- what stands at each node, from a source: what was lost in the leaves is noted before the first
+-- question
 unfoldable pub cells_from : Subject → ℕ → Posing (List (Cell Transition))
 cells_from s source = Noted (loss_notes s.lost) (evaluated (graph_by s) source)
 
 -- ---- the nodes that count
 
--- a cell as a formula over so many columns: none where no way leads, and the identity where nothing was done
+-- a cell as a formula over so many columns: none where no way leads, and the identity where nothing
+-- was done
 abbrev pub formula_of : ℕ → Cell Transition → Option Transition
 formula_of columns known.Zero = None
 formula_of columns known.One = Some (identity_of columns)

@@ -23,7 +23,8 @@ use Rattle.proc_summary.specs.Subject.{Subject}
 use Rattle.proc_summary.specs.Flow.{stop_at}
 use Rattle.proc_summary.specs.Summary.{exit_formula}
 
--- it is the flow graph of the procedure, whose edges lead between its nodes and whose assertions stand at them
+-- it is the flow graph of the procedure, whose edges lead between its nodes and whose assertions
+-- stand at them
 pub record IsGraphOf (program : Program) (proc : ℕ) (g : Graph) : Type 0 where
   pub same : plain g ≡ graph_of program proc
   pub edges : All (λ edge. (edge.from < g.nodes) × (edge.to < g.nodes)) g.edges
@@ -34,11 +35,13 @@ edge_link edge = record { from = edge.from; to = edge.to }
 
 -- the formula of an edge, and what was lost in making it
 abbrev pub edge_leaf : Program → ℕ → List (Option Transition) → Edge → Transition
-edge_leaf program proc known edge = leaf_of (columns_at program proc) (length program.globals) known (statement_of_act edge.act)
+edge_leaf program proc known edge = leaf_of (columns_at program proc) (length program.globals) known
+    (statement_of_act edge.act)
 
 abbrev pub lost_in_edge : Program → ℕ → List (Option Transition) → Edge → List Loss
 lost_in_edge program proc known edge =
-    lost_in_leaf (columns_at program proc) (length program.globals) known (statement_of_act edge.act)
+    lost_in_leaf (columns_at program proc) (length program.globals) known
+    (statement_of_act edge.act)
 
 -- each edge does what an edge of the procedure's graph does
 abbrev pub AreActsOf : Program → ℕ → List Edge → Type 0
@@ -81,7 +84,8 @@ graph_flow columns cells g =
 
 -- ---- what is told of an exit
 
--- a formula with few cases of few auxiliaries, whose entry columns are told up to a number and whose posts at these places
+-- a formula with few cases of few auxiliaries, whose entry columns are told up to a number and
+-- whose posts at these places
 pub record IsToldBy (entry : ℕ) (places : List ℕ) (f : Transition) : Type 0 where
   pub fewer : entry ≤ f.from
   pub there : All (λ place. place < f.to) places

@@ -15,8 +15,9 @@ use Rattle.leaf_cases.specs.Edges.{leaf_of, lost_in_leaf}
 use Rattle.checked_tree.specs.Graph.{Graph, graph_of}
 use Rattle.vocabularies.specs.Ends.{full_of}
 
--- The edges of its graph with the formula of each, what was lost in making these, the vocabulary of each node, and the
--- nodes that count: the exit, those of the assertions, and those from which calls lead.
+-- The edges of its graph with the formula of each, what was lost in making these, the vocabulary of
+-- each node, and the nodes that count: the exit, those of the assertions, and those from which
+-- calls lead.
 pub record Subject : Type 0 where
   pub links : List Link
   pub leaves : List Transition
@@ -49,7 +50,8 @@ abbrev pub arc_leaf : Program → Proc → List (Option Transition) → Arc → 
 arc_leaf program p known way = leaf_of (width_of program p) (length program.globals) known way.act
 
 abbrev pub lost_in_arc : Program → Proc → List (Option Transition) → Arc → List Loss
-lost_in_arc program p known way = lost_in_leaf (width_of program p) (length program.globals) known way.act
+lost_in_arc program p known way = lost_in_leaf (width_of program p) (length program.globals) known
+    way.act
 
 -- the subject that a procedure is, by the known formulas of procedures
 abbrev pub subject_of : Program → Proc → List (Option Transition) → Subject

@@ -1,5 +1,5 @@
--- The summary of a procedure: what its exit's formula says of the globals and parameters at the entry, and of the globals
--- and the returned value at the exit.
+-- The summary of a procedure: what its exit's formula says of the globals and parameters at the
+-- entry, and of the globals and the returned value at the exit.
 use Rattle.std.specs.Prelude.{ℕ, ◌-◌, Bool, true, false, List, [], ◌∷◌, ◌++◌, Option, None, Some, length}
 use Rattle.std.specs.List.{range_with_len}
 use Rattle.syntax_tree.specs.declared.program.Proc.{Proc}
@@ -13,8 +13,8 @@ use Rattle.polyhedra.specs.Vocabulary.{Vocabulary}
 use Rattle.checked_tree.specs.Evaluation.{settled_and_fitted}
 use Rattle.vocabularies.specs.Ends.{full_of, entry_of, exit_of}
 
--- the ends of a procedure: how many of its columns are globals, whether it returns a value, and the vocabularies of its
--- states, of its entry and of its exit
+-- the ends of a procedure: how many of its columns are globals, whether it returns a value, and the
+-- vocabularies of its states, of its entry and of its exit
 pub record Ends : Type 0 where
   pub globals : ℕ
   pub returns : Bool
@@ -46,7 +46,8 @@ abbrev pub exit_formula : ℕ → Option Transition → Transition
 exit_formula columns None = record { from = columns; to = columns; cases = [] }
 exit_formula columns (Some f) = f
 
--- the entry's other columns become auxiliaries, and the posts at some of the exit's columns alone stay
+-- the entry's other columns become auxiliaries, and the posts at some of the exit's columns alone
+-- stay
 abbrev pub told_of : ℕ → List ℕ → Transition → Transition
 told_of entry places f = with_posts places (hidden entry f)
 

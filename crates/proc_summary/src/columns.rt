@@ -19,7 +19,8 @@ pub(crate) fn columns_of(program: &Program, proc: u32) -> u32
     (program.globals.len() + p.columns.len() + 1) as u32
 }
 
-/// The columns that are told at the exit of a procedure: the globals, and the returned value if there is one.
+/// The columns that are told at the exit of a procedure: the globals, and the returned value if
+/// there is one.
 pub(crate) fn exit_places(
     alloc: Global,
     program: &Program,
@@ -27,7 +28,8 @@ pub(crate) fn exit_places(
 ) -> Result<Items<u32>, AllocError>
     requires formed { IsWellFormed program.now }
     requires procedure { proc < length program.now.procs }
-    ensures { (p : Procedure) → slice_get program.now.procs proc ≡ Some p → IfOk result (λ places. places ≡ exit_places (ends_of program.now p)) }
+    ensures { (p : Procedure) → slice_get program.now.procs proc ≡ Some p
+        → IfOk result (λ places. places ≡ exit_places (ends_of program.now p)) }
 {
     let mut places = first_columns(alloc, program.globals.len() as u32)?;
     if program.procs.as_slice()[proc as usize].returns {

@@ -28,8 +28,8 @@ pub(crate) fn graph_of(alloc: Global, program: &Program, proc: u32) -> Result<Gr
     }
 }
 
-/// The edges of a procedure's graph as links, with the formula of each, what was lost in making these, and the
-/// vocabulary of each node.
+/// The edges of a procedure's graph as links, with the formula of each, what was lost in making
+/// these, and the vocabulary of each node.
 #[derive(Debug, Drop)]
 pub(crate) struct Parts {
     pub(crate) links: Items<Link>,
@@ -49,7 +49,8 @@ pub(crate) fn parts_of(
     requires procedure { proc < length program.now.procs }
     requires graph { IsGraphOf program.now proc graph.now }
     requires known { AreKnown program.now known.now }
-    ensures made { (p : Procedure) → slice_get program.now.procs proc ≡ Some p → IfOk result (ArePartsOf (subject_of program.now p known.now)) }
+    ensures made { (p : Procedure) → slice_get program.now.procs proc ≡ Some p
+        → IfOk result (ArePartsOf (subject_of program.now p known.now)) }
     ensures fit { IfOk result (λ parts. AllByRecursion IsFit parts.leaves) }
 {
     let edges = graph.edges.as_slice();
@@ -93,8 +94,10 @@ fn leaves_of(
     requires procedure { proc < length program.now.procs }
     requires acts { AreActsOf program.now proc edges.now }
     requires known { AreKnown program.now known.now }
-    ensures made { IfOk result (λ leaves. leaves ≡ map (edge_leaf program.now proc known.now) edges.now) }
-    ensures noted { OnOk result (lost.new ≡ lost.old ++ flat_map (lost_in_edge program.now proc known.now) edges.now) }
+    ensures made { IfOk result
+        (λ leaves. leaves ≡ map (edge_leaf program.now proc known.now) edges.now) }
+    ensures noted { OnOk result
+        (lost.new ≡ lost.old ++ flat_map (lost_in_edge program.now proc known.now) edges.now) }
 {
     let mut leaves = Items::new(alloc);
     for edge in edges {
@@ -113,8 +116,8 @@ fn copies_of(alloc: Global, voc: &Vocabulary, count: u32) -> Result<Items<Vocabu
     Ok(copies)
 }
 
-/// Each formula has the posts and columns that it says, as its type keeps them. It goes over the formulas and has
-/// no part in an answer.
+/// Each formula has the posts and columns that it says, as its type keeps them. It goes over the
+/// formulas and has no part in an answer.
 fn see_fit(leaves: &[Formula])
     ensures { AllByRecursion IsFit leaves.now }
 {

@@ -1,5 +1,6 @@
-//! The flow of one procedure, which has a formula for each node that counts, and its summary: what holds between the
-//! globals and parameters at its entry and the globals and the returned value at its exit.
+//! The flow of one procedure, which has a formula for each node that counts, and its summary: what
+//! holds between the globals and parameters at its entry and the globals and the returned value at
+//! its exit.
 #![tactic(auto)]
 
 mod columns;

@@ -22,8 +22,8 @@ use std::alloc::Global;
 use syntax_tree::Program;
 use transition_formula::Formula;
 
-/// What stands at each node of a procedure's graph, from a source among its nodes, by the known formulas of
-/// procedures; a call of one without a known formula leads nowhere.
+/// What stands at each node of a procedure's graph, from a source among its nodes, by the known
+/// formulas of procedures; a call of one without a known formula leads nowhere.
 #[tactic(auto, using(posing::proofs::Following::following))]
 pub fn cells<O: Oracle>(
     alloc: Global,
@@ -37,17 +37,23 @@ pub fn cells<O: Oracle>(
     requires formed { IsWellFormed program.now }
     requires procedure { proc < length program.now.procs }
     requires known { AreKnown program.now known.now }
-    requires source { (p : Procedure) → slice_get program.now.procs proc ≡ Some p → source < (own_graph p).nodes }
-    ensures follows { (p : Procedure) → slice_get program.now.procs proc ≡ Some p → Follows O.asking oracle.old oracle.new log.old log.new result (cells_from (subject_of program.now p known.now) source) }
-    ensures fits { (p : Procedure) → slice_get program.now.procs proc ≡ Some p → IfOk result (AreFittedCells (graph_by (subject_of program.now p known.now)) source) }
-    ensures holds { (p : Procedure) → slice_get program.now.procs proc ≡ Some p → IfOk result (HoldsOfWalks program.now p known.now source) }
+    requires source { (p : Procedure) → slice_get program.now.procs proc ≡ Some p
+        → source < (own_graph p).nodes }
+    ensures follows { (p : Procedure) → slice_get program.now.procs proc ≡ Some p
+        → Follows O.asking oracle.old oracle.new log.old log.new result
+        (cells_from (subject_of program.now p known.now) source) }
+    ensures fits { (p : Procedure) → slice_get program.now.procs proc ≡ Some p
+        → IfOk result (AreFittedCells (graph_by (subject_of program.now p known.now)) source) }
+    ensures holds { (p : Procedure) → slice_get program.now.procs proc ≡ Some p
+        → IfOk result (HoldsOfWalks program.now p known.now source) }
 {
     let graph = graph_of(alloc, program, proc)?;
     cells_of(alloc, program, proc, &graph, known, source, oracle, log)
 }
 
-/// The trees that stand at the nodes of a procedure's graph, from a source among its nodes: what holds there, and at each
-/// step the answers that show it. Their formulas are those of `cells`, under the same answers.
+/// The trees that stand at the nodes of a procedure's graph, from a source among its nodes: what
+/// holds there, and at each step the answers that show it. Their formulas are those of `cells`,
+/// under the same answers.
 #[tactic(auto, using(posing::proofs::Following::following))]
 pub fn trees<O: Oracle>(
     alloc: Global,
@@ -61,9 +67,16 @@ pub fn trees<O: Oracle>(
     requires formed { IsWellFormed program.now }
     requires procedure { proc < length program.now.procs }
     requires known { AreKnown program.now known.now }
-    requires source { (p : Procedure) → slice_get program.now.procs proc ≡ Some p → source < (own_graph p).nodes }
-    ensures follows { (p : Procedure) → slice_get program.now.procs proc ≡ Some p → Follows O.asking oracle.old oracle.new log.old log.new (result_map formulas_of result) (cells_from (subject_of program.now p known.now) source) }
-    ensures grown { (p : Procedure) → slice_get program.now.procs proc ≡ Some p → IfOk result (λ cells. AreGrown (graph_by (subject_of program.now p known.now)) source (with_notes log.old (loss_notes (subject_of program.now p known.now).lost)) log.new (trees_of cells)) }
+    requires source { (p : Procedure) → slice_get program.now.procs proc ≡ Some p
+        → source < (own_graph p).nodes }
+    ensures follows { (p : Procedure) → slice_get program.now.procs proc ≡ Some p
+        → Follows O.asking oracle.old oracle.new log.old log.new (result_map formulas_of result)
+        (cells_from (subject_of program.now p known.now) source) }
+    ensures grown { (p : Procedure) → slice_get program.now.procs proc ≡ Some p
+        → IfOk result
+        (λ cells. AreGrown (graph_by (subject_of program.now p known.now)) source
+        (with_notes log.old (loss_notes (subject_of program.now p known.now).lost)) log.new
+        (trees_of cells)) }
 {
     let graph = graph_of(alloc, program, proc)?;
     trees_in(alloc, program, proc, &graph, known, source, oracle, log)
@@ -85,9 +98,13 @@ pub(crate) fn cells_of<O: Oracle>(
     requires graph { IsGraphOf program.now proc graph.now }
     requires known { AreKnown program.now known.now }
     requires source { source < graph.now.nodes }
-    ensures follows { (p : Procedure) → slice_get program.now.procs proc ≡ Some p → Follows O.asking oracle.old oracle.new log.old log.new result (cells_from (subject_of program.now p known.now) source) }
-    ensures fits { (p : Procedure) → slice_get program.now.procs proc ≡ Some p → IfOk result (AreFittedCells (graph_by (subject_of program.now p known.now)) source) }
-    ensures holds { (p : Procedure) → slice_get program.now.procs proc ≡ Some p → IfOk result (HoldsOfWalks program.now p known.now source) }
+    ensures follows { (p : Procedure) → slice_get program.now.procs proc ≡ Some p
+        → Follows O.asking oracle.old oracle.new log.old log.new result
+        (cells_from (subject_of program.now p known.now) source) }
+    ensures fits { (p : Procedure) → slice_get program.now.procs proc ≡ Some p
+        → IfOk result (AreFittedCells (graph_by (subject_of program.now p known.now)) source) }
+    ensures holds { (p : Procedure) → slice_get program.now.procs proc ≡ Some p
+        → IfOk result (HoldsOfWalks program.now p known.now source) }
 {
     let trees = trees_in(alloc, program, proc, graph, known, source, oracle, log)?;
     let cells = formulas_of(alloc, trees.as_slice())?;
@@ -111,10 +128,20 @@ fn trees_in<O: Oracle>(
     requires graph { IsGraphOf program.now proc graph.now }
     requires known { AreKnown program.now known.now }
     requires source { source < graph.now.nodes }
-    ensures follows { (p : Procedure) → slice_get program.now.procs proc ≡ Some p → Follows O.asking oracle.old oracle.new log.old log.new (result_map formulas_of result) (cells_from (subject_of program.now p known.now) source) }
-    ensures grown { (p : Procedure) → slice_get program.now.procs proc ≡ Some p → IfOk result (λ cells. AreGrown (graph_by (subject_of program.now p known.now)) source (with_notes log.old (loss_notes (subject_of program.now p known.now).lost)) log.new (trees_of cells)) }
-    ensures fits { (p : Procedure) → slice_get program.now.procs proc ≡ Some p → IfOk result (λ cells. AreFittedCells (graph_by (subject_of program.now p known.now)) source (formulas_of cells)) }
-    ensures holds { (p : Procedure) → slice_get program.now.procs proc ≡ Some p → IfOk result (λ cells. HoldsOfWalks program.now p known.now source (formulas_of cells)) }
+    ensures follows { (p : Procedure) → slice_get program.now.procs proc ≡ Some p
+        → Follows O.asking oracle.old oracle.new log.old log.new (result_map formulas_of result)
+        (cells_from (subject_of program.now p known.now) source) }
+    ensures grown { (p : Procedure) → slice_get program.now.procs proc ≡ Some p
+        → IfOk result
+        (λ cells. AreGrown (graph_by (subject_of program.now p known.now)) source
+        (with_notes log.old (loss_notes (subject_of program.now p known.now).lost)) log.new
+        (trees_of cells)) }
+    ensures fits { (p : Procedure) → slice_get program.now.procs proc ≡ Some p
+        → IfOk result
+        (λ cells. AreFittedCells (graph_by (subject_of program.now p known.now)) source
+        (formulas_of cells)) }
+    ensures holds { (p : Procedure) → slice_get program.now.procs proc ≡ Some p
+        → IfOk result (λ cells. HoldsOfWalks program.now p known.now source (formulas_of cells)) }
 {
     let parts = parts_of(alloc, program, proc, graph, known)?;
     log.add_losses(alloc, parts.lost.as_slice())?;

@@ -36,9 +36,13 @@ pub fn flow<O: Oracle>(
     requires formed { IsWellFormed program.now }
     requires procedure { proc < length program.now.procs }
     requires known { AreKnown program.now known.now }
-    requires callees { (p : Procedure) → slice_get program.now.procs proc ≡ Some p → KnowsCallees p known.now }
-    ensures follows { (p : Procedure) → slice_get program.now.procs proc ≡ Some p → Follows O.asking oracle.old oracle.new log.old log.new result (flow_from (subject_of program.now p known.now)) }
-    ensures fits { (p : Procedure) → slice_get program.now.procs proc ≡ Some p → IfOk result (FitsFlow program.now p) }
+    requires callees { (p : Procedure) → slice_get program.now.procs proc ≡ Some p
+        → KnowsCallees p known.now }
+    ensures follows { (p : Procedure) → slice_get program.now.procs proc ≡ Some p
+        → Follows O.asking oracle.old oracle.new log.old log.new result
+        (flow_from (subject_of program.now p known.now)) }
+    ensures fits { (p : Procedure) → slice_get program.now.procs proc ≡ Some p
+        → IfOk result (FitsFlow program.now p) }
     ensures holds { AreMet program.now known.now → IfOk result (FlowHolds program.now proc) }
 {
     let graph = graph_of(alloc, program, proc)?;
@@ -129,7 +133,8 @@ fn stop_at(
     Ok(Stop { node, formula })
 }
 
-/// The formula at a node, by what stands at each: over so many columns, and none where no way leads.
+/// The formula at a node, by what stands at each: over so many columns, and none where no way
+/// leads.
 pub fn formula_at(
     alloc: Global,
     columns: u32,
@@ -144,7 +149,8 @@ pub fn formula_at(
     }
 }
 
-/// A cell as a formula over so many columns: none where no way leads, and the identity where nothing was done.
+/// A cell as a formula over so many columns: none where no way leads, and the identity where
+/// nothing was done.
 fn formula_of(
     alloc: Global,
     columns: u32,

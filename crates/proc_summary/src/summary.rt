@@ -24,8 +24,9 @@ use syntax_tree::Program;
 use transition_formula::{Formula, FormulaError, Loss, hidden, with_posts};
 use vocabularies::entry;
 
-/// The summary of a procedure by its flow: from the globals and parameters to the globals and the returned value, by at most
-/// 16 cases of at most 64 rows and 64 auxiliaries. It holds of all that the flow's exit holds of.
+/// The summary of a procedure by its flow: from the globals and parameters to the globals and the
+/// returned value, by at most 16 cases of at most 64 rows and 64 auxiliaries. It holds of all that
+/// the flow's exit holds of.
 pub fn project<O: Oracle>(
     alloc: Global,
     program: &Program,
@@ -36,10 +37,15 @@ pub fn project<O: Oracle>(
 ) -> Result<Formula, WorkError>
     requires formed { IsWellFormed program.now }
     requires procedure { proc < length program.now.procs }
-    requires flow { (p : Procedure) → slice_get program.now.procs proc ≡ Some p → FitsFlow program.now p flow.now }
-    ensures follows { (p : Procedure) → slice_get program.now.procs proc ≡ Some p → Follows O.asking oracle.old oracle.new log.old log.new result (summary_from (ends_of program.now p) flow.now.exit.formula) }
-    ensures known { (p : Procedure) → slice_get program.now.procs proc ≡ Some p → IfOk result (IsKnown program.now p) }
-    ensures met { FlowHolds program.now proc flow.now → IfOk result (SummaryIsMet program.now proc) }
+    requires flow { (p : Procedure) → slice_get program.now.procs proc ≡ Some p
+        → FitsFlow program.now p flow.now }
+    ensures follows { (p : Procedure) → slice_get program.now.procs proc ≡ Some p
+        → Follows O.asking oracle.old oracle.new log.old log.new result
+        (summary_from (ends_of program.now p) flow.now.exit.formula) }
+    ensures known { (p : Procedure) → slice_get program.now.procs proc ≡ Some p
+        → IfOk result (IsKnown program.now p) }
+    ensures met { FlowHolds program.now proc flow.now
+        → IfOk result (SummaryIsMet program.now proc) }
 {
     exit_summary(alloc, program, proc, &flow.exit.formula, oracle, log)
 }
@@ -56,10 +62,18 @@ pub fn exit_summary<O: Oracle>(
 ) -> Result<Formula, WorkError>
     requires formed { IsWellFormed program.now }
     requires procedure { proc < length program.now.procs }
-    requires exit { (p : Procedure) → slice_get program.now.procs proc ≡ Some p → FitsIf (width_of program.now p) exit.now }
-    ensures follows { (p : Procedure) → slice_get program.now.procs proc ≡ Some p → Follows O.asking oracle.old oracle.new log.old log.new result (summary_from (ends_of program.now p) exit.now) }
-    ensures known { (p : Procedure) → slice_get program.now.procs proc ≡ Some p → IfOk result (IsKnown program.now p) }
-    ensures covers { (p : Procedure) → slice_get program.now.procs proc ≡ Some p → IfOk result (λ f. Covers f (told_of (entry_width program.now p) (exit_places (ends_of program.now p)) (exit_formula (width_of program.now p) exit.now))) }
+    requires exit { (p : Procedure) → slice_get program.now.procs proc ≡ Some p
+        → FitsIf (width_of program.now p) exit.now }
+    ensures follows { (p : Procedure) → slice_get program.now.procs proc ≡ Some p
+        → Follows O.asking oracle.old oracle.new log.old log.new result
+        (summary_from (ends_of program.now p) exit.now) }
+    ensures known { (p : Procedure) → slice_get program.now.procs proc ≡ Some p
+        → IfOk result (IsKnown program.now p) }
+    ensures covers { (p : Procedure) → slice_get program.now.procs proc ≡ Some p
+        → IfOk result
+        (λ f. Covers f
+        (told_of (entry_width program.now p) (exit_places (ends_of program.now p))
+        (exit_formula (width_of program.now p) exit.now))) }
 {
     let start = entry(alloc, program, proc)?;
     let end = vocabularies::exit(alloc, program, proc)?;
@@ -78,8 +92,8 @@ pub fn exit_summary<O: Oracle>(
     settled_and_fitted(alloc, &told, &start, &end, oracle, log)
 }
 
-/// What an exit's formula tells: the entry's columns past the first so many become auxiliaries, and the posts at some of the
-/// exit's columns alone stay. An exit that no way leads to has no case.
+/// What an exit's formula tells: the entry's columns past the first so many become auxiliaries, and
+/// the posts at some of the exit's columns alone stay. An exit that no way leads to has no case.
 fn told_of(
     alloc: Global,
     columns: u32,
@@ -89,8 +103,10 @@ fn told_of(
     lost: &mut Items<Loss>,
 ) -> Result<Formula, FormulaError>
     requires { IsToldFrom columns entry places.now exit.now }
-    ensures made { IfOk result (λ told. told ≡ told_of entry places.now (exit_formula columns exit.now)) }
-    ensures noted { OnOk result (lost.new ≡ lost.old ++ lost_in_hiding entry (exit_formula columns exit.now)) }
+    ensures made { IfOk result
+        (λ told. told ≡ told_of entry places.now (exit_formula columns exit.now)) }
+    ensures noted { OnOk result
+        (lost.new ≡ lost.old ++ lost_in_hiding entry (exit_formula columns exit.now)) }
 {
     match exit {
         Some(f) => told_by(alloc, entry, places, f, lost),
@@ -116,7 +132,8 @@ fn told_by(
     with_posts(alloc, &hidden, places)
 }
 
-/// The formula settled, then fitted between two vocabularies. It holds of all that the formula holds of.
+/// The formula settled, then fitted between two vocabularies. It holds of all that the formula
+/// holds of.
 #[tactic(auto, using(posing::proofs::Following::following), unfolding(checked_tree::specs::Evaluation::settled_and_fitted))]
 fn settled_and_fitted<O: Oracle>(
     alloc: Global,
@@ -130,7 +147,8 @@ fn settled_and_fitted<O: Oracle>(
     requires start { IsEnd from.now }
     requires end { IsEnd to.now }
     requires solvable { AreSolvable f.now.cases }
-    ensures follows { Follows O.asking oracle.old oracle.new log.old log.new result (settled_and_fitted f.now from.now to.now) }
+    ensures follows { Follows O.asking oracle.old oracle.new log.old log.new result
+        (settled_and_fitted f.now from.now to.now) }
     ensures fits { IfOk result (IsBetweenEnds from.now to.now) }
     ensures covers { IfOk result (λ g. Covers g f.now) }
 {

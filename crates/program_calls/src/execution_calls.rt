@@ -25,7 +25,8 @@ pub fn step<'p>(
 ) -> Result<Option<Event>, Stop>
     requires well_formed { IsWellFormed program.now }
     requires fits { ConfigCanRun program.now (machine_config machine.old) }
-    ensures { Takes machine.new result (chosen_step program.now number (machine_config machine.old)) }
+    ensures { Takes machine.new result
+        (chosen_step program.now number (machine_config machine.old)) }
 {
     machine.step(alloc, program, number)
 }

@@ -14,7 +14,8 @@ pub fn graph(alloc: Global, program: &Program, proc: u32) -> Result<Graph, Graph
     requires fit { IsWellFormed program.now }
     requires there { proc < length program.now.procs }
     ensures exact { IfOk result (λ g. plain g ≡ graph_of program.now proc) }
-    ensures edges { IfOk result (λ g. All (λ edge. (edge.from < g.nodes) × (edge.to < g.nodes)) g.edges) }
+    ensures edges { IfOk result
+        (λ g. All (λ edge. (edge.from < g.nodes) × (edge.to < g.nodes)) g.edges) }
     ensures checks { IfOk result (λ g. All (λ check. check.node < g.nodes) g.checks) }
 {
     flow_graph::graph(alloc, program, proc)

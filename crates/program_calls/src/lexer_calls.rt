@@ -14,8 +14,10 @@ pub fn lex(alloc: Global, bytes: &[u8]) -> Result<Items<Token>, LexError>
     ensures found { IfOk result (Tokenizes bytes.now) }
     ensures refused { IfErr result (λ e. e ≢ LexError.Memory → IsRefused bytes.now e) }
     ensures memory { IfErr result (λ e. e ≡ LexError.Memory → TakesMemory bytes.now) }
-    ensures tokens { (tokens : List Token) → Tokenizes bytes.now tokens → IfErr result (λ e. e ≡ LexError.Memory) × IfOk result (λ found. found ≡ tokens) }
-    ensures refusal { (e : LexError) → IsRefused bytes.now e → IfErr result (λ told. told ≢ LexError.Memory → told ≡ e) × IfOk result (λ _. ⊥) }
+    ensures tokens { (tokens : List Token) → Tokenizes bytes.now tokens
+        → IfErr result (λ e. e ≡ LexError.Memory) × IfOk result (λ found. found ≡ tokens) }
+    ensures refusal { (e : LexError) → IsRefused bytes.now e
+        → IfErr result (λ told. told ≢ LexError.Memory → told ≡ e) × IfOk result (λ _. ⊥) }
 {
     c_lexer::lex(alloc, bytes)
 }

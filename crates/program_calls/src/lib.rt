@@ -1,5 +1,6 @@
-//! Public calls of the crates of programs, each handed on under its own contract. On these bodies wrong
-//! ones are tried: what they show is that the contract refuses a wrong result, whoever made it.
+//! Public calls of the crates of programs, each handed on under its own contract. On these bodies
+//! wrong ones are tried: what they show is that the contract refuses a wrong result, whoever made
+//! it.
 #![tactic(auto)]
 
 pub mod execution_calls;

@@ -1,7 +1,8 @@
 -- Difference equations along a run.
 --
--- A recurrence is true along a run where there is a ladder of sequences: the first has its numbers at each state, each grows by the
--- next, and the polynomials of its differences have the first numbers of the next three.
+-- A recurrence is true along a run where there is a ladder of sequences: the first has its numbers
+-- at each state, each grows by the next, and the polynomials of its differences have the first
+-- numbers of the next three.
 use Rattle.std.proofs.Common.{◌≡◌, ℕ, zero, suc, ◌+◌, ◌<◌, ◌≤◌, List, [], ◌∷◌, ◌++◌, true, false, Ok, map, refl, sym, ap, ◌∙◌, arith, ℤ, pos, ◌+ℤ◌, ◌-ℤ◌}
 use Rattle.std.specs.List.{AllByRecursion}
 use Rattle.std.specs.Result.{is_ok}

@@ -1,4 +1,5 @@
--- A combination of columns is the linear polynomial of its numbers; only a number that is none of 128 bits hinders it.
+-- A combination of columns is the linear polynomial of its numbers; only a number that is none of
+-- 128 bits hinders it.
 use Rattle.std.proofs.Common.{◌≡◌, List, [], ◌∷◌, ◌++◌, Bool, true, false, Result, Ok, Err, ◌⊎◌, inl, inr, map, refl, sym, ap, ◌∙◌, append_assoc, append-nil, arith, ℤ, pos, negsuc, ◌*ℤ◌, ◌^◌, SFits}
 use Rattle.std.specs.Int.{w128}
 use Rattle.std.specs.Prelude.{if◌then◌else◌}

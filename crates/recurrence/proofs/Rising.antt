@@ -1,4 +1,5 @@
--- Variables rise, and their columns stand in print order, before and after the turns; which columns are not modified.
+-- Variables rise, and their columns stand in print order, before and after the turns; which columns
+-- are not modified.
 use Rattle.std.proofs.Common.{◌≡◌, ℕ, zero, suc, ◌+◌, ◌<◌, ◌≤◌, List, [], ◌∷◌, Bool, true, false, map, refl, sym, ap, subst, ◌∙◌, arith}
 use Rattle.std.specs.Prelude.{if◌then◌else◌, ◌==◌, ◌||◌, not}
 use Rattle.std.specs.Cmp.{nat_cmp_is}

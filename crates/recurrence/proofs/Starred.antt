@@ -341,7 +341,8 @@ module _ (body : Transition) (voc : Vocabulary)
       links : (i : ℕ) → i < length (next ∷ more) → Holds body (state_of first (next ∷ more) i) (state_of first (next ∷ more) (i + 1))
       links i within = subst (λ n. Holds body (state_of first (next ∷ more) i) (state_of first (next ∷ more) n)) (next_is i) (chain-links body first (next ∷ more) chain i within)
 
-  -- the law: whatever the answers, as long as they are true, star holds of the first and the last state of every chain
+  -- the law: whatever the answers, as long as they are true, star holds of the first and the last
+  -- state of every chain
   pub star-holds : Always (HoldsOfChains body) (star_of body voc)
   star-holds =
       always_every (λ first g. (more : List (List ℤ)) → length first ≡ body.from → IsChain body first more → Holds g first (last_of first more)) (star_of body voc) (λ first.

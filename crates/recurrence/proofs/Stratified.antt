@@ -147,7 +147,8 @@ module _ (body : Transition) (steps : ℕ) (states : ℕ → List ℤ) (run : Is
       (each-more IsFirstTerm (IsTermAlong 3) (λ t k. more 1 3 (omega arith) t k.term) s.first h.first)
       (each-more (IsTermAlong 2) (IsTermAlong 3) (λ t k. more 2 3 (omega arith) t k) s.second h.second)) h.third
 
-  -- numbers for the columns of the second case: entry columns at the start, the columns of variables at the end, and the number of turns
+  -- numbers for the columns of the second case: entry columns at the start, the columns of
+  -- variables at the end, and the number of turns
   pub record IsAfter (at : Valuation) : Type 0 where
     pub starts : Reads at (states 0)
     pub ends : (v : ℕ) → at (after body v) ≡ number_in (states steps) v

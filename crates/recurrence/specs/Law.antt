@@ -16,13 +16,14 @@ pub record IsStarred (body : Transition) (voc : Vocabulary) : Type 0 where
   pub same_columns : voc.columns ≡ body.to
   pub few : body.to < 2 ^ 31
 
--- star holds of the first and the last of every list of states of which the body links each to the next,
--- whatever the answers are, as long as they are true
+-- star holds of the first and the last of every list of states of which the body links each to the
+-- next, whatever the answers are, as long as they are true
 abbrev pub StarHolds : Type 0
-StarHolds = (body : Transition) (voc : Vocabulary) → IsStarred body voc → Always (HoldsOfChains body) (star_of body voc)
+StarHolds = (body : Transition) (voc : Vocabulary) → IsStarred body voc
+    → Always (HoldsOfChains body) (star_of body voc)
 
--- a formula over so many columns, of at most two cases, each with at most 64 rows and at most one auxiliary
--- more than there are columns
+-- a formula over so many columns, of at most two cases, each with at most 64 rows and at most one
+-- auxiliary more than there are columns
 pub record IsStar (columns : ℕ) (g : Transition) : Type 0 where
   pub fits : IsTransition columns columns g.cases
   pub two : length g.cases ≤ 2
@@ -30,4 +31,5 @@ pub record IsStar (columns : ℕ) (g : Transition) : Type 0 where
   pub auxiliaries : AllByRecursion (λ (case : Case). case.aux ≤ columns + 1) g.cases
 
 abbrev pub StarFits : Type 0
-StarFits = (body : Transition) (voc : Vocabulary) → IsStarred body voc → Always (IsStar body.to) (star_of body voc)
+StarFits = (body : Transition) (voc : Vocabulary) → IsStarred body voc
+    → Always (IsStar body.to) (star_of body voc)

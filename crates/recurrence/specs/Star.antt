@@ -28,8 +28,8 @@ use Rattle.recurrence.specs.Progressions.{progressions, bounded_progression}
 
 -- ---- columns of the second case
 
--- the column that has a variable's number after the turns: auxiliaries from n on stand for the modified ones,
--- and another stays
+-- the column that has a variable's number after the turns: auxiliaries from n on stand for the
+-- modified ones, and another stays
 abbrev pub after_from : ℕ → List ℕ → ℕ → Col
 after_from n [] v = At v
 after_from n (u ∷ us) v = if u == v then Aux n else after_from (n + 1) us v
@@ -56,8 +56,10 @@ moves body = map (λ v. or_zero (moved body v)) (range_with_len 0 body.to)
 -- the term after the turns by Newton's forward difference formula
 abbrev pub term_row : Transition → Term → Result Row TermError
 term_row body t =
-    gives.◌>>=◌ t.recurrence.first (λ d1. gives.◌>>=◌ t.recurrence.second (λ d2. gives.◌>>=◌ t.recurrence.third (λ d3.
-    closed_row (linear t.relation.a (map (after body) (moving true body))) t.recurrence.start d1 d2 d3 (count body))))
+    gives.◌>>=◌ t.recurrence.first
+    (λ d1. gives.◌>>=◌ t.recurrence.second (λ d2. gives.◌>>=◌ t.recurrence.third (λ d3.
+    closed_row (linear t.relation.a (map (after body) (moving true body))) t.recurrence.start d1 d2
+    d3 (count body))))
 
 -- the numbers of two terms are the same
 abbrev pub same_term : Term → Term → Bool
@@ -69,16 +71,22 @@ terms_once s = distinct same_term (all_terms s)
 
 -- there is at least one turn
 abbrev pub some_turn : Transition → Row
-some_turn body = record { poly = record { terms = (count body ∷ [], negsuc 0) ∷ []; rest = pos 1 }; kind = AtMost }
+some_turn body = record {
+  poly = record { terms = (count body ∷ [], negsuc 0) ∷ []; rest = pos 1 };
+  kind = AtMost;
+}
 
 -- the rows, kind by kind
 unfoldable pub rows_of : Transition → Vocabulary → Strata → Posing (List Row)
 rows_of body voc strata =
     each (λ rows t. with_row rows (term_row body t)) [] (terms_once strata) >>= λ equations.
-    each (bounded_before body.cases) (equations ++ some_turn body ∷ []) (directions voc) >>= λ before.
+    each (bounded_before body.cases) (equations ++ some_turn body ∷ []) (directions voc)
+    >>= λ before.
     each (bounded_after body.cases (posts body)) before (directions voc) >>= λ both.
-    each (bounded_change body.cases (moves body) (Some (count body))) both (directions voc ++ voc.extra) >>= λ changes.
-    each (bounded_progression body.cases (moved body) (count body)) changes (progressions body voc strata)
+    each (bounded_change body.cases (moves body) (Some (count body))) both
+    (directions voc ++ voc.extra) >>= λ changes.
+    each (bounded_progression body.cases (moved body) (count body)) changes
+    (progressions body voc strata)
 
 -- the second case as it is put together; changes that are lost are noted before the first question
 unfoldable pub turns : Transition → Vocabulary → Posing Case
@@ -93,9 +101,13 @@ abbrev pub star_by : Transition → Vocabulary → List Case → Posing Transiti
 star_by body voc [] = Done (identity_of body.from)
 star_by body voc (case ∷ cases) =
     turns body voc >>= finished >>= λ left.
-    Done (joined (identity_of body.from) record { from = body.from; to = body.to; cases = option_to_list left })
+    Done (joined (identity_of body.from) record {
+      from = body.from;
+      to = body.to;
+      cases = option_to_list left;
+    })
 
--- the identity where the body has no case; else the identity, and the second case put in order, thinned and
--- cut, if anything is left of it
+-- the identity where the body has no case; else the identity, and the second case put in order,
+-- thinned and cut, if anything is left of it
 unfoldable pub star_of : Transition → Vocabulary → Posing Transition
 star_of body voc = star_by body voc body.cases

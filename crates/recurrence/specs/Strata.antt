@@ -1,5 +1,5 @@
--- Strata of a body: terms over the entry columns whose change in each turn the body determines, by terms of
--- the strata below.
+-- Strata of a body: terms over the entry columns whose change in each turn the body determines, by
+-- terms of the strata below.
 --
 -- Source: Farzan and Kincaid, Compositional Recurrence Analysis, FMCAD 2015.
 use Rattle.std.specs.Prelude.{ℕ, pos, List, [], ◌++◌, length, map, Option, None, Some, Bool, true, false, not, ◌&&◌, nat_lt, unwrap_or, Ok}
@@ -30,10 +30,15 @@ part Second r = r.second
 
 -- a column that is not modified
 abbrev pub steady : ℕ → Recurrence
-steady v = record { start = column_of (At v); first = whole (pos 0); second = whole (pos 0); third = whole (pos 0) }
+steady v = record {
+  start = column_of (At v);
+  first = whole (pos 0);
+  second = whole (pos 0);
+  third = whole (pos 0);
+}
 
--- a term changes by a combination of the lower terms and a constant, its change by the same combination of
--- their changes, and so on
+-- a term changes by a combination of the lower terms and a constant, its change by the same
+-- combination of their changes, and so on
 abbrev pub recurrence_of : List ℕ → List Recurrence → Relation → Recurrence
 recurrence_of variables lower r = record {
   start = linear r.a (map (λ v. At v) variables);
@@ -51,8 +56,8 @@ has_terms r = list_any (λ n. not (int_eq n (pos 0))) r.a
 
 -- ---- strata
 
--- the relations between the changes of a body and lower terms, but for those between lower terms alone; none
--- where they are not known
+-- the relations between the changes of a body and lower terms, but for those between lower terms
+-- alone; none where they are not known
 unfoldable pub stratum : Transition → List Recurrence → Posing (Option (List Term))
 stratum body lower =
     relations_of (changes_of true body) (map (λ l. l.start) lower) >>= λ found.
@@ -80,13 +85,14 @@ is_short most (Some terms) = nat_lt (length terms) most
 abbrev pub has_grown : Option (List Term) → Option (List Term) → Bool
 has_grown first second = nat_lt (length (unwrap_or first [])) (length (unwrap_or second []))
 
--- The first has no lower terms. The second is asked where the first has fewer terms than there are modified
--- variables, and the third where the second has fewer too, and more than the first.
+-- The first has no lower terms. The second is asked where the first has fewer terms than there are
+-- modified variables, and the third where the second has fewer too, and more than the first.
 unfoldable pub strata : Transition → Posing Strata
 strata body =
     stratum body [] >>= λ v1.
     stratum_if (is_short (length (modified true body)) v1) body (over body v1) >>= λ v2.
-    stratum_if (has_grown v1 v2 && is_short (length (modified true body)) v2) body (over body v2) >>= λ v3.
+    stratum_if (has_grown v1 v2 && is_short (length (modified true body)) v2) body (over body v2)
+    >>= λ v3.
     Done record { first = unwrap_or v1 []; second = unwrap_or v2 []; third = unwrap_or v3 [] }
 
 abbrev pub all_terms : Strata → List Term

@@ -61,35 +61,49 @@ bounded_over cases modified = bounded_progression cases (moved_by modified) (Aux
 
 -- of one variable and one sign, over both signs of a term
 abbrev pub by_term : List Case → List ℕ → ℕ → ℤ → List Row → Term → Posing (List Row)
-by_term cases modified v up rows t = each (bounded_over cases modified) rows (map (λ by. record { variable = v; up = up; term = t; by = by }) signs)
+by_term cases modified v up rows t = each (bounded_over cases modified) rows (map (λ by. record {
+  variable = v;
+  up = up;
+  term = t;
+  by = by;
+}) signs)
 
 -- of one variable
 abbrev pub by_variable : List Case → List ℕ → List Term → List Row → ℕ → Posing (List Row)
-by_variable cases modified terms rows v = each (bounded_over cases modified) rows (progressions_of terms v)
+by_variable cases modified terms rows v =
+    each (bounded_over cases modified) rows (progressions_of terms v)
 
 -- ---- rows
 
 -- the row of a term, by the modified variables and those whose change can be made
 abbrev pub row_of_term : List ℕ → List ℕ → Term → Result Row TermError
 row_of_term modified moving t =
-    gives.◌>>=◌ t.recurrence.first (λ d1. gives.◌>>=◌ t.recurrence.second (λ d2. gives.◌>>=◌ t.recurrence.third (λ d3.
-    closed_row (linear t.relation.a (map (after_from 0 modified) moving)) t.recurrence.start d1 d2 d3 (Aux (length modified)))))
+    gives.◌>>=◌ t.recurrence.first
+    (λ d1. gives.◌>>=◌ t.recurrence.second (λ d2. gives.◌>>=◌ t.recurrence.third (λ d3.
+    closed_row (linear t.relation.a (map (after_from 0 modified) moving)) t.recurrence.start d1 d2
+    d3 (Aux (length modified)))))
 
 -- a column is at least 1
 abbrev pub turn_row : Col → Row
-turn_row c = record { poly = record { terms = (c ∷ [], negsuc 0) ∷ []; rest = pos 1 }; kind = AtMost }
+turn_row c = record {
+  poly = record { terms = (c ∷ [], negsuc 0) ∷ []; rest = pos 1 };
+  kind = AtMost;
+}
 
 -- bounds before, after and on changes, behind other rows
 unfoldable pub bound_rows : Transition → Vocabulary → List Row → Posing (List Row)
 bound_rows body voc rows =
     each (bounded_before body.cases) rows (directions voc) >>= λ before.
     each (bounded_after body.cases (posts body)) before (directions voc) >>= λ both.
-    each (bounded_change body.cases (moves body) (Some (count body))) both (directions voc ++ voc.extra)
+    each (bounded_change body.cases (moves body) (Some (count body))) both
+    (directions voc ++ voc.extra)
 
 -- the rows by the strata of the body
 unfoldable pub rows_by_strata : Transition → Vocabulary → Posing (List Row)
 rows_by_strata body voc = strata body >>= rows_of body voc
 
 -- bounds before and after, behind other rows
-unfoldable pub bounds_at_ends : List Case → List Polynomial → List Polynomial → List Row → Posing (List Row)
-bounds_at_ends cases after along rows = each (bounded_before cases) rows along >>= λ before. each (bounded_after cases after) before along
+unfoldable pub bounds_at_ends : List Case → List Polynomial → List Polynomial → List Row
+    → Posing (List Row)
+bounds_at_ends cases after along rows = each (bounded_before cases) rows along
+    >>= λ before. each (bounded_after cases after) before along

@@ -65,7 +65,10 @@ pub(crate) fn open_variables(
     movement: &Movement,
     strata: &Strata,
 ) -> Result<Items<u32>, AllocError>
-    ensures { IfOk result (λ made. made ≡ filter (λ v. is_among named.now v && not (is_term movement.now.moving (all_terms strata.now) v)) movement.now.modified) }
+    ensures { IfOk result
+        (λ made. made
+        ≡ filter (λ v. is_among named.now v
+        && not (is_term movement.now.moving (all_terms strata.now) v)) movement.now.modified) }
 {
     let mut variables = Items::new(alloc);
     for v in movement.modified.as_slice() {
@@ -121,8 +124,8 @@ fn are_zero(numbers: &[i128]) -> bool
 
 // ---- one progression
 
-/// The greatest value of `up` times the change of a variable less `by` times a term is asked; where there is
-/// one, it gives a row behind the others.
+/// The greatest value of `up` times the change of a variable less `by` times a term is asked; where
+/// there is one, it gives a row behind the others.
 fn with_progression<O: Oracle>(
     alloc: Global,
     rows: Items<Row>,
@@ -139,7 +142,9 @@ fn with_progression<O: Oracle>(
     requires posts { All (λ case. length case.post ≡ to) cases.now }
     requires few { length modified.now < 2 ^ 32 }
     requires low { v < to }
-    ensures { Follows O.asking oracle.old oracle.new log.old log.new result (bounded_over cases.now modified.now rows (record { variable = v; up = up.now; term = term.now; by = by.now })) }
+    ensures { Follows O.asking oracle.old oracle.new log.old log.new result
+        (bounded_over cases.now modified.now rows
+        (record { variable = v; up = up.now; term = term.now; by = by.now })) }
 {
     let bound = bound_over(alloc, cases, to, v, up, term, by, oracle, log)?;
     match &bound {
@@ -165,7 +170,9 @@ fn bound_over<O: Oracle>(
 ) -> Result<Option<i128>, WorkError>
     requires posts { All (λ case. length case.post ≡ to) cases.now }
     requires low { v < to }
-    ensures { Follows O.asking oracle.old oracle.new log.old log.new result (bound_of cases.now (excess (record { variable = v; up = up.now; term = term.now; by = by.now }))) }
+    ensures { Follows O.asking oracle.old oracle.new log.old log.new result
+        (bound_of cases.now
+        (excess (record { variable = v; up = up.now; term = term.now; by = by.now }))) }
 {
     let goals = goals_over(alloc, cases, to, v, up, term, by);
     bound_by(alloc, goals, oracle, log)
@@ -182,7 +189,9 @@ fn goals_over(
 ) -> Result<Items<Goal>, TermError>
     requires posts { All (λ case. length case.post ≡ to) cases.now }
     requires low { v < to }
-    ensures { Gives cause (λ g. g) result (goals_of (excess (record { variable = v; up = up.now; term = term.now; by = by.now })) cases.now) }
+    ensures { Gives cause (λ g. g) result
+        (goals_of (excess (record { variable = v; up = up.now; term = term.now; by = by.now }))
+        cases.now) }
 {
     let mut goals = Items::new(alloc);
     for case in cases {
@@ -210,7 +219,8 @@ fn excess(
     by: &i128,
 ) -> Result<Poly, TermError>
     requires { v < length case.now.post }
-    ensures { Gives cause (λ p. p) result (excess (record { variable = v; up = up.now; term = term.now; by = by.now }) case.now) }
+    ensures { Gives cause (λ p. p) result
+        (excess (record { variable = v; up = up.now; term = term.now; by = by.now }) case.now) }
 {
     let change = change_so_often(alloc, case, v, up)?;
     let slope = multiple(alloc, by, &term.recurrence.start)?;
@@ -245,7 +255,9 @@ fn progression_row(
     most: &i128,
 ) -> Result<Row, TermError>
     requires { length modified.now < 2 ^ 32 }
-    ensures { Gives cause (λ r. r) result (progression_row (moved_by modified.now) (Aux (length modified.now)) (record { variable = v; up = up.now; term = term.now; by = by.now }) most.now) }
+    ensures { Gives cause (λ r. r) result
+        (progression_row (moved_by modified.now) (Aux (length modified.now))
+        (record { variable = v; up = up.now; term = term.now; by = by.now }) most.now) }
 {
     let change = moved_so_often(alloc, modified, v, up)?;
     let growth = product(*by, term.relation.c)?;
@@ -280,7 +292,8 @@ fn with_both_slopes<O: Oracle>(
     requires posts { All (λ case. length case.post ≡ to) cases.now }
     requires few { length modified.now < 2 ^ 32 }
     requires low { v < to }
-    ensures { Follows O.asking oracle.old oracle.new log.old log.new result (by_term cases.now modified.now v up.now rows term.now) }
+    ensures { Follows O.asking oracle.old oracle.new log.old log.new result
+        (by_term cases.now modified.now v up.now rows term.now) }
 {
     let once = with_progression(
         alloc, rows, cases, to, modified, v, up, term, &1, oracle, log,
@@ -307,7 +320,8 @@ fn with_terms<O: Oracle>(
     requires posts { All (λ case. length case.post ≡ to) cases.now }
     requires few { length modified.now < 2 ^ 32 }
     requires low { v < to }
-    ensures { Follows O.asking oracle.old oracle.new log.old log.new result (each (by_term cases.now modified.now v up.now) rows terms.now) }
+    ensures { Follows O.asking oracle.old oracle.new log.old log.new result
+        (each (by_term cases.now modified.now v up.now) rows terms.now) }
 {
     let mut made = rows;
     for term in terms {
@@ -331,7 +345,8 @@ fn with_variable<O: Oracle>(
     requires posts { All (λ case. length case.post ≡ to) cases.now }
     requires few { length modified.now < 2 ^ 32 }
     requires low { v.now < to }
-    ensures { Follows O.asking oracle.old oracle.new log.old log.new result (by_variable cases.now modified.now terms.now rows v.now) }
+    ensures { Follows O.asking oracle.old oracle.new log.old log.new result
+        (by_variable cases.now modified.now terms.now rows v.now) }
 {
     let upward = with_terms(alloc, rows, cases, to, modified, *v, &1, terms, oracle, log)?;
     let both = with_terms(
@@ -355,7 +370,8 @@ fn with_variables<O: Oracle>(
     requires posts { All (λ case. length case.post ≡ to) cases.now }
     requires few { length modified.now < 2 ^ 32 }
     requires low { All (λ v. v < to) variables.now }
-    ensures { Follows O.asking oracle.old oracle.new log.old log.new result (each (by_variable cases.now modified.now terms.now) rows variables.now) }
+    ensures { Follows O.asking oracle.old oracle.new log.old log.new result
+        (each (by_variable cases.now modified.now terms.now) rows variables.now) }
 {
     let mut made = rows;
     for v in variables {
@@ -377,7 +393,9 @@ pub(crate) fn with_progressions<O: Oracle>(
 ) -> Result<Items<Row>, WorkError>
     requires movement { IsMovement body.now movement.now }
     requires few { body.now.to < 2 ^ 31 }
-    ensures { Follows O.asking oracle.old oracle.new log.old log.new result (each (bounded_progression body.now.cases (moved body.now) (count body.now)) rows (progressions body.now voc.now strata.now)) }
+    ensures { Follows O.asking oracle.old oracle.new log.old log.new result
+        (each (bounded_progression body.now.cases (moved body.now) (count body.now)) rows
+        (progressions body.now voc.now strata.now)) }
 {
     if voc.rule() <= 1 {
         return Ok(rows);

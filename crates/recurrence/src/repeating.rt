@@ -14,12 +14,12 @@ use polyhedra::{Log, Vocabulary, WorkError, finish};
 use std::alloc::{AllocError, Global};
 use transition_formula::{Formula, FormulaError, identity, join};
 
-/// What any number of turns of the body do: the identity, and a case of one and more turns, from recurrences
-/// and bounds that the answers give. It holds of the first and the last of every list of states of which the
-/// body links each to the next.
+/// What any number of turns of the body do: the identity, and a case of one and more turns, from
+/// recurrences and bounds that the answers give. It holds of the first and the last of every list
+/// of states of which the body links each to the next.
 ///
-/// The questions are those of `star_of`; what is lost is noted. Source: Farzan and Kincaid, Compositional
-/// Recurrence Analysis, FMCAD 2015.
+/// The questions are those of `star_of`; what is lost is noted. Source: Farzan and Kincaid,
+/// Compositional Recurrence Analysis, FMCAD 2015.
 pub fn star<O: Oracle>(
     alloc: Global,
     body: &Formula,
@@ -28,15 +28,16 @@ pub fn star<O: Oracle>(
     log: &mut Log,
 ) -> Result<Formula, WorkError>
     requires { IsStarred body.now voc.now }
-    ensures follows { Follows O.asking oracle.old oracle.new log.old log.new result (star_of body.now voc.now) }
+    ensures follows { Follows O.asking oracle.old oracle.new log.old log.new result
+        (star_of body.now voc.now) }
     ensures holds { IfOk result (HoldsOfChains body.now) }
     ensures fits { IfOk result (IsStar body.now.to) }
 {
     repeated(alloc, body, voc, oracle, log)
 }
 
-/// The identity where the body has no case; else the identity, and what is left of the second case in order,
-/// thinned and cut.
+/// The identity where the body has no case; else the identity, and what is left of the second case
+/// in order, thinned and cut.
 #[tactic(auto, using(posing::proofs::Following::following), unfolding(crate::specs::Star::star_of))]
 fn repeated<O: Oracle>(
     alloc: Global,
@@ -46,7 +47,8 @@ fn repeated<O: Oracle>(
     log: &mut Log,
 ) -> Result<Formula, WorkError>
     requires { IsStarred body.now voc.now }
-    ensures { Follows O.asking oracle.old oracle.new log.old log.new result (star_of body.now voc.now) }
+    ensures { Follows O.asking oracle.old oracle.new log.old log.new result
+        (star_of body.now voc.now) }
 {
     if body.cases().is_empty() {
         return Ok(identity(alloc, body.from())?);
@@ -61,7 +63,9 @@ fn repeated<O: Oracle>(
 fn with_identity(alloc: Global, body: &Formula, left: Option<Case>) -> Result<Formula, FormulaError>
     requires ends { body.now.from ≡ body.now.to }
     requires fits { IsTransition body.now.from body.now.to (option_to_list left) }
-    ensures { IfOk result (λ g. g ≡ joined (identity_of body.now.from) (record { from = body.now.from; to = body.now.to; cases = option_to_list left })) }
+    ensures { IfOk result
+        (λ g. g ≡ joined (identity_of body.now.from)
+        (record { from = body.now.from; to = body.now.to; cases = option_to_list left })) }
 {
     let none = identity(alloc, body.from())?;
     let some = Formula::from_cases(body.from(), body.to(), cases_of(alloc, left)?);

@@ -52,7 +52,8 @@ fn one_stratum<O: Oracle>(
     log: &mut Log,
 ) -> Result<Option<Items<Term>>, WorkError>
     requires { IsMovement body.now movement.now }
-    ensures { Follows O.asking oracle.old oracle.new log.old log.new result (stratum body.now lower.now) }
+    ensures { Follows O.asking oracle.old oracle.new log.old log.new result
+        (stratum body.now lower.now) }
 {
     let cases = cases_of(movement)?;
     let starts = starts_of(alloc, lower)?;
@@ -62,7 +63,8 @@ fn one_stratum<O: Oracle>(
     Ok(terms)
 }
 
-/// The next stratum where it is asked, over the columns that no turn changes and the terms of the stratum before.
+/// The next stratum where it is asked, over the columns that no turn changes and the terms of the
+/// stratum before.
 #[tactic(auto, using(posing::proofs::Following::stops))]
 fn next_stratum<O: Oracle>(
     alloc: Global,
@@ -75,7 +77,8 @@ fn next_stratum<O: Oracle>(
 ) -> Result<Option<Items<Term>>, WorkError>
     requires ends { body.now.from ≡ body.now.to }
     requires movement { IsMovement body.now movement.now }
-    ensures { Follows O.asking oracle.old oracle.new log.old log.new result (stratum_if asked body.now (over body.now below.now)) }
+    ensures { Follows O.asking oracle.old oracle.new log.old log.new result
+        (stratum_if asked body.now (over body.now below.now)) }
 {
     if !asked {
         return Ok(None);
@@ -121,7 +124,9 @@ fn terms_of(
     found: Option<Items<Relation>>,
 ) -> Result<Option<Items<Term>>, AllocError>
     requires { Rise variables.now }
-    ensures { IfOk result (λ terms. terms ≡ option_map (λ rs. map (term_of variables.now lower.now) (filter has_terms rs)) found) }
+    ensures { IfOk result
+        (λ terms. terms
+        ≡ option_map (λ rs. map (term_of variables.now lower.now) (filter has_terms rs)) found) }
 {
     match found {
         None => Ok(None),
@@ -136,7 +141,8 @@ fn terms_from(
     relations: Items<Relation>,
 ) -> Result<Items<Term>, AllocError>
     requires { Rise variables.now }
-    ensures { IfOk result (λ terms. terms ≡ map (term_of variables.now lower.now) (filter has_terms relations)) }
+    ensures { IfOk result
+        (λ terms. terms ≡ map (term_of variables.now lower.now) (filter has_terms relations)) }
 {
     let mut terms = Items::new(alloc);
     for relation in relations {
@@ -174,7 +180,8 @@ fn steady_columns(
     modified: &[u32],
     occurring: &[u32],
 ) -> Result<Items<u32>, AllocError>
-    ensures { IfOk result (λ columns. columns ≡ filter (λ v. not (is_among modified.now v)) occurring.now) }
+    ensures { IfOk result
+        (λ columns. columns ≡ filter (λ v. not (is_among modified.now v)) occurring.now) }
 {
     let mut columns = Items::new(alloc);
     for v in occurring {

@@ -14,7 +14,8 @@ use linear_terms::{Col, Poly, TermError, add, combination};
 use polyhedra::entries_of;
 use std::alloc::{AllocError, Global};
 
-/// A sequence along the turns, over the state in which they start: its number there and its first three differences.
+/// A sequence along the turns, over the state in which they start: its number there and its first
+/// three differences.
 #[derive(Drop)]
 pub(crate) struct Recurrence {
     pub(crate) start: Poly,
@@ -159,13 +160,15 @@ fn start_of(alloc: Global, variables: &[u32], numbers: &[i128]) -> Result<Poly, 
     linear(alloc, numbers, entries.as_slice())
 }
 
-/// The linear polynomial that has numbers at columns, which stand in print order. No step of it leaves 128 bits.
+/// The linear polynomial that has numbers at columns, which stand in print order. No step of it
+/// leaves 128 bits.
 fn combination_of_columns(
     alloc: Global,
     numbers: &[i128],
     columns: &[Poly],
 ) -> Result<Poly, TermError>
-    ensures { (cs : List Col) → Ascend cs → columns.now ≡ map column_of cs → Gives cause (λ p. p) result (Ok (linear numbers.now cs)) }
+    ensures { (cs : List Col) → Ascend cs → columns.now ≡ map column_of cs
+        → Gives cause (λ p. p) result (Ok (linear numbers.now cs)) }
 {
     match combination(alloc, numbers, columns) {
         Ok(poly) => Ok(poly),
@@ -175,9 +178,11 @@ fn combination_of_columns(
     }
 }
 
-/// The linear polynomial that has numbers at columns, which stand in print order; its one error is want of memory.
+/// The linear polynomial that has numbers at columns, which stand in print order; its one error is
+/// want of memory.
 pub(crate) fn linear(alloc: Global, numbers: &[i128], columns: &[Poly]) -> Result<Poly, AllocError>
-    ensures { (cs : List Col) → Ascend cs → columns.now ≡ map column_of cs → IfOk result (λ p. p ≡ linear numbers.now cs) }
+    ensures { (cs : List Col) → Ascend cs → columns.now ≡ map column_of cs
+        → IfOk result (λ p. p ≡ linear numbers.now cs) }
 {
     match combination_of_columns(alloc, numbers, columns) {
         Ok(poly) => Ok(poly),
@@ -187,7 +192,8 @@ pub(crate) fn linear(alloc: Global, numbers: &[i128], columns: &[Poly]) -> Resul
 
 /// What is made, or the step that cannot be made; want of memory is an error here.
 fn settled(made: Result<Poly, TermError>) -> Result<Result<Poly, TermError>, AllocError>
-    ensures { (stated : Made) → Gives cause (λ p. p) made stated → IfOk result (λ kept. kept ≡ stated) }
+    ensures { (stated : Made) → Gives cause (λ p. p) made stated
+        → IfOk result (λ kept. kept ≡ stated) }
 {
     match made {
         Ok(poly) => Ok(Ok(poly)),
@@ -198,7 +204,8 @@ fn settled(made: Result<Poly, TermError>) -> Result<Result<Poly, TermError>, All
 
 /// The first difference: numbers times lower terms, and a constant.
 fn first_of(alloc: Global, lower: &[Recurrence], relation: &Relation) -> Result<Poly, TermError>
-    ensures { Gives cause (λ p. p) result (combination relation.now.b (map (λ l. Ok l.start) lower.now) ⊞ whole relation.now.c) }
+    ensures { Gives cause (λ p. p) result
+        (combination relation.now.b (map (λ l. Ok l.start) lower.now) ⊞ whole relation.now.c) }
 {
     let of_lower = combined(alloc, Part::Start, lower, relation.b.as_slice())?;
     add(alloc, &of_lower, &Poly::constant(alloc, relation.c))

@@ -38,7 +38,8 @@ pub(crate) fn turns<O: Oracle>(
     log: &mut Log,
 ) -> Result<Case, WorkError>
     requires { IsStarred body.now voc.now }
-    ensures { Follows O.asking oracle.old oracle.new log.old log.new result (turns body.now voc.now) }
+    ensures { Follows O.asking oracle.old oracle.new log.old log.new result
+        (turns body.now voc.now) }
 {
     let movement = movement_of(alloc, true, body)?;
     turns_by(alloc, body, voc, &movement, oracle, log)
@@ -56,7 +57,8 @@ fn turns_by<O: Oracle>(
     requires starred { IsStarred body.now voc.now }
     requires movement { IsMovement body.now movement.now }
     requires lost { loss_notes movement.now.lost ≡ lost_changes true body.now }
-    ensures { Follows O.asking oracle.old oracle.new log.old log.new result (turns body.now voc.now) }
+    ensures { Follows O.asking oracle.old oracle.new log.old log.new result
+        (turns body.now voc.now) }
 {
     let aux = movement.modified.len() as u32 + 1;
     let post = noted_posts(alloc, body, movement, log)?;
@@ -94,7 +96,8 @@ fn rows_by_strata<O: Oracle>(
 ) -> Result<Items<Row>, WorkError>
     requires starred { IsStarred body.now voc.now }
     requires movement { IsMovement body.now movement.now }
-    ensures { Follows O.asking oracle.old oracle.new log.old log.new result (rows_by_strata body.now voc.now) }
+    ensures { Follows O.asking oracle.old oracle.new log.old log.new result
+        (rows_by_strata body.now voc.now) }
 {
     let strata = strata_of(alloc, body, movement, oracle, log)?;
     rows_of(alloc, body, voc, movement, &strata, oracle, log)
@@ -113,7 +116,8 @@ fn rows_of<O: Oracle>(
 ) -> Result<Items<Row>, WorkError>
     requires starred { IsStarred body.now voc.now }
     requires movement { IsMovement body.now movement.now }
-    ensures { Follows O.asking oracle.old oracle.new log.old log.new result (rows_of body.now voc.now strata.now) }
+    ensures { Follows O.asking oracle.old oracle.new log.old log.new result
+        (rows_of body.now voc.now strata.now) }
 {
     let modified = movement.modified.as_slice();
     let terms = terms_once(alloc, strata)?;
@@ -168,7 +172,8 @@ fn is_same(term: &Term, other: &Term) -> bool
     term.relation.a.as_slice() == other.relation.a.as_slice()
 }
 
-/// What the terms are after the turns, by their numbers and differences before. A row that is lost is noted.
+/// What the terms are after the turns, by their numbers and differences before. A row that is lost
+/// is noted.
 fn equations(
     alloc: Global,
     terms: &[Term],
@@ -178,8 +183,12 @@ fn equations(
 ) -> Result<Items<Row>, AllocError>
     requires few { length modified.now < 2 ^ 32 }
     requires ascending { Ascend (map (after_from 0 modified.now) moving.now) }
-    ensures noted { Adds (loss_notes (flat_map (λ t. losses_of (row_of_term modified.now moving.now t)) terms.now)) log.old log.new result }
-    ensures exact { IfOk result (λ rows. rows ≡ filter_map (λ t. answered (row_of_term modified.now moving.now t)) terms.now) }
+    ensures noted { Adds
+        (loss_notes (flat_map (λ t. losses_of (row_of_term modified.now moving.now t)) terms.now))
+        log.old log.new result }
+    ensures exact { IfOk result
+        (λ rows. rows ≡ filter_map (λ t. answered (row_of_term modified.now moving.now t))
+        terms.now) }
 {
     let columns = columns_after(alloc, modified, moving)?;
     let mut rows = Items::new(alloc);
@@ -199,7 +208,8 @@ fn columns_after(
     variables: &[u32],
 ) -> Result<Items<Poly>, AllocError>
     requires { length modified.now < 2 ^ 32 }
-    ensures { IfOk result (λ columns. columns ≡ map column_of (map (after_from 0 modified.now) variables.now)) }
+    ensures { IfOk result
+        (λ columns. columns ≡ map column_of (map (after_from 0 modified.now) variables.now)) }
 {
     let mut columns = Items::new(alloc);
     for v in variables {
@@ -216,7 +226,8 @@ fn term_row(
     modified: &[u32],
 ) -> Result<Row, TermError>
     requires { length modified.now < 2 ^ 32 }
-    ensures { (moving : List ℕ) → Ascend (map (after_from 0 modified.now) moving) → columns.now ≡ map column_of (map (after_from 0 modified.now) moving) →
+    ensures { (moving : List ℕ) → Ascend (map (after_from 0 modified.now) moving)
+        → columns.now ≡ map column_of (map (after_from 0 modified.now) moving) →
         Gives cause (λ r. r) result (row_of_term modified.now moving term.now) }
 {
     let first = made(&term.recurrence.first)?;
@@ -295,7 +306,8 @@ fn bound_rows<O: Oracle>(
 ) -> Result<Items<Row>, WorkError>
     requires starred { IsStarred body.now voc.now }
     requires modified { AreModified body.now modified.now }
-    ensures { Follows O.asking oracle.old oracle.new log.old log.new result (bound_rows body.now voc.now rows) }
+    ensures { Follows O.asking oracle.old oracle.new log.old log.new result
+        (bound_rows body.now voc.now rows) }
 {
     let mut directions = directions(alloc, voc)?;
     let cases = body.cases();
@@ -331,7 +343,8 @@ fn bounds_at_ends<O: Oracle>(
 ) -> Result<Items<Row>, WorkError>
     requires posts { All (IsCoveredByPosts cases.now) directions.now }
     requires rows { All (IsCovered (length after.now)) directions.now }
-    ensures { Follows O.asking oracle.old oracle.new log.old log.new result (bounds_at_ends cases.now after.now directions.now rows) }
+    ensures { Follows O.asking oracle.old oracle.new log.old log.new result
+        (bounds_at_ends cases.now after.now directions.now rows) }
 {
     let before = bounds_before(alloc, rows, cases, directions, oracle, log)?;
     bounds_after(alloc, before, cases, after, directions, oracle, log)

@@ -1,4 +1,5 @@
--- What the chosen execution comes to: an execution of the program, whose choices take the first values.
+-- What the chosen execution comes to: an execution of the program, whose choices take the first
+-- values.
 use Rattle.std.proofs.Common.{◌≡◌, ◌≤◌, ◌+◌, ℕ, zero, suc, ℤ, Bool, true, false, List, [], ◌∷◌, ◌++◌, length, take, Option, None, Some, Result, Ok, refl, sym, ap, subst, ◌∙◌, arith, add-one, length-append, append-nil}
 use Rattle.std.specs.Prelude.{slice_get}
 use Rattle.std.proofs.lemmas.Option.{get_or_from_slice_get, slice_get_within}

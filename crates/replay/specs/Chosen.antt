@@ -1,5 +1,6 @@
--- The chosen execution of a program on values: it begins with `main`, every column of a new frame that is no parameter is 0,
--- and the n-th choice takes the n-th value. It is a function of the program, the values and the number of steps.
+-- The chosen execution of a program on values: it begins with `main`, every column of a new frame
+-- that is no parameter is 0, and the n-th choice takes the n-th value. It is a function of the
+-- program, the values and the number of steps.
 use Rattle.std.specs.Prelude.{◌≡◌, ◌↔◌, ◌≤◌, ◌+◌, ℕ, zero, suc, ℤ, Option, None, Some, Result, Ok, List, [], ◌∷◌, ◌++◌, slice_get}
 use Rattle.items.specs.Gives.{◌>>=◌}
 use Rattle.syntax_tree.specs.declared.program.Program.{Program}
@@ -38,7 +39,8 @@ further here stepped = record {
 -- one step more
 abbrev pub step_on : Program → List ℤ → Reached → Result Reached Stop
 step_on program values here =
-    chosen_step program (slice_get values here.taken) here.config >>= λ stepped. Ok (further here stepped)
+    chosen_step program (slice_get values here.taken) here.config
+    >>= λ stepped. Ok (further here stepped)
 
 -- what the chosen execution comes to in so many steps, or why it has fewer
 abbrev pub chosen : Program → List ℤ → ℕ → Result Reached Stop
@@ -47,13 +49,21 @@ chosen program values (suc n) = chosen program values n >>= step_on program valu
 
 -- why the execution ends in so many steps, where no more than `turns` are made
 abbrev pub EndsBy : List ℤ → ℕ → ℕ → Reached → TraceStop → Type 0
-EndsBy values turns steps here (stop.Done v) = StopsAt (slice_get values here.taken) here.config (why.Done v)
-EndsBy values turns steps here (stop.Failed n) = StopsAt (slice_get values here.taken) here.config (why.Failed n)
-EndsBy values turns steps here stop.Guard = StopsAt (slice_get values here.taken) here.config why.Guard
-EndsBy values turns steps here stop.Zero = StopsAt (slice_get values here.taken) here.config why.Zero
+EndsBy values turns steps here (stop.Done v) = StopsAt (slice_get values here.taken) here.config
+    (why.Done v)
+EndsBy values turns steps here (stop.Failed n) = StopsAt (slice_get values here.taken) here.config
+    (why.Failed n)
+EndsBy values turns steps here stop.Guard = StopsAt (slice_get values here.taken) here.config
+    why.Guard
+EndsBy values turns steps here stop.Zero = StopsAt (slice_get values here.taken) here.config
+    why.Zero
 EndsBy values turns steps here stop.Dry = StopsAt (slice_get values here.taken) here.config why.Dry
 EndsBy values turns steps here (stop.Wide left right op) =
-    StopsAt (slice_get values here.taken) here.config (why.Wide (record { left = left; right = right; op = op }))
+    StopsAt (slice_get values here.taken) here.config (why.Wide (record {
+      left = left;
+      right = right;
+      op = op;
+    }))
 EndsBy values turns steps here stop.Spent =
     (steps ≡ turns) × ((cause : Stop) → StopsAt (slice_get values here.taken) here.config cause → ⊥)
 
@@ -63,4 +73,5 @@ pub record IsTrace (program : Program) (values : List ℤ) (turns : ℕ) (trace 
   pub reached : Reached
   pub is : chosen program values trace.steps ≡ Ok reached
   pub events : trace.events ≡ reached.events
-  pub stops : (cause : TraceStop) → (trace.stop ≡ cause) ↔ EndsBy values turns trace.steps reached cause
+  pub stops : (cause : TraceStop) → (trace.stop ≡ cause)
+      ↔ EndsBy values turns trace.steps reached cause

@@ -9,7 +9,11 @@ use Rattle.replay.specs.declared.trace.Stop.TheVariants as stop
 use Rattle.replay.specs.Chosen.{Reached}
 
 abbrev pub reached_of : Run → Reached
-reached_of run = record { config = machine_config run.machine; taken = run.taken; events = run.events }
+reached_of run = record {
+  config = machine_config run.machine;
+  taken = run.taken;
+  events = run.events;
+}
 
 -- the stop of a trace that stands for a cause; want of memory is none
 abbrev pub stop_of : Stop → Option TraceStop

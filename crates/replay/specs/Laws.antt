@@ -19,7 +19,8 @@ pub record IsExecution (program : Program) (steps : ℕ) (last : Config) : Type 
   pub runs : Runs program first over last
 
 abbrev pub ChosenIsExecution : Type 0
-ChosenIsExecution = (program : Program) (values : List ℤ) (steps : ℕ) (here : Reached) → IsWellFormed program
+ChosenIsExecution = (program : Program) (values : List ℤ) (steps : ℕ) (here : Reached)
+    → IsWellFormed program
     → chosen program values steps ≡ Ok here → IsExecution program steps here.config
 
 -- the numbers that choices took, in order
@@ -32,14 +33,17 @@ numbers_taken (_ ∷ rest) = numbers_taken rest
 abbrev pub ChoicesTakeValues : Type 0
 ChoicesTakeValues = (program : Program) (values : List ℤ) (steps : ℕ) (here : Reached)
     → chosen program values steps ≡ Ok here
-    → (numbers_taken here.events ≡ take here.taken values) × (here.taken ≤ length values) × (here.taken ≤ steps)
+    → (numbers_taken here.events ≡ take here.taken values) × (here.taken ≤ length values)
+    × (here.taken ≤ steps)
 
 -- a trace that ends at a failed assertion shows that the program fails there
 abbrev pub FailedStopFails : Type 0
-FailedStopFails = (program : Program) (values : List ℤ) (turns : ℕ) (trace : Trace) (number : ℕ) → IsWellFormed program
+FailedStopFails = (program : Program) (values : List ℤ) (turns : ℕ) (trace : Trace) (number : ℕ)
+    → IsWellFormed program
     → IsTrace program values turns trace → trace.stop ≡ stop.Failed number → Fails program number
 
 -- there is one trace
 abbrev pub TracesAreDetermined : Type 0
-TracesAreDetermined = (program : Program) (values : List ℤ) (turns : ℕ) (one other : Trace) → IsWellFormed program
+TracesAreDetermined = (program : Program) (values : List ℤ) (turns : ℕ) (one other : Trace)
+    → IsWellFormed program
     → IsTrace program values turns one → IsTrace program values turns other → one ≡ other

@@ -1,5 +1,6 @@
 -- ---- what must be believed
--- the chosen execution on given values, its trace, the text of a trace, and laws that tie them to the machine
+-- the chosen execution on given values, its trace, the text of a trace, and laws that tie them to
+-- the machine
 pub mod Chosen
 pub mod TraceText
 pub mod Laws

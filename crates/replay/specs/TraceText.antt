@@ -1,4 +1,5 @@
--- The text of a trace: a line for each thing that the execution showed, and a last one that tells why it made no more steps.
+-- The text of a trace: a line for each thing that the execution showed, and a last one that tells
+-- why it made no more steps.
 use Rattle.std.specs.Prelude.{ℕ, ℤ, Bool, true, false, ◌-◌, decimal, Option, None, Some, List, [], ◌++◌, codes, slice_get, slice_index_or, if◌then◌else◌}
 use Rattle.std.specs.List.{flat_map, join_by}
 use Rattle.std.specs.Fmt.{signed_decimal}
@@ -28,10 +29,12 @@ returned_text (Some proc) value = if proc.returns then codes " " ++ signed_decim
 
 abbrev pub event_text : Program → Event → List ℕ
 event_text program (event.Call proc args) =
-    codes "call " ++ name_of (slice_get program.procs proc) ++ codes "(" ++ join_by signed_decimal (codes ", ") args ++ codes ")"
+    codes "call " ++ name_of (slice_get program.procs proc) ++ codes "(" ++ join_by signed_decimal
+    (codes ", ") args ++ codes ")"
 event_text program (event.Any value) = codes "any " ++ signed_decimal value
 event_text program (event.Holds number) = codes "check " ++ decimal number ++ codes " holds"
-event_text program (event.Return proc value) = codes "return" ++ returned_text (slice_get program.procs proc) value
+event_text program (event.Return proc value) =
+    codes "return" ++ returned_text (slice_get program.procs proc) value
 
 abbrev pub event_line : Program → Event → List ℕ
 event_line program shown = event_text program shown ++ codes "\n"
@@ -56,23 +59,29 @@ op_text op.Or = codes "||"
 
 -- the cause, where a failed assertion stands at a place
 abbrev pub cause_text : Program → Place → Stop → List ℕ
-cause_text program place (stop.Done value) = codes "main returned" ++ returned_text (slice_get program.procs program.main) value
+cause_text program place (stop.Done value) =
+    codes "main returned" ++ returned_text (slice_get program.procs program.main) value
 cause_text program place (stop.Failed number) =
-    codes "assertion " ++ decimal number ++ codes " failed at " ++ decimal place.line ++ codes ":" ++ decimal place.column
+    codes "assertion " ++ decimal number ++ codes " failed at " ++ decimal place.line ++ codes ":"
+    ++ decimal place.column
 cause_text program place stop.Guard = codes "guard"
 cause_text program place stop.Zero = codes "division by zero"
 cause_text program place stop.Dry = codes "no value left"
-cause_text program place (stop.Wide left right op) = codes "wide " ++ signed_decimal left ++ codes " " ++ op_text op ++ codes " " ++ signed_decimal right
+cause_text program place (stop.Wide left right op) = codes "wide " ++ signed_decimal left
+    ++ codes " " ++ op_text op ++ codes " " ++ signed_decimal right
 cause_text program place stop.Spent = codes "turns spent"
 
 abbrev pub last_line : Program → Place → Trace → List ℕ
 last_line program place trace =
-    codes "stopped: " ++ cause_text program place trace.stop ++ codes " after " ++ decimal trace.steps ++ codes " steps\n"
+    codes "stopped: " ++ cause_text program place trace.stop ++ codes " after "
+    ++ decimal trace.steps ++ codes " steps\n"
 
 abbrev pub trace_text : Program → Place → Trace → List ℕ
-trace_text program place trace = flat_map (event_line program) trace.events ++ last_line program place trace
+trace_text program place trace = flat_map (event_line program) trace.events ++ last_line program
+    place trace
 
--- where the assertion that failed stands in the text of the program, by its byte; 0 where none failed
+-- where the assertion that failed stands in the text of the program, by its byte; 0 where none
+-- failed
 abbrev pub failed_at : Program → Stop → ℕ
 failed_at program (stop.Failed number) = slice_index_or program.checks (number - 1) 0
 failed_at program _ = 0

@@ -1,4 +1,5 @@
-//! Laws of the chosen execution and of its traces. Each is the contract of a function that does nothing.
+//! Laws of the chosen execution and of its traces. Each is the contract of a function that does
+//! nothing.
 ghost use Rattle.replay.specs.Laws.{ChoicesTakeValues, ChosenIsExecution, FailedStopFails, TracesAreDetermined};
 
 /// The chosen execution is one of the program's, with as many steps.

@@ -1,5 +1,5 @@
-//! One execution of a program on given values, step by step: what it shows, how many steps it makes, and why it stops;
-//! and the bytes that tell it.
+//! One execution of a program on given values, step by step: what it shows, how many steps it
+//! makes, and why it stops; and the bytes that tell it.
 #![tactic(auto)]
 
 mod laws;

@@ -13,7 +13,8 @@ pub struct Place {
     pub column: u32,
 }
 
-/// The byte at which an assertion stands, by its number from 1; 0 where there is none with this number.
+/// The byte at which an assertion stands, by its number from 1; 0 where there is none with this
+/// number.
 fn check_at(checks: &[u32], number: u32) -> u32
     ensures { result ≡ slice_index_or checks.now (number - 1) 0 }
 {
@@ -23,7 +24,8 @@ fn check_at(checks: &[u32], number: u32) -> u32
     }
 }
 
-/// The byte at which the assertion that failed stands in the text of the program; 0 where none failed.
+/// The byte at which the assertion that failed stands in the text of the program; 0 where none
+/// failed.
 pub fn failed_at(program: &Program, stop: Stop) -> u32
     ensures { result ≡ failed_at program.now stop }
 {
@@ -40,8 +42,8 @@ pub fn is_failed(stop: Stop) -> bool
     matches!(stop, Stop::Failed(_))
 }
 
-/// The text of a trace, where an assertion that failed stands at a place: a line for each call, choice, assertion that
-/// held and return, and a last one that tells why there are no more.
+/// The text of a trace, where an assertion that failed stands at a place: a line for each call,
+/// choice, assertion that held and return, and a last one that tells why there are no more.
 pub fn print(
     alloc: Global,
     program: &Program,

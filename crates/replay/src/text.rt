@@ -60,7 +60,8 @@ impl Text {
 
     /// Numbers, with a comma and a space between two of them.
     fn put_numbers(&mut self, numbers: &[i128]) -> Result<(), AllocError>
-        ensures { Appends self.old self.new result (join_by signed_decimal (codes ", ") numbers.now) }
+        ensures { Appends self.old self.new result
+            (join_by signed_decimal (codes ", ") numbers.now) }
     {
         let Some((first, more)) = numbers.split_first() else {
             return Ok(());
@@ -84,7 +85,8 @@ impl Text {
 
     /// A returned value behind a space, where the procedure returns one.
     fn put_returned(&mut self, program: &Program, place: u32, value: i128) -> Result<(), AllocError>
-        ensures { Appends self.old self.new result (returned_text (slice_get program.now.procs place) value) }
+        ensures { Appends self.old self.new result
+            (returned_text (slice_get program.now.procs place) value) }
     {
         match program.procs.get(place as usize) {
             Some(proc) if proc.returns => {
@@ -150,7 +152,8 @@ impl Text {
     }
 
     fn put_failure(&mut self, number: u32, place: Place) -> Result<(), AllocError>
-        ensures { Appends self.old self.new result (codes "assertion " ++ decimal number ++ codes " failed at "
+        ensures { Appends self.old self.new result
+            (codes "assertion " ++ decimal number ++ codes " failed at "
             ++ decimal place.line ++ codes ":" ++ decimal place.column) }
     {
         self.put(b"assertion ")?;
@@ -162,7 +165,8 @@ impl Text {
     }
 
     fn put_wide(&mut self, left: i128, right: i128, op: Op) -> Result<(), AllocError>
-        ensures { Appends self.old self.new result (codes "wide " ++ signed_decimal left ++ codes " " ++ op_text op
+        ensures { Appends self.old self.new result
+            (codes "wide " ++ signed_decimal left ++ codes " " ++ op_text op
             ++ codes " " ++ signed_decimal right) }
     {
         self.put(b"wide ")?;

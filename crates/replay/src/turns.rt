@@ -59,9 +59,11 @@ impl<'p> Run<'p> {
         requires well_formed { IsWellFormed program.now }
         requires can_run { ConfigCanRun program.now (machine_config self.old.machine) }
         requires few { self.old.taken < 2 ^ 63 }
-        ensures went { OnOk result (step_on program.now values.now (reached_of self.old) ≡ Ok (reached_of self.new)) }
+        ensures went { OnOk result (step_on program.now values.now (reached_of self.old)
+            ≡ Ok (reached_of self.new)) }
         ensures kept { IfErr result (λ e. self.new.events ≡ self.old.events) }
-        ensures stopped { IfErr result (λ e. FailsBy (cause e) (step_on program.now values.now (reached_of self.old))) }
+        ensures stopped { IfErr result
+            (λ e. FailsBy (cause e) (step_on program.now values.now (reached_of self.old))) }
     {
         let number = number_at(values, self.taken);
         if let Some(event) = self.machine.step(alloc, program, number)? {
@@ -102,8 +104,9 @@ impl<'p> Run<'p> {
     }
 }
 
-/// The trace of a program on values, for at most so many steps. The n-th choice takes the n-th value, and every column of a
-/// new frame that is no parameter is 0. It fails for want of memory alone.
+/// The trace of a program on values, for at most so many steps. The n-th choice takes the n-th
+/// value, and every column of a new frame that is no parameter is 0. It fails for want of memory
+/// alone.
 pub fn follow(
     alloc: Global,
     program: &Program,

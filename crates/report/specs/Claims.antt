@@ -8,10 +8,11 @@ use Rattle.report.specs.declared.blocks.ProcBlock.{ProcBlock}
 use Rattle.report.specs.declared.blocks.Judged.{Judged}
 use Rattle.report.specs.declared.blocks.Report.{Report}
 
--- The claims of a report are met: each summary holds of every execution that returns, and no execution from `main` fails an
--- assertion that is proved.
+-- The claims of a report are met: each summary holds of every execution that returns, and no
+-- execution from `main` fails an assertion that is proved.
 pub record ClaimsAreMet (program : Program) (report : Report) : Type 0 where
   pub summaries : (proc : ℕ) (block : ProcBlock) → slice_get report.procs proc ≡ Some block
       → SummaryIsMet program proc block.formula
-  pub proved : (n : ℕ) (judged : Judged) → slice_get report.judged n ≡ Some judged → judged.verdict ≡ Proved
+  pub proved : (n : ℕ) (judged : Judged) → slice_get report.judged n ≡ Some judged
+      → judged.verdict ≡ Proved
       → ¬ Fails program (n + 1)

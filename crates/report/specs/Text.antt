@@ -45,7 +45,8 @@ column_text names (Aux number) = codes "$" ++ decimal (number + 1)
 
 -- a ratio in lowest terms; a whole number has no denominator
 abbrev pub ratio_text : Fraction → List ℕ
-ratio_text z = signed_decimal z.num ++ (if int_eq z.den (pos 1) then [] else codes "/" ++ signed_decimal z.den)
+ratio_text z =
+    signed_decimal z.num ++ (if int_eq z.den (pos 1) then [] else codes "/" ++ signed_decimal z.den)
 
 abbrev pub value_text : Names → List Col → Fraction → List ℕ
 value_text names m z = mono_text (column_text names) m ++ codes " = " ++ ratio_text z
@@ -60,12 +61,14 @@ more_values names (m ∷ of) (z ∷ at) = codes ", " ++ value_text names m z ++ 
 abbrev pub point_text : Names → List (List Col) → List Fraction → List ℕ
 point_text names [] at = codes "point none"
 point_text names (m ∷ of) [] = codes "point none"
-point_text names (m ∷ of) (z ∷ at) = codes "point " ++ value_text names m z ++ more_values names of at
+point_text names (m ∷ of) (z ∷ at) = codes "point " ++ value_text names m z ++ more_values names of
+    at
 
 -- two numbers whose product or sum has no 128 bits
 unfoldable pub wide_text : ℤ → ℤ → Bool → List ℕ
 wide_text left right times =
-    codes "wide " ++ signed_decimal left ++ (if times then codes " * " else codes " + ") ++ signed_decimal right
+    codes "wide " ++ signed_decimal left ++ (if times then codes " * " else codes " + ")
+    ++ signed_decimal right
 
 abbrev pub limit_text : Limit → List ℕ
 limit_text (limit.Wide left right times) = codes "limit " ++ wide_text left right times
@@ -75,11 +78,13 @@ limit_text limit.Pivots = codes "limit pivots"
 
 -- an earlier name is the same as the one at a place
 abbrev pub stands_before : Names → ℕ → Bool
-stands_before names i = nat_lt i (length names) && list_any (bytes_eq (name_at names i)) (take i names)
+stands_before names i = nat_lt i (length names) && list_any (bytes_eq (name_at names i))
+    (take i names)
 
 -- a column's name, with its number where an earlier column has the same name
 abbrev pub shown_name : Names → ℕ → ℕ → List ℕ
-shown_name names number i = name_at names i ++ (if stands_before names i then codes "#" ++ decimal number else [])
+shown_name names number i =
+    name_at names i ++ (if stands_before names i then codes "#" ++ decimal number else [])
 
 -- a column at the exit: a global, or the returned value behind these
 abbrev pub exit_name : Names → ℕ → List ℕ
@@ -92,7 +97,8 @@ entry_names before = map (λ i. shown_name before i i) (range_with_len 0 (length
 abbrev pub exit_names : Names → Names
 exit_names after = map (λ name. name ++ codes "'") after ++ codes "$ret" ∷ []
 
--- the names that a procedure's rows have: its columns at the entry, and behind these those at the exit
+-- the names that a procedure's rows have: its columns at the entry, and behind these those at the
+-- exit
 abbrev pub column_names : ProcBlock → Names
 column_names block = entry_names block.before ++ exit_names block.after
 
@@ -116,7 +122,8 @@ witness_text names (witness.Limit l) = limit_text l
 
 -- a row that was dropped, and what speaks against it
 unfoldable pub dropped_text : Names → Row → Witness → List ℕ
-dropped_text names row by = codes "dropped " ++ row_text (column_text names) row ++ codes " " ++ witness_text names by
+dropped_text names row by = codes "dropped " ++ row_text (column_text names) row ++ codes " "
+    ++ witness_text names by
 
 abbrev pub note_text : List ProcBlock → Note → List ℕ
 note_text blocks (note.Loss l) = loss_text l
@@ -135,12 +142,14 @@ abbrev pub row_line : Names → Row → List ℕ
 row_line names row = codes "  " ++ row_text (column_text names) row ++ codes "\n"
 
 abbrev pub post_line : Names → List ℕ → Polynomial → List ℕ
-post_line names name p = codes "  " ++ name ++ codes " = " ++ poly_text (column_text names) p ++ codes "\n"
+post_line names name p = codes "  " ++ name ++ codes " = " ++ poly_text (column_text names) p
+    ++ codes "\n"
 
 -- the posts from number i on, each behind the name that it has by its number
 abbrev pub post_lines : Names → (ℕ → List ℕ) → ℕ → List Polynomial → List ℕ
 post_lines names name i [] = []
-post_lines names name i (p ∷ posts) = post_line names (name i) p ++ post_lines names name (i + 1) posts
+post_lines names name i (p ∷ posts) = post_line names (name i) p ++ post_lines names name (i + 1)
+    posts
 
 abbrev pub case_text : Names → Names → ℕ → Case → List ℕ
 case_text names after number case =
@@ -150,7 +159,8 @@ case_text names after number case =
 -- the cases, of which the first has a number
 abbrev pub cases_from : Names → Names → ℕ → List Case → List ℕ
 cases_from names after number [] = []
-cases_from names after number (case ∷ cases) = case_text names after number case ++ cases_from names after (number + 1) cases
+cases_from names after number (case ∷ cases) = case_text names after number case ++ cases_from names
+    after (number + 1) cases
 
 abbrev pub cases_text : Names → Names → List Case → List ℕ
 cases_text names after [] = codes "none\n"
@@ -159,7 +169,8 @@ cases_text names after (case ∷ cases) = cases_from names after 1 (case ∷ cas
 -- a procedure, and the notes of its group
 abbrev pub proc_text : List ProcBlock → ProcBlock → List ℕ
 proc_text blocks block =
-    codes "procedure " ++ block.name ++ codes "\n" ++ cases_text (column_names block) block.after block.formula.cases
+    codes "procedure " ++ block.name ++ codes "\n" ++ cases_text (column_names block) block.after
+    block.formula.cases
     ++ flat_map (note_line blocks) block.notes
 
 -- ---- assertions
@@ -170,24 +181,29 @@ shown_at named shown i = shown_name named (slice_index_or shown i 0) i
 
 -- a case in which an assertion would fail: in it columns are auxiliaries
 abbrev pub refuting_text : Names → List ℕ → Case → List ℕ
-refuting_text named shown case = flat_map (row_line []) case.rows ++ post_lines [] (shown_at named shown) 0 case.post
+refuting_text named shown case = flat_map (row_line []) case.rows ++ post_lines []
+    (shown_at named shown) 0 case.post
 
 abbrev pub verdict_text : Names → List ℕ → Verdict → List ℕ
 verdict_text named shown Proved = codes " proved\n"
 verdict_text named shown (Unproved case point) =
-    codes " unproved\n" ++ refuting_text named shown case ++ codes "  " ++ point_text [] (columns case.rows []) point ++ codes "\n"
+    codes " unproved\n" ++ refuting_text named shown case ++ codes "  " ++ point_text []
+    (columns case.rows []) point ++ codes "\n"
 verdict_text named shown (UnprovedLimit case l) =
-    codes " unproved\n" ++ refuting_text named shown case ++ codes "  " ++ limit_text l ++ codes "\n"
+    codes " unproved\n" ++ refuting_text named shown case ++ codes "  " ++ limit_text l
+    ++ codes "\n"
 
 abbrev pub judged_text : List ProcBlock → ℕ → Judged → List ℕ
 judged_text blocks number j =
-    codes "assertion " ++ decimal number ++ codes " at " ++ decimal j.line ++ codes ":" ++ decimal j.column
+    codes "assertion " ++ decimal number ++ codes " at " ++ decimal j.line ++ codes ":"
+    ++ decimal j.column
     ++ verdict_text j.named j.shown j.verdict ++ flat_map (note_line blocks) j.notes
 
 -- the assertions, of which the first has a number
 abbrev pub judged_from : List ProcBlock → ℕ → List Judged → List ℕ
 judged_from blocks number [] = []
-judged_from blocks number (j ∷ js) = judged_text blocks number j ++ judged_from blocks (number + 1) js
+judged_from blocks number (j ∷ js) = judged_text blocks number j ++ judged_from blocks (number + 1)
+    js
 
 -- ---- the whole
 
@@ -204,7 +220,8 @@ proved_count js = count_by is_proved js
 
 abbrev pub total_text : List Judged → List ℕ
 total_text js =
-    codes "total " ++ decimal (proved_count js) ++ codes " proved, " ++ decimal (length js - proved_count js) ++ codes " unproved\n"
+    codes "total " ++ decimal (proved_count js) ++ codes " proved, "
+    ++ decimal (length js - proved_count js) ++ codes " unproved\n"
 
 abbrev pub text_of : Report → List ℕ
 text_of report =

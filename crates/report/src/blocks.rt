@@ -4,9 +4,10 @@ use posing::Note;
 use syntax_tree::Name;
 use transition_formula::Formula;
 
-/// The summary of a procedure: `before` names its columns at entry, the globals and then the parameters, and `after`
-/// those at exit, the globals; an exit column past these is the returned value. The notes are those of the procedure's
-/// group, where it is the group's first procedure in the text.
+/// The summary of a procedure: `before` names its columns at entry, the globals and then the
+/// parameters, and `after` those at exit, the globals; an exit column past these is the returned
+/// value. The notes are those of the procedure's group, where it is the group's first procedure in
+/// the text.
 #[derive(Debug, Drop)]
 pub struct ProcBlock {
     pub name: Name,
@@ -16,8 +17,9 @@ pub struct ProcBlock {
     pub notes: Items<Note>,
 }
 
-/// An assertion, at a byte offset, and the line and column of that, from 1; the named columns of its procedure with their
-/// numbers, one for each post of a case that refutes it; its verdict, and the notes of finding that.
+/// An assertion, at a byte offset, and the line and column of that, from 1; the named columns of
+/// its procedure with their numbers, one for each post of a case that refutes it; its verdict, and
+/// the notes of finding that.
 #[derive(Debug, Drop)]
 pub struct Judged {
     pub at: u32,
@@ -29,8 +31,8 @@ pub struct Judged {
     pub notes: Items<Note>,
 }
 
-/// What is printed of a text: its procedures in the order of the text, the notes of their entries, and its assertions in
-/// the order of the text.
+/// What is printed of a text: its procedures in the order of the text, the notes of their entries,
+/// and its assertions in the order of the text.
 #[derive(Debug, Drop)]
 pub struct Report {
     pub procs: Items<ProcBlock>,

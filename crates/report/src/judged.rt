@@ -17,7 +17,8 @@ impl Text {
         shown: &[u32],
         posts: &[Poly],
     ) -> Result<(), AllocError>
-        ensures { Appends self.old self.new result (post_lines [] (shown_at named.now shown.now) 0 posts.now) }
+        ensures { Appends self.old self.new result
+            (post_lines [] (shown_at named.now shown.now) 0 posts.now) }
     {
         for (i, post) in posts.iter().enumerate() {
             self.put("  ")?;

@@ -1,5 +1,6 @@
-//! What a user reads: the summary of each procedure, the verdict on each assertion with what refutes it, and the notes of
-//! what was left out; and the bytes that tell it. Here stands too what a report claims, and when its claims are met.
+//! What a user reads: the summary of each procedure, the verdict on each assertion with what
+//! refutes it, and the notes of what was left out; and the bytes that tell it. Here stands too what
+//! a report claims, and when its claims are met.
 #![tactic(auto)]
 
 mod blocks;

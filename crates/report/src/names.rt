@@ -148,7 +148,8 @@ fn with_exit_names(
     Ok(all)
 }
 
-/// The names that a procedure's rows have: its columns at the entry, and behind these those at the exit.
+/// The names that a procedure's rows have: its columns at the entry, and behind these those at the
+/// exit.
 pub(crate) fn column_names(alloc: Global, block: &ProcBlock) -> Result<Items<Text>, AllocError>
     ensures { IfOk result (λ names. names ≡ column_names block.now) }
 {

@@ -73,7 +73,8 @@ impl Text {
         columns: &[Col],
         number: i128,
     ) -> Result<(), AllocError>
-        ensures { Appends self.old self.new result (term_text (column_text names.now) first (columns.now, number)) }
+        ensures { Appends self.old self.new result
+            (term_text (column_text names.now) first (columns.now, number)) }
     {
         self.put_sign(first, number < 0)?;
         self.put_size(number.unsigned_abs())?;

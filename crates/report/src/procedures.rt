@@ -26,7 +26,8 @@ impl Text {
 
     /// The end of a post's line, behind its name.
     pub(crate) fn put_post(&mut self, names: &[Text], poly: &Poly) -> Result<(), AllocError>
-        ensures { Appends self.old self.new result (codes " = " ++ poly_text (column_text names.now) poly.now ++ codes "\n") }
+        ensures { Appends self.old self.new result
+            (codes " = " ++ poly_text (column_text names.now) poly.now ++ codes "\n") }
     {
         self.put(" = ")?;
         self.put_poly(names, poly)?;
@@ -39,7 +40,8 @@ impl Text {
         after: &[Name],
         posts: &[Poly],
     ) -> Result<(), AllocError>
-        ensures { Appends self.old self.new result (post_lines names.now (exit_name after.now) 0 posts.now) }
+        ensures { Appends self.old self.new result
+            (post_lines names.now (exit_name after.now) 0 posts.now) }
     {
         for (i, post) in posts.iter().enumerate() {
             self.put("  ")?;

@@ -3,9 +3,9 @@
 /// How many reports there are.
 pub(crate) const COUNT: usize = 26;
 
-/// The parts of a report and its text. A procedure has its name, the names before and after it, the number of
-/// its exit columns and its notes, and then its cases; an assertion its place, the names and numbers of its
-/// columns, and its case and the numbers of its point, or that it is proved.
+/// The parts of a report and its text. A procedure has its name, the names before and after it, the
+/// number of its exit columns and its notes, and then its cases; an assertion its place, the names
+/// and numbers of its columns, and its case and the numbers of its point, or that it is proved.
 pub(crate) const TABLE: &str = "\
 > procedure main ;  ;  ; 1 ; 
 1 ; $1

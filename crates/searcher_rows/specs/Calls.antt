@@ -27,7 +27,8 @@ is_yes (answer.Limit limit) = false
 
 -- whether the answer calls rows infeasible; a limit is noted
 unfoldable pub exclusion : List Row → Posing Bool
-exclusion rows = answer_to (Infeasible rows) >>= λ answer. Noted (limits_of answer) (Done (is_yes answer))
+exclusion rows = answer_to (Infeasible rows) >>= λ answer. Noted (limits_of answer)
+    (Done (is_yes answer))
 
 -- what is made, and then what is said of one more list
 unfoldable pub with_exclusion : List Bool → List Row → Posing (List Bool)
@@ -39,4 +40,5 @@ exclusions lists = each with_exclusion [] lists
 -- the place of the first list that is infeasible, counted from a number on
 abbrev pub first_excluded : ℕ → List (List Row) → Posing (Option ℕ)
 first_excluded place [] = Done None
-first_excluded place (rows ∷ lists) = exclusion rows >>= λ excluded. if excluded then Done (Some place) else first_excluded (place + 1) lists
+first_excluded place (rows ∷ lists) = exclusion rows >>= λ excluded. if excluded
+    then Done (Some place) else first_excluded (place + 1) lists

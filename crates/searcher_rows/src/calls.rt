@@ -72,7 +72,8 @@ fn with_exclusion<O: Oracle>(
     oracle: &mut O,
     log: &mut Log,
 ) -> Result<Items<bool>, WorkError>
-    ensures { Follows O.asking oracle.old oracle.new log.old log.new result (with_exclusion made rows.now) }
+    ensures { Follows O.asking oracle.old oracle.new log.old log.new result
+        (with_exclusion made rows.now) }
 {
     let excluded = exclusion(alloc, rows, oracle, log)?;
     Ok(with_last(made, excluded)?)
@@ -93,7 +94,8 @@ pub fn first_excluded<O: Oracle>(
     oracle: &mut O,
     log: &mut Log,
 ) -> Result<Option<usize>, WorkError>
-    ensures { Follows O.asking oracle.old oracle.new log.old log.new result (first_excluded 0 lists.now) }
+    ensures { Follows O.asking oracle.old oracle.new log.old log.new result
+        (first_excluded 0 lists.now) }
 {
     for (place, rows) in lists.iter().enumerate() {
         if exclusion(alloc, rows, oracle, log)? {

@@ -17,8 +17,8 @@ pub fn dead_question()
     ensures point { HasRationalPoint half_line }
 {}
 
-/// The frame of `2 * x0 - 5 <= 0` has a tableau that chooses x0, whose corner is 5 / 2. With one more line there are 35
-/// choices of the frame of three rows over two columns.
+/// The frame of `2 * x0 - 5 <= 0` has a tableau that chooses x0, whose corner is 5 / 2. With one
+/// more line there are 35 choices of the frame of three rows over two columns.
 pub fn corner_and_choices()
     ensures frame { frame_of (x0 ∷ []) (row_polys half_line []) ≡ half_line_frame }
     ensures tableau { IsTableau half_line_frame (0 ∷ []) (pos 2) half_line_multiple }

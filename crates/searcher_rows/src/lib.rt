@@ -1,5 +1,6 @@
-//! What stands on oracles, tried on small calls: an oracle that hands out listed answers, a call that asks for each of
-//! several lists and one that stops at the first, and worked examples of the words for questions.
+//! What stands on oracles, tried on small calls: an oracle that hands out listed answers, a call
+//! that asks for each of several lists and one that stops at the first, and worked examples of the
+//! words for questions.
 #![tactic(auto)]
 
 mod calls;

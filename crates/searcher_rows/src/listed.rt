@@ -27,7 +27,13 @@ impl Oracle for Listed {
     ghost use Rattle.std.specs.Prelude.{Some, reverse, ⊤};
     ghost use Rattle.farkas_check.specs.Tested.{Passes};
 
-    ghost asking = { record { refusals = λ s. s.refusals; declines = λ s question. ⊤; allows = Passes; left = λ s. Some (reverse s.answers) } };
+    ghost asking = { record {
+      refusals = λ s. s.refusals;
+      declines = λ s question.
+          ⊤;
+      allows = Passes;
+      left = λ s. Some (reverse s.answers);
+    } };
 
     fn ask(&mut self, _alloc: Global, question: &Question) -> Result<Answer, AskError> {
         let passes = match self.answers.as_slice().last() {

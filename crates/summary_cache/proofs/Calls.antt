@@ -1,4 +1,5 @@
--- Each call of one of the text's own procedures is a statement of the program, and no other statement is a call.
+-- Each call of one of the text's own procedures is a statement of the program, and no other
+-- statement is a call.
 use Rattle.std.proofs.Common.{◌≡◌, ℕ, ◌+◌, Bool, true, false, Option, None, Some, List, [], ◌∷◌, ◌++◌, length, map, refl, sym, ap, subst, arith, ◌∙◌, append_assoc, append-nil, length-append, pos}
 use Rattle.std.proofs.lemmas.List.{map-append}
 use Rattle.std.specs.Prelude.{codes, is_some, slice_get, if◌then◌else◌, ◌||◌}

@@ -1,4 +1,5 @@
--- A text is accepted as one program at most, one that is accepted is not refused, and one that is refused has one reason for it.
+-- A text is accepted as one program at most, one that is accepted is not refused, and one that is
+-- refused has one reason for it.
 use Rattle.std.proofs.Common.{◌≡◌, ℕ, List, length, sym, ap, subst, ◌∙◌}
 use Rattle.c_lexer.proofs.OneOutcome as cut
 use Rattle.c_lexer.proofs.OneOutcome.{tokens_are_not_refused, tokens_are_one}

@@ -1,4 +1,5 @@
--- Main theorems: a text is accepted once and as a well-formed program, its assertions ascend, and its calls are statements.
+-- Main theorems: a text is accepted once and as a well-formed program, its assertions ascend, and
+-- its calls are statements.
 pub mod Complete
 pub mod Shapes
 pub mod Ascending

@@ -1,4 +1,5 @@
--- Elaboration looks at the plain form of a tree alone: trees that read alike have the same program and the same faults.
+-- Elaboration looks at the plain form of a tree alone: trees that read alike have the same program
+-- and the same faults.
 use Rattle.std.proofs.Common.{◌≡◌, ℕ, ℤ, ◌+◌, Bool, Option, None, Some, List, [], ◌∷◌, ◌++◌, length, map, refl, ap, subst}
 use Rattle.std.specs.Prelude.{◌==◌, not, is_none, unwrap_or, if◌then◌else◌}
 use Rattle.syntax_tree.specs.Limits.{most_globals, most_procedures}

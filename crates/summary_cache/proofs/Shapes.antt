@@ -1,4 +1,5 @@
--- The program of a text is well formed: its expressions have fewer operators than the text has tokens.
+-- The program of a text is well formed: its expressions have fewer operators than the text has
+-- tokens.
 use Rattle.std.proofs.Common.{ℕ, ◌+◌, ◌≤◌, List, ◌∷◌, [], length, ap, ◌∙◌, arith, length-append}
 use Rattle.c_lexer.specs.declared.token.Token.{Token}
 use Rattle.c_lexer.specs.Limits.{most_tokens}

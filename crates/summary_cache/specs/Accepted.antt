@@ -16,7 +16,8 @@ use Rattle.summary_cache.specs.declared.refusal.Refusal.TheVariants.{Lex, Parse,
 use Rattle.summary_cache.specs.declared.refusal.TextError.{TextError}
 use Rattle.summary_cache.specs.declared.refusal.TextError.TheVariants.{Refused, Memory}
 
--- The text spells a tree: it has tokens, which the grammar reads as the tree, within the limits of nesting.
+-- The text spells a tree: it has tokens, which the grammar reads as the tree, within the limits of
+-- nesting.
 pub record Spells (text : List ℕ) (tree : Tree) : Type 0 where
   pub tokens : List Token
   pub tokenizes : Tokenizes text tokens
@@ -40,8 +41,8 @@ pub record IsFaulty (text : List ℕ) (fault : TypeError) : Type 0 where
   pub spells : Spells text tree
   pub least : elaboration_of tree.items (length text) ≡ Err fault
 
--- Why a text is refused: what the cut into tokens refuses comes first, then what the grammar refuses, then the first
--- fault of the tree.
+-- Why a text is refused: what the cut into tokens refuses comes first, then what the grammar
+-- refuses, then the first fault of the tree.
 abbrev pub IsRefusedBy : List ℕ → Refusal → Type 0
 IsRefusedBy text (Lex fault) = IsRefused text fault
 IsRefusedBy text (Parse fault) = IsUnread text fault

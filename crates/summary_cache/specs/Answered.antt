@@ -11,14 +11,17 @@ use Rattle.posing.specs.Posing.{Path, Posing, Done, Asked}
 use Rattle.report.specs.declared.blocks.Report.{Report}
 use Rattle.summary_cache.specs.declared.working.Analysed.{Analysed}
 
--- The analysis comes to the report under the answers that the oracle had next, and makes no notes beside it.
-pub record IsAnswered {S : Type 0} (O : Asking S) (old new : S) (last : Analysed) (analysis : Posing Report) : Type 0 where
+-- The analysis comes to the report under the answers that the oracle had next, and makes no notes
+-- beside it.
+pub record IsAnswered {S : Type 0} (O : Asking S) (old new : S) (last : Analysed)
+    (analysis : Posing Report) : Type 0 where
   pub stated : Path (IsGood O.allows) analysis [] last.answers (Done last.report)
   pub taken : O.left old ≡ with_all last.answers (O.left new)
   pub later : O.refusals old ≤ O.refusals new
 
 -- The answers that the oracle had next lead the analysis to a question that the oracle declines.
-pub record IsDeclined {S : Type 0} (O : Asking S) (old new : S) (analysis : Posing Report) : Type 0 where
+pub record IsDeclined {S : Type 0} (O : Asking S) (old new : S)
+    (analysis : Posing Report) : Type 0 where
   pub answers : List Answer
   pub question : Question
   pub next : Answer → Posing Report
@@ -27,11 +30,14 @@ pub record IsDeclined {S : Type 0} (O : Asking S) (old new : S) (analysis : Posi
   pub declined : O.declines new question
   pub rose : Rose (O.refusals old) (O.refusals new)
 
-abbrev pub CameTo : {S : Type 0} → Asking S → S → S → Result Analysed WorkError → Posing Report → Type 0
+abbrev pub CameTo : {S : Type 0} → Asking S → S → S → Result Analysed WorkError → Posing Report
+    → Type 0
 CameTo O old new (Ok last) analysis = IsAnswered O old new last analysis
 CameTo O old new (Err Refused) analysis = IsDeclined O old new analysis
 CameTo O old new (Err Memory) analysis = Unit {0}
 
--- A call took the analysis to its report, or as far as it got. A record, so that it stays whole in goals.
-pub record Answers {S : Type 0} (O : Asking S) (old new : S) (result : Result Analysed WorkError) (analysis : Posing Report) : Type 0 where
+-- A call took the analysis to its report, or as far as it got. A record, so that it stays whole in
+-- goals.
+pub record Answers {S : Type 0} (O : Asking S) (old new : S) (result : Result Analysed WorkError)
+    (analysis : Posing Report) : Type 0 where
   pub came : CameTo O old new result analysis

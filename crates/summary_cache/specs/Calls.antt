@@ -1,5 +1,5 @@
--- Which procedures a text calls, and which ones its program does: each call of one of the text's own procedures is a
--- statement of the program, and no other statement is a call.
+-- Which procedures a text calls, and which ones its program does: each call of one of the text's
+-- own procedures is a statement of the program, and no other statement is a call.
 use Rattle.std.specs.Prelude.{◌≡◌, ℕ, Option, None, Some, List, [], ◌∷◌, ◌++◌, map, slice_get, if◌then◌else◌}
 use Rattle.std.specs.Option.{option_map}
 use Rattle.syntax_tree.specs.declared.program.Proc.{Proc}
@@ -20,7 +20,8 @@ use Rattle.summary_cache.specs.Accepted.{Accepts}
 abbrev pub own_name : List ℕ → List (List ℕ)
 own_name name = if is_special name then [] else name ∷ []
 
--- the names that an expression calls, and several: left ones first, and inner ones before outer ones
+-- the names that an expression calls, and several: left ones first, and inner ones before outer
+-- ones
 abbrev mutual
   pub expression_names : SourceExpr → List (List ℕ)
   expression_names (Lit at value) = []
@@ -37,15 +38,16 @@ abbrev pub value_names : Option SourceExpr → List (List ℕ)
 value_names None = []
 value_names (Some value) = expression_names value
 
--- The names that a line calls, and several. Of a loop its initialiser comes first, then its condition, its body and
--- its step.
+-- The names that a line calls, and several. Of a loop its initialiser comes first, then its
+-- condition, its body and its step.
 abbrev mutual
   pub line_names : SourceLine → List (List ℕ)
   line_names (Block lines) = all_line_names lines
   line_names (Local name at init) = value_names init
   line_names (Assign name at value) = expression_names value
   line_names (Act call) = expression_names call
-  line_names (If cond on_true on_false) = expression_names cond ++ (all_line_names on_true ++ all_line_names on_false)
+  line_names (If cond on_true on_false) =
+      expression_names cond ++ (all_line_names on_true ++ all_line_names on_false)
   line_names (Loop init cond step body first) =
       all_line_names init ++ (expression_names cond ++ all_line_names body ++ all_line_names step)
   line_names (Break at) = []
@@ -61,7 +63,8 @@ abbrev pub called_names : List Item → List (List (List ℕ))
 called_names [] = []
 called_names (Global name at init ∷ rest) = called_names rest
 called_names (Proto name at returns params ∷ rest) = called_names rest
-called_names (Body name at returns params lines end ∷ rest) = all_line_names (source_lines_of lines) ∷ called_names rest
+called_names (Body name at returns params lines end ∷ rest) = all_line_names (source_lines_of lines)
+    ∷ called_names rest
 
 -- ---- of a program
 
@@ -82,7 +85,9 @@ name_at procs number = option_map proc_name (slice_get procs number)
 
 -- ---- the law
 
--- each call of one of the text's own procedures is a call of the program, in their order, and there are no others
+-- each call of one of the text's own procedures is a call of the program, in their order, and there
+-- are no others
 abbrev pub CallsAreStatements : Type 0
 CallsAreStatements = (text : List ℕ) (program : Program) (accepted : Accepts text program)
-    → map (map (name_at program.procs)) (callees program) ≡ map (map Some) (called_names accepted.tree.items)
+    → map (map (name_at program.procs)) (callees program)
+    ≡ map (map Some) (called_names accepted.tree.items)

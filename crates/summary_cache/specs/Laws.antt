@@ -9,24 +9,30 @@ use Rattle.summary_cache.specs.Rules.{with_rule}
 
 -- a text is accepted as one program at most
 abbrev pub AcceptedOnce : Type 0
-AcceptedOnce = (text : List ℕ) (one other : Program) → Accepts text one → Accepts text other → one ≡ other
+AcceptedOnce = (text : List ℕ) (one other : Program) → Accepts text one → Accepts text other
+    → one ≡ other
 
 -- a text that is accepted is not refused
 abbrev pub AcceptedIsNotRefused : Type 0
-AcceptedIsNotRefused = (text : List ℕ) (program : Program) (refusal : Refusal) → Accepts text program → IsRefusedBy text refusal → ⊥
+AcceptedIsNotRefused = (text : List ℕ) (program : Program) (refusal : Refusal)
+    → Accepts text program → IsRefusedBy text refusal → ⊥
 
 -- a text is refused for one reason at most
 abbrev pub RefusalIsOne : Type 0
-RefusalIsOne = (text : List ℕ) (one other : Refusal) → IsRefusedBy text one → IsRefusedBy text other → one ≡ other
+RefusalIsOne = (text : List ℕ) (one other : Refusal) → IsRefusedBy text one → IsRefusedBy text other
+    → one ≡ other
 
 -- the program of a text is well formed
 abbrev pub AcceptedIsWellFormed : Type 0
-AcceptedIsWellFormed = (text : List ℕ) (program : Program) → Accepts text program → IsWellFormed program
+AcceptedIsWellFormed = (text : List ℕ) (program : Program) → Accepts text program
+    → IsWellFormed program
 
 -- the assertions of a program are numbered in the order of their places
 abbrev pub AssertionsAscend : Type 0
-AssertionsAscend = (text : List ℕ) (program : Program) → Accepts text program → IsTrue (ascends_from 0 program.checks)
+AssertionsAscend = (text : List ℕ) (program : Program) → Accepts text program
+    → IsTrue (ascends_from 0 program.checks)
 
 -- the program of a text has rule 2, so under this rule it is analysed as it is
 abbrev pub AcceptedHasRuleTwo : Type 0
-AcceptedHasRuleTwo = (text : List ℕ) (program : Program) → Accepts text program → with_rule 2 program ≡ program
+AcceptedHasRuleTwo = (text : List ℕ) (program : Program) → Accepts text program
+    → with_rule 2 program ≡ program

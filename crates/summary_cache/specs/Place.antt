@@ -1,5 +1,5 @@
--- The line and the column of a place of a text: the line is one more than the newlines before it, the column one more
--- than the bytes since the last of these.
+-- The line and the column of a place of a text: the line is one more than the newlines before it,
+-- the column one more than the bytes since the last of these.
 use Rattle.std.specs.Prelude.{ℕ, ◌+◌, ◌==◌, Bool, List, [], ◌∷◌, take, if◌then◌else◌}
 use Rattle.std.specs.List.{count_by}
 

@@ -12,12 +12,20 @@ IsRule rule = (1 ≤ rule) × (rule ≤ 2)
 -- a program with another rule
 abbrev pub with_rule : ℕ → Program → Program
 with_rule rule program =
-    record { globals = program.globals; procs = program.procs; main = program.main; checks = program.checks; rule = rule }
+    record {
+      globals = program.globals;
+      procs = program.procs;
+      main = program.main;
+      checks = program.checks;
+      rule = rule;
+    }
 
 -- a program is well formed under each rule
 abbrev pub RulesAreFree : Type 0
-RulesAreFree = (program : Program) (rule : ℕ) → IsWellFormed program → IsRule rule → IsWellFormed (with_rule rule program)
+RulesAreFree = (program : Program) (rule : ℕ) → IsWellFormed program → IsRule rule
+    → IsWellFormed (with_rule rule program)
 
 -- claims that are met under a rule are met
 abbrev pub ClaimsKnowNoRule : Type 0
-ClaimsKnowNoRule = (program : Program) (rule : ℕ) (report : Report) → ClaimsAreMet (with_rule rule program) report → ClaimsAreMet program report
+ClaimsKnowNoRule = (program : Program) (rule : ℕ) (report : Report)
+    → ClaimsAreMet (with_rule rule program) report → ClaimsAreMet program report

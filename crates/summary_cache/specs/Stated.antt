@@ -24,7 +24,8 @@ abbrev pub places_of : List ℕ → Program → List TextPlace
 places_of text program = map (text_place text) program.checks
 
 -- The text spells a program, and this is the plan of the program.
-pub record IsPlanned (rule : ℕ) (text : List ℕ) (program : Program) (plan : List Planned) : Type 0 where
+pub record IsPlanned (rule : ℕ) (text : List ℕ) (program : Program)
+    (plan : List Planned) : Type 0 where
   pub accepted : Accepts text program
   pub is_plan : IsPlan (with_rule rule program) plan
 
@@ -32,9 +33,10 @@ pub record IsPlanned (rule : ℕ) (text : List ℕ) (program : Program) (plan : 
 abbrev pub analysis_of : ℕ → List ℕ → Program → List Planned → Posing Report
 analysis_of rule text program plan = analysed (with_rule rule program) (places_of text program) plan
 
--- The text is accepted, and the report is what the analysis of its program comes to under these answers, each of which
--- passes, is true and is one that may be given. Its claims are met.
-pub record IsAnalysedBy (allows : Question → Answer → Type 0) (rule : ℕ) (text : List ℕ) (answers : List Answer) (report : Report) : Type 0 where
+-- The text is accepted, and the report is what the analysis of its program comes to under these
+-- answers, each of which passes, is true and is one that may be given. Its claims are met.
+pub record IsAnalysedBy (allows : Question → Answer → Type 0) (rule : ℕ) (text : List ℕ)
+    (answers : List Answer) (report : Report) : Type 0 where
   pub program : Program
   pub plan : List Planned
   pub planned : IsPlanned rule text program plan
@@ -42,7 +44,8 @@ pub record IsAnalysedBy (allows : Question → Answer → Type 0) (rule : ℕ) (
   pub met : ClaimsAreMet program report
 
 -- The text is accepted, and the analysis of its program comes to this under listed answers.
-pub record IsPosed (rule : ℕ) (text : List ℕ) (program : Program) (answers : List Answer) (posed : Posed Report) : Type 0 where
+pub record IsPosed (rule : ℕ) (text : List ℕ) (program : Program) (answers : List Answer)
+    (posed : Posed Report) : Type 0 where
   pub plan : List Planned
   pub planned : IsPlanned rule text program plan
   pub comes : run (analysis_of rule text program plan) answers ≡ posed

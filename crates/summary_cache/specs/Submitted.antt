@@ -33,16 +33,18 @@ answers_in session = answers_of session.last
 
 -- ---- what comes of a text
 
--- The text is accepted. Its report is what the analysis comes to under the answers that the oracle had next, and all groups
--- of the plan were summed up.
-pub record IsWorked {S : Type 0} (O : Asking S) (rule : ℕ) (old new : S) (text : List ℕ) (last : Analysed) (counts : Counts) : Type 0 where
+-- The text is accepted. Its report is what the analysis comes to under the answers that the oracle
+-- had next, and all groups of the plan were summed up.
+pub record IsWorked {S : Type 0} (O : Asking S) (rule : ℕ) (old new : S) (text : List ℕ)
+    (last : Analysed) (counts : Counts) : Type 0 where
   pub analysed : IsAnalysedBy O.allows rule text last.answers last.report
   pub taken : O.left old ≡ with_all last.answers (O.left new)
   pub later : O.refusals old ≤ O.refusals new
   pub counted : counts ≡ counts_of (length analysed.plan) last.report
 
 -- The text spells a program, and the oracle declines a question of its analysis.
-pub record IsUnanswered {S : Type 0} (O : Asking S) (rule : ℕ) (old new : S) (text : List ℕ) : Type 0 where
+pub record IsUnanswered {S : Type 0} (O : Asking S) (rule : ℕ) (old new : S)
+    (text : List ℕ) : Type 0 where
   pub program : Program
   pub plan : List Planned
   pub planned : IsPlanned rule text program plan
@@ -53,7 +55,8 @@ abbrev pub IsWorkCause : {S : Type 0} → Asking S → ℕ → S → S → List 
 IsWorkCause O rule old new text work.Refused = IsUnanswered O rule old new text
 IsWorkCause O rule old new text work.Memory = Unit {0}
 
-abbrev pub Works : {S : Type 0} → Asking S → ℕ → S → S → List ℕ → Result (Analysed × Counts) WorkError → Type 0
+abbrev pub Works : {S : Type 0} → Asking S → ℕ → S → S → List ℕ
+    → Result (Analysed × Counts) WorkError → Type 0
 Works O rule old new text (Ok made) = IsWorked O rule old new text made.0 made.1
 Works O rule old new text (Err error) = IsWorkCause O rule old new text error
 
@@ -63,7 +66,8 @@ IsCause O rule old new text (Text refusal) = IsRefusedBy text refusal × (new �
 IsCause O rule old new text Refused = IsUnanswered O rule old new text
 IsCause O rule old new text Memory = Unit {0}
 
-abbrev pub Comes : {S : Type 0} → Asking S → ℕ → S → S → List ℕ → Result (Analysed × Counts) SubmitError → Type 0
+abbrev pub Comes : {S : Type 0} → Asking S → ℕ → S → S → List ℕ
+    → Result (Analysed × Counts) SubmitError → Type 0
 Comes O rule old new text (Ok made) = IsWorked O rule old new text made.0 made.1
 Comes O rule old new text (Err error) = IsCause O rule old new text error
 
@@ -75,6 +79,9 @@ Keeps O rule old new text counts None = ⊥
 Keeps O rule old new text counts (Some last) = IsWorked O rule old new text last counts
 
 -- A text is accepted, or the session is as it was. Its rule stays.
-abbrev pub Submits : {S : Type 0} → Asking S → S → S → List ℕ → Kept → Kept → Result Counts SubmitError → Type 0
-Submits O old new text before after (Ok counts) = (after.rule ≡ before.rule) × Keeps O before.rule old new text counts after.last
-Submits O old new text before after (Err error) = (after ≡ before) × IsCause O before.rule old new text error
+abbrev pub Submits : {S : Type 0} → Asking S → S → S → List ℕ → Kept → Kept
+    → Result Counts SubmitError → Type 0
+Submits O old new text before after (Ok counts) = (after.rule ≡ before.rule)
+    × Keeps O before.rule old new text counts after.last
+Submits O old new text before after (Err error) = (after ≡ before)
+    × IsCause O before.rule old new text error

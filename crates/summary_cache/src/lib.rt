@@ -1,4 +1,5 @@
-//! A session over texts: each text that is accepted is analysed, and its report and answers are kept until the next one is.
+//! A session over texts: each text that is accepted is analysed, and its report and answers are
+//! kept until the next one is.
 #![tactic(auto)]
 
 mod error;

@@ -17,7 +17,8 @@ use std::alloc::{AllocError, Global};
 use std::marker::Model;
 use syntax_tree::Program;
 
-/// The rule by which the iterations of loops are summed up, and what is kept of the text that was accepted last.
+/// The rule by which the iterations of loops are summed up, and what is kept of the text that was
+/// accepted last.
 #[derive(Debug, Drop)]
 pub struct Session {
     rule: u32,
@@ -84,7 +85,8 @@ impl Session {
         }
     }
 
-    /// The answers for the last text, in the order of their questions, and none where no text was accepted.
+    /// The answers for the last text, in the order of their questions, and none where no text was
+    /// accepted.
     pub fn answers(&self, alloc: Global) -> Result<Items<Answer>, AllocError>
         ensures { IfOk result (λ answers. answers ≡ answers_in self.now) }
     {

@@ -23,7 +23,8 @@ use report::{Report, proved, unproved};
 use std::alloc::Global;
 use syntax_tree::Program;
 
-/// How many groups were summed up and how many there are, and how many assertions are proved and how many are not.
+/// How many groups were summed up and how many there are, and how many assertions are proved and
+/// how many are not.
 #[derive(Clone, Copy, Debug, PartialEq, Eq)]
 pub struct Counts {
     pub work: usize,
@@ -32,7 +33,8 @@ pub struct Counts {
     pub unproved: usize,
 }
 
-/// What is kept of a text: its report, and the answers that were taken, in the order of their questions.
+/// What is kept of a text: its report, and the answers that were taken, in the order of their
+/// questions.
 #[derive(Debug, Drop)]
 pub struct Analysed {
     pub report: Report,
@@ -51,7 +53,8 @@ fn counts_of(groups: usize, report: &Report) -> Counts
     }
 }
 
-/// The report of a program, whose assertions stand at these places of its text, and the answers that were taken.
+/// The report of a program, whose assertions stand at these places of its text, and the answers
+/// that were taken.
 fn answered_by<O: Oracle>(
     alloc: Global,
     program: &Program,
@@ -59,7 +62,8 @@ fn answered_by<O: Oracle>(
     oracle: &mut O,
 ) -> Result<Analysed, WorkError>
     requires { IsWellFormed program.now }
-    ensures follows { (plan : List PlannedGroup) → IsPlan program.now plan → Answers O.asking oracle.old oracle.new result (analysed program.now places.now plan) }
+    ensures follows { (plan : List PlannedGroup) → IsPlan program.now plan
+        → Answers O.asking oracle.old oracle.new result (analysed program.now places.now plan) }
     ensures met { IfOk result (λ last. ClaimsAreMet program.now last.report) }
 {
     let mut log = Log::new(alloc);

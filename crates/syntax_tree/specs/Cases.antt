@@ -1,4 +1,5 @@
--- How many cases an expression has: each stands for one way to evaluate it with no test left inside.
+-- How many cases an expression has: each stands for one way to evaluate it with no test left
+-- inside.
 use Rattle.std.specs.Prelude.{ℕ, ◌+◌, ◌*◌, min, List, [], ◌∷◌}
 use Rattle.syntax_tree.specs.declared.cases.Cases.{Cases}
 use Rattle.syntax_tree.specs.declared.op.Op.{Op}
@@ -19,7 +20,8 @@ abbrev pub sign_cases : Sign → Cases → Cases
 sign_cases Not inner = of_test inner.falsity inner.truth
 sign_cases _ inner = of_number inner.value
 
--- A division has four cases, by the signs of its operands. Operands differ in two ways, by the side that is less.
+-- A division has four cases, by the signs of its operands. Operands differ in two ways, by the side
+-- that is less.
 abbrev pub operator_cases : Op → Cases → Cases → Cases
 operator_cases Add left right = of_number (left.value * right.value)
 operator_cases Sub left right = of_number (left.value * right.value)
@@ -32,8 +34,10 @@ operator_cases Gt left right = of_test (left.value * right.value) (left.value * 
 operator_cases Ge left right = of_test (left.value * right.value) (left.value * right.value)
 operator_cases Eq left right = of_test (left.value * right.value) (2 * (left.value * right.value))
 operator_cases Ne left right = of_test (2 * (left.value * right.value)) (left.value * right.value)
-operator_cases And left right = of_test (left.truth * right.truth) (left.falsity + left.truth * right.falsity)
-operator_cases Or left right = of_test (left.truth + left.falsity * right.truth) (left.falsity * right.falsity)
+operator_cases And left right =
+    of_test (left.truth * right.truth) (left.falsity + left.truth * right.falsity)
+operator_cases Or left right = of_test (left.truth + left.falsity * right.truth)
+    (left.falsity * right.falsity)
 
 -- the cases of an expression's value, of its truth and of its falsity
 abbrev pub cases_of : Term → Cases
@@ -49,4 +53,8 @@ joint_cases (e ∷ rest) = (cases_of e).value * joint_cases rest
 
 -- each number, or `most` where it is more
 abbrev pub at_most : ℕ → Cases → Cases
-at_most most c = record { value = min c.value most; truth = min c.truth most; falsity = min c.falsity most }
+at_most most c = record {
+  value = min c.value most;
+  truth = min c.truth most;
+  falsity = min c.falsity most;
+}

@@ -1,5 +1,5 @@
--- Statements of the core program as plain data, by whose cases their meaning is defined. The cases are those
--- of `Stmt`, and a list of statements is a `Code`.
+-- Statements of the core program as plain data, by whose cases their meaning is defined. The cases
+-- are those of `Stmt`, and a list of statements is a `Code`.
 use Rattle.std.specs.Prelude.{ℕ, Bool, Option, List, [], ◌∷◌, map}
 use Rattle.syntax_tree.specs.declared.stmt.Stmt.{Stmt, fold-Stmt}
 use Rattle.syntax_tree.specs.declared.stmt.Stmt.TheOpen.{Stmt-F}
@@ -32,7 +32,8 @@ statement_layer (Stmt-F.Any col) = Any col
 statement_layer (Stmt-F.Call proc args into) = Call proc (map term_of args) into
 statement_layer (Stmt-F.Guard cond) = Guard (term_of cond)
 statement_layer (Stmt-F.Check number cond) = Check number (term_of cond)
-statement_layer (Stmt-F.If cond on_true on_false) = If (term_of cond) (code_from on_true) (code_from on_false)
+statement_layer (Stmt-F.If cond on_true on_false) =
+    If (term_of cond) (code_from on_true) (code_from on_false)
 statement_layer (Stmt-F.Loop pre cond body step first) =
     Loop (code_from pre) (term_of cond) (code_from body) (code_from step) first
 statement_layer Stmt-F.Break = Break

@@ -1,4 +1,5 @@
--- Evaluation as it goes on: a number, or why it stops. Only private functions say what they do in these words.
+-- Evaluation as it goes on: a number, or why it stops. Only private functions say what they do in
+-- these words.
 use Rattle.std.specs.Prelude.{ℤ, Option, None, Some, Result, Ok, Err, [], ◌∷◌}
 use Rattle.std.specs.List.{find}
 use Rattle.syntax_tree.specs.declared.evaluation.EvalWide.{EvalWide}
@@ -21,4 +22,5 @@ unfoldable pub step_number : Step → Result ℤ Stop
 step_number step = as_number (unless_wide (find is_wide (step ∷ [])) (step_value step))
 
 unfoldable pub sign_number : Sign → ℤ → Result ℤ Stop
-sign_number sign x = as_number (unless_wide (find is_wide (sign_steps sign x)) (Some (signed sign x)))
+sign_number sign x =
+    as_number (unless_wide (find is_wide (sign_steps sign x)) (Some (signed sign x)))

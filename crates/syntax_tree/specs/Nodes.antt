@@ -16,7 +16,8 @@ abbrev mutual
   statement_nodes (Guard cond) = 1
   statement_nodes (Check number cond) = 1
   statement_nodes (If cond on_true on_false) = 3 + code_nodes on_true + code_nodes on_false
-  statement_nodes (Loop pre cond body step first) = loop_nodes first (code_nodes pre) (code_nodes body) (code_nodes step)
+  statement_nodes (Loop pre cond body step first) =
+      loop_nodes first (code_nodes pre) (code_nodes body) (code_nodes step)
   statement_nodes Break = 1
   statement_nodes Continue = 1
   statement_nodes Return = 1

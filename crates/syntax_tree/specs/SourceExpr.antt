@@ -1,5 +1,5 @@
--- Expressions of a text as plain data, by whose cases the grammar and elaboration are defined. The cases are
--- those of `Expr`, and a list of expressions is a `SourceExprs`.
+-- Expressions of a text as plain data, by whose cases the grammar and elaboration are defined. The
+-- cases are those of `Expr`, and a list of expressions is a `SourceExprs`.
 use Rattle.std.specs.Prelude.{ℕ, ℤ, List, [], ◌∷◌}
 use Rattle.syntax_tree.specs.declared.op.Op.{Op}
 use Rattle.syntax_tree.specs.declared.op.Sign.{Sign}

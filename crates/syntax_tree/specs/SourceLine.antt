@@ -1,5 +1,5 @@
--- Lines of a text as plain data, by whose cases the grammar and elaboration are defined. The cases are those
--- of `Line`, and a list of lines is a `SourceLines`.
+-- Lines of a text as plain data, by whose cases the grammar and elaboration are defined. The cases
+-- are those of `Line`, and a list of lines is a `SourceLines`.
 use Rattle.std.specs.Prelude.{ℕ, Bool, Option, List, [], ◌∷◌}
 use Rattle.std.specs.Option.{option_map}
 use Rattle.syntax_tree.specs.declared.line.Line.{Line, fold-Line}
@@ -13,7 +13,8 @@ mutual
     Assign : (name : List ℕ) (at : ℕ) (value : SourceExpr) → SourceLine
     Act : (call : SourceExpr) → SourceLine
     If : (cond : SourceExpr) (on_true on_false : SourceLines) → SourceLine
-    Loop : (init : SourceLines) (cond : SourceExpr) (step body : SourceLines) (first : Bool) → SourceLine
+    Loop : (init : SourceLines) (cond : SourceExpr) (step body : SourceLines) (first : Bool)
+        → SourceLine
     Break : (at : ℕ) → SourceLine
     Continue : (at : ℕ) → SourceLine
     Return : (at : ℕ) (value : Option SourceExpr) → SourceLine
@@ -31,7 +32,8 @@ source_line_layer (Line-F.Block lines) = Block (lines_from lines)
 source_line_layer (Line-F.Local name at init) = Local name at (option_map source_expr_of init)
 source_line_layer (Line-F.Assign name at value) = Assign name at (source_expr_of value)
 source_line_layer (Line-F.Act call) = Act (source_expr_of call)
-source_line_layer (Line-F.If cond on_true on_false) = If (source_expr_of cond) (lines_from on_true) (lines_from on_false)
+source_line_layer (Line-F.If cond on_true on_false) = If (source_expr_of cond) (lines_from on_true)
+    (lines_from on_false)
 source_line_layer (Line-F.Loop init cond step body first) =
     Loop (lines_from init) (source_expr_of cond) (lines_from step) (lines_from body) first
 source_line_layer (Line-F.Break at) = Break at

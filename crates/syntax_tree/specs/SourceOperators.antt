@@ -34,9 +34,11 @@ abbrev mutual
   line_has_fewer n (Local name at init) = if_fewer n init
   line_has_fewer n (Assign name at value) = has_fewer n value
   line_has_fewer n (Act call) = has_fewer n call
-  line_has_fewer n (If cond on_true on_false) = has_fewer n cond && (lines_have_fewer n on_true && lines_have_fewer n on_false)
+  line_has_fewer n (If cond on_true on_false) = has_fewer n cond
+      && (lines_have_fewer n on_true && lines_have_fewer n on_false)
   line_has_fewer n (Loop init cond step body first) =
-      has_fewer n cond && (lines_have_fewer n init && (lines_have_fewer n step && lines_have_fewer n body))
+      has_fewer n cond
+      && (lines_have_fewer n init && (lines_have_fewer n step && lines_have_fewer n body))
   line_has_fewer n (Break at) = true
   line_has_fewer n (Continue at) = true
   line_has_fewer n (Return at value) = if_fewer n value
@@ -50,4 +52,5 @@ abbrev pub items_have_fewer : ℕ → List Item → Bool
 items_have_fewer n [] = true
 items_have_fewer n (Global name at init ∷ rest) = items_have_fewer n rest
 items_have_fewer n (Proto name at returns params ∷ rest) = items_have_fewer n rest
-items_have_fewer n (Body name at returns params lines end ∷ rest) = lines_have_fewer n (source_lines_of lines) && items_have_fewer n rest
+items_have_fewer n (Body name at returns params lines end ∷ rest) =
+    lines_have_fewer n (source_lines_of lines) && items_have_fewer n rest

@@ -1,5 +1,5 @@
--- An expression of the core program as plain data, by whose cases its meaning is defined. The cases are those
--- of `Core`; `term_of` leaves out how the parts are kept in memory, and nothing else.
+-- An expression of the core program as plain data, by whose cases its meaning is defined. The cases
+-- are those of `Core`; `term_of` leaves out how the parts are kept in memory, and nothing else.
 use Rattle.std.specs.Prelude.{ℕ, ℤ}
 use Rattle.syntax_tree.specs.declared.op.Op.{Op}
 use Rattle.syntax_tree.specs.declared.op.Sign.{Sign}

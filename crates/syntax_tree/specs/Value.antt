@@ -1,4 +1,5 @@
--- The value of an expression, over whole numbers without bounds (C11 6.5), and the steps that make it.
+-- The value of an expression, over whole numbers without bounds (C11 6.5), and the steps that make
+-- it.
 use Rattle.std.specs.Prelude.{ℤ, pos, ◌+ℤ◌, ◌-ℤ◌, ◌*ℤ◌, int_div, int_lt, int_le, Bool, false, not, ◌&&◌, ◌||◌, Option, None, Some, is_some, Result, Ok, Err, List, [], ◌∷◌, ◌++◌, if◌then◌else◌, slice_index_or}
 use Rattle.std.specs.Ordering.{int_eq}
 use Rattle.std.specs.List.{find}
@@ -98,7 +99,11 @@ steps_of (Col c) s = []
 steps_of (Unary sign inner) s = steps_of inner s ++ steps_after (value_of inner s) (sign_steps sign)
 steps_of (Binary op left right) s = steps_of left s ++ steps_after (value_of left s) (λ x.
     if is_some (early_value op x) then [] else
-    (steps_of right s ++ steps_after (value_of right s) (λ y. record { op = op; left = x; right = y } ∷ [])))
+    (steps_of right s ++ steps_after (value_of right s) (λ y. record {
+      op = op;
+      left = x;
+      right = y;
+    } ∷ [])))
 
 -- a step is wide where its value is a number past 128 bits
 abbrev pub is_past : Option ℤ → Bool

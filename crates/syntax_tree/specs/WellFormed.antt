@@ -1,4 +1,5 @@
--- What a program of the core keeps: its parts name one another rightly, and it stays within the limits.
+-- What a program of the core keeps: its parts name one another rightly, and it stays within the
+-- limits.
 use Rattle.std.specs.Prelude.{◌≡◌, ℕ, ◌+◌, ◌≤◌, Bool, true, false, not, ◌&&◌, ◌||◌, ◌==◌, nat_le, nat_lt, Option, None, Some, is_some, IsSomeAnd, IsTrue, List, [], ◌∷◌, length, take, slice_get, All, if◌then◌else◌}
 use Rattle.std.specs.List.{list_all}
 use Rattle.syntax_tree.specs.Limits.{most_procedures, most_parameters, most_globals, most_slots, most_nodes, most_checks, most_cases, most_operators}
@@ -36,7 +37,8 @@ joint_operators (e ∷ rest) = operators_of e + joint_operators rest
 
 abbrev pub value_fits : ℕ → Term → Bool
 value_fits width e =
-    columns_below width e && nat_le (operators_of e) most_operators && nat_le (cases_of e).value most_cases
+    columns_below width e && nat_le (operators_of e) most_operators && nat_le (cases_of e).value
+    most_cases
 
 abbrev pub cond_fits : ℕ → Term → Bool
 cond_fits width e =
@@ -52,7 +54,8 @@ abbrev pub into_fits : ℕ → Option ℕ → Bool
 into_fits width None = true
 into_fits width (Some col) = nat_lt col width
 
--- there is such a procedure, it takes so many arguments, and it returns a value where one is awaited
+-- there is such a procedure, it takes so many arguments, and it returns a value where one is
+-- awaited
 abbrev pub callee_fits : Option Proc → ℕ → Bool → Bool
 callee_fits None args awaits = false
 callee_fits (Some callee) args awaits = callee.params == args && (callee.returns || not awaits)
@@ -75,12 +78,14 @@ abbrev mutual
   statement_fits program width place (Set col value) = nat_lt col width && value_fits width value
   statement_fits program width place (Any col) = nat_lt col width
   statement_fits program width place (Call proc args into) =
-      callee_fits (slice_get program.procs proc) (length args) (is_some into) && args_fit width args && into_fits width into
+      callee_fits (slice_get program.procs proc) (length args) (is_some into) && args_fit width args
+      && into_fits width into
   statement_fits program width place (Guard cond) = cond_fits width cond
   statement_fits program width place (Check number cond) =
       nat_le 1 number && nat_le number (length program.checks) && cond_fits width cond
   statement_fits program width place (If cond on_true on_false) =
-      cond_fits width cond && code_fits program width place on_true && code_fits program width place on_false
+      cond_fits width cond && code_fits program width place on_true && code_fits program width place
+      on_false
   statement_fits program width place (Loop pre cond body step first) =
       cond_fits width cond && code_fits program width InTest pre
       && code_fits program width (body_place place) body && code_fits program width InTest step
@@ -98,7 +103,8 @@ abbrev mutual
   pub statement_checks : ℕ → Statement → ℕ
   statement_checks k (Check number cond) = if k == number then 1 else 0
   statement_checks k (If cond on_true on_false) = code_checks k on_true + code_checks k on_false
-  statement_checks k (Loop pre cond body step first) = code_checks k pre + code_checks k body + code_checks k step
+  statement_checks k (Loop pre cond body step first) =
+      code_checks k pre + code_checks k body + code_checks k step
   statement_checks k _ = 0
 
   pub code_checks : ℕ → Code → ℕ

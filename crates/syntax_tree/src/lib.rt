@@ -1,7 +1,7 @@
 //! The tree of a parsed text, and the core program that it is elaborated to: a small language of
-//! assignments, tests, loops and calls over whole numbers, with the evaluation of its expressions and the
-//! limits that a program keeps. `specs` has the trees as plain data, by whose cases the other crates
-//! define what a program means.
+//! assignments, tests, loops and calls over whole numbers, with the evaluation of its expressions
+//! and the limits that a program keeps. `specs` has the trees as plain data, by whose cases the
+//! other crates define what a program means.
 #![tactic(auto)]
 
 mod cases;

@@ -10,7 +10,8 @@ pub const MOST_SLOTS: usize = 24;
 pub const MOST_NODES: usize = 512;
 /// The assertions of a program.
 pub const MOST_CHECKS: usize = 1024;
-/// The cases of a value, of a condition's truth or falsity, and of the arguments of a call together.
+/// The cases of a value, of a condition's truth or falsity, and of the arguments of a call
+/// together.
 pub const MOST_CASES: usize = 256;
 /// The operators of a value, of a condition, and of the arguments of a call together.
 pub const MOST_OPERATORS: usize = 200_000;

@@ -25,7 +25,8 @@ pub enum Line {
         yes: Items<Line>,
         no: Items<Line>,
     },
-    /// `while`, `for`, and with `first` the loop `do .. while`, whose body comes before its condition.
+    /// `while`, `for`, and with `first` the loop `do .. while`, whose body comes before its
+    /// condition.
     Loop {
         init: Items<Line>,
         cond: Expr,

@@ -8,8 +8,8 @@ use crate::stmt::Stmt;
 
 const CAP: usize = MOST_NODES + 1;
 
-/// The nodes of the flow graph of a procedure with this body. A number past `MOST_NODES` counts as one
-/// more than that.
+/// The nodes of the flow graph of a procedure with this body. A number past `MOST_NODES` counts as
+/// one more than that.
 pub fn count_nodes(body: &[Stmt]) -> usize
     ensures { result ≡ min (graph_nodes (code_of body.now)) (most_nodes + 1) }
 {

@@ -11,8 +11,8 @@ pub struct Tree {
     pub items: Items<Item>,
 }
 
-/// A declaration at the level of the text. `at` is the place of its name, a byte offset, and `end` that
-/// of a body's closing brace. A prototype with empty brackets says nothing of its parameters.
+/// A declaration at the level of the text. `at` is the place of its name, a byte offset, and `end`
+/// that of a body's closing brace. A prototype with empty brackets says nothing of its parameters.
 #[derive(PartialEq, Eq, Drop)]
 pub enum Item {
     Global {

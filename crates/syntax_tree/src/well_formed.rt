@@ -213,7 +213,8 @@ fn procs_fit(procs: &[Proc], program: &Program) -> bool
 }
 
 fn has_main(program: &Program) -> bool
-    ensures { IsTrue result ↔ IsSomeAnd (slice_get program.now.procs program.now.main) (λ p. p.params ≡ 0) }
+    ensures { IsTrue result ↔ IsSomeAnd (slice_get program.now.procs program.now.main)
+        (λ p. p.params ≡ 0) }
 {
     match program.procs.as_slice().get(program.main as usize) {
         Some(main) => main.params == 0,
@@ -222,8 +223,8 @@ fn has_main(program: &Program) -> bool
 }
 
 impl Program {
-    /// Whether the program is well formed. It takes no memory, and looks for each assertion in the whole
-    /// program.
+    /// Whether the program is well formed. It takes no memory, and looks for each assertion in the
+    /// whole program.
     pub fn is_well_formed(&self) -> bool
         ensures { IsTrue result ↔ IsWellFormed self.now }
     {

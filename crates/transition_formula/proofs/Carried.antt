@@ -1,4 +1,5 @@
--- A case put in order has the columns that it had: what passes for each column of its rows and posts passes on.
+-- A case put in order has the columns that it had: what passes for each column of its rows and
+-- posts passes on.
 use Rattle.std.proofs.Common.{◌≡◌, ℕ, ◌+◌, ◌≤◌, Bool, true, false, cond, ℤ, pos, negsuc, List, [], ◌∷◌, Some, Result, Ok, Err, refl, subst, arith}
 use Rattle.std.specs.Prelude.{IsTrue, not, ◌==◌, int_div, unsigned_abs, count_by}
 use Rattle.std.specs.List.{list_all, filter}

@@ -1,4 +1,5 @@
--- Tests of columns: what they decide, and that operations carry them from polynomials to what they answer.
+-- Tests of columns: what they decide, and that operations carry them from polynomials to what they
+-- answer.
 use Rattle.std.proofs.Common.{◌≡◌, ℕ, suc, ◌+◌, ◌<◌, ◌≤◌, Bool, true, false, cond, length, map, List, [], ◌∷◌, Option, Some, None, Result, Ok, Err, refl, ap, subst, arith}
 use Rattle.std.specs.Prelude.{All, IsTrue, ◌↔◌, ◌&&◌, count_by}
 use Rattle.std.specs.Bool.{Decides}

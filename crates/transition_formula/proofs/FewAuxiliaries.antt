@@ -1,5 +1,5 @@
--- A case that is put in order has at no time more auxiliaries than it had and one by post: a post that is lost becomes an auxiliary that
--- no row has, so it is never lost again.
+-- A case that is put in order has at no time more auxiliaries than it had and one by post: a post
+-- that is lost becomes an auxiliary that no row has, so it is never lost again.
 use Rattle.std.proofs.Common.{◌≡◌, ◌⊎◌, inl, inr, ℕ, ◌+◌, ◌<◌, ◌≤◌, ◌^◌, Bool, true, false, cond, length, map, List, [], ◌∷◌, Some, Result, Ok, Err, refl, sym, ap, subst, ◌∙◌, arith}
 use Rattle.std.specs.Prelude.{IsTrue, ◌==◌, ◌&&◌, ◌||◌, count_by, nat_lt, slice_get}
 use Rattle.std.specs.List.{AllByRecursion, list_all, list_any, remove}

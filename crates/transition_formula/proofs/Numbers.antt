@@ -1,4 +1,5 @@
--- New numbers of the auxiliaries that occur: they keep their order, and the code's list of them is the definition.
+-- New numbers of the auxiliaries that occur: they keep their order, and the code's list of them is
+-- the definition.
 use Rattle.std.proofs.Common.{◌≡◌, ℕ, zero, suc, ◌+◌, ◌-◌, ◌<◌, ◌≤◌, Bool, true, false, cond, length, map, List, [], ◌∷◌, refl, sym, ap, subst, ◌∙◌, arith}
 use Rattle.std.specs.Prelude.{IsTrue, slice_index}
 use Rattle.std.specs.List.{list_all, list_any, range_with_len}

@@ -1,5 +1,5 @@
--- What a case that is put in order holds of: all that it held of, and no more where nothing is noted, if its rows are
--- canonical and its auxiliaries numbered.
+-- What a case that is put in order holds of: all that it held of, and no more where nothing is
+-- noted, if its rows are canonical and its auxiliaries numbered.
 use Rattle.std.proofs.Common.{◌≡◌, ℕ, zero, suc, Bool, true, false, cond, ℤ, List, [], ◌∷◌, ◌++◌, length, Option, Some, None, Result, Ok, Err, refl, sym, subst, ◌∙◌}
 use Rattle.std.specs.Prelude.{IsTrue, slice_get, IfOk, OnOk}
 use Rattle.std.specs.List.{remove, cons_option}

@@ -1,5 +1,5 @@
--- What a formula over more entry columns holds of, and one with rows that say that entry columns are posts. Both fit between
--- their columns.
+-- What a formula over more entry columns holds of, and one with rows that say that entry columns
+-- are posts. Both fit between their columns.
 use Rattle.std.proofs.Common.{◌≡◌, inl, inr, ℕ, suc, ◌+◌, ◌<◌, ◌≤◌, true, ℤ, pos, negsuc, length, map, take, drop, get_or, length-append, append_assoc, List, [], ◌∷◌, ◌++◌, refl, sym, ap, subst, ◌∙◌, arith}
 use Rattle.std.specs.Prelude.{◌↔◌, ◌-ℤ◌, All, Bool, IsTrue, Result, Ok, Err, slice_get, unwrap_or}
 use Rattle.std.specs.List.{filter_map, flat_map, cons_option, list_all}
@@ -94,7 +94,8 @@ module _ (n : ℕ) (before : List ℤ) where
       )
   some-narrower to (case ∷ cases) after fit (inr h) = inr (some-narrower to cases after (both (fits n to case) (list_all (fits n to) cases) fit).1 h)
 
--- the formula over more columns holds of a state exactly where the formula holds of its first columns
+-- the formula over more columns holds of a state exactly where the formula holds of its first
+-- columns
 pub raised-says : (from : ℕ) (f : Transition) → f.from ≤ from → IsTransition f.from f.to f.cases → (before after : List ℤ)
     → Holds (raised from f) before after ↔ (Holds f (take f.from before) after × (length before ≡ from))
 raised-says from f le fit before after = (

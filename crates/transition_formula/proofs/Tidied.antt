@@ -1,4 +1,5 @@
--- What holds of each row's polynomial holds of those that are left when the rows are tidied, if a normal form keeps it.
+-- What holds of each row's polynomial holds of those that are left when the rows are tidied, if a
+-- normal form keeps it.
 use Rattle.std.proofs.Common.{◌≡◌, Bool, true, false, cond, fold, List, [], ◌∷◌, ◌++◌, Option, Some, None, Result, Ok, Err, refl, subst}
 use Rattle.std.specs.Prelude.{int_lt}
 use Rattle.std.specs.List.{AllByRecursion, list_any, find}

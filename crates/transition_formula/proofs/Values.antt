@@ -58,7 +58,8 @@ none-of = front-none
 
 -- ---- operations
 
--- what the operation answers has under w the value that its operand has under v, and it is never want of memory
+-- what the operation answers has under w the value that its operand has under v, and it is never
+-- want of memory
 pub record Keeps (f : Operation) (test : Col → Bool) (v w : Valuation) : Type 0 where
   pub tells : (p : Polynomial) → Tells (f p)
   pub value : (p q : Polynomial) → f p ≡ Ok q → IsTrue (every_column test p) → value_of w q ≡ value_of v p

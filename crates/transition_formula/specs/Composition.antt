@@ -20,7 +20,11 @@ identity_of columns =
     record {
       from = columns;
       to = columns;
-      cases = record { aux = 0; rows = []; post = map (λ n. column_of (At n)) (range_with_len 0 columns) } ∷ [];
+      cases = record {
+        aux = 0;
+        rows = [];
+        post = map (λ n. column_of (At n)) (range_with_len 0 columns);
+      } ∷ [];
     }
 
 -- the cases of both
@@ -60,24 +64,38 @@ by f case =
     }
 
 abbrev pub lost_by : Operation → Case → List Loss
-lost_by f case = flat_map (λ row. losses_of (f row.poly)) case.rows ++ flat_map (λ p. losses_of (f p)) case.post
+lost_by f case = flat_map (λ row. losses_of (f row.poly)) case.rows
+    ++ flat_map (λ p. losses_of (f p)) case.post
 
 -- ---- sequence
 
--- the posts of the first case put in for the second's columns, and its auxiliaries numbered after the first's
+-- the posts of the first case put in for the second's columns, and its auxiliaries numbered after
+-- the first's
 abbrev pub after_case : Case → Case → Operation
-after_case first second = substituted (put_in first.post (map (λ n. column_of (Aux n)) (range_with_len first.aux second.aux)))
+after_case first second =
+    substituted (put_in first.post
+    (map (λ n. column_of (Aux n)) (range_with_len first.aux second.aux)))
 
 -- the rows of the first, then what comes of the second after it
 abbrev pub sequence_of_cases : Case → Case → Case
 sequence_of_cases first second =
-    let made = by (after_case first second) record { aux = first.aux + second.aux; rows = second.rows; post = second.post } in
+    let made = by (after_case first second) record {
+      aux = first.aux + second.aux;
+      rows = second.rows;
+      post = second.post;
+    } in
     record { aux = made.aux; rows = first.rows ++ made.rows; post = made.post }
 
 -- each case of the first with each of the second
 abbrev pub sequence_of : Transition → Transition → Transition
 sequence_of a b =
-    record { from = a.from; to = b.to; cases = flat_map (λ first. map (sequence_of_cases first) b.cases) a.cases }
+    record {
+      from = a.from;
+      to = b.to;
+      cases = flat_map (λ first. map (sequence_of_cases first) b.cases) a.cases;
+    }
 
 abbrev pub lost_in_sequence : Transition → Transition → List Loss
-lost_in_sequence a b = flat_map (λ first. flat_map (λ second. lost_by (after_case first second) second) b.cases) a.cases
+lost_in_sequence a b =
+    flat_map (λ first. flat_map (λ second. lost_by (after_case first second) second) b.cases)
+    a.cases

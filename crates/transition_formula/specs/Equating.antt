@@ -22,7 +22,8 @@ abbrev pub differences : ℕ → List Polynomial → List (Result Polynomial Ter
 differences first [] = []
 differences first (post ∷ posts) = (column (At first) ⊟ Ok post) ∷ differences (first + 1) posts
 
--- the case with a row for each of the posts at these places, which says that it is the entry column of its turn
+-- the case with a row for each of the posts at these places, which says that it is the entry column
+-- of its turn
 abbrev pub equated_case : ℕ → List ℕ → Case → Case
 equated_case first places case =
     record {
@@ -32,11 +33,17 @@ equated_case first places case =
     }
 
 abbrev pub lost_in_equating_case : ℕ → List ℕ → Case → List Loss
-lost_in_equating_case first places case = flat_map losses_of (differences first (posts_at places case.post))
+lost_in_equating_case first places case =
+    flat_map losses_of (differences first (posts_at places case.post))
 
--- the formula where the entry columns from a number on are the posts at these places, in their order
+-- the formula where the entry columns from a number on are the posts at these places, in their
+-- order
 abbrev pub equated : ℕ → List ℕ → Transition → Transition
-equated first places f = record { from = f.from; to = f.to; cases = map (equated_case first places) f.cases }
+equated first places f = record {
+  from = f.from;
+  to = f.to;
+  cases = map (equated_case first places) f.cases;
+}
 
 abbrev pub lost_in_equating : ℕ → List ℕ → Transition → List Loss
 lost_in_equating first places f = flat_map (lost_in_equating_case first places) f.cases

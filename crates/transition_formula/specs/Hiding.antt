@@ -10,19 +10,26 @@ use Rattle.transition_formula.specs.declared.loss.Loss.{Loss}
 use Rattle.transition_formula.specs.Composition.{Operation, by, lost_by}
 use Rattle.transition_formula.specs.Transition.{Transition}
 
--- what is put in for the entry columns: the first n stand for themselves, the others become auxiliaries from `first` on
+-- what is put in for the entry columns: the first n stand for themselves, the others become
+-- auxiliaries from `first` on
 abbrev pub entries_hidden : (n from first : ℕ) → List Polynomial
-entries_hidden n from first = map (λ k. column_of (At k)) (range_with_len 0 n) ++ map (λ k. column_of (Aux k)) (range_with_len first (from - n))
+entries_hidden n from first = map (λ k. column_of (At k)) (range_with_len 0 n)
+    ++ map (λ k. column_of (Aux k)) (range_with_len first (from - n))
 
 -- what is put in for the case's own auxiliaries: themselves
 abbrev pub own_auxiliaries : ℕ → List Polynomial
 own_auxiliaries count = map (λ k. column_of (Aux k)) (range_with_len 0 count)
 
 abbrev pub hiding : (n from : ℕ) → Case → Operation
-hiding n from case = substituted (put_in (entries_hidden n from case.aux) (own_auxiliaries case.aux))
+hiding n from case =
+    substituted (put_in (entries_hidden n from case.aux) (own_auxiliaries case.aux))
 
 abbrev pub hidden_case : (n from : ℕ) → Case → Case
-hidden_case n from case = by (hiding n from case) record { aux = case.aux + (from - n); rows = case.rows; post = case.post }
+hidden_case n from case = by (hiding n from case) record {
+  aux = case.aux + (from - n);
+  rows = case.rows;
+  post = case.post;
+}
 
 -- the formula whose entry columns are the first n alone
 abbrev pub hidden : ℕ → Transition → Transition

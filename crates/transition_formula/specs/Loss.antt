@@ -5,7 +5,8 @@ use Rattle.linear_terms.specs.declared.error.TermError.TheVariants.{Wide, Degree
 use Rattle.transition_formula.specs.declared.loss.Loss.{Loss}
 use Rattle.transition_formula.specs.declared.loss.Loss.TheVariants as lost
 
--- the loss that an error of an operation is; want of memory is none, and no operation on plain polynomials answers it
+-- the loss that an error of an operation is; want of memory is none, and no operation on plain
+-- polynomials answers it
 abbrev pub loss_of : TermError → Option Loss
 loss_of (Wide left right times) = Some (lost.Wide left right times)
 loss_of Degree = Some lost.Degree

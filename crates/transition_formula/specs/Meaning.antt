@@ -65,4 +65,5 @@ last_of first (next ∷ more) = last_of next more
 
 -- the second formula holds of the first and the last state of every chain under the first
 abbrev pub HoldsOfChains : Transition → Transition → Type 0
-HoldsOfChains f g = (first : List ℤ) (more : List (List ℤ)) → length first ≡ f.from → IsChain f first more → Holds g first (last_of first more)
+HoldsOfChains f g = (first : List ℤ) (more : List (List ℤ)) → length first ≡ f.from
+    → IsChain f first more → Holds g first (last_of first more)

@@ -18,7 +18,8 @@ abbrev pub solves : Terms → List Col × ℤ → Option ℕ
 solves all ([], number) = None
 solves all (At m ∷ more, number) = None
 solves all (Aux n ∷ [], number) =
-    if (int_eq number (pos 1) || int_eq number (negsuc 0)) && count_by (λ t. has_auxiliary n t.0) all == 1 then Some n else None
+    if (int_eq number (pos 1) || int_eq number (negsuc 0)) && count_by (λ t. has_auxiliary n t.0)
+    all == 1 then Some n else None
 solves all (Aux n ∷ col ∷ more, number) = None
 
 -- the first that is found
@@ -46,7 +47,8 @@ first_equation (row ∷ rows) = place_from (solved_by row.kind row.poly) (first_
 
 -- what the equation says that its auxiliary is: the other terms, turned where its number is 1
 abbrev pub solution : Polynomial → ℕ → Result Polynomial TermError
-solution p n = if int_eq (coefficient_in p.terms (Aux n ∷ [])) (negsuc 0) then Ok (without n p) else multiple_of (without n p) (negsuc 0)
+solution p n = if int_eq (coefficient_in p.terms (Aux n ∷ [])) (negsuc 0) then Ok (without n p)
+    else multiple_of (without n p) (negsuc 0)
 
 -- the solution put in where the auxiliary occurs
 abbrev pub with_solution : ℕ → Polynomial → Operation

@@ -1,4 +1,5 @@
--- Where rows stand that are one but for the constant of an inequality: a map from what they have in common.
+-- Where rows stand that are one but for the constant of an inequality: a map from what they have in
+-- common.
 use Rattle.std.specs.Prelude.{◌≡◌, ◌+◌, ℕ, ℤ, List, [], ◌∷◌, map, Option, None, Some, Bool, if◌then◌else◌}
 use Rattle.std.specs.BTreeMap as tree
 use Rattle.std.specs.BTreeMap.{BTreeMap}
@@ -43,4 +44,5 @@ EachApart (key ∷ keys) = (first_place (eq_by_cmp key_cmp key) keys ≡ None) �
 
 -- the map has for each key the place of the first row with it
 abbrev pub TellsPlaces : BTreeMap Key ℕ → List Row → Type 0
-TellsPlaces places rows = (key : Key) → tree.get key_cmp places key ≡ first_place (eq_by_cmp key_cmp key) (map key_of rows)
+TellsPlaces places rows = (key : Key)
+    → tree.get key_cmp places key ≡ first_place (eq_by_cmp key_cmp key) (map key_of rows)

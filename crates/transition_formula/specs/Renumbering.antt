@@ -7,7 +7,8 @@ use Rattle.linear_terms.specs.Auxiliaries as auxiliaries
 
 -- the auxiliary n occurs in a row or a post
 abbrev pub occurs_in : Case → ℕ → Bool
-occurs_in case n = list_any (λ row. auxiliaries.occurs n row.poly) case.rows || list_any (auxiliaries.occurs n) case.post
+occurs_in case n = list_any (λ row. auxiliaries.occurs n row.poly) case.rows
+    || list_any (auxiliaries.occurs n) case.post
 
 -- how many numbers below n pass
 abbrev pub count_below : (ℕ → Bool) → ℕ → ℕ
@@ -19,7 +20,10 @@ abbrev pub new_number : Case → ℕ → ℕ
 new_number case n = count_below (occurs_in case) n
 
 abbrev pub renumbered_row : (ℕ → ℕ) → Row → Row
-renumbered_row number row = record { poly = auxiliaries.renumbered number row.poly; kind = row.kind }
+renumbered_row number row = record {
+  poly = auxiliaries.renumbered number row.poly;
+  kind = row.kind;
+}
 
 abbrev pub renumbered_by : (ℕ → ℕ) → Case → Case
 renumbered_by number case =

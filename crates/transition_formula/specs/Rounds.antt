@@ -1,4 +1,5 @@
--- A case put in order: rows are tidied and an equation is solved, again and again, until none can be.
+-- A case put in order: rows are tidied and an equation is solved, again and again, until none can
+-- be.
 use Rattle.std.specs.Prelude.{ℕ, zero, suc, List, [], ◌++◌, length, slice_get, Option, None, Some, Result, Ok, Err}
 use Rattle.std.specs.List.{remove}
 use Rattle.linear_terms.specs.declared.error.TermError.{TermError}
@@ -29,7 +30,8 @@ with_rows case rows = record { aux = case.aux; rows = rows; post = case.post }
 abbrev pub finished : Case → Ordered
 finished case = record { left = Some (renumbered_case case); losses = [] }
 
--- the equation is left out and its solution put in; an equation whose solution leaves 128 bits is lost
+-- the equation is left out and its solution put in; an equation whose solution leaves 128 bits is
+-- lost
 abbrev pub with_solved : Result Polynomial TermError → ℕ → Case → Case
 with_solved (Ok p) n case = by (with_solution n p) case
 with_solved (Err e) n case = case
@@ -42,21 +44,24 @@ lost_with_solved (Err e) n case = noted e
 abbrev pub solved_at : (Case → Ordered) → Case → ℕ → Option Row → Ordered
 solved_at next left n None = finished left
 solved_at next left n (Some row) =
-    after_losses (lost_with_solved (solution row.poly n) n left) (next (with_solved (solution row.poly n) n left))
+    after_losses (lost_with_solved (solution row.poly n) n left)
+    (next (with_solved (solution row.poly n) n left))
 
 abbrev pub solved_first : (Case → Ordered) → Case → Option (ℕ × ℕ) → Ordered
 solved_first next case None = finished case
-solved_first next case (Some found) = solved_at next (with_rows case (remove case.rows found.0)) found.1 (slice_get case.rows found.0)
+solved_first next case (Some found) = solved_at next (with_rows case (remove case.rows found.0))
+    found.1 (slice_get case.rows found.0)
 
 abbrev pub round : (Case → Ordered) → Case → Option (List Row) → Ordered
 round next case None = record { left = None; losses = [] }
 round next case (Some rows) = solved_first next (with_rows case rows) (first_equation rows)
 
--- Each round that is followed by another leaves out an equation. So as many rounds as there are rows are enough: after them no row
--- is left.
+-- Each round that is followed by another leaves out an equation. So as many rounds as there are
+-- rows are enough: after them no row is left.
 abbrev pub rounds : ℕ → Case → Ordered
 rounds zero case = finished case
-rounds (suc more) case = after_losses (tidied case.rows).losses (round (rounds more) case (tidied case.rows).rows)
+rounds (suc more) case =
+    after_losses (tidied case.rows).losses (round (rounds more) case (tidied case.rows).rows)
 
 -- the case put in order
 abbrev pub in_order : Case → Ordered

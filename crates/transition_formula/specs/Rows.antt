@@ -1,4 +1,5 @@
--- Rows put in order: each in normal form, each once, and no two with opposite terms whose constants sum to zero or more.
+-- Rows put in order: each in normal form, each once, and no two with opposite terms whose constants
+-- sum to zero or more.
 use Rattle.std.specs.Prelude.{pos, neg_ℤ, ◌+ℤ◌, List, [], ◌∷◌, ◌++◌, map, fold, Option, None, Some, Bool, true, false, ◌&&◌, not, int_lt, Result, Ok, Err, if◌then◌else◌}
 use Rattle.std.specs.List.{list_any, find}
 use Rattle.std.specs.Option.{option_map}
@@ -21,19 +22,24 @@ pub record Tidied : Type 0 where
   pub rows : Option (List Row)
   pub losses : List Loss
 
--- ---- each row in normal form: those that always hold are left out, and one that never holds ends it
+-- ---- each row in normal form: those that always hold are left out, and one that never holds ends
+-- it
 
 abbrev pub with_normal : Result Normal TermError → Tidied → Tidied
 with_normal (Err e) rest = record { rows = rest.rows; losses = noted e ++ rest.losses }
 with_normal (Ok (Constant true)) rest = rest
 with_normal (Ok (Constant false)) rest = record { rows = None; losses = [] }
-with_normal (Ok (Kept row)) rest = record { rows = option_map (λ rows. row ∷ rows) rest.rows; losses = rest.losses }
+with_normal (Ok (Kept row)) rest = record {
+  rows = option_map (λ rows. row ∷ rows) rest.rows;
+  losses = rest.losses;
+}
 
 abbrev pub normal_rows : List Row → Tidied
 normal_rows [] = record { rows = Some []; losses = [] }
 normal_rows (row ∷ rows) = with_normal (normal_form row) (normal_rows rows)
 
--- ---- each row once: of equal rows the first, of inequalities with the same terms the greatest constant at the first one's place
+-- ---- each row once: of equal rows the first, of inequalities with the same terms the greatest
+-- constant at the first one's place
 
 abbrev pub alike_by : Kind → Kind → Row → Row → Bool
 alike_by AtMost AtMost r s = pointwise term_eq r.poly.terms s.poly.terms
@@ -66,7 +72,8 @@ negated ts = map (λ t. (t.0, neg_ℤ t.1)) ts
 
 -- p + c <= 0 and -p + d <= 0
 abbrev pub are_opposite : Row → Row → Bool
-are_opposite r s = is_at_most r.kind && is_at_most s.kind && pointwise term_eq (negated r.poly.terms) s.poly.terms
+are_opposite r s = is_at_most r.kind && is_at_most s.kind
+    && pointwise term_eq (negated r.poly.terms) s.poly.terms
 
 -- c + d > 0: no numbers make both true
 abbrev pub exclude : Row → Row → Bool
@@ -82,9 +89,13 @@ close r s = are_opposite r s && int_eq (r.poly.rest +ℤ s.poly.rest) (pos 0)
 
 -- its normal form: of p + c and -p - c the one whose first coefficient is positive
 abbrev pub equation_of : Row → Row → Row
-equation_of r s = record { poly = if starts_negative r.poly.terms then s.poly else r.poly; kind = Equal }
+equation_of r s = record {
+  poly = if starts_negative r.poly.terms then s.poly else r.poly;
+  kind = Equal;
+}
 
--- a row by those before it and after it: the first of two becomes their equation, the second is left out
+-- a row by those before it and after it: the first of two becomes their equation, the second is
+-- left out
 abbrev pub with_met : Row → Bool → Option Row → List Row → List Row
 with_met r true later rows = rows
 with_met r false None rows = r ∷ rows
@@ -92,7 +103,8 @@ with_met r false (Some s) rows = equation_of r s ∷ rows
 
 abbrev pub met : List Row → List Row → List Row
 met before [] = []
-met before (r ∷ rows) = with_met r (list_any (λ s. close s r) before) (find (close r) rows) (met (before ++ r ∷ []) rows)
+met before (r ∷ rows) = with_met r (list_any (λ s. close s r) before) (find (close r) rows)
+    (met (before ++ r ∷ []) rows)
 
 -- ---- together
 
@@ -101,4 +113,7 @@ opposites_met None = None
 opposites_met (Some rows) = if can_agree rows then Some (met [] rows) else None
 
 abbrev pub tidied : List Row → Tidied
-tidied rows = record { rows = opposites_met (option_map each_once (normal_rows rows).rows); losses = (normal_rows rows).losses }
+tidied rows = record {
+  rows = opposites_met (option_map each_once (normal_rows rows).rows);
+  losses = (normal_rows rows).losses;
+}

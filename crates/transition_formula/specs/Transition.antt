@@ -24,9 +24,11 @@ is_below at aux (Aux number) = nat_lt number aux
 
 -- each column of the case passes
 abbrev pub every_column_of : (Col → Bool) → Case → Bool
-every_column_of test case = list_all (λ row. every_column test row.poly) case.rows && list_all (every_column test) case.post
+every_column_of test case = list_all (λ row. every_column test row.poly) case.rows
+    && list_all (every_column test) case.post
 
--- the case has a post for each of `to` columns, and no columns but its auxiliaries and `from` entry columns
+-- the case has a post for each of `to` columns, and no columns but its auxiliaries and `from` entry
+-- columns
 abbrev pub fits : ℕ → ℕ → Case → Bool
 fits from to case = length case.post == to && every_column_of (is_below from case.aux) case
 
@@ -34,7 +36,8 @@ fits from to case = length case.post == to && every_column_of (is_below from cas
 abbrev pub IsTransition : ℕ → ℕ → List Case → Type 0
 IsTransition from to cases = IsTrue (list_all (fits from to) cases)
 
--- how many cases a formula, and how many rows and auxiliaries a case may have where the analysis goes on with them as they are
+-- how many cases a formula, and how many rows and auxiliaries a case may have where the analysis
+-- goes on with them as they are
 abbrev pub most_cases : ℕ
 most_cases = 16
 
@@ -47,13 +50,15 @@ most_auxiliaries = 64
 -- no more than these
 abbrev pub is_fitted : List Case → Bool
 is_fitted cases =
-    nat_le (length cases) most_cases && list_all (λ case. nat_le (length case.rows) most_rows && nat_le case.aux most_auxiliaries) cases
+    nat_le (length cases) most_cases
+    && list_all (λ case. nat_le (length case.rows) most_rows
+    && nat_le case.aux most_auxiliaries) cases
 
 abbrev pub IsFitted : List Case → Type 0
 IsFitted cases = IsTrue (is_fitted cases)
 
--- The case can be put in order: its auxiliaries are numbered below their count, and numbers of 32 bits suffice for one more
--- by post.
+-- The case can be put in order: its auxiliaries are numbered below their count, and numbers of 32
+-- bits suffice for one more by post.
 pub record IsSolvable (case : Case) : Type 0 where
   pub numbered : IsTrue (every_column_of (is_numbered case.aux) case)
   pub few : case.aux + length case.post < 2 ^ 32
@@ -62,6 +67,7 @@ pub record IsSolvable (case : Case) : Type 0 where
 abbrev pub AreSolvable : List Case → Type 0
 AreSolvable cases = All IsSolvable cases
 
--- the auxiliaries of any case of the one, those of any case of the other and the other's columns are few enough to be numbered
+-- the auxiliaries of any case of the one, those of any case of the other and the other's columns
+-- are few enough to be numbered
 abbrev pub AreFew : Transition → Transition → Type 0
 AreFew a b = All (λ first. All (λ second. first.aux + second.aux + b.to < 2 ^ 32) b.cases) a.cases

@@ -13,7 +13,8 @@ use std::alloc::Global;
 /// The formula that says that nothing changes.
 pub fn identity(alloc: Global, columns: u32) -> Result<Formula, FormulaError>
     ensures exact { IfOk result (λ f. f ≡ identity_of columns) }
-    ensures holds { (before after : List ℤ) → IfOk result (λ f. Holds f before after ↔ ((before ≡ after) × (length before ≡ columns))) }
+    ensures holds { (before after : List ℤ)
+        → IfOk result (λ f. Holds f before after ↔ ((before ≡ after) × (length before ≡ columns))) }
 {
     let post = columns_below(alloc, columns)?;
     let mut cases = Items::new(alloc);
@@ -49,12 +50,15 @@ pub fn column(alloc: Global, col: Col) -> Result<Poly, FormulaError>
     }
 }
 
-/// The choice of two formulas between the same columns: the cases of the one, then those of the other.
+/// The choice of two formulas between the same columns: the cases of the one, then those of the
+/// other.
 pub fn join(alloc: Global, a: &Formula, b: &Formula) -> Result<Formula, FormulaError>
     requires from { a.now.from ≡ b.now.from }
     requires to { a.now.to ≡ b.now.to }
     ensures exact { IfOk result (λ f. f ≡ joined a.now b.now) }
-    ensures holds { (before after : List ℤ) → IfOk result (λ f. Holds f before after ↔ (Holds a.now before after ⊎ Holds b.now before after)) }
+    ensures holds { (before after : List ℤ)
+        → IfOk result
+        (λ f. Holds f before after ↔ (Holds a.now before after ⊎ Holds b.now before after)) }
 {
     let mut cases = a.cases.clone()?;
     cases.append(b.cases.clone()?)?;

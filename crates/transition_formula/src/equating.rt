@@ -19,7 +19,10 @@ use std::alloc::Global;
 pub fn raised(f: &Formula, from: u32) -> Result<Formula, FormulaError>
     requires { f.now.from ≤ from }
     ensures exact { IfOk result (λ g. g ≡ raised from f.now) }
-    ensures holds { (before after : List ℤ) → IfOk result (λ g. Holds g before after ↔ (Holds f.now (take f.now.from before) after × (length before ≡ from))) }
+    ensures holds { (before after : List ℤ)
+        → IfOk result
+        (λ g. Holds g before after
+        ↔ (Holds f.now (take f.now.from before) after × (length before ≡ from))) }
 {
     let cases = f.cases.clone()?;
     Ok(Formula {
@@ -29,9 +32,10 @@ pub fn raised(f: &Formula, from: u32) -> Result<Formula, FormulaError>
     })
 }
 
-/// The formula where the entry columns from `first` on are the posts at these places, in their order. It holds of the states
-/// that the formula links where these columns have those numbers, and of no others where nothing was lost. Each loss is noted
-/// after those that are there. After an error more may be noted.
+/// The formula where the entry columns from `first` on are the posts at these places, in their
+/// order. It holds of the states that the formula links where these columns have those numbers, and
+/// of no others where nothing was lost. Each loss is noted after those that are there. After an
+/// error more may be noted.
 pub fn equated(
     alloc: Global,
     f: &Formula,
@@ -42,9 +46,16 @@ pub fn equated(
     requires there { All (λ place. place < f.now.to) places.now }
     requires columns { first + length places.now ≤ f.now.from }
     ensures exact { IfOk result (λ g. g ≡ equated first places.now f.now) }
-    ensures noted { OnOk result (losses.new ≡ losses.old ++ lost_in_equating first places.now f.now) }
-    ensures at_least { (before after : List ℤ) → IfOk result (λ g. take (length places.now) (drop first before) ≡ numbers_at places.now after → Holds f.now before after → Holds g before after) }
-    ensures at_most { (before after : List ℤ) → losses.new ≡ losses.old → IfOk result (λ g. Holds g before after → (Holds f.now before after × (take (length places.now) (drop first before) ≡ numbers_at places.now after))) }
+    ensures noted { OnOk result
+        (losses.new ≡ losses.old ++ lost_in_equating first places.now f.now) }
+    ensures at_least { (before after : List ℤ)
+        → IfOk result
+        (λ g. take (length places.now) (drop first before) ≡ numbers_at places.now after
+        → Holds f.now before after → Holds g before after) }
+    ensures at_most { (before after : List ℤ) → losses.new ≡ losses.old
+        → IfOk result (λ g. Holds g before after
+        → (Holds f.now before after
+        × (take (length places.now) (drop first before) ≡ numbers_at places.now after))) }
 {
     let from = f.from();
     let cases = equated_cases(alloc, f, first, places, losses)?;
@@ -65,7 +76,8 @@ fn equated_cases(
     requires there { All (λ place. place < f.now.to) places.now }
     requires few { first + length places.now < 2 ^ 32 }
     ensures made { IfOk result (λ cases. cases ≡ map (equated_case first places.now) f.now.cases) }
-    ensures noted { OnOk result (losses.new ≡ losses.old ++ lost_in_equating first places.now f.now) }
+    ensures noted { OnOk result
+        (losses.new ≡ losses.old ++ lost_in_equating first places.now f.now) }
 {
     let mut cases = Items::new(alloc);
     for case in f.cases() {
@@ -84,7 +96,8 @@ fn equated_case(
     requires there { All (λ place. place < length case.now.post) places.now }
     requires few { first + length places.now < 2 ^ 32 }
     ensures made { IfOk result (λ c. c ≡ equated_case first places.now case.now) }
-    ensures noted { OnOk result (losses.new ≡ losses.old ++ lost_in_equating_case first places.now case.now) }
+    ensures noted { OnOk result
+        (losses.new ≡ losses.old ++ lost_in_equating_case first places.now case.now) }
 {
     let mut rows = case.rows.clone()?;
     let told = posts_at(alloc, case.post.as_slice(), places)?;
@@ -97,7 +110,8 @@ fn equated_case(
     })
 }
 
-/// A row behind others for each post, which says that it is the entry column of its turn. Those that are lost are noted.
+/// A row behind others for each post, which says that it is the entry column of its turn. Those
+/// that are lost are noted.
 fn add_equations(
     alloc: Global,
     first: u32,
@@ -106,8 +120,10 @@ fn add_equations(
     losses: &mut Items<Loss>,
 ) -> Result<(), FormulaError>
     requires { first + length posts.now < 2 ^ 32 }
-    ensures made { OnOk result (rows.new ≡ rows.old ++ filter_map (row_of Equal) (differences first posts.now)) }
-    ensures noted { OnOk result (losses.new ≡ losses.old ++ flat_map losses_of (differences first posts.now)) }
+    ensures made { OnOk result
+        (rows.new ≡ rows.old ++ filter_map (row_of Equal) (differences first posts.now)) }
+    ensures noted { OnOk result
+        (losses.new ≡ losses.old ++ flat_map losses_of (differences first posts.now)) }
 {
     let mut number = first;
     for post in posts {
@@ -124,8 +140,10 @@ fn add_equation(
     rows: &mut Items<Row>,
     losses: &mut Items<Loss>,
 ) -> Result<(), FormulaError>
-    ensures made { OnOk result (rows.new ≡ rows.old ++ filter_map (row_of Equal) (differences number (post.now ∷ []))) }
-    ensures noted { OnOk result (losses.new ≡ losses.old ++ flat_map losses_of (differences number (post.now ∷ []))) }
+    ensures made { OnOk result
+        (rows.new ≡ rows.old ++ filter_map (row_of Equal) (differences number (post.now ∷ []))) }
+    ensures noted { OnOk result
+        (losses.new ≡ losses.old ++ flat_map losses_of (differences number (post.now ∷ []))) }
 {
     let entry = column(alloc, Col::At(number))?;
     match difference(alloc, &entry, post) {

@@ -8,15 +8,16 @@ use linear_terms::{Case, Poly, Row};
 use std::alloc::AllocError;
 use std::marker::Model;
 
-/// How many cases a formula, and how many rows and auxiliaries a case may have for the analysis to go on with them.
+/// How many cases a formula, and how many rows and auxiliaries a case may have for the analysis to
+/// go on with them.
 const MOST_CASES: usize = 16;
 
 const MOST_ROWS: usize = 64;
 
 const MOST_AUXILIARIES: u32 = 64;
 
-/// From the numbers of so many columns to those of so many, by one case or another. Each case has a post
-/// for each column afterwards.
+/// From the numbers of so many columns to those of so many, by one case or another. Each case has a
+/// post for each column afterwards.
 #[derive(Debug, Drop)]
 pub struct Formula {
     pub(crate) from: u32,
@@ -35,10 +36,11 @@ impl Model for Formula {
 }
 
 impl Formula {
-    /// None where a case has another number of posts than `to`, or a column that is neither one of `from`
-    /// entry columns nor one of its auxiliaries.
+    /// None where a case has another number of posts than `to`, or a column that is neither one of
+    /// `from` entry columns nor one of its auxiliaries.
     pub fn new(from: u32, to: u32, cases: Items<Case>) -> Option<Formula>
-        ensures { SomeIff result (IsTransition from to cases) (record { from = from; to = to; cases = cases }) }
+        ensures { SomeIff result (IsTransition from to cases)
+            (record { from = from; to = to; cases = cases }) }
     {
         if all_fit(cases.as_slice(), from, to) {
             Some(Formula { from, to, cases })
@@ -113,7 +115,9 @@ fn are_same(cases: &[Case], others: &[Case]) -> bool
 }
 
 fn have_few_parts(cases: &[Case]) -> bool
-    ensures { result ≡ list_all (λ case. nat_le (length case.rows) most_rows && nat_le case.aux most_auxiliaries) cases.now }
+    ensures { result
+        ≡ list_all (λ case. nat_le (length case.rows) most_rows && nat_le case.aux most_auxiliaries)
+        cases.now }
 {
     cases.iter().all(|case| case.rows.len() <= MOST_ROWS && case.aux <= MOST_AUXILIARIES)
 }

@@ -12,9 +12,10 @@ use items::Items;
 use linear_terms::{Case, Poly};
 use std::alloc::Global;
 
-/// The formula whose entry columns are the first `n` alone: the others become auxiliaries, after those of the case. It holds
-/// of the first numbers of each state that the formula held of, and of no others where nothing was lost. Each loss is noted
-/// after those that are there. After an error more may be noted.
+/// The formula whose entry columns are the first `n` alone: the others become auxiliaries, after
+/// those of the case. It holds of the first numbers of each state that the formula held of, and of
+/// no others where nothing was lost. Each loss is noted after those that are there. After an error
+/// more may be noted.
 pub fn hidden(
     alloc: Global,
     f: &Formula,
@@ -25,8 +26,11 @@ pub fn hidden(
     requires few { All (λ case. case.aux + (f.now.from - n) + f.now.to < 2 ^ 32) f.now.cases }
     ensures exact { IfOk result (λ g. g ≡ hidden n f.now) }
     ensures noted { OnOk result (losses.new ≡ losses.old ++ lost_in_hiding n f.now) }
-    ensures at_least { (before after : List ℤ) → IfOk result (λ g. Holds f.now before after → Holds g (take n before) after) }
-    ensures at_most { (told after : List ℤ) → losses.new ≡ losses.old → IfOk result (λ g. Holds g told after → ((more : List ℤ) × Holds f.now (told ++ more) after)) }
+    ensures at_least { (before after : List ℤ)
+        → IfOk result (λ g. Holds f.now before after → Holds g (take n before) after) }
+    ensures at_most { (told after : List ℤ) → losses.new ≡ losses.old
+        → IfOk result (λ g. Holds g told after
+        → ((more : List ℤ) × Holds f.now (told ++ more) after)) }
 {
     let cases = hidden_cases(alloc, f, n, losses)?;
     Ok(Formula {
@@ -66,7 +70,8 @@ fn hidden_case(
     requires covered { IsTrue (every_column_of (is_below from case.now.aux) case.now) }
     requires few { case.now.aux + (from - n) + length case.now.post < 2 ^ 32 }
     ensures exact { IfOk result (λ c. c ≡ hidden_case n from case.now) }
-    ensures noted { OnOk result (losses.new ≡ losses.old ++ lost_by (hiding n from case.now) case.now) }
+    ensures noted { OnOk result
+        (losses.new ≡ losses.old ++ lost_by (hiding n from case.now) case.now) }
 {
     let at = entries_hidden(alloc, n, from, case.aux)?;
     let aux = auxiliaries_from(alloc, 0, case.aux)?;

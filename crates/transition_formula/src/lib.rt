@@ -1,5 +1,5 @@
-//! Formulas between the numbers of a state and those of a later one: sequence, choice, and a case put in
-//! order, each with what is left out where a step leaves 128 bits or passes degree 4.
+//! Formulas between the numbers of a state and those of a later one: sequence, choice, and a case
+//! put in order, each with what is left out where a step leaves 128 bits or passes degree 4.
 #![tactic(auto)]
 
 mod compose;

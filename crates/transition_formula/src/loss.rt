@@ -9,7 +9,8 @@ use linear_terms::TermError;
 /// Something that was left out of a formula.
 #[derive(Clone, Copy, Debug, PartialEq, Eq)]
 pub enum Loss {
-    /// The product, where `times` holds, or else the sum of these two numbers is no number of 128 bits.
+    /// The product, where `times` holds, or else the sum of these two numbers is no number of 128
+    /// bits.
     Wide {
         left: i128,
         right: i128,

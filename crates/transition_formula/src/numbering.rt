@@ -27,7 +27,8 @@ pub(crate) fn renumbered_case(alloc: Global, case: &Case) -> Result<Case, Formul
 
 /// The new number of each auxiliary, and how many there are then.
 fn new_numbers(alloc: Global, case: &Case) -> Result<Items<u32>, FormulaError>
-    ensures { IfOk result (λ numbers. numbers ≡ map (new_number case.now) (range_with_len 0 (case.now.aux + 1))) }
+    ensures { IfOk result
+        (λ numbers. numbers ≡ map (new_number case.now) (range_with_len 0 (case.now.aux + 1))) }
 {
     let mut numbers = Items::new(alloc);
     let mut count = 0;
@@ -65,8 +66,10 @@ fn any_post_has(posts: &[Poly], aux: u32) -> bool
 }
 
 fn rows_renumbered(alloc: Global, rows: &[Row], numbers: &[u32]) -> Result<Items<Row>, FormulaError>
-    requires numbered { IsTrue (list_all (λ row. every_column (is_numbered (length numbers.now)) row.poly) rows.now) }
-    requires order { KeepsOrder (slice_index numbers.now) (λ n. list_any (λ row. occurs n row.poly) rows.now) }
+    requires numbered { IsTrue
+        (list_all (λ row. every_column (is_numbered (length numbers.now)) row.poly) rows.now) }
+    requires order { KeepsOrder (slice_index numbers.now)
+        (λ n. list_any (λ row. occurs n row.poly) rows.now) }
     ensures { IfOk result (λ made. made ≡ map (renumbered_row (slice_index numbers.now)) rows.now) }
 {
     let mut made = Items::new(alloc);
@@ -85,7 +88,8 @@ fn posts_renumbered(
     posts: &[Poly],
     numbers: &[u32],
 ) -> Result<Items<Poly>, FormulaError>
-    requires numbered { IsTrue (list_all (every_column (is_numbered (length numbers.now))) posts.now) }
+    requires numbered { IsTrue
+        (list_all (every_column (is_numbered (length numbers.now))) posts.now) }
     requires order { KeepsOrder (slice_index numbers.now) (λ n. list_any (occurs n) posts.now) }
     ensures { IfOk result (λ made. made ≡ map (renumbered (slice_index numbers.now)) posts.now) }
 {

@@ -10,15 +10,15 @@ use linear_terms::{Kind, Mono, Row};
 use std::alloc::{AllocError, Global};
 use std::collections::BTreeMap;
 
-/// What rows have in common that are one but for the constant of an inequality: the terms, and of an
-/// equation its constant too.
+/// What rows have in common that are one but for the constant of an inequality: the terms, and of
+/// an equation its constant too.
 type Key = (Option<i128>, Items<(Mono, i128)>);
 
 /// The place of the first row with a key.
 pub(crate) type Places = BTreeMap<Key, usize>;
 
-/// Each row once, and of inequalities with the same terms the one with the greatest constant; and where
-/// they stand.
+/// Each row once, and of inequalities with the same terms the one with the greatest constant; and
+/// where they stand.
 pub(crate) fn each_once(
     alloc: Global,
     rows: Items<Row>,

@@ -8,14 +8,18 @@ use items::Items;
 use linear_terms::{Case, Col, Poly};
 use std::alloc::Global;
 
-/// The formula with the posts at these places, from 0, in this order. It holds of a state and the numbers at these places
-/// of each later state that the formula links to it, and of no others.
+/// The formula with the posts at these places, from 0, in this order. It holds of a state and the
+/// numbers at these places of each later state that the formula links to it, and of no others.
 pub fn with_posts(alloc: Global, f: &Formula, places: &[u32]) -> Result<Formula, FormulaError>
     requires there { All (λ place. place < f.now.to) places.now }
     requires few { length places.now < 2 ^ 32 }
     ensures exact { IfOk result (λ g. g ≡ with_posts places.now f.now) }
-    ensures at_least { (before after : List ℤ) → IfOk result (λ g. Holds f.now before after → Holds g before (numbers_at places.now after)) }
-    ensures at_most { (before told : List ℤ) → IfOk result (λ g. Holds g before told → ((after : List ℤ) × (Holds f.now before after × (told ≡ numbers_at places.now after)))) }
+    ensures at_least { (before after : List ℤ)
+        → IfOk result (λ g. Holds f.now before after
+        → Holds g before (numbers_at places.now after)) }
+    ensures at_most { (before told : List ℤ)
+        → IfOk result (λ g. Holds g before told
+        → ((after : List ℤ) × (Holds f.now before after × (told ≡ numbers_at places.now after)))) }
 {
     let cases = cases_with_posts(alloc, f, places)?;
     Ok(Formula {
@@ -64,14 +68,19 @@ pub(crate) fn posts_at(
     Ok(made)
 }
 
-/// The formula with the entry columns at these places, from 0, as its posts, in this order. It holds of a state and the
-/// numbers at these places of the same state where the formula links the state to some other, and of no others.
+/// The formula with the entry columns at these places, from 0, as its posts, in this order. It
+/// holds of a state and the numbers at these places of the same state where the formula links the
+/// state to some other, and of no others.
 pub fn with_entries(alloc: Global, f: &Formula, places: &[u32]) -> Result<Formula, FormulaError>
     requires there { All (λ place. place < f.now.from) places.now }
     requires few { length places.now < 2 ^ 32 }
     ensures exact { IfOk result (λ g. g ≡ with_entries places.now f.now) }
-    ensures at_least { (before after : List ℤ) → IfOk result (λ g. Holds f.now before after → Holds g before (numbers_at places.now before)) }
-    ensures at_most { (before told : List ℤ) → IfOk result (λ g. Holds g before told → ((after : List ℤ) × (Holds f.now before after × (told ≡ numbers_at places.now before)))) }
+    ensures at_least { (before after : List ℤ)
+        → IfOk result (λ g. Holds f.now before after
+        → Holds g before (numbers_at places.now before)) }
+    ensures at_most { (before told : List ℤ)
+        → IfOk result (λ g. Holds g before told
+        → ((after : List ℤ) × (Holds f.now before after × (told ≡ numbers_at places.now before)))) }
 {
     let cases = cases_with_entries(alloc, f, places)?;
     Ok(Formula {

@@ -17,9 +17,9 @@ use items::Items;
 use linear_terms::{Case, Col, Poly, Row, subst};
 use std::alloc::Global;
 
-/// One formula and then another: each case of the first with each of the second, whose columns the posts of
-/// the first are put in for. A row that is lost is left out, and a post that is lost may be any number: each
-/// loss is noted after those that are there. After an error more may be noted.
+/// One formula and then another: each case of the first with each of the second, whose columns the
+/// posts of the first are put in for. A row that is lost is left out, and a post that is lost may
+/// be any number: each loss is noted after those that are there. After an error more may be noted.
 pub fn seq(
     alloc: Global,
     a: &Formula,
@@ -30,8 +30,12 @@ pub fn seq(
     requires few { AreFew a.now b.now }
     ensures exact { IfOk result (λ f. f ≡ sequence_of a.now b.now) }
     ensures noted { OnOk result (losses.new ≡ losses.old ++ lost_in_sequence a.now b.now) }
-    ensures at_least { (before middle after : List ℤ) → IfOk result (λ f. Holds a.now before middle → Holds b.now middle after → Holds f before after) }
-    ensures at_most { (before after : List ℤ) → losses.new ≡ losses.old → IfOk result (λ f. Holds f before after → ((middle : List ℤ) × (Holds a.now before middle × Holds b.now middle after))) }
+    ensures at_least { (before middle after : List ℤ)
+        → IfOk result (λ f. Holds a.now before middle → Holds b.now middle after
+        → Holds f before after) }
+    ensures at_most { (before after : List ℤ) → losses.new ≡ losses.old
+        → IfOk result (λ f. Holds f before after
+        → ((middle : List ℤ) × (Holds a.now before middle × Holds b.now middle after))) }
 {
     let mut cases = Items::new(alloc);
     for first in a.cases() {
@@ -54,8 +58,11 @@ fn before_each(
 ) -> Result<(), FormulaError>
     requires between { length first.now.post ≡ b.now.from }
     requires few { All (λ second. first.now.aux + second.aux + b.now.to < 2 ^ 32) b.now.cases }
-    ensures made { OnOk result (cases.new ≡ cases.old ++ map (sequence_of_cases first.now) b.now.cases) }
-    ensures noted { OnOk result (losses.new ≡ losses.old ++ flat_map (λ second. lost_by (after_case first.now second) second) b.now.cases) }
+    ensures made { OnOk result
+        (cases.new ≡ cases.old ++ map (sequence_of_cases first.now) b.now.cases) }
+    ensures noted { OnOk result
+        (losses.new ≡ losses.old
+        ++ flat_map (λ second. lost_by (after_case first.now second) second) b.now.cases) }
 {
     for second in b.cases() {
         cases.push(sequence(alloc, first, second, losses)?)?;
@@ -70,10 +77,12 @@ fn sequence(
     second: &Case,
     losses: &mut Items<Loss>,
 ) -> Result<Case, FormulaError>
-    requires covered { IsTrue (every_column_of (is_below (length first.now.post) second.now.aux) second.now) }
+    requires covered { IsTrue
+        (every_column_of (is_below (length first.now.post) second.now.aux) second.now) }
     requires few { first.now.aux + second.now.aux + length second.now.post < 2 ^ 32 }
     ensures exact { IfOk result (λ c. c ≡ sequence_of_cases first.now second.now) }
-    ensures noted { OnOk result (losses.new ≡ losses.old ++ lost_by (after_case first.now second.now) second.now) }
+    ensures noted { OnOk result
+        (losses.new ≡ losses.old ++ lost_by (after_case first.now second.now) second.now) }
 {
     let aux = auxiliaries_from(alloc, first.aux, second.aux)?;
     let mut rows = first.rows.clone()?;
@@ -104,7 +113,8 @@ pub(crate) fn auxiliaries_from(
     count: u32,
 ) -> Result<Items<Poly>, FormulaError>
     requires { first + count < 2 ^ 32 }
-    ensures { IfOk result (λ made. made ≡ map (λ n. column_of (Aux n)) (range_with_len first count)) }
+    ensures { IfOk result
+        (λ made. made ≡ map (λ n. column_of (Aux n)) (range_with_len first count)) }
 {
     let mut made = Items::new(alloc);
     for number in first..first + count {
@@ -129,9 +139,16 @@ impl PutIn<'_> {
         made: &mut Items<Row>,
         losses: &mut Items<Loss>,
     ) -> Result<(), FormulaError>
-        requires { IsTrue (list_all (λ row. every_column (is_below (length self.now.at.now) (length self.now.aux.now)) row.poly) rows.now) }
-        ensures made { OnOk result (made.new ≡ made.old ++ rows_by (substituted (put_in self.now.at.now self.now.aux.now)) rows.now) }
-        ensures noted { OnOk result (losses.new ≡ losses.old ++ flat_map (λ row. losses_of (substituted (put_in self.now.at.now self.now.aux.now) row.poly)) rows.now) }
+        requires { IsTrue
+            (list_all (λ row. every_column
+            (is_below (length self.now.at.now) (length self.now.aux.now)) row.poly) rows.now) }
+        ensures made { OnOk result
+            (made.new ≡ made.old ++ rows_by (substituted (put_in self.now.at.now self.now.aux.now))
+            rows.now) }
+        ensures noted { OnOk result
+            (losses.new ≡ losses.old
+            ++ flat_map (λ row. losses_of
+            (substituted (put_in self.now.at.now self.now.aux.now) row.poly)) rows.now) }
     {
         for row in rows {
             if let Some(poly) = self.poly(alloc, &row.poly, losses)? {
@@ -144,7 +161,8 @@ impl PutIn<'_> {
         Ok(())
     }
 
-    /// The posts in which it is put in, and how many auxiliaries there are then: one that is lost is the next.
+    /// The posts in which it is put in, and how many auxiliaries there are then: one that is lost
+    /// is the next.
     pub(crate) fn posts(
         &self,
         alloc: Global,
@@ -153,11 +171,21 @@ impl PutIn<'_> {
         made: &mut Items<Poly>,
         losses: &mut Items<Loss>,
     ) -> Result<u32, FormulaError>
-        requires covered { IsTrue (list_all (every_column (is_below (length self.now.at.now) (length self.now.aux.now))) posts.now) }
+        requires covered { IsTrue
+            (list_all (every_column (is_below (length self.now.at.now) (length self.now.aux.now)))
+            posts.now) }
         requires few { aux + length posts.now < 2 ^ 32 }
-        ensures made { OnOk result (made.new ≡ made.old ++ posts_by (substituted (put_in self.now.at.now self.now.aux.now)) aux posts.now) }
-        ensures count { IfOk result (λ n. n ≡ aux + count_by (λ p. is_none (answered (substituted (put_in self.now.at.now self.now.aux.now) p))) posts.now) }
-        ensures noted { OnOk result (losses.new ≡ losses.old ++ flat_map (λ p. losses_of (substituted (put_in self.now.at.now self.now.aux.now) p)) posts.now) }
+        ensures made { OnOk result
+            (made.new ≡ made.old ++ posts_by (substituted (put_in self.now.at.now self.now.aux.now))
+            aux posts.now) }
+        ensures count { IfOk result
+            (λ n. n ≡ aux + count_by
+            (λ p. is_none (answered (substituted (put_in self.now.at.now self.now.aux.now) p)))
+            posts.now) }
+        ensures noted { OnOk result
+            (losses.new ≡ losses.old
+            ++ flat_map (λ p. losses_of (substituted (put_in self.now.at.now self.now.aux.now) p))
+            posts.now) }
     {
         let mut aux = aux;
         for post in posts {
@@ -179,9 +207,13 @@ impl PutIn<'_> {
         poly: &Poly,
         losses: &mut Items<Loss>,
     ) -> Result<Option<Poly>, FormulaError>
-        requires { IsTrue (every_column (is_below (length self.now.at.now) (length self.now.aux.now)) poly.now) }
-        ensures answer { IfOk result (λ p. p ≡ answered (substituted (put_in self.now.at.now self.now.aux.now) poly.now)) }
-        ensures noted { OnOk result (losses.new ≡ losses.old ++ losses_of (substituted (put_in self.now.at.now self.now.aux.now) poly.now)) }
+        requires { IsTrue
+            (every_column (is_below (length self.now.at.now) (length self.now.aux.now)) poly.now) }
+        ensures answer { IfOk result
+            (λ p. p ≡ answered (substituted (put_in self.now.at.now self.now.aux.now) poly.now)) }
+        ensures noted { OnOk result
+            (losses.new ≡ losses.old
+            ++ losses_of (substituted (put_in self.now.at.now self.now.aux.now) poly.now)) }
     {
         match subst(alloc, poly, self.at, self.aux) {
             Ok(made) => Ok(Some(made)),

@@ -16,8 +16,8 @@ use items::Items;
 use linear_terms::{Case, Col, Poly, Row};
 use std::alloc::Global;
 
-/// The case without the equation at a place, whose solution for an auxiliary is put in. Where the solution
-/// leaves 128 bits the equation is lost.
+/// The case without the equation at a place, whose solution for an auxiliary is put in. Where the
+/// solution leaves 128 bits the equation is lost.
 pub(crate) fn without_equation(
     alloc: Global,
     case: Case,
@@ -26,9 +26,17 @@ pub(crate) fn without_equation(
     losses: &mut Items<Loss>,
 ) -> Result<Case, FormulaError>
     requires there { place < length case.rows }
-    requires few { (row : Row) → slice_get case.rows place ≡ Some row → (with_solved (solution row.poly aux) aux (record { aux = case.aux; rows = remove case.rows place; post = case.post })).aux < 2 ^ 32 }
-    ensures exact { (row : Row) → slice_get case.rows place ≡ Some row → IfOk result (λ made. made ≡ with_solved (solution row.poly aux) aux (record { aux = case.aux; rows = remove case.rows place; post = case.post })) }
-    ensures noted { (row : Row) → slice_get case.rows place ≡ Some row → OnOk result (losses.new ≡ losses.old ++ lost_with_solved (solution row.poly aux) aux (record { aux = case.aux; rows = remove case.rows place; post = case.post })) }
+    requires few { (row : Row) → slice_get case.rows place ≡ Some row
+        → (with_solved (solution row.poly aux) aux
+        (record { aux = case.aux; rows = remove case.rows place; post = case.post })).aux < 2 ^ 32 }
+    ensures exact { (row : Row) → slice_get case.rows place ≡ Some row
+        → IfOk result
+        (λ made. made ≡ with_solved (solution row.poly aux) aux
+        (record { aux = case.aux; rows = remove case.rows place; post = case.post })) }
+    ensures noted { (row : Row) → slice_get case.rows place ≡ Some row
+        → OnOk result
+        (losses.new ≡ losses.old ++ lost_with_solved (solution row.poly aux) aux
+        (record { aux = case.aux; rows = remove case.rows place; post = case.post })) }
 {
     let (equation, left) = parted(case, place);
     with_solved(alloc, left, &equation.poly, aux, losses)
@@ -38,7 +46,8 @@ pub(crate) fn without_equation(
 fn parted(case: Case, place: usize) -> (Row, Case)
     requires { place < length case.rows }
     ensures row { slice_get case.rows place ≡ Some result.0 }
-    ensures rest { result.1 ≡ record { aux = case.aux; rows = remove case.rows place; post = case.post } }
+    ensures rest { result.1
+        ≡ record { aux = case.aux; rows = remove case.rows place; post = case.post } }
 {
     let mut rows = case.rows.into_vec();
     let row = rows.remove(place);
@@ -50,7 +59,8 @@ fn parted(case: Case, place: usize) -> (Row, Case)
     (row, left)
 }
 
-/// The case in which the solution of an equation is put in; as it is where that leaves 128 bits, which is noted.
+/// The case in which the solution of an equation is put in; as it is where that leaves 128 bits,
+/// which is noted.
 fn with_solved(
     alloc: Global,
     case: Case,
@@ -60,7 +70,8 @@ fn with_solved(
 ) -> Result<Case, FormulaError>
     requires { (with_solved (solution equation.now aux) aux case).aux < 2 ^ 32 }
     ensures exact { IfOk result (λ made. made ≡ with_solved (solution equation.now aux) aux case) }
-    ensures noted { OnOk result (losses.new ≡ losses.old ++ lost_with_solved (solution equation.now aux) aux case) }
+    ensures noted { OnOk result
+        (losses.new ≡ losses.old ++ lost_with_solved (solution equation.now aux) aux case) }
 {
     match solution(alloc, equation, aux) {
         Ok(by) => {
@@ -92,9 +103,15 @@ impl Solution {
         posts: &[Poly],
         losses: &mut Items<Loss>,
     ) -> Result<Case, FormulaError>
-        requires { count + count_by (λ p. is_none (answered (with_solution self.now.aux self.now.by p))) posts.now < 2 ^ 32 }
-        ensures exact { IfOk result (λ made. made ≡ by (with_solution self.now.aux self.now.by) (record { aux = count; rows = rows.now; post = posts.now })) }
-        ensures noted { OnOk result (losses.new ≡ losses.old ++ lost_by (with_solution self.now.aux self.now.by) (record { aux = count; rows = rows.now; post = posts.now })) }
+        requires { count + count_by
+            (λ p. is_none (answered (with_solution self.now.aux self.now.by p))) posts.now
+            < 2 ^ 32 }
+        ensures exact { IfOk result
+            (λ made. made ≡ by (with_solution self.now.aux self.now.by)
+            (record { aux = count; rows = rows.now; post = posts.now })) }
+        ensures noted { OnOk result
+            (losses.new ≡ losses.old ++ lost_by (with_solution self.now.aux self.now.by)
+            (record { aux = count; rows = rows.now; post = posts.now })) }
     {
         let made = self.rows(alloc, rows, losses)?;
         let (aux, post) = self.posts(alloc, posts, count, losses)?;
@@ -112,8 +129,12 @@ impl Solution {
         rows: &[Row],
         losses: &mut Items<Loss>,
     ) -> Result<Items<Row>, FormulaError>
-        ensures made { IfOk result (λ made. made ≡ rows_by (with_solution self.now.aux self.now.by) rows.now) }
-        ensures noted { OnOk result (losses.new ≡ losses.old ++ flat_map (λ row. losses_of (with_solution self.now.aux self.now.by row.poly)) rows.now) }
+        ensures made { IfOk result
+            (λ made. made ≡ rows_by (with_solution self.now.aux self.now.by) rows.now) }
+        ensures noted { OnOk result
+            (losses.new ≡ losses.old
+            ++ flat_map (λ row. losses_of (with_solution self.now.aux self.now.by row.poly))
+            rows.now) }
     {
         let mut made = Items::new(alloc);
         for row in rows {
@@ -131,8 +152,12 @@ impl Solution {
         row: &Row,
         losses: &mut Items<Loss>,
     ) -> Result<Option<Row>, FormulaError>
-        ensures answer { IfOk result (λ made. made ≡ row_of row.now.kind (with_solution self.now.aux self.now.by row.now.poly)) }
-        ensures noted { OnOk result (losses.new ≡ losses.old ++ losses_of (with_solution self.now.aux self.now.by row.now.poly)) }
+        ensures answer { IfOk result
+            (λ made. made
+            ≡ row_of row.now.kind (with_solution self.now.aux self.now.by row.now.poly)) }
+        ensures noted { OnOk result
+            (losses.new ≡ losses.old
+            ++ losses_of (with_solution self.now.aux self.now.by row.now.poly)) }
     {
         match self.poly(alloc, &row.poly, losses)? {
             Some(poly) => Ok(Some(Row {
@@ -143,7 +168,8 @@ impl Solution {
         }
     }
 
-    /// The posts in which it is put in, after how many auxiliaries there are then: one that is lost is the next.
+    /// The posts in which it is put in, after how many auxiliaries there are then: one that is lost
+    /// is the next.
     fn posts(
         &self,
         alloc: Global,
@@ -151,10 +177,18 @@ impl Solution {
         count: u32,
         losses: &mut Items<Loss>,
     ) -> Result<(u32, Items<Poly>), FormulaError>
-        requires { count + count_by (λ p. is_none (answered (with_solution self.now.aux self.now.by p))) posts.now < 2 ^ 32 }
-        ensures made { IfOk result (λ made. made.1 ≡ posts_by (with_solution self.now.aux self.now.by) count posts.now) }
-        ensures count { IfOk result (λ made. made.0 ≡ count + count_by (λ p. is_none (answered (with_solution self.now.aux self.now.by p))) posts.now) }
-        ensures noted { OnOk result (losses.new ≡ losses.old ++ flat_map (λ p. losses_of (with_solution self.now.aux self.now.by p)) posts.now) }
+        requires { count + count_by
+            (λ p. is_none (answered (with_solution self.now.aux self.now.by p))) posts.now
+            < 2 ^ 32 }
+        ensures made { IfOk result
+            (λ made. made.1 ≡ posts_by (with_solution self.now.aux self.now.by) count posts.now) }
+        ensures count { IfOk result
+            (λ made. made.0
+            ≡ count + count_by (λ p. is_none (answered (with_solution self.now.aux self.now.by p)))
+            posts.now) }
+        ensures noted { OnOk result
+            (losses.new ≡ losses.old
+            ++ flat_map (λ p. losses_of (with_solution self.now.aux self.now.by p)) posts.now) }
     {
         let mut made = Items::new(alloc);
         let mut aux = count;
@@ -178,8 +212,11 @@ impl Solution {
         poly: &Poly,
         losses: &mut Items<Loss>,
     ) -> Result<Option<Poly>, FormulaError>
-        ensures answer { IfOk result (λ p. p ≡ answered (with_solution self.now.aux self.now.by poly.now)) }
-        ensures noted { OnOk result (losses.new ≡ losses.old ++ losses_of (with_solution self.now.aux self.now.by poly.now)) }
+        ensures answer { IfOk result
+            (λ p. p ≡ answered (with_solution self.now.aux self.now.by poly.now)) }
+        ensures noted { OnOk result
+            (losses.new ≡ losses.old
+            ++ losses_of (with_solution self.now.aux self.now.by poly.now)) }
     {
         match with_solution(alloc, poly, self.aux, &self.by) {
             Ok(made) => Ok(Some(made)),

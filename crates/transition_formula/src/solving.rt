@@ -25,17 +25,21 @@ pub enum Solved {
     False,
 }
 
-/// Puts a case in order: its rows are tidied, and equations solved for auxiliaries, until no more can be.
-/// What is lost is left out and noted after what is there. What comes of the case holds of at least what it
-/// held of, and of no more where nothing was lost. After an error more may be noted.
+/// Puts a case in order: its rows are tidied, and equations solved for auxiliaries, until no more
+/// can be. What is lost is left out and noted after what is there. What comes of the case holds of
+/// at least what it held of, and of no more where nothing was lost. After an error more may be
+/// noted.
 pub fn solve(alloc: Global, case: &Case, losses: &mut Items<Loss>) -> Result<Solved, FormulaError>
     requires numbered { IsTrue (every_column_of (is_numbered case.now.aux) case.now) }
     requires few { case.now.aux + length case.now.post < 2 ^ 32 }
     ensures exact { IfOk result (λ made. made ≡ solved (in_order case.now).left) }
     ensures noted { OnOk result (losses.new ≡ losses.old ++ (in_order case.now).losses) }
-    ensures at_least { (before after : List ℤ) → IfOk result (λ made. HoldsCase case.now before after → HoldsSolved made before after) }
-    ensures at_most { (before after : List ℤ) → losses.new ≡ losses.old → IfOk result (λ made. HoldsSolved made before after → HoldsCase case.now before after) }
-    ensures fits { (from to : ℕ) → IsTrue (fits from to case.now) → IfOk result (Stays (λ c. IsTrue (fits from to c))) }
+    ensures at_least { (before after : List ℤ)
+        → IfOk result (λ made. HoldsCase case.now before after → HoldsSolved made before after) }
+    ensures at_most { (before after : List ℤ) → losses.new ≡ losses.old
+        → IfOk result (λ made. HoldsSolved made before after → HoldsCase case.now before after) }
+    ensures fits { (from to : ℕ) → IsTrue (fits from to case.now)
+        → IfOk result (Stays (λ c. IsTrue (fits from to c))) }
 {
     see_rows(case.rows.as_slice());
     in_order(alloc, case, losses)
@@ -73,7 +77,8 @@ fn kept(alloc: Global, case: Case) -> Result<Solved, FormulaError>
 
 /// The case with its rows tidied; none where they can't all be true.
 fn tidied(alloc: Global, case: Case, losses: &mut Items<Loss>) -> Result<Option<Case>, FormulaError>
-    ensures exact { IfOk result (λ made. made ≡ option_map (with_rows case) (tidied case.rows).rows) }
+    ensures exact { IfOk result
+        (λ made. made ≡ option_map (with_rows case) (tidied case.rows).rows) }
     ensures noted { OnOk result (losses.new ≡ losses.old ++ (tidied case.rows).losses) }
 {
     let Some(rows) = tidy(alloc, case.rows.as_slice(), losses)? else {

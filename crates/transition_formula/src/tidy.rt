@@ -16,8 +16,8 @@ use items::Items;
 use linear_terms::{Kind, Mono, Normal, Row, normal};
 use std::alloc::Global;
 
-/// The rows in normal form, each once, and opposite inequalities as equations; none where they can't all be
-/// true. A row whose normal form leaves 128 bits is left out and noted.
+/// The rows in normal form, each once, and opposite inequalities as equations; none where they
+/// can't all be true. A row whose normal form leaves 128 bits is left out and noted.
 pub(crate) fn tidy(
     alloc: Global,
     rows: &[Row],
@@ -142,7 +142,8 @@ fn excludes_later(
 ) -> Result<bool, FormulaError>
     requires places { TellsPlaces places.now rows.now }
     requires apart { EachApart (map key_of rows.now) }
-    ensures { IfOk result (λ found. found ≡ list_any (exclude row.now) (drop (place + 1) rows.now)) }
+    ensures { IfOk result
+        (λ found. found ≡ list_any (exclude row.now) (drop (place + 1) rows.now)) }
 {
     match opposite_place(alloc, row, rows, places)? {
         Some(other) => Ok(place < other && exclude(row, &rows[other])),
@@ -260,7 +261,10 @@ fn met_row(
 ) -> Result<Option<Row>, FormulaError>
     requires places { TellsPlaces places.now rows.now }
     requires apart { EachApart (map key_of rows.now) }
-    ensures { IfOk result (λ made. cons_option made [] ≡ with_met row.now (list_any (λ s. close s row.now) (take place rows.now)) (find (close row.now) (drop (place + 1) rows.now)) []) }
+    ensures { IfOk result
+        (λ made. cons_option made []
+        ≡ with_met row.now (list_any (λ s. close s row.now) (take place rows.now))
+        (find (close row.now) (drop (place + 1) rows.now)) []) }
 {
     match opposite_place(alloc, row, rows, places)? {
         Some(other) => met_with(row, place, &rows[other], other),
@@ -275,7 +279,10 @@ fn met_with(
     opposite: &Row,
     other: usize,
 ) -> Result<Option<Row>, FormulaError>
-    ensures { IfOk result (λ made. cons_option made [] ≡ with_met row.now (nat_lt other place && close opposite.now row.now) (if nat_lt place other && close row.now opposite.now then Some opposite.now else None) []) }
+    ensures { IfOk result
+        (λ made. cons_option made []
+        ≡ with_met row.now (nat_lt other place && close opposite.now row.now)
+        (if nat_lt place other && close row.now opposite.now then Some opposite.now else None) []) }
 {
     if other < place {
         return met_before(row, opposite);
@@ -288,7 +295,8 @@ fn met_with(
 
 /// What becomes of a row by an opposite one that stands before it.
 fn met_before(row: &Row, opposite: &Row) -> Result<Option<Row>, FormulaError>
-    ensures { IfOk result (λ made. cons_option made [] ≡ with_met row.now (close opposite.now row.now) None []) }
+    ensures { IfOk result
+        (λ made. cons_option made [] ≡ with_met row.now (close opposite.now row.now) None []) }
 {
     if close(opposite, row) {
         Ok(None)

@@ -1,4 +1,5 @@
--- What the names in scope mean fits a program: columns are below a number, and procedures stand in the program.
+-- What the names in scope mean fits a program: columns are below a number, and procedures stand in
+-- the program.
 use Rattle.std.proofs.Common.{◌≡◌, ℕ, ◌+◌, ◌<◌, Bool, true, false, Option, None, Some, List, [], ◌∷◌, ◌++◌, subst}
 use Rattle.std.specs.Prelude.{is_none, unwrap_or, slice_get, if◌then◌else◌}
 use Rattle.std.specs.Str.{bytes_eq}

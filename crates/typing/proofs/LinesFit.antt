@@ -147,7 +147,8 @@ act_fits (Binary at op left right) program width place env f h r o l = calls_fit
 
 -- ---- places
 
--- where a line stands agrees with where its statements stand, of which this says whether they may leave, and where a body is then
+-- where a line stands agrees with where its statements stand, of which this says whether they may
+-- leave, and where a body is then
 abbrev pub AgreesBy : {T : Type 0} → (T → Bool) → (T → T) → Place → T → Type 0
 AgreesBy leave body Outside place = (leave (body place) ≡ true) × (body (body place) ≡ body place)
 AgreesBy leave body InBody place = (leave place ≡ true) × (body place ≡ place)

@@ -1,4 +1,5 @@
--- How far the lines of a procedure move: how many columns they take and how many assertions they have.
+-- How far the lines of a procedure move: how many columns they take and how many assertions they
+-- have.
 use Rattle.std.proofs.Common.{◌≡◌, ℕ, ◌+◌, true, false, Option, None, Some, List, ◌++◌, length, refl, sym, ap, arith, ◌∙◌}
 use Rattle.std.proofs.lemmas.List.{length-replicate}
 use Rattle.std.proofs.Common.{length-append}
@@ -13,7 +14,8 @@ use Rattle.typing.specs.Env.{body_place, without_scope, with_variable, with_asse
 use Rattle.typing.specs.Lines.{after, after_all, all_checks_of, all_columns_of, at_body, at_first_body, at_last_step, at_last_test, at_step, at_test, behind_body, checks_of, columns_of, in_body, in_branch, in_second_branch, in_step, nameless, value_columns, with_value}
 use Rattle.typing.specs.Terms.{temporaries}
 
--- from one environment to another over so many columns and assertions; all else that is a number stays
+-- from one environment to another over so many columns and assertions; all else that is a number
+-- stays
 pub record Moves (env to : Env) (columns checks : ℕ) : Type 0 where
   pub next : to.next ≡ env.next + columns
   pub number : to.number ≡ env.number + checks

@@ -39,10 +39,12 @@ slot_faults env at = when (env.next == env.full) (Many limited.Slots at)
 abbrev pub may_call : Signature → List ℕ → ℕ → Bool
 may_call signature name count = not (is_main name) && signature.params == count
 
--- A call with so many arguments, whose value is wanted, and which may stand in the right operand of `&&` or `||`.
+-- A call with so many arguments, whose value is wanted, and which may stand in the right operand of
+-- `&&` or `||`.
 abbrev pub value_call_faults : Callee → Bool → ℕ → List ℕ → ℕ → List TypeError
 value_call_faults (callee.Special special) right at name count =
-    when (not (arguments_of special == count)) (Arity at) ++ when (not (has_value special)) (VoidValue at)
+    when (not (arguments_of special == count)) (Arity at) ++ when (not (has_value special))
+    (VoidValue at)
 value_call_faults (callee.Own signature) right at name count =
     when (not (may_call signature name count)) (Arity at)
     ++ when (not signature.returns) (VoidValue at)
@@ -51,8 +53,10 @@ value_call_faults callee.Nobody right at name count = Unknown at ∷ []
 
 -- a call that is a statement by itself
 abbrev pub statement_call_faults : Callee → ℕ → List ℕ → ℕ → List TypeError
-statement_call_faults (callee.Special special) at name count = when (not (arguments_of special == count)) (Arity at)
-statement_call_faults (callee.Own signature) at name count = when (not (may_call signature name count)) (Arity at)
+statement_call_faults (callee.Special special) at name count =
+    when (not (arguments_of special == count)) (Arity at)
+statement_call_faults (callee.Own signature) at name count =
+    when (not (may_call signature name count)) (Arity at)
 statement_call_faults callee.Nobody at name count = Unknown at ∷ []
 
 -- arguments with too many cases together, told at the first of them
@@ -69,7 +73,8 @@ is_logical And = true
 is_logical Or = true
 is_logical _ = false
 
--- the faults of an expression, which may stand in the right operand of `&&` or `||`, and those of several
+-- the faults of an expression, which may stand in the right operand of `&&` or `||`, and those of
+-- several
 abbrev mutual
   pub expression_faults : Env → Bool → SourceExpr → List TypeError
   expression_faults env right (Lit at value) = []
@@ -81,17 +86,20 @@ abbrev mutual
       ++ slot_faults (with_columns_taken (all_temporaries args) env) at
   expression_faults env right (Unary at sign inner) = expression_faults env right inner
   expression_faults env right (Binary at op left rest) =
-      expression_faults env right left ++ expression_faults (with_columns_taken (temporaries left) env) (right || is_logical op) rest
+      expression_faults env right left ++ expression_faults
+      (with_columns_taken (temporaries left) env) (right || is_logical op) rest
 
   pub all_expression_faults : Env → Bool → SourceExprs → List TypeError
   all_expression_faults env right End = []
   all_expression_faults env right (Then expr rest) =
-      expression_faults env right expr ++ all_expression_faults (with_columns_taken (temporaries expr) env) right rest
+      expression_faults env right expr ++ all_expression_faults
+      (with_columns_taken (temporaries expr) env) right rest
 
 -- a value with too many cases
 abbrev pub value_faults : Env → SourceExpr → List TypeError
 value_faults env value =
-    when (nat_lt most_cases (cases_of (term_of (term_in env value))).value) (Many limited.Cases (place_of value))
+    when (nat_lt most_cases (cases_of (term_of (term_in env value))).value)
+    (Many limited.Cases (place_of value))
 
 -- a whole right side
 abbrev pub put_faults : Env → SourceExpr → List TypeError
@@ -103,10 +111,12 @@ put_faults env value = expression_faults env false value ++ value_faults env val
 
 -- a condition with too many cases of its truth or of its falsity
 abbrev pub has_many_ways : Term → Bool
-has_many_ways cond = nat_lt most_cases (cases_of cond).truth || nat_lt most_cases (cases_of cond).falsity
+has_many_ways cond = nat_lt most_cases (cases_of cond).truth
+    || nat_lt most_cases (cases_of cond).falsity
 
 abbrev pub truth_faults : Env → SourceExpr → List TypeError
-truth_faults env cond = when (has_many_ways (term_of (term_in env cond))) (Many limited.Cases (place_of cond))
+truth_faults env cond = when (has_many_ways (term_of (term_in env cond)))
+    (Many limited.Cases (place_of cond))
 
 abbrev pub condition_faults : Env → SourceExpr → List TypeError
 condition_faults env cond = expression_faults env false cond ++ truth_faults env cond
@@ -121,10 +131,11 @@ first_truth_faults terms (Then cond rest) =
 abbrev pub number_faults : ℕ → ℕ → List TypeError
 number_faults number at = when (number == most_checks) (Many limited.Assertions at)
 
--- What a special call that is a statement by itself asks for beside its arguments. The status of an exit goes
--- nowhere, so its cases are not counted.
+-- What a special call that is a statement by itself asks for beside its arguments. The status of an
+-- exit goes nowhere, so its cases are not counted.
 abbrev pub special_faults : ℕ → List Core → Special → ℕ → SourceExprs → List TypeError
-special_faults number terms Assert at args = number_faults number at ++ first_truth_faults terms args
+special_faults number terms Assert at args = number_faults number at ++ first_truth_faults terms
+    args
 special_faults number terms Assume at args = first_truth_faults terms args
 special_faults number terms Nondet at args = []
 special_faults number terms Error at args = number_faults number at
@@ -132,7 +143,8 @@ special_faults number terms Abort at args = []
 special_faults number terms Exit at args = []
 
 abbrev pub argument_faults : ℕ → List Core → Callee → ℕ → SourceExprs → List TypeError
-argument_faults number terms (callee.Special special) at args = special_faults number terms special at args
+argument_faults number terms (callee.Special special) at args =
+    special_faults number terms special at args
 argument_faults number terms (callee.Own signature) at args = many_together terms args
 argument_faults number terms callee.Nobody at args = many_together terms args
 

@@ -28,13 +28,16 @@ abbrev mutual
   calls_in env (Var at name) = []
   calls_in env (Call at name args) =
       all_calls_in env args
-      ++ call_statement (callee_of env.scopes name) (terms_in env args) (env.next + all_temporaries args) ∷ []
+      ++ call_statement (callee_of env.scopes name) (terms_in env args)
+      (env.next + all_temporaries args) ∷ []
   calls_in env (Unary at sign inner) = calls_in env inner
-  calls_in env (Binary at op left right) = calls_in env left ++ calls_in (with_columns_taken (temporaries left) env) right
+  calls_in env (Binary at op left right) =
+      calls_in env left ++ calls_in (with_columns_taken (temporaries left) env) right
 
   pub all_calls_in : Env → SourceExprs → List Stmt
   all_calls_in env End = []
-  all_calls_in env (Then expr rest) = calls_in env expr ++ all_calls_in (with_columns_taken (temporaries expr) env) rest
+  all_calls_in env (Then expr rest) =
+      calls_in env expr ++ all_calls_in (with_columns_taken (temporaries expr) env) rest
 
 -- A whole right side goes into its column; where it is a call, the call itself needs no temporary.
 abbrev pub put_in : Env → ℕ → SourceExpr → List Stmt
@@ -51,7 +54,8 @@ abbrev pub condition_of : List Core → Core
 condition_of [] = core.Lit (pos 0)
 condition_of (term ∷ rest) = term
 
--- A special call that is a statement by itself. What ends the run is an assumption that nothing meets.
+-- A special call that is a statement by itself. What ends the run is an assumption that nothing
+-- meets.
 abbrev pub special_statements : ℕ → Special → List Core → List Stmt
 special_statements number Assert args = stmt.Check number (condition_of args) ∷ []
 special_statements number Assume args = stmt.Guard (condition_of args) ∷ []
@@ -65,10 +69,12 @@ act_statements number (callee.Special special) args = special_statements number 
 act_statements number (callee.Own signature) args = stmt.Call signature.number args None ∷ []
 act_statements number callee.Nobody args = stmt.Call 0 args None ∷ []
 
--- A call that is a statement by itself, whose value goes nowhere. (The grammar has no other expression there.)
+-- A call that is a statement by itself, whose value goes nowhere. (The grammar has no other
+-- expression there.)
 abbrev pub act_in : Env → SourceExpr → List Stmt
 act_in env (Call at name args) =
-    all_calls_in env args ++ act_statements (env.number + 1) (callee_of env.scopes name) (terms_in env args)
+    all_calls_in env args ++ act_statements (env.number + 1) (callee_of env.scopes name)
+    (terms_in env args)
 act_in env other = calls_in env other
 
 abbrev pub if_assertion : Option Special → Bool

@@ -24,7 +24,8 @@ abbrev pub checks_in : List Item → List ℕ
 checks_in [] = []
 checks_in (Global name at init ∷ rest) = checks_in rest
 checks_in (Proto name at returns params ∷ rest) = checks_in rest
-checks_in (Body name at returns params lines end ∷ rest) = all_checks_of (source_lines_of lines) ++ checks_in rest
+checks_in (Body name at returns params lines end ∷ rest) = all_checks_of (source_lines_of lines)
+    ++ checks_in rest
 
 -- a procedure, in a text with this scope and so many globals, behind so many assertions
 abbrev pub proc_of : Scope → ℕ → ℕ → List ℕ → Bool → List Param → List Line → Proc
@@ -33,14 +34,16 @@ proc_of text globals number name returns params lines = record {
   returns = returns;
   params = length params;
   columns = body_columns params lines;
-  body = all_statements_of (body_env text globals number returns params lines) (source_lines_of lines);
+  body = all_statements_of (body_env text globals number returns params lines)
+      (source_lines_of lines);
 }
 
 -- the procedures, in the order of the text
 abbrev pub procs_of : Scope → ℕ → ℕ → List Item → List Proc
 procs_of text globals number [] = []
 procs_of text globals number (Global name at init ∷ rest) = procs_of text globals number rest
-procs_of text globals number (Proto name at returns params ∷ rest) = procs_of text globals number rest
+procs_of text globals number (Proto name at returns params ∷ rest) =
+    procs_of text globals number rest
 procs_of text globals number (Body name at returns params lines end ∷ rest) =
     proc_of text globals number name returns params lines
     ∷ procs_of text globals (number + length (all_checks_of (source_lines_of lines))) rest

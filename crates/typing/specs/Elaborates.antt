@@ -12,9 +12,11 @@ pub record Elaborates (items : List Item) (length_of_text : ℕ) (program : Prog
 -- one program at most, and one exactly where there is no fault
 pub record ElaborationIsUnique : Type 0 where
   pub one : (items : List Item) (length_of_text : ℕ) (program other : Program)
-      → Elaborates items length_of_text program → Elaborates items length_of_text other → program ≡ other
+      → Elaborates items length_of_text program → Elaborates items length_of_text other
+      → program ≡ other
   pub some : (items : List Item) (length_of_text : ℕ)
-      → faults_of items length_of_text ≡ [] → (program : Program) × Elaborates items length_of_text program
+      → faults_of items length_of_text ≡ []
+      → (program : Program) × Elaborates items length_of_text program
 
 -- what elaboration comes to is the program exactly where the text has that program
 pub record ElaborationAnswers : Type 0 where

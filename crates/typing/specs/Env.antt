@@ -12,7 +12,8 @@ with_columns_taken columns env = record env { next = env.next + columns }
 
 -- a variable is declared, and takes the next column
 unfoldable pub with_variable : List ℕ → Env → Env
-with_variable name env = record env { scopes = declared_in name (Variable env.next) env.scopes; next = env.next + 1 }
+with_variable name env =
+    record env { scopes = declared_in name (Variable env.next) env.scopes; next = env.next + 1 }
 
 -- so many more assertions stand above
 unfoldable pub with_assertions : ℕ → Env → Env

@@ -35,7 +35,8 @@ main_faults at name params = when (is_main name && not (length params == 0)) (Ar
 abbrev pub parameter_faults : ℕ → List Param → List TypeError
 parameter_faults above [] = []
 parameter_faults above (param ∷ rest) =
-    when (above == most_parameters) (Many limited.Parameters param.at) ++ parameter_faults (above + 1) rest
+    when (above == most_parameters) (Many limited.Parameters param.at) ++ parameter_faults
+    (above + 1) rest
 
 -- Behind these declarations, so many globals and so many procedures.
 abbrev pub declaration_faults : Scope → ℕ → ℕ → List Item → List TypeError
@@ -51,7 +52,8 @@ declaration_faults above globals procs (Body name at returns params lines end �
     ++ when (procs == most_procedures) (Many limited.Procedures at)
     ++ main_faults at name params
     ++ parameter_faults 0 params
-    ++ declaration_faults (above ++ (name, procedure procs returns params) ∷ []) globals (procs + 1) rest
+    ++ declaration_faults (above ++ (name, procedure procs returns params) ∷ []) globals (procs + 1)
+    rest
 
 -- empty brackets agree with any number of parameters (C11 6.7.6.3)
 abbrev pub agrees_in_number : Option ℕ → ℕ → Bool
@@ -73,30 +75,36 @@ abbrev pub prototype_faults : Scope → List Item → List TypeError
 prototype_faults procs [] = []
 prototype_faults procs (Global name at init ∷ rest) = prototype_faults procs rest
 prototype_faults procs (Proto name at returns params ∷ rest) =
-    when (not (agrees returns params (meaning_in procs name))) (Arity at) ++ prototype_faults procs rest
+    when (not (agrees returns params (meaning_in procs name))) (Arity at) ++ prototype_faults procs
+    rest
 prototype_faults procs (Body name at returns params lines end ∷ rest) = prototype_faults procs rest
 
 -- ---- procedures
 
 abbrev pub params_faults : Env → List Param → List TypeError
 params_faults env [] = []
-params_faults env (param ∷ rest) = declare_faults env param.at param.name ++ params_faults (with_variable param.name env) rest
+params_faults env (param ∷ rest) = declare_faults env param.at param.name ++ params_faults
+    (with_variable param.name env) rest
 
 -- a body whose flow graph has too many nodes, told at its closing brace
 abbrev pub node_faults : Env → SourceLines → ℕ → List TypeError
 node_faults env lines end =
-    when (nat_lt most_nodes (graph_nodes (code_of (all_statements_of env lines)))) (Many limited.Nodes end)
+    when (nat_lt most_nodes (graph_nodes (code_of (all_statements_of env lines))))
+    (Many limited.Nodes end)
 
 abbrev pub body_faults : Scope → ℕ → ℕ → Bool → List Param → List Line → ℕ → List TypeError
 body_faults text globals number returns params lines end =
-    params_faults (beginning text globals number returns (length (body_columns params lines))) params
+    params_faults (beginning text globals number returns (length (body_columns params lines)))
+    params
     ++ all_faults_in (body_env text globals number returns params lines) (source_lines_of lines)
     ++ node_faults (body_env text globals number returns params lines) (source_lines_of lines) end
 
 abbrev pub procs_faults : Scope → ℕ → ℕ → List Item → List TypeError
 procs_faults text globals number [] = []
-procs_faults text globals number (Global name at init ∷ rest) = procs_faults text globals number rest
-procs_faults text globals number (Proto name at returns params ∷ rest) = procs_faults text globals number rest
+procs_faults text globals number (Global name at init ∷ rest) =
+    procs_faults text globals number rest
+procs_faults text globals number (Proto name at returns params ∷ rest) =
+    procs_faults text globals number rest
 procs_faults text globals number (Body name at returns params lines end ∷ rest) =
     body_faults text globals number returns params lines end
     ++ procs_faults text globals (number + length (all_checks_of (source_lines_of lines))) rest
@@ -161,7 +169,8 @@ unless_fault (Some fault) program = Err fault
 
 -- What elaboration comes to: the least fault if there is one, and else the program.
 unfoldable pub elaboration_of : List Item → ℕ → Result Program TypeError
-elaboration_of items length_of_text = unless_fault (least_of None (faults_of items length_of_text)) (elaborated items)
+elaboration_of items length_of_text = unless_fault (least_of None (faults_of items length_of_text))
+    (elaborated items)
 
 -- what an error tells: want of memory tells nothing
 abbrev pub cause : TypeError → Option TypeError

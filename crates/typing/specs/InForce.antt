@@ -11,7 +11,8 @@ abbrev pub or_held : ℕ → Option Meaning → Option Held → Option Held
 or_held depth None outer = outer
 or_held depth (Some meaning) outer = Some record { depth = depth; meaning = meaning }
 
--- the declaration of a name in the innermost scope that has one, and how many scopes stand around that
+-- the declaration of a name in the innermost scope that has one, and how many scopes stand around
+-- that
 abbrev pub in_force : List Scope → List ℕ → Option Held
 in_force [] name = None
 in_force (scope ∷ outer) name = or_held (length outer) (meaning_in scope name) (in_force outer name)
@@ -43,22 +44,27 @@ AllAfter {A} P xs = (older : List A) (x : A) (newer : List A) → xs ≡ older +
 -- each declaration of a scope hides what was in force behind those before it
 abbrev pub Restores : List Declaration → List Scope → Type 0
 Restores scope outer =
-    AllAfter (λ older declaration. declaration.hidden ≡ in_force (map entry_of older ∷ outer) declaration.name) scope
+    AllAfter (λ older declaration. declaration.hidden ≡ in_force (map entry_of older ∷ outer)
+    declaration.name) scope
 
 -- the same of each scope
 abbrev pub RestoresAll : List (List Declaration) → Type 0
 RestoresAll stack = AllAfter (λ outer scope. Restores scope (shown outer)) stack
 
 -- the innermost scope and the stack without it; an empty one where there is none
-abbrev pub IsInnermost : List (List Declaration) → List (List Declaration) → List Declaration → Type 0
-IsInnermost stack rest scope = (stack ≡ rest ++ scope ∷ []) ⊎ ((stack ≡ []) × (rest ≡ []) × (scope ≡ []))
+abbrev pub IsInnermost : List (List Declaration) → List (List Declaration) → List Declaration
+    → Type 0
+IsInnermost stack rest scope = (stack ≡ rest ++ scope ∷ [])
+    ⊎ ((stack ≡ []) × (rest ≡ []) × (scope ≡ []))
 
 -- the declaration stands in a scope with so many around it
 abbrev pub is_at : Option Held → ℕ → Bool
 is_at None depth = false
 is_at (Some held) depth = held.depth == depth
 
--- what is in force for another name behind a declaration that hides something: the first of a scope counts
+-- what is in force for another name behind a declaration that hides something: the first of a scope
+-- counts
 abbrev pub after_declaration : List ℕ → Held → Option Held → Option Held → List ℕ → Option Held
 after_declaration name held hidden other_held other =
-    if is_at hidden held.depth then other_held else (if bytes_eq name other then Some held else other_held)
+    if is_at hidden held.depth then other_held
+    else (if bytes_eq name other then Some held else other_held)

@@ -42,7 +42,8 @@ return_faults env at (Some value) = when (not env.returns) (Arity at) ++ put_fau
 abbrev mutual
   pub faults_in : Env → SourceLine → List TypeError
   faults_in env (Block lines) = all_faults_in (with_scope env) lines
-  faults_in env (Local name at init) = declare_faults env at name ++ init_faults (with_variable name env) init
+  faults_in env (Local name at init) = declare_faults env at name
+      ++ init_faults (with_variable name env) init
   faults_in env (Assign name at value) = variable_faults env at name ++ put_faults env value
   faults_in env (Act call) = act_faults env call
   faults_in env (If cond on_true on_false) =

@@ -1,6 +1,6 @@
--- What a line becomes: what it leaves behind, its columns, its assertions and its statements. Parts come in the order
--- of the text: a `for` is initialiser, condition, step and body, a `do` is body and condition. (No `do` has a step;
--- the definitions put it last.)
+-- What a line becomes: what it leaves behind, its columns, its assertions and its statements. Parts
+-- come in the order of the text: a `for` is initialiser, condition, step and body, a `do` is body
+-- and condition. (No `do` has a step; the definitions put it last.)
 use Rattle.std.specs.Prelude.{ℕ, true, false, Option, None, Some, List, [], ◌∷◌, ◌++◌, length, replicate}
 use Rattle.syntax_tree.specs.declared.program.Column.{Column}
 use Rattle.syntax_tree.specs.declared.stmt.Stmt.{Stmt}
@@ -37,9 +37,11 @@ abbrev mutual
   columns_of (If cond on_true on_false) =
       nameless (temporaries cond) ++ all_columns_of on_true ++ all_columns_of on_false
   columns_of (Loop init cond step body false) =
-      all_columns_of init ++ nameless (temporaries cond) ++ all_columns_of step ++ all_columns_of body
+      all_columns_of init ++ nameless (temporaries cond) ++ all_columns_of step ++ all_columns_of
+      body
   columns_of (Loop init cond step body true) =
-      all_columns_of init ++ all_columns_of body ++ nameless (temporaries cond) ++ all_columns_of step
+      all_columns_of init ++ all_columns_of body ++ nameless (temporaries cond) ++ all_columns_of
+      step
   columns_of (Break at) = []
   columns_of (Continue at) = []
   columns_of (Return at value) = value_columns value
@@ -58,8 +60,10 @@ abbrev mutual
   checks_of (Assign name at value) = []
   checks_of (Act call) = act_checks call
   checks_of (If cond on_true on_false) = all_checks_of on_true ++ all_checks_of on_false
-  checks_of (Loop init cond step body false) = all_checks_of init ++ all_checks_of step ++ all_checks_of body
-  checks_of (Loop init cond step body true) = all_checks_of init ++ all_checks_of body ++ all_checks_of step
+  checks_of (Loop init cond step body false) = all_checks_of init ++ all_checks_of step
+      ++ all_checks_of body
+  checks_of (Loop init cond step body true) = all_checks_of init ++ all_checks_of body
+      ++ all_checks_of step
   checks_of (Break at) = []
   checks_of (Continue at) = []
   checks_of (Return at value) = []
@@ -84,19 +88,24 @@ behind_body place env = with_place place (without_scope env)
 abbrev pub in_step : Env → Env
 in_step env = with_place InStep env
 
--- A line leaves the variables that it declares, the columns that it takes and the assertions that it has; a block, a
--- branch and a body are scopes, and so is a loop with its initialiser (C11 6.8).
+-- A line leaves the variables that it declares, the columns that it takes and the assertions that
+-- it has; a block, a branch and a body are scopes, and so is a loop with its initialiser (C11 6.8).
 abbrev mutual
   pub after : Env → SourceLine → Env
   after env (Block lines) = without_scope (after_all (with_scope env) lines)
   after env (Local name at init) = with_value init (with_variable name env)
   after env (Assign name at value) = with_columns_taken (put_temporaries value) env
-  after env (Act call) = with_assertions (length (act_checks call)) (with_columns_taken (put_temporaries call) env)
+  after env (Act call) = with_assertions (length (act_checks call))
+      (with_columns_taken (put_temporaries call) env)
   after env (If cond on_true on_false) =
-      without_scope (after_all (with_scope (without_scope (after_all (with_scope (with_columns_taken (temporaries cond) env)) on_true))) on_false)
+      without_scope
+      (after_all (with_scope
+      (without_scope
+      (after_all (with_scope (with_columns_taken (temporaries cond) env)) on_true))) on_false)
   after env (Loop init cond step body false) =
       without_scope (behind_body env.place (after_all (in_body (with_place env.place
-      (after_all (in_step (with_columns_taken (temporaries cond) (after_all (with_scope env) init))) step))) body))
+      (after_all (in_step (with_columns_taken (temporaries cond) (after_all (with_scope env) init)))
+      step))) body))
   after env (Loop init cond step body true) =
       without_scope (with_place env.place (after_all (in_step (with_columns_taken (temporaries cond)
       (behind_body env.place (after_all (in_body (after_all (with_scope env) init)) body)))) step))
@@ -115,7 +124,8 @@ abbrev pub in_branch : Env → SourceExpr → Env
 in_branch env cond = with_scope (with_columns_taken (temporaries cond) env)
 
 abbrev pub in_second_branch : Env → SourceExpr → SourceLines → Env
-in_second_branch env cond on_true = with_scope (without_scope (after_all (in_branch env cond) on_true))
+in_second_branch env cond on_true =
+    with_scope (without_scope (after_all (in_branch env cond) on_true))
 
 -- the condition of a loop that tests first, its step and its body
 abbrev pub at_test : Env → SourceLines → Env
@@ -135,7 +145,8 @@ abbrev pub at_last_test : Env → SourceLines → SourceLines → Env
 at_last_test env init body = behind_body env.place (after_all (at_first_body env init) body)
 
 abbrev pub at_last_step : Env → SourceLines → SourceLines → SourceExpr → Env
-at_last_step env init body cond = in_step (with_columns_taken (temporaries cond) (at_last_test env init body))
+at_last_step env init body cond =
+    in_step (with_columns_taken (temporaries cond) (at_last_test env init body))
 
 -- ---- statements
 
@@ -148,8 +159,8 @@ abbrev pub local_statements : Env → ℕ → Option SourceExpr → List Stmt
 local_statements env col None = stmt.Any col ∷ []
 local_statements env col (Some value) = put_in env col value
 
--- The statements of a line, and of several. The calls of a condition stand before its `If`; those of a loop's
--- condition are made each time that it is tested.
+-- The statements of a line, and of several. The calls of a condition stand before its `If`; those
+-- of a loop's condition are made each time that it is tested.
 abbrev mutual
   pub statements_of : Env → SourceLine → List Stmt
   statements_of env (Block lines) = all_statements_of (with_scope env) lines
@@ -186,4 +197,5 @@ abbrev mutual
 
   pub all_statements_of : Env → SourceLines → List Stmt
   all_statements_of env End = []
-  all_statements_of env (Then line rest) = statements_of env line ++ all_statements_of (after env line) rest
+  all_statements_of env (Then line rest) = statements_of env line ++ all_statements_of
+      (after env line) rest

@@ -19,13 +19,15 @@ Scope = List Entry
 -- the first declaration of a name in one scope
 abbrev pub meaning_in : Scope → List ℕ → Option Meaning
 meaning_in [] name = None
-meaning_in (entry ∷ rest) name = if bytes_eq entry.0 name then Some entry.1 else meaning_in rest name
+meaning_in (entry ∷ rest) name = if bytes_eq entry.0 name then Some entry.1
+    else meaning_in rest name
 
 abbrev pub or_outer : Option Meaning → Option Meaning → Option Meaning
 or_outer None outer = outer
 or_outer (Some meaning) outer = Some meaning
 
--- A name means its declaration in the innermost scope that has one. The scopes are given innermost first.
+-- A name means its declaration in the innermost scope that has one. The scopes are given innermost
+-- first.
 abbrev pub meaning_of : List Scope → List ℕ → Option Meaning
 meaning_of [] name = None
 meaning_of (scope ∷ outer) name = or_outer (meaning_in scope name) (meaning_of outer name)

@@ -1,5 +1,5 @@
--- The special names, which a text calls without declaring them: those of `assert.h` (C11 7.2) and `stdlib.h`
--- (C11 7.22.4) and those of the software verification competition.
+-- The special names, which a text calls without declaring them: those of `assert.h` (C11 7.2) and
+-- `stdlib.h` (C11 7.22.4) and those of the software verification competition.
 use Rattle.std.specs.Prelude.{ℕ, Bool, true, false, ◌||◌, Option, None, Some, is_some, List, codes, if◌then◌else◌}
 use Rattle.std.specs.Str.{bytes_eq}
 use Rattle.typing.specs.declared.special.Special.{Special}
@@ -8,8 +8,10 @@ use Rattle.typing.specs.declared.special.Special.TheVariants.{Assert, Assume, No
 -- what a name stands for, where it is special
 unfoldable pub special_of : List ℕ → Option Special
 special_of name =
-    if bytes_eq name (codes "assert") || bytes_eq name (codes "__VERIFIER_assert") then Some Assert else (
-    if bytes_eq name (codes "assume") || bytes_eq name (codes "__VERIFIER_assume") then Some Assume else (
+    if bytes_eq name (codes "assert") || bytes_eq name (codes "__VERIFIER_assert") then Some Assert
+    else (
+    if bytes_eq name (codes "assume") || bytes_eq name (codes "__VERIFIER_assume") then Some Assume
+    else (
     if bytes_eq name (codes "__VERIFIER_nondet_int") then Some Nondet else (
     if bytes_eq name (codes "__VERIFIER_error") then Some Error else (
     if bytes_eq name (codes "abort") then Some Abort else (

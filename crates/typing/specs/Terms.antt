@@ -1,5 +1,6 @@
--- The expression of the core that an expression of a text becomes. Each call in it takes a column for its value,
--- a temporary: those of the left operand before those of the right one, those of arguments before their call's.
+-- The expression of the core that an expression of a text becomes. Each call in it takes a column
+-- for its value, a temporary: those of the left operand before those of the right one, those of
+-- arguments before their call's.
 use Rattle.std.specs.Prelude.{ℕ, ◌+◌, List, [], ◌∷◌}
 use Rattle.syntax_tree.specs.declared.core_expr.Core.{Core}
 use Rattle.syntax_tree.specs.declared.core_expr.Core.TheVariants as core
@@ -39,8 +40,10 @@ term_in env (Lit at value) = core.Lit value
 term_in env (Var at name) = core.Col (column_of env.scopes name)
 term_in env (Call at name args) = core.Col (env.next + all_temporaries args)
 term_in env (Unary at sign inner) = core.Unary sign (term_in env inner)
-term_in env (Binary at op left right) = core.Binary op (term_in env left) (term_in (with_columns_taken (temporaries left) env) right)
+term_in env (Binary at op left right) =
+    core.Binary op (term_in env left) (term_in (with_columns_taken (temporaries left) env) right)
 
 abbrev pub terms_in : Env → SourceExprs → List Core
 terms_in env End = []
-terms_in env (Then expr rest) = term_in env expr ∷ terms_in (with_columns_taken (temporaries expr) env) rest
+terms_in env (Then expr rest) =
+    term_in env expr ∷ terms_in (with_columns_taken (temporaries expr) env) rest

@@ -16,7 +16,11 @@ use Rattle.typing.specs.Lines.{all_columns_of, named}
 use Rattle.typing.specs.Scopes.{Scope}
 
 abbrev pub procedure : ℕ → Bool → List Param → Meaning
-procedure number returns params = Procedure (record { number = number; params = length params; returns = returns })
+procedure number returns params = Procedure (record {
+  number = number;
+  params = length params;
+  returns = returns;
+})
 
 -- The declarations of a text, behind so many globals and procedures. A prototype declares nothing.
 abbrev pub declarations : ℕ → ℕ → List Item → Scope
@@ -63,8 +67,8 @@ abbrev pub with_params : Env → List Param → Env
 with_params env [] = env
 with_params env (param ∷ rest) = with_params (with_variable param.name env) rest
 
--- The beginning of a procedure with so many columns, in a text with this scope and so many globals, behind so many
--- assertions. The returned value has the last column.
+-- The beginning of a procedure with so many columns, in a text with this scope and so many globals,
+-- behind so many assertions. The returned value has the last column.
 unfoldable pub beginning : Scope → ℕ → ℕ → Bool → ℕ → Env
 beginning text globals number returns columns = record {
   scopes = [] ∷ text ∷ [];

@@ -34,7 +34,8 @@ fn condition_of(terms: Items<Core>) -> Core
 
 // The condition may have too many cases of its truth or of its falsity.
 fn note_condition(least: &mut Option<TypeError>, args: &[Expr], cond: &Core)
-    ensures { least.new ≡ least_of least.old (first_truth_faults (cond.now ∷ []) (source_exprs_of args.now)) }
+    ensures { least.new
+        ≡ least_of least.old (first_truth_faults (cond.now ∷ []) (source_exprs_of args.now)) }
 {
     match args {
         [] => {}
@@ -49,9 +50,14 @@ fn note_condition(least: &mut Option<TypeError>, args: &[Expr], cond: &Core)
 impl Elaborator {
     /// A call that is a statement by itself.
     pub(crate) fn act(&mut self, e: &Expr, out: &mut Items<Stmt>) -> Result<(), AllocError>
-        ensures statements { OnOk result (out.new ≡ out.old ++ act_in self.old.env (source_expr_of e.now)) }
-        ensures env { OnOk result (self.new.env ≡ with_assertions (length (act_checks (source_expr_of e.now))) (with_columns_taken (put_temporaries (source_expr_of e.now)) self.old.env)) }
-        ensures least { OnOk result (self.new.least ≡ least_of self.old.least (act_faults self.old.env (source_expr_of e.now))) }
+        ensures statements { OnOk result
+            (out.new ≡ out.old ++ act_in self.old.env (source_expr_of e.now)) }
+        ensures env { OnOk result
+            (self.new.env ≡ with_assertions (length (act_checks (source_expr_of e.now)))
+            (with_columns_taken (put_temporaries (source_expr_of e.now)) self.old.env)) }
+        ensures least { OnOk result
+            (self.new.least
+            ≡ least_of self.old.least (act_faults self.old.env (source_expr_of e.now))) }
     {
         match e {
             Expr::Call(at, name, args) => self.act_call(*at, name, args.as_slice(), out),
@@ -66,7 +72,9 @@ impl Elaborator {
     fn statement_callee(&mut self, at: u32, name: &Name, count: usize) -> Callee
         ensures callee { result ≡ callee_of self.old.env.scopes name.now }
         ensures env { self.new.env ≡ self.old.env }
-        ensures least { self.new.least ≡ least_of self.old.least (statement_call_faults (callee_of self.old.env.scopes name.now) at name.now count) }
+        ensures least { self.new.least
+            ≡ least_of self.old.least
+            (statement_call_faults (callee_of self.old.env.scopes name.now) at name.now count) }
     {
         let callee = self.env.callee_of(name);
         match callee {
@@ -90,9 +98,23 @@ impl Elaborator {
         args: &[Expr],
         out: &mut Items<Stmt>,
     ) -> Result<(), AllocError>
-        ensures statements { OnOk result (out.new ≡ out.old ++ (all_calls_in self.old.env (source_exprs_of args.now) ++ act_statements (self.old.env.number + 1) (callee_of self.old.env.scopes name.now) (terms_in self.old.env (source_exprs_of args.now)))) }
-        ensures env { OnOk result (self.new.env ≡ with_assertions (length (listed_if (if_assertion (special_of name.now)) at)) (with_columns_taken (all_temporaries (source_exprs_of args.now)) self.old.env)) }
-        ensures least { OnOk result (self.new.least ≡ least_of self.old.least (statement_call_faults (callee_of self.old.env.scopes name.now) at name.now (length args.now) ++ all_expression_faults self.old.env false (source_exprs_of args.now) ++ argument_faults self.old.env.number (terms_in self.old.env (source_exprs_of args.now)) (callee_of self.old.env.scopes name.now) at (source_exprs_of args.now))) }
+        ensures statements { OnOk result
+            (out.new ≡ out.old
+            ++ (all_calls_in self.old.env (source_exprs_of args.now) ++ act_statements
+            (self.old.env.number + 1) (callee_of self.old.env.scopes name.now)
+            (terms_in self.old.env (source_exprs_of args.now)))) }
+        ensures env { OnOk result
+            (self.new.env
+            ≡ with_assertions (length (listed_if (if_assertion (special_of name.now)) at))
+            (with_columns_taken (all_temporaries (source_exprs_of args.now)) self.old.env)) }
+        ensures least { OnOk result
+            (self.new.least
+            ≡ least_of self.old.least
+            (statement_call_faults (callee_of self.old.env.scopes name.now) at name.now
+            (length args.now) ++ all_expression_faults self.old.env false (source_exprs_of args.now)
+            ++ argument_faults self.old.env.number
+            (terms_in self.old.env (source_exprs_of args.now))
+            (callee_of self.old.env.scopes name.now) at (source_exprs_of args.now))) }
     {
         let callee = self.statement_callee(at, name, args.len());
         let terms = self.expressions(args, false, out)?;
@@ -108,9 +130,15 @@ impl Elaborator {
         terms: Items<Core>,
         out: &mut Items<Stmt>,
     ) -> Result<(), AllocError>
-        ensures statements { OnOk result (out.new ≡ out.old ++ act_statements (self.old.env.number + 1) callee terms) }
-        ensures env { OnOk result (self.new.env ≡ with_assertions (length (listed_if (callee_asserts callee) at)) self.old.env) }
-        ensures least { OnOk result (self.new.least ≡ least_of self.old.least (argument_faults self.old.env.number terms callee at (source_exprs_of args.now))) }
+        ensures statements { OnOk result
+            (out.new ≡ out.old ++ act_statements (self.old.env.number + 1) callee terms) }
+        ensures env { OnOk result
+            (self.new.env ≡ with_assertions (length (listed_if (callee_asserts callee) at))
+            self.old.env) }
+        ensures least { OnOk result
+            (self.new.least
+            ≡ least_of self.old.least
+            (argument_faults self.old.env.number terms callee at (source_exprs_of args.now))) }
     {
         match callee {
             Callee::Special(special) => self.special(special, at, args, terms, out),
@@ -143,9 +171,15 @@ impl Elaborator {
         terms: Items<Core>,
         out: &mut Items<Stmt>,
     ) -> Result<(), AllocError>
-        ensures statements { OnOk result (out.new ≡ out.old ++ special_statements (self.old.env.number + 1) special terms) }
-        ensures env { OnOk result (self.new.env ≡ with_assertions (length (listed_if (is_assertion special) at)) self.old.env) }
-        ensures least { OnOk result (self.new.least ≡ least_of self.old.least (special_faults self.old.env.number terms special at (source_exprs_of args.now))) }
+        ensures statements { OnOk result
+            (out.new ≡ out.old ++ special_statements (self.old.env.number + 1) special terms) }
+        ensures env { OnOk result
+            (self.new.env ≡ with_assertions (length (listed_if (is_assertion special) at))
+            self.old.env) }
+        ensures least { OnOk result
+            (self.new.least
+            ≡ least_of self.old.least
+            (special_faults self.old.env.number terms special at (source_exprs_of args.now))) }
     {
         match special {
             Special::Assert => self.check(at, args, condition_of(terms), out),
@@ -166,9 +200,14 @@ impl Elaborator {
         cond: Core,
         out: &mut Items<Stmt>,
     ) -> Result<(), AllocError>
-        ensures statements { OnOk result (out.new ≡ out.old ++ Stmt.Check (self.old.env.number + 1) cond ∷ []) }
+        ensures statements { OnOk result
+            (out.new ≡ out.old ++ Stmt.Check (self.old.env.number + 1) cond ∷ []) }
         ensures env { OnOk result (self.new.env ≡ with_assertions 1 self.old.env) }
-        ensures least { OnOk result (self.new.least ≡ least_of self.old.least (number_faults self.old.env.number at ++ first_truth_faults (cond ∷ []) (source_exprs_of args.now))) }
+        ensures least { OnOk result
+            (self.new.least
+            ≡ least_of self.old.least
+            (number_faults self.old.env.number at ++ first_truth_faults (cond ∷ [])
+            (source_exprs_of args.now))) }
     {
         let number = self.assertion(at)?;
         note_condition(&mut self.least, args, &cond);
@@ -179,7 +218,8 @@ impl Elaborator {
     fn guard(&mut self, args: &[Expr], cond: Core, out: &mut Items<Stmt>) -> Result<(), AllocError>
         ensures statements { OnOk result (out.new ≡ out.old ++ Stmt.Guard cond ∷ []) }
         ensures env { self.new.env ≡ self.old.env }
-        ensures least { self.new.least ≡ least_of self.old.least (first_truth_faults (cond ∷ []) (source_exprs_of args.now)) }
+        ensures least { self.new.least
+            ≡ least_of self.old.least (first_truth_faults (cond ∷ []) (source_exprs_of args.now)) }
     {
         note_condition(&mut self.least, args, &cond);
         out.push(Stmt::Guard { cond })?;
@@ -188,9 +228,11 @@ impl Elaborator {
 
     // An assertion that nothing meets.
     fn failure(&mut self, at: u32, out: &mut Items<Stmt>) -> Result<(), AllocError>
-        ensures statements { OnOk result (out.new ≡ out.old ++ Stmt.Check (self.old.env.number + 1) (Core.Lit (pos 0)) ∷ []) }
+        ensures statements { OnOk result
+            (out.new ≡ out.old ++ Stmt.Check (self.old.env.number + 1) (Core.Lit (pos 0)) ∷ []) }
         ensures env { OnOk result (self.new.env ≡ with_assertions 1 self.old.env) }
-        ensures least { OnOk result (self.new.least ≡ least_of self.old.least (number_faults self.old.env.number at)) }
+        ensures least { OnOk result
+            (self.new.least ≡ least_of self.old.least (number_faults self.old.env.number at)) }
     {
         let number = self.assertion(at)?;
         let cond = Core::Lit(0);
@@ -202,7 +244,8 @@ impl Elaborator {
     fn assertion(&mut self, at: u32) -> Result<u32, AllocError>
         ensures number { IfOk result (λ number. number ≡ self.old.env.number + 1) }
         ensures env { OnOk result (self.new.env ≡ with_assertions 1 self.old.env) }
-        ensures least { OnOk result (self.new.least ≡ least_of self.old.least (number_faults self.old.env.number at)) }
+        ensures least { OnOk result
+            (self.new.least ≡ least_of self.old.least (number_faults self.old.env.number at)) }
     {
         let is_full = self.env.number as usize == MOST_CHECKS;
         note_if(
@@ -215,9 +258,16 @@ impl Elaborator {
 
     // No grammar has another expression than a call here.
     fn calls_alone(&mut self, e: &Expr, out: &mut Items<Stmt>) -> Result<(), AllocError>
-        ensures statements { OnOk result (out.new ≡ out.old ++ calls_in self.old.env (source_expr_of e.now)) }
-        ensures env { OnOk result (self.new.env ≡ with_assertions 0 (with_columns_taken (temporaries (source_expr_of e.now)) self.old.env)) }
-        ensures least { OnOk result (self.new.least ≡ least_of self.old.least (expression_faults self.old.env false (source_expr_of e.now))) }
+        ensures statements { OnOk result
+            (out.new ≡ out.old ++ calls_in self.old.env (source_expr_of e.now)) }
+        ensures env { OnOk result
+            (self.new.env
+            ≡ with_assertions 0
+            (with_columns_taken (temporaries (source_expr_of e.now)) self.old.env)) }
+        ensures least { OnOk result
+            (self.new.least
+            ≡ least_of self.old.least
+            (expression_faults self.old.env false (source_expr_of e.now))) }
     {
         let _ = self.expression(e, false, out)?;
         Ok(())

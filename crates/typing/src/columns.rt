@@ -40,7 +40,8 @@ fn push_name(name: &Name, columns: &mut Items<Column>) -> Result<(), AllocError>
 // A call in an expression takes a column without a name.
 #[cycle(temporaries)]
 fn temporaries(e: &Expr, columns: &mut Items<Column>) -> Result<(), AllocError>
-    ensures { OnOk result (columns.new ≡ columns.old ++ nameless (temporaries (source_expr_of e.now))) }
+    ensures { OnOk result
+        (columns.new ≡ columns.old ++ nameless (temporaries (source_expr_of e.now))) }
 {
     match e {
         Expr::Lit(_, _) => Ok(()),
@@ -60,7 +61,8 @@ fn temporaries(e: &Expr, columns: &mut Items<Column>) -> Result<(), AllocError>
 
 #[cycle(temporaries)]
 fn all_temporaries(exprs: &[Expr], columns: &mut Items<Column>) -> Result<(), AllocError>
-    ensures { OnOk result (columns.new ≡ columns.old ++ nameless (all_temporaries (source_exprs_of exprs.now))) }
+    ensures { OnOk result
+        (columns.new ≡ columns.old ++ nameless (all_temporaries (source_exprs_of exprs.now))) }
 {
     for e in exprs {
         temporaries(e, columns)?;
@@ -70,7 +72,8 @@ fn all_temporaries(exprs: &[Expr], columns: &mut Items<Column>) -> Result<(), Al
 
 // A call that is a whole right side, or a statement, takes none itself.
 fn put_temporaries(e: &Expr, columns: &mut Items<Column>) -> Result<(), AllocError>
-    ensures { OnOk result (columns.new ≡ columns.old ++ nameless (put_temporaries (source_expr_of e.now))) }
+    ensures { OnOk result
+        (columns.new ≡ columns.old ++ nameless (put_temporaries (source_expr_of e.now))) }
 {
     match e {
         Expr::Call(_, _, args) => all_temporaries(args.as_slice(), columns),
@@ -82,7 +85,8 @@ fn put_temporaries(e: &Expr, columns: &mut Items<Column>) -> Result<(), AllocErr
 }
 
 fn value_columns(value: &Option<Expr>, columns: &mut Items<Column>) -> Result<(), AllocError>
-    ensures { OnOk result (columns.new ≡ columns.old ++ value_columns (option_map source_expr_of value.now)) }
+    ensures { OnOk result
+        (columns.new ≡ columns.old ++ value_columns (option_map source_expr_of value.now)) }
 {
     match value {
         Some(value) => put_temporaries(value, columns),
@@ -92,7 +96,8 @@ fn value_columns(value: &Option<Expr>, columns: &mut Items<Column>) -> Result<()
 
 #[cycle(columns)]
 fn all_columns(lines: &[Line], columns: &mut Items<Column>) -> Result<(), AllocError>
-    ensures { OnOk result (columns.new ≡ columns.old ++ all_columns_of (source_lines_of lines.now)) }
+    ensures { OnOk result
+        (columns.new ≡ columns.old ++ all_columns_of (source_lines_of lines.now)) }
 {
     for line in lines {
         line_columns(line, columns)?;

@@ -44,7 +44,8 @@ impl Declarations {
         ensures scopes { IfOk result (λ made. made.scopes ≡ declarations 0 0 items.now ∷ []) }
         ensures bodies { IfOk result (λ made. made.bodies ≡ bodies 0 items.now ∷ []) }
         ensures globals { IfOk result (λ made. made.globals ≡ count_globals items.now) }
-        ensures least { IfOk result (λ made. made.least ≡ least_of None (declaration_faults [] 0 0 items.now)) }
+        ensures least { IfOk result
+            (λ made. made.least ≡ least_of None (declaration_faults [] 0 0 items.now)) }
     {
         let mut made = Declarations::empty(alloc)?;
         for item in items {
@@ -75,11 +76,22 @@ impl Declarations {
     fn item(&mut self, item: &Item) -> Result<(), AllocError>
         requires one { self.old.scopes ≡ top self.old.scopes ∷ [] }
         requires one_of_bodies { self.old.bodies ≡ top self.old.bodies ∷ [] }
-        ensures scopes { OnOk result (self.new.scopes ≡ (top self.old.scopes ++ declarations self.old.globals self.old.procs (item.now ∷ [])) ∷ []) }
-        ensures bodies { OnOk result (self.new.bodies ≡ (top self.old.bodies ++ bodies self.old.procs (item.now ∷ [])) ∷ []) }
-        ensures globals { OnOk result (self.new.globals ≡ self.old.globals + count_globals (item.now ∷ [])) }
-        ensures procs { OnOk result (self.new.procs ≡ self.old.procs + count_bodies (item.now ∷ [])) }
-        ensures least { OnOk result (self.new.least ≡ least_of self.old.least (declaration_faults (top self.old.scopes) self.old.globals self.old.procs (item.now ∷ []))) }
+        ensures scopes { OnOk result
+            (self.new.scopes
+            ≡ (top self.old.scopes ++ declarations self.old.globals self.old.procs (item.now ∷ []))
+            ∷ []) }
+        ensures bodies { OnOk result
+            (self.new.bodies ≡ (top self.old.bodies ++ bodies self.old.procs (item.now ∷ []))
+            ∷ []) }
+        ensures globals { OnOk result
+            (self.new.globals ≡ self.old.globals + count_globals (item.now ∷ [])) }
+        ensures procs { OnOk result
+            (self.new.procs ≡ self.old.procs + count_bodies (item.now ∷ [])) }
+        ensures least { OnOk result
+            (self.new.least
+            ≡ least_of self.old.least
+            (declaration_faults (top self.old.scopes) self.old.globals self.old.procs
+            (item.now ∷ []))) }
     {
         match item {
             Item::Global { name, at, .. } => self.global(name, *at),
@@ -96,11 +108,17 @@ impl Declarations {
 
     fn global(&mut self, name: &Name, at: u32) -> Result<(), AllocError>
         requires { self.old.scopes ≡ top self.old.scopes ∷ [] }
-        ensures scopes { OnOk result (self.new.scopes ≡ (top self.old.scopes ++ (name.now, Meaning.Variable self.old.globals) ∷ []) ∷ []) }
+        ensures scopes { OnOk result
+            (self.new.scopes
+            ≡ (top self.old.scopes ++ (name.now, Meaning.Variable self.old.globals) ∷ []) ∷ []) }
         ensures bodies { OnOk result (self.new.bodies ≡ self.old.bodies) }
         ensures globals { OnOk result (self.new.globals ≡ self.old.globals + 1) }
         ensures procs { OnOk result (self.new.procs ≡ self.old.procs) }
-        ensures least { OnOk result (self.new.least ≡ least_of self.old.least (twice_faults (top self.old.scopes ∷ []) at name.now ++ when (self.old.globals == most_globals) (TypeError.Many Limited.Globals at))) }
+        ensures least { OnOk result
+            (self.new.least
+            ≡ least_of self.old.least
+            (twice_faults (top self.old.scopes ∷ []) at name.now
+            ++ when (self.old.globals == most_globals) (TypeError.Many Limited.Globals at))) }
     {
         self.note_twice(name, at);
         let is_full = self.globals as usize == MOST_GLOBALS;
@@ -124,11 +142,22 @@ impl Declarations {
     ) -> Result<(), AllocError>
         requires one { self.old.scopes ≡ top self.old.scopes ∷ [] }
         requires one_of_bodies { self.old.bodies ≡ top self.old.bodies ∷ [] }
-        ensures scopes { OnOk result (self.new.scopes ≡ (top self.old.scopes ++ (name.now, procedure self.old.procs returns params.now) ∷ []) ∷ []) }
-        ensures bodies { OnOk result (self.new.bodies ≡ (top self.old.bodies ++ (name.now, procedure self.old.procs returns params.now) ∷ []) ∷ []) }
+        ensures scopes { OnOk result
+            (self.new.scopes
+            ≡ (top self.old.scopes ++ (name.now, procedure self.old.procs returns params.now) ∷ [])
+            ∷ []) }
+        ensures bodies { OnOk result
+            (self.new.bodies
+            ≡ (top self.old.bodies ++ (name.now, procedure self.old.procs returns params.now) ∷ [])
+            ∷ []) }
         ensures globals { OnOk result (self.new.globals ≡ self.old.globals) }
         ensures procs { OnOk result (self.new.procs ≡ self.old.procs + 1) }
-        ensures least { OnOk result (self.new.least ≡ least_of self.old.least (twice_faults (top self.old.scopes ∷ []) at name.now ++ when (self.old.procs == most_procedures) (TypeError.Many Limited.Procedures at) ++ main_faults at name.now params.now ++ parameter_faults 0 params.now)) }
+        ensures least { OnOk result
+            (self.new.least
+            ≡ least_of self.old.least
+            (twice_faults (top self.old.scopes ∷ []) at name.now
+            ++ when (self.old.procs == most_procedures) (TypeError.Many Limited.Procedures at)
+            ++ main_faults at name.now params.now ++ parameter_faults 0 params.now)) }
     {
         self.note_body(name, at, params);
         let meaning = Meaning::Procedure(Signature {
@@ -148,7 +177,11 @@ impl Declarations {
         ensures bodies { self.new.bodies ≡ self.old.bodies }
         ensures globals { self.new.globals ≡ self.old.globals }
         ensures procs { self.new.procs ≡ self.old.procs }
-        ensures least { self.new.least ≡ least_of self.old.least (twice_faults self.old.scopes at name.now ++ when (self.old.procs == most_procedures) (TypeError.Many Limited.Procedures at) ++ main_faults at name.now params.now ++ parameter_faults 0 params.now) }
+        ensures least { self.new.least
+            ≡ least_of self.old.least
+            (twice_faults self.old.scopes at name.now ++ when (self.old.procs == most_procedures)
+            (TypeError.Many Limited.Procedures at) ++ main_faults at name.now params.now
+            ++ parameter_faults 0 params.now) }
     {
         self.note_twice(name, at);
         let is_full = self.procs as usize == MOST_PROCEDURES;
@@ -166,7 +199,8 @@ impl Declarations {
         ensures bodies { self.new.bodies ≡ self.old.bodies }
         ensures globals { self.new.globals ≡ self.old.globals }
         ensures procs { self.new.procs ≡ self.old.procs }
-        ensures least { self.new.least ≡ least_of self.old.least (twice_faults self.old.scopes at name.now) }
+        ensures least { self.new.least
+            ≡ least_of self.old.least (twice_faults self.old.scopes at name.now) }
     {
         let is_twice = special_of(name.as_slice()).is_some() || self.scopes.is_declared_here(name);
         note_if(&mut self.least, is_twice, TypeError::Twice(at));

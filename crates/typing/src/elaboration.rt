@@ -22,10 +22,11 @@ use syntax_tree::{GlobalVar, Item, Proc, Program, Tree};
 
 /// The core program of the tree of a text with `length` bytes.
 ///
-/// Of all causes of refusal the one with the least place is told, and of several at one place the first in the order of
-/// `TypeError`; where there is none, the tree has a program. The program is well formed if each expression of the tree has
-/// few enough operators, as in every tree that the parser reads. Each part of the tree is visited a fixed number of times,
-/// and a name is found by one look into a map of the declarations in force.
+/// Of all causes of refusal the one with the least place is told, and of several at one place the
+/// first in the order of `TypeError`; where there is none, the tree has a program. The program is
+/// well formed if each expression of the tree has few enough operators, as in every tree that the
+/// parser reads. Each part of the tree is visited a fixed number of times, and a name is found by
+/// one look into a map of the declarations in force.
 pub fn elaborate(alloc: Global, tree: &Tree, length: u32) -> Result<Program, TypeError>
     ensures exact { Gives cause (λ p. p) result (elaboration_of tree.now.items length) }
     ensures well_formed { IsTrue (items_have_few tree.now.items) → IfOk result IsWellFormed }
@@ -66,9 +67,12 @@ struct Procedures {
 
 // What comes of all items, but for `main`.
 fn procedures_of(alloc: Global, items: &[Item]) -> Result<Procedures, AllocError>
-    ensures procs { IfOk result (λ made. made.procs ≡ procs_of (declarations 0 0 items.now) (count_globals items.now) 0 items.now) }
+    ensures procs { IfOk result
+        (λ made. made.procs ≡ procs_of (declarations 0 0 items.now) (count_globals items.now) 0
+        items.now) }
     ensures checks { IfOk result (λ made. made.checks ≡ checks_in items.now) }
-    ensures least { IfOk result (λ made. made.least ≡ least_of None (declaration_faults [] 0 0 items.now
+    ensures least { IfOk result
+        (λ made. made.least ≡ least_of None (declaration_faults [] 0 0 items.now
         ++ prototype_faults (bodies 0 items.now) items.now
         ++ procs_faults (declarations 0 0 items.now) (count_globals items.now) 0 items.now)) }
 {
@@ -85,11 +89,13 @@ fn procedures_of(alloc: Global, items: &[Item]) -> Result<Procedures, AllocError
     })
 }
 
-// What elaborates the procedures of a text whose names are declared, behind the faults of its prototypes.
+// What elaborates the procedures of a text whose names are declared, behind the faults of its
+// prototypes.
 fn elaborator_of(text: Declarations, items: &[Item]) -> Elaborator
     requires { text.bodies ≡ top text.bodies ∷ [] }
     ensures scopes { result.env.scopes ≡ text.scopes }
-    ensures least { result.least ≡ least_of text.least (prototype_faults (top text.bodies) items.now) }
+    ensures least { result.least
+        ≡ least_of text.least (prototype_faults (top text.bodies) items.now) }
 {
     let Declarations {
         alloc,

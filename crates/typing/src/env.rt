@@ -13,7 +13,8 @@ use crate::sums::sum;
 use std::alloc::{AllocError, Global};
 use syntax_tree::Name;
 
-/// Where a line stands: in no loop, in the body of one, or in the step of one, which nothing leaves.
+/// Where a line stands: in no loop, in the body of one, or in the step of one, which nothing
+/// leaves.
 #[derive(Clone, Copy)]
 pub(crate) enum Place {
     Outside,

@@ -13,17 +13,19 @@ pub enum Limited {
     Cases,
 }
 
-/// Why a tree has no program, with its place as an offset in bytes. Of several causes the one with the least
-/// place is told, and of several at one place the first in this order.
+/// Why a tree has no program, with its place as an offset in bytes. Of several causes the one with
+/// the least place is told, and of several at one place the first in this order.
 #[derive(Clone, Copy, Debug, PartialEq, Eq, Error)]
 pub enum TypeError {
-    /// A name that means no variable, or no procedure, where one is wanted; `break` or `continue` outside a loop.
+    /// A name that means no variable, or no procedure, where one is wanted; `break` or `continue`
+    /// outside a loop.
     #[error("unknown at {0}")]
     Unknown(u32),
     /// A second declaration in one scope, or the declaration of a special name.
     #[error("declared twice at {0}")]
     Twice(u32),
-    /// A wrong number of arguments or parameters, a call of `main`, a value returned where none may be.
+    /// A wrong number of arguments or parameters, a call of `main`, a value returned where none may
+    /// be.
     #[error("arity at {0}")]
     Arity(u32),
     /// A call without a value where one is wanted.

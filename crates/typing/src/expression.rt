@@ -100,7 +100,8 @@ impl Elaborator {
     pub(crate) fn variable(&mut self, at: u32, name: &Name) -> u32
         ensures col { result ≡ column_of self.old.env.scopes name.now }
         ensures env { self.new.env ≡ self.old.env }
-        ensures least { self.new.least ≡ least_of self.old.least (variable_faults self.old.env at name.now) }
+        ensures least { self.new.least
+            ≡ least_of self.old.least (variable_faults self.old.env at name.now) }
     {
         let variable = self.env.variable_of(name);
         note_if(&mut self.least, variable.is_none(), TypeError::Unknown(at));
@@ -111,7 +112,9 @@ impl Elaborator {
     pub(crate) fn value_callee(&mut self, at: u32, name: &Name, count: usize, right: bool) -> Callee
         ensures callee { result ≡ callee_of self.old.env.scopes name.now }
         ensures env { self.new.env ≡ self.old.env }
-        ensures least { self.new.least ≡ least_of self.old.least (value_call_faults (callee_of self.old.env.scopes name.now) right at name.now count) }
+        ensures least { self.new.least
+            ≡ least_of self.old.least
+            (value_call_faults (callee_of self.old.env.scopes name.now) right at name.now count) }
     {
         let callee = self.env.callee_of(name);
         match callee {
@@ -143,7 +146,8 @@ impl Elaborator {
     fn temporary(&mut self, at: u32) -> Result<u32, AllocError>
         ensures col { IfOk result (λ col. col ≡ self.old.env.next) }
         ensures env { OnOk result (self.new.env ≡ with_columns_taken 1 self.old.env) }
-        ensures least { OnOk result (self.new.least ≡ least_of self.old.least (slot_faults self.old.env at)) }
+        ensures least { OnOk result
+            (self.new.least ≡ least_of self.old.least (slot_faults self.old.env at)) }
     {
         let is_full = self.env.next == self.env.full;
         note_if(
@@ -163,17 +167,19 @@ impl Elaborator {
         out: &mut Items<Stmt>,
     ) -> Result<u32, AllocError>
         ensures col { IfOk result (λ col. col ≡ self.old.env.next) }
-        ensures calls { OnOk result (out.new ≡ out.old ++ call_statement callee args self.old.env.next ∷ []) }
+        ensures calls { OnOk result
+            (out.new ≡ out.old ++ call_statement callee args self.old.env.next ∷ []) }
         ensures env { OnOk result (self.new.env ≡ with_columns_taken 1 self.old.env) }
-        ensures least { OnOk result (self.new.least ≡ least_of self.old.least (slot_faults self.old.env at)) }
+        ensures least { OnOk result
+            (self.new.least ≡ least_of self.old.least (slot_faults self.old.env at)) }
     {
         let col = self.temporary(at)?;
         out.push(call_statement(callee, args, col))?;
         Ok(col)
     }
 
-    /// The expression of the core; the statements of its calls are added. `right` says whether it stands in the
-    /// right operand of `&&` or `||`.
+    /// The expression of the core; the statements of its calls are added. `right` says whether it
+    /// stands in the right operand of `&&` or `||`.
     #[cycle(expression)]
     pub(crate) fn expression(
         &mut self,
@@ -182,9 +188,14 @@ impl Elaborator {
         out: &mut Items<Stmt>,
     ) -> Result<Core, AllocError>
         ensures term { IfOk result (λ term. term ≡ term_in self.old.env (source_expr_of e.now)) }
-        ensures calls { OnOk result (out.new ≡ out.old ++ calls_in self.old.env (source_expr_of e.now)) }
-        ensures env { OnOk result (self.new.env ≡ with_columns_taken (temporaries (source_expr_of e.now)) self.old.env) }
-        ensures least { OnOk result (self.new.least ≡ least_of self.old.least (expression_faults self.old.env right (source_expr_of e.now))) }
+        ensures calls { OnOk result
+            (out.new ≡ out.old ++ calls_in self.old.env (source_expr_of e.now)) }
+        ensures env { OnOk result
+            (self.new.env ≡ with_columns_taken (temporaries (source_expr_of e.now)) self.old.env) }
+        ensures least { OnOk result
+            (self.new.least
+            ≡ least_of self.old.least
+            (expression_faults self.old.env right (source_expr_of e.now))) }
     {
         match e {
             Expr::Lit(_, value) => Ok(Core::Lit(*value)),
@@ -215,10 +226,18 @@ impl Elaborator {
         right: bool,
         out: &mut Items<Stmt>,
     ) -> Result<Items<Core>, AllocError>
-        ensures terms { IfOk result (λ terms. terms ≡ terms_in self.old.env (source_exprs_of args.now)) }
-        ensures calls { OnOk result (out.new ≡ out.old ++ all_calls_in self.old.env (source_exprs_of args.now)) }
-        ensures env { OnOk result (self.new.env ≡ with_columns_taken (all_temporaries (source_exprs_of args.now)) self.old.env) }
-        ensures least { OnOk result (self.new.least ≡ least_of self.old.least (all_expression_faults self.old.env right (source_exprs_of args.now) ++ joint_faults self.old.env (source_exprs_of args.now))) }
+        ensures terms { IfOk result
+            (λ terms. terms ≡ terms_in self.old.env (source_exprs_of args.now)) }
+        ensures calls { OnOk result
+            (out.new ≡ out.old ++ all_calls_in self.old.env (source_exprs_of args.now)) }
+        ensures env { OnOk result
+            (self.new.env ≡ with_columns_taken (all_temporaries (source_exprs_of args.now))
+            self.old.env) }
+        ensures least { OnOk result
+            (self.new.least
+            ≡ least_of self.old.least
+            (all_expression_faults self.old.env right (source_exprs_of args.now)
+            ++ joint_faults self.old.env (source_exprs_of args.now))) }
     {
         let terms = self.expressions(args, right, out)?;
         note_joint(&mut self.least, args, terms.as_slice());
@@ -233,10 +252,17 @@ impl Elaborator {
         right: bool,
         out: &mut Items<Stmt>,
     ) -> Result<Items<Core>, AllocError>
-        ensures terms { IfOk result (λ terms. terms ≡ terms_in self.old.env (source_exprs_of args.now)) }
-        ensures calls { OnOk result (out.new ≡ out.old ++ all_calls_in self.old.env (source_exprs_of args.now)) }
-        ensures env { OnOk result (self.new.env ≡ with_columns_taken (all_temporaries (source_exprs_of args.now)) self.old.env) }
-        ensures least { OnOk result (self.new.least ≡ least_of self.old.least (all_expression_faults self.old.env right (source_exprs_of args.now))) }
+        ensures terms { IfOk result
+            (λ terms. terms ≡ terms_in self.old.env (source_exprs_of args.now)) }
+        ensures calls { OnOk result
+            (out.new ≡ out.old ++ all_calls_in self.old.env (source_exprs_of args.now)) }
+        ensures env { OnOk result
+            (self.new.env ≡ with_columns_taken (all_temporaries (source_exprs_of args.now))
+            self.old.env) }
+        ensures least { OnOk result
+            (self.new.least
+            ≡ least_of self.old.least
+            (all_expression_faults self.old.env right (source_exprs_of args.now))) }
     {
         let mut terms = Items::new(self.alloc);
         for arg in args {

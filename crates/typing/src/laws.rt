@@ -6,7 +6,8 @@ pub fn elaborations_are_unique()
     ensures { ElaborationIsUnique }
 {}
 
-/// What `elaborate` is stated to come to is a tree's program exactly where the tree has that program.
+/// What `elaborate` is stated to come to is a tree's program exactly where the tree has that
+/// program.
 pub fn elaborations_are_answered()
     ensures { ElaborationAnswers }
 {}

@@ -1,6 +1,6 @@
-//! From the tree of a text to its core program: what each name means, which columns a procedure has, and which
-//! statements its lines become. `specs` says it on the tree: `Elaborated` has the program, and `Faults` why a
-//! text has none.
+//! From the tree of a text to its core program: what each name means, which columns a procedure
+//! has, and which statements its lines become. `specs` says it on the tree: `Elaborated` has the
+//! program, and `Faults` why a text has none.
 #![tactic(auto)]
 
 mod act;

@@ -44,9 +44,13 @@ impl Elaborator {
     /// The statements of lines in their order.
     #[cycle(line)]
     pub(crate) fn lines(&mut self, lines: &[Line], out: &mut Items<Stmt>) -> Result<(), AllocError>
-        ensures statements { OnOk result (out.new ≡ out.old ++ all_statements_of self.old.env (source_lines_of lines.now)) }
-        ensures env { OnOk result (self.new.env ≡ after_all self.old.env (source_lines_of lines.now)) }
-        ensures least { OnOk result (self.new.least ≡ least_of self.old.least (all_faults_in self.old.env (source_lines_of lines.now))) }
+        ensures statements { OnOk result
+            (out.new ≡ out.old ++ all_statements_of self.old.env (source_lines_of lines.now)) }
+        ensures env { OnOk result
+            (self.new.env ≡ after_all self.old.env (source_lines_of lines.now)) }
+        ensures least { OnOk result
+            (self.new.least
+            ≡ least_of self.old.least (all_faults_in self.old.env (source_lines_of lines.now))) }
     {
         for line in lines {
             self.line(line, out)?;
@@ -56,9 +60,12 @@ impl Elaborator {
 
     #[cycle(line)]
     fn line(&mut self, line: &Line, out: &mut Items<Stmt>) -> Result<(), AllocError>
-        ensures statements { OnOk result (out.new ≡ out.old ++ statements_of self.old.env (source_line_of line.now)) }
+        ensures statements { OnOk result
+            (out.new ≡ out.old ++ statements_of self.old.env (source_line_of line.now)) }
         ensures env { OnOk result (self.new.env ≡ after self.old.env (source_line_of line.now)) }
-        ensures least { OnOk result (self.new.least ≡ least_of self.old.least (faults_in self.old.env (source_line_of line.now))) }
+        ensures least { OnOk result
+            (self.new.least
+            ≡ least_of self.old.least (faults_in self.old.env (source_line_of line.now))) }
     {
         match line {
             Line::Block(lines) => self.block(lines.as_slice(), out),
@@ -94,9 +101,18 @@ impl Elaborator {
         no: &[Line],
         out: &mut Items<Stmt>,
     ) -> Result<(), AllocError>
-        ensures statements { OnOk result (out.new ≡ out.old ++ statements_of self.old.env (If (source_expr_of cond.now) (source_lines_of yes.now) (source_lines_of no.now))) }
-        ensures env { OnOk result (self.new.env ≡ after self.old.env (If (source_expr_of cond.now) (source_lines_of yes.now) (source_lines_of no.now))) }
-        ensures least { OnOk result (self.new.least ≡ least_of self.old.least (faults_in self.old.env (If (source_expr_of cond.now) (source_lines_of yes.now) (source_lines_of no.now)))) }
+        ensures statements { OnOk result
+            (out.new ≡ out.old ++ statements_of self.old.env
+            (If (source_expr_of cond.now) (source_lines_of yes.now) (source_lines_of no.now))) }
+        ensures env { OnOk result
+            (self.new.env
+            ≡ after self.old.env
+            (If (source_expr_of cond.now) (source_lines_of yes.now) (source_lines_of no.now))) }
+        ensures least { OnOk result
+            (self.new.least
+            ≡ least_of self.old.least
+            (faults_in self.old.env
+            (If (source_expr_of cond.now) (source_lines_of yes.now) (source_lines_of no.now)))) }
     {
         let cond = self.condition(cond, out)?;
         let yes = self.scoped(yes)?;
@@ -115,9 +131,21 @@ impl Elaborator {
         body: &[Line],
         out: &mut Items<Stmt>,
     ) -> Result<(), AllocError>
-        ensures statements { OnOk result (out.new ≡ out.old ++ statements_of self.old.env (Loop (source_lines_of init.now) (source_expr_of cond.now) (source_lines_of step.now) (source_lines_of body.now) false)) }
-        ensures env { OnOk result (self.new.env ≡ after self.old.env (Loop (source_lines_of init.now) (source_expr_of cond.now) (source_lines_of step.now) (source_lines_of body.now) false)) }
-        ensures least { OnOk result (self.new.least ≡ least_of self.old.least (faults_in self.old.env (Loop (source_lines_of init.now) (source_expr_of cond.now) (source_lines_of step.now) (source_lines_of body.now) false))) }
+        ensures statements { OnOk result
+            (out.new ≡ out.old ++ statements_of self.old.env
+            (Loop (source_lines_of init.now) (source_expr_of cond.now) (source_lines_of step.now)
+            (source_lines_of body.now) false)) }
+        ensures env { OnOk result
+            (self.new.env
+            ≡ after self.old.env
+            (Loop (source_lines_of init.now) (source_expr_of cond.now) (source_lines_of step.now)
+            (source_lines_of body.now) false)) }
+        ensures least { OnOk result
+            (self.new.least
+            ≡ least_of self.old.least
+            (faults_in self.old.env
+            (Loop (source_lines_of init.now) (source_expr_of cond.now) (source_lines_of step.now)
+            (source_lines_of body.now) false))) }
     {
         let place = self.env.place;
         self.begin_loop(init, out)?;
@@ -137,9 +165,21 @@ impl Elaborator {
         body: &[Line],
         out: &mut Items<Stmt>,
     ) -> Result<(), AllocError>
-        ensures statements { OnOk result (out.new ≡ out.old ++ statements_of self.old.env (Loop (source_lines_of init.now) (source_expr_of cond.now) (source_lines_of step.now) (source_lines_of body.now) true)) }
-        ensures env { OnOk result (self.new.env ≡ after self.old.env (Loop (source_lines_of init.now) (source_expr_of cond.now) (source_lines_of step.now) (source_lines_of body.now) true)) }
-        ensures least { OnOk result (self.new.least ≡ least_of self.old.least (faults_in self.old.env (Loop (source_lines_of init.now) (source_expr_of cond.now) (source_lines_of step.now) (source_lines_of body.now) true))) }
+        ensures statements { OnOk result
+            (out.new ≡ out.old ++ statements_of self.old.env
+            (Loop (source_lines_of init.now) (source_expr_of cond.now) (source_lines_of step.now)
+            (source_lines_of body.now) true)) }
+        ensures env { OnOk result
+            (self.new.env
+            ≡ after self.old.env
+            (Loop (source_lines_of init.now) (source_expr_of cond.now) (source_lines_of step.now)
+            (source_lines_of body.now) true)) }
+        ensures least { OnOk result
+            (self.new.least
+            ≡ least_of self.old.least
+            (faults_in self.old.env
+            (Loop (source_lines_of init.now) (source_expr_of cond.now) (source_lines_of step.now)
+            (source_lines_of body.now) true))) }
     {
         let place = self.env.place;
         self.begin_loop(init, out)?;
@@ -151,9 +191,16 @@ impl Elaborator {
 
     #[cycle(line)]
     fn block(&mut self, lines: &[Line], out: &mut Items<Stmt>) -> Result<(), AllocError>
-        ensures statements { OnOk result (out.new ≡ out.old ++ all_statements_of (with_scope self.old.env) (source_lines_of lines.now)) }
-        ensures env { OnOk result (self.new.env ≡ without_scope (after_all (with_scope self.old.env) (source_lines_of lines.now))) }
-        ensures least { OnOk result (self.new.least ≡ least_of self.old.least (all_faults_in (with_scope self.old.env) (source_lines_of lines.now))) }
+        ensures statements { OnOk result
+            (out.new ≡ out.old ++ all_statements_of (with_scope self.old.env)
+            (source_lines_of lines.now)) }
+        ensures env { OnOk result
+            (self.new.env
+            ≡ without_scope (after_all (with_scope self.old.env) (source_lines_of lines.now))) }
+        ensures least { OnOk result
+            (self.new.least
+            ≡ least_of self.old.least
+            (all_faults_in (with_scope self.old.env) (source_lines_of lines.now))) }
     {
         self.env.open(self.alloc)?;
         self.lines(lines, out)?;
@@ -164,9 +211,16 @@ impl Elaborator {
     /// The statements of lines in a scope of their own.
     #[cycle(line)]
     fn scoped(&mut self, lines: &[Line]) -> Result<Items<Stmt>, AllocError>
-        ensures statements { IfOk result (λ made. made ≡ all_statements_of (with_scope self.old.env) (source_lines_of lines.now)) }
-        ensures env { OnOk result (self.new.env ≡ without_scope (after_all (with_scope self.old.env) (source_lines_of lines.now))) }
-        ensures least { OnOk result (self.new.least ≡ least_of self.old.least (all_faults_in (with_scope self.old.env) (source_lines_of lines.now))) }
+        ensures statements { IfOk result
+            (λ made. made ≡ all_statements_of (with_scope self.old.env)
+            (source_lines_of lines.now)) }
+        ensures env { OnOk result
+            (self.new.env
+            ≡ without_scope (after_all (with_scope self.old.env) (source_lines_of lines.now))) }
+        ensures least { OnOk result
+            (self.new.least
+            ≡ least_of self.old.least
+            (all_faults_in (with_scope self.old.env) (source_lines_of lines.now))) }
     {
         let mut out = Items::new(self.alloc);
         self.env.open(self.alloc)?;
@@ -178,9 +232,15 @@ impl Elaborator {
     // The statements of a loop's body, behind which a place is taken again.
     #[cycle(line)]
     fn body(&mut self, lines: &[Line], behind: Place) -> Result<Items<Stmt>, AllocError>
-        ensures statements { IfOk result (λ made. made ≡ all_statements_of (in_body self.old.env) (source_lines_of lines.now)) }
-        ensures env { OnOk result (self.new.env ≡ behind_body behind (after_all (in_body self.old.env) (source_lines_of lines.now))) }
-        ensures least { OnOk result (self.new.least ≡ least_of self.old.least (all_faults_in (in_body self.old.env) (source_lines_of lines.now))) }
+        ensures statements { IfOk result
+            (λ made. made ≡ all_statements_of (in_body self.old.env) (source_lines_of lines.now)) }
+        ensures env { OnOk result
+            (self.new.env
+            ≡ behind_body behind (after_all (in_body self.old.env) (source_lines_of lines.now))) }
+        ensures least { OnOk result
+            (self.new.least
+            ≡ least_of self.old.least
+            (all_faults_in (in_body self.old.env) (source_lines_of lines.now))) }
     {
         let place = self.env.place.body();
         self.env.set_place(place);
@@ -192,9 +252,15 @@ impl Elaborator {
     // The statements of a loop's step, behind which a place is taken again.
     #[cycle(line)]
     fn step(&mut self, lines: &[Line], behind: Place) -> Result<Items<Stmt>, AllocError>
-        ensures statements { IfOk result (λ made. made ≡ all_statements_of (in_step self.old.env) (source_lines_of lines.now)) }
-        ensures env { OnOk result (self.new.env ≡ with_place behind (after_all (in_step self.old.env) (source_lines_of lines.now))) }
-        ensures least { OnOk result (self.new.least ≡ least_of self.old.least (all_faults_in (in_step self.old.env) (source_lines_of lines.now))) }
+        ensures statements { IfOk result
+            (λ made. made ≡ all_statements_of (in_step self.old.env) (source_lines_of lines.now)) }
+        ensures env { OnOk result
+            (self.new.env
+            ≡ with_place behind (after_all (in_step self.old.env) (source_lines_of lines.now))) }
+        ensures least { OnOk result
+            (self.new.least
+            ≡ least_of self.old.least
+            (all_faults_in (in_step self.old.env) (source_lines_of lines.now))) }
     {
         let mut made = Items::new(self.alloc);
         self.env.set_place(Place::InStep);
@@ -206,9 +272,15 @@ impl Elaborator {
     // A loop with its initialiser is a scope.
     #[cycle(line)]
     fn begin_loop(&mut self, init: &[Line], out: &mut Items<Stmt>) -> Result<(), AllocError>
-        ensures statements { OnOk result (out.new ≡ out.old ++ all_statements_of (with_scope self.old.env) (source_lines_of init.now)) }
-        ensures env { OnOk result (self.new.env ≡ after_all (with_scope self.old.env) (source_lines_of init.now)) }
-        ensures least { OnOk result (self.new.least ≡ least_of self.old.least (all_faults_in (with_scope self.old.env) (source_lines_of init.now))) }
+        ensures statements { OnOk result
+            (out.new ≡ out.old ++ all_statements_of (with_scope self.old.env)
+            (source_lines_of init.now)) }
+        ensures env { OnOk result
+            (self.new.env ≡ after_all (with_scope self.old.env) (source_lines_of init.now)) }
+        ensures least { OnOk result
+            (self.new.least
+            ≡ least_of self.old.least
+            (all_faults_in (with_scope self.old.env) (source_lines_of init.now))) }
     {
         self.env.open(self.alloc)?;
         self.lines(init, out)
@@ -226,10 +298,16 @@ impl Elaborator {
 
     // The condition of a loop, and the statements of its calls.
     fn test(&mut self, cond: &Expr) -> Result<(Items<Stmt>, Core), AllocError>
-        ensures calls { IfOk result (λ test. test.0 ≡ calls_in self.old.env (source_expr_of cond.now)) }
-        ensures term { IfOk result (λ test. test.1 ≡ term_in self.old.env (source_expr_of cond.now)) }
-        ensures env { OnOk result (self.new.env ≡ with_columns_taken (temporaries (source_expr_of cond.now)) self.old.env) }
-        ensures least { OnOk result (self.new.least ≡ least_of self.old.least (condition_faults self.old.env (source_expr_of cond.now))) }
+        ensures calls { IfOk result
+            (λ test. test.0 ≡ calls_in self.old.env (source_expr_of cond.now)) }
+        ensures term { IfOk result
+            (λ test. test.1 ≡ term_in self.old.env (source_expr_of cond.now)) }
+        ensures env { OnOk result
+            (self.new.env ≡ with_columns_taken (temporaries (source_expr_of cond.now))
+            self.old.env) }
+        ensures least { OnOk result
+            (self.new.least
+            ≡ least_of self.old.least (condition_faults self.old.env (source_expr_of cond.now))) }
     {
         let mut pre = Items::new(self.alloc);
         let cond = self.condition(cond, &mut pre)?;
@@ -243,9 +321,17 @@ impl Elaborator {
         value: &Expr,
         out: &mut Items<Stmt>,
     ) -> Result<(), AllocError>
-        ensures statements { OnOk result (out.new ≡ out.old ++ put_in self.old.env (column_of self.old.env.scopes name.now) (source_expr_of value.now)) }
-        ensures env { OnOk result (self.new.env ≡ with_columns_taken (put_temporaries (source_expr_of value.now)) self.old.env) }
-        ensures least { OnOk result (self.new.least ≡ least_of self.old.least (variable_faults self.old.env at name.now ++ put_faults self.old.env (source_expr_of value.now))) }
+        ensures statements { OnOk result
+            (out.new ≡ out.old ++ put_in self.old.env (column_of self.old.env.scopes name.now)
+            (source_expr_of value.now)) }
+        ensures env { OnOk result
+            (self.new.env ≡ with_columns_taken (put_temporaries (source_expr_of value.now))
+            self.old.env) }
+        ensures least { OnOk result
+            (self.new.least
+            ≡ least_of self.old.least
+            (variable_faults self.old.env at name.now ++ put_faults self.old.env
+            (source_expr_of value.now))) }
     {
         let col = self.variable(at, name);
         self.put(col, value, out)
@@ -258,9 +344,18 @@ impl Elaborator {
         init: &Option<Expr>,
         out: &mut Items<Stmt>,
     ) -> Result<(), AllocError>
-        ensures statements { OnOk result (out.new ≡ out.old ++ local_statements (with_variable name.now self.old.env) self.old.env.next (option_map source_expr_of init.now)) }
-        ensures env { OnOk result (self.new.env ≡ with_value (option_map source_expr_of init.now) (with_variable name.now self.old.env)) }
-        ensures least { OnOk result (self.new.least ≡ least_of self.old.least (declare_faults self.old.env at name.now ++ init_faults (with_variable name.now self.old.env) (option_map source_expr_of init.now))) }
+        ensures statements { OnOk result
+            (out.new ≡ out.old ++ local_statements (with_variable name.now self.old.env)
+            self.old.env.next (option_map source_expr_of init.now)) }
+        ensures env { OnOk result
+            (self.new.env ≡ with_value (option_map source_expr_of init.now)
+            (with_variable name.now self.old.env)) }
+        ensures least { OnOk result
+            (self.new.least
+            ≡ least_of self.old.least
+            (declare_faults self.old.env at name.now
+            ++ init_faults (with_variable name.now self.old.env)
+            (option_map source_expr_of init.now))) }
     {
         let col = self.declare(at, name)?;
         match init {
@@ -276,7 +371,8 @@ impl Elaborator {
     pub(crate) fn declare(&mut self, at: u32, name: &Name) -> Result<u32, AllocError>
         ensures col { IfOk result (λ col. col ≡ self.old.env.next) }
         ensures env { OnOk result (self.new.env ≡ with_variable name.now self.old.env) }
-        ensures least { OnOk result (self.new.least ≡ least_of self.old.least (declare_faults self.old.env at name.now)) }
+        ensures least { OnOk result
+            (self.new.least ≡ least_of self.old.least (declare_faults self.old.env at name.now)) }
     {
         let is_twice = special_of(name.as_slice()).is_some()
             || self.env.scopes.is_declared_here(name);
@@ -308,9 +404,16 @@ impl Elaborator {
         value: &Option<Expr>,
         out: &mut Items<Stmt>,
     ) -> Result<(), AllocError>
-        ensures statements { OnOk result (out.new ≡ out.old ++ (value_statements self.old.env self.old.env.ret (option_map source_expr_of value.now) ++ Stmt.Return ∷ [])) }
-        ensures env { OnOk result (self.new.env ≡ with_value (option_map source_expr_of value.now) self.old.env) }
-        ensures least { OnOk result (self.new.least ≡ least_of self.old.least (return_faults self.old.env at (option_map source_expr_of value.now))) }
+        ensures statements { OnOk result
+            (out.new ≡ out.old
+            ++ (value_statements self.old.env self.old.env.ret (option_map source_expr_of value.now)
+            ++ Stmt.Return ∷ [])) }
+        ensures env { OnOk result
+            (self.new.env ≡ with_value (option_map source_expr_of value.now) self.old.env) }
+        ensures least { OnOk result
+            (self.new.least
+            ≡ least_of self.old.least
+            (return_faults self.old.env at (option_map source_expr_of value.now))) }
     {
         if let Some(value) = value {
             let is_void = !self.env.returns;

@@ -1,5 +1,5 @@
-/// A procedure as its calls see it: its place among the procedures, how many parameters it has, and whether it
-/// returns a value.
+/// A procedure as its calls see it: its place among the procedures, how many parameters it has, and
+/// whether it returns a value.
 #[derive(Clone, Copy)]
 pub(crate) struct Signature {
     pub(crate) number: u32,

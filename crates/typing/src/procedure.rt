@@ -28,7 +28,15 @@ fn proc(
     columns: Items<Column>,
     body: Items<Stmt>,
 ) -> Result<Proc, AllocError>
-    ensures { IfOk result (λ made. made ≡ record { name = name.now; returns = returns; params = params; columns = columns; body = body }) }
+    ensures { IfOk result
+        (λ made. made
+        ≡ record {
+          name = name.now;
+          returns = returns;
+          params = params;
+          columns = columns;
+          body = body;
+        }) }
 {
     Ok(Proc {
         name: name.clone()?,
@@ -48,9 +56,14 @@ impl Elaborator {
         checks: &mut Items<u32>,
     ) -> Result<Items<Proc>, AllocError>
         requires { self.old.env.scopes ≡ top self.old.env.scopes ∷ [] }
-        ensures procs { IfOk result (λ procs. procs ≡ procs_of (top self.old.env.scopes) globals (length checks.old) items.now) }
+        ensures procs { IfOk result
+            (λ procs. procs ≡ procs_of (top self.old.env.scopes) globals (length checks.old)
+            items.now) }
         ensures checks { OnOk result (checks.new ≡ checks.old ++ checks_in items.now) }
-        ensures least { OnOk result (self.new.least ≡ least_of self.old.least (procs_faults (top self.old.env.scopes) globals (length checks.old) items.now)) }
+        ensures least { OnOk result
+            (self.new.least
+            ≡ least_of self.old.least
+            (procs_faults (top self.old.env.scopes) globals (length checks.old) items.now)) }
     {
         let mut procs = Items::new(self.alloc);
         for item in items {
@@ -68,9 +81,14 @@ impl Elaborator {
     ) -> Result<(), AllocError>
         requires { self.old.env.scopes ≡ top self.old.env.scopes ∷ [] }
         ensures scopes { OnOk result (self.new.env.scopes ≡ self.old.env.scopes) }
-        ensures procs { OnOk result (procs.new ≡ procs.old ++ procs_of (top self.old.env.scopes) globals (length checks.old) (item.now ∷ [])) }
+        ensures procs { OnOk result
+            (procs.new ≡ procs.old ++ procs_of (top self.old.env.scopes) globals (length checks.old)
+            (item.now ∷ [])) }
         ensures checks { OnOk result (checks.new ≡ checks.old ++ checks_in (item.now ∷ [])) }
-        ensures least { OnOk result (self.new.least ≡ least_of self.old.least (procs_faults (top self.old.env.scopes) globals (length checks.old) (item.now ∷ []))) }
+        ensures least { OnOk result
+            (self.new.least
+            ≡ least_of self.old.least
+            (procs_faults (top self.old.env.scopes) globals (length checks.old) (item.now ∷ []))) }
     {
         match item {
             Item::Global { .. } => Ok(()),
@@ -111,8 +129,14 @@ impl Elaborator {
     ) -> Result<Proc, AllocError>
         requires { self.old.env.scopes ≡ top self.old.env.scopes ∷ [] }
         ensures scopes { OnOk result (self.new.env.scopes ≡ self.old.env.scopes) }
-        ensures proc { IfOk result (λ made. made ≡ proc_of (top self.old.env.scopes) globals number name.now returns params.now lines.now) }
-        ensures least { OnOk result (self.new.least ≡ least_of self.old.least (body_faults (top self.old.env.scopes) globals number returns params.now lines.now end)) }
+        ensures proc { IfOk result
+            (λ made. made ≡ proc_of (top self.old.env.scopes) globals number name.now returns
+            params.now lines.now) }
+        ensures least { OnOk result
+            (self.new.least
+            ≡ least_of self.old.least
+            (body_faults (top self.old.env.scopes) globals number returns params.now lines.now
+            end)) }
     {
         let columns = body_columns(self.alloc, params, lines)?;
         self.begin(globals, number, returns, columns.len())?;
@@ -124,9 +148,15 @@ impl Elaborator {
 
     // The statements of a procedure's lines, of which there may be too many.
     fn statements(&mut self, lines: &[Line], end: u32) -> Result<Items<Stmt>, AllocError>
-        ensures statements { IfOk result (λ body. body ≡ all_statements_of self.old.env (source_lines_of lines.now)) }
-        ensures env { OnOk result (self.new.env ≡ after_all self.old.env (source_lines_of lines.now)) }
-        ensures least { OnOk result (self.new.least ≡ least_of self.old.least (all_faults_in self.old.env (source_lines_of lines.now) ++ node_faults self.old.env (source_lines_of lines.now) end)) }
+        ensures statements { IfOk result
+            (λ body. body ≡ all_statements_of self.old.env (source_lines_of lines.now)) }
+        ensures env { OnOk result
+            (self.new.env ≡ after_all self.old.env (source_lines_of lines.now)) }
+        ensures least { OnOk result
+            (self.new.least
+            ≡ least_of self.old.least
+            (all_faults_in self.old.env (source_lines_of lines.now) ++ node_faults self.old.env
+            (source_lines_of lines.now) end)) }
     {
         let mut body = Items::new(self.alloc);
         self.lines(lines, &mut body)?;
@@ -144,7 +174,8 @@ impl Elaborator {
         columns: usize,
     ) -> Result<(), AllocError>
         requires { self.old.env.scopes ≡ top self.old.env.scopes ∷ [] }
-        ensures env { OnOk result (self.new.env ≡ beginning (top self.old.env.scopes) globals number returns columns) }
+        ensures env { OnOk result
+            (self.new.env ≡ beginning (top self.old.env.scopes) globals number returns columns) }
         ensures least { OnOk result (self.new.least ≡ self.old.least) }
     {
         self.env.scopes.open(self.alloc)?;
@@ -160,7 +191,8 @@ impl Elaborator {
 
     fn params(&mut self, params: &[Param]) -> Result<(), AllocError>
         ensures env { OnOk result (self.new.env ≡ with_params self.old.env params.now) }
-        ensures least { OnOk result (self.new.least ≡ least_of self.old.least (params_faults self.old.env params.now)) }
+        ensures least { OnOk result
+            (self.new.least ≡ least_of self.old.least (params_faults self.old.env params.now)) }
     {
         for param in params {
             let _ = self.declare(param.at, &param.name)?;

@@ -26,9 +26,14 @@ impl Elaborator {
         e: &Expr,
         out: &mut Items<Stmt>,
     ) -> Result<(), AllocError>
-        ensures statements { OnOk result (out.new ≡ out.old ++ put_in self.old.env col (source_expr_of e.now)) }
-        ensures env { OnOk result (self.new.env ≡ with_columns_taken (put_temporaries (source_expr_of e.now)) self.old.env) }
-        ensures least { OnOk result (self.new.least ≡ least_of self.old.least (put_faults self.old.env (source_expr_of e.now))) }
+        ensures statements { OnOk result
+            (out.new ≡ out.old ++ put_in self.old.env col (source_expr_of e.now)) }
+        ensures env { OnOk result
+            (self.new.env ≡ with_columns_taken (put_temporaries (source_expr_of e.now))
+            self.old.env) }
+        ensures least { OnOk result
+            (self.new.least
+            ≡ least_of self.old.least (put_faults self.old.env (source_expr_of e.now))) }
     {
         match e {
             Expr::Call(at, name, args) => self.put_call(col, *at, name, args.as_slice(), out),
@@ -48,9 +53,20 @@ impl Elaborator {
         args: &[Expr],
         out: &mut Items<Stmt>,
     ) -> Result<(), AllocError>
-        ensures statements { OnOk result (out.new ≡ out.old ++ (all_calls_in self.old.env (source_exprs_of args.now) ++ call_statement (callee_of self.old.env.scopes name.now) (terms_in self.old.env (source_exprs_of args.now)) col ∷ [])) }
-        ensures env { OnOk result (self.new.env ≡ with_columns_taken (all_temporaries (source_exprs_of args.now)) self.old.env) }
-        ensures least { OnOk result (self.new.least ≡ least_of self.old.least (value_call_faults (callee_of self.old.env.scopes name.now) false at name.now (length args.now) ++ all_expression_faults self.old.env false (source_exprs_of args.now) ++ joint_faults self.old.env (source_exprs_of args.now))) }
+        ensures statements { OnOk result
+            (out.new ≡ out.old
+            ++ (all_calls_in self.old.env (source_exprs_of args.now) ++ call_statement
+            (callee_of self.old.env.scopes name.now)
+            (terms_in self.old.env (source_exprs_of args.now)) col ∷ [])) }
+        ensures env { OnOk result
+            (self.new.env ≡ with_columns_taken (all_temporaries (source_exprs_of args.now))
+            self.old.env) }
+        ensures least { OnOk result
+            (self.new.least
+            ≡ least_of self.old.least
+            (value_call_faults (callee_of self.old.env.scopes name.now) false at name.now
+            (length args.now) ++ all_expression_faults self.old.env false (source_exprs_of args.now)
+            ++ joint_faults self.old.env (source_exprs_of args.now))) }
     {
         let callee = self.value_callee(at, name, args.len(), false);
         let terms = self.arguments(args, false, out)?;
@@ -59,9 +75,17 @@ impl Elaborator {
     }
 
     fn set(&mut self, col: u32, e: &Expr, out: &mut Items<Stmt>) -> Result<(), AllocError>
-        ensures statements { OnOk result (out.new ≡ out.old ++ (calls_in self.old.env (source_expr_of e.now) ++ Stmt.Set col (term_in self.old.env (source_expr_of e.now)) ∷ [])) }
-        ensures env { OnOk result (self.new.env ≡ with_columns_taken (temporaries (source_expr_of e.now)) self.old.env) }
-        ensures least { OnOk result (self.new.least ≡ least_of self.old.least (expression_faults self.old.env false (source_expr_of e.now) ++ value_faults self.old.env (source_expr_of e.now))) }
+        ensures statements { OnOk result
+            (out.new ≡ out.old
+            ++ (calls_in self.old.env (source_expr_of e.now)
+            ++ Stmt.Set col (term_in self.old.env (source_expr_of e.now)) ∷ [])) }
+        ensures env { OnOk result
+            (self.new.env ≡ with_columns_taken (temporaries (source_expr_of e.now)) self.old.env) }
+        ensures least { OnOk result
+            (self.new.least
+            ≡ least_of self.old.least
+            (expression_faults self.old.env false (source_expr_of e.now)
+            ++ value_faults self.old.env (source_expr_of e.now))) }
     {
         let value = self.expression(e, false, out)?;
         let many = count_cases(&value).value > MOST_CASES;
@@ -74,9 +98,13 @@ impl Elaborator {
     /// A condition, whose truth or falsity may have too many cases.
     pub(crate) fn condition(&mut self, e: &Expr, out: &mut Items<Stmt>) -> Result<Core, AllocError>
         ensures term { IfOk result (λ term. term ≡ term_in self.old.env (source_expr_of e.now)) }
-        ensures calls { OnOk result (out.new ≡ out.old ++ calls_in self.old.env (source_expr_of e.now)) }
-        ensures env { OnOk result (self.new.env ≡ with_columns_taken (temporaries (source_expr_of e.now)) self.old.env) }
-        ensures least { OnOk result (self.new.least ≡ least_of self.old.least (condition_faults self.old.env (source_expr_of e.now))) }
+        ensures calls { OnOk result
+            (out.new ≡ out.old ++ calls_in self.old.env (source_expr_of e.now)) }
+        ensures env { OnOk result
+            (self.new.env ≡ with_columns_taken (temporaries (source_expr_of e.now)) self.old.env) }
+        ensures least { OnOk result
+            (self.new.least
+            ≡ least_of self.old.least (condition_faults self.old.env (source_expr_of e.now))) }
     {
         let cond = self.expression(e, false, out)?;
         let many = has_many_ways(&cond);

@@ -12,7 +12,8 @@ use std::marker::Model;
 use std::mem::replace;
 use syntax_tree::Name;
 
-/// The declaration that is in force for a name: how many scopes stand around its own, and what the name means.
+/// The declaration that is in force for a name: how many scopes stand around its own, and what the
+/// name means.
 #[derive(Clone, Copy)]
 pub(crate) struct Held {
     depth: usize,
@@ -30,8 +31,8 @@ pub(crate) struct Declaration {
 /// For each name the declaration in force.
 type Index = IndexMap<Name, Option<Held>>;
 
-/// Scopes within scopes, with the declarations of each. A name is found by one look into a map, whatever the number
-/// of scopes; a scope that ends puts back what its declarations hid.
+/// Scopes within scopes, with the declarations of each. A name is found by one look into a map,
+/// whatever the number of scopes; a scope that ends puts back what its declarations hid.
 #[derive(Drop)]
 pub(crate) struct Scopes {
     // the outermost first
@@ -78,7 +79,9 @@ fn declare_in(
     held: Held,
     hidden: Option<Held>,
 ) -> Result<(), AllocError>
-    ensures { OnOk result ((other : List ℕ) → held_by index.new.entries other ≡ after_declaration name.now held hidden (held_by index.old.entries other) other) }
+    ensures { OnOk result
+        ((other : List ℕ) → held_by index.new.entries other ≡ after_declaration name.now held hidden
+        (held_by index.old.entries other) other) }
 {
     if !is_at(hidden, held.depth) {
         index.insert(name.clone()?, Some(held))?;
@@ -112,14 +115,18 @@ fn push_scope(
 /// Puts back what a declaration hid. This takes no memory, since the name has a place in the map.
 fn put_back(declaration: Declaration, index: &mut Index)
     ensures { (lookup (bytes_eq declaration.name) index.old.entries ≡ None → ⊥) → (other : List ℕ) →
-        held_by index.new.entries other ≡ (if bytes_eq declaration.name other then declaration.hidden else held_by index.old.entries other) }
+        held_by index.new.entries other
+        ≡ (if bytes_eq declaration.name other then declaration.hidden
+        else held_by index.old.entries other) }
 {
     let _ = index.insert(declaration.name, declaration.hidden);
 }
 
 /// Puts back what the declarations of a scope hid.
 fn restore(mut scope: Items<Declaration>, index: &mut Index)
-    ensures { (outer : List Scope) → Restores scope outer → IsInForce index.old.entries (map entry_of scope ∷ outer) → IsInForce index.new.entries outer }
+    ensures { (outer : List Scope) → Restores scope outer
+        → IsInForce index.old.entries (map entry_of scope ∷ outer)
+        → IsInForce index.new.entries outer }
 {
     while let Some(declaration) = scope.pop() {
         put_back(declaration, index);
@@ -153,8 +160,8 @@ impl Scopes {
         }
     }
 
-    /// Declares a name in the innermost scope. Where it is declared there already, that declaration stays. After an
-    /// error no scope is left.
+    /// Declares a name in the innermost scope. Where it is declared there already, that declaration
+    /// stays. After an error no scope is left.
     pub(crate) fn declare(
         &mut self,
         alloc: Global,

@@ -2,7 +2,8 @@ ghost use Rattle.std.specs.Prelude.{◌≡◌, ◌≤◌, ◌^◌, ◌+◌, IfEr
 
 use std::alloc::AllocError;
 
-/// The number, where it has 32 bits. No text has so many of anything, so a larger one is told as want of memory.
+/// The number, where it has 32 bits. No text has so many of anything, so a larger one is told as
+/// want of memory.
 pub(crate) fn small(number: usize) -> Result<u32, AllocError>
     ensures same { IfOk result (λ small. small ≡ number) }
     ensures past { IfErr result (λ _. 2 ^ 32 ≤ number) }

@@ -1,4 +1,5 @@
--- Named columns ascend, and what is put together from them and from harvested terms is a vocabulary.
+-- Named columns ascend, and what is put together from them and from harvested terms is a
+-- vocabulary.
 use Rattle.std.proofs.Common.{◌≡◌, ℕ, ◌+◌, ◌<◌, ◌≤◌, List, [], ◌∷◌, ◌++◌, length, Bool, true, false, zero, suc, cond, append-nil, refl, sym, ap, subst, ◌∙◌, arith}
 use Rattle.std.proofs.lemmas.List.Elements.{filter-append}
 use Rattle.std.specs.Prelude.{IsTrue}

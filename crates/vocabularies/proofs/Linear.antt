@@ -1,4 +1,5 @@
--- The terms that are harvested are linear, without a constant, and over the columns of their procedure.
+-- The terms that are harvested are linear, without a constant, and over the columns of their
+-- procedure.
 use Rattle.std.proofs.Common.{◌≡◌, ℕ, ◌+◌, ◌<◌, ◌≤◌, List, [], ◌∷◌, ◌++◌, length, Bool, true, false, cond, map, Option, Some, None, Result, Ok, Err, refl, sym, ap, subst, ◌∙◌, arith, zero, suc, ℤ, pos, negsuc, ◌*ℤ◌}
 use Rattle.std.specs.Prelude.{IsTrue, int_div, option_to_list, unsigned_abs, take, ◌&&◌, ◌==◌, nat_lt, nat_le, is_some, slice_get, min}
 use Rattle.std.proofs.lemmas.List.{length-take}

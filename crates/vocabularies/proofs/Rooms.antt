@@ -66,8 +66,8 @@ pub harvest-made : (body : List Stmt) → harvest_of body ≡ with_terms [] (com
 unfolding harvest_of with_terms
 harvest-made body = room [] (compared_in (code_of body)) (omega arith)
 
--- where the terms of a list are those of its first element and then those of the others: what one element more adds, and what is
--- added at the end
+-- where the terms of a list are those of its first element and then those of the others: what one
+-- element more adds, and what is added at the end
 module _ {X : Type 0} (own : X → List Polynomial) (all : List X → List Polynomial) (parts : (x : X) (rest : List X) → all (x ∷ rest) ≡ own x ++ all rest)
     (none : all [] ≡ []) where
   listed-next : (xs : List X) (i : ℕ) (x : X) (terms next whole : List Polynomial) → i < length xs → x ≡ get_or xs i x

@@ -1,5 +1,5 @@
--- The vocabularies of a program: for the states of a procedure, for the entry and the end of its summary, for pairs of entry and
--- exit, and for where the program starts.
+-- The vocabularies of a program: for the states of a procedure, for the entry and the end of its
+-- summary, for pairs of entry and exit, and for where the program starts.
 use Rattle.std.specs.Prelude.{ℕ, ◌+◌, List, [], ◌∷◌, ◌++◌, length, Bool, true, false}
 use Rattle.std.specs.List.{filter, list_all, range_with_len}
 use Rattle.linear_terms.specs.Polynomial.{Polynomial}
@@ -33,13 +33,15 @@ named_if false number numbers = numbers
 -- the numbers, from one on, of the columns that have a name
 abbrev pub named_from : ℕ → List Column → List ℕ
 named_from number [] = []
-named_from number (column ∷ columns) = named_if (has_name column) number (named_from (number + 1) columns)
+named_from number (column ∷ columns) =
+    named_if (has_name column) number (named_from (number + 1) columns)
 
 -- the globals, the parameters, the named locals, and the value that is returned
 abbrev pub named_of : Program → Proc → List ℕ
 named_of program p =
     range_with_len 0 (length program.globals)
-    ++ (named_from (length program.globals) p.columns ++ (length program.globals + length p.columns) ∷ [])
+    ++ (named_from (length program.globals) p.columns ++ (length program.globals + length p.columns)
+    ∷ [])
 
 -- ---- terms
 
@@ -52,7 +54,13 @@ terms_below columns terms = filter (every_column (is_below columns 0)) terms
 -- all columns of these are named
 abbrev pub plain_vocabulary : Program → ℕ → List Polynomial → Vocabulary
 plain_vocabulary program columns terms =
-    record { columns = columns; named = range_with_len 0 columns; harvested = terms; rule = program.rule; extra = [] }
+    record {
+      columns = columns;
+      named = range_with_len 0 columns;
+      harvested = terms;
+      rule = program.rule;
+      extra = [];
+    }
 
 -- of the states of a procedure
 unfoldable pub full_of : Program → Proc → Vocabulary
@@ -68,17 +76,20 @@ full_of program p =
 -- of its entry
 unfoldable pub entry_of : Program → Proc → Vocabulary
 entry_of program p =
-    plain_vocabulary program (entry_width program p) (terms_below (entry_width program p) (harvest_of p.body))
+    plain_vocabulary program (entry_width program p)
+    (terms_below (entry_width program p) (harvest_of p.body))
 
 -- of an entry and then an exit
 unfoldable pub pair_of : Program → Proc → Vocabulary
 pair_of program p =
-    plain_vocabulary program (entry_width program p + exit_width program p) (terms_below (entry_width program p) (harvest_of p.body))
+    plain_vocabulary program (entry_width program p + exit_width program p)
+    (terms_below (entry_width program p) (harvest_of p.body))
 
 -- of its exit
 unfoldable pub exit_of : Program → Proc → Vocabulary
 exit_of program p =
-    plain_vocabulary program (exit_width program p) (terms_below (length program.globals) (harvest_of p.body))
+    plain_vocabulary program (exit_width program p)
+    (terms_below (length program.globals) (harvest_of p.body))
 
 -- of where a program starts, before its globals are set
 unfoldable pub start_of : Program → Vocabulary

@@ -1,5 +1,5 @@
--- The linear terms that a procedure compares. They are directions in which bounds of its states are asked for, since what a text
--- compares is what it relies on.
+-- The linear terms that a procedure compares. They are directions in which bounds of its states are
+-- asked for, since what a text compares is what it relies on.
 use Rattle.std.specs.Prelude.{ℕ, pos, List, [], ◌∷◌, ◌++◌, length, take, Bool, true, false, ◌&&◌, ◌==◌, Option, None, Some, Result, Ok, Err, option_to_list, if◌then◌else◌}
 use Rattle.std.specs.List.{list_all}
 use Rattle.items.specs.Gives.{◌>>=◌}
@@ -41,7 +41,8 @@ abbrev pub is_polynomial : Term → Bool
 is_polynomial (Lit value) = true
 is_polynomial (Col col) = true
 is_polynomial (Unary sign inner) = keeps_polynomials sign && is_polynomial inner
-is_polynomial (Binary op left right) = is_ring_operator op && (is_polynomial left && is_polynomial right)
+is_polynomial (Binary op left right) = is_ring_operator op
+    && (is_polynomial left && is_polynomial right)
 
 abbrev pub with_sign : Sign → Polynomial → Made
 with_sign Plus p = Ok p
@@ -59,7 +60,8 @@ abbrev pub polynomial_of : Term → Made
 polynomial_of (Lit value) = whole value
 polynomial_of (Col col) = column (At col)
 polynomial_of (Unary sign inner) = polynomial_of inner >>= with_sign sign
-polynomial_of (Binary op left right) = polynomial_of left >>= λ p. polynomial_of right >>= combination_of op p
+polynomial_of (Binary op left right) = polynomial_of left >>= λ p. polynomial_of right
+    >>= combination_of op p
 
 -- ---- the term of a comparison
 
@@ -89,24 +91,29 @@ kept_term (Ok (Constant holds)) = None
 kept_term (Ok (Kept row)) = Some row.poly
 kept_term (Err e) = None
 
--- a linear polynomial without its constant, divided by the greatest common divisor of its numbers, the first of them positive
+-- a linear polynomial without its constant, divided by the greatest common divisor of its numbers,
+-- the first of them positive
 abbrev pub linear_term : Made → Option Polynomial
 linear_term (Ok p) = if is_linear p.terms then kept_term (normal_form (equation_of p)) else None
 linear_term (Err e) = None
 
--- of a comparison of two polynomials, that of their difference; none where a step of it leaves 128 bits or passes degree 4
+-- of a comparison of two polynomials, that of their difference; none where a step of it leaves 128
+-- bits or passes degree 4
 abbrev pub compared_term : Op → Term → Term → Option Polynomial
 compared_term op left right =
-    if is_comparison op && (is_polynomial left && is_polynomial right) then linear_term (polynomial_of left ⊟ polynomial_of right) else None
+    if is_comparison op && (is_polynomial left && is_polynomial right)
+    then linear_term (polynomial_of left ⊟ polynomial_of right) else None
 
--- ---- the terms of all comparisons in order: an expression before its operands, statements as they stand, a loop by its
+-- ---- the terms of all comparisons in order: an expression before its operands, statements as they
+-- stand, a loop by its
 -- preparation, condition, body and step
 
 abbrev pub compared : Term → List Polynomial
 compared (Lit value) = []
 compared (Col col) = []
 compared (Unary sign inner) = compared inner
-compared (Binary op left right) = option_to_list (compared_term op left right) ++ (compared left ++ compared right)
+compared (Binary op left right) = option_to_list (compared_term op left right)
+    ++ (compared left ++ compared right)
 
 abbrev pub compared_each : List Term → List Polynomial
 compared_each [] = []
@@ -119,7 +126,8 @@ abbrev mutual
   compared_by (Call proc args into) = compared_each args
   compared_by (Guard cond) = compared cond
   compared_by (Check number cond) = compared cond
-  compared_by (If cond on_true on_false) = compared cond ++ (compared_in on_true ++ compared_in on_false)
+  compared_by (If cond on_true on_false) =
+      compared cond ++ (compared_in on_true ++ compared_in on_false)
   compared_by (Loop pre cond body step first) =
       compared_in pre ++ (compared cond ++ (compared_in body ++ compared_in step))
   compared_by Break = []

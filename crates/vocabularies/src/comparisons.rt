@@ -16,12 +16,14 @@ use syntax_tree::{Core, Op, Program, Stmt};
 /// How many terms are kept.
 const MOST_TERMS: usize = 32;
 
-/// The first 32 different linear terms that the procedure at this place compares: of each comparison of two polynomials their
-/// difference, if it is linear, without its constant and without a common divisor, its first number positive. A comparison at
-/// which a step leaves 128 bits or passes degree 4 has none.
+/// The first 32 different linear terms that the procedure at this place compares: of each
+/// comparison of two polynomials their difference, if it is linear, without its constant and
+/// without a common divisor, its first number positive. A comparison at which a step leaves 128
+/// bits or passes degree 4 has none.
 pub fn harvest(alloc: Global, program: &Program, proc: u32) -> Result<Items<Poly>, AllocError>
     requires { proc < length program.now.procs }
-    ensures { (p : Proc) → slice_get program.now.procs proc ≡ Some p → IfOk result (λ terms. terms ≡ harvest_of p.body) }
+    ensures { (p : Proc) → slice_get program.now.procs proc ≡ Some p
+        → IfOk result (λ terms. terms ≡ harvest_of p.body) }
 {
     body_harvest(
         alloc,
@@ -90,7 +92,8 @@ fn add_compared_each(
     exprs: &[Core],
     terms: &mut Items<Poly>,
 ) -> Result<(), AllocError>
-    ensures { OnOk result (terms.new ≡ with_terms terms.old (compared_each (map term_of exprs.now))) }
+    ensures { OnOk result
+        (terms.new ≡ with_terms terms.old (compared_each (map term_of exprs.now))) }
 {
     for e in exprs {
         add_compared(alloc, e, terms)?;
@@ -123,7 +126,9 @@ fn add_comparison(
     right: &Core,
     terms: &mut Items<Poly>,
 ) -> Result<(), AllocError>
-    ensures { OnOk result (terms.new ≡ with_terms terms.old (option_to_list (compared_term op (term_of left.now) (term_of right.now)))) }
+    ensures { OnOk result
+        (terms.new ≡ with_terms terms.old
+        (option_to_list (compared_term op (term_of left.now) (term_of right.now)))) }
 {
     if MOST_TERMS <= terms.len() {
         return Ok(());

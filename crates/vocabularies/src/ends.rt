@@ -84,12 +84,13 @@ fn plain_vocabulary(
     Ok(Vocabulary::from_parts(columns, named, terms, program.rule, extra))
 }
 
-/// The vocabulary of the states of a procedure: all its columns, of which the globals, the parameters, the named locals and the
-/// returned value are named, with all terms that it compares.
+/// The vocabulary of the states of a procedure: all its columns, of which the globals, the
+/// parameters, the named locals and the returned value are named, with all terms that it compares.
 pub fn full(alloc: Global, program: &Program, proc: u32) -> Result<Vocabulary, AllocError>
     requires formed { IsWellFormed program.now }
     requires there { proc < length program.now.procs }
-    ensures { (p : Procedure) → slice_get program.now.procs proc ≡ Some p → IfOk result (λ voc. voc ≡ full_of program.now p) }
+    ensures { (p : Procedure) → slice_get program.now.procs proc ≡ Some p
+        → IfOk result (λ voc. voc ≡ full_of program.now p) }
 {
     full_of(alloc, program, &program.procs.as_slice()[proc as usize])
 }
@@ -107,7 +108,8 @@ fn full_of(alloc: Global, program: &Program, p: &Proc) -> Result<Vocabulary, All
     Ok(Vocabulary::from_parts(columns, named, harvested, program.rule, extra))
 }
 
-/// The vocabulary over so many columns, all of them named, with the terms that a procedure compares over the first of them.
+/// The vocabulary over so many columns, all of them named, with the terms that a procedure compares
+/// over the first of them.
 fn ends_of(
     alloc: Global,
     program: &Program,
@@ -117,18 +119,22 @@ fn ends_of(
 ) -> Result<Vocabulary, AllocError>
     requires fit { IsProcFit program.now p.now }
     requires fewer { fewer ≤ columns }
-    ensures { IfOk result (λ voc. voc ≡ plain_vocabulary program.now columns (terms_below fewer (harvest_of p.now.body))) }
+    ensures { IfOk result
+        (λ voc. voc ≡ plain_vocabulary program.now columns
+        (terms_below fewer (harvest_of p.now.body))) }
 {
     let harvested = body_harvest(alloc, p.body.as_slice())?;
     let terms = terms_below(alloc, fewer, harvested)?;
     plain_vocabulary(alloc, program, columns, terms)
 }
 
-/// The vocabulary at the entry of a procedure: the globals and the parameters, with the terms over these.
+/// The vocabulary at the entry of a procedure: the globals and the parameters, with the terms over
+/// these.
 pub fn entry(alloc: Global, program: &Program, proc: u32) -> Result<Vocabulary, AllocError>
     requires formed { IsWellFormed program.now }
     requires there { proc < length program.now.procs }
-    ensures { (p : Procedure) → slice_get program.now.procs proc ≡ Some p → IfOk result (λ voc. voc ≡ entry_of program.now p) }
+    ensures { (p : Procedure) → slice_get program.now.procs proc ≡ Some p
+        → IfOk result (λ voc. voc ≡ entry_of program.now p) }
 {
     entry_of(alloc, program, &program.procs.as_slice()[proc as usize])
 }
@@ -143,12 +149,13 @@ fn entry_of(alloc: Global, program: &Program, p: &Proc) -> Result<Vocabulary, Al
     ends_of(alloc, program, p, columns, columns)
 }
 
-/// The vocabulary of pairs of an entry and an exit of a procedure: the columns of the entry and then those of the exit, with the
-/// terms over those of the entry.
+/// The vocabulary of pairs of an entry and an exit of a procedure: the columns of the entry and
+/// then those of the exit, with the terms over those of the entry.
 pub fn pair(alloc: Global, program: &Program, proc: u32) -> Result<Vocabulary, AllocError>
     requires formed { IsWellFormed program.now }
     requires there { proc < length program.now.procs }
-    ensures { (p : Procedure) → slice_get program.now.procs proc ≡ Some p → IfOk result (λ voc. voc ≡ pair_of program.now p) }
+    ensures { (p : Procedure) → slice_get program.now.procs proc ≡ Some p
+        → IfOk result (λ voc. voc ≡ pair_of program.now p) }
 {
     pair_of(alloc, program, &program.procs.as_slice()[proc as usize])
 }
@@ -164,12 +171,13 @@ fn pair_of(alloc: Global, program: &Program, p: &Proc) -> Result<Vocabulary, All
     ends_of(alloc, program, p, entry, columns)
 }
 
-/// The vocabulary at the exit of a procedure, once all else is out of sight: the globals and the returned value, if there is one,
-/// with the terms over the globals.
+/// The vocabulary at the exit of a procedure, once all else is out of sight: the globals and the
+/// returned value, if there is one, with the terms over the globals.
 pub fn exit(alloc: Global, program: &Program, proc: u32) -> Result<Vocabulary, AllocError>
     requires formed { IsWellFormed program.now }
     requires there { proc < length program.now.procs }
-    ensures { (p : Procedure) → slice_get program.now.procs proc ≡ Some p → IfOk result (λ voc. voc ≡ exit_of program.now p) }
+    ensures { (p : Procedure) → slice_get program.now.procs proc ≡ Some p
+        → IfOk result (λ voc. voc ≡ exit_of program.now p) }
 {
     exit_of(alloc, program, &program.procs.as_slice()[proc as usize])
 }

@@ -1,5 +1,5 @@
-//! In which directions bounds are asked for at the ends of a program's formulas: the columns that have names, and the linear
-//! terms that a procedure compares.
+//! In which directions bounds are asked for at the ends of a program's formulas: the columns that
+//! have names, and the linear terms that a procedure compares.
 #![tactic(auto)]
 
 mod comparisons;

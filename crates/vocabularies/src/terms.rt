@@ -118,8 +118,8 @@ fn are_single(terms: &[(Mono, i128)]) -> bool
     terms.iter().all(|(mono, _)| mono.columns().len() == 1)
 }
 
-/// The term of a comparison of two polynomials: their difference, if it is linear, without its constant and without a common
-/// divisor, its first number positive.
+/// The term of a comparison of two polynomials: their difference, if it is linear, without its
+/// constant and without a common divisor, its first number positive.
 pub(crate) fn compared_term(
     alloc: Global,
     op: Op,
@@ -137,7 +137,8 @@ pub(crate) fn compared_term(
 }
 
 fn compared_difference(alloc: Global, left: &Core, right: &Core) -> Result<Poly, TermError>
-    ensures { Gives cause (λ p. p) result (polynomial_of (term_of left.now) ⊟ polynomial_of (term_of right.now)) }
+    ensures { Gives cause (λ p. p) result
+        (polynomial_of (term_of left.now) ⊟ polynomial_of (term_of right.now)) }
 {
     let left = polynomial_of(alloc, left)?;
     let right = polynomial_of(alloc, right)?;
@@ -145,7 +146,8 @@ fn compared_difference(alloc: Global, left: &Core, right: &Core) -> Result<Poly,
 }
 
 fn linear_term(alloc: Global, made: Result<Poly, TermError>) -> Result<Option<Poly>, AllocError>
-    ensures { (stated : Made) → Gives cause (λ p. p) made stated → IfOk result (λ term. term ≡ linear_term stated) }
+    ensures { (stated : Made) → Gives cause (λ p. p) made stated
+        → IfOk result (λ term. term ≡ linear_term stated) }
 {
     match made {
         Ok(poly) if is_linear(poly.terms()) => {
@@ -167,7 +169,8 @@ fn reduced(alloc: Global, poly: Poly) -> Result<Normal, TermError>
 }
 
 fn kept_term(reduced: Result<Normal, TermError>) -> Result<Option<Poly>, AllocError>
-    ensures { (stated : Result Reduced Fault) → Gives cause (λ n. n) reduced stated → IfOk result (λ term. term ≡ kept_term stated) }
+    ensures { (stated : Result Reduced Fault) → Gives cause (λ n. n) reduced stated
+        → IfOk result (λ term. term ≡ kept_term stated) }
 {
     match reduced {
         Ok(Normal::Kept(row)) => Ok(Some(row.poly)),

@@ -1,4 +1,5 @@
--- The greatest common divisor: it divides both, each common divisor divides it, and it is the only such number.
+-- The greatest common divisor: it divides both, each common divisor divides it, and it is the only
+-- such number.
 use Rattle.std.proofs.Common.{◌≡◌, ℕ, zero, suc, ◌+◌, ◌*◌, ◌/◌, ◌%◌, ◌<◌, ◌≤◌, max, Bool, true, false, cond, refl, sym, ap, subst, ◌∙◌, ⊎_elim, arith, List, [], ◌∷◌, ℤ, pos, negsuc, ◌≢◌}
 use Rattle.std.specs.Prelude.{◌&&◌, unsigned_abs}
 use Rattle.std.specs.Int.{IsGcd, ◌∣◌}

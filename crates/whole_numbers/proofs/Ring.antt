@@ -1,5 +1,5 @@
--- The ring laws of the whole numbers, named by the left side of their equation, what a product keeps of an order, sizes, and
--- what an answer of 128 bits is.
+-- The ring laws of the whole numbers, named by the left side of their equation, what a product
+-- keeps of an order, sizes, and what an answer of 128 bits is.
 use Rattle.std.proofs.Common.{◌≡◌, ℕ, zero, suc, ◌+◌, ◌*◌, ◌<◌, ◌≤◌, Bool, true, false, cond, refl, sym, ap, subst, ◌∙◌, arith, ℤ, pos, negsuc, ◌+ℤ◌, ◌-ℤ◌, ◌*ℤ◌, ◌≤ℤ◌, ◌<ℤ◌}
 use Rattle.std.specs.Prelude.{neg_ℤ, unsigned_abs, Ok, Err}
 use Rattle.std.proofs.lemmas.Int.{ints, by_lt_z, unsigned_abs-mul}
@@ -81,7 +81,8 @@ one-*ℤ a = omega (arith, ints)
 pub *ℤ-one : (a : ℤ) → a *ℤ pos 1 ≡ a
 *ℤ-one a = omega (arith, ints)
 
--- Multiplies out, and sorts each product. What is left is linear: `simp ring (omega (arith, ints))`.
+-- Multiplies out, and sorts each product. What is left is linear: `simp ring (omega (arith,
+-- ints))`.
 pub ruleset ring = (+ℤ-*ℤ, *ℤ-+ℤ, neg_ℤ-*ℤ, *ℤ-neg_ℤ, *ℤ_assoc, *ℤ_left_comm, *ℤ_comm, one-*ℤ, *ℤ-one)
 
 -- ---- examples

@@ -1,4 +1,5 @@
--- Counts of 64 bits that only rise: of calls, faults or refusals. A count stays at its end once it is there.
+-- Counts of 64 bits that only rise: of calls, faults or refusals. A count stays at its end once it
+-- is there.
 use Rattle.std.specs.Prelude.{ℕ, ◌+◌, ◌-◌, ◌^◌, ◌≤◌, min}
 
 -- one more, up to the greatest number of 64 bits

@@ -9,8 +9,16 @@ fits (negsuc n) = nat_lt n (2 ^ 127)
 
 -- the sum where it is a number of 128 bits, else its operands
 abbrev pub sum_of : ℤ → ℤ → Result ℤ Wide
-sum_of a b = if fits (a +ℤ b) then Ok (a +ℤ b) else Err record { left = a; right = b; times = false }
+sum_of a b = if fits (a +ℤ b) then Ok (a +ℤ b) else Err record {
+  left = a;
+  right = b;
+  times = false;
+}
 
 -- the product where it is a number of 128 bits, else its operands
 abbrev pub product_of : ℤ → ℤ → Result ℤ Wide
-product_of a b = if fits (a *ℤ b) then Ok (a *ℤ b) else Err record { left = a; right = b; times = true }
+product_of a b = if fits (a *ℤ b) then Ok (a *ℤ b) else Err record {
+  left = a;
+  right = b;
+  times = true;
+}

@@ -1,5 +1,5 @@
--- Answers as JSON: an object of one key, which is the name of its kind, beside keys that mean nothing. What stands under the key is
--- read key by key, in the order of the alphabet.
+-- Answers as JSON: an object of one key, which is the name of its kind, beside keys that mean
+-- nothing. What stands under the key is read key by key, in the order of the alphabet.
 use Rattle.std.specs.Prelude.{ℕ, Bool, false, Option, None, Some, is_some, Ok, Err, List, [], ◌∷◌, codes, find, ◌==◌, if◌then◌else◌}
 use Rattle.std.specs.List.{count_by}
 use Rattle.std.specs.Str.{bytes_eq}
@@ -20,22 +20,40 @@ use Rattle.wire.specs.Numbers.{ratio, whole}
 use Rattle.wire.specs.Shapes.{Reading, boolean, field, list, small}
 
 abbrev pub cert : Reading Cert
-cert d = field (codes "by") (list whole) d >>= λ by. field (codes "scale") whole d >>= λ scale. field (codes "sum") whole d
+cert d = field (codes "by") (list whole) d >>= λ by. field (codes "scale") whole d
+    >>= λ scale. field (codes "sum") whole d
     >>= λ sum. Ok record { scale = scale; sum = sum; by = by }
 
 abbrev pub tie : Reading Tie
-tie d = field (codes "down") (list whole) d >>= λ down. field (codes "down_scale") whole d >>= λ down_scale. field (codes "up") (list whole) d
-    >>= λ up. field (codes "up_scale") whole d >>= λ up_scale. Ok record { up_scale = up_scale; up = up; down_scale = down_scale; down = down }
+tie d = field (codes "down") (list whole) d >>= λ down. field (codes "down_scale") whole d
+    >>= λ down_scale. field (codes "up") (list whole) d
+    >>= λ up. field (codes "up_scale") whole d >>= λ up_scale. Ok record {
+      up_scale = up_scale;
+      up = up;
+      down_scale = down_scale;
+      down = down;
+    }
 
 abbrev pub relation : Reading Relation
-relation d = field (codes "a") (list whole) d >>= λ a. field (codes "b") (list whole) d >>= λ b. field (codes "c") whole d
-    >>= λ c. field (codes "ties") (list tie) d >>= λ ties. Ok record { a = a; b = b; c = c; ties = ties }
+relation d = field (codes "a") (list whole) d >>= λ a. field (codes "b") (list whole) d
+    >>= λ b. field (codes "c") whole d
+    >>= λ c. field (codes "ties") (list tie) d >>= λ ties. Ok record {
+      a = a;
+      b = b;
+      c = c;
+      ties = ties;
+    }
 
 abbrev pub spot : Reading Spot
-spot d = field (codes "at") (list ratio) d >>= λ at. field (codes "case") small d >>= λ case. Ok record { case = case; at = at }
+spot d = field (codes "at") (list ratio) d >>= λ at. field (codes "case") small d
+    >>= λ case. Ok record {
+      case = case;
+      at = at;
+    }
 
 abbrev pub wide : Reading Why
-wide d = field (codes "left") whole d >>= λ left. field (codes "right") whole d >>= λ right. field (codes "times") boolean d
+wide d = field (codes "left") whole d >>= λ left. field (codes "right") whole d
+    >>= λ right. field (codes "times") boolean d
     >>= λ times. Ok (Wide left right times)
 
 -- the word `pivots`, or an object
@@ -47,16 +65,20 @@ abbrev pub limit : Reading Why
 limit d = if is_pivots (as_str d) then Ok Pivots else wide d
 
 abbrev pub bound : Reading Answer
-bound d = field (codes "at") whole d >>= λ at. field (codes "case") small d >>= λ case. field (codes "certs") (list cert) d
+bound d = field (codes "at") whole d >>= λ at. field (codes "case") small d
+    >>= λ case. field (codes "certs") (list cert) d
     >>= λ certs. field (codes "point") (list ratio) d >>= λ point. Ok (Bound at certs case point)
 
 abbrev pub unbounded : Reading Answer
-unbounded d = field (codes "case") small d >>= λ case. field (codes "point") (list ratio) d >>= λ point. field (codes "ray") (list ratio) d
+unbounded d = field (codes "case") small d >>= λ case. field (codes "point") (list ratio) d
+    >>= λ point. field (codes "ray") (list ratio) d
     >>= λ ray. Ok (Unbounded case point ray)
 
 abbrev pub basis : Reading Answer
-basis d = field (codes "free") (list (list ratio)) d >>= λ free. field (codes "relations") (list relation) d
-    >>= λ relations. field (codes "spots") (list spot) d >>= λ spots. Ok (Basis relations spots free)
+basis d = field (codes "free") (list (list ratio)) d >>= λ free. field (codes "relations")
+    (list relation) d
+    >>= λ relations. field (codes "spots") (list spot) d
+    >>= λ spots. Ok (Basis relations spots free)
 
 abbrev pub kind_key : Kind → List ℕ
 kind_key Infeasible = codes "infeasible"
@@ -85,7 +107,8 @@ has_kind d kind = is_some (get (kind_key kind) d)
 abbrev pub sole_kind : List Kind → Data → Option Kind
 sole_kind among d = if count_by (has_kind d) among == 1 then find (has_kind d) among else None
 
--- an answer of the one kind whose key is there; where none or several are there, the answer is wrong
+-- an answer of the one kind whose key is there; where none or several are there, the answer is
+-- wrong
 abbrev pub of_sole : Option Kind → Reading Answer
 of_sole None d = Err []
 of_sole (Some kind) d = field (kind_key kind) (of_kind kind) d

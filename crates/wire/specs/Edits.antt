@@ -29,12 +29,14 @@ can_be_made text edit = is_inside text edit && nat_le (length (with_edit text ed
 
 -- the text after an edit, which has this number
 abbrev pub text_after : ℕ → List ℕ → Edit → Result (List ℕ) WireError
-text_after number text edit = if can_be_made text edit then Ok (with_edit text edit) else Err (Impossible number)
+text_after number text edit = if can_be_made text edit then Ok (with_edit text edit)
+    else Err (Impossible number)
 
 -- the texts after edits, the first of which has this number
 abbrev pub texts_after : ℕ → List ℕ → List Edit → Result (List (List ℕ)) WireError
 texts_after number text [] = Ok []
-texts_after number text (edit ∷ edits) = text_after number text edit >>= λ next. texts_after (number + 1) next edits >>= λ more. Ok (next ∷ more)
+texts_after number text (edit ∷ edits) = text_after number text edit
+    >>= λ next. texts_after (number + 1) next edits >>= λ more. Ok (next ∷ more)
 
 -- a text, and those after edits
 abbrev pub texts_from : List ℕ → List Edit → Result (List (List ℕ)) WireError

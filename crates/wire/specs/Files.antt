@@ -46,15 +46,18 @@ source d = text d >>= λ t. or_wrong (if_short t)
 
 -- the version with this number
 abbrev pub version_numbered : ℕ → Result Version WireError
-version_numbered n = if n == 1 then Ok First else (if n == 2 then Ok Second else Err (UnknownVersion n))
+version_numbered n = if n == 1 then Ok First
+    else (if n == 2 then Ok Second else Err (UnknownVersion n))
 
 -- a file without a version is of the first
 abbrev pub version_if_any : Option Data → Result Version WireError
 version_if_any None = Ok First
-version_if_any (Some d) = shaped (under (member_path (codes "version")) (natural d)) >>= version_numbered
+version_if_any (Some d) = shaped (under (member_path (codes "version")) (natural d))
+    >>= version_numbered
 
 abbrev pub version_of : Data → Result Version WireError
-version_of d = shaped (or_wrong (as_object d)) >>= λ members. version_if_any (get (codes "version") d)
+version_of d = shaped (or_wrong (as_object d)) >>= λ members. version_if_any
+    (get (codes "version") d)
 
 -- a place below a number of answers
 abbrev pub if_below : ℕ → ℕ → Option ℕ
@@ -69,9 +72,17 @@ order_of First count d = Ok (range_with_len 0 count)
 order_of Second count d = field (codes "order") (list (place count)) d
 
 abbrev pub certificate_from : Version → Reading Certificate
-certificate_from version d = field (codes "text") source d >>= λ program. field (codes "report") text d
-    >>= λ report. field (codes "answers") (list answer) d >>= λ answers. order_of version (length answers) d
-    >>= λ order. Ok record { version = version; text = program; report = report; answers = answers; order = order }
+certificate_from version d = field (codes "text") source d >>= λ program. field (codes "report")
+    text d
+    >>= λ report. field (codes "answers") (list answer) d >>= λ answers. order_of version
+    (length answers) d
+    >>= λ order. Ok record {
+      version = version;
+      text = program;
+      report = report;
+      answers = answers;
+      order = order;
+    }
 
 -- the version is looked at before all else
 abbrev pub certificate_in : Data → Result Certificate WireError
@@ -86,7 +97,8 @@ abbrev pub most_edits : ℕ
 most_edits = 1000
 
 abbrev pub edit : Reading Edit
-edit d = field (codes "at") small d >>= λ at. field (codes "remove") small d >>= λ remove. field (codes "insert") text d
+edit d = field (codes "at") small d >>= λ at. field (codes "remove") small d
+    >>= λ remove. field (codes "insert") text d
     >>= λ insert. Ok record { at = at; remove = remove; insert = insert }
 
 -- the list itself is wrong where it is too long, before any of its edits is looked at
@@ -100,7 +112,11 @@ abbrev pub edits : Reading (List Edit)
 edits d = or_wrong (as_array d) >>= few_edits
 
 abbrev pub script : Reading Script
-script d = field (codes "text") source d >>= λ program. field (codes "edits") edits d >>= λ edits. Ok record { text = program; edits = edits }
+script d = field (codes "text") source d >>= λ program. field (codes "edits") edits d
+    >>= λ edits. Ok record {
+      text = program;
+      edits = edits;
+    }
 
 abbrev pub script_of : List ℕ → Result Script WireError
 script_of bytes = json_of bytes >>= λ d. shaped (script d)

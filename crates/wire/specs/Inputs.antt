@@ -34,7 +34,11 @@ turns d = small d >>= λ n. or_wrong (if_turns n)
 
 abbrev pub input : Reading Input
 input d = field (codes "text") source d >>= λ text. field (codes "values") values d >>= λ values.
-    field (codes "turns") turns d >>= λ turns. Ok record { text = text; values = values; turns = turns }
+    field (codes "turns") turns d >>= λ turns. Ok record {
+      text = text;
+      values = values;
+      turns = turns;
+    }
 
 abbrev pub input_of : List ℕ → Result Input WireError
 input_of bytes = json_of bytes >>= λ d. shaped (input d)

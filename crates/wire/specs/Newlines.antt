@@ -5,4 +5,5 @@ use Rattle.wire.specs.Files.{certificate_of}
 
 -- a newline behind a certificate file is read over
 abbrev pub NewlineIsReadOver : Type 0
-NewlineIsReadOver = (bytes : List ℕ) (file : Certificate) → certificate_of bytes ≡ Ok file → certificate_of (bytes ++ 10 ∷ []) ≡ Ok file
+NewlineIsReadOver = (bytes : List ℕ) (file : Certificate) → certificate_of bytes ≡ Ok file
+    → certificate_of (bytes ++ 10 ∷ []) ≡ Ok file

@@ -1,4 +1,5 @@
--- Numbers as texts: a text is read as a number exactly where it is the one that is written for it, so that no number has two texts.
+-- Numbers as texts: a text is read as a number exactly where it is the one that is written for it,
+-- so that no number has two texts.
 use Rattle.std.specs.Prelude.{ℕ, ℤ, pos, ◌&&◌, ◌==◌, Bool, not, Option, None, Some, option_map, option_and_then, List, [], ◌∷◌, ◌++◌, position, if◌then◌else◌}
 use Rattle.std.specs.Fmt.{signed_decimal}
 use Rattle.std.specs.List.{before_first, after_first}
@@ -12,7 +13,8 @@ use Rattle.wire.specs.Shapes.{Reading, or_wrong, text}
 
 -- the number that this is the shortest decimal text of, where it fits 128 bits
 abbrev pub number_of : List ℕ → Option ℤ
-number_of t = let z = signed_digits_value 10 t in if fits z && bytes_eq (signed_decimal z) t then Some z else None
+number_of t = let z = signed_digits_value 10 t in if fits z && bytes_eq (signed_decimal z) t
+    then Some z else None
 
 abbrev pub whole : Reading ℤ
 whole d = text d >>= λ t. or_wrong (number_of t)
@@ -24,10 +26,14 @@ is_slash b = b == 47
 
 -- a numerator over a denominator in lowest terms, which is not 1
 abbrev pub ratio_over : ℤ → ℤ → Option Fraction
-ratio_over num den = if not (int_eq den (pos 1)) && is_lowest num den then Some record { num = num; den = den } else None
+ratio_over num den = if not (int_eq den (pos 1)) && is_lowest num den then Some record {
+  num = num;
+  den = den;
+} else None
 
 abbrev pub ratio_of_two : List ℕ → List ℕ → Option Fraction
-ratio_of_two above below = option_and_then (λ num. option_and_then (ratio_over num) (number_of below)) (number_of above)
+ratio_of_two above below =
+    option_and_then (λ num. option_and_then (ratio_over num) (number_of below)) (number_of above)
 
 abbrev pub ratio_cut : Option ℕ → List ℕ → Option Fraction
 ratio_cut None t = option_map whole_ratio (number_of t)
@@ -41,4 +47,5 @@ ratio d = text d >>= λ t. or_wrong (ratio_of t)
 
 -- what is written for a ratio
 abbrev pub ratio_text : Fraction → List ℕ
-ratio_text r = signed_decimal r.num ++ (if int_eq r.den (pos 1) then [] else 47 ∷ signed_decimal r.den)
+ratio_text r =
+    signed_decimal r.num ++ (if int_eq r.den (pos 1) then [] else 47 ∷ signed_decimal r.den)

@@ -6,7 +6,8 @@ use Rattle.farkas_check.specs.declared.answer.Limit.TheVariants.{Pivots}
 use Rattle.farkas_check.specs.declared.question.Question.{Question}
 use Rattle.farkas_check.specs.Tested.{passes}
 
--- what is seen of it: the answers that it has left in order, how many were taken, how often it refused
+-- what is seen of it: the answers that it has left in order, how many were taken, how often it
+-- refused
 pub record Replayed : Type 0 where
   pub left : List Answer
   pub taken : ℕ

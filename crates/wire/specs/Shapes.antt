@@ -1,5 +1,6 @@
--- How a part of a JSON value is read. A part has a value, or a first wrong part in it, which is told by its path from there: a
--- JSON pointer (RFC 6901). An object is looked at before its members, a list before its items, and each in order.
+-- How a part of a JSON value is read. A part has a value, or a first wrong part in it, which is
+-- told by its path from there: a JSON pointer (RFC 6901). An object is looked at before its
+-- members, a list before its items, and each in order.
 use Rattle.std.specs.Prelude.{ℕ, ◌+◌, Bool, Option, None, Some, Result, Ok, Err, List, [], ◌∷◌, ◌++◌, decimal, nat_lt, ◌^◌, if◌then◌else◌}
 use Rattle.items.specs.Gives.{◌>>=◌, lifted}
 use Rattle.serde_json.specs.Data.{Data, Items, no_items, item}
@@ -42,7 +43,8 @@ field key reads d = member_of key d >>= λ value. under (member_path key) (reads
 -- the items of a list, from a place on
 abbrev pub items_from : {A : Type 0} → Reading A → ℕ → Items → Result (List A) Path
 items_from reads place no_items = Ok []
-items_from reads place (item d ds) = under (item_path place) (reads d) >>= λ x. items_from reads (place + 1) ds >>= λ xs. Ok (x ∷ xs)
+items_from reads place (item d ds) = under (item_path place) (reads d) >>= λ x. items_from reads
+    (place + 1) ds >>= λ xs. Ok (x ∷ xs)
 
 abbrev pub list : {A : Type 0} → Reading A → Reading (List A)
 list reads d = or_wrong (as_array d) >>= λ ds. items_from reads 0 ds

@@ -41,22 +41,33 @@ unfoldable pub read_then : {A : Type 0} → Reading A → List Data → List A �
 read_then reads ds rest = items_from reads 0 (items_of ds) >>= λ front. Ok (front ++ rest)
 
 abbrev pub cert_data : Cert → Data
-cert_data cert = object (member (codes "by") (list_data whole_data cert.by) (member (codes "scale") (whole_data cert.scale)
+cert_data cert =
+    object (member (codes "by") (list_data whole_data cert.by)
+    (member (codes "scale") (whole_data cert.scale)
     (member (codes "sum") (whole_data cert.sum) no_members)))
 
 abbrev pub tie_data : Tie → Data
-tie_data tie = object (member (codes "down") (list_data whole_data tie.down) (member (codes "down_scale") (whole_data tie.down_scale)
-    (member (codes "up") (list_data whole_data tie.up) (member (codes "up_scale") (whole_data tie.up_scale) no_members))))
+tie_data tie =
+    object (member (codes "down") (list_data whole_data tie.down)
+    (member (codes "down_scale") (whole_data tie.down_scale)
+    (member (codes "up") (list_data whole_data tie.up)
+    (member (codes "up_scale") (whole_data tie.up_scale) no_members))))
 
 abbrev pub relation_data : Relation → Data
-relation_data relation = object (member (codes "a") (list_data whole_data relation.a) (member (codes "b") (list_data whole_data relation.b)
-    (member (codes "c") (whole_data relation.c) (member (codes "ties") (list_data tie_data relation.ties) no_members))))
+relation_data relation =
+    object (member (codes "a") (list_data whole_data relation.a)
+    (member (codes "b") (list_data whole_data relation.b)
+    (member (codes "c") (whole_data relation.c)
+    (member (codes "ties") (list_data tie_data relation.ties) no_members))))
 
 abbrev pub spot_data : Spot → Data
-spot_data spot = object (member (codes "at") (list_data ratio_data spot.at) (member (codes "case") (small_data spot.case) no_members))
+spot_data spot =
+    object (member (codes "at") (list_data ratio_data spot.at)
+    (member (codes "case") (small_data spot.case) no_members))
 
 abbrev pub limit_data : Why → Data
-limit_data (Wide left right times) = object (member (codes "left") (whole_data left) (member (codes "right") (whole_data right)
+limit_data (Wide left right times) =
+    object (member (codes "left") (whole_data left) (member (codes "right") (whole_data right)
     (member (codes "times") (boolean times) no_members)))
 limit_data Pivots = string (codes "pivots")
 
@@ -65,16 +76,22 @@ abbrev pub alone : List ℕ → Data → Data
 alone key d = object (member key d no_members)
 
 abbrev pub bound_data : ℤ → List Cert → ℕ → List Fraction → Data
-bound_data at certs case point = object (member (codes "at") (whole_data at) (member (codes "case") (small_data case)
-    (member (codes "certs") (list_data cert_data certs) (member (codes "point") (list_data ratio_data point) no_members))))
+bound_data at certs case point =
+    object (member (codes "at") (whole_data at) (member (codes "case") (small_data case)
+    (member (codes "certs") (list_data cert_data certs)
+    (member (codes "point") (list_data ratio_data point) no_members))))
 
 abbrev pub unbounded_data : ℕ → List Fraction → List Fraction → Data
-unbounded_data case point ray = object (member (codes "case") (small_data case) (member (codes "point") (list_data ratio_data point)
+unbounded_data case point ray =
+    object (member (codes "case") (small_data case)
+    (member (codes "point") (list_data ratio_data point)
     (member (codes "ray") (list_data ratio_data ray) no_members)))
 
 abbrev pub basis_data : List Relation → List Spot → List (List Fraction) → Data
-basis_data relations spots free = object (member (codes "free") (list_data (list_data ratio_data) free)
-    (member (codes "relations") (list_data relation_data relations) (member (codes "spots") (list_data spot_data spots) no_members)))
+basis_data relations spots free =
+    object (member (codes "free") (list_data (list_data ratio_data) free)
+    (member (codes "relations") (list_data relation_data relations)
+    (member (codes "spots") (list_data spot_data spots) no_members)))
 
 abbrev pub answer_data : Answer → Data
 answer_data (Yes by) = alone (codes "infeasible") (list_data whole_data by)
@@ -87,12 +104,18 @@ answer_data (Limit why) = alone (codes "limit") (limit_data why)
 -- ---- certificate files
 
 abbrev pub first_data : Certificate → Data
-first_data file = object (member (codes "answers") (list_data answer_data file.answers) (member (codes "report") (string file.report)
+first_data file =
+    object (member (codes "answers") (list_data answer_data file.answers)
+    (member (codes "report") (string file.report)
     (member (codes "text") (string file.text) no_members)))
 
 abbrev pub second_data : Certificate → Data
-second_data file = object (member (codes "answers") (list_data answer_data file.answers) (member (codes "order") (list_data small_data file.order)
-    (member (codes "report") (string file.report) (member (codes "text") (string file.text) (member (codes "version") (small_data 2) no_members)))))
+second_data file =
+    object (member (codes "answers") (list_data answer_data file.answers)
+    (member (codes "order") (list_data small_data file.order)
+    (member (codes "report") (string file.report)
+    (member (codes "text") (string file.text)
+    (member (codes "version") (small_data 2) no_members)))))
 
 abbrev pub data_in : Version → Certificate → Data
 data_in First = first_data

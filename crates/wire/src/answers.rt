@@ -165,8 +165,10 @@ impl Written for Spot {
 }
 
 fn wide_part(alloc: Global, left: &i128, right: &i128, times: &bool) -> Result<Value, AllocError>
-    ensures written { IfOk result (λ part. view part ≡ limit_data (Wide left.now right.now times.now)) }
-    ensures back { IfOk result (λ part. limit (view part) ≡ Ok (Wide left.now right.now times.now)) }
+    ensures written { IfOk result
+        (λ part. view part ≡ limit_data (Wide left.now right.now times.now)) }
+    ensures back { IfOk result
+        (λ part. limit (view part) ≡ Ok (Wide left.now right.now times.now)) }
 {
     let mut members = Map::new(alloc);
     put_part(&mut members, alloc, "left", left)?;
@@ -367,8 +369,10 @@ fn bound_part(
     case: &u32,
     point: &Items<Ratio>,
 ) -> Result<Value, AllocError>
-    ensures written { IfOk result (λ part. view part ≡ bound_data at.now certs.now case.now point.now) }
-    ensures back { IfOk result (λ part. bound (view part) ≡ Ok (Bound at.now certs.now case.now point.now)) }
+    ensures written { IfOk result
+        (λ part. view part ≡ bound_data at.now certs.now case.now point.now) }
+    ensures back { IfOk result
+        (λ part. bound (view part) ≡ Ok (Bound at.now certs.now case.now point.now)) }
 {
     let mut members = Map::new(alloc);
     put_part(&mut members, alloc, "at", at)?;
@@ -385,7 +389,8 @@ fn unbounded_part(
     ray: &Items<Ratio>,
 ) -> Result<Value, AllocError>
     ensures written { IfOk result (λ part. view part ≡ unbounded_data case.now point.now ray.now) }
-    ensures back { IfOk result (λ part. unbounded (view part) ≡ Ok (Unbounded case.now point.now ray.now)) }
+    ensures back { IfOk result
+        (λ part. unbounded (view part) ≡ Ok (Unbounded case.now point.now ray.now)) }
 {
     let mut members = Map::new(alloc);
     put_part(&mut members, alloc, "case", case)?;
@@ -400,8 +405,10 @@ fn basis_part(
     spots: &Items<Spot>,
     free: &Items<Items<Ratio>>,
 ) -> Result<Value, AllocError>
-    ensures written { IfOk result (λ part. view part ≡ basis_data relations.now spots.now free.now) }
-    ensures back { IfOk result (λ part. basis (view part) ≡ Ok (Basis relations.now spots.now free.now)) }
+    ensures written { IfOk result
+        (λ part. view part ≡ basis_data relations.now spots.now free.now) }
+    ensures back { IfOk result
+        (λ part. basis (view part) ≡ Ok (Basis relations.now spots.now free.now)) }
 {
     let mut members = Map::new(alloc);
     put_part(&mut members, alloc, "free", free)?;

@@ -106,7 +106,8 @@ fn place(alloc: Global, part: &Value, count: usize) -> Result<usize, Wrong>
 
 #[tactic(auto, using(crate::proofs::Places::appended))]
 fn places(alloc: Global, parts: &[Value], count: usize) -> Result<Items<usize>, Wrong>
-    ensures exact { Gives wrong_path (λ x. x) result (items_from (place count) 0 (items_view parts.now)) }
+    ensures exact { Gives wrong_path (λ x. x) result
+        (items_from (place count) 0 (items_view parts.now)) }
     ensures below { IfOk result (λ places. AllByRecursion (λ place. place < count) places) }
 {
     let mut made = Items::new(alloc);
@@ -173,8 +174,8 @@ fn certificate_in(alloc: Global, file: &Value) -> Result<Certificate, WireError>
     Ok(certificate_parts(alloc, version, file)?)
 }
 
-/// Reads a certificate file of either version. `Json` where the bytes are no JSON text, `Version` where the file's
-/// version is not known, `Shape` with the first wrong part.
+/// Reads a certificate file of either version. `Json` where the bytes are no JSON text, `Version`
+/// where the file's version is not known, `Shape` with the first wrong part.
 pub fn read_certificate(alloc: Global, bytes: &[u8]) -> Result<Certificate, WireError>
     ensures exact { Gives fault (λ x. x) result (certificate_of bytes.now) }
     ensures writable { IfOk result IsWritable }
@@ -216,8 +217,12 @@ fn put_order(
     count: usize,
 ) -> Result<(), AllocError>
     requires { AllByRecursion (λ place. place < count) order.now }
-    ensures written { OnOk result (members_view members.new.entries ≡ with_member (codes "order") (list_data small_data order.now) (members_view members.old.entries)) }
-    ensures back { OnOk result (list (place count) (list_data small_data order.now) ≡ Ok order.now) }
+    ensures written { OnOk result
+        (members_view members.new.entries
+        ≡ with_member (codes "order") (list_data small_data order.now)
+        (members_view members.old.entries)) }
+    ensures back { OnOk result
+        (list (place count) (list_data small_data order.now) ≡ Ok order.now) }
 {
     let part = order_value(alloc, order, count)?;
     put(members, alloc, "order", part)

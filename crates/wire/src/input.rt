@@ -63,7 +63,8 @@ fn turns(alloc: Global, part: &Value) -> Result<u32, Wrong>
 }
 
 fn values_in(alloc: Global, file: &Value) -> Result<Items<i128>, Wrong>
-    ensures exact { Gives wrong_path (λ x. x) result (field (codes "values") values (view file.now)) }
+    ensures exact { Gives wrong_path (λ x. x) result
+        (field (codes "values") values (view file.now)) }
     ensures few { IfOk result (λ values. length values ≤ most_values) }
 {
     let part = member(alloc, file, "values")?;
@@ -93,8 +94,9 @@ fn input_parts(alloc: Global, file: &Value) -> Result<Input, Wrong>
     })
 }
 
-/// Reads a text with values and a number of turns. `Json` where the bytes are no JSON text, `Shape` with the first wrong
-/// part: `text`, then `values`, at most 100,000 decimal texts of 128 bits, then `turns`, from 1 to 100,000.
+/// Reads a text with values and a number of turns. `Json` where the bytes are no JSON text, `Shape`
+/// with the first wrong part: `text`, then `values`, at most 100,000 decimal texts of 128 bits,
+/// then `turns`, from 1 to 100,000.
 pub fn read_replay(alloc: Global, bytes: &[u8]) -> Result<Input, WireError>
     ensures exact { Gives fault (λ x. x) result (input_of bytes.now) }
     ensures few { IfOk result (λ input. length input.values ≤ most_values) }

@@ -1,5 +1,6 @@
-//! Certificate files and edit scripts, as JSON: what each part has to look like, where the first wrong part
-//! is, and how the whole is written so that it reads back. And the oracle that hands out kept answers.
+//! Certificate files and edit scripts, as JSON: what each part has to look like, where the first
+//! wrong part is, and how the whole is written so that it reads back. And the oracle that hands out
+//! kept answers.
 #![tactic(auto)]
 
 mod answers;

@@ -41,7 +41,8 @@ fn ratio_of_two(above: &str, below: &str) -> Option<Ratio>
     ratio_over(num, den)
 }
 
-/// The ratio that a text is the text of: a numerator, and behind a slash the denominator, unless it is 1.
+/// The ratio that a text is the text of: a numerator, and behind a slash the denominator, unless it
+/// is 1.
 fn ratio(text: &str) -> Option<Ratio>
     ensures { result ≡ ratio_of text.now }
 {
@@ -53,7 +54,8 @@ fn ratio(text: &str) -> Option<Ratio>
 
 /// Writes a slash and a denominator.
 fn push_denominator(text: &mut String, den: i128) -> Result<(), AllocError>
-    ensures { OnOk result (string_bytes text.new ≡ string_bytes text.old ++ 47 ∷ signed_decimal den) }
+    ensures { OnOk result
+        (string_bytes text.new ≡ string_bytes text.old ++ 47 ∷ signed_decimal den) }
 {
     let mut digits = Buffer::new();
     text.push_str("/")?;
@@ -63,7 +65,8 @@ fn push_denominator(text: &mut String, den: i128) -> Result<(), AllocError>
 
 /// The text of a numerator over a denominator.
 fn ratio_text(alloc: Global, num: i128, den: i128) -> Result<String, AllocError>
-    ensures { IfOk result (λ text. string_bytes text ≡ ratio_text (record { num = num; den = den })) }
+    ensures { IfOk result
+        (λ text. string_bytes text ≡ ratio_text (record { num = num; den = den })) }
 {
     let mut digits = Buffer::new();
     let mut text = String::from_str(alloc, digits.format(num))?;

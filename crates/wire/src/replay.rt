@@ -7,8 +7,8 @@ use items::Items;
 use std::alloc::{AllocError, Global};
 use std::marker::Model;
 
-/// An oracle that hands out listed answers in order, each where it passes the test of the question. It refuses where
-/// none is left or the next one does not pass, and then stays at that answer.
+/// An oracle that hands out listed answers in order, each where it passes the test of the question.
+/// It refuses where none is left or the next one does not pass, and then stays at that answer.
 #[derive(Drop)]
 pub struct Replay {
     answers: Items<Answer>,
@@ -22,7 +22,12 @@ impl Model for Replay {
 
     ghost Value = { Replayed };
 
-    ghost view = { λ r. record { left = left_from r.answers r.places r.taken; taken = r.taken; refusals = r.refusals } };
+    ghost view = { λ r.
+        record {
+          left = left_from r.answers r.places r.taken;
+          taken = r.taken;
+          refusals = r.refusals;
+        } };
 }
 
 impl Replay {
@@ -41,7 +46,8 @@ impl Replay {
     /// Hands out the answers at places in order, each as often as it is listed.
     pub fn shared(answers: Items<Answer>, order: Items<usize>) -> Replay
         requires { AllByRecursion (λ place. place < length answers) order }
-        ensures { result ≡ record { left = map (answer_at answers) order; taken = 0; refusals = 0 } }
+        ensures { result
+            ≡ record { left = map (answer_at answers) order; taken = 0; refusals = 0 } }
     {
         Replay {
             answers,
@@ -107,7 +113,13 @@ impl Oracle for Replay {
     ghost use Rattle.farkas_check.specs.Tested.{Passes};
     ghost use Rattle.wire.specs.Replays.{IsMissing};
 
-    ghost asking = { record { refusals = λ r. r.refusals; declines = λ r question. IsMissing r.left question; allows = Passes; left = λ r. Some r.left } };
+    ghost asking = { record {
+      refusals = λ r. r.refusals;
+      declines = λ r question. IsMissing r.left
+          question;
+      allows = Passes;
+      left = λ r. Some r.left;
+    } };
 
     #[tactic(auto, using(crate::proofs::Replaying::replays))]
     fn ask(&mut self, alloc: Global, question: &Question) -> Result<Answer, AskError> {

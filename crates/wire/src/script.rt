@@ -85,7 +85,8 @@ fn script_parts(alloc: Global, file: &Value) -> Result<Script, Wrong>
     Ok(Script { text, edits })
 }
 
-/// Reads an edit script. `Json` where the bytes are no JSON text, `Shape` with the first wrong part.
+/// Reads an edit script. `Json` where the bytes are no JSON text, `Shape` with the first wrong
+/// part.
 pub fn read_script(alloc: Global, bytes: &[u8]) -> Result<Script, WireError>
     ensures exact { Gives fault (λ x. x) result (script_of bytes.now) }
     ensures few { IfOk result (λ script. length script.edits ≤ most_edits) }
@@ -148,8 +149,9 @@ fn texts_from(alloc: Global, first: Text, edits: &[Edit]) -> Result<Items<Text>,
     Ok(made)
 }
 
-/// The texts of a script: the first, and the text after each edit. `Edit` with the number of the first edit, from 1,
-/// that reaches past its text, splits a character, or gives a text of more than 1,048,576 bytes.
+/// The texts of a script: the first, and the text after each edit. `Edit` with the number of the
+/// first edit, from 1, that reaches past its text, splits a character, or gives a text of more than
+/// 1,048,576 bytes.
 pub fn texts(alloc: Global, script: &Script) -> Result<Items<Text>, WireError>
     requires { length script.now.edits < 2 ^ 32 }
     ensures { Gives fault (λ x. x) result (texts_of script.now) }

@@ -51,7 +51,8 @@ fn joined_path(alloc: Global, step: &[u8], path: &[u8]) -> Result<Items<u8>, All
 
 /// What was read of a part, told from what the part stands in.
 fn under<T: Drop>(alloc: Global, step: &[u8], read: Result<T, Wrong>) -> Result<T, Wrong>
-    ensures exact { (stated : Result T Path) → Gives wrong_path (λ x. x) read stated → Gives wrong_path (λ x. x) result (under step.now stated) }
+    ensures exact { (stated : Result T Path) → Gives wrong_path (λ x. x) read stated
+        → Gives wrong_path (λ x. x) result (under step.now stated) }
     ensures kept { IfOk result (λ value. read ≡ Ok value) }
 {
     match read {
@@ -67,7 +68,8 @@ pub(crate) fn under_key<T: Drop>(
     key: &str,
     read: Result<T, Wrong>,
 ) -> Result<T, Wrong>
-    ensures exact { (stated : Result T Path) → Gives wrong_path (λ x. x) read stated → Gives wrong_path (λ x. x) result (under (member_path key.now) stated) }
+    ensures exact { (stated : Result T Path) → Gives wrong_path (λ x. x) read stated
+        → Gives wrong_path (λ x. x) result (under (member_path key.now) stated) }
     ensures kept { IfOk result (λ value. read ≡ Ok value) }
 {
     let step = member_path(alloc, key)?;
@@ -76,7 +78,8 @@ pub(crate) fn under_key<T: Drop>(
 
 /// The member of an object with this name.
 pub(crate) fn member<'a>(alloc: Global, part: &'a Value, key: &str) -> Result<&'a Value, Wrong>
-    ensures { Gives wrong_path (λ value. view value.now) result (member_of key.now (view part.now)) }
+    ensures { Gives wrong_path (λ value. view value.now) result
+        (member_of key.now (view part.now)) }
 {
     if !part.is_object() {
         return Err(Wrong::At(Items::new(alloc)));
@@ -102,7 +105,9 @@ pub(crate) fn put_part<T: Written>(
     key: &str,
     value: &T,
 ) -> Result<(), AllocError>
-    ensures written { OnOk result (members_view members.new.entries ≡ with_member key.now (T.writes value.now) (members_view members.old.entries)) }
+    ensures written { OnOk result
+        (members_view members.new.entries ≡ with_member key.now (T.writes value.now)
+        (members_view members.old.entries)) }
     ensures back { OnOk result (T.reads (T.writes value.now) ≡ Ok value.now) }
 {
     let part = value.write(alloc)?;
@@ -121,7 +126,8 @@ pub(crate) fn item_under<T: Drop>(
     place: usize,
     read: Result<T, Wrong>,
 ) -> Result<T, Wrong>
-    ensures exact { (stated : Result T Path) → Gives wrong_path (λ x. x) read stated → Gives wrong_path (λ x. x) result (under (item_path place) stated) }
+    ensures exact { (stated : Result T Path) → Gives wrong_path (λ x. x) read stated
+        → Gives wrong_path (λ x. x) result (under (item_path place) stated) }
     ensures kept { IfOk result (λ value. read ≡ Ok value) }
 {
     let mut digits = Buffer::new();
@@ -155,8 +161,12 @@ impl<T: Written + Drop> Written for Items<T> {
 /// Writes a value behind others.
 #[tactic(auto, using(crate::proofs::Lists::written))]
 fn add_part<T: Written>(alloc: Global, parts: &mut Vec<Value>, value: &T) -> Result<(), AllocError>
-    ensures written { OnOk result (map view parts.new.items ≡ map view parts.old.items ++ T.writes value.now ∷ []) }
-    ensures back { (rest : List T) → OnOk result (read_then T.reads (map view parts.new.items) rest ≡ read_then T.reads (map view parts.old.items) (value.now ∷ rest)) }
+    ensures written { OnOk result
+        (map view parts.new.items ≡ map view parts.old.items ++ T.writes value.now ∷ []) }
+    ensures back { (rest : List T)
+        → OnOk result
+        (read_then T.reads (map view parts.new.items) rest
+        ≡ read_then T.reads (map view parts.old.items) (value.now ∷ rest)) }
 {
     let part = value.write(alloc)?;
     push(parts, part)
@@ -165,8 +175,10 @@ fn add_part<T: Written>(alloc: Global, parts: &mut Vec<Value>, value: &T) -> Res
 /// The parts that are written for a list.
 #[tactic(auto, using(crate::proofs::Lists::written))]
 fn values<T: Written>(alloc: Global, list: &[T]) -> Result<Vec<Value>, AllocError>
-    ensures written { IfOk result (λ parts. items_view parts.items ≡ items_of (map T.writes list.now)) }
-    ensures back { IfOk result (λ parts. items_from T.reads 0 (items_view parts.items) ≡ Ok list.now) }
+    ensures written { IfOk result
+        (λ parts. items_view parts.items ≡ items_of (map T.writes list.now)) }
+    ensures back { IfOk result (λ parts. items_from T.reads 0 (items_view parts.items)
+        ≡ Ok list.now) }
 {
     let mut parts = Vec::new(alloc);
     for value in list {

@@ -13,7 +13,8 @@ fn push_shared(
     order: &mut Items<usize>,
     answer: Answer,
 ) -> Result<(), AllocError>
-    ensures { OnOk result ((before : List Answer) → IsShared before distinct.old.keys order.old → IsShared (before ++ answer ∷ []) distinct.new.keys order.new) }
+    ensures { OnOk result ((before : List Answer) → IsShared before distinct.old.keys order.old
+        → IsShared (before ++ answer ∷ []) distinct.new.keys order.new) }
 {
     let (place, _) = distinct.insert_full(answer)?;
     order.push(place)?;
@@ -27,8 +28,8 @@ fn listed(alloc: Global, distinct: IndexSet<Answer>) -> Result<Items<Answer>, Al
     Ok(Items::from_vec(distinct))
 }
 
-/// The distinct answers in the order of their first use, and for each answer its place among these: how a file of the
-/// second version and `Replay::shared` have them.
+/// The distinct answers in the order of their first use, and for each answer its place among these:
+/// how a file of the second version and `Replay::shared` have them.
 pub fn share(
     alloc: Global,
     answers: Items<Answer>,

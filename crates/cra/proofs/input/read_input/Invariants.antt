@@ -2,7 +2,8 @@ use Rattle.std.proofs.Common.{◌≡◌, ◌+◌, ◌-◌, ◌≤◌, vec_len}
 use Rattle.std.specs.Io.KnownBytes.{prepend_known}
 use Rattle.cra.proofs.input.read_input.Given as goal
 
--- what was read stands before what is left, one byte past the limit at most, and no read failed so far
+-- what was read stands before what is left, one byte past the limit at most, and no read failed so
+-- far
 abbrev pub invariant-loop-bytes : goal.invariant-loop-bytes
 invariant-loop-bytes g l =
     let S = g.S.Source in
