@@ -14,7 +14,7 @@ use linear_terms::{Kind, Mono, Poly, Row};
 use std::alloc::{AllocError, Global};
 
 /// A point over one denominator: a numerator for each column.
-#[derive(Debug, Drop)]
+#[derive(Drop)]
 pub(crate) struct Inner {
     pub(crate) over: i128,
     pub(crate) numbers: Items<i128>,

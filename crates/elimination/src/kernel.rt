@@ -14,7 +14,7 @@ use std::alloc::{AllocError, Global};
 
 /// The reduced relations whose differences are the polynomial 0 in each case, and probes that show that there are no
 /// others: for each unknown that is no pivot, multiples of the probes, and the number over which they stand.
-#[derive(Debug, Drop)]
+#[derive(Drop)]
 pub(crate) struct Kernel {
     pub(crate) relations: Items<Items<i128>>,
     pub(crate) probes: Items<Probe>,

@@ -10,7 +10,7 @@ use linear_terms::{Mono, Poly};
 
 /// Where a difference is read: in the case at a place, the coefficient at the column of a place, or behind the columns the
 /// constant.
-#[derive(Debug, Clone, Copy, PartialEq, Eq, Drop)]
+#[derive(Clone, Copy, Drop)]
 pub(crate) struct Probe {
     pub(crate) case: usize,
     pub(crate) place: usize,
