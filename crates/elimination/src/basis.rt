@@ -25,19 +25,19 @@ pub(crate) fn basis(
     alloc: Global,
     asked: &Stratum,
     columns: &[Mono],
-    kernel: Kernel,
+    kernel: &Kernel,
     inners: &[Inner],
 ) -> Result<Answer, AllocError>
     requires canonical { IsCanonicalStratum asked.now.cases asked.now.lower }
     requires columns { columns.now ≡ stratum_columns asked.now.cases asked.now.lower }
     requires stratum { IsSmallStratum asked.now.cases asked.now.lower }
     requires small { All IsSmallChange asked.now.cases }
-    requires kernel { IsKernel columns.now asked.now.cases asked.now.lower kernel }
-    requires inners { AreInners columns.now asked.now.cases kernel.probes inners.now }
+    requires kernel { IsKernel columns.now asked.now.cases asked.now.lower kernel.now }
+    requires inners { AreInners columns.now asked.now.cases kernel.now.probes inners.now }
     ensures passes { IfOk result (Passes (question.Stratum asked.now)) }
     ensures basis { IfOk result (λ found. IsLimit found → ⊥) }
 {
-    let found = basis_with(alloc, asked, columns, &kernel, inners)?;
+    let found = basis_with(alloc, asked, columns, kernel, inners)?;
     positivity(&found);
     Ok(found)
 }

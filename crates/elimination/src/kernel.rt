@@ -55,11 +55,17 @@ fn kernel_of_cases(
 {
     let stage = last_stage(alloc, columns, cases, lower)?;
     let duals = duals(alloc, columns, cases, lower, &stage)?;
-    Ok(Kernel {
+    Ok(kernel_with(stage, duals))
+}
+
+fn kernel_with(stage: Stage, duals: Items<Items<i128>>) -> Kernel
+    ensures { result ≡ record { relations = stage.relations; probes = stage.probes; duals = duals } }
+{
+    Kernel {
         relations: stage.relations,
         probes: stage.probes,
         duals,
-    })
+    }
 }
 
 /// The stage with all unknowns taken.
@@ -126,13 +132,33 @@ fn with_unknown(
         chosen.as_slice(),
     )?;
     match probe_apart(columns, cases, lower, chosen.as_slice(), numbers.as_slice()) {
-        None => {
-            let count = unknown_count(cases, lower);
-            let line = spread(alloc, chosen.as_slice(), numbers.as_slice(), count)?;
-            with_relation(alloc, stage, line)
-        }
+        None => with_numbers(
+            alloc,
+            cases,
+            lower,
+            stage,
+            chosen.as_slice(),
+            numbers.as_slice(),
+        ),
         Some(probe) => with_probe(alloc, stage, unknown, probe),
     }
+}
+
+/// A stage with the relation that has numbers at chosen unknowns.
+fn with_numbers(
+    alloc: Global,
+    cases: &[Change],
+    lower: &[Poly],
+    stage: Stage,
+    chosen: &[usize],
+    numbers: &[i128],
+) -> Result<Stage, AllocError>
+    requires { AreChosenNumbers chosen.now numbers.now }
+    ensures { IfOk result (λ next. next ≡ record { relations = spread chosen.now (entry numbers.now) (unknown_count cases.now lower.now) ∷ stage.relations; free = stage.free; probes = stage.probes }) }
+{
+    let count = unknown_count(cases, lower);
+    let line = spread(alloc, chosen, numbers, count)?;
+    with_relation(alloc, stage, line)
 }
 
 fn with_relation(alloc: Global, stage: Stage, line: Items<i128>) -> Result<Stage, AllocError>

@@ -33,8 +33,21 @@ fn solution(alloc: Global, lines: &[Items<i128>]) -> Result<Items<Ratio>, AllocE
     ensures { IfOk result (IsSolution lines.now) }
 {
     let rows = equations(alloc, lines)?;
-    let columns = case_columns(alloc, rows.as_slice(), &[])?;
-    let answer = simplex::infeasible(alloc, rows.as_slice())?;
+    solution_of(alloc, lines, rows.as_slice())
+}
+
+/// The same by the equations of the lines.
+fn solution_of(
+    alloc: Global,
+    lines: &[Items<i128>],
+    rows: &[Row],
+) -> Result<Items<Ratio>, AllocError>
+    requires lines { AreRegularLines lines.now }
+    requires rows { rows.now ≡ map equation_of lines.now }
+    ensures { IfOk result (IsSolution lines.now) }
+{
+    let columns = case_columns(alloc, rows, &[])?;
+    let answer = simplex::infeasible(alloc, rows)?;
     let Answer::No(point) = &answer else {
         unreachable!()
     };

@@ -11,12 +11,12 @@ ghost use Rattle.simplex.specs.Strata.{PivotsOver};
 ghost use Rattle.elimination.specs.Answers.{IsPivots};
 ghost use Rattle.elimination.specs.BasisParts.{AreInners};
 ghost use Rattle.elimination.specs.Narrow.{IsSmallChange, IsSmallStratum};
-ghost use Rattle.elimination.specs.Probes.{IsProbe};
+ghost use Rattle.elimination.specs.Probes.{IsProbe, IsKernel};
 ghost use Rattle.elimination.specs.SmallStrata.{IsPassingBasis, LacksRoom, AreProbes};
 
 use crate::basis::basis;
 use crate::inner::{Inner, inner_point};
-use crate::kernel::kernel_of;
+use crate::kernel::{Kernel, kernel_of};
 use crate::probes::Probe;
 use crate::sizes::{is_small_change, is_small_stratum};
 use farkas_check::{Answer, Change, Stratum, canonical_stratum, stratum_columns, truth_of_passing};
@@ -79,10 +79,28 @@ fn basis_with_room(alloc: Global, asked: &Stratum) -> Result<Option<Answer>, All
     canonical_stratum(asked);
     let columns = stratum_columns(alloc, asked)?;
     let kernel = kernel_of(alloc, columns.as_slice(), asked)?;
+    basis_over(alloc, asked, columns.as_slice(), &kernel)
+}
+
+/// The basis of a kernel, or none where a case of its probes leaves no room.
+fn basis_over(
+    alloc: Global,
+    asked: &Stratum,
+    columns: &[Mono],
+    kernel: &Kernel,
+) -> Result<Option<Answer>, AllocError>
+    requires canonical { IsCanonicalStratum asked.now.cases asked.now.lower }
+    requires columns { columns.now ≡ stratum_columns asked.now.cases asked.now.lower }
+    requires stratum { IsSmallStratum asked.now.cases asked.now.lower }
+    requires small { All IsSmallChange asked.now.cases }
+    requires kernel { IsKernel columns.now asked.now.cases asked.now.lower kernel.now }
+    ensures basis { IfOk result (λ found. MatchOption found ⊤ (IsPassingBasis asked.now)) }
+    ensures none { IfOk result (λ found. found ≡ None → LacksRoom asked.now.cases) }
+{
     let probes = kernel.probes.as_slice();
-    match inner_points(alloc, columns.as_slice(), asked.cases(), probes)? {
+    match inner_points(alloc, columns, asked.cases(), probes)? {
         Some(inners) => {
-            let found = basis(alloc, asked, columns.as_slice(), kernel, inners.as_slice())?;
+            let found = basis(alloc, asked, columns, kernel, inners.as_slice())?;
             Ok(Some(found))
         }
         None => Ok(None),
