@@ -1,4 +1,5 @@
--- The spots around an inner point: each is a point of the case, and what a small polynomial is worth there.
+-- The spots around an inner point: each is a point of the case, and what a small polynomial is
+-- worth there.
 use Rattle.std.proofs.Common.{◌≡◌, ℕ, zero, suc, ◌+◌, ◌*◌, ◌<◌, ◌≤◌, Bool, true, false, cond, List, [], ◌∷◌, ◌++◌, length, get_or, refl, sym, ap, subst, ◌∙◌, arith, ⊎_elim, Result, Ok, Err, ℤ, pos, negsuc, ◌+ℤ◌, ◌*ℤ◌, ◌≤ℤ◌, ◌<ℤ◌}
 use Rattle.std.specs.Prelude.{◌^◌, ◌&&◌, ◌==◌, slice_get, Some, unsigned_abs, IfOk}
 use Rattle.std.specs.List.{AllByRecursion}

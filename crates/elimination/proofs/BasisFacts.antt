@@ -1,4 +1,5 @@
--- What is known where a basis is made: of the rows of a probe's case, of the weights of its place, and of duals; and that it passes.
+-- What is known where a basis is made: of the rows of a probe's case, of the weights of its place,
+-- and of duals; and that it passes.
 use Rattle.std.proofs.Common.{◌≡◌, ℕ, zero, suc, ◌+◌, ◌<◌, ◌≤◌, true, All, List, [], ◌∷◌, map, length, Ok, get_or, slice_get, Some, refl, sym, ap, subst, ◌∙◌, arith, ℤ, pos}
 use Rattle.std.specs.Prelude.{◌^◌, unsigned_abs}
 use Rattle.std.specs.List.{AllByRecursion}

@@ -1,4 +1,5 @@
--- The parts of a basis so far, and one more: relations, groups of spots, and groups of their multiples.
+-- The parts of a basis so far, and one more: relations, groups of spots, and groups of their
+-- multiples.
 use Rattle.std.proofs.Common.{◌≡◌, ℕ, zero, suc, ◌+◌, ◌<◌, ◌≤◌, List, [], ◌∷◌, ◌++◌, length, drop, slice_get, Some, refl, sym, ap, subst, ◌∙◌, append_assoc, arith, ℤ, ◌*ℤ◌}
 use Rattle.std.proofs.Common.{map}
 use Rattle.linear_terms.specs.declared.col.Col.{Col}

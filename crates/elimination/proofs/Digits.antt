@@ -1,4 +1,5 @@
--- Lists of numbers as the digits of one number: digits at the places that pass a test, and 0 at the others.
+-- Lists of numbers as the digits of one number: digits at the places that pass a test, and 0 at the
+-- others.
 use Rattle.std.proofs.Common.{◌≡◌, ℕ, zero, suc, ◌+◌, ◌*◌, ◌<◌, ◌≤◌, Bool, true, false, cond, refl, sym, ap, subst, ◌∙◌, arith, ⊎_elim}
 use Rattle.std.specs.Prelude.{nat_eq, ◌/◌, ◌%◌, ◌^◌}
 use Rattle.std.proofs.lemmas.Bool.{cases_eq, eq-eqb, ne_eqb, eqb-true, false≢true}

@@ -202,8 +202,8 @@ cross-times p c = record { x = none p.y p.z; y = none p.z p.x; z = none p.x p.y 
     none : (a b : ℤ) → a *ℤ (c *ℤ b) -ℤ b *ℤ (c *ℤ a) ≡ pos 0
     none a b = simp ring (omega (arith, ints))
 
--- Of two vectors that are not proportional at two places, a vector that is orthogonal to their product is a sum: its numbers
--- at these places, and at the third.
+-- Of two vectors that are not proportional at two places, a vector that is orthogonal to their
+-- product is a sum: its numbers at these places, and at the third.
 at_first : (a b d e g h : ℤ) → (a *ℤ e -ℤ b *ℤ d) *ℤ g ≡ (g *ℤ e -ℤ h *ℤ d) *ℤ a +ℤ (a *ℤ h -ℤ b *ℤ g) *ℤ d
 at_first a b d e g h = simp ring (omega (arith, ints))
 

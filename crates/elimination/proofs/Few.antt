@@ -1,5 +1,6 @@
--- At most six unknowns have probes with regular numbers: behind the two terms all numbers depend on the place alone, of which
--- there are four, so seven-irregular unknowns would have numbers, not all 0, that are 0 at each probe.
+-- At most six unknowns have probes with regular numbers: behind the two terms all numbers depend on
+-- the place alone, of which there are four, so seven-irregular unknowns would have numbers, not all
+-- 0, that are 0 at each probe.
 use Rattle.std.proofs.Common.{◌≡◌, ℕ, zero, suc, ◌+◌, ◌-◌, ◌*◌, ◌<◌, ◌≤◌, true, false, List, [], ◌∷◌, ◌++◌, map, length, get_or, refl, sym, ap, subst, ◌∙◌, arith, ⊎_elim, ℤ, pos, ◌*ℤ◌}
 use Rattle.std.specs.Prelude.{nat_lt, unsigned_abs, ◌^◌}
 use Rattle.std.specs.List.{AllByRecursion, list_all}

@@ -43,7 +43,8 @@ size_positive z n = ⊎_elim (λ (e : unsigned_abs z ≡ 0). absurd (n (zero_siz
     zero_size : (z : ℤ) → unsigned_abs z ≡ 0 → z ≡ pos 0
     zero_size z e = omega (arith, ints, e)
 
--- numbers and their denominator that are proportional to small whole numbers are small over their least common denominator
+-- numbers and their denominator that are proportional to small whole numbers are small over their
+-- least common denominator
 up_to : (most w : ℕ) (over bottom : ℤ) (top m : ℕ → ℤ) → pos 0 <ℤ over → (bottom ≡ pos 0 → ⊥) → ((j : ℕ) → j < w → over *ℤ top j ≡ bottom *ℤ m j)
     → unsigned_abs bottom ≤ most → ((j : ℕ) → j < w → unsigned_abs (top j) ≤ most) → AreUpTo most (over ∷ map m (places w))
 up_to most w over bottom top m above apart is bottom_small top_small =

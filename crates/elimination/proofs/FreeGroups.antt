@@ -1,4 +1,5 @@
--- Sums of multiples of the spots around one inner point: they stay within 128 bits, and read what a polynomial has at a place.
+-- Sums of multiples of the spots around one inner point: they stay within 128 bits, and read what a
+-- polynomial has at a place.
 use Rattle.std.proofs.Common.{◌≡◌, ℕ, zero, suc, ◌+◌, ◌*◌, ◌^◌, ◌<◌, ◌≤◌, List, [], ◌∷◌, ◌++◌, length, Some, Result, refl, sym, ap, subst, ◌∙◌, arith, ℤ, pos, ◌+ℤ◌, ◌*ℤ◌, ◌<ℤ◌}
 use Rattle.std.specs.Prelude.{slice_get, unsigned_abs}
 use Rattle.std.specs.List.{AllByRecursion}

@@ -1,4 +1,5 @@
--- The unknowns that are no pivot stand one behind the other, each once; and tests that pass at each place pass.
+-- The unknowns that are no pivot stand one behind the other, each once; and tests that pass at each
+-- place pass.
 use Rattle.std.proofs.Common.{◌≡◌, ℕ, zero, suc, ◌<◌, Bool, true, false, cond, List, [], ◌∷◌, map, length, get_or, Result, Ok, refl, sym, ap, ◌∙◌, arith, ℤ}
 use Rattle.std.specs.Prelude.{◌==◌, not}
 use Rattle.std.specs.List.{AllByRecursion, list_any, filter, zip}

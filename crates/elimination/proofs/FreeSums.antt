@@ -1,4 +1,5 @@
--- Products and sums of ratios over known denominators, and the value of what stands at an unknown, by those of polynomials.
+-- Products and sums of ratios over known denominators, and the value of what stands at an unknown,
+-- by those of polynomials.
 use Rattle.std.proofs.Common.{◌≡◌, ℕ, zero, suc, ◌+◌, ◌*◌, ◌^◌, ◌<◌, ◌≤◌, List, [], ◌∷◌, Result, Ok, refl, sym, ap, subst, ◌∙◌, arith, ℤ, pos, negsuc, ◌+ℤ◌, ◌*ℤ◌, ◌<ℤ◌}
 use Rattle.std.specs.Prelude.{neg_ℤ, unsigned_abs}
 use Rattle.std.specs.List.{AllByRecursion}

@@ -1,4 +1,5 @@
--- The multiples that duals give for the spots around inner points make units of the unknowns that are no pivot.
+-- The multiples that duals give for the spots around inner points make units of the unknowns that
+-- are no pivot.
 use Rattle.std.proofs.Common.{◌≡◌, ℕ, zero, suc, ◌+◌, ◌*◌, ◌^◌, ◌<◌, ◌≤◌, Bool, true, false, cond, List, [], ◌∷◌, ◌++◌, map, length, get_or, Result, Ok, refl, sym, ap, subst, ◌∙◌, arith, ℤ, pos, ◌+ℤ◌, ◌*ℤ◌, ◌<ℤ◌}
 use Rattle.std.specs.Prelude.{◌==◌, unsigned_abs}
 use Rattle.std.specs.List.{AllByRecursion, zip}
@@ -105,7 +106,8 @@ group-read cs inner place count number ss unknown law e h many small =
     ∙ *ℤ_left_comm number (pos 4 *ℤ inner.over) (side_by (read_at cs place) (one_at cs place) ss unknown)
     ∙ ap (λ z. (pos 4 *ℤ inner.over) *ℤ (number *ℤ z)) (sym (side_at-by cs place ss unknown))
 
--- the sum goes on over the spots around one inner point: a dual's number times what the probe has at the unknown is added
+-- the sum goes on over the spots around one inner point: a dual's number times what the probe has
+-- at the unknown is added
 probe-reaches : (cs : List (List Col)) (cases : List Change) (lower : List Polynomial) (unknown : ℕ) (over number x : ℤ) (total : Fraction) (probe : Probe) (inner : Inner) (group rest : List Spot) (more : List Fraction)
     → AreReading cs → AreSmallSides cs cases lower → pos 0 <ℤ over → unsigned_abs over ≤ 481890304 → unsigned_abs number ≤ 481890304 → probe.place ≤ length cs → IsInner cs (rows_of cases probe.case) inner → AreAround cs cases probe.case inner group
     → IsRatio total x over → unsigned_abs x ≤ 2 ^ 40

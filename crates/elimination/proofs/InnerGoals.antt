@@ -1,4 +1,5 @@
--- The search for numbers on which each of a few small lines is negative: it finds a corner, or there are none.
+-- The search for numbers on which each of a few small lines is negative: it finds a corner, or
+-- there are none.
 use Rattle.std.proofs.Common.{◌≡◌, ℕ, suc, ◌+◌, ◌-◌, ◌*◌, ◌<◌, ◌≤◌, List, [], ◌∷◌, map, length, refl, sym, ap, subst, ◌∙◌, arith, ℤ, pos, negsuc, ◌+ℤ◌, ◌*ℤ◌, ◌≤ℤ◌}
 use Rattle.std.specs.Prelude.{◌^◌, unsigned_abs, MatchOption}
 use Rattle.std.specs.List.{AllByRecursion}

@@ -1,4 +1,5 @@
--- The numbers of a point at columns, and their numerators over the least common denominator, which are small.
+-- The numbers of a point at columns, and their numerators over the least common denominator, which
+-- are small.
 use Rattle.whole_numbers.specs.declared.wide.Wide as Step
 use Rattle.simplex.specs.Spots.{common_denominator, numerators_over}
 use Rattle.simplex.proofs.Small.{HasValue, bind_value}

@@ -1,4 +1,5 @@
--- Rows as lines: a point with room in each row is what makes each line negative, and rows with room have one.
+-- Rows as lines: a point with room in each row is what makes each line negative, and rows with room
+-- have one.
 use Rattle.std.proofs.Common.{◌≡◌, ◌⊎◌, ℕ, suc, ◌+◌, ◌≤◌, Bool, true, false, List, [], ◌∷◌, ◌++◌, map, length, refl, sym, ap, subst, ◌∙◌, arith, ⊎_elim, inl, inr, ℤ, pos, negsuc, ◌+ℤ◌, ◌*ℤ◌, ◌≤ℤ◌, ◌<ℤ◌}
 use Rattle.std.specs.Prelude.{get_or, ◌↔◌, ⊤, IsTrue, Option, None, MatchOption, is_some, ◌&&◌, ◌^◌, slice_get, Some, unsigned_abs}
 use Rattle.std.specs.List.{AllByRecursion, list_all}

@@ -1,4 +1,5 @@
--- Points in the midst of rows: where each row with monomials is not 0 at some point of the rows, no equation is implied.
+-- Points in the midst of rows: where each row with monomials is not 0 at some point of the rows, no
+-- equation is implied.
 use Rattle.std.proofs.Common.{◌≡◌, ◌⊎◌, ◌≤◌, Bool, true, false, cond, List, [], ◌∷◌, refl, sym, ap, subst, ◌∙◌, arith, ⊎_elim, inl, inr, ℤ, pos, negsuc, ◌+ℤ◌, ◌*ℤ◌, ◌≤ℤ◌, ◌<ℤ◌}
 use Rattle.std.specs.Prelude.{unsigned_abs}
 use Rattle.std.specs.List.{AllByRecursion}

@@ -1,5 +1,5 @@
--- Tableaux of a frame with few columns before its units, and small numbers: each column of multiples is proportional to whole
--- numbers that are small.
+-- Tableaux of a frame with few columns before its units, and small numbers: each column of
+-- multiples is proportional to whole numbers that are small.
 use Rattle.std.proofs.Common.{◌≡◌, ◌≢◌, ℕ, suc, ◌+◌, ◌*◌, ◌-◌, ◌<◌, ◌≤◌, Bool, true, false, cond, refl, sym, ap, subst, ◌∙◌, arith, ⊎_elim, ℤ, pos, ◌+ℤ◌, ◌-ℤ◌, ◌*ℤ◌, ◌<ℤ◌}
 use Rattle.std.specs.Prelude.{◌||◌, ◌^◌, nat_eq, nat_lt, not, unsigned_abs, neg_ℤ}
 use Rattle.std.proofs.lemmas.Int.{ints}

@@ -1,4 +1,5 @@
--- A narrow question of rows or goals is calm, is not dead, and has few choices; a slim one has few choices.
+-- A narrow question of rows or goals is calm, is not dead, and has few choices; a slim one has few
+-- choices.
 use Rattle.std.proofs.Common.{◌≡◌, ℕ, zero, suc, ◌+◌, ◌-◌, ◌*◌, ◌<◌, ◌≤◌, Bool, true, false, cond, List, [], ◌∷◌, map, length, get_or, refl, subst, arith, ⊎_elim}
 use Rattle.std.specs.Prelude.{◌^◌, unsigned_abs, slice_get, Some, Result, Ok, Err, IfOk}
 use Rattle.std.specs.List.{AllByRecursion}

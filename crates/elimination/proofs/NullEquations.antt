@@ -1,4 +1,5 @@
--- The equations of lines: how they are made, what they are worth at a point, and which columns and numbers they have.
+-- The equations of lines: how they are made, what they are worth at a point, and which columns and
+-- numbers they have.
 use Rattle.std.proofs.Common.{◌≡◌, ℕ, zero, suc, ◌+◌, ◌<◌, ◌≤◌, Bool, true, false, cond, List, [], ◌∷◌, ◌++◌, length, map, get_or, take, drop, refl, sym, ap, subst, ◌∙◌, arith, ⊎_elim, Result, Ok, ℤ, pos, ◌+ℤ◌, ◌*ℤ◌}
 use Rattle.std.specs.Prelude.{◌^◌, nat_eq, unsigned_abs}
 use Rattle.std.specs.Cmp.{nat_cmp_is}

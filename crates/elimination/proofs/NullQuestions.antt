@@ -1,4 +1,5 @@
--- The question whether the equations of regular lines have no point is calm and they have one, whose numbers are a null vector.
+-- The question whether the equations of regular lines have no point is calm and they have one,
+-- whose numbers are a null vector.
 use Rattle.std.proofs.Common.{◌≡◌, ℕ, ◌+◌, ◌*◌, ◌<◌, ◌≤◌, Bool, cond, List, [], ◌∷◌, length, map, get_or, refl, sym, ap, subst, ◌∙◌, arith, ℤ, pos, ◌+ℤ◌, ◌*ℤ◌, ◌≤ℤ◌, ◌<ℤ◌}
 use Rattle.std.specs.Prelude.{◌^◌, unsigned_abs, neg_ℤ}
 use Rattle.std.specs.List.{AllByRecursion}

@@ -1,5 +1,5 @@
--- Regular equations: a vector that they make 0 is 0, so with one more number each their null vectors are proportional, and one
--- of them is small.
+-- Regular equations: a vector that they make 0 is 0, so with one more number each their null
+-- vectors are proportional, and one of them is small.
 use Rattle.std.proofs.Common.{◌≡◌, ℕ, zero, suc, ◌+◌, ◌*◌, ◌<◌, ◌≤◌, Bool, true, cond, refl, sym, ap, ◌∙◌, arith, ⊎_elim, ℤ, pos, negsuc, ◌+ℤ◌, ◌-ℤ◌, ◌*ℤ◌, ◌≤ℤ◌, ◌<ℤ◌}
 use Rattle.std.specs.Prelude.{◌^◌, nat_eq, unsigned_abs, neg_ℤ}
 use Rattle.std.proofs.lemmas.Int.{ints, by_lt_z}

@@ -1,4 +1,5 @@
--- The null vector of the lines at the probes is the own relation of an unknown, and that of the unit lines is a dual.
+-- The null vector of the lines at the probes is the own relation of an unknown, and that of the
+-- unit lines is a dual.
 use Rattle.std.proofs.Common.{◌≡◌, ℕ, zero, suc, ◌+◌, ◌<◌, ◌≤◌, Bool, true, false, cond, List, [], ◌∷◌, ◌++◌, map, length, get_or, refl, sym, ap, subst, ◌∙◌, arith, ⊎_elim, ℤ, pos, negsuc, ◌+ℤ◌, ◌-ℤ◌, ◌*ℤ◌, ◌<ℤ◌, length-append}
 use Rattle.std.specs.Prelude.{◌==◌, unsigned_abs, if◌then◌else◌}
 use Rattle.std.specs.List.{AllByRecursion}

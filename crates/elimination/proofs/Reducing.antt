@@ -1,4 +1,5 @@
--- A relation whose pivot stands before all others, and that is 0 at the pivots of the others, keeps relations reduced.
+-- A relation whose pivot stands before all others, and that is 0 at the pivots of the others, keeps
+-- relations reduced.
 use Rattle.std.proofs.Common.{◌≡◌, ◌≢◌, ℕ, zero, suc, ◌<◌, ◌≤◌, Bool, true, false, cond, List, [], ◌∷◌, map, length, refl, sym, ap, ◌∙◌, arith, ℤ, pos, ◌<ℤ◌}
 use Rattle.std.specs.Prelude.{◌&&◌, ◌||◌, ◌==◌, not, int_lt, nat_lt, Some, IsTrue}
 use Rattle.std.specs.List.{AllByRecursion, list_all, list_any, filter}

@@ -1,5 +1,5 @@
--- Regular equations. They stay regular with one more equation and one more unknown, both in front, where numbers that the old
--- equations make 0 are not 0 in the new one. They make 0 of 0 alone.
+-- Regular equations. They stay regular with one more equation and one more unknown, both in front,
+-- where numbers that the old equations make 0 are not 0 in the new one. They make 0 of 0 alone.
 use Rattle.std.proofs.Common.{◌≡◌, ℕ, zero, suc, ◌<◌, cond, refl, sym, ap, ◌∙◌, arith, Bool, ℤ, pos, ◌+ℤ◌, ◌-ℤ◌, ◌*ℤ◌}
 use Rattle.std.specs.Prelude.{nat_eq, neg_ℤ}
 use Rattle.std.proofs.lemmas.Int.{ints}

@@ -1,4 +1,5 @@
--- What stands at an unknown, at a place: which polynomial it is, how great it is, and what it depends on.
+-- What stands at an unknown, at a place: which polynomial it is, how great it is, and what it
+-- depends on.
 use Rattle.std.proofs.Common.{◌≡◌, ◌≢◌, ℕ, zero, suc, ◌+◌, ◌<◌, ◌≤◌, List, [], ◌∷◌, length, get_or, refl, sym, ap, ◌∙◌, arith, ℤ, pos, ◌+ℤ◌, ◌*ℤ◌}
 use Rattle.std.specs.Prelude.{neg_ℤ, unsigned_abs}
 use Rattle.std.specs.List.{AllByRecursion}

@@ -1,4 +1,5 @@
--- The basis of a stratum question of small numbers: what narrow gives, and inner points probe by probe.
+-- The basis of a stratum question of small numbers: what narrow gives, and inner points probe by
+-- probe.
 use Rattle.std.proofs.Common.{◌≡◌, ℕ, zero, suc, ◌+◌, ◌-◌, ◌<◌, ◌≤◌, List, [], ◌∷◌, ◌++◌, length, map, get_or, refl, sym, ap, subst, ◌∙◌, arith, ⊎_elim, inl, inr}
 use Rattle.std.specs.Prelude.{◌⊎◌, ◌^◌, All, Option, Some, None, slice_get, Result, Ok, Err, IfOk}
 use Rattle.std.specs.List.{AllByRecursion}

@@ -1,4 +1,5 @@
--- Fewer equations than unknowns, with small numbers, have a small solution that is not 0 (Siegel's lemma).
+-- Fewer equations than unknowns, with small numbers, have a small solution that is not 0 (Siegel's
+-- lemma).
 use Rattle.std.proofs.Common.{◌≡◌, ◌≢◌, ℕ, zero, suc, ◌+◌, ◌*◌, ◌-◌, ◌<◌, ◌≤◌, Bool, true, false, sym, ap, ◌∙◌, arith, ⊎_elim, inl, inr, ℤ, pos, negsuc, ◌+ℤ◌, ◌-ℤ◌, ◌*ℤ◌}
 use Rattle.std.specs.Prelude.{◌⊎◌, ◌^◌, unsigned_abs, neg_ℤ}
 use Rattle.std.proofs.lemmas.Int.{ints}
@@ -65,7 +66,8 @@ value-difference (suc p) f b v w h k =
 
 -- ---- solutions
 
--- a small solution of the equations that pass, 0 at the unknowns that do not pass, and not 0 at all places
+-- a small solution of the equations that pass, 0 at the unknowns that do not pass, and not 0 at all
+-- places
 pub record HasSolution (p q : ℕ) (unknown equation : ℕ → Bool) (f : ℕ → ℕ → ℤ) (most : ℕ) : Type 0 where
   pub x : ℕ → ℤ
   pub outside : (j : ℕ) → unknown j ≡ false → x j ≡ pos 0

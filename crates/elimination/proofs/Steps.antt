@@ -1,4 +1,5 @@
--- One unknown more: either its own relation is one in each case, or a probe where it is not 0 keeps the numbers regular.
+-- One unknown more: either its own relation is one in each case, or a probe where it is not 0 keeps
+-- the numbers regular.
 use Rattle.std.proofs.Common.{◌≡◌, ◌≢◌, ℕ, zero, suc, ◌+◌, ◌-◌, ◌*◌, ◌<◌, ◌≤◌, List, [], ◌∷◌, ◌++◌, map, length, get_or, refl, sym, ap, subst, ◌∙◌, arith, ⊎_elim, ℤ, pos, ◌+ℤ◌, ◌*ℤ◌, ◌<ℤ◌, length-append}
 use Rattle.std.specs.Prelude.{◌^◌, ◌==◌, not, unsigned_abs}
 use Rattle.std.specs.List.{AllByRecursion, list_any, filter}

@@ -1,5 +1,5 @@
--- Tableaux of a frame with few columns before its units, and small numbers: each line and each column of multiples is
--- proportional to whole numbers that are small.
+-- Tableaux of a frame with few columns before its units, and small numbers: each line and each
+-- column of multiples is proportional to whole numbers that are small.
 use Rattle.std.proofs.Common.{◌≡◌, ◌≢◌, ℕ, suc, ◌+◌, ◌*◌, ◌-◌, ◌<◌, ◌≤◌, Bool, true, false, refl, sym, ap, ◌∙◌, arith, ⊎_elim, ℤ, pos, ◌*ℤ◌, ◌<ℤ◌}
 use Rattle.std.specs.Prelude.{◌^◌, not, unsigned_abs}
 use Rattle.std.proofs.lemmas.Int.{ints}

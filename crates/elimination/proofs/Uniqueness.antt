@@ -1,4 +1,5 @@
--- Rows have one reduced basis: two lists of lines in reduced echelon form that span the same are one list.
+-- Rows have one reduced basis: two lists of lines in reduced echelon form that span the same are
+-- one list.
 use Rattle.std.proofs.Common.{◌≡◌, ℕ, zero, suc, ◌*◌, ◌<◌, ◌≤◌, Bool, true, false, cond, List, [], ◌∷◌, length, Some, refl, sym, ap, subst, ◌∙◌, arith, ⊎_elim, ℤ, pos, ◌+ℤ◌, ◌*ℤ◌, ◌<ℤ◌}
 use Rattle.std.specs.Prelude.{slice_get, neg_ℤ, unsigned_abs}
 use Rattle.std.specs.List.{AllByRecursion}

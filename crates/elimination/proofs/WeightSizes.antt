@@ -1,4 +1,5 @@
--- How great the values around an inner point are, and the multiples that read what a polynomial has at a place.
+-- How great the values around an inner point are, and the multiples that read what a polynomial has
+-- at a place.
 use Rattle.std.proofs.Common.{◌≡◌, ℕ, zero, suc, ◌+◌, ◌*◌, ◌≤◌, Bool, true, false, cond, List, [], ◌∷◌, ◌++◌, length, ap, arith, ℤ, pos, negsuc, ◌+ℤ◌, ◌*ℤ◌}
 use Rattle.std.specs.Prelude.{nat_eq, nat_lt, unsigned_abs}
 use Rattle.std.specs.List.{AllByRecursion}

@@ -1,4 +1,5 @@
--- A relation whose difference is the polynomial 0 in each case is tied by zeros, and its test stays within 128 bits.
+-- A relation whose difference is the polynomial 0 in each case is tied by zeros, and its test stays
+-- within 128 bits.
 use Rattle.std.proofs.Common.{◌≡◌, ℕ, zero, suc, ◌+◌, ◌*◌, ◌^◌, ◌<◌, ◌≤◌, Bool, true, false, List, [], ◌∷◌, map, length, Result, Ok, refl, ap, ◌∙◌, arith, ℤ, pos, negsuc, ◌+ℤ◌, ◌*ℤ◌}
 use Rattle.std.specs.Prelude.{◌==◌, ◌&&◌, int_le, unsigned_abs}
 use Rattle.std.specs.List.{AllByRecursion, list_all, zip}

@@ -1,5 +1,6 @@
--- The spots around an inner point: the point itself, and for each column the point moved along it by a quarter of 1 over
--- its denominator. Whole multiples of the values at them give what a polynomial has at each place.
+-- The spots around an inner point: the point itself, and for each column the point moved along it
+-- by a quarter of 1 over its denominator. Whole multiples of the values at them give what a
+-- polynomial has at each place.
 use Rattle.std.specs.Prelude.{◌≡◌, ℕ, zero, suc, ◌+◌, nat_eq, nat_lt, ℤ, pos, negsuc, ◌+ℤ◌, ◌*ℤ◌, List, [], ◌∷◌, length, slice_get, Some, true, Ok, if◌then◌else◌}
 use Rattle.std.specs.List.{AllByRecursion}
 use Rattle.std.specs.Map.{keys_of}
@@ -22,7 +23,8 @@ around_value cs inner zero p = pos 4 *ℤ value_in cs inner p
 around_value cs inner (suc column) p = pos 4 *ℤ value_in cs inner p +ℤ read_at cs column p
 
 -- the polynomial's value at a spot, in lowest terms, is a numerator over a denominator
-pub record HasValue (cs : List (List Col)) (spot : Spot) (p : Polynomial) (num den : ℤ) : Type 0 where
+pub record HasValue (cs : List (List Col)) (spot : Spot) (p : Polynomial)
+    (num den : ℤ) : Type 0 where
   pub value : Fraction
   pub is : spot_value cs spot p ≡ Ok value
   pub lowest : IsLowest value
@@ -35,11 +37,13 @@ pub record IsSmallOver (cs : List (List Col)) (p : Polynomial) : Type 0 where
   pub among : (m : List Col) → is_among m (keys_of p.terms) ≡ true → is_among m cs ≡ true
 
 -- spots of a case around an inner point of its rows
-pub record AreAround (cs : List (List Col)) (cases : List Change) (case : ℕ) (inner : Inner) (spots : List Spot) : Type 0 where
+pub record AreAround (cs : List (List Col)) (cases : List Change) (case : ℕ) (inner : Inner)
+    (spots : List Spot) : Type 0 where
   pub each : length spots ≡ length cs + 1
   pub case_is : AllByRecursion (λ (spot : Spot). spot.case ≡ case) spots
   pub tested : AllByRecursion (λ (spot : Spot). tested_spot cs cases spot ≡ Ok true) spots
-  pub values : (i : ℕ) (spot : Spot) → slice_get spots i ≡ Some spot → (p : Polynomial) → IsSmallOver cs p
+  pub values : (i : ℕ) (spot : Spot) → slice_get spots i ≡ Some spot → (p : Polynomial)
+      → IsSmallOver cs p
       → HasValue cs spot p (around_value cs inner i p) (pos 4 *ℤ inner.over)
 
 -- the sum of all numbers
@@ -57,11 +61,16 @@ abbrev pub column_weight : Inner → ℕ → ℕ → ℤ
 column_weight inner own zero = negsuc 3 *ℤ inner.over
 column_weight inner own (suc column) = if nat_eq column own then pos 4 *ℤ inner.over else pos 0
 
--- the multiple of the spot at a place that a place of the case takes: one of so many columns, or the constants
+-- the multiple of the spot at a place that a place of the case takes: one of so many columns, or
+-- the constants
 abbrev pub weight_at : ℕ → Inner → ℕ → ℕ → ℤ
-weight_at columns inner place spot = if nat_lt place columns then column_weight inner place spot else constant_weight inner spot
+weight_at columns inner place spot = if nat_lt place columns then column_weight inner place spot
+    else constant_weight inner spot
 
--- a law: these multiples of the values give what the polynomial has at the place, times the common denominator
+-- a law: these multiples of the values give what the polynomial has at the place, times the common
+-- denominator
 abbrev pub WeightsRead : List (List Col) → Inner → ℕ → Polynomial → Type 0
 WeightsRead cs inner place p =
-    sum_below (length cs + 1) (λ i. weight_at (length cs) inner place i *ℤ around_value cs inner i p) ≡ (pos 4 *ℤ inner.over) *ℤ read_at cs place p
+    sum_below (length cs + 1)
+    (λ i. weight_at (length cs) inner place i *ℤ around_value cs inner i p)
+    ≡ (pos 4 *ℤ inner.over) *ℤ read_at cs place p

@@ -1,5 +1,5 @@
--- What the basis of a kernel is made of: relations that zeros tie in each case, the spots around an inner point for each probe,
--- and for each dual its multiples of these spots.
+-- What the basis of a kernel is made of: relations that zeros tie in each case, the spots around an
+-- inner point for each probe, and for each dual its multiples of these spots.
 use Rattle.std.specs.Prelude.{◌≡◌, ℕ, zero, suc, ◌+◌, ◌^◌, ◌≤◌, ℤ, pos, ◌*ℤ◌, ◌<ℤ◌, unsigned_abs, List, [], ◌∷◌, ◌++◌, map, length, slice_get, Some, All}
 use Rattle.std.specs.List.{AllByRecursion}
 use Rattle.linear_terms.specs.declared.col.Col.{Col}
@@ -22,12 +22,15 @@ use Rattle.elimination.specs.Narrow.{IsSmallChange, IsSmallStratum}
 use Rattle.elimination.specs.Probes.{IsInner, IsProbe}
 
 -- an inner point for each probe, one of the rows of its case
-pub record AreInners (cs : List (List Col)) (cases : List Change) (probes : List Probe) (inners : List Inner) : Type 0 where
+pub record AreInners (cs : List (List Col)) (cases : List Change) (probes : List Probe)
+    (inners : List Inner) : Type 0 where
   pub each : length inners ≡ length probes
-  pub inside : (i : ℕ) (probe : Probe) (inner : Inner) → slice_get probes i ≡ Some probe → slice_get inners i ≡ Some inner → IsInner cs (rows_of cases probe.case) inner
+  pub inside : (i : ℕ) (probe : Probe) (inner : Inner) → slice_get probes i ≡ Some probe
+      → slice_get inners i ≡ Some inner → IsInner cs (rows_of cases probe.case) inner
 
 -- a small question in canonical form over its columns, probes of it, and inner points for them
-pub record IsBasisAsked (cs : List (List Col)) (cases : List Change) (lower : List Polynomial) (probes : List Probe) (inners : List Inner) : Type 0 where
+pub record IsBasisAsked (cs : List (List Col)) (cases : List Change) (lower : List Polynomial)
+    (probes : List Probe) (inners : List Inner) : Type 0 where
   pub canonical : IsCanonicalStratum cases lower
   pub columns : cs ≡ stratum_columns cases lower
   pub stratum : IsSmallStratum cases lower
@@ -43,25 +46,38 @@ no_multipliers rows = map (λ (row : Row). pos 0) rows
 
 -- what ties a relation whose difference is the polynomial 0
 abbrev pub zero_tie : Change → Tie
-zero_tie case = record { up_scale = pos 1; up = no_multipliers case.rows; down_scale = pos 1; down = no_multipliers case.rows }
+zero_tie case = record {
+  up_scale = pos 1;
+  up = no_multipliers case.rows;
+  down_scale = pos 1;
+  down = no_multipliers case.rows;
+}
 
 -- each relation has the numbers of one line, and zeros tie it in each case
 abbrev pub AreTied : List Change → List Polynomial → List (List ℤ) → List Relation → Type 0
 AreTied cases lower [] relations = relations ≡ []
 AreTied cases lower (line ∷ lines) [] = ⊥
-AreTied cases lower (line ∷ lines) (relation ∷ relations) = IsRelationWith (term_count cases) (length lower) line (map zero_tie cases) relation × AreTied cases lower lines relations
+AreTied cases lower (line ∷ lines) (relation ∷ relations) =
+    IsRelationWith (term_count cases) (length lower) line (map zero_tie cases) relation
+    × AreTied cases lower lines relations
 
 -- ---- spots
 
--- the spots around the first inner point, in the case of the first probe, and then those of the others
+-- the spots around the first inner point, in the case of the first probe, and then those of the
+-- others
 abbrev pub AreGroups : List (List Col) → List Change → List Probe → List Inner → List Spot → Type 0
 AreGroups cs cases [] inners spots = spots ≡ []
 AreGroups cs cases (probe ∷ probes) [] spots = ⊥
-AreGroups cs cases (probe ∷ probes) (inner ∷ inners) spots = (group : List Spot) × ((rest : List Spot) × ((spots ≡ group ++ rest) × (AreAround cs cases probe.case inner group × AreGroups cs cases probes inners rest)))
+AreGroups cs cases (probe ∷ probes) (inner ∷ inners) spots = (group : List Spot)
+    × ((rest : List Spot)
+    × ((spots ≡ group ++ rest)
+    × (AreAround cs cases probe.case inner group × AreGroups cs cases probes inners rest)))
 
 -- the spots around the inner point at a place, in the case of the probe there
-pub record IsGroupAt (cs : List (List Col)) (cases : List Change) (probes : List Probe) (inners : List Inner) (place : ℕ) (group : List Spot) : Type 0 where
-  pub around : (probe : Probe) (inner : Inner) → slice_get probes place ≡ Some probe → slice_get inners place ≡ Some inner → AreAround cs cases probe.case inner group
+pub record IsGroupAt (cs : List (List Col)) (cases : List Change) (probes : List Probe)
+    (inners : List Inner) (place : ℕ) (group : List Spot) : Type 0 where
+  pub around : (probe : Probe) (inner : Inner) → slice_get probes place ≡ Some probe
+      → slice_get inners place ≡ Some inner → AreAround cs cases probe.case inner group
 
 -- ---- multiples of spots
 
@@ -81,27 +97,37 @@ listed zero f = []
 listed (suc n) f = f zero ∷ listed n (λ i. f (suc i))
 
 -- what the place of the probe at a place takes of the spots around the inner point there
-pub record AreWeightsAt (columns : ℕ) (probes : List Probe) (inners : List Inner) (place : ℕ) (weights : List ℤ) : Type 0 where
-  pub are : (probe : Probe) (inner : Inner) → slice_get probes place ≡ Some probe → slice_get inners place ≡ Some inner → weights ≡ listed (suc columns) (weight_at columns inner probe.place)
+pub record AreWeightsAt (columns : ℕ) (probes : List Probe) (inners : List Inner) (place : ℕ)
+    (weights : List ℤ) : Type 0 where
+  pub are : (probe : Probe) (inner : Inner) → slice_get probes place ≡ Some probe
+      → slice_get inners place ≡ Some inner
+      → weights ≡ listed (suc columns) (weight_at columns inner probe.place)
 
--- a number times what the place of a probe takes of the spots around an inner point, over another number
+-- a number times what the place of a probe takes of the spots around an inner point, over another
+-- number
 abbrev pub group_multiples : ℕ → ℤ → ℤ → Probe → Inner → List Fraction
-group_multiples columns over number probe inner = listed (suc columns) (λ i. lowest_terms (number *ℤ weight_at columns inner probe.place i) over)
+group_multiples columns over number probe inner =
+    listed (suc columns) (λ i. lowest_terms (number *ℤ weight_at columns inner probe.place i) over)
 
 -- the same for numbers and probes, one after another
 abbrev pub multiples_over : ℕ → ℤ → List ℤ → List Probe → List Inner → List Fraction
 multiples_over columns over numbers [] inners = []
 multiples_over columns over [] (probe ∷ probes) inners = []
 multiples_over columns over (number ∷ numbers) (probe ∷ probes) [] = []
-multiples_over columns over (number ∷ numbers) (probe ∷ probes) (inner ∷ inners) = group_multiples columns over number probe inner ++ multiples_over columns over numbers probes inners
+multiples_over columns over (number ∷ numbers) (probe ∷ probes) (inner ∷ inners) =
+    group_multiples columns over number probe inner ++ multiples_over columns over numbers probes
+    inners
 
 -- the multiples of all spots that a dual gives
 abbrev pub dual_multiples : ℕ → List Probe → List Inner → List ℤ → List Fraction
-dual_multiples columns probes inners dual = multiples_over columns (entry dual (length probes)) dual probes inners
+dual_multiples columns probes inners dual = multiples_over columns (entry dual (length probes)) dual
+    probes inners
 
 -- ---- the basis
 
-pub record IsBasisOf (cs : List (List Col)) (cases : List Change) (lower : List Polynomial) (kernel : Kernel) (inners : List Inner) (relations : List Relation) (spots : List Spot) (free : List (List Fraction)) : Type 0 where
+pub record IsBasisOf (cs : List (List Col)) (cases : List Change) (lower : List Polynomial)
+    (kernel : Kernel) (inners : List Inner) (relations : List Relation) (spots : List Spot)
+    (free : List (List Fraction)) : Type 0 where
   pub relations_too : AreTied cases lower kernel.relations relations
   pub spots_too : AreGroups cs cases kernel.probes inners spots
   pub free_too : free ≡ map (dual_multiples (length cs) kernel.probes inners) kernel.duals

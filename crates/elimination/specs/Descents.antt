@@ -41,7 +41,8 @@ pub record IsDescent (count : ℕ) (lines : List (List ℤ)) (numbers : List ℤ
 
 -- on no numbers is each line negative
 pub record HasNoDescent (count : ℕ) (lines : List (List ℤ)) : Type 0 where
-  pub none : (numbers : List ℤ) → length numbers ≡ count → AllByRecursion (IsBelow numbers) lines → ⊥
+  pub none : (numbers : List ℤ) → length numbers ≡ count → AllByRecursion (IsBelow numbers) lines
+      → ⊥
 
 -- ---- the goal: each line and 1 is at most 0
 

@@ -26,19 +26,22 @@ pub record AreSmallRatios (rows : List (List Fraction)) : Type 0 where
   pub few : width rows ≤ 3
   pub small : All (All IsSmallRatio) rows
 
--- ---- what rows span: whole numbers, one for each place, to which each rational vector of the span is proportional
+-- ---- what rows span: whole numbers, one for each place, to which each rational vector of the span
+-- is proportional
 
 -- the numbers are a multiple of those of a row
 pub record IsMultipleOf (row : List Fraction) (numbers : ℕ → ℤ) : Type 0 where
   pub times : ℤ
   pub same : (j : ℕ) → numbers j *ℤ (number_in row j).den ≡ times *ℤ (number_in row j).num
 
--- The least set that has 0 and the multiples of each row, and all numbers of which a multiple, but not by 0, is a sum of
--- multiples of two others.
+-- The least set that has 0 and the multiples of each row, and all numbers of which a multiple, but
+-- not by 0, is a sum of multiples of two others.
 pub data IsSpanned (rows : List (List Fraction)) : (ℕ → ℤ) → Type 0 where
   Zero : (numbers : ℕ → ℤ) → ((j : ℕ) → numbers j ≡ pos 0) → IsSpanned rows numbers
-  Own : (place : ℕ) (row : List Fraction) (numbers : ℕ → ℤ) → slice_get rows place ≡ Some row → IsMultipleOf row numbers → IsSpanned rows numbers
-  Sum : (first second numbers : ℕ → ℤ) (a b times : ℤ) → IsSpanned rows first → IsSpanned rows second → times ≢ pos 0
+  Own : (place : ℕ) (row : List Fraction) (numbers : ℕ → ℤ) → slice_get rows place ≡ Some row
+      → IsMultipleOf row numbers → IsSpanned rows numbers
+  Sum : (first second numbers : ℕ → ℤ) (a b times : ℤ) → IsSpanned rows first
+      → IsSpanned rows second → times ≢ pos 0
       → ((j : ℕ) → times *ℤ numbers j ≡ a *ℤ first j +ℤ b *ℤ second j) → IsSpanned rows numbers
 
 -- ---- reduced row echelon form
@@ -56,11 +59,12 @@ pub record StandsBefore (line later : List Fraction) : Type 0 where
   pub rising : pivot_in line < pivot_in later
   pub alone : number_in line (pivot_in later) ≡ whole (pos 0)
 
--- Each line has the pivot 1, and pivots rise. All other lines are 0 there: the lines before it as is asked, and those behind
--- it since they begin with zeros up to their own pivot.
+-- Each line has the pivot 1, and pivots rise. All other lines are 0 there: the lines before it as
+-- is asked, and those behind it since they begin with zeros up to their own pivot.
 abbrev pub IsEchelon : List (List Fraction) → Type 0
 IsEchelon [] = Unit {0}
-IsEchelon (line ∷ lines) = HasUnitPivot line × AllByRecursion (StandsBefore line) lines × IsEchelon lines
+IsEchelon (line ∷ lines) = HasUnitPivot line × AllByRecursion (StandsBefore line) lines
+    × IsEchelon lines
 
 -- the reduced row echelon basis of rows: lines as long as these, in that form, that span the same
 pub record IsReducedOf (rows lines : List (List Fraction)) : Type 0 where
@@ -70,5 +74,7 @@ pub record IsReducedOf (rows lines : List (List Fraction)) : Type 0 where
 
 -- a law: rows have one reduced basis, of numbers in lowest terms
 abbrev pub OneReducedBasis : Type 0
-OneReducedBasis = (rows lines others : List (List Fraction)) → AllByRecursion (AllByRecursion IsLowest) lines → AllByRecursion (AllByRecursion IsLowest) others
+OneReducedBasis = (rows lines others : List (List Fraction))
+    → AllByRecursion (AllByRecursion IsLowest) lines
+    → AllByRecursion (AllByRecursion IsLowest) others
     → IsReducedOf rows lines → IsReducedOf rows others → lines ≡ others

@@ -1,4 +1,5 @@
--- Words of the steps that make a null vector: the equations that lines of numbers stand for, and what solves them.
+-- Words of the steps that make a null vector: the equations that lines of numbers stand for, and
+-- what solves them.
 use Rattle.std.specs.Prelude.{◌≡◌, ℕ, zero, suc, ◌+◌, ◌<◌, ◌≤◌, ℤ, pos, ◌*ℤ◌, ◌<ℤ◌, List, [], ◌∷◌, ◌++◌, length, get_or, unsigned_abs, Result}
 use Rattle.std.specs.List.{AllByRecursion}
 use Rattle.items.specs.Gives.{◌>>=◌}
@@ -58,10 +59,12 @@ pub record IsSolution (lines : List (List ℤ)) (values : List Fraction) : Type 
   pub over : ℤ
   pub positive : pos 0 <ℤ over
   pub each : length values ≡ length lines + 1
-  pub same : (j : ℕ) → j < length values → (get_or values j (whole (pos 0))).num *ℤ over ≡ numerator j *ℤ (get_or values j (whole (pos 0))).den
+  pub same : (j : ℕ) → j < length values → (get_or values j (whole (pos 0))).num *ℤ over
+      ≡ numerator j *ℤ (get_or values j (whole (pos 0))).den
   pub last : get_or values (length lines) (whole (pos 0)) ≡ whole (pos 1)
   pub last_too : numerator (length lines) ≡ over
-  pub solves : (i : ℕ) → i < length lines → sum_below (length lines + 1) (λ j. number_at lines i j *ℤ numerator j) ≡ pos 0
+  pub solves : (i : ℕ) → i < length lines
+      → sum_below (length lines + 1) (λ j. number_at lines i j *ℤ numerator j) ≡ pos 0
 
 -- the numerators over the least common denominator
 abbrev pub least_numerators : List Fraction → Result (List ℤ) Step.Wide

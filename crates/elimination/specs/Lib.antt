@@ -7,7 +7,8 @@ pub mod Echelon
 
 pub mod Narrow
 pub mod Rooms
--- differences at the probes of a case, the relations that are 0 there, and spots around inner points
+-- differences at the probes of a case, the relations that are 0 there, and spots around inner
+-- points
 pub mod Around
 pub mod BasisParts
 pub mod Probes

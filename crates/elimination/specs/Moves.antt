@@ -20,7 +20,8 @@ moved place j number = pos 4 *ℤ number +ℤ (if place == j + 1 then pos 1 else
 -- the numbers of a spot over four times the denominator, from the j-th column on
 abbrev pub moved_from : ℤ → ℕ → ℕ → List ℤ → List Fraction
 moved_from over place j [] = []
-moved_from over place j (z ∷ zs) = lowest_terms (moved place j z) (pos 4 *ℤ over) ∷ moved_from over place (j + 1) zs
+moved_from over place j (z ∷ zs) = lowest_terms (moved place j z) (pos 4 *ℤ over) ∷ moved_from over
+    place (j + 1) zs
 
 -- the spot at a place
 abbrev pub spot_at : ℕ → Inner → ℕ → Spot
@@ -34,4 +35,5 @@ spots_to case inner (suc n) = spots_to case inner n ++ spot_at case inner n ∷ 
 -- the multiples of the first so many spots that a place takes
 abbrev pub weights_to : ℕ → Inner → ℕ → ℕ → List ℤ
 weights_to columns inner place zero = []
-weights_to columns inner place (suc n) = weights_to columns inner place n ++ weight_at columns inner place n ∷ []
+weights_to columns inner place (suc n) = weights_to columns inner place n ++ weight_at columns inner
+    place n ∷ []

@@ -12,7 +12,8 @@ use Rattle.farkas_check.specs.Sizes.{row_count, HasRationalPoint, HasNoEquation,
 abbrev pub AreSmallRows : ℕ → List Row → Type 0
 AreSmallRows most rows = All (λ (row : Row). HasNumbersUpTo most row.poly) rows
 
--- a case with few columns, few rows and small numbers; its columns are those of its rows and of one more list of terms
+-- a case with few columns, few rows and small numbers; its columns are those of its rows and of one
+-- more list of terms
 pub record IsSmallCase (most : ℕ) (rows : List Row) (terms : Terms) : Type 0 where
   pub few_columns : length (columns rows terms) ≤ 3
   pub few_rows : row_count rows ≤ 12

@@ -1,5 +1,5 @@
--- Probes of a stratum question: what a difference has at a column, or as its constant. In a case with room in each direction
--- a difference is 0 at each point exactly where it is 0 at each probe.
+-- Probes of a stratum question: what a difference has at a column, or as its constant. In a case
+-- with room in each direction a difference is 0 at each point exactly where it is 0 at each probe.
 --
 -- The places of a case are its columns in order, and behind them the constants.
 use Rattle.std.specs.Prelude.{◌≡◌, ℕ, zero, suc, ◌+◌, ◌<◌, ◌≤◌, ◌^◌, ◌==◌, ℤ, pos, negsuc, ◌*ℤ◌, ◌<ℤ◌, ◌≤ℤ◌, ◌⊎◌, List, [], ◌∷◌, ◌++◌, length, get_or, unsigned_abs, IsTrue, if◌then◌else◌}
@@ -47,18 +47,21 @@ difference_at cs place numbers ss = difference (read_at cs place) (one_at cs pla
 
 -- what stands at an unknown, at a probe
 abbrev pub probe_at : List (List Col) → List Change → List Polynomial → Probe → ℕ → ℤ
-probe_at cs cases lower probe unknown = side_at cs probe.place (sides (terms_of cases probe.case) lower) unknown
+probe_at cs cases lower probe unknown =
+    side_at cs probe.place (sides (terms_of cases probe.case) lower) unknown
 
 -- ---- regular equations
 
--- some multiple of each right side, but not by 0, is what the first so many equations make of some numbers
+-- some multiple of each right side, but not by 0, is what the first so many equations make of some
+-- numbers
 pub record HasSolution (count : ℕ) (numbers : ℕ → ℕ → ℤ) (right : ℕ → ℤ) : Type 0 where
   pub scale : ℤ
   pub apart : scale ≡ pos 0 → ⊥
   pub x : ℕ → ℤ
   pub solves : (i : ℕ) → i < count → sum_below count (λ j. numbers i j *ℤ x j) ≡ scale *ℤ right i
 
--- as many equations as unknowns that have a solution for each right side, read by lines and by columns
+-- as many equations as unknowns that have a solution for each right side, read by lines and by
+-- columns
 pub record IsRegular (count : ℕ) (numbers : ℕ → ℕ → ℤ) : Type 0 where
   pub lines : (right : ℕ → ℤ) → HasSolution count numbers right
   pub columns : (right : ℕ → ℤ) → HasSolution count (λ i j. numbers j i) right
@@ -67,31 +70,39 @@ pub record IsRegular (count : ℕ) (numbers : ℕ → ℕ → ℤ) : Type 0 wher
 abbrev pub number_at : List (List ℤ) → ℕ → ℕ → ℤ
 number_at lines i j = entry (get_or lines i []) j
 
--- Numbers that each line makes 0. They are as many as the lines and one more, the last of them is positive, they have no
--- common divisor, and they are small.
+-- Numbers that each line makes 0. They are as many as the lines and one more, the last of them is
+-- positive, they have no common divisor, and they are small.
 pub record IsNullVector (lines : List (List ℤ)) (v : List ℤ) : Type 0 where
   pub each : length v ≡ length lines + 1
-  pub solves : (i : ℕ) → i < length lines → sum_below (length lines + 1) (λ j. number_at lines i j *ℤ entry v j) ≡ pos 0
+  pub solves : (i : ℕ) → i < length lines
+      → sum_below (length lines + 1) (λ j. number_at lines i j *ℤ entry v j) ≡ pos 0
   pub positive : pos 0 <ℤ entry v (length lines)
   pub primitive : gcd_of_all v ≡ 1
   pub small : AllByRecursion (λ z. unsigned_abs z ≤ 28 ^ 6) v
 
 -- ---- kernels
 
--- Multiples of the probes, over the number behind them, that make a unit of the unknowns that are no pivot: 1 at the one at
--- the place `own`, and 0 at the others.
-pub record IsDual (cs : List (List Col)) (cases : List Change) (lower : List Polynomial) (probes : List Probe) (others : List ℕ) (own : ℕ) (v : List ℤ) : Type 0 where
+-- Multiples of the probes, over the number behind them, that make a unit of the unknowns that are
+-- no pivot: 1 at the one at the place `own`, and 0 at the others.
+pub record IsDual (cs : List (List Col)) (cases : List Change) (lower : List Polynomial)
+    (probes : List Probe) (others : List ℕ) (own : ℕ) (v : List ℤ) : Type 0 where
   pub each : length v ≡ length probes + 1
   pub positive : pos 0 <ℤ entry v (length probes)
   pub unit : (i : ℕ) → i < length others
-      → sum_below (length probes) (λ j. entry v j *ℤ probe_at cs cases lower (get_or probes j (record { case = 0; place = 0 })) (get_or others i 0)) ≡ (if i == own then entry v (length probes) else pos 0)
+      → sum_below (length probes)
+      (λ j. entry v j *ℤ probe_at cs cases lower (get_or probes j (record {
+        case = 0;
+        place = 0;
+      })) (get_or others i 0)) ≡ (if i == own then entry v (length probes) else pos 0)
   pub small : AllByRecursion (λ z. unsigned_abs z ≤ 28 ^ 6) v
 
 -- the difference of the numbers is the polynomial 0 in the case
 abbrev pub IsNothing : List (List Col) → List Polynomial → List ℤ → Change → Type 0
-IsNothing cs lower numbers case = (place : ℕ) → difference_at cs place numbers (sides case.terms lower) ≡ pos 0
+IsNothing cs lower numbers case = (place : ℕ)
+    → difference_at cs place numbers (sides case.terms lower) ≡ pos 0
 
-pub record IsNullLine (cs : List (List Col)) (cases : List Change) (lower : List Polynomial) (numbers : List ℤ) : Type 0 where
+pub record IsNullLine (cs : List (List Col)) (cases : List Change) (lower : List Polynomial)
+    (numbers : List ℤ) : Type 0 where
   pub each : length numbers ≡ unknown_count cases lower
   pub vanish : AllByRecursion (IsNothing cs lower numbers) cases
   pub small : AllByRecursion (λ z. unsigned_abs z ≤ 28 ^ 6) numbers
@@ -101,15 +112,19 @@ pub record IsProbe (cs : List (List Col)) (cases : List Change) (probe : Probe) 
   pub case : probe.case < length cases
   pub place : probe.place ≤ length cs
 
--- The reduced relations whose differences are the polynomial 0 in each case, and probes that show that there are no others:
--- for each unknown that is no pivot their multiples make a unit.
-pub record IsKernel (cs : List (List Col)) (cases : List Change) (lower : List Polynomial) (kernel : Kernel) : Type 0 where
+-- The reduced relations whose differences are the polynomial 0 in each case, and probes that show
+-- that there are no others: for each unknown that is no pivot their multiples make a unit.
+pub record IsKernel (cs : List (List Col)) (cases : List Change) (lower : List Polynomial)
+    (kernel : Kernel) : Type 0 where
   pub reduced : IsTrue (is_reduced kernel.relations)
   pub lines : AllByRecursion (IsNullLine cs cases lower) kernel.relations
   pub few : length kernel.probes ≤ 6
   pub probes : AllByRecursion (IsProbe cs cases) kernel.probes
-  pub counted : length kernel.duals ≡ length (free_places kernel.relations (unknown_count cases lower))
-  pub duals : (own : ℕ) → own < length kernel.duals → IsDual cs cases lower kernel.probes (free_places kernel.relations (unknown_count cases lower)) own (get_or kernel.duals own [])
+  pub counted : length kernel.duals
+      ≡ length (free_places kernel.relations (unknown_count cases lower))
+  pub duals : (own : ℕ) → own < length kernel.duals
+      → IsDual cs cases lower kernel.probes
+      (free_places kernel.relations (unknown_count cases lower)) own (get_or kernel.duals own [])
 
 -- ---- inner points
 
@@ -119,7 +134,8 @@ value_in cs inner p = paired_sum (line_of cs p) (inner.numbers ++ inner.over ∷
 
 -- the row has no columns and is true, or is an inequality that the point meets with room
 abbrev pub IsDeepIn : List (List Col) → Inner → Row → Type 0
-IsDeepIn cs inner row = ((row.poly.terms ≡ []) × IsWithin row.kind row.poly.rest) ⊎ ((row.kind ≡ AtMost) × (value_in cs inner row.poly ≤ℤ negsuc 0))
+IsDeepIn cs inner row = ((row.poly.terms ≡ []) × IsWithin row.kind row.poly.rest)
+    ⊎ ((row.kind ≡ AtMost) × (value_in cs inner row.poly ≤ℤ negsuc 0))
 
 -- a point over one denominator, with small numbers, that leaves room in each row
 pub record IsInner (cs : List (List Col)) (rows : List Row) (inner : Inner) : Type 0 where

@@ -11,7 +11,8 @@ use Rattle.farkas_check.specs.Sizes.{HasRationalPoint, HasNoEquation}
 abbrev pub IsClear : RationalPoint → Row → Type 0
 IsClear x row = (row.poly.terms ≡ []) ⊎ (sum_at x row.poly <ℤ pos 0)
 
--- the row has no monomials, or is an inequality that some point of all rows does not meet with equality
+-- the row has no monomials, or is an inequality that some point of all rows does not meet with
+-- equality
 pub record HasClear (rows : List Row) (row : Row) : Type 0 where
   pub kind : (row.poly.terms ≡ []) ⊎ (row.kind ≡ AtMost)
   pub point : RationalPoint

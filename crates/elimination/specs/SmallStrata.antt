@@ -31,11 +31,14 @@ pub record IsSmallOverColumns (cs : List (List Col)) (case : Change) : Type 0 wh
   pub columns : HasColumns cs case.rows
 
 -- probes of cases whose rows are small
-pub record AreProbes (cs : List (List Col)) (cases : List Change) (probes : List Probe) : Type 0 where
+pub record AreProbes (cs : List (List Col)) (cases : List Change)
+    (probes : List Probe) : Type 0 where
   pub probes_too : AllByRecursion (IsProbe cs cases) probes
   pub rows : AllByRecursion (IsSmallOverColumns cs) cases
 
 -- an inner point for each of the first so many probes, one of the rows of its case
-pub record AreInnersTo (cs : List (List Col)) (cases : List Change) (probes : List Probe) (count : ℕ) (inners : List Inner) : Type 0 where
+pub record AreInnersTo (cs : List (List Col)) (cases : List Change) (probes : List Probe)
+    (count : ℕ) (inners : List Inner) : Type 0 where
   pub each : length inners ≡ count
-  pub inside : (i : ℕ) (probe : Probe) (inner : Inner) → slice_get probes i ≡ Some probe → slice_get inners i ≡ Some inner → IsInner cs (rows_of cases probe.case) inner
+  pub inside : (i : ℕ) (probe : Probe) (inner : Inner) → slice_get probes i ≡ Some probe
+      → slice_get inners i ≡ Some inner → IsInner cs (rows_of cases probe.case) inner

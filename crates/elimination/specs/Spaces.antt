@@ -1,5 +1,5 @@
--- Words of the steps that make a reduced basis of rows of at most three numbers: vectors of three whole numbers, and spaces,
--- which are what they span, as conditions on a vector.
+-- Words of the steps that make a reduced basis of rows of at most three numbers: vectors of three
+-- whole numbers, and spaces, which are what they span, as conditions on a vector.
 use Rattle.std.specs.Prelude.{◌≡◌, ◌≢◌, ℕ, zero, suc, ◌^◌, ◌≤◌, ℤ, pos, ◌+ℤ◌, ◌-ℤ◌, ◌*ℤ◌, ◌<ℤ◌, List, length, unsigned_abs}
 use Rattle.std.specs.List.{AllByRecursion}
 use Rattle.farkas_check.specs.Ratios.{Fraction}
@@ -43,11 +43,16 @@ dot a b = a.x *ℤ b.x +ℤ a.y *ℤ b.y +ℤ a.z *ℤ b.z
 
 -- the numerator at a place, times the denominators at two others
 abbrev pub cleared_number : List Fraction → ℕ → ℕ → ℕ → ℤ
-cleared_number row place i k = (number_in row place).num *ℤ ((number_in row i).den *ℤ (number_in row k).den)
+cleared_number row place i k =
+    (number_in row place).num *ℤ ((number_in row i).den *ℤ (number_in row k).den)
 
 -- a row times its three denominators
 abbrev pub cleared : List Fraction → Vector
-cleared row = record { x = cleared_number row 0 1 2; y = cleared_number row 1 0 2; z = cleared_number row 2 0 1 }
+cleared row = record {
+  x = cleared_number row 0 1 2;
+  y = cleared_number row 1 0 2;
+  z = cleared_number row 2 0 1;
+}
 
 pub record ArePositive (row : List Fraction) : Type 0 where
   pub at : (j : ℕ) → pos 0 <ℤ (number_in row j).den

@@ -1,5 +1,5 @@
--- Words of the steps that find a kernel: the unknowns are taken from the last to the first, and each becomes the pivot of a
--- relation or gets a probe of its own.
+-- Words of the steps that find a kernel: the unknowns are taken from the last to the first, and
+-- each becomes the pivot of a relation or gets a probe of its own.
 use Rattle.std.specs.Prelude.{◌≡◌, ℕ, zero, suc, ◌-◌, ◌<◌, ◌≤◌, ◌==◌, ◌^◌, ℤ, pos, negsuc, ◌+ℤ◌, ◌*ℤ◌, ◌<ℤ◌, List, [], ◌∷◌, ◌++◌, map, length, get_or, not, unsigned_abs, IsTrue, if◌then◌else◌}
 use Rattle.std.specs.List.{AllByRecursion, list_any, filter}
 use Rattle.whole_numbers.specs.Divisors.{gcd_of_all}
@@ -20,7 +20,8 @@ pub record HasSmallTerms (cases : List Change) (lower : List Polynomial) : Type 
   pub lower_too : AllByRecursion (HasNumbersUpTo 4) lower
 
 -- few columns, and few terms with small numbers, equally many in each case
-pub record IsSmallKernel (cs : List (List Col)) (cases : List Change) (lower : List Polynomial) : Type 0 where
+pub record IsSmallKernel (cs : List (List Col)) (cases : List Change)
+    (lower : List Polynomial) : Type 0 where
   pub columns : length cs ≤ 3
   pub terms : term_count cases ≤ 2
   pub even : IsTrue (have_equally_many cases)
@@ -34,17 +35,27 @@ pub record AreLines (count : ℕ) (line : ℕ → List ℤ) (lines : List (List 
   pub at : (i : ℕ) → i < count → get_or lines i [] ≡ line i
 
 -- what stands at chosen unknowns, at the probe of a place
-abbrev pub probe_line : List (List Col) → List Change → List Polynomial → List Probe → List ℕ → ℕ → List ℤ
-probe_line cs cases lower probes chosen i = map (probe_at cs cases lower (get_or probes i (record { case = 0; place = 0 }))) chosen
+abbrev pub probe_line : List (List Col) → List Change → List Polynomial → List Probe → List ℕ → ℕ
+    → List ℤ
+probe_line cs cases lower probes chosen i = map (probe_at cs cases lower (get_or probes i (record {
+  case = 0;
+  place = 0;
+}))) chosen
 
 -- what stands at an unknown that is no pivot, at each probe, and then -1 where it is the own one
-abbrev pub unit_line : List (List Col) → List Change → List Polynomial → List Probe → List ℕ → ℕ → ℕ → List ℤ
+abbrev pub unit_line : List (List Col) → List Change → List Polynomial → List Probe → List ℕ → ℕ → ℕ
+    → List ℤ
 unit_line cs cases lower probes free own i =
-    map (λ (probe : Probe). probe_at cs cases lower probe (get_or free i 0)) probes ++ (if i == own then negsuc 0 else pos 0) ∷ []
+    map (λ (probe : Probe). probe_at cs cases lower probe (get_or free i 0)) probes
+    ++ (if i == own then negsuc 0 else pos 0) ∷ []
 
 -- what stands at the unknown of one place, at the probe of another
-abbrev pub probe_number : List (List Col) → List Change → List Polynomial → List Probe → List ℕ → ℕ → ℕ → ℤ
-probe_number cs cases lower probes free i j = probe_at cs cases lower (get_or probes i (record { case = 0; place = 0 })) (get_or free j 0)
+abbrev pub probe_number : List (List Col) → List Change → List Polynomial → List Probe → List ℕ → ℕ
+    → ℕ → ℤ
+probe_number cs cases lower probes free i j = probe_at cs cases lower (get_or probes i (record {
+  case = 0;
+  place = 0;
+})) (get_or free j 0)
 
 -- ---- numbers at chosen unknowns
 
@@ -53,19 +64,27 @@ abbrev pub spread : List ℕ → (ℕ → ℤ) → ℕ → List ℤ
 spread chosen number n = map (at_chosen chosen number) (places n)
 
 -- the difference at a probe
-abbrev pub chosen_value : List (List Col) → List Change → List Polynomial → List ℕ → List ℤ → Probe → ℕ → ℤ
-chosen_value cs cases lower chosen numbers probe count = sum_below count (λ j. entry numbers j *ℤ probe_at cs cases lower probe (get_or chosen j 0))
+abbrev pub chosen_value : List (List Col) → List Change → List Polynomial → List ℕ → List ℤ → Probe
+    → ℕ → ℤ
+chosen_value cs cases lower chosen numbers probe count =
+    sum_below count (λ j. entry numbers j *ℤ probe_at cs cases lower probe (get_or chosen j 0))
 
 -- it is 0 at each place of a case
-pub record VanishesIn (cs : List (List Col)) (cases : List Change) (lower : List Polynomial) (chosen : List ℕ) (numbers : List ℤ) (case : ℕ) : Type 0 where
-  pub at : (place : ℕ) → place ≤ length cs → chosen_value cs cases lower chosen numbers (record { case = case; place = place }) (length chosen) ≡ pos 0
+pub record VanishesIn (cs : List (List Col)) (cases : List Change) (lower : List Polynomial)
+    (chosen : List ℕ) (numbers : List ℤ) (case : ℕ) : Type 0 where
+  pub at : (place : ℕ) → place ≤ length cs → chosen_value cs cases lower chosen numbers (record {
+    case = case;
+    place = place;
+  }) (length chosen) ≡ pos 0
 
 -- it is 0 at each place of each case
-pub record VanishesAtAll (cs : List (List Col)) (cases : List Change) (lower : List Polynomial) (chosen : List ℕ) (numbers : List ℤ) : Type 0 where
+pub record VanishesAtAll (cs : List (List Col)) (cases : List Change) (lower : List Polynomial)
+    (chosen : List ℕ) (numbers : List ℤ) : Type 0 where
   pub at : (case : ℕ) → case < length cases → VanishesIn cs cases lower chosen numbers case
 
 -- it is not 0 at a probe
-pub record IsApart (cs : List (List Col)) (cases : List Change) (lower : List Polynomial) (chosen : List ℕ) (numbers : List ℤ) (probe : Probe) : Type 0 where
+pub record IsApart (cs : List (List Col)) (cases : List Change) (lower : List Polynomial)
+    (chosen : List ℕ) (numbers : List ℤ) (probe : Probe) : Type 0 where
   pub probe_there : IsProbe cs cases probe
   pub some : chosen_value cs cases lower chosen numbers probe (length chosen) ≡ pos 0 → ⊥
 
@@ -75,11 +94,18 @@ pub record AreChosenNumbers (chosen : List ℕ) (numbers : List ℤ) : Type 0 wh
   pub each : length numbers ≡ length chosen
   pub small : AllByRecursion (λ z. unsigned_abs z ≤ 28 ^ 6) numbers
 
--- The one relation over the unknowns that are no pivot and one more, which comes last: its difference is 0 at the probes.
-pub record IsOwnRelation (cs : List (List Col)) (cases : List Change) (lower : List Polynomial) (probes : List Probe) (free : List ℕ) (unknown : ℕ) (numbers : List ℤ) : Type 0 where
+-- The one relation over the unknowns that are no pivot and one more, which comes last: its
+-- difference is 0 at the probes.
+pub record IsOwnRelation (cs : List (List Col)) (cases : List Change) (lower : List Polynomial)
+    (probes : List Probe) (free : List ℕ) (unknown : ℕ) (numbers : List ℤ) : Type 0 where
   pub each : length numbers ≡ suc (length free)
   pub zeros : (i : ℕ) → i < length free
-      → sum_below (length free) (λ j. probe_number cs cases lower probes free i j *ℤ entry numbers j) +ℤ probe_at cs cases lower (get_or probes i (record { case = 0; place = 0 })) unknown *ℤ entry numbers (length free) ≡ pos 0
+      → sum_below (length free)
+      (λ j. probe_number cs cases lower probes free i j *ℤ entry numbers j) +ℤ probe_at cs cases
+      lower (get_or probes i (record {
+        case = 0;
+        place = 0;
+      })) unknown *ℤ entry numbers (length free) ≡ pos 0
   pub positive : pos 0 <ℤ entry numbers (length free)
   pub primitive : gcd_of_all numbers ≡ 1
   pub small : AllByRecursion (λ z. unsigned_abs z ≤ 28 ^ 6) numbers
@@ -98,11 +124,13 @@ IsRisingFrom start (u ∷ us) = (start ≤ u) × IsRisingFrom (suc u) us
 
 -- of so many unknowns from one on those that are no pivot
 abbrev pub free_from : List (List ℤ) → ℕ → ℕ → List ℕ
-free_from relations start n = filter (λ place. not (list_any (λ p. p == place) (map pivot relations))) (unknowns_from start n)
+free_from relations start n =
+    filter (λ place. not (list_any (λ p. p == place) (map pivot relations))) (unknowns_from start n)
 
--- All unknowns from one on are taken: each is the pivot of a relation, or one of those that have probes. These stand in
--- rising order, so the one that was taken last comes first.
-pub record IsStage (cs : List (List Col)) (cases : List Change) (lower : List Polynomial) (start : ℕ) (stage : Stage) : Type 0 where
+-- All unknowns from one on are taken: each is the pivot of a relation, or one of those that have
+-- probes. These stand in rising order, so the one that was taken last comes first.
+pub record IsStage (cs : List (List Col)) (cases : List Change) (lower : List Polynomial)
+    (start : ℕ) (stage : Stage) : Type 0 where
   pub reduced : IsTrue (is_reduced stage.relations)
   pub lines : AllByRecursion (IsNullLine cs cases lower) stage.relations
   pub behind : AllByRecursion (λ line. start ≤ pivot line) stage.relations
@@ -117,6 +145,7 @@ pub record IsStage (cs : List (List Col)) (cases : List Change) (lower : List Po
 -- ---- duals
 
 -- the first so many duals
-pub record AreDuals (cs : List (List Col)) (cases : List Change) (lower : List Polynomial) (probes : List Probe) (free : List ℕ) (count : ℕ) (duals : List (List ℤ)) : Type 0 where
+pub record AreDuals (cs : List (List Col)) (cases : List Change) (lower : List Polynomial)
+    (probes : List Probe) (free : List ℕ) (count : ℕ) (duals : List (List ℤ)) : Type 0 where
   pub each : length duals ≡ count
   pub at : (own : ℕ) → own < count → IsDual cs cases lower probes free own (get_or duals own [])

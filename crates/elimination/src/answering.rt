@@ -10,9 +10,10 @@ use farkas_check::{Answer, Goal, Question};
 use linear_terms::Row;
 use std::alloc::{AllocError, Global};
 
-/// Answers a question of any kind. The answer passes the test of its question, and is the truth about rational points unless
-/// it is a limit. On a narrow question it is none; on a slim one it is `Pivots` only where the question is dead, and else a
-/// limit only where a step of the search, or of the test, leaves 128 bits. The one error is want of memory.
+/// Answers a question of any kind. The answer passes the test of its question, and is the truth
+/// about rational points unless it is a limit. On a narrow question it is none; on a slim one it is
+/// `Pivots` only where the question is dead, and else a limit only where a step of the search, or
+/// of the test, leaves 128 bits. The one error is want of memory.
 pub fn answer(alloc: Global, question: &Question) -> Result<Answer, AllocError>
     ensures passes { IfOk result (λ a. Passes question.now a) }
     ensures tight { IfOk result (λ a. (IsLimit a → ⊥) → IsTight question.now a) }
@@ -26,8 +27,9 @@ pub fn answer(alloc: Global, question: &Question) -> Result<Answer, AllocError>
     }
 }
 
-/// Answers whether no point makes the rows true. The answer passes the test of its question. On a narrow question it
-/// is no limit; on a slim one it is a limit only where a step of the search, or of the test, leaves 128 bits.
+/// Answers whether no point makes the rows true. The answer passes the test of its question. On a
+/// narrow question it is no limit; on a slim one it is a limit only where a step of the search, or
+/// of the test, leaves 128 bits.
 #[tactic(auto, using(crate::proofs::Narrowness::narrow))]
 pub fn infeasible(alloc: Global, rows: &[Row]) -> Result<Answer, AllocError>
     ensures passes { IfOk result (λ a. Passes (question.Infeasible rows.now) a) }
@@ -38,15 +40,17 @@ pub fn infeasible(alloc: Global, rows: &[Row]) -> Result<Answer, AllocError>
     simplex::infeasible(alloc, rows)
 }
 
-/// Answers how great the objective gets over all points of all cases. The answer passes the test of its question. On a
-/// narrow question it is no limit; on a slim one it is `Pivots` only where there is no case, or one without points, and
-/// else a limit only where a step of the search, or of the test, leaves 128 bits.
+/// Answers how great the objective gets over all points of all cases. The answer passes the test of
+/// its question. On a narrow question it is no limit; on a slim one it is `Pivots` only where there
+/// is no case, or one without points, and else a limit only where a step of the search, or of the
+/// test, leaves 128 bits.
 #[tactic(auto, using(crate::proofs::Narrowness::narrow))]
 pub fn sup(alloc: Global, goals: &[Goal]) -> Result<Answer, AllocError>
     ensures passes { IfOk result (λ a. Passes (question.Sup goals.now) a) }
     ensures tight { IfOk result (λ a. (IsLimit a → ⊥) → IsTight (question.Sup goals.now) a) }
     ensures narrow { IsNarrow (question.Sup goals.now) → IfOk result (λ a. IsLimit a → ⊥) }
-    ensures slim { IsSlim (question.Sup goals.now) → IfOk result (λ a. IsPivots a → IsDead (question.Sup goals.now)) }
+    ensures slim { IsSlim (question.Sup goals.now)
+        → IfOk result (λ a. IsPivots a → IsDead (question.Sup goals.now)) }
 {
     simplex::sup(alloc, goals)
 }

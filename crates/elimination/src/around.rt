@@ -14,7 +14,8 @@ use items::Items;
 use linear_terms::Mono;
 use std::alloc::{AllocError, Global};
 
-/// The spots around an inner point of the rows of a case: the point, and for each column the point moved along it.
+/// The spots around an inner point of the rows of a case: the point, and for each column the point
+/// moved along it.
 pub(crate) fn spots_around(
     alloc: Global,
     columns: &[Mono],
@@ -25,7 +26,8 @@ pub(crate) fn spots_around(
     requires few { length columns.now ≤ 3 }
     requires order { IsOrdered columns.now }
     requires here { case < length cases.now }
-    requires rows { AllByRecursion (λ row. IsSmallOver columns.now row.poly) (rows_of cases.now case) }
+    requires rows { AllByRecursion (λ row. IsSmallOver columns.now row.poly)
+        (rows_of cases.now case) }
     requires inner { IsInner columns.now (rows_of cases.now case) inner.now }
     ensures { IfOk result (AreAround columns.now cases.now case inner.now) }
 {
@@ -50,8 +52,8 @@ fn spots_to(
     Ok(spots)
 }
 
-/// The spot at a place: the inner point, or behind it the point moved along a column by a quarter of 1 over its
-/// denominator.
+/// The spot at a place: the inner point, or behind it the point moved along a column by a quarter
+/// of 1 over its denominator.
 fn spot_at(alloc: Global, case: u32, inner: &Inner, place: usize) -> Result<Spot, AllocError>
     requires { IsSmallInner inner.now }
     ensures { IfOk result (λ spot. spot ≡ spot_at case inner.now place) }
@@ -124,7 +126,9 @@ pub(crate) fn weights(
     requires positive { pos 0 <ℤ inner.now.over }
     requires over_small { unsigned_abs inner.now.over ≤ 20 ^ 5 }
     requires small { AllByRecursion (λ z. unsigned_abs z ≤ 20 ^ 5) inner.now.numbers }
-    ensures { IfOk result (λ made. (length made ≡ columns + 1) × ((i : ℕ) → i < columns + 1 → entry made i ≡ weight_at columns inner.now place i)) }
+    ensures { IfOk result
+        (λ made. (length made ≡ columns + 1)
+        × ((i : ℕ) → i < columns + 1 → entry made i ≡ weight_at columns inner.now place i)) }
 {
     weights_to(alloc, columns, inner, place)
 }

@@ -49,7 +49,8 @@ fn basis_with(
     kernel: &Kernel,
     inners: &[Inner],
 ) -> Result<Answer, AllocError>
-    requires asked { IsBasisAsked columns.now asked.now.cases asked.now.lower kernel.now.probes inners.now }
+    requires asked { IsBasisAsked columns.now asked.now.cases asked.now.lower kernel.now.probes
+        inners.now }
     requires kernel { IsKernel columns.now asked.now.cases asked.now.lower kernel.now }
     ensures passes { IfOk result (λ found. outcome (question.Stratum asked.now) found ≡ Ok true) }
     ensures basis { IfOk result (λ found. IsLimit found → ⊥) }
@@ -103,7 +104,8 @@ fn tied_relations(
     Ok(made)
 }
 
-/// The relation of numbers: first those of the terms, then those of the lower terms, and last that of 1.
+/// The relation of numbers: first those of the terms, then those of the lower terms, and last that
+/// of 1.
 fn tied_relation(
     alloc: Global,
     cases: &[Change],
@@ -111,7 +113,9 @@ fn tied_relation(
     numbers: &[i128],
 ) -> Result<Relation, AllocError>
     requires { length numbers.now ≡ unknown_count cases.now lower.now }
-    ensures { IfOk result (IsRelationWith (term_count cases.now) (length lower.now) numbers.now (map zero_tie cases.now)) }
+    ensures { IfOk result
+        (IsRelationWith (term_count cases.now) (length lower.now) numbers.now
+        (map zero_tie cases.now)) }
 {
     let ties = zero_ties(alloc, cases)?;
     let terms = term_count(cases);
@@ -209,7 +213,8 @@ fn group_at(
     inners: &[Inner],
     place: usize,
 ) -> Result<Items<Spot>, AllocError>
-    requires asked { IsBasisAsked columns.now asked.now.cases asked.now.lower probes.now inners.now }
+    requires asked { IsBasisAsked columns.now asked.now.cases asked.now.lower probes.now
+        inners.now }
     requires place { place < length probes.now }
     ensures { IfOk result (IsGroupAt columns.now asked.now.cases probes.now inners.now place) }
 {
@@ -228,9 +233,11 @@ fn free_lists(
     inners: &[Inner],
     duals: &[Items<i128>],
 ) -> Result<Items<Items<Ratio>>, AllocError>
-    requires asked { IsBasisAsked columns.now asked.now.cases asked.now.lower probes.now inners.now }
+    requires asked { IsBasisAsked columns.now asked.now.cases asked.now.lower probes.now
+        inners.now }
     requires duals { All (IsSmallDual probes.now) duals.now }
-    ensures { IfOk result (λ made. made ≡ map (dual_multiples (length columns.now) probes.now inners.now) duals.now) }
+    ensures { IfOk result
+        (λ made. made ≡ map (dual_multiples (length columns.now) probes.now inners.now) duals.now) }
 {
     let mut made = Items::new(alloc);
     for dual in duals {
@@ -249,9 +256,11 @@ fn dual_multiples(
     inners: &[Inner],
     dual: &[i128],
 ) -> Result<Items<Ratio>, AllocError>
-    requires asked { IsBasisAsked columns.now asked.now.cases asked.now.lower probes.now inners.now }
+    requires asked { IsBasisAsked columns.now asked.now.cases asked.now.lower probes.now
+        inners.now }
     requires dual { IsSmallDual probes.now dual.now }
-    ensures { IfOk result (λ made. made ≡ dual_multiples (length columns.now) probes.now inners.now dual.now) }
+    ensures { IfOk result
+        (λ made. made ≡ dual_multiples (length columns.now) probes.now inners.now dual.now) }
 {
     let mut made = Items::new(alloc);
     for place in 0..probes.len() {
@@ -261,7 +270,8 @@ fn dual_multiples(
     Ok(made)
 }
 
-/// The multiples of the spots around the inner point at a place that the place of the probe there takes.
+/// The multiples of the spots around the inner point at a place that the place of the probe there
+/// takes.
 fn weights_at(
     alloc: Global,
     asked: &Stratum,
@@ -270,7 +280,8 @@ fn weights_at(
     inners: &[Inner],
     place: usize,
 ) -> Result<Items<i128>, AllocError>
-    requires asked { IsBasisAsked columns.now asked.now.cases asked.now.lower probes.now inners.now }
+    requires asked { IsBasisAsked columns.now asked.now.cases asked.now.lower probes.now
+        inners.now }
     requires place { place < length probes.now }
     ensures are { IfOk result (AreWeightsAt (length columns.now) probes.now inners.now place) }
     ensures small { IfOk result AreSmallWeights }
@@ -293,7 +304,10 @@ fn multiples(
     requires dual { IsSmallDual probes.now dual.now }
     requires place { place < length probes.now }
     requires taken { AreSmallWeights taken.now }
-    ensures { IfOk result (λ made. made ≡ map (λ w. lowest_terms (entry dual.now place *ℤ w) (entry dual.now (length probes.now))) taken.now) }
+    ensures { IfOk result
+        (λ made. made
+        ≡ map (λ w. lowest_terms (entry dual.now place *ℤ w) (entry dual.now (length probes.now)))
+        taken.now) }
 {
     let mut made = Items::new(alloc);
     for weight in taken {
@@ -306,7 +320,8 @@ fn multiple(probes: &[Probe], dual: &[i128], place: usize, weight: &i128) -> Rat
     requires dual { IsSmallDual probes.now dual.now }
     requires place { place < length probes.now }
     requires weight { unsigned_abs weight.now ≤ 67108864 }
-    ensures { result ≡ lowest_terms (entry dual.now place *ℤ weight.now) (entry dual.now (length probes.now)) }
+    ensures { result ≡ lowest_terms (entry dual.now place *ℤ weight.now)
+        (entry dual.now (length probes.now)) }
 {
     let number = product(&dual[place], weight);
     Ratio::lowest(number, dual[probes.len()])

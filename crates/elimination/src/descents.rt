@@ -21,7 +21,8 @@ pub(crate) fn descent(
     lines: &[Items<i128>],
 ) -> Result<Option<Items<i128>>, AllocError>
     requires { AreSmallLines count lines.now }
-    ensures { IfOk result (λ found. MatchOption found (HasNoDescent count lines.now) (IsDescent count lines.now)) }
+    ensures { IfOk result
+        (λ found. MatchOption found (HasNoDescent count lines.now) (IsDescent count lines.now)) }
 {
     let goal = line_goal(alloc, count, lines)?;
     canonical_rows(goal.rows.as_slice());
@@ -78,7 +79,8 @@ fn corner_of(
     requires small { AreSmallLines count lines.now }
     requires goal { goal.now ≡ line_goal lines.now }
     requires canonical { AreCanonical goal.now.rows }
-    ensures { IfOk result (λ found. MatchOption found (HasNoDescent count lines.now) (IsLineCorner lines.now)) }
+    ensures { IfOk result
+        (λ found. MatchOption found (HasNoDescent count lines.now) (IsLineCorner lines.now)) }
 {
     let _count = count;
     let _lines = lines;
@@ -111,15 +113,17 @@ fn numbers_at(
 ) -> Result<Items<i128>, AllocError>
     requires count { count ≤ 4 }
     requires small { AreRatiosBelow (20 ^ 5) point.now }
-    ensures { IfOk result (λ numbers. least_numerators (values_to (goal_columns goal.now) point.now count) ≡ Ok numbers) }
+    ensures { IfOk result
+        (λ numbers. least_numerators (values_to (goal_columns goal.now) point.now count)
+        ≡ Ok numbers) }
 {
     let columns = case_columns(alloc, goal.rows.as_slice(), goal.objective.terms())?;
     let values = entry_values(alloc, columns.as_slice(), point, count)?;
     over_common(alloc, values.as_slice())
 }
 
-/// Numerators of ratios over their least common denominator. Those of small ratios are small, so want of memory is the
-/// one error.
+/// Numerators of ratios over their least common denominator. Those of small ratios are small, so
+/// want of memory is the one error.
 fn over_common(alloc: Global, ratios: &[Ratio]) -> Result<Items<i128>, AllocError>
     requires { AreRatiosBelow (20 ^ 5) ratios.now }
     ensures { IfOk result (λ numbers. least_numerators ratios.now ≡ Ok numbers) }

@@ -20,7 +20,8 @@ pub(crate) struct Inner {
     pub(crate) numbers: Items<i128>,
 }
 
-/// A point over a small denominator that leaves room in each row, where the rows have room in each direction.
+/// A point over a small denominator that leaves room in each row, where the rows have room in each
+/// direction.
 pub(crate) fn inner_point(
     alloc: Global,
     columns: &[Mono],

@@ -12,8 +12,9 @@ use items::Items;
 use linear_terms::{Mono, Poly};
 use std::alloc::{AllocError, Global};
 
-/// The reduced relations whose differences are the polynomial 0 in each case, and probes that show that there are no
-/// others: for each unknown that is no pivot, multiples of the probes, and the number over which they stand.
+/// The reduced relations whose differences are the polynomial 0 in each case, and probes that show
+/// that there are no others: for each unknown that is no pivot, multiples of the probes, and the
+/// number over which they stand.
 #[derive(Drop)]
 pub(crate) struct Kernel {
     pub(crate) relations: Items<Items<i128>>,
@@ -21,7 +22,8 @@ pub(crate) struct Kernel {
     pub(crate) duals: Items<Items<i128>>,
 }
 
-/// Where the search for relations stands: what it found, the unknowns that are no pivot so far, and as many probes.
+/// Where the search for relations stands: what it found, the unknowns that are no pivot so far, and
+/// as many probes.
 #[derive(Drop)]
 pub(crate) struct Stage {
     relations: Items<Items<i128>>,
@@ -29,8 +31,8 @@ pub(crate) struct Stage {
     probes: Items<Probe>,
 }
 
-/// The reduced relations that are the polynomial 0 in each case, with the probes and their duals. The one error is want of
-/// memory.
+/// The reduced relations that are the polynomial 0 in each case, with the probes and their duals.
+/// The one error is want of memory.
 pub(crate) fn kernel_of(
     alloc: Global,
     columns: &[Mono],
@@ -59,7 +61,8 @@ fn kernel_of_cases(
 }
 
 fn kernel_with(stage: Stage, duals: Items<Items<i128>>) -> Kernel
-    ensures { result ≡ record { relations = stage.relations; probes = stage.probes; duals = duals } }
+    ensures { result
+        ≡ record { relations = stage.relations; probes = stage.probes; duals = duals } }
 {
     Kernel {
         relations: stage.relations,
@@ -106,8 +109,8 @@ fn count_of(terms: &[Poly], lower: &[Poly]) -> usize
     terms.len() + lower.len() + 1
 }
 
-/// The unknown before those of a stage: where its own relation is one in each case, it is kept, and else a probe where it is
-/// not 0.
+/// The unknown before those of a stage: where its own relation is one in each case, it is kept, and
+/// else a probe where it is not 0.
 fn with_unknown(
     alloc: Global,
     columns: &[Mono],
@@ -154,7 +157,14 @@ fn with_numbers(
     numbers: &[i128],
 ) -> Result<Stage, AllocError>
     requires { AreChosenNumbers chosen.now numbers.now }
-    ensures { IfOk result (λ next. next ≡ record { relations = spread chosen.now (entry numbers.now) (unknown_count cases.now lower.now) ∷ stage.relations; free = stage.free; probes = stage.probes }) }
+    ensures { IfOk result
+        (λ next. next
+        ≡ record {
+          relations = spread chosen.now (entry numbers.now)
+              (unknown_count cases.now lower.now) ∷ stage.relations;
+          free = stage.free;
+          probes = stage.probes;
+        }) }
 {
     let count = unknown_count(cases, lower);
     let line = spread(alloc, chosen, numbers, count)?;
@@ -162,7 +172,9 @@ fn with_numbers(
 }
 
 fn with_relation(alloc: Global, stage: Stage, line: Items<i128>) -> Result<Stage, AllocError>
-    ensures { IfOk result (λ next. next ≡ record { relations = line ∷ stage.relations; free = stage.free; probes = stage.probes }) }
+    ensures { IfOk result
+        (λ next. next
+        ≡ record { relations = line ∷ stage.relations; free = stage.free; probes = stage.probes }) }
 {
     let relations = with_first(alloc, line, stage.relations)?;
     Ok(Stage {
@@ -178,7 +190,14 @@ fn with_probe(
     unknown: usize,
     probe: Probe,
 ) -> Result<Stage, AllocError>
-    ensures { IfOk result (λ next. next ≡ record { relations = stage.relations; free = unknown ∷ stage.free; probes = probe ∷ stage.probes }) }
+    ensures { IfOk result
+        (λ next. next
+        ≡ record {
+          relations = stage.relations;
+          free = unknown ∷ stage.free;
+          probes = probe
+              ∷ stage.probes;
+        }) }
 {
     let free = with_first(alloc, unknown, stage.free)?;
     let probes = with_first(alloc, probe, stage.probes)?;
@@ -208,7 +227,8 @@ fn with_last(alloc: Global, others: &[usize], own: usize) -> Result<Items<usize>
     Ok(all)
 }
 
-/// The one relation over the unknowns that are no pivot and one more, which is 0 at the probes of a stage.
+/// The one relation over the unknowns that are no pivot and one more, which is 0 at the probes of a
+/// stage.
 fn own_relation(
     alloc: Global,
     columns: &[Mono],
@@ -221,7 +241,9 @@ fn own_relation(
     requires small { HasSmallTerms cases.now lower.now }
     requires stage { IsStage columns.now cases.now lower.now (unknown + 1) stage.now }
     requires chosen { chosen.now ≡ stage.now.free ++ unknown ∷ [] }
-    ensures { IfOk result (λ numbers. IsOwnRelation columns.now cases.now lower.now stage.now.probes stage.now.free unknown numbers) }
+    ensures { IfOk result
+        (λ numbers. IsOwnRelation columns.now cases.now lower.now stage.now.probes stage.now.free
+        unknown numbers) }
 {
     let lines = lines(
         alloc,
@@ -245,7 +267,9 @@ fn lines(
 ) -> Result<Items<Items<i128>>, AllocError>
     requires small { HasSmallTerms cases.now lower.now }
     requires probes { AllByRecursion (IsProbe columns.now cases.now) probes.now }
-    ensures { IfOk result (λ lines. AreLines (length probes.now) (probe_line columns.now cases.now lower.now probes.now chosen.now) lines) }
+    ensures { IfOk result
+        (λ lines. AreLines (length probes.now)
+        (probe_line columns.now cases.now lower.now probes.now chosen.now) lines) }
 {
     let mut lines = Items::new(alloc);
     for place in 0..probes.len() {
@@ -265,7 +289,8 @@ fn line(
 ) -> Result<Items<i128>, AllocError>
     requires small { HasSmallTerms cases.now lower.now }
     requires probe { IsProbe columns.now cases.now probe.now }
-    ensures { IfOk result (λ line. line ≡ map (probe_at columns.now cases.now lower.now probe.now) chosen.now) }
+    ensures { IfOk result
+        (λ line. line ≡ map (probe_at columns.now cases.now lower.now probe.now) chosen.now) }
 {
     let mut line = Items::new(alloc);
     for unknown in chosen {
@@ -315,7 +340,9 @@ fn probe_apart(
 ) -> Option<Probe>
     requires small { HasSmallTerms cases.now lower.now }
     requires numbers { AreChosenNumbers chosen.now numbers.now }
-    ensures { MatchOption result (VanishesAtAll columns.now cases.now lower.now chosen.now numbers.now) (λ probe. IsApart columns.now cases.now lower.now chosen.now numbers.now probe) }
+    ensures { MatchOption result
+        (VanishesAtAll columns.now cases.now lower.now chosen.now numbers.now)
+        (λ probe. IsApart columns.now cases.now lower.now chosen.now numbers.now probe) }
 {
     for case in 0..cases.len() {
         if let Some(probe) = probe_apart_in(columns, cases, lower, chosen, numbers, case) {
@@ -337,7 +364,9 @@ fn probe_apart_in(
     requires small { HasSmallTerms cases.now lower.now }
     requires numbers { AreChosenNumbers chosen.now numbers.now }
     requires case { case < length cases.now }
-    ensures { MatchOption result (VanishesIn columns.now cases.now lower.now chosen.now numbers.now case) (λ probe. IsApart columns.now cases.now lower.now chosen.now numbers.now probe) }
+    ensures { MatchOption result
+        (VanishesIn columns.now cases.now lower.now chosen.now numbers.now case)
+        (λ probe. IsApart columns.now cases.now lower.now chosen.now numbers.now probe) }
 {
     for place in 0..columns.len() + 1 {
         let probe = Probe { case, place };
@@ -360,7 +389,8 @@ fn value(
     requires small { HasSmallTerms cases.now lower.now }
     requires numbers { AreChosenNumbers chosen.now numbers.now }
     requires probe { IsProbe columns.now cases.now probe.now }
-    ensures { result ≡ chosen_value columns.now cases.now lower.now chosen.now numbers.now probe.now (length chosen.now) }
+    ensures { result ≡ chosen_value columns.now cases.now lower.now chosen.now numbers.now probe.now
+        (length chosen.now) }
 {
     let mut sum = 0;
     for place in 0..chosen.len() {
@@ -390,7 +420,9 @@ fn duals(
 ) -> Result<Items<Items<i128>>, AllocError>
     requires small { HasSmallTerms cases.now lower.now }
     requires stage { IsStage columns.now cases.now lower.now 0 stage.now }
-    ensures { IfOk result (λ duals. AreDuals columns.now cases.now lower.now stage.now.probes stage.now.free (length stage.now.free) duals) }
+    ensures { IfOk result
+        (λ duals. AreDuals columns.now cases.now lower.now stage.now.probes stage.now.free
+        (length stage.now.free) duals) }
 {
     let mut duals = Items::new(alloc);
     for own in 0..stage.free.len() {
@@ -409,14 +441,16 @@ fn dual(
 ) -> Result<Items<i128>, AllocError>
     requires small { HasSmallTerms cases.now lower.now }
     requires stage { IsStage columns.now cases.now lower.now 0 stage.now }
-    ensures { IfOk result (λ dual. IsDual columns.now cases.now lower.now stage.now.probes stage.now.free own dual) }
+    ensures { IfOk result
+        (λ dual. IsDual columns.now cases.now lower.now stage.now.probes stage.now.free own dual) }
 {
     let (free, probes) = (stage.free.as_slice(), stage.probes.as_slice());
     let lines = unit_lines(alloc, columns, cases, lower, free, probes, own)?;
     null_vector(alloc, lines.as_slice())
 }
 
-/// What stands at each unknown that is no pivot: a line of its numbers at the probes, and -1 where it is the own one.
+/// What stands at each unknown that is no pivot: a line of its numbers at the probes, and -1 where
+/// it is the own one.
 fn unit_lines(
     alloc: Global,
     columns: &[Mono],
@@ -428,7 +462,9 @@ fn unit_lines(
 ) -> Result<Items<Items<i128>>, AllocError>
     requires small { HasSmallTerms cases.now lower.now }
     requires probes { AllByRecursion (IsProbe columns.now cases.now) probes.now }
-    ensures { IfOk result (λ lines. AreLines (length free.now) (unit_line columns.now cases.now lower.now probes.now free.now own) lines) }
+    ensures { IfOk result
+        (λ lines. AreLines (length free.now)
+        (unit_line columns.now cases.now lower.now probes.now free.now own) lines) }
 {
     let mut lines = Items::new(alloc);
     for place in 0..free.len() {
@@ -450,7 +486,9 @@ fn column(
 ) -> Result<Items<i128>, AllocError>
     requires small { HasSmallTerms cases.now lower.now }
     requires probes { AllByRecursion (IsProbe columns.now cases.now) probes.now }
-    ensures { IfOk result (λ column. column ≡ map (λ probe. probe_at columns.now cases.now lower.now probe unknown) probes.now) }
+    ensures { IfOk result
+        (λ column. column ≡ map (λ probe. probe_at columns.now cases.now lower.now probe unknown)
+        probes.now) }
 {
     let mut column = Items::new(alloc);
     for probe in probes {

@@ -1,10 +1,12 @@
-//! Questions of few columns and small numbers, which always have an answer. In a question of rows or objectives the search
-//! of `simplex` meets small numbers alone: fewer equations than unknowns have a small solution (Siegel's lemma), to which
-//! each line and each column of a tableau is proportional. In a question about relations each case has room in each
-//! direction, so a difference is 0 at all of its points exactly where it is the polynomial 0: the relations are found by
-//! the coefficients and constants of differences, one unknown after another, and shown by points around an inner one.
-//! Which questions are so narrow is decided by counting, and by asking whether their cases have such points. Beside them
-//! stands the reduced basis of what a few small rows span.
+//! Questions of few columns and small numbers, which always have an answer. In a question of rows
+//! or objectives the search of `simplex` meets small numbers alone: fewer equations than unknowns
+//! have a small solution (Siegel's lemma), to which each line and each column of a tableau is
+//! proportional. In a question about relations each case has room in each direction, so a
+//! difference is 0 at all of its points exactly where it is the polynomial 0: the relations are
+//! found by the coefficients and constants of differences, one unknown after another, and shown by
+//! points around an inner one. Which questions are so narrow is decided by counting, and by asking
+//! whether their cases have such points. Beside them stands the reduced basis of what a few small
+//! rows span.
 #![tactic(auto)]
 
 mod answering;

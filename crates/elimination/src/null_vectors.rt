@@ -14,8 +14,8 @@ use linear_terms::{Col, Kind, Mono, Poly, Row, TermError, add, scale};
 use simplex::Stop;
 use std::alloc::{AllocError, Global};
 
-/// The numbers without common divisor, the last of them positive, that each of a few small equations makes 0. The one
-/// error is want of memory.
+/// The numbers without common divisor, the last of them positive, that each of a few small
+/// equations makes 0. The one error is want of memory.
 pub(crate) fn null_vector(alloc: Global, lines: &[Items<i128>]) -> Result<Items<i128>, AllocError>
     requires few { length lines.now ≤ 6 }
     requires wide { AllByRecursion (λ line. length line ≡ length lines.now + 1) lines.now }
@@ -80,7 +80,8 @@ fn equation(alloc: Global, line: &[i128]) -> Result<Row, AllocError>
     }
 }
 
-/// The polynomial that has the numbers at the entry columns from a place on, and the last one as its constant.
+/// The polynomial that has the numbers at the entry columns from a place on, and the last one as
+/// its constant.
 pub(crate) fn poly_from(alloc: Global, place: u32, numbers: &[i128]) -> Result<Poly, TermError>
     requires few { place + length numbers.now ≤ 7 }
     requires small { AllByRecursion (λ z. unsigned_abs z ≤ 4) numbers.now }
@@ -116,14 +117,16 @@ fn with_one(
     count: usize,
 ) -> Result<Items<Ratio>, AllocError>
     requires { count ≤ 6 }
-    ensures { IfOk result (λ made. made ≡ values_to columns.now point.now count ++ whole (pos 1) ∷ []) }
+    ensures { IfOk result (λ made. made ≡ values_to columns.now point.now count ++ whole (pos 1)
+        ∷ []) }
 {
     let mut made = entry_values(alloc, columns, point, count)?;
     made.push(Ratio::whole(1))?;
     Ok(made)
 }
 
-/// The numerators of a solution over its least common denominator. They are small, so want of memory is the one error.
+/// The numerators of a solution over its least common denominator. They are small, so want of
+/// memory is the one error.
 fn over_least(
     alloc: Global,
     lines: &[Items<i128>],

@@ -8,8 +8,8 @@ ghost use Rattle.elimination.specs.Stages.{HasSmallTerms};
 use farkas_check::Change;
 use linear_terms::{Mono, Poly};
 
-/// Where a difference is read: in the case at a place, the coefficient at the column of a place, or behind the columns the
-/// constant.
+/// Where a difference is read: in the case at a place, the coefficient at the column of a place, or
+/// behind the columns the constant.
 #[derive(Clone, Copy, Drop)]
 pub(crate) struct Probe {
     pub(crate) case: usize,

@@ -10,8 +10,9 @@ use farkas_check::{Answer, Change, Goal, Question, Stratum};
 use linear_terms::Row;
 use std::alloc::{AllocError, Global};
 
-/// Whether a question is narrow: it has few columns, cases and rows, and small numbers. Each case of a supremum question
-/// has a point, and each case of a stratum question leaves room in each direction. The one error is want of memory.
+/// Whether a question is narrow: it has few columns, cases and rows, and small numbers. Each case
+/// of a supremum question has a point, and each case of a stratum question leaves room in each
+/// direction. The one error is want of memory.
 pub fn narrow(alloc: Global, question: &Question) -> Result<bool, AllocError>
     ensures { IfOk result (λ b. IsTrue b ↔ IsNarrow question.now) }
 {

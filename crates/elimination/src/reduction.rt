@@ -9,8 +9,8 @@ use farkas_check::Ratio;
 use items::Items;
 use std::alloc::{AllocError, Global};
 
-/// The reduced row echelon basis of rows of equal lengths with at most three columns and small numbers. The one error is
-/// want of memory.
+/// The reduced row echelon basis of rows of equal lengths with at most three columns and small
+/// numbers. The one error is want of memory.
 pub fn reduced(alloc: Global, rows: &[Items<Ratio>]) -> Result<Items<Items<Ratio>>, AllocError>
     requires { AreSmallRatios rows.now }
     ensures { IfOk result (λ lines. IsReducedOf rows.now lines) }
@@ -104,7 +104,8 @@ fn basis_of_line(alloc: Global, p: &Vector, width: usize) -> Result<Items<Items<
     one_line(alloc, &[zero, zero, one], width)
 }
 
-/// The basis of what is orthogonal to a vector; its last number that is not 0 stands where no line has its pivot.
+/// The basis of what is orthogonal to a vector; its last number that is not 0 stands where no line
+/// has its pivot.
 fn basis_of_plane(
     alloc: Global,
     n: &Vector,

@@ -4,7 +4,8 @@ ghost use Rattle.elimination.specs.declared.spaces.Space.TheVariants.{Origin, Li
 
 use crate::vectors::Vector;
 
-/// What rows of at most three numbers span: 0 alone, the multiples of a vector, all that is orthogonal to one, or all.
+/// What rows of at most three numbers span: 0 alone, the multiples of a vector, all that is
+/// orthogonal to one, or all.
 #[derive(Clone, Copy)]
 pub(crate) enum Space {
     Origin,

@@ -24,10 +24,10 @@ use items::Items;
 use linear_terms::Mono;
 use std::alloc::{AllocError, Global};
 
-/// Answers which relations between the terms and the lower terms are true at each point of each case. The answer passes
-/// the test of its question. On a narrow question, and on a live and calm one, it is no limit; on a slim one it is
-/// `Pivots` only where a case has no points. It names a product or sum that leaves 128 bits only where the question is
-/// not calm.
+/// Answers which relations between the terms and the lower terms are true at each point of each
+/// case. The answer passes the test of its question. On a narrow question, and on a live and calm
+/// one, it is no limit; on a slim one it is `Pivots` only where a case has no points. It names a
+/// product or sum that leaves 128 bits only where the question is not calm.
 #[tactic(auto, using(crate::proofs::SmallStrata::small_strata))]
 pub fn stratum(alloc: Global, asked: &Stratum) -> Result<Answer, AllocError>
     ensures passes { IfOk result (λ a. Passes (question.Stratum asked.now) a) }
@@ -36,7 +36,8 @@ pub fn stratum(alloc: Global, asked: &Stratum) -> Result<Answer, AllocError>
     ensures calm { IsLiveAndCalm (question.Stratum asked.now) → IfOk result (λ a. IsLimit a → ⊥) }
     ensures wide { IsCalm (question.Stratum asked.now) → IfOk result (λ a. IsWide a → ⊥) }
     ensures pivots { IfOk result (λ a. PivotsOver (2 ^ 127 - 1) asked.now a) }
-    ensures slim { IsSlim (question.Stratum asked.now) → IfOk result (λ a. IsPivots a → IsDead (question.Stratum asked.now)) }
+    ensures slim { IsSlim (question.Stratum asked.now)
+        → IfOk result (λ a. IsPivots a → IsDead (question.Stratum asked.now)) }
 {
     truth_of_passing();
     match small_basis(alloc, asked)? {
@@ -107,7 +108,8 @@ fn basis_over(
     }
 }
 
-/// An inner point of the case of each probe, or none where such a case leaves no room in some direction.
+/// An inner point of the case of each probe, or none where such a case leaves no room in some
+/// direction.
 fn inner_points(
     alloc: Global,
     columns: &[Mono],
@@ -115,7 +117,8 @@ fn inner_points(
     probes: &[Probe],
 ) -> Result<Option<Items<Inner>>, AllocError>
     requires probes { AreProbes columns.now cases.now probes.now }
-    ensures inners { IfOk result (λ found. MatchOption found ⊤ (AreInners columns.now cases.now probes.now)) }
+    ensures inners { IfOk result
+        (λ found. MatchOption found ⊤ (AreInners columns.now cases.now probes.now)) }
     ensures none { IfOk result (λ found. found ≡ None → LacksRoom cases.now) }
 {
     let mut made = Items::new(alloc);

@@ -9,9 +9,10 @@ use Rattle.farkas_check.specs.Tested.{Passes}
 use Rattle.simplex.specs.Answers.{IsWide}
 use Rattle.simplex.specs.Whole.{PivotsIn}
 
--- An answer passes the test of its question, and is the truth about rational points unless it is a limit. No limit comes to
--- a live and calm question, and none to a narrow one. One that names a step comes only to a question that is not calm;
--- `Pivots` comes only to a dead question, and where a case has more choices of columns than turns.
+-- An answer passes the test of its question, and is the truth about rational points unless it is a
+-- limit. No limit comes to a live and calm question, and none to a narrow one. One that names a
+-- step comes only to a question that is not calm; `Pivots` comes only to a dead question, and where
+-- a case has more choices of columns than turns.
 pub record IsFound (question : Question) (a : Answer) : Type 0 where
   pub passes : Passes question a
   pub tight : (IsLimit a → ⊥) → IsTight question a

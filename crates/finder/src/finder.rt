@@ -7,9 +7,9 @@ use farkas_check::{Answer, AskError, Oracle, Question, Stratum, truth_of_passing
 use simplex::{Endings, answer_with};
 use std::alloc::{AllocError, Global};
 
-/// Answers each question by exact rational simplex, and by elimination where a question about relations met a limit. What
-/// an answer is, and when it is a limit, is told by `IsFound`.
-/// It keeps where the last suprema ended; what it may answer does not depend on that.
+/// Answers each question by exact rational simplex, and by elimination where a question about
+/// relations met a limit. What an answer is, and when it is a limit, is told by `IsFound`. It keeps
+/// where the last suprema ended; what it may answer does not depend on that.
 #[derive(Drop)]
 pub struct Finder {
     endings: Endings,
@@ -28,7 +28,12 @@ impl Oracle for Finder {
     ghost use Rattle.std.specs.Prelude.{None};
 
     // It never refuses, and does not tell what it will answer.
-    ghost asking = { record { refusals = λ s. 0; declines = λ s question. ⊥; allows = IsFound; left = λ s. None } };
+    ghost asking = { record {
+      refusals = λ s. 0;
+      declines = λ s question. ⊥;
+      allows = IsFound;
+      left = λ s. None;
+    } };
 
     fn ask(&mut self, alloc: Global, question: &Question) -> Result<Answer, AskError> {
         truth_of_passing();

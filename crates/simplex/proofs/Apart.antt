@@ -1,4 +1,5 @@
--- A point at which a relation's difference is not 0: what the relation's numbers make of the spot's line there is not 0.
+-- A point at which a relation's difference is not 0: what the relation's numbers make of the spot's
+-- line there is not 0.
 use Rattle.std.proofs.Common.{◌≡◌, ◌≢◌, ℕ, zero, suc, Bool, true, false, cond, List, [], ◌∷◌, ◌++◌, length, map, Result, Ok, refl, sym, ap, subst, ◌∙◌, arith, ℤ, pos, negsuc, ◌+ℤ◌, ◌*ℤ◌, ◌<ℤ◌}
 use Rattle.std.specs.Prelude.{neg_ℤ}
 use Rattle.std.specs.List.{AllByRecursion}

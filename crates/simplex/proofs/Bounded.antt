@@ -1,5 +1,5 @@
--- What the line of an objective that can't grow is worth as a certificate: the sum of the multiples of the rows is the
--- scale times the objective, less the sum.
+-- What the line of an objective that can't grow is worth as a certificate: the sum of the multiples
+-- of the rows is the scale times the objective, less the sum.
 use Rattle.std.proofs.Common.{◌≡◌, Bool, true, ℕ, zero, suc, ◌+◌, ◌<◌, ◌≤◌, List, [], ◌∷◌, map, length, get_or, take, drop, Result, Ok, refl, sym, ap, subst, ◌∙◌, arith, ℤ, pos, negsuc, ◌+ℤ◌, ◌-ℤ◌, ◌*ℤ◌, ◌≤ℤ◌, ◌<ℤ◌}
 use Rattle.std.specs.Prelude.{◌&&◌, ◌==◌, ◌-◌}
 use Rattle.std.specs.List.{list_all, zip}

@@ -58,7 +58,8 @@ difference-small n p a q b hp ha hq hb =
     less : (a b : ℤ) → unsigned_abs (a -ℤ b) ≤ unsigned_abs a + unsigned_abs b
     less a b = omega (arith, ints)
 
--- one more column outside the units: from the lines of a choice to those of one in which a line chooses another column
+-- one more column outside the units: from the lines of a choice to those of one in which a line
+-- chooses another column
 small_step : (n lines units columns : ℕ) (frame numbers : ℕ → ℕ → ℤ) (chosen other : ℕ → ℕ) (r : ℕ) → IsWholeTableau lines units columns frame numbers chosen → ((k : ℕ) → k < lines → chosen k < columns) → ((k : ℕ) → k < lines → other k < columns)
     → r < lines → ((k : ℕ) → k < lines → k ≢ r → other k ≡ chosen k) → ((i : ℕ) → i < lines → HasSmall n lines units columns frame other i) → (i : ℕ) → i < lines → HasSmall (n * n + n * n) lines units columns frame chosen i
 small_step n lines units columns frame numbers chosen other r t ranges ranges_too here same known i h =

@@ -1,5 +1,5 @@
--- The frame of a case's rows with a relation's difference is as small as that with minus the difference: the tableaux of one
--- are those of the other with the sign of one unit column turned.
+-- The frame of a case's rows with a relation's difference is as small as that with minus the
+-- difference: the tableaux of one are those of the other with the sign of one unit column turned.
 use Rattle.std.proofs.Common.{◌≡◌, ◌≢◌, ℕ, zero, suc, ◌+◌, ◌*◌, ◌<◌, ◌≤◌, Bool, true, false, cond, List, [], ◌∷◌, ◌++◌, map, length, get_or, refl, sym, ap, subst, ◌∙◌, arith, ⊎_elim, ℤ, pos, ◌*ℤ◌}
 use Rattle.std.specs.Prelude.{nat_eq, nat_lt, unsigned_abs}
 use Rattle.std.specs.List.{AllByRecursion}

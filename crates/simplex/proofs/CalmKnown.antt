@@ -1,5 +1,5 @@
--- What a search for relations knows on a calm question: the frame of its spots' lines is calm, and the relations that are read
--- off are small and have differences whose frames are calm.
+-- What a search for relations knows on a calm question: the frame of its spots' lines is calm, and
+-- the relations that are read off are small and have differences whose frames are calm.
 use Rattle.std.proofs.Common.{◌≡◌, ℕ, suc, ◌+◌, ◌<◌, ◌≤◌, List, [], ◌∷◌, ◌++◌, map, length, get_or, refl, sym, ap, subst, ◌∙◌, arith, ℤ, negsuc, ◌*ℤ◌, ◌^◌}
 use Rattle.std.specs.Prelude.{unsigned_abs}
 use Rattle.std.specs.List.{AllByRecursion}

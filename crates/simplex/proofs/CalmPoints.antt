@@ -1,5 +1,6 @@
--- A point of a case that the search meets is a corner of the frame of the case's rows, or a corner and a ray, in the words of
--- calm questions: the tableau at hand loses the line of the polynomial that it carries along.
+-- A point of a case that the search meets is a corner of the frame of the case's rows, or a corner
+-- and a ray, in the words of calm questions: the tableau at hand loses the line of the polynomial
+-- that it carries along.
 use Rattle.std.proofs.Common.{◌≡◌, ◌≢◌, ◌⊎◌, inl, inr, ℕ, suc, ◌+◌, ◌<◌, ◌≤◌, Bool, true, false, cond, List, [], ◌∷◌, map, length, get_or, refl, sym, ap, subst, ◌∙◌, arith, ⊎_elim, ℤ, pos, negsuc, ◌+ℤ◌, ◌-ℤ◌, ◌*ℤ◌, ◌<ℤ◌}
 use Rattle.std.specs.Prelude.{nat_eq, nat_lt, neg_ℤ}
 use Rattle.std.specs.List.{AllByRecursion}

@@ -1,4 +1,5 @@
--- The relation that is read off a tableau of spots' lines is one of a tableau of their frame in the words of calm questions.
+-- The relation that is read off a tableau of spots' lines is one of a tableau of their frame in the
+-- words of calm questions.
 use Rattle.std.proofs.Common.{◌≡◌, ◌≢◌, ℕ, zero, suc, ◌*◌, ◌<◌, ◌≤◌, Bool, false, cond, List, [], ◌∷◌, map, length, get_or, refl, sym, ap, subst, ◌∙◌, arith, ⊎_elim, ℤ, pos, negsuc, ◌*ℤ◌, ◌<ℤ◌}
 use Rattle.std.specs.Prelude.{nat_eq, unsigned_abs, int_div, neg_ℤ}
 use Rattle.std.specs.Int.{◌∣◌}

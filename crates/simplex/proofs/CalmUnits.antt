@@ -1,5 +1,5 @@
--- A calm question of relations: the test of spots of small numbers, and of the multiples of their differences, stays within
--- 128 bits.
+-- A calm question of relations: the test of spots of small numbers, and of the multiples of their
+-- differences, stays within 128 bits.
 use Rattle.std.proofs.Common.{◌≡◌, ℕ, zero, suc, ◌+◌, ◌*◌, ◌^◌, ◌<◌, ◌≤◌, Bool, true, false, cond, List, [], ◌∷◌, length, get_or, Result, Ok, refl, sym, ap, subst, ◌∙◌, arith, ℤ, pos, ◌+ℤ◌, ◌*ℤ◌, ◌<ℤ◌}
 use Rattle.std.specs.Prelude.{unsigned_abs, ◌&&◌, ◌==◌, nat_lt, nat_eq}
 use Rattle.std.specs.List.{AllByRecursion, zip}

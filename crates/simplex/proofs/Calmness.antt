@@ -1,5 +1,5 @@
--- A frame that is calm has small tableaux: each line of whole numbers without common divisor is a line of rational multiples
--- over its least common denominator.
+-- A frame that is calm has small tableaux: each line of whole numbers without common divisor is a
+-- line of rational multiples over its least common denominator.
 use Rattle.std.proofs.Common.{◌≡◌, ℕ, zero, suc, ◌+◌, ◌*◌, ◌-◌, ◌<◌, ◌≤◌, Bool, true, false, cond, List, [], ◌∷◌, ◌++◌, map, length, get_or, refl, sym, ap, subst, ◌∙◌, arith, ⊎_elim, ℤ, pos, ◌-ℤ◌, ◌*ℤ◌, ◌<ℤ◌, ◌≢◌}
 use Rattle.std.specs.Prelude.{◌==◌, nat_eq, nat_lt, unsigned_abs, int_div, neg_ℤ}
 use Rattle.std.specs.Int.{◌∣◌}
@@ -268,7 +268,8 @@ small_column_of n f frame t column same calm all_lines s inside = record {
 pub small_column : (n : ℕ) (cs : List (List Col)) (rows : List Row) (t : Tableau) (column : ℕ) → IsCalmUpTo n (frame_of cs (row_polys rows [])) → length t.lines ≡ length rows → IsTableauOf (length cs + 1) (numbers_of (framed cs rows)) t → column < length cs + 1 + length t.lines → HasSmallColumn n t column
 small_column n cs rows t column calm many s inside = small_column_of n (frame_of cs (row_polys rows [])) (numbers_of (framed cs rows)) t column (row_numbers cs rows) calm (many ∙ sym (lines-length cs rows)) s inside
 
--- what the point or the ray of a column has at a column that it does not grow, over the least common denominator
+-- what the point or the ray of a column has at a column that it does not grow, over the least
+-- common denominator
 pub moved_part : (n : ℕ) (t : Tableau) (column : ℕ) → HasSmallColumn n t column → ℕ → ℤ
 moved_part n t column c j = pos 0 -ℤ sum_below (length t.lines) (λ k. part (choices_of t) c.top j k)
 

@@ -1,4 +1,5 @@
--- The answer over all cases: no part of its test is false, and on calm questions no step of it leaves 128 bits.
+-- The answer over all cases: no part of its test is false, and on calm questions no step of it
+-- leaves 128 bits.
 use Rattle.std.proofs.Common.{◌≡◌, ◌⊎◌, inl, inr, ℕ, zero, suc, ◌+◌, ◌<◌, ◌≤◌, Bool, true, false, cond, List, [], ◌∷◌, ◌++◌, length, get_or, map, Result, Ok, Err, refl, sym, ap, subst, ◌∙◌, arith, ⊎_elim, ℤ, pos, ◌*ℤ◌, ◌≤ℤ◌, ◌<ℤ◌, Option, None, Some}
 use Rattle.std.specs.Prelude.{IfOk, IfErr, ◌-◌, ◌^◌, ◌==◌, slice_get, int_lt, unsigned_abs}
 use Rattle.std.specs.List.{AllByRecursion}

@@ -66,7 +66,8 @@ count_to-chosen columns (suc n) chosen r d =
 
 -- ---- a line's numbers
 
--- Two tableaux of one frame that choose the same columns, and the same one in a line, have the same line up to its number there.
+-- Two tableaux of one frame that choose the same columns, and the same one in a line, have the same
+-- line up to its number there.
 pub same_line : (lines units columns : ℕ) (frame first second : ℕ → ℕ → ℤ) (one two : ℕ → ℕ) (goal : ℕ)
     → IsWholeTableau lines units columns frame first one → IsWholeTableau lines units columns frame second two
     → goal < lines → one goal ≡ two goal → ((j : ℕ) → j < columns → is_chosen lines one j ≡ is_chosen lines two j) → ((k : ℕ) → k < lines → one k < columns)

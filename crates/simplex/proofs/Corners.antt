@@ -1,4 +1,5 @@
--- A corner and a ray are solutions of the frame: what is minus a column's numbers at the chosen columns, over a common denominator.
+-- A corner and a ray are solutions of the frame: what is minus a column's numbers at the chosen
+-- columns, over a common denominator.
 use Rattle.std.proofs.Common.{◌≡◌, ◌≢◌, ℕ, zero, suc, ◌<◌, cond, refl, sym, ap, ◌∙◌, arith, ⊎_elim, ℤ, pos, ◌+ℤ◌, ◌-ℤ◌, ◌*ℤ◌}
 use Rattle.std.specs.Prelude.{nat_eq}
 use Rattle.std.proofs.lemmas.Int.{ints}

@@ -1,5 +1,5 @@
--- What a search for a basis knows: spots that are points of their cases, and relations of as many numbers as there are
--- unknowns.
+-- What a search for a basis knows: spots that are points of their cases, and relations of as many
+-- numbers as there are unknowns.
 use Rattle.std.proofs.Common.{◌≡◌, ◌≢◌, ℕ, zero, suc, ◌+◌, ◌*◌, ◌-◌, ◌<◌, ◌≤◌, Bool, true, false, get_or, List, [], ◌∷◌, ◌++◌, length, map, Result, Ok, refl, sym, ap, subst, ◌∙◌, arith, ℤ, negsuc}
 use Rattle.std.specs.Prelude.{◌==◌, ◌&&◌, ◌||◌, IsTrue, slice_get, Option, None, Some}
 use Rattle.std.specs.List.{AllByRecursion, list_all, list_any, IsDistinct}
@@ -263,7 +263,8 @@ unchosen count known u found k l e = record { none = λ i h. at i (subst (λ (n 
     at : (i : ℕ) → i < length known.tableau.chosen → choices_of known.tableau i ≢ u
     at = chooses
 
--- a spot at which the difference of the next relation is not 0 has a line that is independent of the others
+-- a spot at which the difference of the next relation is not 0 has a line that is independent of
+-- the others
 pub apart_line : (s : Strata) (known : Known) (numbers : List ℤ) (place : ℕ) (at : List Fraction) → AreKnown s known → known.next < s.count → IsUnchosen known.spots.tableau known.next → length numbers ≡ s.count → IsRelationOf s.count known.spots.tableau known.next numbers → IsApartAt s numbers place at
     → IsNewPoint s.columns.now at (terms_of s.cases.now place) s.lower.now s.count known.spots.lines
 apart_line s known numbers place at k here free many r a = record {

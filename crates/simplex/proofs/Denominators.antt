@@ -1,4 +1,5 @@
--- The least common denominator of ratios, and their numerators over it, which have no common divisor.
+-- The least common denominator of ratios, and their numerators over it, which have no common
+-- divisor.
 use Rattle.std.proofs.Common.{◌≡◌, ℕ, zero, suc, ◌+◌, ◌*◌, ◌<◌, ◌≤◌, List, [], ◌∷◌, length, Ok, refl, sym, ap, subst, ◌∙◌, arith, ℤ, pos, ◌*ℤ◌, ◌<ℤ◌}
 use Rattle.std.specs.Prelude.{unsigned_abs, int_div}
 use Rattle.std.specs.List.{AllByRecursion}
@@ -158,7 +159,8 @@ factor_at g [] j m h e d = absurd (omega (arith, h))
 factor_at g (n ∷ ns) zero m h e d = subst (IsFactor g) e d.0
 factor_at g (n ∷ ns) (suc j) m h e d = factor_at g ns j m (omega (arith, h)) e d.1
 
--- Numerators over the least common denominator, which is a multiple of one of them, have no common divisor.
+-- Numerators over the least common denominator, which is a multiple of one of them, have no common
+-- divisor.
 pub numerators-primitive_to : (rs : List Fraction) (m : ℤ) (ns : List ℤ) (j : ℕ) (by : ℤ) → AreLowest rs → common_denominator rs ≡ Ok m → numerators_over m rs ≡ Ok ns → j < length ns → entry ns j *ℤ by ≡ m → gcd_of_all ns ≡ 1
 numerators-primitive_to rs m ns j by s e f h at = by_divisor (gcd_of_all ns) (factors_of (gcd_of_all ns) ns (DividesEach-gcd_of_all ns))
   where

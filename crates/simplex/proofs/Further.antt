@@ -1,5 +1,5 @@
--- Where a raise of a relation's difference ends: the difference is not 0 at the corner of a bound that is not 0, nor at a
--- corner or beyond it where it grows without end.
+-- Where a raise of a relation's difference ends: the difference is not 0 at the corner of a bound
+-- that is not 0, nor at a corner or beyond it where it grows without end.
 use Rattle.std.proofs.Common.{◌≡◌, ◌≢◌, ◌⊎◌, ℕ, ◌+◌, ◌<◌, Bool, List, [], length, get_or, Ok, sym, ap, subst, ◌∙◌, arith, ⊎_elim, inl, inr, ℤ, pos, ◌+ℤ◌, ◌*ℤ◌, ◌<ℤ◌}
 use Rattle.std.specs.List.{AllByRecursion}
 use Rattle.std.specs.Map.{keys_of}

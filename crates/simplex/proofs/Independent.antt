@@ -1,5 +1,5 @@
--- The lines of spots are independent: no sum of multiples is 0 at all unknowns but that of zeros. So each line of their tableau
--- chooses an unknown.
+-- The lines of spots are independent: no sum of multiples is 0 at all unknowns but that of zeros.
+-- So each line of their tableau chooses an unknown.
 use Rattle.std.proofs.Common.{◌≡◌, ◌≢◌, ◌⊎◌, inl, inr, ℕ, zero, suc, ◌+◌, ◌-◌, ◌<◌, ◌≤◌, List, [], ◌∷◌, ◌++◌, length, get_or, refl, sym, ap, subst, ◌∙◌, arith, ⊎_elim, ℤ, pos, negsuc, ◌+ℤ◌, ◌*ℤ◌, ◌<ℤ◌}
 use Rattle.std.proofs.lemmas.Int.{ints}
 use Rattle.std.proofs.lemmas.Bool.{cases_eq, cases_lt}

@@ -1,4 +1,5 @@
--- What is proportional to a line without common divisor is a whole multiple of it, by its own divisor.
+-- What is proportional to a line without common divisor is a whole multiple of it, by its own
+-- divisor.
 use Rattle.std.proofs.Common.{◌≡◌, ℕ, zero, suc, ◌*◌, ◌/◌, ◌<◌, ◌≤◌, List, [], ◌∷◌, map, length, get_or, refl, sym, ap, subst, ◌∙◌, arith, ℤ, pos, ◌*ℤ◌, ◌<ℤ◌}
 use Rattle.std.specs.Prelude.{unsigned_abs, int_div}
 use Rattle.std.specs.Int.{◌∣◌}

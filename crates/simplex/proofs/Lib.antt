@@ -23,7 +23,8 @@ pub mod Units
 pub mod Independent
 pub mod Apart
 pub mod Further
--- Calm: tableaux of a calm frame are small, and a step that leaves 128 bits shows that a frame is not small.
+-- Calm: tableaux of a calm frame are small, and a step that leaves 128 bits shows that a frame is
+-- not small.
 pub mod Calmness
 pub mod CalmSpots
 pub mod CalmTies

@@ -134,7 +134,8 @@ corner_within over constants kinds enters t l kind m row h is = ⊎_elim (λ fou
         within AtMost k = not_above_times (numbers_of t i constants) (share (length t.lines) (λ k. numbers_of t k (choices_of t k)) i) (m.placed.corner i g (ap (enters_at enters) choice ∙ m.kept l row k)) (share_above over t i s)
         within Equal k = ap (λ z. z *ℤ share (length t.lines) (λ k. numbers_of t k (choices_of t k)) i) (m.placed.marked.fixed i l g h choice k).corner ∙ zero-*ℤ (share (length t.lines) (λ k. numbers_of t k (choices_of t k)) i)
 
--- along the ray of a column of the question, where the lines that choose slacks of rows are 0, rows stay level
+-- along the ray of a column of the question, where the lines that choose slacks of rows are 0, rows
+-- stay level
 pub level_ray : (over : Framed) (constants : ℕ) (kinds : List Kind) (enters : List Bool) (t : Tableau) (column l : ℕ) → IsMet over constants kinds enters t → column < constants → l < over.rows → l < length t.lines → ((i : ℕ) → i < length t.lines → choices_of t i ≡ over.units + l → i < over.rows) → pos 0 -ℤ shift t column (over.units + l) ≡ pos 0
 level_ray over constants kinds enters t column l m in_question row h rows_only = ⊎_elim (λ found. chosen found.0 found.1.0 found.1.1) (λ no_one. ap (λ z. pos 0 -ℤ z) (shift_free t column (over.units + l) apart no_one)) (find_choice (length t.lines) (choices_of t) (over.units + l))
   where

@@ -1,5 +1,5 @@
--- Ratios over a common denominator that is not great: their least common denominator, and their numerators over it, stay within
--- 128 bits.
+-- Ratios over a common denominator that is not great: their least common denominator, and their
+-- numerators over it, stay within 128 bits.
 use Rattle.std.proofs.Common.{◌≡◌, ℕ, zero, suc, ◌+◌, ◌^◌, ◌<◌, ◌≤◌, List, [], ◌∷◌, length, get_or, Result, Ok, refl, sym, ap, subst, ◌∙◌, arith, ℤ, pos, negsuc, ◌+ℤ◌, ◌*ℤ◌, ◌<ℤ◌}
 use Rattle.std.specs.Prelude.{unsigned_abs, int_div}
 use Rattle.std.specs.List.{AllByRecursion}

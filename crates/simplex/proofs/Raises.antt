@@ -1,4 +1,5 @@
--- A step of a raise: lines of slacks stay lexicographically positive, no two leave at once, and the goal grows.
+-- A step of a raise: lines of slacks stay lexicographically positive, no two leave at once, and the
+-- goal grows.
 use Rattle.std.proofs.Common.{◌≡◌, ◌≢◌, ℕ, ◌<◌, Bool, true, false, List, refl, sym, ap, subst, ◌∙◌, arith, ⊎_elim, ℤ, pos, ◌+ℤ◌, ◌-ℤ◌, ◌*ℤ◌, ◌<ℤ◌}
 use Rattle.std.specs.Prelude.{neg_ℤ}
 use Rattle.std.specs.List.{AllByRecursion}
@@ -12,7 +13,8 @@ use Rattle.simplex.proofs.Growth.{lex_sum, lex_multiple}
 use Rattle.simplex.specs.History.{IsRaising}
 use Rattle.simplex.proofs.Runs.{seen-sum, seen-multiple, Grows, all_below}
 
--- among the lines of slacks that are positive at the column, the line has the least numbers at the keys, over its number there
+-- among the lines of slacks that are positive at the column, the line has the least numbers at the
+-- keys, over its number there
 pub record Leaves (lines constants : ℕ) (slack : ℕ → Bool) (keys : List ℕ) (numbers : ℕ → ℕ → ℤ) (line column : ℕ) : Type 0 where
   pub here : line < lines
   pub is_slack : slack line ≡ true

@@ -1,4 +1,5 @@
--- A step that leaves 128 bits shows that the tableau at hand has a great number, and so its frame is not small.
+-- A step that leaves 128 bits shows that the tableau at hand has a great number, and so its frame
+-- is not small.
 use Rattle.std.proofs.Common.{◌≡◌, ◌<◌, ℕ, Bool, true, false, ◌&&◌, List, [], length, get_or, sym, subst, arith, Result, Ok, Err, ℤ, pos, ◌*ℤ◌, ◌<ℤ◌}
 use Rattle.std.specs.Prelude.{IfErr, IfOk, int_le}
 use Rattle.std.proofs.lemmas.Int.{ints}

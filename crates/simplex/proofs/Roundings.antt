@@ -1,4 +1,5 @@
--- Bounds rounded down: a certificate's bound is below the next whole number, and so below each one after it.
+-- Bounds rounded down: a certificate's bound is below the next whole number, and so below each one
+-- after it.
 use Rattle.std.proofs.Common.{◌≡◌, ℕ, zero, suc, ◌+◌, ◌*◌, ◌/◌, ◌<◌, ◌≤◌, Bool, true, false, Result, Ok, Err, refl, sym, ap, subst, ◌∙◌, arith, ℤ, pos, negsuc, ◌+ℤ◌, ◌*ℤ◌, ◌≤ℤ◌, ◌<ℤ◌}
 use Rattle.std.specs.Prelude.{int_le, neg_ℤ, ◌&&◌}
 use Rattle.std.specs.Int.{int_div_euclid}

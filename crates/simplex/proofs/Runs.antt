@@ -1,4 +1,5 @@
--- A run of exchanges whose goal grows: no choice of columns comes twice, so there are at most as many exchanges as choices.
+-- A run of exchanges whose goal grows: no choice of columns comes twice, so there are at most as
+-- many exchanges as choices.
 use Rattle.std.proofs.Common.{◌≡◌, ◌≢◌, ℕ, suc, ◌+◌, ◌<◌, ◌≤◌, Bool, true, false, cond, List, [], ◌∷◌, length, refl, sym, ap, subst, ◌∙◌, arith, ℤ, pos, ◌+ℤ◌, ◌-ℤ◌, ◌*ℤ◌, ◌<ℤ◌}
 use Rattle.std.specs.Prelude.{nat_eq, neg_ℤ}
 use Rattle.std.specs.List.{AllByRecursion, IsDistinct, list_any}

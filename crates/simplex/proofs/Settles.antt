@@ -162,7 +162,8 @@ kept_here over constants kinds enters t i p row here kind waits met = record {
 
 -- ---- a row whose slack grows without end
 
--- an exchange of the goal's line at a column at which it grows without end: the corner is one of the rows that are kept
+-- an exchange of the goal's line at a column at which it grows without end: the corner is one of
+-- the rows that are kept
 not_above : (factor new p old q b : ℤ) → pos 0 <ℤ factor → factor *ℤ new ≡ p *ℤ old -ℤ q *ℤ b → pos 0 <ℤ p → old ≤ℤ pos 0 → q ≤ℤ pos 0 → b ≤ℤ pos 0 → new ≤ℤ pos 0
 not_above factor new p old q b f e p_positive o n m =
     *ℤ-≤ℤ new (pos 0) factor f

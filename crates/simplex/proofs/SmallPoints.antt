@@ -1,4 +1,5 @@
--- A point of a calm case: the numbers of a corner, and those of a corner and a ray, are small over a common denominator.
+-- A point of a calm case: the numbers of a corner, and those of a corner and a ray, are small over
+-- a common denominator.
 use Rattle.std.proofs.Common.{◌≡◌, ◌≢◌, ℕ, ◌+◌, ◌*◌, ◌<◌, ◌≤◌, Bool, true, false, List, ◌∷◌, map, length, get_or, Ok, sym, ap, subst, ◌∙◌, arith, ⊎_elim, ℤ, pos, negsuc, ◌+ℤ◌, ◌-ℤ◌, ◌*ℤ◌, ◌<ℤ◌}
 use Rattle.std.specs.Prelude.{unsigned_abs, int_div}
 use Rattle.std.specs.Int.{◌∣◌}

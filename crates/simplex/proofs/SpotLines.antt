@@ -1,5 +1,5 @@
--- The line of a spot is that of its point in the words of calm questions: what is left of the values at the point without their
--- common divisor.
+-- The line of a spot is that of its point in the words of calm questions: what is left of the
+-- values at the point without their common divisor.
 use Rattle.std.proofs.Common.{◌≡◌, ℕ, zero, suc, ◌+◌, ◌<◌, ◌≤◌, List, [], ◌∷◌, ◌++◌, map, length, get_or, refl, sym, ap, subst, ◌∙◌, arith, ⊎_elim, ℤ, pos, negsuc, ◌+ℤ◌, ◌*ℤ◌, ◌<ℤ◌}
 use Rattle.std.specs.Prelude.{neg_ℤ, int_div, unsigned_abs}
 use Rattle.std.specs.Int.{◌∣◌}

@@ -1,4 +1,5 @@
--- The points that a search for a basis meets make the rows of their case true: no part of the test of a spot is false.
+-- The points that a search for a basis meets make the rows of their case true: no part of the test
+-- of a spot is false.
 use Rattle.std.proofs.Common.{◌≡◌, ◌≢◌, ◌⊎◌, inl, inr, ℕ, zero, suc, ◌+◌, ◌<◌, Bool, true, false, cond, List, [], ◌∷◌, length, get_or, Result, Ok, Err, refl, sym, ap, subst, ◌∙◌, arith, ⊎_elim, ℤ, pos, ◌+ℤ◌, ◌-ℤ◌, ◌*ℤ◌, ◌<ℤ◌}
 use Rattle.std.specs.Prelude.{◌==◌, ◌&&◌, nat_lt, slice_get, Some}
 use Rattle.std.specs.List.{AllByRecursion}

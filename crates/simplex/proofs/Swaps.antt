@@ -1,4 +1,5 @@
--- Another goal in a tableau: its line is cleared at what the other lines choose, and the tableau is one of the other frame.
+-- Another goal in a tableau: its line is cleared at what the other lines choose, and the tableau is
+-- one of the other frame.
 use Rattle.std.proofs.Common.{◌≡◌, ◌≢◌, ℕ, ◌+◌, ◌<◌, Bool, cond, refl, sym, ap, subst, ◌∙◌, arith, ⊎_elim, ℤ, pos, ◌-ℤ◌, ◌*ℤ◌, ◌<ℤ◌}
 use Rattle.std.specs.Prelude.{nat_eq}
 use Rattle.std.proofs.lemmas.Int.{ints}
@@ -11,7 +12,8 @@ use Rattle.simplex.proofs.Corners.{single}
 use Rattle.simplex.proofs.Exchanges.{cancelled, times_zero, vanishes, both_zero, at_pivot, stays_positive}
 use Rattle.simplex.proofs.Sums.{sum_below-same, weighted}
 
--- a tableau of a frame in which one line chooses its own unit column, and a frame that differs in this line
+-- a tableau of a frame in which one line chooses its own unit column, and a frame that differs in
+-- this line
 pub record HasGoal (lines goal units columns : ℕ) (frame other numbers : ℕ → ℕ → ℤ) (chosen : ℕ → ℕ) : Type 0 where
   pub tableau : IsWholeTableau lines units columns frame numbers chosen
   pub wide : units + lines ≡ columns
@@ -133,7 +135,8 @@ module _ (lines goal units columns : ℕ) (frame other numbers : ℕ → ℕ →
       ∙ ap (λ z. p *ℤ z -ℤ q *ℤ sum_below columns (λ j. at_goal j *ℤ v j)) (turned_sum x v)
       ∙ ap (λ z. p *ℤ sum_below columns (λ j. v j *ℤ x j) -ℤ q *ℤ z) (unit_sum v)
 
-  -- what is 0 on the lines of the rows is 0 on the rows: its number at the goal's unit column is free
+  -- what is 0 on the lines of the rows is 0 on the rows: its number at the goal's unit column is
+  -- free
   row_solutions : (x : ℕ → ℤ) → ((i : ℕ) → i < lines → i ≢ goal → sum_below columns (λ j. numbers i j *ℤ x j) ≡ pos 0) → (l : ℕ) → l < lines → l ≢ goal → sum_below columns (λ j. other l j *ℤ x j) ≡ pos 0
   row_solutions x rows l h apart =
       vanishes p (sum_below columns (λ j. other l j *ℤ x j)) positive

@@ -1,4 +1,5 @@
--- Sums and values whose numbers stay within 128 bits: partial sums of ratios have denominators that divide a common one.
+-- Sums and values whose numbers stay within 128 bits: partial sums of ratios have denominators that
+-- divide a common one.
 use Rattle.std.proofs.Common.{◌≡◌, ℕ, zero, suc, ◌+◌, ◌*◌, ◌/◌, ◌^◌, ◌<◌, ◌≤◌, List, [], ◌∷◌, length, Result, Ok, refl, sym, ap, subst, ◌∙◌, arith, ℤ, pos, negsuc, ◌+ℤ◌, ◌*ℤ◌, ◌≤ℤ◌, ◌<ℤ◌}
 use Rattle.std.specs.Prelude.{unsigned_abs, int_div}
 use Rattle.std.specs.Int.{◌∣◌}

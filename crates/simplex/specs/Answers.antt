@@ -32,7 +32,8 @@ IsHonestOf rows a = IsHonest (Infeasible rows) a
 
 -- the turns are used up only where there are more choices of a column for each row
 abbrev pub PivotsOf : ℕ → List Row → Answer → Type 0
-PivotsOf budget rows a = a ≡ answer.Limit limit.Pivots → budget < choose (length (columns rows []) + 1 + length rows) (length rows)
+PivotsOf budget rows a = a ≡ answer.Limit limit.Pivots
+    → budget < choose (length (columns rows []) + 1 + length rows) (length rows)
 
 -- a limit that names a step
 abbrev pub IsWide : Answer → Type 0
@@ -55,7 +56,8 @@ pub record IsRowsAnswer (rows : List Row) (a : Answer) : Type 0 where
 abbrev pub IsRefusalFor : List Row → Stop → Type 0
 IsRefusalFor rows stop = IsRefusalIn (framed_by (columns rows []) rows) (length rows) stop
 
--- a line's numbers at the unit columns, from its own with the sign turned where its constant is negative
+-- a line's numbers at the unit columns, from its own with the sign turned where its constant is
+-- negative
 abbrev pub multipliers_of : ℕ → List ℤ → Result (List ℤ) Step.Wide
 multipliers_of constants line = upright_line constants line >>= λ own. Ok (drop (constants + 1) own)
 
@@ -64,18 +66,24 @@ pub record IsMultipliers (constants : ℕ) (t : Tableau) (line : ℕ) (by : List
   pub each : length by ≡ length t.lines
   pub sign : ℤ
   pub one : unsigned_abs sign ≡ 1
-  pub upright : (l : ℕ) → l < length t.lines → entry by l ≡ sign *ℤ numbers_of t line (constants + 1 + l)
+  pub upright : (l : ℕ) → l < length t.lines
+      → entry by l ≡ sign *ℤ numbers_of t line (constants + 1 + l)
   pub positive : pos 0 <ℤ (sign *ℤ numbers_of t line constants)
 
 -- what an answer stands on: a line that refutes the rows, or a corner of all rows
 abbrev pub AnswerOf : Framed → ℕ → List Kind → ℕ → Answer → Type 0
-AnswerOf over constants kinds budget (answer.Yes by) = (t : Tableau) × ((line : ℕ) × (IsRefuted over constants kinds t line × IsMultipliers constants t line by))
-AnswerOf over constants kinds budget (answer.No point) = (t : Tableau) × ((enters : List Bool) × (IsMet over constants kinds enters t × IsCornerOf t constants constants point))
+AnswerOf over constants kinds budget (answer.Yes by) = (t : Tableau)
+    × ((line : ℕ) × (IsRefuted over constants kinds t line × IsMultipliers constants t line by))
+AnswerOf over constants kinds budget (answer.No point) = (t : Tableau)
+    × ((enters : List Bool)
+    × (IsMet over constants kinds enters t × IsCornerOf t constants constants point))
 AnswerOf over constants kinds budget (answer.Bound at certs case point) = ⊥
 AnswerOf over constants kinds budget (answer.Unbounded case point ray) = ⊥
 AnswerOf over constants kinds budget (answer.Basis relations spots free) = ⊥
-AnswerOf over constants kinds budget (answer.Limit l) = (l ≡ limit.Pivots) × (budget < choose (over.units + length kinds) (length kinds))
+AnswerOf over constants kinds budget (answer.Limit l) = (l ≡ limit.Pivots)
+    × (budget < choose (over.units + length kinds) (length kinds))
 
 -- what the search over the frame of the rows found
 abbrev pub IsFoundFor : ℕ → List Row → Answer → Type 0
-IsFoundFor budget rows a = AnswerOf (framed_by (columns rows []) rows) (length (columns rows [])) (kinds_of rows) budget a
+IsFoundFor budget rows a = AnswerOf (framed_by (columns rows []) rows) (length (columns rows []))
+    (kinds_of rows) budget a

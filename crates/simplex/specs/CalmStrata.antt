@@ -26,9 +26,11 @@ abbrev pub IsRefusalUnder : ℕ → List (List ℤ) → Stop → Type 0
 IsRefusalUnder count lines (Wide step) = IsStrayUnder count lines step
 IsRefusalUnder count lines Memory = ⊤
 
--- the numbers by which spots' values were multiplied are small, where the frame of the lines is calm
+-- the numbers by which spots' values were multiplied are small, where the frame of the lines is
+-- calm
 pub record HasSmallScales (count : ℕ) (spots : Spots) : Type 0 where
-  pub small : IsCalmUpTo 1048576 (frame_of_lines count spots.lines) → AllByRecursion (λ z. unsigned_abs z ≤ 1048576) spots.scales
+  pub small : IsCalmUpTo 1048576 (frame_of_lines count spots.lines)
+      → AllByRecursion (λ z. unsigned_abs z ≤ 1048576) spots.scales
 
 -- ---- a question
 
@@ -48,18 +50,27 @@ IsRefusalOf s Memory = ⊤
 
 -- ---- relations
 
--- numbers of a relation that are small, and whose difference in each case has a calm frame, where the question is calm
+-- numbers of a relation that are small, and whose difference in each case has a calm frame, where
+-- the question is calm
 pub record IsCalmRelation (s : Strata) (numbers : List ℤ) : Type 0 where
   pub small : IsCalmAsked s → AllByRecursion (λ z. unsigned_abs z ≤ 1048576) numbers
-  pub frames : IsCalmAsked s → AllByRecursion (λ (case : Change). IsCalmUpTo 1048576 (difference_frame s.columns.now s.lower.now numbers case)) s.cases.now
+  pub frames : IsCalmAsked s
+      → AllByRecursion
+      (λ (case : Change). IsCalmUpTo 1048576
+      (difference_frame s.columns.now s.lower.now numbers case)) s.cases.now
 
 -- ---- spots of a question
 
 -- some line and number of a spot
-abbrev pub HasSpotLine : List (List Col) → List Fraction → List Polynomial → List Polynomial → Type 0
-HasSpotLine cs at terms lower = (line : List ℤ) × ((scale : ℤ) × IsSpotLine cs at terms lower line scale)
+abbrev pub HasSpotLine : List (List Col) → List Fraction → List Polynomial → List Polynomial
+    → Type 0
+HasSpotLine cs at terms lower = (line : List ℤ)
+    × ((scale : ℤ) × IsSpotLine cs at terms lower line scale)
 
 -- a new spot has a line, with which the frame of all lines is calm, where the question is calm
-pub record IsCalmSpot (s : Strata) (terms : List Polynomial) (at : List Fraction) (lines : List (List ℤ)) : Type 0 where
+pub record IsCalmSpot (s : Strata) (terms : List Polynomial) (at : List Fraction)
+    (lines : List (List ℤ)) : Type 0 where
   pub made : IsCalmAsked s → HasSpotLine s.columns.now at terms s.lower.now
-  pub frame : IsCalmAsked s → (line : List ℤ) (scale : ℤ) → IsSpotLine s.columns.now at terms s.lower.now line scale → IsCalmUpTo 1048576 (frame_of_lines s.count (lines ++ line ∷ []))
+  pub frame : IsCalmAsked s → (line : List ℤ) (scale : ℤ)
+      → IsSpotLine s.columns.now at terms s.lower.now line scale
+      → IsCalmUpTo 1048576 (frame_of_lines s.count (lines ++ line ∷ []))

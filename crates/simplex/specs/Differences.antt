@@ -16,7 +16,8 @@ with_multiple total n p = multiple_of p n >>= λ part. sum_of_polys total part
 abbrev pub with_multiples : Polynomial → List ℤ → List Polynomial → Result Polynomial TermError
 with_multiples total [] ps = Ok total
 with_multiples total (n ∷ ns) [] = Ok total
-with_multiples total (n ∷ ns) (p ∷ ps) = with_multiple total n p >>= λ next. with_multiples next ns ps
+with_multiples total (n ∷ ns) (p ∷ ps) = with_multiple total n p >>= λ next. with_multiples next ns
+    ps
 
 -- the sum of the values of polynomials times numbers
 abbrev pub weighted : (Polynomial → ℤ) → List ℤ → List Polynomial → ℤ
@@ -25,7 +26,10 @@ weighted value (n ∷ ns) [] = pos 0
 weighted value (n ∷ ns) (p ∷ ps) = value p *ℤ n +ℤ weighted value ns ps
 
 -- the difference of a relation in a case with these terms, or minus the difference
-pub record IsDifferenceOf (terms lower : List Polynomial) (numbers : List ℤ) (up : Bool) (p : Polynomial) : Type 0 where
+pub record IsDifferenceOf (terms lower : List Polynomial) (numbers : List ℤ) (up : Bool)
+    (p : Polynomial) : Type 0 where
   pub canonical : IsCanonical p.terms
-  pub coefficient : (n : List Col) → coefficient_in p.terms n ≡ sign_of up *ℤ difference (coefficient_at n) (pos 0) numbers (sides terms lower)
+  pub coefficient : (n : List Col)
+      → coefficient_in p.terms n ≡ sign_of up *ℤ difference (coefficient_at n) (pos 0) numbers
+      (sides terms lower)
   pub rest : p.rest ≡ sign_of up *ℤ difference rest_of (pos 1) numbers (sides terms lower)

@@ -12,10 +12,12 @@ use Rattle.simplex.specs.Suprema.{with_goal, frame_over}
 use Rattle.simplex.specs.declared.search.Found.{Found}
 use Rattle.simplex.specs.declared.tableau.Tableau.{Tableau}
 
--- a line cleared at the columns that lines choose, one after another; the first of them has this place
+-- a line cleared at the columns that lines choose, one after another; the first of them has this
+-- place
 abbrev pub cleared : List (List ℤ) → List ℕ → ℕ → List ℤ → Result (List ℤ) Step.Wide
 cleared [] chosen place line = Ok line
-cleared (pivot ∷ pivots) chosen place line = line_without (get_or chosen place 0) pivot line >>= λ made. cleared pivots chosen (place + 1) made
+cleared (pivot ∷ pivots) chosen place line = line_without (get_or chosen place 0) pivot line
+    >>= λ made. cleared pivots chosen (place + 1) made
 
 -- a list without its last element
 pub record IsFront (lines front : List (List ℤ)) : Type 0 where
@@ -24,13 +26,17 @@ pub record IsFront (lines front : List (List ℤ)) : Type 0 where
 
 -- a corner of the rows over the columns, in a tableau whose goal is the objective
 abbrev pub IsMetFor : List (List Col) → List Row → Polynomial → List Bool → Tableau → Type 0
-IsMetFor cs rows p enters t = IsMet (frame_over cs rows p) (length cs) (kinds_of (with_goal rows p)) enters t
+IsMetFor cs rows p enters t = IsMet (frame_over cs rows p) (length cs) (kinds_of (with_goal rows p))
+    enters t
 
 -- the same where any objective is the goal
-pub record StandsAt (cs : List (List Col)) (rows : List Row) (enters : List Bool) (t : Tableau) : Type 0 where
+pub record StandsAt (cs : List (List Col)) (rows : List Row) (enters : List Bool)
+    (t : Tableau) : Type 0 where
   pub objective : Polynomial
   pub met : IsMetFor cs rows objective enters t
 
 -- what a search over the frame of the rows and the objective came to
-abbrev pub FoundFor : List (List Col) → List Row → Polynomial → ℕ → List Bool → Tableau → Found → Type 0
-FoundFor cs rows p budget enters t found = FoundAt (frame_over cs rows p) (length cs) (kinds_of (with_goal rows p)) budget enters t found
+abbrev pub FoundFor : List (List Col) → List Row → Polynomial → ℕ → List Bool → Tableau → Found
+    → Type 0
+FoundFor cs rows p budget enters t found = FoundAt (frame_over cs rows p) (length cs)
+    (kinds_of (with_goal rows p)) budget enters t found

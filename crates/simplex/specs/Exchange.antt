@@ -29,41 +29,52 @@ sum_of_products p a q b = product_of p a >>= λ x. product_of q b >>= λ y. sum_
 abbrev pub sum_of_lines : ℤ → List ℤ → ℤ → List ℤ → Result (List ℤ) Step.Wide
 sum_of_lines p [] q bs = Ok []
 sum_of_lines p (a ∷ more) q [] = Ok []
-sum_of_lines p (a ∷ more) q (b ∷ bs) = sum_of_products p a q b >>= λ z. sum_of_lines p more q bs >>= λ made. Ok (z ∷ made)
+sum_of_lines p (a ∷ more) q (b ∷ bs) = sum_of_products p a q b >>= λ z. sum_of_lines p more q bs
+    >>= λ made. Ok (z ∷ made)
 
 abbrev pub line_multiple : List ℤ → ℤ → Result (List ℤ) Step.Wide
 line_multiple [] by = Ok []
-line_multiple (a ∷ more) by = product_of a by >>= λ z. line_multiple more by >>= λ made. Ok (z ∷ made)
+line_multiple (a ∷ more) by = product_of a by >>= λ z. line_multiple more by
+    >>= λ made. Ok (z ∷ made)
 
 -- the numbers divided by their greatest common divisor
 abbrev pub reduced : List ℤ → List ℤ
-reduced line = if nat_eq (gcd_of_all line) 0 then line else map (λ z. int_div z (pos (gcd_of_all line))) line
+reduced line = if nat_eq (gcd_of_all line) 0 then line
+    else map (λ z. int_div z (pos (gcd_of_all line))) line
 
 -- the line with its signs turned where it is negative at the column
 abbrev pub upright_line : ℕ → List ℤ → Result (List ℤ) Step.Wide
-upright_line column line = if int_lt (entry line column) (pos 0) then line_multiple line (negsuc 0) else Ok line
+upright_line column line = if int_lt (entry line column) (pos 0) then line_multiple line (negsuc 0)
+    else Ok line
 
 -- a line cleared at the column by one that is positive there
 abbrev pub line_without : ℕ → List ℤ → List ℤ → Result (List ℤ) Step.Wide
 line_without column pivot line =
     if int_eq (entry line column) (pos 0) then Ok line
-    else (product_of (entry line column) (negsuc 0) >>= λ q. sum_of_lines (entry pivot column) line q pivot >>= λ made. Ok (reduced made))
+    else (product_of (entry line column) (negsuc 0) >>= λ q. sum_of_lines (entry pivot column) line
+    q pivot >>= λ made. Ok (reduced made))
 
 -- ---- all lines
 
 -- a line at a place: the pivot's own, or one that is cleared
 abbrev pub line_without_at : ℕ → List ℤ → ℕ → ℕ → List ℤ → Result (List ℤ) Step.Wide
-line_without_at column pivot place i line = if nat_eq i place then Ok pivot else line_without column pivot line
+line_without_at column pivot place i line = if nat_eq i place then Ok pivot
+    else line_without column pivot line
 
 -- the lines from the i-th on
 abbrev pub lines_without : ℕ → List ℤ → ℕ → ℕ → List (List ℤ) → Result (List (List ℤ)) Step.Wide
 lines_without column pivot place i [] = Ok []
-lines_without column pivot place i (line ∷ lines) = line_without_at column pivot place i line >>= λ made. lines_without column pivot place (i + 1) lines >>= λ more. Ok (made ∷ more)
+lines_without column pivot place i (line ∷ lines) = line_without_at column pivot place i line
+    >>= λ made. lines_without column pivot place (i + 1) lines >>= λ more. Ok (made ∷ more)
 
 -- the column is chosen in the line
 abbrev pub exchange : Tableau → ℕ → ℕ → Result Tableau Step.Wide
 exchange t line column =
-    upright_line column (get_or t.lines line []) >>= λ pivot. lines_without column pivot line 0 t.lines >>= λ lines. Ok record { lines = lines; chosen = slice_set t.chosen line column }
+    upright_line column (get_or t.lines line []) >>= λ pivot. lines_without column pivot line 0
+    t.lines >>= λ lines. Ok record {
+      lines = lines;
+      chosen = slice_set t.chosen line column;
+    }
 
 -- ---- what is put behind what is made
 
@@ -87,7 +98,8 @@ choices_of t i = get_or t.chosen i 0
 -- a tableau of a frame whose unit columns begin at `units`
 pub record IsTableauOf (units : ℕ) (frame : ℕ → ℕ → ℤ) (t : Tableau) : Type 0 where
   pub shape : HasShape (units + length t.lines) t
-  pub is : IsWholeTableau (length t.lines) units (units + length t.lines) frame (numbers_of t) (choices_of t)
+  pub is : IsWholeTableau (length t.lines) units (units + length t.lines) frame (numbers_of t)
+      (choices_of t)
   pub within : (i : ℕ) → i < length t.lines → choices_of t i < units + length t.lines
 
 -- the numbers of a line have no common divisor but 1
@@ -96,4 +108,6 @@ ArePrimitive t = (i : ℕ) → i < length t.lines → gcd_of_all (get_or t.lines
 
 -- what is made is a tableau of each frame of which the first one is
 abbrev pub KeepsFrames : ℕ → Tableau → Result Tableau Stop → Type 0
-KeepsFrames columns before after = (units : ℕ) (frame : ℕ → ℕ → ℤ) → columns ≡ units + length before.lines → IsTableauOf units frame before → IfOk after (λ t. IsTableauOf units frame t)
+KeepsFrames columns before after = (units : ℕ) (frame : ℕ → ℕ → ℤ)
+    → columns ≡ units + length before.lines → IsTableauOf units frame before
+    → IfOk after (λ t. IsTableauOf units frame t)

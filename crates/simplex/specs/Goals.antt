@@ -39,15 +39,24 @@ higher (Some reach) next = if int_lt reach.at next.at then next else reach
 -- one more case that is bounded, with the corner that reaches its bound
 abbrev pub with_bound : Bounds → ℕ → Cert → List Fraction → Bounds
 with_bound bounds case cert point =
-    record { certs = bounds.certs ++ cert ∷ []; reach = Some (higher bounds.reach (record { at = whole_bound cert; case = case; point = point })) }
+    record {
+      certs = bounds.certs ++ cert ∷ [];
+      reach = Some (higher bounds.reach (record {
+        at = whole_bound cert;
+        case = case;
+        point = point;
+      }));
+    }
 
 -- each certificate is that of the case at its place
 abbrev pub AreBounds : ℕ → List Goal → List Cert → Type 0
-AreBounds budget goals certs = (l : ℕ) (goal : Goal) (cert : Cert) → slice_get goals l ≡ Some goal → slice_get certs l ≡ Some cert
+AreBounds budget goals certs = (l : ℕ) (goal : Goal) (cert : Cert) → slice_get goals l ≡ Some goal
+    → slice_get certs l ≡ Some cert
     → (point : List Fraction) × IsSupremumOf goal budget (supremum.Bound cert point)
 
 -- the greatest of the bounds, the case that has it, and the corner there
-pub record IsReachOf (budget : ℕ) (goals : List Goal) (certs : List Cert) (at : ℤ) (case : ℕ) (point : List Fraction) : Type 0 where
+pub record IsReachOf (budget : ℕ) (goals : List Goal) (certs : List Cert) (at : ℤ) (case : ℕ)
+    (point : List Fraction) : Type 0 where
   pub goal : Goal
   pub is : slice_get goals case ≡ Some goal
   pub cert : Cert
@@ -69,7 +78,8 @@ pub record AreBoundsTo (budget : ℕ) (goals : List Goal) (place : ℕ) (bounds 
 -- ---- what is found
 
 -- what the case at a place comes to
-pub record IsSupremumAt (budget : ℕ) (goals : List Goal) (place : ℕ) (found : Supremum) : Type 0 where
+pub record IsSupremumAt (budget : ℕ) (goals : List Goal) (place : ℕ)
+    (found : Supremum) : Type 0 where
   pub goal : Goal
   pub is : slice_get goals place ≡ Some goal
   pub supremum : IsSupremumOf goal budget found
@@ -84,10 +94,14 @@ pub record HasNoBound (budget : ℕ) (goals : List Goal) : Type 0 where
 -- what an answer stands on: a bound of each case, or a ray of one, or a case that has neither
 abbrev pub IsFoundAmong : ℕ → List Goal → Answer → Type 0
 IsFoundAmong budget goals (answer.Bound at certs case point) =
-    (length certs ≡ length goals) × AreBounds budget goals certs × IsReachOf budget goals certs at case point
+    (length certs ≡ length goals) × AreBounds budget goals certs
+    × IsReachOf budget goals certs at case point
 IsFoundAmong budget goals (answer.Unbounded case point ray) =
-    (goal : Goal) × ((slice_get goals case ≡ Some goal) × IsSupremumOf goal budget (supremum.Unbounded point ray))
-IsFoundAmong budget goals (answer.Limit l) = (l ≡ limit.Pivots) × ((goals ≡ []) ⊎ HasNoBound budget goals)
+    (goal : Goal)
+    × ((slice_get goals case ≡ Some goal)
+    × IsSupremumOf goal budget (supremum.Unbounded point ray))
+IsFoundAmong budget goals (answer.Limit l) = (l ≡ limit.Pivots)
+    × ((goals ≡ []) ⊎ HasNoBound budget goals)
 IsFoundAmong budget goals (answer.Yes by) = ⊥
 IsFoundAmong budget goals (answer.No point) = ⊥
 IsFoundAmong budget goals (answer.Basis relations spots free) = ⊥
@@ -121,7 +135,8 @@ pub record HasManyChoices (budget : ℕ) (goals : List Goal) : Type 0 where
 
 -- the turns are used up only where a case has more choices, or where the question is dead
 abbrev pub PivotsAmong : ℕ → List Goal → Answer → Type 0
-PivotsAmong budget goals a = a ≡ answer.Limit limit.Pivots → IsDead (Sup goals) ⊎ HasManyChoices budget goals
+PivotsAmong budget goals a = a ≡ answer.Limit limit.Pivots → IsDead (Sup goals)
+    ⊎ HasManyChoices budget goals
 
 -- what the call for goals owes of its answer
 pub record IsGoalsAnswer (goals : List Goal) (a : Answer) : Type 0 where

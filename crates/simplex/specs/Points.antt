@@ -1,4 +1,5 @@
--- Points of a case that a search for relations meets: a corner of its rows, or a corner and a ray from it.
+-- Points of a case that a search for relations meets: a corner of its rows, or a corner and a ray
+-- from it.
 use Rattle.std.specs.Prelude.{◌≡◌, ◌⊎◌, ℕ, List, length, slice_get, Some, Ok, Bool}
 use Rattle.linear_terms.specs.declared.col.Col.{Col}
 use Rattle.linear_terms.specs.declared.row.Row.{Row}
@@ -13,11 +14,13 @@ use Rattle.simplex.specs.Suprema.{with_goal, frame_over, IsOpened, IsRayOf}
 use Rattle.simplex.specs.declared.tableau.Tableau.{Tableau}
 
 -- the corner of a tableau of the rows and a polynomial, at which the rows are true
-pub record IsCornerPoint (cs : List (List Col)) (rows : List Row) (at : List Fraction) : Type 0 where
+pub record IsCornerPoint (cs : List (List Col)) (rows : List Row)
+    (at : List Fraction) : Type 0 where
   pub objective : Polynomial
   pub tableau : Tableau
   pub enters : List Bool
-  pub met : IsMet (frame_over cs rows objective) (length cs) (kinds_of (with_goal rows objective)) enters tableau
+  pub met : IsMet (frame_over cs rows objective) (length cs) (kinds_of (with_goal rows objective))
+      enters tableau
   pub corner : IsCornerOf tableau (length cs) (length cs) at
 
 -- such a corner and a ray from it along which the polynomial grows without end
@@ -27,7 +30,8 @@ pub record IsRayPoint (cs : List (List Col)) (rows : List Row) (at : List Fracti
   pub enters : List Bool
   pub column : ℕ
   pub up : Bool
-  pub opened : IsOpened (frame_over cs rows objective) (length cs) (kinds_of (with_goal rows objective)) enters column up tableau
+  pub opened : IsOpened (frame_over cs rows objective) (length cs)
+      (kinds_of (with_goal rows objective)) enters column up tableau
   pub point : List Fraction
   pub ray : List Fraction
   pub corner : IsCornerOf tableau (length cs) (length cs) point
@@ -44,7 +48,8 @@ pub record IsSpotAt (cs : List (List Col)) (cases : List Change) (spot : Spot) :
   pub point : IsPointOf cs case.rows spot.at
 
 -- a point of the case at a place
-pub record IsPointAt (cs : List (List Col)) (cases : List Change) (place : ℕ) (at : List Fraction) : Type 0 where
+pub record IsPointAt (cs : List (List Col)) (cases : List Change) (place : ℕ)
+    (at : List Fraction) : Type 0 where
   pub case : Change
   pub is : slice_get cases place ≡ Some case
   pub point : IsPointOf cs case.rows at

@@ -1,5 +1,5 @@
--- A step that leaves 128 bits: the sum or the product that it names is no number of 128 bits. It comes only where some tableau
--- of the frame has a number that is great.
+-- A step that leaves 128 bits: the sum or the product that it names is no number of 128 bits. It
+-- comes only where some tableau of the frame has a number that is great.
 use Rattle.std.specs.Prelude.{◌≡◌, false, ℕ, ◌+ℤ◌, ◌*ℤ◌, if◌then◌else◌, length, ⊤}
 use Rattle.whole_numbers.specs.Fits.{fits}
 use Rattle.whole_numbers.specs.declared.wide.Wide as Step
@@ -11,15 +11,18 @@ use Rattle.simplex.specs.declared.stop.Stop.TheVariants.{Wide, Memory}
 use Rattle.simplex.specs.declared.tableau.Tableau.{Tableau}
 
 abbrev pub LeavesBits : Step.Wide → Type 0
-LeavesBits step = fits (if step.times then step.left *ℤ step.right else step.left +ℤ step.right) ≡ false
+LeavesBits step = fits (if step.times then step.left *ℤ step.right else step.left +ℤ step.right)
+    ≡ false
 
 abbrev pub IsRefusal : Stop → Type 0
 IsRefusal (Wide step) = LeavesBits step
 IsRefusal Memory = ⊤
 
--- no number of a tableau of so many lines of the frame, without common divisors, is greater than n in size
+-- no number of a tableau of so many lines of the frame, without common divisors, is greater than n
+-- in size
 abbrev pub IsSmallFrame : ℕ → Framed → ℕ → Type 0
-IsSmallFrame n over count = (t : Tableau) → length t.lines ≡ count → IsTableauOf over.units over.frame t → ArePrimitive t → HasSmallLines n t
+IsSmallFrame n over count = (t : Tableau) → length t.lines ≡ count
+    → IsTableauOf over.units over.frame t → ArePrimitive t → HasSmallLines n t
 
 -- a step that leaves 128 bits, in the search of a frame whose tableaux are not small
 pub record IsOverrun (over : Framed) (count : ℕ) (step : Step.Wide) : Type 0 where

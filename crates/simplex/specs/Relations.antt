@@ -4,8 +4,10 @@ use Rattle.farkas_check.specs.Relations.{numbers_of}
 use Rattle.farkas_check.specs.declared.stratum.Relation.{Relation}
 use Rattle.farkas_check.specs.declared.stratum.Tie.{Tie}
 
--- The relation of numbers: first those of the terms, then those of the lower terms, and last that of 1.
-pub record IsRelationWith (terms lower : ℕ) (numbers : List ℤ) (ties : List Tie) (relation : Relation) : Type 0 where
+-- The relation of numbers: first those of the terms, then those of the lower terms, and last that
+-- of 1.
+pub record IsRelationWith (terms lower : ℕ) (numbers : List ℤ) (ties : List Tie)
+    (relation : Relation) : Type 0 where
   pub a : length relation.a ≡ terms
   pub b : length relation.b ≡ lower
   pub is : numbers_of relation ≡ numbers

@@ -1,4 +1,5 @@
--- The frame of a list of rows: a column for each monomial, one for the constants, and a unit column for each row.
+-- The frame of a list of rows: a column for each monomial, one for the constants, and a unit column
+-- for each row.
 use Rattle.std.specs.Prelude.{ℕ, zero, suc, ◌+◌, nat_eq, ℤ, pos, List, [], ◌∷◌, ◌++◌, map, length, get_or, if◌then◌else◌}
 use Rattle.linear_terms.specs.declared.col.Col.{Col}
 use Rattle.linear_terms.specs.declared.row.Kind.{Kind}
@@ -25,12 +26,14 @@ units_to zero place = []
 units_to (suc n) place = units_to n place ++ (if nat_eq n place then pos 1 else pos 0) ∷ []
 
 abbrev pub whole_line : List (List Col) → ℕ → ℕ → Row → List ℤ
-whole_line columns count place row = (coefficients row columns ++ row.poly.rest ∷ []) ++ units_to count place
+whole_line columns count place row = (coefficients row columns ++ row.poly.rest ∷ [])
+    ++ units_to count place
 
 -- the lines of the rows from a place on
 abbrev pub lines_from : List (List Col) → ℕ → ℕ → List Row → List (List ℤ)
 lines_from columns count place [] = []
-lines_from columns count place (row ∷ rows) = whole_line columns count place row ∷ lines_from columns count (place + 1) rows
+lines_from columns count place (row ∷ rows) = whole_line columns count place row
+    ∷ lines_from columns count (place + 1) rows
 
 -- as many unit columns from the first one on
 abbrev pub units_from : ℕ → ℕ → List ℕ
@@ -39,8 +42,15 @@ units_from first (suc n) = units_from first n ++ (first + n) ∷ []
 
 -- the tableau of the rows that chooses the unit columns
 abbrev pub framed : List (List Col) → List Row → Tableau
-framed columns rows = record { lines = lines_from columns (length rows) 0 rows; chosen = units_from (length columns + 1) (length rows) }
+framed columns rows = record {
+  lines = lines_from columns (length rows) 0 rows;
+  chosen = units_from (length columns + 1) (length rows);
+}
 
 -- the frame of the rows is what this tableau says
 abbrev pub framed_by : List (List Col) → List Row → Framed
-framed_by columns rows = record { units = length columns + 1; rows = length rows; frame = numbers_of (framed columns rows) }
+framed_by columns rows = record {
+  units = length columns + 1;
+  rows = length rows;
+  frame = numbers_of (framed columns rows);
+}

@@ -58,7 +58,8 @@ pub record IsSmallSpot (spot : Spot) : Type 0 where
   pub above : pos 0 <ℤ over
   pub over_small : unsigned_abs over ≤ 1099511627776
   pub small : (j : ℕ) → j < length spot.at → unsigned_abs (numerators j) ≤ 2199023255552
-  pub are : (j : ℕ) → j < length spot.at → IsPartOf (get_or spot.at j (whole (pos 0))) (numerators j) over
+  pub are : (j : ℕ) → j < length spot.at
+      → IsPartOf (get_or spot.at j (whole (pos 0))) (numerators j) over
 
 -- the multiples of the spots' differences that a line of small numbers gives, over its own number
 pub record IsSmallUnitList (count : ℕ) (scales : List ℤ) (by : List Fraction) : Type 0 where
@@ -70,7 +71,8 @@ pub record IsSmallUnitList (count : ℕ) (scales : List ℤ) (by : List Fraction
   pub is : multiples_from line own count scales ≡ Ok by
 
 -- a basis of small numbers, with the lines of its spots under the unknowns
-pub record IsSmallBasis (cs : List (List Col)) (cases : List Change) (lower : List Polynomial) (relations : List Relation) (spots : List Spot) (free : List (List Fraction)) : Type 0 where
+pub record IsSmallBasis (cs : List (List Col)) (cases : List Change) (lower : List Polynomial)
+    (relations : List Relation) (spots : List Spot) (free : List (List Fraction)) : Type 0 where
   pub few_columns : length cs < 2 ^ 64
   pub few_unknowns : unknown_count cases lower < 2 ^ 61
   pub few_spots : length spots ≤ unknown_count cases lower
@@ -85,7 +87,8 @@ pub record IsSmallBasis (cs : List (List Col)) (cases : List Change) (lower : Li
 
 -- the same where a basis is found
 abbrev pub IsSmallFound : List (List Col) → List Change → List Polynomial → Answer → Type 0
-IsSmallFound cs cases lower (answer.Basis relations spots free) = IsSmallBasis cs cases lower relations spots free
+IsSmallFound cs cases lower (answer.Basis relations spots free) =
+    IsSmallBasis cs cases lower relations spots free
 IsSmallFound cs cases lower (answer.Limit l) = ⊤
 IsSmallFound cs cases lower (answer.Yes by) = ⊤
 IsSmallFound cs cases lower (answer.No point) = ⊤
@@ -98,7 +101,8 @@ pub record HasFewRows (case : Change) : Type 0 where
 
 -- what the search finds where the question is calm
 pub record IsSmallWhereCalm (asked : Changes) (a : Answer) : Type 0 where
-  pub small : IsCalm (Stratum asked) → IsSmallFound (stratum_columns asked.cases asked.lower) asked.cases asked.lower a
+  pub small : IsCalm (Stratum asked)
+      → IsSmallFound (stratum_columns asked.cases asked.lower) asked.cases asked.lower a
 
 -- a step that leaves 128 bits, in a question that is not calm
 abbrev pub IsRefusalOver : Changes → Stop → Type 0
@@ -140,5 +144,7 @@ abbrev pub HasSmallEnd : Strata → Course → Type 0
 HasSmallEnd s (course.On known) = ⊤
 HasSmallEnd s (course.End a) = IsSmallIn s a
 
-pub record IsSmallOver (cs : List (List Col)) (cases : List Change) (lower : List Polynomial) (a : Answer) : Type 0 where
-  pub small : length cases ≤ 4294967296 → IsCalmStratum cs cases lower → IsSmallFound cs cases lower a
+pub record IsSmallOver (cs : List (List Col)) (cases : List Change) (lower : List Polynomial)
+    (a : Answer) : Type 0 where
+  pub small : length cases ≤ 4294967296 → IsCalmStratum cs cases lower
+      → IsSmallFound cs cases lower a

@@ -42,10 +42,12 @@ use Rattle.simplex.specs.declared.supremum.Supremum.TheVariants as supremum
 
 -- ---- cases without an answer
 
--- a polynomial's supremum over the rows has no answer: no point makes them true, or the turns are used up
+-- a polynomial's supremum over the rows has no answer: no point makes them true, or the turns are
+-- used up
 pub record HasNoEnd (cs : List (List Col)) (budget : ℕ) (rows : List Row) : Type 0 where
   pub objective : Polynomial
-  pub why : IsSupremumOver cs rows objective budget supremum.Empty ⊎ IsSupremumOver cs rows objective budget supremum.Pivots
+  pub why : IsSupremumOver cs rows objective budget supremum.Empty
+      ⊎ IsSupremumOver cs rows objective budget supremum.Pivots
 
 -- the same of some case
 pub record HasEndlessCase (cs : List (List Col)) (budget : ℕ) (cases : List Change) : Type 0 where
@@ -69,38 +71,49 @@ pub record IsCaseOf (s : Strata) (case : Change) : Type 0 where
   pub place : ℕ
   pub is : slice_get s.cases.now place ≡ Some case
 
--- a relation with a number for each term and each lower term, and with a tie for each case, small where the question is calm
+-- a relation with a number for each term and each lower term, and with a tie for each case, small
+-- where the question is calm
 pub record IsTiedRelation (s : Strata) (relation : Relation) : Type 0 where
   pub counts : HasCounts s.terms (length s.lower.now) relation
-  pub ties : AreTies s.columns.now s.lower.now (numbers_of relation) s.cases.now (length s.cases.now) relation.ties
+  pub ties : AreTies s.columns.now s.lower.now (numbers_of relation) s.cases.now
+      (length s.cases.now) relation.ties
   pub small : HasSmallTies s relation.ties
 
--- Spots that are points of their cases, and relations that are tied in each case. Where no spot came since the unknowns began
--- to have their turns, the relations are those of all unknowns before the next.
+-- Spots that are points of their cases, and relations that are tied in each case. Where no spot
+-- came since the unknowns began to have their turns, the relations are those of all unknowns before
+-- the next.
 pub record AreKnown (s : Strata) (known : Known) : Type 0 where
   pub spots : AreSpots s.count known.spots
   pub points : AllByRecursion (IsSpotAt s.columns.now s.cases.now) known.spots.spots
-  pub lines : AreSpotLines s.columns.now s.cases.now s.lower.now known.spots.spots known.spots.lines known.spots.scales
+  pub lines : AreSpotLines s.columns.now s.cases.now s.lower.now known.spots.spots known.spots.lines
+      known.spots.scales
   pub relations : AllByRecursion (IsTiedRelation s) known.relations
   pub next : known.next ≤ s.count
   pub start : known.start ≤ length known.spots.lines
-  pub round : known.start ≡ length known.spots.lines → AreRelations s.count known.spots.tableau known.next (map numbers_of known.relations)
+  pub round : known.start ≡ length known.spots.lines
+      → AreRelations s.count known.spots.tableau known.next (map numbers_of known.relations)
 
--- A bound on the turns that are left: one for each unknown that has not had its turn, for each spot that may still come, and
--- for the end, and as many turns anew as there may be spots more than at the start.
+-- A bound on the turns that are left: one for each unknown that has not had its turn, for each spot
+-- that may still come, and for the end, and as many turns anew as there may be spots more than at
+-- the start.
 abbrev pub turns_left : ℕ → Known → ℕ
-turns_left count known = (count - known.next) + (count - length known.spots.lines) + 1 + (count - known.start) * (count + 1)
+turns_left count known =
+    (count - known.next) + (count - length
+    known.spots.lines) + 1 + (count - known.start) * (count + 1)
 
 -- ---- what a search comes to
 
 -- a point at which an objective is not 0: this one, or where it is 0 here, one further along a ray
-pub record IsFurther (cs : List (List Col)) (p : Polynomial) (point ray at : List Fraction) : Type 0 where
+pub record IsFurther (cs : List (List Col)) (p : Polynomial)
+    (point ray at : List Fraction) : Type 0 where
   pub value : Fraction
   pub is : ratio_value (ratio_at cs point) p ≡ Ok value
-  pub way : ((at ≡ point) × (value.num ≡ pos 0 → ⊥)) ⊎ ((sums_of point ray ≡ Ok at) × (value.num ≡ pos 0))
+  pub way : ((at ≡ point) × (value.num ≡ pos 0 → ⊥))
+      ⊎ ((sums_of point ray ≡ Ok at) × (value.num ≡ pos 0))
 
 -- a point of a case at which the difference of a relation is not 0
-pub record IsApartIn (s : Strata) (numbers : List ℤ) (case : Change) (at : List Fraction) : Type 0 where
+pub record IsApartIn (s : Strata) (numbers : List ℤ) (case : Change)
+    (at : List Fraction) : Type 0 where
   pub point : IsPointOf s.columns.now case.rows at
   pub apart : IsApart s.columns.now case.terms s.lower.now (length numbers) numbers at
 
@@ -111,7 +124,8 @@ pub record IsApartAt (s : Strata) (numbers : List ℤ) (place : ℕ) (at : List 
   pub point : IsApartIn s numbers case at
 
 abbrev pub HalfAt : Strata → List ℤ → Change → Bool → Half → Type 0
-HalfAt s numbers case up (half.Tied cert) = IsHonestHalf s.columns.now s.lower.now numbers case up cert
+HalfAt s numbers case up (half.Tied cert) = IsHonestHalf s.columns.now s.lower.now numbers case up
+    cert
 HalfAt s numbers case up (half.Apart at) = IsApartIn s numbers case at
 HalfAt s numbers case up half.Pivots = HasNoEnd s.columns.now s.budget case.rows
 
@@ -121,20 +135,27 @@ BondAt s numbers case (bond.Apart at) = IsApartIn s numbers case at
 BondAt s numbers case bond.Pivots = HasNoEnd s.columns.now s.budget case.rows
 
 abbrev pub VerdictAt : Strata → List ℤ → Verdict → Type 0
-VerdictAt s numbers (verdict.Tied ties) = AreTies s.columns.now s.lower.now numbers s.cases.now (length s.cases.now) ties
+VerdictAt s numbers (verdict.Tied ties) = AreTies s.columns.now s.lower.now numbers s.cases.now
+    (length s.cases.now) ties
 VerdictAt s numbers (verdict.Apart place at) = IsApartAt s numbers place at
 VerdictAt s numbers verdict.Pivots = HasEndlessCase s.columns.now s.budget s.cases.now
 
 -- no part of the test of a relation is false
 abbrev pub IsHonestRelation : List (List Col) → List Change → List Polynomial → Relation → Type 0
-IsHonestRelation cs cases lower relation = (b : Bool) → tested_relation cs cases lower relation ≡ Ok b → b ≡ true
+IsHonestRelation cs cases lower relation = (b : Bool) → tested_relation cs cases lower relation
+    ≡ Ok b → b ≡ true
 
 -- no part of the test of the unknowns that are no pivot is false
-abbrev pub IsHonestFree : List (List Col) → List Change → List Polynomial → List Relation → List Spot → List (List Fraction) → Type 0
-IsHonestFree cs cases lower relations spots free = (b : Bool) → tested_free (spot_side cs cases lower) spots (free_places (map numbers_of relations) (unknown_count cases lower)) free ≡ Ok b → b ≡ true
+abbrev pub IsHonestFree : List (List Col) → List Change → List Polynomial → List Relation
+    → List Spot → List (List Fraction) → Type 0
+IsHonestFree cs cases lower relations spots free = (b : Bool)
+    → tested_free (spot_side cs cases lower) spots
+    (free_places (map numbers_of relations) (unknown_count cases lower)) free ≡ Ok b → b ≡ true
 
--- a basis of relations in reduced echelon form that are tied in each case, and spots that are points of their cases
-pub record IsBasisOver (cs : List (List Col)) (cases : List Change) (lower : List Polynomial) (relations : List Relation) (spots : List Spot) (free : List (List Fraction)) : Type 0 where
+-- a basis of relations in reduced echelon form that are tied in each case, and spots that are
+-- points of their cases
+pub record IsBasisOver (cs : List (List Col)) (cases : List Change) (lower : List Polynomial)
+    (relations : List Relation) (spots : List Spot) (free : List (List Fraction)) : Type 0 where
   pub counts : IsTrue (list_all (has_unknowns cases lower) relations)
   pub reduced : IsTrue (is_reduced (map numbers_of relations))
   pub tied : AllByRecursion (IsHonestRelation cs cases lower) relations
@@ -143,8 +164,10 @@ pub record IsBasisOver (cs : List (List Col)) (cases : List Change) (lower : Lis
 
 -- what is found: a basis, or a case without an answer
 abbrev pub IsFoundOver : List (List Col) → ℕ → List Change → List Polynomial → Answer → Type 0
-IsFoundOver cs budget cases lower (answer.Basis relations spots free) = IsBasisOver cs cases lower relations spots free
-IsFoundOver cs budget cases lower (answer.Limit l) = (l ≡ limit.Pivots) × HasEndlessCase cs budget cases
+IsFoundOver cs budget cases lower (answer.Basis relations spots free) =
+    IsBasisOver cs cases lower relations spots free
+IsFoundOver cs budget cases lower (answer.Limit l) = (l ≡ limit.Pivots)
+    × HasEndlessCase cs budget cases
 IsFoundOver cs budget cases lower (answer.Yes by) = ⊥
 IsFoundOver cs budget cases lower (answer.No point) = ⊥
 IsFoundOver cs budget cases lower (answer.Bound at certs case point) = ⊥
@@ -154,7 +177,8 @@ abbrev pub IsFoundIn : Strata → Answer → Type 0
 IsFoundIn s a = IsFoundOver s.columns.now s.budget s.cases.now s.lower.now a
 
 abbrev pub CourseAt : Strata → Known → Course → Type 0
-CourseAt s before (course.On known) = AreKnown s known × (turns_left s.count known < turns_left s.count before)
+CourseAt s before (course.On known) = AreKnown s known
+    × (turns_left s.count known < turns_left s.count before)
 CourseAt s before (course.End a) = IsFoundIn s a
 
 -- ---- what the answer owes
@@ -164,11 +188,13 @@ pub record HasCaseOfManyChoices (budget : ℕ) (asked : Changes) : Type 0 where
   pub place : ℕ
   pub case : Change
   pub is : slice_get asked.cases place ≡ Some case
-  pub many : budget < choice_count (length (stratum_columns asked.cases asked.lower)) (length case.rows + 1)
+  pub many : budget < choice_count (length (stratum_columns asked.cases asked.lower))
+      (length case.rows + 1)
 
 -- the turns are used up only where a case has more choices, or where the question is dead
 abbrev pub PivotsOver : ℕ → Changes → Answer → Type 0
-PivotsOver budget asked a = a ≡ answer.Limit limit.Pivots → IsDead (Stratum asked) ⊎ HasCaseOfManyChoices budget asked
+PivotsOver budget asked a = a ≡ answer.Limit limit.Pivots → IsDead (Stratum asked)
+    ⊎ HasCaseOfManyChoices budget asked
 
 -- what the call for strata owes of its answer
 pub record IsStratumAnswer (asked : Changes) (a : Answer) : Type 0 where

@@ -30,61 +30,92 @@ with_goal rows p = rows ++ record { poly = p; kind = AtMost } ∷ []
 
 -- the frame of rows over columns has one line more, that of the objective
 abbrev pub frame_over : List (List Col) → List Row → Polynomial → Framed
-frame_over cs rows p = record { units = length cs + 1; rows = length rows; frame = numbers_of (framed cs (with_goal rows p)) }
+frame_over cs rows p = record {
+  units = length cs + 1;
+  rows = length rows;
+  frame = numbers_of (framed cs (with_goal rows p));
+}
 
 abbrev pub goal_frame : Goal → Framed
 goal_frame goal = frame_over (goal_columns goal) goal.rows goal.objective
 
 -- the corner makes the rows true, and no column lets the objective grow
-pub record IsTopped (over : Framed) (constants : ℕ) (kinds : List Kind) (enters : List Bool) (t : Tableau) : Type 0 where
+pub record IsTopped (over : Framed) (constants : ℕ) (kinds : List Kind) (enters : List Bool)
+    (t : Tableau) : Type 0 where
   pub met : IsMet over constants kinds enters t
   pub flat : IsFlat constants t over.rows
   pub best : IsBest enters (negsuc 0) over.rows t
 
--- the corner makes the rows true, and the objective grows along a column of the question, or along the slack of a row,
--- without end
-pub record IsOpened (over : Framed) (constants : ℕ) (kinds : List Kind) (enters : List Bool) (column : ℕ) (up : Bool) (t : Tableau) : Type 0 where
+-- the corner makes the rows true, and the objective grows along a column of the question, or along
+-- the slack of a row, without end
+pub record IsOpened (over : Framed) (constants : ℕ) (kinds : List Kind) (enters : List Bool)
+    (column : ℕ) (up : Bool) (t : Tableau) : Type 0 where
   pub met : IsMet over constants kinds enters t
   pub grows : pos 0 <ℤ (sign_of up *ℤ numbers_of t over.rows column)
-  pub way : (column < constants) ⊎ ((enters_at enters column ≡ true) × (up ≡ true) × NoneLeaves (length t.lines) enters column t)
+  pub way : (column < constants)
+      ⊎ ((enters_at enters column ≡ true) × (up ≡ true) × NoneLeaves (length t.lines) enters column
+      t)
 
 abbrev pub TopAt : Framed → ℕ → List Kind → ℕ → List Bool → Tableau → Top → Type 0
 TopAt over constants kinds budget enters t top.Best = IsTopped over constants kinds enters t
-TopAt over constants kinds budget enters t (top.Open column up) = IsOpened over constants kinds enters column up t
-TopAt over constants kinds budget enters t top.Pivots = budget < choose (over.units + length kinds) (length kinds)
+TopAt over constants kinds budget enters t (top.Open column up) =
+    IsOpened over constants kinds enters column up t
+TopAt over constants kinds budget enters t top.Pivots = budget < choose (over.units + length kinds)
+    (length kinds)
 
 -- ---- what is read off
 
--- the number of a ray at a column of the question: 1 or -1 at the column that grows, at a chosen column minus its line's
--- number there over its own, and else 0
+-- the number of a ray at a column of the question: 1 or -1 at the column that grows, at a chosen
+-- column minus its line's number there over its own, and else 0
 pub record SlopeAt (t : Tableau) (column : ℕ) (up : Bool) (own : ℕ) (r : Fraction) : Type 0 where
   pub lowest : IsLowest r
   pub here : own ≡ column → r ≡ whole (sign_of up)
-  pub chosen : own ≢ column → (k : ℕ) → k < length t.lines → choices_of t k ≡ own → r.num *ℤ numbers_of t k own ≡ numbers_of t k column *ℤ sign_of (not up) *ℤ r.den
+  pub chosen : own ≢ column → (k : ℕ) → k < length t.lines → choices_of t k ≡ own
+      → r.num *ℤ numbers_of t k own ≡ numbers_of t k column *ℤ sign_of (not up) *ℤ r.den
   pub free : own ≢ column → ((k : ℕ) → k < length t.lines → choices_of t k ≢ own) → r.num ≡ pos 0
 
-pub record IsRayOf (t : Tableau) (column : ℕ) (up : Bool) (count : ℕ) (ray : List Fraction) : Type 0 where
+pub record IsRayOf (t : Tableau) (column : ℕ) (up : Bool) (count : ℕ)
+    (ray : List Fraction) : Type 0 where
   pub each : length ray ≡ count
   pub same : (j : ℕ) → j < count → SlopeAt t column up j (get_or ray j (whole (pos 0)))
 
 abbrev pub chosen_slope : List ℤ → ℕ → Bool → ℕ → Result Fraction Step.Wide
-chosen_slope line column up own = product_of (entry line column) (sign_of (not up)) >>= λ n. Ok (lowest_terms n (entry line own))
+chosen_slope line column up own = product_of (entry line column) (sign_of (not up))
+    >>= λ n. Ok (lowest_terms n (entry line own))
 
 -- a line's numbers as a certificate: minus those at the slacks of the rows, over that at its own
 abbrev pub certificate_of : ℕ → ℕ → List ℤ → Result Cert Step.Wide
-certificate_of constants goal line = line_multiple (take goal (drop (constants + 1) line)) (negsuc 0) >>= λ by. Ok record { scale = entry line (constants + 1 + goal); sum = entry line constants; by = by }
+certificate_of constants goal line = line_multiple (take goal (drop (constants + 1) line))
+    (negsuc 0) >>= λ by. Ok record {
+      scale = entry line (constants + 1 + goal);
+      sum = entry line constants;
+      by = by;
+    }
 
 -- what a case comes to
 abbrev pub SupremumAt : Framed → ℕ → List Kind → ℕ → Supremum → Type 0
-SupremumAt over constants kinds budget supremum.Empty = (t : Tableau) × ((line : ℕ) × IsRefuted over constants kinds t line)
-SupremumAt over constants kinds budget supremum.Pivots = budget < choose (over.units + length kinds) (length kinds)
+SupremumAt over constants kinds budget supremum.Empty = (t : Tableau)
+    × ((line : ℕ) × IsRefuted over constants kinds t line)
+SupremumAt over constants kinds budget supremum.Pivots = budget < choose (over.units + length kinds)
+    (length kinds)
 SupremumAt over constants kinds budget (supremum.Bound cert point) =
-    (t : Tableau) × ((enters : List Bool) × (IsTopped over constants kinds enters t × (certificate_of constants over.rows (get_or t.lines over.rows []) ≡ Ok cert) × IsCornerOf t constants constants point))
+    (t : Tableau)
+    × ((enters : List Bool)
+    × (IsTopped over constants kinds enters t
+    × (certificate_of constants over.rows (get_or t.lines over.rows []) ≡ Ok cert)
+    × IsCornerOf t constants constants point))
 SupremumAt over constants kinds budget (supremum.Unbounded point ray) =
-    (t : Tableau) × ((enters : List Bool) × ((column : ℕ) × ((up : Bool) × (IsOpened over constants kinds enters column up t × IsCornerOf t constants constants point × IsRayOf t column up constants ray))))
+    (t : Tableau)
+    × ((enters : List Bool)
+    × ((column : ℕ)
+    × ((up : Bool)
+    × (IsOpened over constants kinds enters column up t × IsCornerOf t constants constants point
+    × IsRayOf t column up constants ray))))
 
 abbrev pub IsSupremumOver : List (List Col) → List Row → Polynomial → ℕ → Supremum → Type 0
-IsSupremumOver cs rows p budget found = SupremumAt (frame_over cs rows p) (length cs) (kinds_of (with_goal rows p)) budget found
+IsSupremumOver cs rows p budget found = SupremumAt (frame_over cs rows p) (length cs)
+    (kinds_of (with_goal rows p)) budget found
 
 abbrev pub IsSupremumOf : Goal → ℕ → Supremum → Type 0
-IsSupremumOf goal budget found = IsSupremumOver (goal_columns goal) goal.rows goal.objective budget found
+IsSupremumOf goal budget found = IsSupremumOver (goal_columns goal) goal.rows goal.objective budget
+    found

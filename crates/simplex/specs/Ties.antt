@@ -10,14 +10,21 @@ use Rattle.farkas_check.specs.declared.stratum.Tie.{Tie}
 
 -- no part of the test of one half of a tie is false
 abbrev pub IsHonestHalf : List (List Col) → List Polynomial → List ℤ → Change → Bool → Cert → Type 0
-IsHonestHalf cs lower numbers case true cert = (b : Bool) → tested_half scaled_up cs case.rows (difference_form numbers (sides case.terms lower) cs) cert.scale cert.by ≡ Ok b → b ≡ true
-IsHonestHalf cs lower numbers case false cert = (b : Bool) → tested_half scaled_down cs case.rows (difference_form numbers (sides case.terms lower) cs) cert.scale cert.by ≡ Ok b → b ≡ true
+IsHonestHalf cs lower numbers case true cert = (b : Bool)
+    → tested_half scaled_up cs case.rows (difference_form numbers (sides case.terms lower) cs)
+    cert.scale cert.by ≡ Ok b → b ≡ true
+IsHonestHalf cs lower numbers case false cert = (b : Bool)
+    → tested_half scaled_down cs case.rows (difference_form numbers (sides case.terms lower) cs)
+    cert.scale cert.by ≡ Ok b → b ≡ true
 
 -- no part of the test of a tie is false
 abbrev pub IsHonestTie : List (List Col) → List Polynomial → List ℤ → Change → Tie → Type 0
-IsHonestTie cs lower numbers case tie = (b : Bool) → tested_tie cs lower numbers case tie ≡ Ok b → b ≡ true
+IsHonestTie cs lower numbers case tie = (b : Bool) → tested_tie cs lower numbers case tie ≡ Ok b
+    → b ≡ true
 
 -- a tie for each of the first so many cases, no part of whose test is false
-pub record AreTies (cs : List (List Col)) (lower : List Polynomial) (numbers : List ℤ) (cases : List Change) (place : ℕ) (ties : List Tie) : Type 0 where
+pub record AreTies (cs : List (List Col)) (lower : List Polynomial) (numbers : List ℤ)
+    (cases : List Change) (place : ℕ) (ties : List Tie) : Type 0 where
   pub each : length ties ≡ place
-  pub honest : (l : ℕ) (case : Change) (tie : Tie) → slice_get cases l ≡ Some case → slice_get ties l ≡ Some tie → IsHonestTie cs lower numbers case tie
+  pub honest : (l : ℕ) (case : Change) (tie : Tie) → slice_get cases l ≡ Some case
+      → slice_get ties l ≡ Some tie → IsHonestTie cs lower numbers case tie

@@ -29,9 +29,9 @@ use linear_terms::{Kind, Row};
 use std::alloc::{AllocError, Global};
 use whole_numbers::Wide;
 
-/// Answers whether no point makes the rows true. The answer passes the test of its question; it is a limit only
-/// where a step of the search, or of the test, leaves 128 bits, or where there are more choices of columns than
-/// turns.
+/// Answers whether no point makes the rows true. The answer passes the test of its question; it is
+/// a limit only where a step of the search, or of the test, leaves 128 bits, or where there are
+/// more choices of columns than turns.
 pub fn infeasible(alloc: Global, rows: &[Row]) -> Result<Answer, AllocError>
     ensures passes { IfOk result (λ a. Passes (question.Infeasible rows.now) a) }
     ensures tight { IfOk result (λ a. (IsLimit a → ⊥) → IsTight (question.Infeasible rows.now) a) }
@@ -138,7 +138,8 @@ fn answer_at(
     found: Found,
 ) -> Result<Answer, Stop>
     ghost over: { Framed }
-    requires found { FoundAt over constants kinds.now budget stage.now.enters stage.now.tableau found }
+    requires found { FoundAt over constants kinds.now budget stage.now.enters stage.now.tableau
+        found }
     ensures of { IfOk result (λ a. AnswerOf over constants kinds.now budget a) }
     ensures refusal { IfErr result (IsRefusalIn over (length kinds.now)) }
 {

@@ -81,8 +81,8 @@ pub(crate) fn line_choosing(chosen: &[usize], column: usize) -> Option<usize>
     None
 }
 
-/// The ray of a tableau along a column that is not chosen: it grows by 1, or falls by 1 where it is not `up`, and each
-/// chosen column of the question gives way.
+/// The ray of a tableau along a column that is not chosen: it grows by 1, or falls by 1 where it is
+/// not `up`, and each chosen column of the question gives way.
 pub(crate) fn ray(
     alloc: Global,
     t: &Tableau,

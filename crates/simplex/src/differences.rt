@@ -28,8 +28,8 @@ use items::Items;
 use linear_terms::{Mono, Poly, add, scale};
 use std::alloc::Global;
 
-/// A stratum question, its columns, how many terms a case has and how many unknowns there are, and how many turns a
-/// raise may take.
+/// A stratum question, its columns, how many terms a case has and how many unknowns there are, and
+/// how many turns a raise may take.
 #[derive(Clone, Copy)]
 pub(crate) struct Strata<'a> {
     pub(crate) cases: &'a [Change],
@@ -40,7 +40,8 @@ pub(crate) struct Strata<'a> {
     pub(crate) budget: u128,
 }
 
-/// What the question how great a relation's difference gets in a case comes to, or how great minus the difference.
+/// What the question how great a relation's difference gets in a case comes to, or how great minus
+/// the difference.
 #[derive(Drop)]
 pub(crate) enum Half {
     /// It gets no greater than 0.
@@ -50,7 +51,8 @@ pub(crate) enum Half {
     Pivots,
 }
 
-/// What the test of a relation in a case comes to: it is tied there, or its difference is not 0 at a point.
+/// What the test of a relation in a case comes to: it is tied there, or its difference is not 0 at
+/// a point.
 #[derive(Drop)]
 pub(crate) enum Bond {
     Tied(Tie),
@@ -69,7 +71,8 @@ fn sign_of(up: bool) -> i128
 fn with_multiple(alloc: Global, total: &Poly, number: i128, poly: &Poly) -> Result<Poly, Stop>
     ensures exact { IfOk result (λ p. with_multiple total.now number poly.now ≡ Ok p) }
     ensures refusal { IfErr result IsRefusal }
-    ensures calm { (p : Polynomial) → with_multiple total.now number poly.now ≡ Ok p → IfErr result IsMemory }
+    ensures calm { (p : Polynomial) → with_multiple total.now number poly.now ≡ Ok p
+        → IfErr result IsMemory }
 {
     let part = scale(alloc, poly, number)?;
     Ok(add(alloc, total, &part)?)
@@ -84,7 +87,8 @@ fn with_multiples(
 ) -> Result<Poly, Stop>
     ensures exact { IfOk result (λ p. with_multiples first numbers.now polys.now ≡ Ok p) }
     ensures refusal { IfErr result IsRefusal }
-    ensures calm { (p : Polynomial) → with_multiples first numbers.now polys.now ≡ Ok p → IfErr result IsMemory }
+    ensures calm { (p : Polynomial) → with_multiples first numbers.now polys.now ≡ Ok p
+        → IfErr result IsMemory }
 {
     let mut total = first;
     let mut numbers = numbers;
@@ -103,7 +107,8 @@ fn with_multiples(
 fn with_rest(alloc: Global, poly: Poly, number: &i128) -> Result<Poly, Stop>
     ensures exact { IfOk result (λ p. sum_of_polys poly (constant_of number.now) ≡ Ok p) }
     ensures refusal { IfErr result IsRefusal }
-    ensures calm { (p : Polynomial) → sum_of_polys poly (constant_of number.now) ≡ Ok p → IfErr result IsMemory }
+    ensures calm { (p : Polynomial) → sum_of_polys poly (constant_of number.now) ≡ Ok p
+        → IfErr result IsMemory }
 {
     let rest = Poly::constant(alloc, *number);
     Ok(add(alloc, &poly, &rest)?)
@@ -123,7 +128,8 @@ fn difference_in(
     requires numbers { length numbers.now ≡ strata.now.count }
     requires few { strata.now.count < 2 ^ 61 }
     requires calm { IsCalmRelation strata.now numbers.now }
-    ensures difference { IfOk result (IsDifferenceOf case.now.terms strata.now.lower.now numbers.now up) }
+    ensures difference { IfOk result
+        (IsDifferenceOf case.now.terms strata.now.lower.now numbers.now up) }
     ensures refusal { IfErr result (IsRefusalOf strata.now) }
 {
     let (first, last) = numbers.split_at(strata.terms);
@@ -157,8 +163,10 @@ fn difference_with(
     requires few { strata.now.count < 2 ^ 61 }
     requires calm { IsCalmRelation strata.now numbers.now }
     requires own { line_multiple (take strata.now.terms numbers.now) (sign_of up) ≡ Ok own.now }
-    requires others { line_multiple (drop strata.now.terms numbers.now) (sign_of (not up)) ≡ Ok others.now }
-    ensures difference { IfOk result (IsDifferenceOf case.now.terms strata.now.lower.now numbers.now up) }
+    requires others { line_multiple (drop strata.now.terms numbers.now) (sign_of (not up))
+        ≡ Ok others.now }
+    ensures difference { IfOk result
+        (IsDifferenceOf case.now.terms strata.now.lower.now numbers.now up) }
     ensures refusal { IfErr result (IsRefusalOf strata.now) }
 {
     let (_numbers, _up) = (numbers, up);
@@ -170,7 +178,8 @@ fn difference_with(
     Ok(made)
 }
 
-/// A point at which the objective is not 0: this one, or where it is 0 here, one further along a ray on which it grows.
+/// A point at which the objective is not 0: this one, or where it is 0 here, one further along a
+/// ray on which it grows.
 fn point_apart(
     alloc: Global,
     columns: &[Mono],
@@ -180,7 +189,9 @@ fn point_apart(
 ) -> Result<Items<Ratio>, Stop>
     ensures point { IfOk result (IsFurther columns.now objective.now point ray) }
     ensures refusal { IfErr result IsRefusal }
-    ensures calm { (v : Fraction) (zs : List Fraction) → ratio_value (ratio_at columns.now point) objective.now ≡ Ok v → sums_of point ray ≡ Ok zs → IfErr result IsMemory }
+    ensures calm { (v : Fraction) (zs : List Fraction)
+        → ratio_value (ratio_at columns.now point) objective.now ≡ Ok v → sums_of point ray ≡ Ok zs
+        → IfErr result IsMemory }
 {
     let value = value_at(columns, point.as_slice(), objective)?;
     if value.num() != 0 {
@@ -231,8 +242,10 @@ fn half_at(
     requires asked { IsAsked strata.now }
     requires case { IsCaseOf strata.now case.now }
     requires calm { IsCalmRelation strata.now numbers.now }
-    requires difference { IsDifferenceOf case.now.terms strata.now.lower.now numbers.now up objective.now }
-    requires came { IsSupremumOver strata.now.columns.now case.now.rows objective.now strata.now.budget found }
+    requires difference { IsDifferenceOf case.now.terms strata.now.lower.now numbers.now up
+        objective.now }
+    requires came { IsSupremumOver strata.now.columns.now case.now.rows objective.now
+        strata.now.budget found }
     ensures half { IfOk result (HalfAt strata.now numbers.now case.now up) }
     ensures small { IfOk result (HasSmallHalf strata.now) }
     ensures refusal { IfErr result (IsRefusalOf strata.now) }
@@ -251,10 +264,14 @@ fn half_at(
 
 /// A bound of 0 ties; else the point that reaches the bound is one at which the objective is not 0.
 fn half_below(cert: Cert, point: Items<Ratio>) -> Half
-    ensures small { (strata : Strata) → HasSmallMultipliers strata cert → HasSmallHalf strata result }
-    ensures half { (strata : Strata) (numbers : List ℤ) (case : Change) (up : Bool) → IsPointOf strata.columns.now case.rows point
-        → ((cert.sum ≡ pos 0 → ⊥) → IsApart strata.columns.now case.terms strata.lower.now (length numbers) numbers point)
-        → (cert.sum ≡ pos 0 → IsHonestHalf strata.columns.now strata.lower.now numbers case up cert) → HalfAt strata numbers case up result }
+    ensures small { (strata : Strata) → HasSmallMultipliers strata cert
+        → HasSmallHalf strata result }
+    ensures half { (strata : Strata) (numbers : List ℤ) (case : Change) (up : Bool)
+        → IsPointOf strata.columns.now case.rows point
+        → ((cert.sum ≡ pos 0 → ⊥)
+        → IsApart strata.columns.now case.terms strata.lower.now (length numbers) numbers point)
+        → (cert.sum ≡ pos 0 → IsHonestHalf strata.columns.now strata.lower.now numbers case up cert)
+        → HalfAt strata numbers case up result }
 {
     if cert.sum == 0 {
         Half::Tied(cert)
@@ -300,7 +317,8 @@ fn bond_with(
     requires numbers { length numbers.now ≡ strata.now.count }
     requires few { strata.now.count < 2 ^ 61 }
     requires calm { IsCalmRelation strata.now numbers.now }
-    requires up { IsHonestHalf strata.now.columns.now strata.now.lower.now numbers.now case.now true up }
+    requires up { IsHonestHalf strata.now.columns.now strata.now.lower.now numbers.now case.now true
+        up }
     requires small { HasSmallMultipliers strata.now up }
     ensures bond { IfOk result (BondAt strata.now numbers.now case.now) }
     ensures small { IfOk result (HasSmallBond strata.now) }

@@ -24,8 +24,8 @@ impl Model for Ending {
     ghost invariant = { λ e. StandsAt e.columns e.rows e.stage.enters e.stage.tableau };
 }
 
-/// Where the last suprema of cases ended, a place for each case, as far as it is known. A supremum over the same rows
-/// and columns begins there. What an answer may be does not depend on it.
+/// Where the last suprema of cases ended, a place for each case, as far as it is known. A supremum
+/// over the same rows and columns begins there. What an answer may be does not depend on it.
 #[derive(Drop)]
 pub struct Endings {
     cases: Vec<Option<Ending>>,

@@ -18,8 +18,8 @@ pub(crate) fn kinds_of(alloc: Global, rows: &[Row]) -> Result<Items<Kind>, Alloc
     Ok(kinds)
 }
 
-/// The tableau of the rows that chooses the unit columns: a line has the row's numbers at the columns, its
-/// constant, and 1 at the row's own unit column.
+/// The tableau of the rows that chooses the unit columns: a line has the row's numbers at the
+/// columns, its constant, and 1 at the row's own unit column.
 pub(crate) fn framed(alloc: Global, rows: &[Row], columns: &[Mono]) -> Result<Tableau, AllocError>
     requires { length columns.now + 1 + length rows.now < 2 ^ 64 }
     ensures { IfOk result (λ t. t ≡ framed columns.now rows.now) }

@@ -84,7 +84,8 @@ pub(crate) struct Stage {
     pub(crate) enters: Items<bool>,
 }
 
-/// Solves the inequalities among the first so many lines in order, as far as a column of the question is left in them.
+/// Solves the inequalities among the first so many lines in order, as far as a column of the
+/// question is left in them.
 pub(crate) fn inequalities(
     alloc: Global,
     stage: Stage,
@@ -115,7 +116,8 @@ fn inequality(
     ghost over: { Framed }
     requires freeing { IsFreeing over constants kinds.now i stage.enters stage.tableau }
     requires here { i < length kinds.now }
-    ensures freed { IfOk result (λ s. IsFreeing over constants kinds.now (i + 1) s.enters s.tableau) }
+    ensures freed { IfOk result
+        (λ s. IsFreeing over constants kinds.now (i + 1) s.enters s.tableau) }
     ensures refusal { IfErr result (IsRefusalIn over (length kinds.now)) }
 {
     if kinds[i] != Kind::AtMost {

@@ -19,8 +19,8 @@ use items::Items;
 use std::alloc::{AllocError, Global};
 use whole_numbers::Wide;
 
-/// How far the objective gets in the cases so far: the greatest of their bounds, rounded down, the first case that has
-/// it, and a point of that case.
+/// How far the objective gets in the cases so far: the greatest of their bounds, rounded down, the
+/// first case that has it, and a point of that case.
 #[derive(Drop)]
 pub(crate) struct Reach {
     pub(crate) at: i128,
@@ -42,10 +42,11 @@ pub(crate) enum Progress {
     End(Answer),
 }
 
-/// Answers how great the objective gets over all points of all cases: the supremum rounded down, with a certificate
-/// for each case and a point that reaches it, or a point and a ray along which it grows without end. The answer passes
-/// the test of its question; it names a step that leaves 128 bits only where the question is not calm, and is
-/// `Pivots` only where there is no case or one without points, or more choices of columns than turns.
+/// Answers how great the objective gets over all points of all cases: the supremum rounded down,
+/// with a certificate for each case and a point that reaches it, or a point and a ray along which
+/// it grows without end. The answer passes the test of its question; it names a step that leaves
+/// 128 bits only where the question is not calm, and is `Pivots` only where there is no case or one
+/// without points, or more choices of columns than turns.
 pub fn sup(alloc: Global, goals: &[Goal]) -> Result<Answer, AllocError>
     ensures passes { IfOk result (λ a. Passes (question.Sup goals.now) a) }
     ensures tight { IfOk result (λ a. (IsLimit a → ⊥) → IsTight (question.Sup goals.now) a) }
@@ -57,7 +58,8 @@ pub fn sup(alloc: Global, goals: &[Goal]) -> Result<Answer, AllocError>
     sup_with(alloc, goals, &mut endings)
 }
 
-/// The same, where the search of each case begins where the last one over the same rows and columns ended.
+/// The same, where the search of each case begins where the last one over the same rows and columns
+/// ended.
 pub fn sup_with(alloc: Global, goals: &[Goal], endings: &mut Endings) -> Result<Answer, AllocError>
     ensures passes { IfOk result (λ a. Passes (question.Sup goals.now) a) }
     ensures tight { IfOk result (λ a. (IsLimit a → ⊥) → IsTight (question.Sup goals.now) a) }

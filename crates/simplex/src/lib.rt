@@ -1,8 +1,10 @@
-//! The simplex method over rational numbers, exact and with certificates, in 128 bits. The rows of a case are the
-//! lines of a tableau of whole numbers; first the equations and then the inequalities are solved for their columns,
-//! and each inequality that is not met is raised, by lexicographic exchanges that come to no choice twice. What is
-//! found is an answer with multipliers or a point, and passes the test of `farkas_check`. From a corner of the rows an
-//! objective is raised in the same way, up to a corner where a certificate bounds it or along a ray without end.
+//! The simplex method over rational numbers, exact and with certificates, in 128 bits. The rows of
+//! a case are the lines of a tableau of whole numbers; first the equations and then the
+//! inequalities are solved for their columns, and each inequality that is not met is raised, by
+//! lexicographic exchanges that come to no choice twice. What is found is an answer with
+//! multipliers or a point, and passes the test of `farkas_check`. From a corner of the rows an
+//! objective is raised in the same way, up to a corner where a certificate bounds it or along a ray
+//! without end.
 #![tactic(auto)]
 
 mod answering;

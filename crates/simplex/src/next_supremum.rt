@@ -19,8 +19,9 @@ use items::Items;
 use linear_terms::{Kind, Mono, Row};
 use std::alloc::{AllocError, Global};
 
-/// What a case of a supremum question comes to, with no more turns a raise than the budget, and where it ended. It
-/// begins where the last one ended, if that was over the same rows and columns, and else at the frame of the rows.
+/// What a case of a supremum question comes to, with no more turns a raise than the budget, and
+/// where it ended. It begins where the last one ended, if that was over the same rows and columns,
+/// and else at the frame of the rows.
 pub(crate) fn next_supremum(
     alloc: Global,
     goal: &Goal,
@@ -41,8 +42,11 @@ fn supremum_from(
     budget: u128,
     last: Option<Ending>,
 ) -> Result<(Supremum, Option<Ending>), Stop>
-    ensures supremum { IfOk result (λ r. IsSupremumOver columns goal.now.rows goal.now.objective budget r.0) }
-    ensures refusal { IfErr result (IsRefusalIn (frame_over columns goal.now.rows goal.now.objective) (length goal.now.rows + 1)) }
+    ensures supremum { IfOk result
+        (λ r. IsSupremumOver columns goal.now.rows goal.now.objective budget r.0) }
+    ensures refusal { IfErr result
+        (IsRefusalIn (frame_over columns goal.now.rows goal.now.objective)
+        (length goal.now.rows + 1)) }
 {
     match corner_for(alloc, last, &columns, goal)? {
         Some((rows, stage)) => ended_at(alloc, columns, rows, stage, goal, budget),
@@ -50,8 +54,8 @@ fn supremum_from(
     }
 }
 
-/// The rows and the corner where the last supremum ended, with the objective as its goal, if it was over the same rows
-/// and columns and no step leaves 128 bits.
+/// The rows and the corner where the last supremum ended, with the objective as its goal, if it was
+/// over the same rows and columns and no step leaves 128 bits.
 fn corner_for(
     alloc: Global,
     last: Option<Ending>,
@@ -59,7 +63,9 @@ fn corner_for(
     goal: &Goal,
 ) -> Result<Option<(Items<Row>, Stage)>, AllocError>
     ensures rows { IfOk result (λ found. IfSome found (λ r. r.0 ≡ goal.now.rows)) }
-    ensures met { IfOk result (λ found. IfSome found (λ r. IsMetFor columns.now goal.now.rows goal.now.objective r.1.enters r.1.tableau)) }
+    ensures met { IfOk result
+        (λ found. IfSome found
+        (λ r. IsMetFor columns.now goal.now.rows goal.now.objective r.1.enters r.1.tableau)) }
 {
     match last {
         None => Ok(None),
@@ -74,7 +80,9 @@ fn corner_over(
     goal: &Goal,
 ) -> Result<Option<(Items<Row>, Stage)>, AllocError>
     ensures rows { IfOk result (λ found. IfSome found (λ r. r.0 ≡ goal.now.rows)) }
-    ensures met { IfOk result (λ found. IfSome found (λ r. IsMetFor columns.now goal.now.rows goal.now.objective r.1.enters r.1.tableau)) }
+    ensures met { IfOk result
+        (λ found. IfSome found
+        (λ r. IsMetFor columns.now goal.now.rows goal.now.objective r.1.enters r.1.tableau)) }
 {
     let Ending {
         columns: own,
@@ -126,8 +134,11 @@ fn supremum_anew(
     goal: &Goal,
     budget: u128,
 ) -> Result<(Supremum, Option<Ending>), Stop>
-    ensures supremum { IfOk result (λ r. IsSupremumOver columns goal.now.rows goal.now.objective budget r.0) }
-    ensures refusal { IfErr result (IsRefusalIn (frame_over columns goal.now.rows goal.now.objective) (length goal.now.rows + 1)) }
+    ensures supremum { IfOk result
+        (λ r. IsSupremumOver columns goal.now.rows goal.now.objective budget r.0) }
+    ensures refusal { IfErr result
+        (IsRefusalIn (frame_over columns goal.now.rows goal.now.objective)
+        (length goal.now.rows + 1)) }
 {
     let (stage, found) = searched_case(alloc, &columns, goal, budget)?;
     match found {
@@ -147,8 +158,12 @@ fn searched_case(
     goal: &Goal,
     budget: u128,
 ) -> Result<(Stage, Found), Stop>
-    ensures found { IfOk result (λ r. FoundFor columns.now goal.now.rows goal.now.objective budget r.0.enters r.0.tableau r.1) }
-    ensures refusal { IfErr result (IsRefusalIn (frame_over columns.now goal.now.rows goal.now.objective) (length goal.now.rows + 1)) }
+    ensures found { IfOk result
+        (λ r. FoundFor columns.now goal.now.rows goal.now.objective budget r.0.enters r.0.tableau
+        r.1) }
+    ensures refusal { IfErr result
+        (IsRefusalIn (frame_over columns.now goal.now.rows goal.now.objective)
+        (length goal.now.rows + 1)) }
 {
     let rows = goal.rows.as_slice();
     let all = with_goal(alloc, rows, &goal.objective)?;
@@ -177,8 +192,11 @@ fn ended_at(
     requires frame { over ≡ frame_over columns goal.now.rows goal.now.objective }
     requires rows { rows ≡ goal.now.rows }
     requires met { IsMetFor columns goal.now.rows goal.now.objective stage.enters stage.tableau }
-    ensures supremum { IfOk result (λ r. IsSupremumOver columns goal.now.rows goal.now.objective budget r.0) }
-    ensures refusal { IfErr result (IsRefusalIn (frame_over columns goal.now.rows goal.now.objective) (length goal.now.rows + 1)) }
+    ensures supremum { IfOk result
+        (λ r. IsSupremumOver columns goal.now.rows goal.now.objective budget r.0) }
+    ensures refusal { IfErr result
+        (IsRefusalIn (frame_over columns goal.now.rows goal.now.objective)
+        (length goal.now.rows + 1)) }
 {
     let kinds = kinds_with_goal(alloc, goal.rows.as_slice())?;
     let (found, left) = topped_stage(
@@ -214,8 +232,8 @@ fn ending_of(columns: Items<Mono>, rows: Items<Row>, left: Option<Stage>) -> Opt
     }
 }
 
-/// Raises the objective from a corner of the rows, reads off what shows how great it gets, and keeps the corner that it
-/// came to.
+/// Raises the objective from a corner of the rows, reads off what shows how great it gets, and
+/// keeps the corner that it came to.
 fn topped_stage(
     alloc: Global,
     stage: Stage,
@@ -229,7 +247,8 @@ fn topped_stage(
     requires goal { goal ≡ over.rows }
     requires here { goal < length stage.tableau.lines }
     ensures supremum { IfOk result (λ r. SupremumAt over constants kinds.now budget r.0) }
-    ensures left { IfOk result (λ r. IfSome r.1 (λ s. IsMet over constants kinds.now s.enters s.tableau)) }
+    ensures left { IfOk result
+        (λ r. IfSome r.1 (λ s. IsMet over constants kinds.now s.enters s.tableau)) }
     ensures refusal { IfErr result (IsRefusalIn over (length kinds.now)) }
 {
     let enters = Items::from_slice(alloc, stage.enters.as_slice())?;

@@ -11,9 +11,10 @@ use crate::strata::stratum;
 use farkas_check::{Answer, Question};
 use std::alloc::{AllocError, Global};
 
-/// Answers a question of any kind. The answer passes the test of the question, and is the truth about rational points
-/// unless it is a limit. A limit that names a step comes only to questions that are not calm; `Pivots` comes only to dead
-/// questions, and where a case has more choices of columns than turns.
+/// Answers a question of any kind. The answer passes the test of the question, and is the truth
+/// about rational points unless it is a limit. A limit that names a step comes only to questions
+/// that are not calm; `Pivots` comes only to dead questions, and where a case has more choices of
+/// columns than turns.
 pub fn answer(alloc: Global, question: &Question) -> Result<Answer, AllocError>
     ensures passes { IfOk result (λ a. Passes question.now a) }
     ensures tight { IfOk result (λ a. (IsLimit a → ⊥) → IsTight question.now a) }

@@ -33,8 +33,8 @@ fn grows(number: &i128, up: bool) -> bool
     if up { *number < 0 } else { 0 < *number }
 }
 
-/// How two lines stand at a key, each over the other's number at the column; at the constants the other way
-/// round.
+/// How two lines stand at a key, each over the other's number at the column; at the constants the
+/// other way round.
 fn order_at(backward: bool, a: &i128, p: &i128, b: &i128, q: &i128) -> Result<Ordering, Wide>
     ensures exact { result ≡ order_at backward a.now p.now b.now q.now }
     ensures width { IfErr result LeavesBits }
@@ -61,7 +61,8 @@ fn comes_before(
     requires keys { AllByRecursion (λ c. c < length line.now) keys.now }
     ensures exact { result ≡ comes_before constants column line.now other.now keys.now }
     ensures width { IfErr result LeavesBits }
-    ensures calm { (n : ℕ) → HasSquares n → IsSmallLine n line.now → IsSmallLine n other.now → IfErr result (λ _. ⊥) }
+    ensures calm { (n : ℕ) → HasSquares n → IsSmallLine n line.now → IsSmallLine n other.now
+        → IfErr result (λ _. ⊥) }
 {
     compared(constants, column, line, other, keys)
 }
@@ -97,8 +98,8 @@ fn compared(
     Ok(false)
 }
 
-/// How a raise ends: its goal is met, no column lets the goal grow, or one does so without end, or the turns are used
-/// up.
+/// How a raise ends: its goal is met, no column lets the goal grow, or one does so without end, or
+/// the turns are used up.
 #[derive(Clone, Copy)]
 pub enum RaiseEnd {
     Met,
@@ -116,9 +117,9 @@ pub enum Turn {
     Moved,
 }
 
-/// Raises the goal of a line, or lowers it, by exchanges of columns that may enter for lines that may leave,
-/// or `until` its constant is not positive.
-/// The turns are used up only where there are as many choices of columns.
+/// Raises the goal of a line, or lowers it, by exchanges of columns that may enter for lines that
+/// may leave, or `until` its constant is not positive. The turns are used up only where there are
+/// as many choices of columns.
 pub(crate) fn raised_to(
     alloc: Global,
     t: Tableau,
@@ -133,8 +134,10 @@ pub(crate) fn raised_to(
     ghost over: { Framed }
     requires begins { Begins over enters.now constants keys.now goal t }
     requires primitive { ArePrimitive t }
-    ensures tableau { IfOk result (λ r. RaisedFrom over enters.now constants keys.now goal (sign_of up) t r.0) }
-    ensures ends { IfOk result (λ r. EndsAt over enters.now constants (sign_of up) until goal budget r.0 r.1) }
+    ensures tableau { IfOk result
+        (λ r. RaisedFrom over enters.now constants keys.now goal (sign_of up) t r.0) }
+    ensures ends { IfOk result
+        (λ r. EndsAt over enters.now constants (sign_of up) until goal budget r.0 r.1) }
     ensures refusal { IfErr result (IsRefusalIn over (length t.lines)) }
 {
     let mut now = t;
@@ -176,7 +179,8 @@ fn one_turn(
     requires goal { goal < length t.lines }
     requires constants { constants < length enters.now }
     requires keys { AllByRecursion (λ c. c < length enters.now) keys.now }
-    ensures came { IfOk result (λ r. CameTo enters.now constants keys.now (sign_of up) until goal t r.0 r.1) }
+    ensures came { IfOk result
+        (λ r. CameTo enters.now constants keys.now (sign_of up) until goal t r.0 r.1) }
     ensures refusal { IfErr result (IsRefusalIn over (length t.lines)) }
 {
     if is_met(t.lines[goal].as_slice(), constants, until) {
@@ -215,8 +219,8 @@ fn moved(
     }
 }
 
-/// The line that leaves where a column enters: of those that may leave and are positive there, the least by
-/// the keys.
+/// The line that leaves where a column enters: of those that may leave and are positive there, the
+/// least by the keys.
 pub(crate) fn leaving(
     t: &Tableau,
     constants: usize,
@@ -225,10 +229,12 @@ pub(crate) fn leaving(
     keys: &[usize],
 ) -> Result<Option<usize>, Wide>
     requires shape { HasShape (length enters.now) t.now }
-    requires choices { (i : ℕ) → i < length t.now.lines → get_or t.now.chosen i 0 < length enters.now }
+    requires choices { (i : ℕ) → i < length t.now.lines
+        → get_or t.now.chosen i 0 < length enters.now }
     requires column { column < length enters.now }
     requires keys { AllByRecursion (λ c. c < length enters.now) keys.now }
-    ensures least { IfOk result (λ line. LeavingOf (length t.now.lines) enters.now constants keys.now column t.now line) }
+    ensures least { IfOk result
+        (λ line. LeavingOf (length t.now.lines) enters.now constants keys.now column t.now line) }
     ensures width { IfErr result LeavesBits }
     ensures calm { (n : ℕ) → HasSquares n → HasSmallLines n t.now → IfErr result (λ _. ⊥) }
 {
@@ -251,12 +257,14 @@ fn least_with(
     i: usize,
 ) -> Result<Option<usize>, Wide>
     requires shape { HasShape (length enters.now) t.now }
-    requires choices { (i : ℕ) → i < length t.now.lines → get_or t.now.chosen i 0 < length enters.now }
+    requires choices { (i : ℕ) → i < length t.now.lines
+        → get_or t.now.chosen i 0 < length enters.now }
     requires column { column < length enters.now }
     requires keys { AllByRecursion (λ c. c < length enters.now) keys.now }
     requires line { i < length t.now.lines }
     requires before { LeavingOf i enters.now constants keys.now column t.now found }
-    ensures least { IfOk result (λ line. LeavingOf (i + 1) enters.now constants keys.now column t.now line) }
+    ensures least { IfOk result
+        (λ line. LeavingOf (i + 1) enters.now constants keys.now column t.now line) }
     ensures width { IfErr result LeavesBits }
     ensures calm { (n : ℕ) → HasSquares n → HasSmallLines n t.now → IfErr result (λ _. ⊥) }
 {

@@ -11,8 +11,8 @@ use crate::questions::answer;
 use farkas_check::{Answer, Question};
 use std::alloc::{AllocError, Global};
 
-/// Answers a question of any kind as `answer` does, where the search of a supremum begins where the last one over the
-/// same rows and columns ended.
+/// Answers a question of any kind as `answer` does, where the search of a supremum begins where the
+/// last one over the same rows and columns ended.
 pub fn answer_with(
     alloc: Global,
     question: &Question,

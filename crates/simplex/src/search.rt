@@ -14,8 +14,8 @@ use items::Items;
 use linear_terms::{Kind, Mono, Row};
 use std::alloc::{AllocError, Global};
 
-/// What the turn of a row comes to: the row is true at the corner and is kept so, or its line refutes the rows,
-/// or the turns are used up.
+/// What the turn of a row comes to: the row is true at the corner and is kept so, or its line
+/// refutes the rows, or the turns are used up.
 #[derive(Clone, Copy)]
 pub enum TurnEnd {
     Kept,
@@ -23,8 +23,8 @@ pub enum TurnEnd {
     Pivots,
 }
 
-/// What a search comes to: the tableau's corner makes the rows true, or a line refutes them, or the turns are
-/// used up.
+/// What a search comes to: the tableau's corner makes the rows true, or a line refutes them, or the
+/// turns are used up.
 #[derive(Clone, Copy)]
 pub enum Found {
     Corner,
@@ -32,7 +32,8 @@ pub enum Found {
     Pivots,
 }
 
-/// The keys of a raise that begins at a corner: the constants, and the chosen columns that may leave.
+/// The keys of a raise that begins at a corner: the constants, and the chosen columns that may
+/// leave.
 pub(crate) fn keys_of(
     alloc: Global,
     chosen: &[usize],
@@ -67,7 +68,8 @@ fn turn_of(
     requires kind { kind_at kinds.now i ≡ AtMost }
     requires waits { enters_at stage.enters (constants + 1 + i) ≡ false }
     requires row { i < over.rows }
-    ensures came { IfOk result (λ r. TurnedAt over constants kinds.now budget i stage.enters r.0.enters r.0.tableau r.1) }
+    ensures came { IfOk result
+        (λ r. TurnedAt over constants kinds.now budget i stage.enters r.0.enters r.0.tableau r.1) }
     ensures refusal { IfErr result (IsRefusalIn over (length kinds.now)) }
 {
     let Stage { tableau, enters } = stage;
@@ -135,7 +137,8 @@ fn passed(
     requires placed { IsPlaced over constants kinds.now stage.enters stage.tableau }
     requires here { i < length kinds.now }
     requires row { i < over.rows }
-    ensures came { IfOk result (λ r. TurnedAt over constants kinds.now budget i stage.enters r.0.enters r.0.tableau r.1) }
+    ensures came { IfOk result
+        (λ r. TurnedAt over constants kinds.now budget i stage.enters r.0.enters r.0.tableau r.1) }
     ensures refusal { IfErr result (IsRefusalIn over (length kinds.now)) }
 {
     if kinds[i] != Kind::AtMost {
@@ -160,7 +163,8 @@ fn turns(
     requires placed { IsPlaced over constants kinds.now stage.enters stage.tableau }
     requires count { count ≡ over.rows }
     requires within { count ≤ length kinds.now }
-    ensures found { IfOk result (λ r. FoundAt over constants kinds.now budget r.0.enters r.0.tableau r.1) }
+    ensures found { IfOk result
+        (λ r. FoundAt over constants kinds.now budget r.0.enters r.0.tableau r.1) }
     ensures refusal { IfErr result (IsRefusalIn over (length kinds.now)) }
 {
     let mut now = stage;
@@ -190,7 +194,8 @@ pub(crate) fn searched(
     requires count { count ≡ over.rows }
     requires within { count ≤ length kinds.now }
     requires wide { constants + 1 + length kinds.now < 2 ^ 64 }
-    ensures found { IfOk result (λ r. FoundAt over constants kinds.now budget r.0.enters r.0.tableau r.1) }
+    ensures found { IfOk result
+        (λ r. FoundAt over constants kinds.now budget r.0.enters r.0.tableau r.1) }
     ensures refusal { IfErr result (IsRefusalIn over (length kinds.now)) }
 {
     let enters = none_of(alloc, constants + 1 + kinds.len())?;

@@ -24,8 +24,8 @@ use linear_terms::{Mono, Poly};
 use std::alloc::{AllocError, Global};
 use whole_numbers::Wide;
 
-/// Spots, each with its line under the unknowns and the number by which that line's values were multiplied, and a
-/// tableau of these lines that chooses an unknown in each.
+/// Spots, each with its line under the unknowns and the number by which that line's values were
+/// multiplied, and a tableau of these lines that chooses an unknown in each.
 #[derive(Drop)]
 pub(crate) struct Spots {
     pub(crate) spots: Items<Spot>,
@@ -57,7 +57,8 @@ fn term_values(
     point: &[Ratio],
     terms: &[Poly],
 ) -> Result<Items<Ratio>, Stop>
-    ensures exact { Gives cause (λ made. made) result (values_of (ratio_value (ratio_at columns.now point.now)) terms.now) }
+    ensures exact { Gives cause (λ made. made) result
+        (values_of (ratio_value (ratio_at columns.now point.now)) terms.now) }
     ensures refusal { IfErr result IsRefusal }
 {
     let mut made = Items::new(alloc);
@@ -74,7 +75,8 @@ fn lower_values(
     point: &[Ratio],
     lower: &[Poly],
 ) -> Result<Items<Ratio>, Stop>
-    ensures exact { Gives cause (λ made. made) result (values_of (minus_value (ratio_value (ratio_at columns.now point.now))) lower.now) }
+    ensures exact { Gives cause (λ made. made) result
+        (values_of (minus_value (ratio_value (ratio_at columns.now point.now))) lower.now) }
     ensures refusal { IfErr result IsRefusal }
 {
     let mut made = Items::new(alloc);
@@ -95,8 +97,8 @@ fn both_values(first: Items<Ratio>, others: &[Ratio]) -> Result<Items<Ratio>, Al
     Ok(made)
 }
 
-/// What a relation's difference has at a point under each unknown: the values of the terms, minus those of the lower
-/// terms, and -1.
+/// What a relation's difference has at a point under each unknown: the values of the terms, minus
+/// those of the lower terms, and -1.
 fn side_values(
     alloc: Global,
     columns: &[Mono],
@@ -106,7 +108,10 @@ fn side_values(
 ) -> Result<Items<Ratio>, Stop>
     ensures values { IfOk result (AreSideValues columns.now point.now terms.now lower.now) }
     ensures refusal { IfErr result IsRefusal }
-    ensures calm { (own others : List Fraction) → values_of (ratio_value (ratio_at columns.now point.now)) terms.now ≡ Ok own → values_of (minus_value (ratio_value (ratio_at columns.now point.now))) lower.now ≡ Ok others → IfErr result IsMemory }
+    ensures calm { (own others : List Fraction)
+        → values_of (ratio_value (ratio_at columns.now point.now)) terms.now ≡ Ok own
+        → values_of (minus_value (ratio_value (ratio_at columns.now point.now))) lower.now
+        ≡ Ok others → IfErr result IsMemory }
 {
     let own = term_values(alloc, columns, point, terms)?;
     let mut others = lower_values(alloc, columns, point, lower)?;
@@ -212,8 +217,8 @@ fn spots_framed(alloc: Global, count: usize, lines: &[Items<i128>]) -> Result<Ta
     })
 }
 
-/// The tableau of spots: from the frame of their lines on, each line in order chooses the last unknown at which it is
-/// not 0.
+/// The tableau of spots: from the frame of their lines on, each line in order chooses the last
+/// unknown at which it is not 0.
 fn spot_tableau(alloc: Global, count: usize, lines: &[Items<i128>]) -> Result<Tableau, Stop>
     requires wide { count + length lines.now < 2 ^ 64 }
     requires independent { AreIndependent count lines.now }
@@ -256,10 +261,12 @@ pub(crate) fn with_spot(
 ) -> Result<Spots, Stop>
     requires known { AreSpots strata.now.count known }
     requires few { strata.now.count < 2 ^ 61 }
-    requires apart { IsNewPoint strata.now.columns.now spot.at terms.now strata.now.lower.now strata.now.count known.lines }
+    requires apart { IsNewPoint strata.now.columns.now spot.at terms.now strata.now.lower.now
+        strata.now.count known.lines }
     requires calm { IsCalmSpot strata.now terms.now spot.at known.lines }
     ensures more { IfOk result (λ made. made.spots ≡ known.spots ++ spot ∷ []) }
-    ensures line { IfOk result (HasMoreLine strata.now.columns.now spot.at terms.now strata.now.lower.now known) }
+    ensures line { IfOk result
+        (HasMoreLine strata.now.columns.now spot.at terms.now strata.now.lower.now known) }
     ensures spots { IfOk result (λ made. AreSpots strata.now.count made) }
     ensures refusal { IfErr result (IsRefusalOf strata.now) }
 {
@@ -276,7 +283,9 @@ fn spot_line(
     spot: &Spot,
 ) -> Result<(Items<i128>, i128), Stop>
     requires calm { IsCalmSpot strata.now terms.now spot.now.at known.now.lines }
-    ensures line { IfOk result (λ r. IsSpotLine strata.now.columns.now spot.now.at terms.now strata.now.lower.now r.0 r.1) }
+    ensures line { IfOk result
+        (λ r. IsSpotLine strata.now.columns.now spot.now.at terms.now strata.now.lower.now r.0
+        r.1) }
     ensures refusal { IfErr result (IsRefusalOf strata.now) }
 {
     let _known = known;
@@ -327,8 +336,9 @@ fn more_spots(
     })
 }
 
-/// The relation of an unknown that no line chooses: there it has the least common denominator of the tableau's multiples
-/// in its column, at the chosen unknowns minus their numerators, and 0 elsewhere.
+/// The relation of an unknown that no line chooses: there it has the least common denominator of
+/// the tableau's multiples in its column, at the chosen unknowns minus their numerators, and 0
+/// elsewhere.
 pub(crate) fn relation_of(
     alloc: Global,
     count: usize,
@@ -341,7 +351,8 @@ pub(crate) fn relation_of(
     requires unknown { unknown < count }
     requires free { IsUnchosen known.now.tableau unknown }
     ensures count { IfOk result (λ numbers. length numbers ≡ count) }
-    ensures relation { IfOk result (λ numbers. IsRelationOf count known.now.tableau unknown numbers) }
+    ensures relation { IfOk result
+        (λ numbers. IsRelationOf count known.now.tableau unknown numbers) }
     ensures refusal { IfErr result (IsRefusalUnder count known.now.lines) }
 {
     let ratios = ray(alloc, &known.tableau, count, unknown, true)?;
@@ -360,7 +371,8 @@ fn with_unknown(
     requires known { AreSpots count known.now }
     requires before { AreRelations count known.now.tableau unknown made }
     requires unknown { unknown < count }
-    ensures relations { IfOk result (λ made. AreRelations count known.now.tableau (unknown + 1) made) }
+    ensures relations { IfOk result
+        (λ made. AreRelations count known.now.tableau (unknown + 1) made) }
     ensures refusal { IfErr result (IsRefusalUnder count known.now.lines) }
 {
     let mut made = made;
@@ -392,7 +404,8 @@ pub(crate) fn relations_of(
     Ok(made)
 }
 
-/// Multiples of the spots' differences whose sum is 1 at the unknown that a line chooses, and 0 at the other chosen ones.
+/// Multiples of the spots' differences whose sum is 1 at the unknown that a line chooses, and 0 at
+/// the other chosen ones.
 fn unit_multiples(
     alloc: Global,
     count: usize,
@@ -403,7 +416,8 @@ fn unit_multiples(
     requires unknown { unknown < length line.now }
     requires wide { count + length scales.now ≤ length line.now }
     requires positive { pos 0 <ℤ entry line.now unknown }
-    ensures exact { Gives cause (λ made. made) result (multiples_from line.now (entry line.now unknown) count scales.now) }
+    ensures exact { Gives cause (λ made. made) result
+        (multiples_from line.now (entry line.now unknown) count scales.now) }
     ensures refusal { IfErr result IsRefusal }
 {
     let mut made = Items::new(alloc);
@@ -436,7 +450,8 @@ fn with_unit(
     requires scales { HasSmallScales count known.now }
     requires before { AreUnitLists count known.now (chosen_below known.now.tableau unknown) made }
     requires unknown { unknown < count }
-    ensures lists { IfOk result (AreUnitLists count known.now (chosen_below known.now.tableau (unknown + 1))) }
+    ensures lists { IfOk result
+        (AreUnitLists count known.now (chosen_below known.now.tableau (unknown + 1))) }
     ensures refusal { IfErr result (IsRefusalUnder count known.now.lines) }
 {
     let mut made = made;
@@ -459,7 +474,8 @@ pub(crate) fn unit_lists(
 ) -> Result<Items<Items<Ratio>>, Stop>
     requires known { AreSpots count known.now }
     requires scales { HasSmallScales count known.now }
-    ensures lists { IfOk result (AreUnitLists count known.now (chosen_below known.now.tableau count)) }
+    ensures lists { IfOk result
+        (AreUnitLists count known.now (chosen_below known.now.tableau count)) }
     ensures refusal { IfErr result (IsRefusalUnder count known.now.lines) }
 {
     let mut made = Items::new(alloc);

@@ -33,8 +33,8 @@ use linear_terms::{Mono, Poly};
 use std::alloc::{AllocError, Global};
 use whole_numbers::Wide;
 
-/// Spots, and the relations of the unknowns before `next` that no spot refutes, each tied in all cases. There were `start`
-/// spots when the unknowns began to have their turns.
+/// Spots, and the relations of the unknowns before `next` that no spot refutes, each tied in all
+/// cases. There were `start` spots when the unknowns began to have their turns.
 #[derive(Drop)]
 pub(crate) struct Known {
     pub(crate) next: usize,
@@ -43,7 +43,8 @@ pub(crate) struct Known {
     pub(crate) spots: Spots,
 }
 
-/// What a relation's test in all cases comes to: it is tied in each, or its difference is not 0 at a point of one.
+/// What a relation's test in all cases comes to: it is tied in each, or its difference is not 0 at
+/// a point of one.
 #[derive(Drop)]
 pub(crate) enum Verdict {
     Tied(Items<Tie>),
@@ -58,10 +59,11 @@ pub(crate) enum Course {
     End(Answer),
 }
 
-/// Answers which relations between the terms and the lower terms are true at each point of each case: the reduced
-/// basis, with what ties each of its relations to 0 in each case, and spots that show that there are no others. The
-/// answer passes the test of its question; it is `Pivots` only where a case has no points, or more choices of columns
-/// than turns, and names a product or sum that leaves 128 bits only where the question is not calm.
+/// Answers which relations between the terms and the lower terms are true at each point of each
+/// case: the reduced basis, with what ties each of its relations to 0 in each case, and spots that
+/// show that there are no others. The answer passes the test of its question; it is `Pivots` only
+/// where a case has no points, or more choices of columns than turns, and names a product or sum
+/// that leaves 128 bits only where the question is not calm.
 pub fn stratum(alloc: Global, asked: &Stratum) -> Result<Answer, AllocError>
     ensures passes { IfOk result (λ a. Passes (question.Stratum asked.now) a) }
     ensures tight { IfOk result (λ a. (IsLimit a → ⊥) → IsTight (question.Stratum asked.now) a) }
@@ -98,7 +100,8 @@ fn step_of_strata(asked: &Stratum, step: &Wide) -> Answer
 /// The answer where it passes its test, and else the first step of the test that leaves 128 bits.
 fn tested_basis(asked: &Stratum, found: Answer) -> Answer
     requires canonical { IsCanonicalStratum asked.now.cases asked.now.lower }
-    requires found { IsFoundOver (stratum_columns asked.now.cases asked.now.lower) (2 ^ 127 - 1) asked.now.cases asked.now.lower found }
+    requires found { IsFoundOver (stratum_columns asked.now.cases asked.now.lower) (2 ^ 127 - 1)
+        asked.now.cases asked.now.lower found }
     requires small { IsSmallWhereCalm asked.now found }
     ensures { IsStratumAnswer asked.now result }
 {
@@ -128,7 +131,9 @@ fn row_count(case: &Change)
 fn searched_strata(alloc: Global, asked: &Stratum, budget: u128) -> Result<Answer, Stop>
     requires turns { 2 ^ 124 ≤ budget }
     requires canonical { IsCanonicalStratum asked.now.cases asked.now.lower }
-    ensures found { IfOk result (λ a. IsFoundOver (stratum_columns asked.now.cases asked.now.lower) budget asked.now.cases asked.now.lower a) }
+    ensures found { IfOk result
+        (λ a. IsFoundOver (stratum_columns asked.now.cases asked.now.lower) budget asked.now.cases
+        asked.now.lower a) }
     ensures small { IfOk result (IsSmallWhereCalm asked.now) }
     ensures refusal { IfErr result IsRefusal }
     ensures calm { IsCalm (question.Stratum asked.now) → IfErr result IsMemory }
@@ -168,7 +173,8 @@ fn basis_over(
     ensures found { IfOk result (IsFoundOver columns.now budget cases.now lower.now) }
     ensures small { IfOk result (IsSmallOver columns.now cases.now lower.now) }
     ensures refusal { IfErr result IsRefusal }
-    ensures calm { length cases.now ≤ 4294967296 → IsCalmStratum columns.now cases.now lower.now → IfErr result IsMemory }
+    ensures calm { length cases.now ≤ 4294967296 → IsCalmStratum columns.now cases.now lower.now
+        → IfErr result IsMemory }
 {
     let strata = Strata {
         cases,
@@ -181,8 +187,8 @@ fn basis_over(
     basis_of(alloc, &strata)
 }
 
-/// The basis that the search comes to. There are no more spots than unknowns, and the unknowns have their turns anew only
-/// after a spot more, so the search ends before its turns are used up.
+/// The basis that the search comes to. There are no more spots than unknowns, and the unknowns have
+/// their turns anew only after a spot more, so the search ends before its turns are used up.
 fn basis_of(alloc: Global, strata: &Strata<'_>) -> Result<Answer, Stop>
     requires count { strata.now.count ≡ strata.now.terms + length strata.now.lower.now + 1 }
     requires few { strata.now.count < 2 ^ 61 }
@@ -212,7 +218,8 @@ fn basis_with(alloc: Global, strata: &Strata<'_>, known: Known) -> Result<Answer
     requires asked { IsAsked strata.now }
     requires count { strata.now.count ≡ strata.now.terms + length strata.now.lower.now + 1 }
     requires few { strata.now.count < 2 ^ 61 }
-    requires all { AreRelations strata.now.count known.spots.tableau strata.now.count (map numbers_of known.relations) }
+    requires all { AreRelations strata.now.count known.spots.tableau strata.now.count
+        (map numbers_of known.relations) }
     requires known { AreKnown strata.now known }
     ensures found { IfOk result (IsFoundIn strata.now) }
     ensures small { IfOk result (IsSmallIn strata.now) }
@@ -313,7 +320,8 @@ fn relation_added(
     requires free { IsUnchosen known.spots.tableau known.next }
     requires numbers { length numbers.now ≡ strata.now.count }
     requires relation { IsRelationOf strata.now.count known.spots.tableau known.next numbers.now }
-    requires tied { AreTies strata.now.columns.now strata.now.lower.now numbers.now strata.now.cases.now (length strata.now.cases.now) ties }
+    requires tied { AreTies strata.now.columns.now strata.now.lower.now numbers.now
+        strata.now.cases.now (length strata.now.cases.now) ties }
     requires small { HasSmallTies strata.now ties }
     ensures course { IfOk result (CourseAt strata.now known) }
     ensures small { IfOk result (HasSmallEnd strata.now) }
@@ -323,7 +331,8 @@ fn relation_added(
     Ok(Course::On(more))
 }
 
-/// The basis, where the relations are those of all spots; else the unknowns have their turns once more.
+/// The basis, where the relations are those of all spots; else the unknowns have their turns once
+/// more.
 fn end_of(alloc: Global, strata: &Strata<'_>, known: Known) -> Result<Course, Stop>
     requires next { strata.now.count ≤ known.next }
     requires asked { IsAsked strata.now }
@@ -347,14 +356,18 @@ fn end_of(alloc: Global, strata: &Strata<'_>, known: Known) -> Result<Course, St
     }))
 }
 
-/// Whether the relations are those of all spots. They are where no spot came while the unknowns had their turns.
+/// Whether the relations are those of all spots. They are where no spot came while the unknowns had
+/// their turns.
 fn is_settled(alloc: Global, strata: &Strata<'_>, known: &Known) -> Result<bool, Stop>
     requires asked { IsAsked strata.now }
     requires count { strata.now.count ≡ strata.now.terms + length strata.now.lower.now + 1 }
     requires known { AreKnown strata.now known.now }
     requires next { strata.now.count ≤ known.now.next }
-    ensures all { IfOk result (λ settled. IsTrue settled → AreRelations strata.now.count known.now.spots.tableau strata.now.count (map numbers_of known.now.relations)) }
-    ensures more { IfOk result (λ settled. settled ≡ false → known.now.start ≡ length known.now.spots.lines → ⊥) }
+    ensures all { IfOk result (λ settled. IsTrue settled
+        → AreRelations strata.now.count known.now.spots.tableau strata.now.count
+        (map numbers_of known.now.relations)) }
+    ensures more { IfOk result (λ settled. settled ≡ false
+        → known.now.start ≡ length known.now.spots.lines → ⊥) }
     ensures refusal { IfErr result (IsRefusalOf strata.now) }
 {
     if known.start == known.spots.lines.len() {
@@ -366,7 +379,8 @@ fn is_settled(alloc: Global, strata: &Strata<'_>, known: &Known) -> Result<bool,
 /// Whether the relations are those of all spots.
 fn has_last_relations(alloc: Global, count: usize, known: &Known) -> Result<bool, Stop>
     requires known { AreSpots count known.now.spots }
-    ensures all { IfOk result (λ same. IsTrue same → AreRelations count known.now.spots.tableau count (map numbers_of known.now.relations)) }
+    ensures all { IfOk result (λ same. IsTrue same
+        → AreRelations count known.now.spots.tableau count (map numbers_of known.now.relations)) }
     ensures refusal { IfErr result (IsRefusalUnder count known.now.spots.lines) }
 {
     let last = relations_of(alloc, count, &known.spots)?;
@@ -464,7 +478,8 @@ fn spot_added(
     requires next { known.next < strata.now.count }
     requires free { IsUnchosen known.spots.tableau known.next }
     requires point { IsPointAt strata.now.columns.now strata.now.cases.now place at }
-    requires apart { IsNewPoint strata.now.columns.now at (terms_of strata.now.cases.now place) strata.now.lower.now strata.now.count known.spots.lines }
+    requires apart { IsNewPoint strata.now.columns.now at (terms_of strata.now.cases.now place)
+        strata.now.lower.now strata.now.count known.spots.lines }
     ensures course { IfOk result (CourseAt strata.now known) }
     ensures small { IfOk result (HasSmallEnd strata.now) }
     ensures refusal { IfErr result (IsRefusalOf strata.now) }
@@ -508,7 +523,8 @@ fn verdict_of(alloc: Global, strata: &Strata<'_>, numbers: &[i128]) -> Result<Ve
     Ok(Verdict::Tied(ties))
 }
 
-/// The relation of numbers: first those of the terms, then those of the lower terms, and last that of 1.
+/// The relation of numbers: first those of the terms, then those of the lower terms, and last that
+/// of 1.
 fn relation_with(
     alloc: Global,
     strata: &Strata<'_>,
@@ -516,7 +532,9 @@ fn relation_with(
     ties: Items<Tie>,
 ) -> Result<Relation, AllocError>
     requires { length numbers.now ≡ strata.now.terms + length strata.now.lower.now + 1 }
-    ensures { IfOk result (λ made. IsRelationWith strata.now.terms (length strata.now.lower.now) numbers.now ties made) }
+    ensures { IfOk result
+        (λ made. IsRelationWith strata.now.terms (length strata.now.lower.now) numbers.now ties
+        made) }
 {
     let (first, rest) = numbers.split_at(strata.terms);
     let (second, _last) = rest.split_at(strata.lower.len());

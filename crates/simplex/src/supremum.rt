@@ -38,11 +38,11 @@ pub enum Supremum {
     Empty,
     /// There are more choices of columns than turns, and these are used up.
     Pivots,
-    /// The objective is bounded: a certificate that it gets no greater than its sum over its scale, and the corner
-    /// that reaches this, a number for each column of the case.
+    /// The objective is bounded: a certificate that it gets no greater than its sum over its scale,
+    /// and the corner that reaches this, a number for each column of the case.
     Bound(Cert, Items<Ratio>),
-    /// The objective grows without end: a corner of the rows and a ray from it, a number each for each column of the
-    /// case.
+    /// The objective grows without end: a corner of the rows and a ray from it, a number each for
+    /// each column of the case.
     Unbounded(Items<Ratio>, Items<Ratio>),
 }
 
@@ -66,9 +66,9 @@ pub(crate) fn with_goal(
     Ok(made)
 }
 
-/// What a case of a supremum question comes to, with no more turns a raise than the budget. It is an error where a
-/// product or a sum of the search leaves 128 bits, which comes only where the tableaux of the case are not small, and
-/// for want of memory.
+/// What a case of a supremum question comes to, with no more turns a raise than the budget. It is
+/// an error where a product or a sum of the search leaves 128 bits, which comes only where the
+/// tableaux of the case are not small, and for want of memory.
 pub fn supremum_of(alloc: Global, goal: &Goal, budget: u128) -> Result<Supremum, Stop>
     ensures supremum { IfOk result (λ found. IsSupremumOf goal.now budget found) }
     ensures refusal { IfErr result (IsRefusalIn (goal_frame goal.now) (length goal.now.rows + 1)) }
@@ -86,8 +86,10 @@ pub(crate) fn supremum_over(
     objective: &Poly,
     budget: u128,
 ) -> Result<Supremum, Stop>
-    ensures supremum { IfOk result (λ found. IsSupremumOver columns.now rows.now objective.now budget found) }
-    ensures refusal { IfErr result (IsRefusalIn (frame_over columns.now rows.now objective.now) (length rows.now + 1)) }
+    ensures supremum { IfOk result
+        (λ found. IsSupremumOver columns.now rows.now objective.now budget found) }
+    ensures refusal { IfErr result
+        (IsRefusalIn (frame_over columns.now rows.now objective.now) (length rows.now + 1)) }
 {
     let all = with_goal(alloc, rows, objective)?;
     let kinds = kinds_of(alloc, all.as_slice())?;
@@ -167,7 +169,8 @@ pub(crate) fn bound_of(
     requires primitive { ArePrimitive t.now }
     requires units { over.units ≡ constants + 1 }
     requires goal { goal < length t.now.lines }
-    ensures cert { IfOk result (λ r. certificate_of constants goal (get_or t.now.lines goal []) ≡ Ok r.0) }
+    ensures cert { IfOk result (λ r. certificate_of constants goal (get_or t.now.lines goal [])
+        ≡ Ok r.0) }
     ensures point { IfOk result (λ r. IsCornerOf t.now constants constants r.1) }
     ensures refusal { IfErr result (IsRefusalIn over (length t.now.lines)) }
 {
@@ -197,7 +200,8 @@ pub(crate) fn point_and_ray(
     Ok((point, ray))
 }
 
-/// The objective's line as a certificate: its multipliers are minus its numbers at the slacks of the rows.
+/// The objective's line as a certificate: its multipliers are minus its numbers at the slacks of
+/// the rows.
 fn certificate(alloc: Global, line: &[i128], constants: usize, goal: usize) -> Result<Cert, Stop>
     requires { constants + 1 + goal < length line.now }
     ensures exact { Gives cause (λ cert. cert) result (certificate_of constants goal line.now) }

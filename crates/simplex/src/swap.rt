@@ -21,7 +21,9 @@ fn goal_line(
     objective: &Poly,
 ) -> Result<Items<i128>, AllocError>
     requires { length columns.now + 1 + (count + 1) < 2 ^ 64 }
-    ensures { IfOk result (λ line. line ≡ whole_line columns.now (count + 1) count (record { poly = objective.now; kind = AtMost })) }
+    ensures { IfOk result
+        (λ line. line ≡ whole_line columns.now (count + 1) count
+        (record { poly = objective.now; kind = AtMost })) }
 {
     let poly = objective.clone()?;
     let row = Row {
@@ -69,7 +71,9 @@ pub(crate) fn turned(
     objective: &Poly,
 ) -> Result<Option<Stage>, AllocError>
     requires stands { StandsAt columns.now rows.now stage.enters stage.tableau }
-    ensures met { IfOk result (λ found. IfSome found (λ s. IsMetFor columns.now rows.now objective.now s.enters s.tableau)) }
+    ensures met { IfOk result
+        (λ found. IfSome found
+        (λ s. IsMetFor columns.now rows.now objective.now s.enters s.tableau)) }
 {
     let own = goal_line(alloc, columns, rows.len(), objective)?;
     let Stage { tableau, enters } = stage;

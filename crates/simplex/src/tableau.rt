@@ -11,8 +11,8 @@ use items::Items;
 use std::alloc::{AllocError, Global};
 use whole_numbers::{Wide, gcd, quotient};
 
-/// A chosen column for each line. A line's numbers are whole and have no common divisor but 1; the one at its
-/// own chosen column is positive and stands for its denominator.
+/// A chosen column for each line. A line's numbers are whole and have no common divisor but 1; the
+/// one at its own chosen column is positive and stands for its denominator.
 #[derive(Drop)]
 pub struct Tableau {
     pub lines: Items<Items<i128>>,
@@ -20,8 +20,8 @@ pub struct Tableau {
 }
 
 impl Tableau {
-    /// Chooses the column in the line in place of the one that is chosen there: a tableau of a frame becomes
-    /// one of the same frame. A step that leaves 128 bits stops it.
+    /// Chooses the column in the line in place of the one that is chosen there: a tableau of a
+    /// frame becomes one of the same frame. A step that leaves 128 bits stops it.
     pub fn exchange(self, alloc: Global, line: usize, column: usize) -> Result<Tableau, Stop>
         ghost columns: { ℕ }
         requires shape { HasShape columns self }
@@ -67,7 +67,8 @@ fn other_lines(
 ) -> Result<Items<Items<i128>>, Stop>
     requires column { column < length pivot.now }
     requires wide { (i : ℕ) → i < length lines → length (get_or lines i []) ≡ length pivot.now }
-    ensures exact { Gives cause (λ made. made) result (lines_without column pivot.now line 0 lines) }
+    ensures exact { Gives cause (λ made. made) result
+        (lines_without column pivot.now line 0 lines) }
     ensures refusal { IfErr result IsRefusal }
 {
     let mut made = Items::from_vec(Vec::with_capacity(alloc, lines.len())?);
@@ -88,7 +89,8 @@ fn line_without_at(
 ) -> Result<Items<i128>, Stop>
     requires column { column < length own }
     requires same { length pivot.now ≡ length own }
-    ensures exact { Gives cause (λ made. made) result (if here then Ok pivot.now else line_without column pivot.now own) }
+    ensures exact { Gives cause (λ made. made) result
+        (if here then Ok pivot.now else line_without column pivot.now own) }
     ensures refusal { IfErr result IsRefusal }
 {
     if here {
@@ -150,7 +152,8 @@ fn sum_of_lines(
     pivot: &[i128],
 ) -> Result<Items<i128>, Stop>
     requires { length pivot.now ≡ length line.now }
-    ensures exact { Gives cause (λ made. made) result (sum_of_lines p.now line.now q.now pivot.now) }
+    ensures exact { Gives cause (λ made. made) result
+        (sum_of_lines p.now line.now q.now pivot.now) }
     ensures refusal { IfErr result IsRefusal }
 {
     let mut made = Items::from_vec(Vec::with_capacity(alloc, line.len())?);
