@@ -68,6 +68,8 @@ pub mod SummariesMet
 pub mod Refuted
 -- ---- bases
 pub mod Based
+-- ---- what begins with what holds at an exit
+pub mod Exited
 -- ---- groups that nothing tells apart
 pub mod AlikeMembers
 pub mod Alike

@@ -26,6 +26,17 @@ closed_by_rounds program procs known bases =
     kept_candidates program procs known candidates >>= λ kept.
     Done (table_of (ends_of_members program procs) kept)
 
+-- what stands of the candidates of a table, and of those of the closure of one
+unfoldable pub rounds_over : Program → List ℕ → List (Option Transition) → List Transition → Posing (List Transition)
+rounds_over program procs known table =
+    each with_candidate [] (paired_up (ends_of_members program procs) table) >>= λ candidates.
+    kept_candidates program procs known candidates >>= λ kept.
+    Done (table_of (ends_of_members program procs) kept)
+
+unfoldable pub rounds_after : Program → List ℕ → List (Option Transition) → List Transition → List Transition → Posing (List Transition)
+rounds_after program procs known bases table =
+    closure_of program procs known bases table >>= λ second. rounds_over program procs known second
+
 -- the closure of the empty table where the group is linear
 abbrev pub closed_from : Bool → Program → List ℕ → List (Option Transition) → List Transition → Posing (List Transition)
 closed_from true program procs known bases = closure_of program procs known bases []

@@ -178,6 +178,10 @@ closure_of program procs known bases table =
 
 -- ---- the bases
 
+-- what holds at the exit of a procedure, by one evaluation from its entry
+unfoldable pub exit_from : Subject → Posing (Option Transition)
+exit_from s = cells_from s 0 >>= λ cells. Done (formula_at (columns_of s) cells s.exit)
+
 -- what holds of the pairs of activations without a call of the group, by one evaluation from the entry
 unfoldable pub base_of : Program → List (Option Transition) → Proc → Posing Transition
 base_of program known p =

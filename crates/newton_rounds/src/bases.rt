@@ -2,23 +2,26 @@ ghost use Rattle.std.specs.Prelude.{◌≡◌, ◌<◌, [], All, Some, length, s
 ghost use Rattle.syntax_tree.specs.WellFormed.{IsWellFormed};
 ghost use Rattle.syntax_tree.specs.declared.program.Proc.{Proc as Procedure};
 ghost use Rattle.posing.specs.Follows.{Follows};
+ghost use Rattle.posing.specs.Logs.{Adds, loss_notes};
 ghost use Rattle.posing.specs.Posing.{each};
 ghost use Rattle.leaf_cases.specs.Conditions.{AreKnown};
+ghost use Rattle.proc_summary.specs.Claims.{FitsIf};
 ghost use Rattle.newton_rounds.specs.Between.{AddsBase, AreBases, GoesBetween};
 ghost use Rattle.newton_rounds.specs.Closure.{base_of, bases_of, ends_of_members, pair_ends, with_base};
 ghost use Rattle.newton_rounds.specs.Members.{members_of};
+ghost use Rattle.newton_rounds.specs.Pairs.{base_from, lost_in_base};
+ghost use Rattle.newton_rounds.specs.Shapes.{AreEnds};
 
-use crate::ends::pair_ends;
+use crate::ends::{PairEnds, pair_ends};
+use crate::exits::exit_from;
 use crate::pairs::base_from;
-use crate::sides::{columns_of, graph_of};
 use crate::tables::with_table;
 use farkas_check::Oracle;
 use items::Items;
 use posing::{Log, WorkError};
-use proc_summary::{cells, formula_at};
 use std::alloc::Global;
 use syntax_tree::Program;
-use transition_formula::Formula;
+use transition_formula::{Formula, FormulaError};
 
 /// What holds of the pairs of activations without a call of the group, for each of its procedures.
 #[tactic(auto, using(posing::proofs::Following::following), unfolding(crate::specs::Closure::bases_of))]
@@ -84,7 +87,7 @@ fn with_base<O: Oracle>(
 }
 
 /// One evaluation from the entry.
-#[tactic(auto, using(posing::proofs::Following::following), unfolding(crate::specs::Closure::base_of))]
+#[tactic(auto, using(posing::proofs::Following::following))]
 fn base_of<O: Oracle>(
     alloc: Global,
     program: &Program,
@@ -99,13 +102,25 @@ fn base_of<O: Oracle>(
     ensures follows { (p : Procedure) → slice_get program.now.procs proc ≡ Some p → Follows O.asking oracle.old oracle.new log.old log.new result (base_of program.now known.now p) }
     ensures goes { (p : Procedure) → slice_get program.now.procs proc ≡ Some p → IfOk result (GoesBetween 1000 (pair_ends program.now p).pair.columns 0) }
 {
-    let columns = columns_of(program, proc);
-    let graph = graph_of(alloc, program, proc)?;
     let ends = pair_ends(alloc, program, proc)?;
-    let cells = cells(alloc, program, proc, known, 0, oracle, log)?;
-    let exit = formula_at(alloc, columns, cells.as_slice(), graph.nodes - 1)?;
+    let exit = exit_from(alloc, program, proc, known, oracle, log)?;
+    Ok(noted_base(alloc, &ends, &exit, log)?)
+}
+
+/// The same by the formula of the exit; losses are noted.
+fn noted_base(
+    alloc: Global,
+    member: &PairEnds,
+    exit: &Option<Formula>,
+    log: &mut Log,
+) -> Result<Formula, FormulaError>
+    requires ends { AreEnds member.now }
+    requires fits { FitsIf member.now.ends.full.columns exit.now }
+    ensures noted { Adds (loss_notes (lost_in_base member.now exit.now)) log.old log.new result }
+    ensures made { IfOk result (λ base. base ≡ base_from member.now exit.now) }
+{
     let mut lost = Items::new(alloc);
-    let base = base_from(alloc, &ends, &exit, &mut lost)?;
+    let base = base_from(alloc, member, exit, &mut lost)?;
     log.add_losses(alloc, lost.as_slice())?;
     Ok(base)
 }

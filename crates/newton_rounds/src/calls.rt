@@ -26,7 +26,7 @@ pub(crate) struct GroupCall {
 
 /// What holds from a caller's entry to where a call of the group begins, and what holds from where it ends to the caller's
 /// exit.
-#[derive(Debug, Drop)]
+#[derive(Drop)]
 pub(crate) struct Sides {
     pub(crate) before: Option<Formula>,
     pub(crate) after: Option<Formula>,

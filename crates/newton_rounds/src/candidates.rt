@@ -1,7 +1,11 @@
-ghost use Rattle.std.specs.Prelude.{◌≡◌, [], IfOk};
+ghost use Rattle.std.specs.Prelude.{◌≡◌, [], All, length, map, IfOk};
 ghost use Rattle.std.specs.List.{AllByRecursion};
 ghost use Rattle.posing.specs.Follows.{Follows};
-ghost use Rattle.newton_rounds.specs.Candidates.{candidate_formula, candidate_of, table_of};
+ghost use Rattle.posing.specs.Posing.{each};
+ghost use Rattle.polyhedra.specs.Bounds.{IsCovered, IsCoveredByPosts, bounded_after};
+ghost use Rattle.polyhedra.specs.Directions.{directions};
+ghost use Rattle.leaf_cases.specs.Guard.{columns_of};
+ghost use Rattle.newton_rounds.specs.Candidates.{candidate_formula, candidate_of, paired_case, table_of};
 ghost use Rattle.newton_rounds.specs.Between.{AreCandidates, IsMember, IsRowOver, IsSummary};
 ghost use Rattle.newton_rounds.specs.Shapes.{AreEnds};
 
@@ -31,18 +35,40 @@ pub(crate) fn candidate_of<O: Oracle>(
     ensures follows { Follows O.asking oracle.old oracle.new log.old log.new result (candidate_of member.now f.now) }
     ensures over { IfOk result (AllByRecursion (IsRowOver member.now.pair.columns)) }
 {
-    let rows = Items::new(alloc);
     if f.cases().is_empty() {
-        return Ok(rows);
+        return Ok(Items::new(alloc));
     }
+    let cases = paired_cases(alloc, f)?;
+    pair_bounds(alloc, member, cases.as_slice(), oracle, log)
+}
+
+/// The cases of a formula with the entry's columns before the posts.
+fn paired_cases(alloc: Global, f: &Formula) -> Result<Items<Case>, FormulaError>
+    ensures { IfOk result (λ cases. cases ≡ map (paired_case f.now.from) f.now.cases) }
+{
     let front = columns_from(alloc, 0, f.from())?;
-    let cases = fronted_cases(alloc, front.as_slice(), f.cases())?;
+    Ok(fronted_cases(alloc, front.as_slice(), f.cases())?)
+}
+
+/// The bounds of such cases in the directions of a procedure's pairs.
+#[tactic(auto, using(posing::proofs::Following::following))]
+fn pair_bounds<O: Oracle>(
+    alloc: Global,
+    member: &PairEnds,
+    cases: &[Case],
+    oracle: &mut O,
+    log: &mut Log,
+) -> Result<Items<Row>, WorkError>
+    requires posts { All (IsCoveredByPosts cases.now) (directions member.now.pair) }
+    requires rows { All (IsCovered (length (columns_of member.now.pair.columns))) (directions member.now.pair) }
+    ensures { Follows O.asking oracle.old oracle.new log.old log.new result (each (bounded_after cases.now (columns_of member.now.pair.columns)) [] (directions member.now.pair)) }
+{
     let after = columns_from(alloc, 0, member.pair.columns())?;
     let asked = directions(alloc, &member.pair)?;
     bounds_after(
         alloc,
-        rows,
-        cases.as_slice(),
+        Items::new(alloc),
+        cases,
         after.as_slice(),
         asked.as_slice(),
         oracle,

@@ -6,11 +6,11 @@ ghost use Rattle.posing.specs.Posing.{each};
 ghost use Rattle.leaf_cases.specs.Conditions.{AreKnown};
 ghost use Rattle.leaf_cases.specs.Summaries.{AreMet};
 ghost use Rattle.newton_rounds.specs.Claims.{AreKnownMembers, AreMetMembers};
-ghost use Rattle.newton_rounds.specs.Close.{closed_by_rounds, closed_of, paired_up, with_candidate};
+ghost use Rattle.newton_rounds.specs.Close.{closed_by_rounds, closed_of, paired_up, rounds_after, rounds_over, with_candidate};
 ghost use Rattle.newton_rounds.specs.Closure.{ends_of_members};
 ghost use Rattle.newton_rounds.specs.Laws.{KnowsOthers};
 ghost use Rattle.newton_rounds.specs.Members.{IsLinear};
-ghost use Rattle.newton_rounds.specs.Between.{AreBases, AreCandidates, AreSummaries, IsMember, IsSummary};
+ghost use Rattle.newton_rounds.specs.Between.{AreBases, AreCandidates, AreSummaries, FitTable, IsMember, IsSummary};
 
 use crate::bases::bases_of;
 use crate::candidates::{candidate_of, table_of};
@@ -97,8 +97,61 @@ fn closed_by_rounds<O: Oracle>(
     let members = members.as_slice();
     let first = closure_of(alloc, program, procs, known, bases, &[], oracle, log)?;
     let table = first.as_slice();
+    rounds_after(
+        alloc, program, procs, members, known, bases, table, oracle, log,
+    )
+}
+
+/// What stands of the candidates of the closure of a table.
+#[tactic(auto, using(posing::proofs::Following::following), unfolding(crate::specs::Close::rounds_after))]
+fn rounds_after<O: Oracle>(
+    alloc: Global,
+    program: &Program,
+    procs: &[u32],
+    members: &[PairEnds],
+    known: &[Option<Formula>],
+    bases: &[Formula],
+    table: &[Formula],
+    oracle: &mut O,
+    log: &mut Log,
+) -> Result<Items<Formula>, WorkError>
+    requires formed { IsWellFormed program.now }
+    requires there { All (λ proc. proc < length program.now.procs) procs.now }
+    requires few { length procs.now ≤ length program.now.procs }
+    requires members { members.now ≡ ends_of_members program.now procs.now }
+    requires known { AreKnown program.now known.now }
+    requires bases { AreBases (ends_of_members program.now procs.now) bases.now }
+    requires table { FitTable program.now procs.now table.now }
+    ensures follows { Follows O.asking oracle.old oracle.new log.old log.new result (rounds_after program.now procs.now known.now bases.now table.now) }
+    ensures fits { IfOk result (AreSummaries (ends_of_members program.now procs.now)) }
+{
     let second = closure_of(alloc, program, procs, known, bases, table, oracle, log)?;
-    let candidates = candidates_of(alloc, members, second.as_slice(), oracle, log)?;
+    let second = second.as_slice();
+    rounds_over(alloc, program, procs, members, known, second, oracle, log)
+}
+
+/// What stands of the candidates of a table.
+#[tactic(auto, using(posing::proofs::Following::following), unfolding(crate::specs::Close::rounds_over))]
+fn rounds_over<O: Oracle>(
+    alloc: Global,
+    program: &Program,
+    procs: &[u32],
+    members: &[PairEnds],
+    known: &[Option<Formula>],
+    table: &[Formula],
+    oracle: &mut O,
+    log: &mut Log,
+) -> Result<Items<Formula>, WorkError>
+    requires formed { IsWellFormed program.now }
+    requires there { All (λ proc. proc < length program.now.procs) procs.now }
+    requires few { length procs.now ≤ length program.now.procs }
+    requires members { members.now ≡ ends_of_members program.now procs.now }
+    requires known { AreKnown program.now known.now }
+    requires table { AreSummaries members.now table.now }
+    ensures follows { Follows O.asking oracle.old oracle.new log.old log.new result (rounds_over program.now procs.now known.now table.now) }
+    ensures fits { IfOk result (AreSummaries (ends_of_members program.now procs.now)) }
+{
+    let candidates = candidates_of(alloc, members, table, oracle, log)?;
     let kept = kept_candidates(alloc, program, procs, known, candidates, oracle, log)?;
     Ok(table_of(alloc, members, kept.as_slice())?)
 }

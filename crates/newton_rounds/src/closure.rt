@@ -1,15 +1,16 @@
-ghost use Rattle.std.specs.Prelude.{◌≡◌, ◌<◌, ◌≤◌, ◌++◌, [], All, length, map, IfOk, OnOk};
+ghost use Rattle.std.specs.Prelude.{◌≡◌, ◌<◌, ◌≤◌, ◌++◌, ◌^◌, [], All, length, map, IfOk, OnOk};
 ghost use Rattle.std.specs.List.{flat_map, range_with_len};
 ghost use Rattle.path_expr.specs.declared.link.Link.{Link as PlainLink};
 ghost use Rattle.syntax_tree.specs.WellFormed.{IsWellFormed};
 ghost use Rattle.posing.specs.Follows.{Follows};
-ghost use Rattle.posing.specs.Logs.{loss_notes};
+ghost use Rattle.posing.specs.Logs.{Adds, loss_notes};
 ghost use Rattle.posing.specs.Posing.{Noted, each};
 ghost use Rattle.leaf_cases.specs.Conditions.{AreKnown};
 ghost use Rattle.checked_tree.specs.Evaluation.{evaluated};
-ghost use Rattle.newton_rounds.specs.Closure.{closed_member, closure_of, ends_of_members, group_graph, group_leaf, group_link, lost_in_group_leaf, stretches_with, with_closed};
+ghost use Rattle.newton_rounds.specs.Closure.{closed_member, closure_of, ends_of_members, group_graph, group_leaf, group_link, lost_in_group_leaf, sides_of, stretches_with, with_closed};
 ghost use Rattle.newton_rounds.specs.Between.{AreBases, AreChainsFrom, AreSummaries, FitTable, IsGroup};
-ghost use Rattle.newton_rounds.specs.Shapes.{plain_call};
+ghost use Rattle.newton_rounds.specs.Members.{calls_from, members_of, with_table};
+ghost use Rattle.newton_rounds.specs.Shapes.{FitCalls, plain_call};
 
 use crate::calls::{GroupCall, Sides};
 use crate::chains::closed_by;
@@ -50,9 +51,8 @@ pub(crate) fn closure_of<O: Oracle>(
     ensures fits { IfOk result (AreSummaries (ends_of_members program.now procs.now)) }
 {
     let members = ends_of_members(alloc, program, procs)?;
-    let all = with_table(alloc, procs, table, known)?;
     let calls = calls_from(alloc, program, procs)?;
-    let sides = sides_of(alloc, program, procs, all.as_slice(), oracle, log)?;
+    let sides = sides_by(alloc, program, procs, known, table, oracle, log)?;
     let calls = calls.as_slice();
     closed(
         alloc,
@@ -63,6 +63,29 @@ pub(crate) fn closure_of<O: Oracle>(
         oracle,
         log,
     )
+}
+
+/// Both sides of all calls, where the group's calls on the way are read by the table.
+#[tactic(auto, using(posing::proofs::Following::following))]
+fn sides_by<O: Oracle>(
+    alloc: Global,
+    program: &Program,
+    procs: &[u32],
+    known: &[Option<Formula>],
+    table: &[Formula],
+    oracle: &mut O,
+    log: &mut Log,
+) -> Result<Items<Sides>, WorkError>
+    requires formed { IsWellFormed program.now }
+    requires there { All (λ proc. proc < length program.now.procs) procs.now }
+    requires few { length procs.now < 2 ^ 32 }
+    requires known { AreKnown program.now known.now }
+    requires table { FitTable program.now procs.now table.now }
+    ensures follows { Follows O.asking oracle.old oracle.new log.old log.new result (sides_of program.now procs.now (with_table procs.now table.now known.now)) }
+    ensures fits { IfOk result (FitCalls (ends_of_members program.now procs.now) (calls_from procs.now 0 (members_of program.now procs.now))) }
+{
+    let all = with_table(alloc, procs, table, known)?;
+    sides_of(alloc, program, procs, all.as_slice(), oracle, log)
 }
 
 /// The formula of each procedure, by the graph of the group's calls.
@@ -153,11 +176,9 @@ fn group_cells<O: Oracle>(
     ensures follows { Follows O.asking oracle.old oracle.new log.old log.new result (Noted (loss_notes (flat_map (lost_in_group_leaf members.now) (stretches_with (map plain_call calls.now) sides.now))) (evaluated (group_graph members.now (stretches_with (map plain_call calls.now) sides.now)) place)) }
     ensures lead { IfOk result (AreChainsFrom members.now place) }
 {
-    let mut lost = Items::new(alloc);
     let links = links_of(alloc, calls)?;
-    let leaves = leaves_of(alloc, members, calls, sides, &mut lost)?;
     let nodes = pairs_of(alloc, members)?;
-    log.add_losses(alloc, lost.as_slice())?;
+    let leaves = noted_leaves(alloc, members, calls, sides, log)?;
     evaluate_formulas(
         alloc,
         links.as_slice(),
@@ -180,6 +201,25 @@ fn links_of(alloc: Global, calls: &[GroupCall]) -> Result<Items<Link>, AllocErro
         })?;
     }
     Ok(links)
+}
+
+/// The formulas of the calls; losses are noted.
+fn noted_leaves(
+    alloc: Global,
+    members: &[PairEnds],
+    calls: &[GroupCall],
+    sides: &[Sides],
+    log: &mut Log,
+) -> Result<Items<Formula>, FormulaError>
+    requires each { length calls.now ≡ length sides.now }
+    requires group { IsGroup members.now (stretches_with (map plain_call calls.now) sides.now) }
+    ensures noted { Adds (loss_notes (flat_map (lost_in_group_leaf members.now) (stretches_with (map plain_call calls.now) sides.now))) log.old log.new result }
+    ensures made { IfOk result (λ leaves. leaves ≡ map (group_leaf members.now) (stretches_with (map plain_call calls.now) sides.now)) }
+{
+    let mut lost = Items::new(alloc);
+    let leaves = leaves_of(alloc, members, calls, sides, &mut lost)?;
+    log.add_losses(alloc, lost.as_slice())?;
+    Ok(leaves)
 }
 
 fn leaves_of(

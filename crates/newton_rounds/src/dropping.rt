@@ -8,7 +8,7 @@ use posing::{Note, Witness};
 use std::alloc::{AllocError, Global};
 
 /// A row of a candidate with what refutes it.
-#[derive(Debug, Drop)]
+#[derive(Drop)]
 pub(crate) struct Judged {
     pub(crate) row: Row,
     pub(crate) by: Option<Witness>,

@@ -15,7 +15,7 @@ use vocabularies::{entry, full, pair};
 
 /// How many of a procedure's columns are globals, whether it returns a value, and the vocabularies of its states, of its entry,
 /// of its exit, and of pairs of both.
-#[derive(Debug, Drop)]
+#[derive(Drop)]
 pub(crate) struct PairEnds {
     pub(crate) globals: u32,
     pub(crate) returns: bool,

@@ -3,7 +3,7 @@ use items::Items;
 use posing::Witness;
 
 /// What was found so far against a row: the first point, and the limits of questions.
-#[derive(Debug, Drop)]
+#[derive(Drop)]
 pub(crate) struct Findings {
     pub(crate) point: Option<Witness>,
     pub(crate) limits: Items<Limit>,

@@ -9,6 +9,7 @@ mod closing;
 mod closure;
 mod dropping;
 mod ends;
+mod exits;
 mod findings;
 mod laws;
 mod linear;

@@ -1,30 +1,31 @@
-ghost use Rattle.std.specs.Prelude.{◌≡◌, ◌<◌, ◌≤◌, ◌+◌, [], All, Some, length, slice_get, IfOk};
-ghost use Rattle.std.specs.List.{AllByRecursion};
+ghost use Rattle.std.specs.Prelude.{◌≡◌, ◌<◌, ◌≤◌, ◌+◌, ◌^◌, [], All, Some, length, map, slice_get, IfOk};
+ghost use Rattle.std.specs.List.{AllByRecursion, filter_map};
 ghost use Rattle.syntax_tree.specs.WellFormed.{IsWellFormed};
 ghost use Rattle.syntax_tree.specs.declared.program.Proc.{Proc as Procedure};
 ghost use Rattle.posing.specs.Follows.{Follows};
+ghost use Rattle.posing.specs.Logs.{Adds};
 ghost use Rattle.posing.specs.Posing.{each};
 ghost use Rattle.leaf_cases.specs.Conditions.{AreKnown, IsKnown};
-ghost use Rattle.newton_rounds.specs.Candidates.{kept_candidates, members_with, round, unfolded, with_judged, with_round};
+ghost use Rattle.newton_rounds.specs.Candidates.{dropped_notes, kept_candidates, kept_row, members_with, round, some_note, table_of, unfolded, with_judged, with_round};
 ghost use Rattle.newton_rounds.specs.Closure.{ends_of_members, pair_ends};
-ghost use Rattle.newton_rounds.specs.Members.{members_of};
-ghost use Rattle.newton_rounds.specs.Between.{AreCandidates, IsFewer, IsRowOver};
+ghost use Rattle.newton_rounds.specs.Members.{members_of, with_table};
+ghost use Rattle.newton_rounds.specs.Between.{AreCandidates, IsFewer, IsMember, IsRowOver};
 ghost use Rattle.newton_rounds.specs.Shapes.{IsRefutable};
 
 use crate::candidates::table_of;
 use crate::dropping::{Judged, dropped_notes, kept_rows};
 use crate::ends::{PairEnds, ends_of_members};
+use crate::exits::exit_from;
 use crate::refuting::refuted;
-use crate::sides::{columns_of, graph_of};
 use crate::tables::with_table;
 use farkas_check::Oracle;
 use items::Items;
 use linear_terms::Row;
 use posing::{Log, WorkError};
-use proc_summary::{cells, exit_summary, formula_at};
-use std::alloc::Global;
+use proc_summary::exit_summary;
+use std::alloc::{AllocError, Global};
 use syntax_tree::Program;
-use transition_formula::Formula;
+use transition_formula::{Formula, FormulaError};
 
 /// Rounds until none drops a row.
 pub(crate) fn kept_candidates<O: Oracle>(
@@ -86,20 +87,42 @@ fn round<O: Oracle>(
     ensures over { IfOk result (λ next. AreCandidates members.now next.0) }
     ensures fewer { IfOk result (λ next. IsFewer candidates.now next) }
 {
+    let all = known_with(alloc, procs, members, known, candidates)?;
+    let all = all.as_slice();
+    let judged = judged_in(alloc, program, procs, all, candidates, oracle, log)?;
+    Ok(rows_left(alloc, judged.as_slice(), log)?)
+}
+
+/// The known formulas, with those of the candidates.
+fn known_with(
+    alloc: Global,
+    procs: &[u32],
+    members: &[PairEnds],
+    known: &[Option<Formula>],
+    candidates: &[Items<Row>],
+) -> Result<Items<Option<Formula>>, FormulaError>
+    requires procs { All (λ proc. proc < length known.now) procs.now }
+    requires members { AllByRecursion IsMember members.now }
+    requires candidates { AreCandidates members.now candidates.now }
+    ensures { IfOk result (λ all. all ≡ with_table procs.now (table_of members.now candidates.now) known.now) }
+{
     let table = table_of(alloc, members, candidates)?;
-    let all = with_table(alloc, procs, table.as_slice(), known)?;
-    let judged = judged_in(
-        alloc,
-        program,
-        procs,
-        all.as_slice(),
-        candidates,
-        oracle,
-        log,
-    )?;
-    let notes = dropped_notes(alloc, judged.as_slice())?;
+    Ok(with_table(alloc, procs, table.as_slice(), known)?)
+}
+
+/// The rows that are left, and whether any was dropped; each that was is noted.
+fn rows_left(
+    alloc: Global,
+    judged: &[Items<Judged>],
+    log: &mut Log,
+) -> Result<(Items<Items<Row>>, bool), AllocError>
+    requires { length judged.now < 2 ^ 32 }
+    ensures noted { Adds (dropped_notes judged.now) log.old log.new result }
+    ensures exact { IfOk result (λ left. left ≡ (map (filter_map kept_row) judged.now, some_note (dropped_notes judged.now))) }
+{
+    let notes = dropped_notes(alloc, judged)?;
     let dropped = !notes.is_empty();
-    let kept = kept_rows(alloc, judged.as_slice())?;
+    let kept = kept_rows(alloc, judged)?;
     log.add_notes(notes)?;
     Ok((kept, dropped))
 }
@@ -193,7 +216,7 @@ fn with_judged<O: Oracle>(
 }
 
 /// The formula of a procedure as of one that is not recursive, where calls of the group are read by the candidates.
-#[tactic(auto, using(posing::proofs::Following::following), unfolding(crate::specs::Candidates::unfolded))]
+#[tactic(auto, using(posing::proofs::Following::following))]
 fn unfolded<O: Oracle>(
     alloc: Global,
     program: &Program,
@@ -208,9 +231,6 @@ fn unfolded<O: Oracle>(
     ensures follows { (p : Procedure) → slice_get program.now.procs proc ≡ Some p → Follows O.asking oracle.old oracle.new log.old log.new result (unfolded program.now known.now p) }
     ensures known { (p : Procedure) → slice_get program.now.procs proc ≡ Some p → IfOk result (IsKnown program.now p) }
 {
-    let columns = columns_of(program, proc);
-    let graph = graph_of(alloc, program, proc)?;
-    let cells = cells(alloc, program, proc, known, 0, oracle, log)?;
-    let exit = formula_at(alloc, columns, cells.as_slice(), graph.nodes - 1)?;
+    let exit = exit_from(alloc, program, proc, known, oracle, log)?;
     exit_summary(alloc, program, proc, &exit, oracle, log)
 }

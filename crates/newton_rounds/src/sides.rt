@@ -89,9 +89,7 @@ fn with_member<O: Oracle>(
     ensures fits { (p : Procedure) → slice_get program.now.procs (slice_index procs.now place) ≡ Some p → IfOk result (AddSides (width_of program.now p) (length (calls_of procs.now place p)) made) }
 {
     let proc = procs[place as usize];
-    let graph = graph_of(alloc, program, proc)?;
-    let calls = calls_of(alloc, graph.edges.as_slice(), procs, place)?;
-    let exit = graph.nodes - 1;
+    let (exit, calls) = member_calls(alloc, program, procs, place)?;
     let starts = cells(alloc, program, proc, known, 0, oracle, log)?;
     let starts = starts.as_slice();
     with_all_sides(
@@ -106,6 +104,25 @@ fn with_member<O: Oracle>(
         oracle,
         log,
     )
+}
+
+/// The exit of the procedure at a place, and its calls of the group.
+fn member_calls(
+    alloc: Global,
+    program: &Program,
+    procs: &[u32],
+    place: u32,
+) -> Result<(u32, Items<GroupCall>), AllocError>
+    requires formed { IsWellFormed program.now }
+    requires there { All (λ proc. proc < length program.now.procs) procs.now }
+    requires few { length procs.now < 2 ^ 32 }
+    requires place { place < length procs.now }
+    ensures nodes { (p : Procedure) → slice_get program.now.procs (slice_index procs.now place) ≡ Some p → IfOk result (λ found. HasNodes p found.0 found.1) }
+    ensures made { (p : Procedure) → slice_get program.now.procs (slice_index procs.now place) ≡ Some p → IfOk result (λ found. map plain_call found.1 ≡ calls_of procs.now place p) }
+{
+    let graph = graph_of(alloc, program, procs[place as usize])?;
+    let calls = calls_of(alloc, graph.edges.as_slice(), procs, place)?;
+    Ok((graph.nodes - 1, calls))
 }
 
 /// The flow graph of a procedure.

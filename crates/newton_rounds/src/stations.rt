@@ -46,23 +46,37 @@ pub(crate) fn fronted_cases(
 {
     let mut made = Items::new(alloc);
     for case in cases {
-        made.push(fronted_case(alloc, front, case)?)?;
+        made.push(posted_case(alloc, case, front, case.post.as_slice())?)?;
     }
     Ok(made)
 }
 
-fn fronted_case(alloc: Global, front: &[Poly], case: &Case) -> Result<Case, AllocError>
-    ensures { IfOk result (λ c. c ≡ with_posts (front.now ++ case.now.post) case.now) }
+/// A case with these posts, and others behind them.
+fn posted_case(
+    alloc: Global,
+    case: &Case,
+    first: &[Poly],
+    more: &[Poly],
+) -> Result<Case, AllocError>
+    ensures { IfOk result (λ c. c ≡ with_posts (first.now ++ more.now) case.now) }
 {
     let rows = case.rows.clone()?;
-    let mut post = Items::new(alloc);
-    add_copies(front, &mut post)?;
-    add_copies(case.post.as_slice(), &mut post)?;
+    let post = joined_copies(alloc, first, more)?;
     Ok(Case {
         aux: case.aux,
         rows,
         post,
     })
+}
+
+/// Copies of these, and of others behind them.
+fn joined_copies(alloc: Global, first: &[Poly], more: &[Poly]) -> Result<Items<Poly>, AllocError>
+    ensures { IfOk result (λ made. made ≡ first.now ++ more.now) }
+{
+    let mut made = Items::new(alloc);
+    add_copies(first, &mut made)?;
+    add_copies(more, &mut made)?;
+    Ok(made)
 }
 
 /// A formula between the caller's columns, with so many columns behind them that stay as they are.
@@ -86,21 +100,7 @@ fn carrying_cases(alloc: Global, back: &[Poly], cases: &[Case]) -> Result<Items<
 {
     let mut made = Items::new(alloc);
     for case in cases {
-        made.push(carrying_case(alloc, back, case)?)?;
+        made.push(posted_case(alloc, case, case.post.as_slice(), back)?)?;
     }
     Ok(made)
-}
-
-fn carrying_case(alloc: Global, back: &[Poly], case: &Case) -> Result<Case, AllocError>
-    ensures { IfOk result (λ c. c ≡ with_posts (case.now.post ++ back.now) case.now) }
-{
-    let rows = case.rows.clone()?;
-    let mut post = Items::new(alloc);
-    add_copies(case.post.as_slice(), &mut post)?;
-    add_copies(back, &mut post)?;
-    Ok(Case {
-        aux: case.aux,
-        rows,
-        post,
-    })
 }

@@ -1,5 +1,9 @@
-ghost use Rattle.std.specs.Prelude.{◌≡◌, ◌++◌, IfOk, OnOk};
-ghost use Rattle.newton_rounds.specs.Pairs.{along, lost_in_pair, pair_formula, stations_of};
+ghost use Rattle.std.specs.Prelude.{◌≡◌, ◌+◌, ◌<◌, ◌^◌, ◌++◌, IfOk, OnOk};
+ghost use Rattle.transition_formula.specs.Composition.{lost_in_sequence, sequence_of};
+ghost use Rattle.transition_formula.specs.Transition.{AreFew};
+ghost use Rattle.proc_summary.specs.Claims.{FitsIf};
+ghost use Rattle.proc_summary.specs.Summary.{exit_formula};
+ghost use Rattle.newton_rounds.specs.Pairs.{along, carrying, lost_in_pair, pair_formula, stations_of};
 ghost use Rattle.newton_rounds.specs.Shapes.{IsStretchBetween, lost_on_the_way, stretch_of};
 
 use crate::calls::{GroupCall, Sides};
@@ -25,17 +29,51 @@ fn along(
     ensures made { IfOk result (λ f. f ≡ along (stations_of caller.now callee.now (stretch_of call.now sides.now))) }
     ensures noted { OnOk result (lost.new ≡ lost.old ++ lost_on_the_way caller.now callee.now (stretch_of call.now sides.now)) }
 {
+    let first = entry_told(alloc, caller, &sides.before, lost)?;
+    let second = call_entry(alloc, caller, call, lost)?;
+    let entered = seq(alloc, &first, &second, lost)?;
+    along_from_entry(alloc, caller, callee, call, sides, &entered, lost)
+}
+
+/// The same, by what leads to the callee's entry.
+fn along_from_entry(
+    alloc: Global,
+    caller: &PairEnds,
+    callee: &PairEnds,
+    call: &GroupCall,
+    sides: &Sides,
+    entered: &Formula,
+    lost: &mut Items<Loss>,
+) -> Result<Formula, FormulaError>
+    requires stretch { IsStretchBetween caller.now callee.now (stretch_of call.now sides.now) }
+    requires entered { entered.now ≡ sequence_of (stations_of caller.now callee.now (stretch_of call.now sides.now)).first (stations_of caller.now callee.now (stretch_of call.now sides.now)).second }
+    requires third { AreFew entered.now (stations_of caller.now callee.now (stretch_of call.now sides.now)).third }
+    requires fourth { AreFew (sequence_of entered.now (stations_of caller.now callee.now (stretch_of call.now sides.now)).third) (stations_of caller.now callee.now (stretch_of call.now sides.now)).fourth }
+    ensures made { IfOk result (λ f. f ≡ along (stations_of caller.now callee.now (stretch_of call.now sides.now))) }
+    ensures noted { OnOk result (lost.new ≡ (lost.old ++ lost_in_sequence entered.now (stations_of caller.now callee.now (stretch_of call.now sides.now)).third) ++ lost_in_sequence (sequence_of entered.now (stations_of caller.now callee.now (stretch_of call.now sides.now)).third) (stations_of caller.now callee.now (stretch_of call.now sides.now)).fourth) }
+{
     let columns = caller.full.columns();
     let entry = caller.globals + call.args.len() as u32;
     let exit = callee.exit.columns();
-    let first = entry_told(alloc, caller, &sides.before, lost)?;
-    let second = call_entry(alloc, caller, call, lost)?;
     let third = call_exit(alloc, columns, caller.globals, call.into, entry, exit)?;
-    let rest = exit_formula(alloc, columns, &sides.after)?;
-    let fourth = carrying(alloc, columns, entry + exit, &rest)?;
-    let entered = seq(alloc, &first, &second, lost)?;
-    let returned = seq(alloc, &entered, &third, lost)?;
+    let returned = seq(alloc, entered, &third, lost)?;
+    let fourth = carried_exit(alloc, columns, entry + exit, &sides.after)?;
     seq(alloc, &returned, &fourth, lost)
+}
+
+/// From where a call ends to the caller's exit, with so many columns that stay as they are.
+fn carried_exit(
+    alloc: Global,
+    columns: u32,
+    more: u32,
+    f: &Option<Formula>,
+) -> Result<Formula, FormulaError>
+    requires fits { FitsIf columns f.now }
+    requires few { columns + more < 2 ^ 32 }
+    ensures { IfOk result (λ g. g ≡ carrying columns more (exit_formula columns f.now)) }
+{
+    let rest = exit_formula(alloc, columns, f)?;
+    carrying(alloc, columns, more, &rest)
 }
 
 /// The formula of a call, from the caller's pair to the callee's. Each loss is noted after those that are there. After an error

@@ -1,15 +1,13 @@
-use Rattle.std.proofs.Common.{◌≡◌, ◌<◌, ◌∙◌, ◌^◌, ◌++◌, length, map, sym, ap, subst}
+use Rattle.std.proofs.Common.{◌≡◌, ◌<◌, ◌∙◌, ◌^◌, length, map, refl, sym, ap, subst}
 use Rattle.std.specs.Prelude.{IfOk}
-use Rattle.std.specs.List.{flat_map}
 use Rattle.std.proofs.lemmas.List.{length-map}
-use Rattle.posing.specs.Logs.{loss_notes}
 use Rattle.posing.proofs.Steps.{in_other_words, notes_first}
 use Rattle.polyhedra.proofs.Results.{result_has}
 use Rattle.checked_tree.specs.Evaluation.{evaluated}
 use Rattle.checked_tree.specs.Graph.{Graph, graph_of}
 use Rattle.checked_tree.specs.Law.{AreFittedCells, IsEvaluated}
 use Rattle.newton_rounds.specs.Between.{AreChainsFrom}
-use Rattle.newton_rounds.specs.Closure.{group_graph, group_leaf, group_link, lost_in_group_leaf, stretches_with}
+use Rattle.newton_rounds.specs.Closure.{group_graph, group_leaf, group_link, stretches_with}
 use Rattle.newton_rounds.specs.Shapes.{plain_call}
 use Rattle.newton_rounds.proofs.Grouped.{group-evaluated, links-are}
 use Rattle.newton_rounds.proofs.Leading.{StaysAt, cells-stay, chains-from}
@@ -20,48 +18,46 @@ pub evaluate_formulas-requires-clause-graph : goal.evaluate_formulas-requires-cl
 evaluate_formulas-requires-clause-graph g c =
     let members = c.args.members.now in
     let stretches = stretches_with (map plain_call c.args.calls.now) c.args.sides.now in
-    let same : graph_of c.as_slice-2.result.now c.as_slice-3.result.now c.as_slice-4.result.now ≡ group_graph members stretches =
+    let same : graph_of c.as_slice.result.now c.as_slice-2.result.now c.as_slice-3.result.now ≡ group_graph members stretches =
     λ i. record {
-      links = (c.as_slice-2.ensures ∙ c.in_ok-links.ensures ∙ links-are c.args.calls.now c.args.sides.now c.requires.each) i;
-      leaves = (c.as_slice-3.ensures ∙ c.in_ok-leaves.ensures.made) i;
-      nodes = (c.as_slice-4.ensures ∙ c.in_ok-nodes.ensures) i;
+      links = (c.as_slice.ensures ∙ c.in_ok-links.ensures ∙ links-are c.args.calls.now c.args.sides.now c.requires.each) i;
+      leaves = (c.as_slice-2.ensures ∙ c.in_ok-leaves.ensures.made) i;
+      nodes = (c.as_slice-3.ensures ∙ c.in_ok-nodes.ensures) i;
     } in
     subst (λ h. IsEvaluated h c.args.place) (sym same) (group-evaluated members stretches c.requires.group c.args.place c.requires.there)
 
 pub evaluate_formulas-requires-clause-few_links : goal.evaluate_formulas-requires-clause-few_links
 evaluate_formulas-requires-clause-few_links g c =
     let stretches = stretches_with (map plain_call c.args.calls.now) c.args.sides.now in
-    let long = ap length (c.as_slice-2.ensures ∙ c.in_ok-links.ensures ∙ links-are c.args.calls.now c.args.sides.now c.requires.each) ∙ length-map stretches group_link in
+    let long = ap length (c.as_slice.ensures ∙ c.in_ok-links.ensures ∙ links-are c.args.calls.now c.args.sides.now c.requires.each) ∙ length-map stretches group_link in
     subst (λ n. n < 2 ^ 32) (sym long) c.requires.group.few_calls
 
 pub evaluate_formulas-requires-clause-few_nodes : goal.evaluate_formulas-requires-clause-few_nodes
 evaluate_formulas-requires-clause-few_nodes g c =
-    let long = ap length (c.as_slice-4.ensures ∙ c.in_ok-nodes.ensures) ∙ length-map c.args.members.now (λ member. member.pair) in
+    let long = ap length (c.as_slice-3.ensures ∙ c.in_ok-nodes.ensures) ∙ length-map c.args.members.now (λ member. member.pair) in
     subst (λ n. n < 2 ^ 32) (sym long) c.requires.group.few
 
 pub returns-clause-follows : goal.returns-clause-follows
 returns-clause-follows g c =
     let members = c.args.members.now in
     let stretches = stretches_with (map plain_call c.args.calls.now) c.args.sides.now in
-    let same : graph_of c.as_slice-2.result.now c.as_slice-3.result.now c.as_slice-4.result.now ≡ group_graph members stretches =
+    let same : graph_of c.as_slice.result.now c.as_slice-2.result.now c.as_slice-3.result.now ≡ group_graph members stretches =
     λ i. record {
-      links = (c.as_slice-2.ensures ∙ c.in_ok-links.ensures ∙ links-are c.args.calls.now c.args.sides.now c.requires.each) i;
-      leaves = (c.as_slice-3.ensures ∙ c.in_ok-leaves.ensures.made) i;
-      nodes = (c.as_slice-4.ensures ∙ c.in_ok-nodes.ensures) i;
+      links = (c.as_slice.ensures ∙ c.in_ok-links.ensures ∙ links-are c.args.calls.now c.args.sides.now c.requires.each) i;
+      leaves = (c.as_slice-2.ensures ∙ c.in_ok-leaves.ensures.made) i;
+      nodes = (c.as_slice-3.ensures ∙ c.in_ok-nodes.ensures) i;
     } in
-    let lost : c.as_slice.result.now ≡ flat_map (lost_in_group_leaf members) stretches =
-    c.as_slice.ensures ∙ c.in_ok-leaves.ensures.noted ∙ ap (λ l. l ++ flat_map (lost_in_group_leaf members) stretches) c.new-lost.ensures in
-    notes_first c.in_ok-add_losses.ensures (ap loss_notes lost) (in_other_words (ap (λ h. evaluated h c.args.place) same) c.evaluate_formulas.ensures.follows)
+    notes_first c.in_ok-leaves.ensures.noted refl (in_other_words (ap (λ h. evaluated h c.args.place) same) c.evaluate_formulas.ensures.follows)
 
 pub returns-clause-lead : goal.returns-clause-lead
 returns-clause-lead g c =
     let members = c.args.members.now in
     let stretches = stretches_with (map plain_call c.args.calls.now) c.args.sides.now in
-    let same : graph_of c.as_slice-2.result.now c.as_slice-3.result.now c.as_slice-4.result.now ≡ group_graph members stretches =
+    let same : graph_of c.as_slice.result.now c.as_slice-2.result.now c.as_slice-3.result.now ≡ group_graph members stretches =
     λ i. record {
-      links = (c.as_slice-2.ensures ∙ c.in_ok-links.ensures ∙ links-are c.args.calls.now c.args.sides.now c.requires.each) i;
-      leaves = (c.as_slice-3.ensures ∙ c.in_ok-leaves.ensures.made) i;
-      nodes = (c.as_slice-4.ensures ∙ c.in_ok-nodes.ensures) i;
+      links = (c.as_slice.ensures ∙ c.in_ok-links.ensures ∙ links-are c.args.calls.now c.args.sides.now c.requires.each) i;
+      leaves = (c.as_slice-2.ensures ∙ c.in_ok-leaves.ensures.made) i;
+      nodes = (c.as_slice-3.ensures ∙ c.in_ok-nodes.ensures) i;
     } in
     let is = group-evaluated members stretches c.requires.group c.args.place c.requires.there in
     if_ok-both (AreFittedCells (group_graph members stretches) c.args.place) (StaysAt (group_graph members stretches) c.args.place) (AreChainsFrom members c.args.place) c.evaluate_formulas.result

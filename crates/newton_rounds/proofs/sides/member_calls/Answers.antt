@@ -1,0 +1,21 @@
+use Rattle.std.proofs.Common.{◌∙◌, get_or}
+use Rattle.newton_rounds.proofs.Called.{call-nodes, calls-made}
+use Rattle.newton_rounds.proofs.Widths.{exit-node}
+use Rattle.newton_rounds.proofs.sides.member_calls.Goals as goal
+
+pub returns-clause-nodes : goal.returns-clause-nodes
+returns-clause-nodes c = λ p is.
+    let program = c.args.program.now in
+    let procs = c.args.procs.now in
+    let proc = get_or procs c.args.place 0 in
+    record {
+      exit_is = exit-node program proc p c.requires.formed is c.in_ok-graph.graph c.in_ok-graph.ensures.exact;
+      ends =
+          call-nodes program proc p is c.in_ok-graph.graph c.in_ok-graph.ensures.exact procs c.args.place c.as_slice.result.now c.in_ok-calls.calls c.as_slice.ensures c.in_ok-graph.ensures.edges
+          c.in_ok-calls.ensures;
+    }
+
+pub returns-clause-made : goal.returns-clause-made
+returns-clause-made c = λ p is.
+    c.in_ok-calls.ensures
+    ∙ calls-made c.args.program.now (get_or c.args.procs.now c.args.place 0) p is c.in_ok-graph.graph c.in_ok-graph.ensures.exact c.args.procs.now c.args.place c.as_slice.result.now c.as_slice.ensures
