@@ -1,4 +1,4 @@
-use Rattle.std.proofs.Common.{◌≡◌, [], ◌∙◌, List, length, map, sym, ap, subst}
+use Rattle.std.proofs.Common.{◌≡◌, [], ◌∙◌, List, length, sym, ap, subst}
 use Rattle.std.specs.Prelude.{All, ◌==◌}
 use Rattle.std.specs.List.{AllByRecursion}
 use Rattle.std.proofs.lemmas.Bool.{false≢true}
@@ -9,7 +9,7 @@ use Rattle.polyhedra.specs.Directions.{directions}
 use Rattle.leaf_cases.specs.Guard.{columns_of}
 use Rattle.posing.proofs.Steps.{in_other_words}
 use Rattle.polyhedra.proofs.Results.{result_has}
-use Rattle.newton_rounds.specs.Candidates.{candidate_of, paired_case}
+use Rattle.newton_rounds.specs.Candidates.{candidate_of}
 use Rattle.newton_rounds.specs.Between.{IsRowOver}
 use Rattle.newton_rounds.proofs.Rowed.{after-covered, candidate-over, candidate-some, posts-covered}
 use Rattle.newton_rounds.proofs.candidates.candidate_of.Goals as goal

@@ -3,8 +3,7 @@ use Rattle.std.specs.List.{AllByRecursion}
 use Rattle.std.proofs.lemmas.List.Elements.{recursion_from_All}
 use Rattle.linear_terms.specs.declared.row.Row.{Row}
 use Rattle.posing.specs.Posing.{◌>>=◌, Done, each}
-use Rattle.posing.proofs.Following.{stops}
-use Rattle.posing.proofs.Steps.{at_end, error_first, value_first}
+use Rattle.posing.proofs.Steps.{at_end, value_first}
 use Rattle.newton_rounds.specs.Between.{AreCandidates, AreSummaries, IsMember}
 use Rattle.newton_rounds.specs.Candidates.{kept_candidates, table_of}
 use Rattle.newton_rounds.specs.Close.{paired_up, rounds_over, with_candidate}

@@ -4,10 +4,10 @@ use Rattle.std.proofs.lemmas.List.{length-map}
 use Rattle.posing.proofs.Steps.{in_other_words, notes_first}
 use Rattle.polyhedra.proofs.Results.{result_has}
 use Rattle.checked_tree.specs.Evaluation.{evaluated}
-use Rattle.checked_tree.specs.Graph.{Graph, graph_of}
+use Rattle.checked_tree.specs.Graph.{graph_of}
 use Rattle.checked_tree.specs.Law.{AreFittedCells, IsEvaluated}
 use Rattle.newton_rounds.specs.Between.{AreChainsFrom}
-use Rattle.newton_rounds.specs.Closure.{group_graph, group_leaf, group_link, stretches_with}
+use Rattle.newton_rounds.specs.Closure.{group_graph, group_link, stretches_with}
 use Rattle.newton_rounds.specs.Shapes.{plain_call}
 use Rattle.newton_rounds.proofs.Grouped.{group-evaluated, links-are}
 use Rattle.newton_rounds.proofs.Leading.{StaysAt, cells-stay, chains-from}

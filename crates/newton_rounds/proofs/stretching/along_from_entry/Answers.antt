@@ -7,9 +7,7 @@ use Rattle.transition_formula.specs.Composition.{lost_in_sequence, sequence_of}
 use Rattle.transition_formula.specs.Transition.{Transition, AreFew}
 use Rattle.proc_summary.specs.Claims.{FitsIf}
 use Rattle.proc_summary.specs.Summary.{exit_formula}
-use Rattle.newton_rounds.specs.Pairs.{PairEnds, call_exit, carrying, stations_of}
-use Rattle.newton_rounds.specs.Shapes.{stretch_of}
-use Rattle.newton_rounds.proofs.Stretched.{enough, fewer, narrow}
+use Rattle.newton_rounds.specs.Pairs.{PairEnds, call_exit, carrying}
 use Rattle.newton_rounds.proofs.stretching.along_from_entry.Goals as goal
 
 pub seq-requires-clause-few : goal.seq-requires-clause-few
