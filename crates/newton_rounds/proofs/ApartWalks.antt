@@ -1,4 +1,5 @@
--- A walk of a member makes no call of its group, or its first one stands between two parts; in a linear group there is no other.
+-- A walk of a member makes no call of its group, or its first one stands between two parts; in a
+-- linear group there is no other.
 use Rattle.std.proofs.Common.{◌≡◌, ◌⊎◌, inl, inr, ℕ, zero, suc, ◌+◌, Bool, true, false, List, [], ◌∷◌, map, Option, None, Some, refl, sym, ap, subst, ◌∙◌, arith}
 use Rattle.std.specs.Prelude.{◌==◌, slice_get, if◌then◌else◌}
 use Rattle.std.specs.List.{Contains}

@@ -72,7 +72,8 @@ module _ (m : PairEnds) (ends : AreEnds m) (f : Option Transition) (fit : FitsIf
 
 -- ---- the base of a procedure
 
--- it goes from the pairs, has canonical rows, and holds of activations whose calls the known formulas tell
+-- it goes from the pairs, has canonical rows, and holds of activations whose calls the known
+-- formulas tell
 pub record IsBase (program : Program) (known : List (Option Transition)) (p : Proc) (base : Transition) : Type 0 where
   pub goes : GoesBetween 1000 (pair_ends program p).pair.columns 0 base
   pub canonical : IsCanonicalFormula base

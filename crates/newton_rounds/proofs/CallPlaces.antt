@@ -1,4 +1,5 @@
--- Where a call of the group stands among all of them, and its stretch and its formula in the group's graph.
+-- Where a call of the group stands among all of them, and its stretch and its formula in the
+-- group's graph.
 use Rattle.std.proofs.Common.{◌≡◌, ℕ, zero, suc, ◌+◌, List, [], ◌∷◌, ◌++◌, map, Option, Some, refl, sym, ap, subst, ◌∙◌, arith}
 use Rattle.std.specs.Prelude.{slice_get, unwrap_or}
 use Rattle.std.specs.List.{AllZip, flat_map}

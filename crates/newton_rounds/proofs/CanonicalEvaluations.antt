@@ -1,4 +1,5 @@
--- The cells of an evaluation have canonical rows, and hold of walks, if the leaves have canonical rows.
+-- The cells of an evaluation have canonical rows, and hold of walks, if the leaves have canonical
+-- rows.
 use Rattle.std.proofs.Common.{◌≡◌, ℕ, ◌<◌, ℤ, List, [], ◌∷◌, ◌++◌, length, Some, refl, sym, ◌∙◌, ap, subst}
 use Rattle.std.specs.List.{slice_get}
 use Rattle.std.proofs.lemmas.List.Elements.{All-from_recursion, recursion_from_All}

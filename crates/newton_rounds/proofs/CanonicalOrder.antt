@@ -1,4 +1,5 @@
--- A case whose rows are canonical has canonical rows when it is put in order, settled, thinned or cut.
+-- A case whose rows are canonical has canonical rows when it is put in order, settled, thinned or
+-- cut.
 use Rattle.std.proofs.Common.{◌≡◌, ℕ, zero, suc, Bool, true, false, cond, map, List, [], ◌∷◌, ◌++◌, length, take, Option, Some, None, Result, Ok, Err, refl, subst}
 use Rattle.std.specs.Prelude.{IsTrue, slice_get, option_to_list}
 use Rattle.std.specs.List.{AllByRecursion, remove, cons_option, list_any}

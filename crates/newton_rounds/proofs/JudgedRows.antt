@@ -124,7 +124,8 @@ module _ (program : Program) (formed : IsWellFormed program) where
   abbrev pub columns_of_pair : Proc → ℕ
   columns_of_pair p = (pair_ends program p).pair.columns
 
-  -- the row is true of each activation of the procedure, where calls mean what the known formulas say
+  -- the row is true of each activation of the procedure, where calls mean what the known formulas
+  -- say
   abbrev pub IsTrueOf : List (Option Transition) → Proc → Row → Type 0
   IsTrueOf known p row =
       (proc : ℕ) → slice_get program.procs proc ≡ Some p → (globals args after : State) (value : ℤ) → ReturnsOver (KnownCalls known) program proc globals args after value

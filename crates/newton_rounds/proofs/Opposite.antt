@@ -1,4 +1,5 @@
--- The row that holds where a candidate's row does not, in a case of one more unfolding: which columns it has.
+-- The row that holds where a candidate's row does not, in a case of one more unfolding: which
+-- columns it has.
 use Rattle.std.proofs.Common.{◌≡◌, ℕ, ◌+◌, ◌<◌, ◌≤◌, Bool, true, length, length-append, map, List, [], ◌∷◌, ◌++◌, pos, negsuc, refl, sym, ap, subst, ◌∙◌, arith}
 use Rattle.std.specs.Prelude.{All, IsTrue, Result, Ok, Err, Option, Some, None, option_to_list}
 use Rattle.std.specs.List.{list_all}

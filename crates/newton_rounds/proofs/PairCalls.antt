@@ -198,7 +198,8 @@ module _ (caller callee : PairEnds) (s : Stretch) (is : IsStretchBetween caller 
   abbrev stations : Stations
   stations = stations_of caller callee s
 
-  -- what is known of a call: the states from the caller's entry to its exit, what the callee is called with, and what it leaves
+  -- what is known of a call: the states from the caller's entry to its exit, what the callee is
+  -- called with, and what it leaves
   pub record IsCalled (before there values left back final exits : List ℤ) (value : ℤ) (returns : Bool) : Type 0 where
     pub starts : HoldsIf s.before before there
     pub are : values_of s.call.args there ≡ Some values

@@ -1,4 +1,5 @@
--- What stands at both sides of the group's calls holds of walks to where they begin and from where they end.
+-- What stands at both sides of the group's calls holds of walks to where they begin and from where
+-- they end.
 use Rattle.std.proofs.Common.{◌≡◌, ℕ, ◌+◌, ◌<◌, List, [], ◌∷◌, ◌++◌, length, Option, None, Some, refl, sym, ap, subst, ◌∙◌, append_assoc, append-nil, length-append, arith}
 use Rattle.std.specs.Prelude.{option_to_list, slice_get}
 use Rattle.std.specs.List.{AllByRecursion, AllZip}

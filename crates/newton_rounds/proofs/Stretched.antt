@@ -1,4 +1,5 @@
--- The stations of a call fit one after another, and their auxiliaries are few enough to be numbered.
+-- The stations of a call fit one after another, and their auxiliaries are few enough to be
+-- numbered.
 use Rattle.std.proofs.Common.{◌≡◌, ℕ, ◌+◌, ◌-◌, ◌<◌, ◌≤◌, ◌^◌, List, [], ◌∷◌, ◌++◌, length, map, refl, sym, ap, subst, ◌∙◌, append_assoc, arith}
 use Rattle.std.specs.Prelude.{All}
 use Rattle.std.specs.List.{AllByRecursion, range_with_len}
@@ -75,7 +76,8 @@ module _ (caller callee : PairEnds) (s : Stretch) (is : IsStretchBetween caller 
   fourth-few : HasFew 64 fourth.cases
   fourth-few = carrying-few columns (callee_width caller.ends callee.ends s.call.args) (exit_formula columns s.after).cases (states-few columns (exit_formula columns s.after) after)
 
-  -- the columns that are told at the caller's exit, and the callee's entry and exit, are among those at the end
+  -- the columns that are told at the caller's exit, and the callee's entry and exit, are among
+  -- those at the end
   pub told-along : All (λ place. place < (along (stations_of caller callee s)).to) (exit_places caller.ends)
   told-along = λ i d within. let lt = places-below caller is.caller_is i d within in omega (arith, lt)
 

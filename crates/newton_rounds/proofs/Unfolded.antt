@@ -116,7 +116,8 @@ module _ (program : Program) (proc : ℕ) (p : Proc) (known : List (Option Trans
 
   -- ---- what is told of an exit
 
-  -- it goes from the entry to the exit, is canonical, and holds of all that the exit's formula tells
+  -- it goes from the entry to the exit, is canonical, and holds of all that the exit's formula
+  -- tells
   pub record IsTold (exit : Option Transition) (f : Transition) : Type 0 where
     pub between : IsBetweenEnds (entry_of program p) (ends.exit_of program p) f
     pub canonical : IsCanonicalFormula f

@@ -39,7 +39,8 @@ abbrev pub AreBases : List PairEnds → List Transition → Type 0
 AreBases [] [] = Unit {0}
 AreBases [] (base ∷ bases) = ⊥
 AreBases (member ∷ members) [] = ⊥
-AreBases (member ∷ members) (base ∷ bases) = GoesBetween 1000 member.pair.columns 0 base × AreBases members bases
+AreBases (member ∷ members) (base ∷ bases) = GoesBetween 1000 member.pair.columns 0 base
+    × AreBases members bases
 
 -- one behind others, over the pairs of a member
 pub record AddsBase (member : PairEnds) (made all : List Transition) : Type 0 where
@@ -49,19 +50,27 @@ pub record AddsBase (member : PairEnds) (made all : List Transition) : Type 0 wh
 
 -- the base of the member at a place, and the chains of calls that lead to it
 abbrev pub base_at : List PairEnds → List Transition → ℕ → Transition
-base_at members bases n = unwrap_or (slice_get bases n) record { from = width_at members n; to = 0; cases = [] }
+base_at members bases n = unwrap_or (slice_get bases n) record {
+  from = width_at members n;
+  to = 0;
+  cases = [];
+}
 
 abbrev pub chain_to : List PairEnds → List (Cell Transition) → ℕ → ℕ → Transition
 chain_to members cells place n =
-    pair_cell (width_at members place) (width_at members n) (unwrap_or (slice_get cells n) known.Zero)
+    pair_cell (width_at members place) (width_at members n)
+    (unwrap_or (slice_get cells n) known.Zero)
 
 -- one for each member, from the pairs of the member at a place to its pairs
-pub record AreChainsFrom (members : List PairEnds) (place : ℕ) (cells : List (Cell Transition)) : Type 0 where
+pub record AreChainsFrom (members : List PairEnds) (place : ℕ)
+    (cells : List (Cell Transition)) : Type 0 where
   pub each : length cells ≡ length members
   pub lead : (n : ℕ) → n < length members →
-      GoesBetween 1000 (width_at members place) (width_at members n) (chain_to members cells place n)
+      GoesBetween 1000 (width_at members place) (width_at members n)
+      (chain_to members cells place n)
 
-pub record AreChained (members : List PairEnds) (bases : List Transition) (place : ℕ) (cells : List (Cell Transition)) : Type 0 where
+pub record AreChained (members : List PairEnds) (bases : List Transition) (place : ℕ)
+    (cells : List (Cell Transition)) : Type 0 where
   pub few : length members < 2 ^ 32
   pub within : place < length members
   pub each_member : AllByRecursion IsMember members
@@ -75,7 +84,8 @@ pub record IsStretchIn (members : List PairEnds) (s : Stretch) : Type 0 where
   pub caller : s.call.caller < length members
   pub callee : s.call.callee < length members
   pub enters :
-      (ends_at members s.call.callee).ends.entry.columns ≡ (ends_at members s.call.caller).ends.globals + length s.call.args
+      (ends_at members s.call.callee).ends.entry.columns
+      ≡ (ends_at members s.call.caller).ends.globals + length s.call.args
   pub is : IsStretchBetween (ends_at members s.call.caller) (ends_at members s.call.callee) s
 
 pub record IsGroup (members : List PairEnds) (stretches : List Stretch) : Type 0 where

@@ -1,5 +1,5 @@
--- Candidates: rows over the pairs of entry and exit that may hold of all activations, and rounds that drop those
--- that one more unfolding does not show.
+-- Candidates: rows over the pairs of entry and exit that may hold of all activations, and rounds
+-- that drop those that one more unfolding does not show.
 use Rattle.std.specs.Prelude.{ℕ, suc, ◌+◌, Bool, true, false, List, [], ◌∷◌, ◌++◌, Option, None, Some, Result, Ok, Err, length, map, option_to_list}
 use Rattle.std.specs.List.{filter_map, flat_map, range_with_len}
 use Rattle.std.specs.Option.{unwrap_or}
@@ -50,7 +50,8 @@ use Rattle.newton_rounds.specs.Closure.{ends_at, pair_ends, placed_from}
 abbrev pub paired_case : ℕ → Case → Case
 paired_case from case = cases.with_posts (columns_of from ++ case.post) case
 
--- the bounds of a formula in the directions of its pairs; without a case nothing is asked, and there is no row
+-- the bounds of a formula in the directions of its pairs; without a case nothing is asked, and
+-- there is no row
 abbrev pub candidate_by : PairEnds → ℕ → List Case → Posing (List Row)
 candidate_by member from [] = Done []
 candidate_by member from (case ∷ more) =
@@ -74,7 +75,8 @@ candidate_formula member rows =
 abbrev pub table_of : List PairEnds → List (List Row) → List Transition
 table_of [] candidates = []
 table_of (member ∷ members) [] = []
-table_of (member ∷ members) (rows ∷ candidates) = candidate_formula member rows ∷ table_of members candidates
+table_of (member ∷ members) (rows ∷ candidates) = candidate_formula member rows ∷ table_of members
+    candidates
 
 -- ---- what refutes a row
 
@@ -82,7 +84,8 @@ table_of (member ∷ members) (rows ∷ candidates) = candidate_formula member r
 abbrev pub contrary : ℕ → Case → Row → Result Row TermError
 contrary from case row =
     gives.◌>>=◌ (negation row.poly) (λ opposite.
-    gives.◌>>=◌ (substituted (put_in (columns_of from ++ case.post) (own_auxiliaries case.aux)) opposite.poly) (λ p.
+    gives.◌>>=◌ (substituted (put_in (columns_of from ++ case.post) (own_auxiliaries case.aux))
+    opposite.poly) (λ p.
     Ok record { poly = p; kind = AtMost }))
 
 -- the case with that row; where it is lost, without it
@@ -96,11 +99,17 @@ against from case row =
 
 -- with a point: the first stays
 abbrev pub with_point : Findings → Witness → Findings
-with_point found point = record { point = Some (unwrap_or found.point point); limits = found.limits }
+with_point found point = record {
+  point = Some (unwrap_or found.point point);
+  limits = found.limits;
+}
 
 abbrev pub with_answer : Findings → List Row → Answer → Findings
 with_answer found rows (answer.No point) = with_point found (witness.Point (columns rows []) point)
-with_answer found rows (answer.Limit limit) = record { point = found.point; limits = found.limits ++ limit ∷ [] }
+with_answer found rows (answer.Limit limit) = record {
+  point = found.point;
+  limits = found.limits ++ limit ∷ [];
+}
 with_answer found rows _ = found
 
 -- a case without rows is refuted by the point without numbers
@@ -116,7 +125,8 @@ found_left found (Some case) = found_in found case.rows
 -- one case with the contrary row, put in order; losses are noted before the question
 unfoldable pub with_case : ℕ → Row → Findings → Case → Posing Findings
 with_case from row found case =
-    Noted (loss_notes (losses_of (contrary from case row) ++ (in_order (against from case row)).losses))
+    Noted (loss_notes
+    (losses_of (contrary from case row) ++ (in_order (against from case row)).losses))
     (found_left found (in_order (against from case row)).left)
 
 -- limits that stand in no dropped note are noted by themselves
@@ -131,24 +141,30 @@ outcome_by None (limit ∷ limits) = Noted (limit_notes limits) (Done (Some (wit
 abbrev pub outcome : Findings → Posing (Option Witness)
 outcome found = outcome_by found.point found.limits
 
--- what refutes a row of a candidate, over all cases of the formula that one more unfolding makes: the first point, else the first
--- limit, if there is one
+-- what refutes a row of a candidate, over all cases of the formula that one more unfolding makes:
+-- the first point, else the first limit, if there is one
 unfoldable pub refuted : Transition → Row → Posing (Option Witness)
-refuted f row = each (with_case f.from row) record { point = None; limits = [] } f.cases >>= λ found. outcome found
+refuted f row = each (with_case f.from row) record {
+  point = None;
+  limits = [];
+} f.cases >>= λ found. outcome found
 
 -- ---- a round
 
 unfoldable pub with_judged : Transition → List Judged → Row → Posing (List Judged)
 with_judged f made row = refuted f row >>= λ by. Done (made ++ record { row = row; by = by } ∷ [])
 
--- the formula of a member as for a procedure that is not recursive, where calls of the group are read by the candidates
+-- the formula of a member as for a procedure that is not recursive, where calls of the group are
+-- read by the candidates
 unfoldable pub unfolded : Program → List (Option Transition) → Proc → Posing Transition
 unfolded program known p =
     cells_from (subject_of program p known) 0 >>= λ cells.
     summary_from (ends_of program p)
-    (formula_at (state_columns (subject_of program p known)) cells (subject_of program p known).exit)
+    (formula_at (state_columns (subject_of program p known)) cells
+    (subject_of program p known).exit)
 
-unfoldable pub with_round : Program → List (Option Transition) → List (List Judged) → Proc × List Row → Posing (List (List Judged))
+unfoldable pub with_round : Program → List (Option Transition) → List (List Judged)
+    → Proc × List Row → Posing (List (List Judged))
 with_round program known made member =
     unfolded program known member.0 >>= λ f.
     each (with_judged f) [] member.1 >>= λ judged. Done (made ++ judged ∷ [])
@@ -181,17 +197,22 @@ members_with (p ∷ ps) [] = []
 members_with (p ∷ ps) (rows ∷ candidates) = (p, rows) ∷ members_with ps candidates
 
 -- all rows that are refuted are dropped together at its end; whether any was
-unfoldable pub round : Program → List ℕ → List (Option Transition) → List (List Row) → Posing (List (List Row) × Bool)
+unfoldable pub round : Program → List ℕ → List (Option Transition) → List (List Row)
+    → Posing (List (List Row) × Bool)
 round program procs known candidates =
     each
-    (with_round program (with_table procs (table_of (map (pair_ends program) (members_of program procs)) candidates) known))
+    (with_round program
+    (with_table procs (table_of (map (pair_ends program) (members_of program procs)) candidates)
+    known))
     [] (members_with (members_of program procs) candidates) >>= λ judged.
-    Noted (dropped_notes judged) (Done (map (filter_map kept_row) judged, some_note (dropped_notes judged)))
+    Noted (dropped_notes judged)
+    (Done (map (filter_map kept_row) judged, some_note (dropped_notes judged)))
 
 -- rounds until none is dropped: each but the last drops a row at least
 abbrev pub most_rounds : List (List Row) → ℕ
 most_rounds candidates = suc (length (flat_map (λ rows. rows) candidates))
 
-unfoldable pub kept_candidates : Program → List ℕ → List (Option Transition) → List (List Row) → Posing (List (List Row))
+unfoldable pub kept_candidates : Program → List ℕ → List (Option Transition) → List (List Row)
+    → Posing (List (List Row))
 kept_candidates program procs known candidates =
     until (round program procs known) (most_rounds candidates) candidates

@@ -8,7 +8,8 @@ use Rattle.leaf_cases.specs.Summaries.{SummaryIsMet}
 use Rattle.newton_rounds.specs.Members.{IsLinear}
 
 -- one for each procedure of the group, between its entry and its exit
-pub record AreKnownMembers (program : Program) (procs : List ℕ) (table : List Transition) : Type 0 where
+pub record AreKnownMembers (program : Program) (procs : List ℕ)
+    (table : List Transition) : Type 0 where
   pub each : length table ≡ length procs
   pub fit : (place proc : ℕ) (p : Proc) (f : Transition) → slice_get procs place ≡ Some proc →
       slice_get program.procs proc ≡ Some p → slice_get table place ≡ Some f → IsKnown program p f
@@ -16,7 +17,8 @@ pub record AreKnownMembers (program : Program) (procs : List ℕ) (table : List 
 -- each is met
 abbrev pub AreMetMembers : Program → List ℕ → List Transition → Type 0
 AreMetMembers program procs table =
-    (place proc : ℕ) (f : Transition) → slice_get procs place ≡ Some proc → slice_get table place ≡ Some f →
+    (place proc : ℕ) (f : Transition) → slice_get procs place ≡ Some proc
+    → slice_get table place ≡ Some f →
     SummaryIsMet program proc f
 
 -- the flag says whether the group is linear

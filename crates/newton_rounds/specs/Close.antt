@@ -17,8 +17,10 @@ paired_up [] table = []
 paired_up (member ∷ members) [] = []
 paired_up (member ∷ members) (f ∷ table) = (member, f) ∷ paired_up members table
 
--- where calls of the group may follow one another: two closures, the candidates of the second, and what stands of these
-unfoldable pub closed_by_rounds : Program → List ℕ → List (Option Transition) → List Transition → Posing (List Transition)
+-- where calls of the group may follow one another: two closures, the candidates of the second, and
+-- what stands of these
+unfoldable pub closed_by_rounds : Program → List ℕ → List (Option Transition) → List Transition
+    → Posing (List Transition)
 closed_by_rounds program procs known bases =
     closure_of program procs known bases [] >>= λ first.
     closure_of program procs known bases first >>= λ second.
@@ -27,21 +29,25 @@ closed_by_rounds program procs known bases =
     Done (table_of (ends_of_members program procs) kept)
 
 -- what stands of the candidates of a table, and of those of the closure of one
-unfoldable pub rounds_over : Program → List ℕ → List (Option Transition) → List Transition → Posing (List Transition)
+unfoldable pub rounds_over : Program → List ℕ → List (Option Transition) → List Transition
+    → Posing (List Transition)
 rounds_over program procs known table =
     each with_candidate [] (paired_up (ends_of_members program procs) table) >>= λ candidates.
     kept_candidates program procs known candidates >>= λ kept.
     Done (table_of (ends_of_members program procs) kept)
 
-unfoldable pub rounds_after : Program → List ℕ → List (Option Transition) → List Transition → List Transition → Posing (List Transition)
+unfoldable pub rounds_after : Program → List ℕ → List (Option Transition) → List Transition
+    → List Transition → Posing (List Transition)
 rounds_after program procs known bases table =
     closure_of program procs known bases table >>= λ second. rounds_over program procs known second
 
 -- the closure of the empty table where the group is linear
-abbrev pub closed_from : Bool → Program → List ℕ → List (Option Transition) → List Transition → Posing (List Transition)
+abbrev pub closed_from : Bool → Program → List ℕ → List (Option Transition) → List Transition
+    → Posing (List Transition)
 closed_from true program procs known bases = closure_of program procs known bases []
 closed_from false program procs known bases = closed_by_rounds program procs known bases
 
-unfoldable pub closed_of : Bool → Program → List ℕ → List (Option Transition) → Posing (List Transition)
+unfoldable pub closed_of : Bool → Program → List ℕ → List (Option Transition)
+    → Posing (List Transition)
 closed_of linear program procs known =
     bases_of program procs known >>= λ bases. closed_from linear program procs known bases

@@ -1,5 +1,5 @@
--- The closure of a table: formulas of the members by one more unfolding of each chain of calls, where the group's
--- calls on the way are read by the table.
+-- The closure of a table: formulas of the members by one more unfolding of each chain of calls,
+-- where the group's calls on the way are read by the table.
 use Rattle.std.specs.Prelude.{ℕ, ◌+◌, ◌==◌, List, [], ◌∷◌, ◌++◌, false, not, Option, None, Some, length, map, slice_get}
 use Rattle.std.specs.List.{filter, flat_map, range_with_len}
 use Rattle.std.specs.Option.{unwrap_or}
@@ -34,7 +34,8 @@ ends_of_members program procs = map (pair_ends program) (members_of program proc
 
 -- ---- both sides of a group's calls
 
--- one evaluation from the end of a call: what holds from the entry to where it begins, and from where it ends to the exit
+-- one evaluation from the end of a call: what holds from the entry to where it begins, and from
+-- where it ends to the exit
 unfoldable pub sides_from : Subject → List (Cell Transition) → GroupCall → Posing Sides
 sides_from s starts call =
     cells_from s call.to >>= λ ends.
@@ -43,14 +44,17 @@ sides_from s starts call =
       after = formula_at (columns_of s) ends s.exit;
     }
 
-unfoldable pub with_sides : Subject → List (Cell Transition) → List Sides → GroupCall → Posing (List Sides)
+unfoldable pub with_sides : Subject → List (Cell Transition) → List Sides → GroupCall
+    → Posing (List Sides)
 with_sides s starts made call = sides_from s starts call >>= λ sides. Done (made ++ sides ∷ [])
 
 -- those of one member: one evaluation from its entry, and one from the end of each call
-unfoldable pub with_member : Program → List ℕ → List (Option Transition) → List Sides → ℕ × Proc → Posing (List Sides)
+unfoldable pub with_member : Program → List ℕ → List (Option Transition) → List Sides → ℕ × Proc
+    → Posing (List Sides)
 with_member program procs known made member =
     cells_from (subject_of program member.1 known) 0 >>= λ starts.
-    each (with_sides (subject_of program member.1 known) starts) made (calls_of procs member.0 member.1)
+    each (with_sides (subject_of program member.1 known) starts) made
+    (calls_of procs member.0 member.1)
 
 -- the members with their places
 abbrev pub placed_from : {A : Type 0} → ℕ → List A → List (ℕ × A)
@@ -80,7 +84,13 @@ no_vocabulary = record { columns = 0; named = []; harvested = []; rule = 0; extr
 
 abbrev pub no_ends : Ends
 no_ends =
-    record { globals = 0; returns = false; full = no_vocabulary; entry = no_vocabulary; exit = no_vocabulary }
+    record {
+      globals = 0;
+      returns = false;
+      full = no_vocabulary;
+      entry = no_vocabulary;
+      exit = no_vocabulary;
+    }
 
 abbrev pub no_pair : PairEnds
 no_pair = record { ends = no_ends; pair = no_vocabulary }
@@ -89,18 +99,22 @@ abbrev pub ends_at : List PairEnds → ℕ → PairEnds
 ends_at members place = unwrap_or (slice_get members place) no_pair
 
 abbrev pub group_leaf : List PairEnds → Stretch → Transition
-group_leaf members s = pair_formula (ends_at members s.call.caller) (ends_at members s.call.callee) s
+group_leaf members s = pair_formula (ends_at members s.call.caller) (ends_at members s.call.callee)
+    s
 
 abbrev pub lost_in_group_leaf : List PairEnds → Stretch → List Loss
-lost_in_group_leaf members s = lost_in_pair (ends_at members s.call.caller) (ends_at members s.call.callee) s
+lost_in_group_leaf members s = lost_in_pair (ends_at members s.call.caller)
+    (ends_at members s.call.callee) s
 
 abbrev pub group_graph : List PairEnds → List Stretch → Graph
 group_graph members stretches =
-    graph_of (map group_link stretches) (map (group_leaf members) stretches) (map (λ member. member.pair) members)
+    graph_of (map group_link stretches) (map (group_leaf members) stretches)
+    (map (λ member. member.pair) members)
 
 -- ---- one member's formula
 
--- from one pair to another: no case where no chain of calls leads, and the identity where none was made
+-- from one pair to another: no case where no chain of calls leads, and the identity where none was
+-- made
 abbrev pub pair_cell : ℕ → ℕ → Cell Transition → Transition
 pair_cell from to known.Zero = record { from = from; to = to; cases = [] }
 pair_cell from to known.One = identity_of from
@@ -116,13 +130,25 @@ order_from place count = place ∷ others_in place (range_with_len 0 count)
 -- the chains that end with a member, whose last activation calls no other of the group
 abbrev pub chain_end : List PairEnds → List Transition → List (Cell Transition) → ℕ → ℕ → Transition
 chain_end members bases cells place n =
-    sequence_of (pair_cell (ends_at members place).pair.columns (ends_at members n).pair.columns (unwrap_or (slice_get cells n) known.Zero))
-    (unwrap_or (slice_get bases n) record { from = (ends_at members n).pair.columns; to = 0; cases = [] })
+    sequence_of (pair_cell (ends_at members place).pair.columns (ends_at members n).pair.columns
+    (unwrap_or (slice_get cells n) known.Zero))
+    (unwrap_or (slice_get bases n) record {
+      from = (ends_at members n).pair.columns;
+      to = 0;
+      cases = [];
+    })
 
-abbrev pub lost_in_chain_end : List PairEnds → List Transition → List (Cell Transition) → ℕ → ℕ → List Loss
+abbrev pub lost_in_chain_end : List PairEnds → List Transition → List (Cell Transition) → ℕ → ℕ
+    → List Loss
 lost_in_chain_end members bases cells place n =
-    lost_in_sequence (pair_cell (ends_at members place).pair.columns (ends_at members n).pair.columns (unwrap_or (slice_get cells n) known.Zero))
-    (unwrap_or (slice_get bases n) record { from = (ends_at members n).pair.columns; to = 0; cases = [] })
+    lost_in_sequence
+    (pair_cell (ends_at members place).pair.columns (ends_at members n).pair.columns
+    (unwrap_or (slice_get cells n) known.Zero))
+    (unwrap_or (slice_get bases n) record {
+      from = (ends_at members n).pair.columns;
+      to = 0;
+      cases = [];
+    })
 
 -- all chains from a member, over its pair
 abbrev pub chains_of : List PairEnds → List Transition → List (Cell Transition) → ℕ → Transition
@@ -130,7 +156,8 @@ chains_of members bases cells place =
     record {
       from = (ends_at members place).pair.columns;
       to = 0;
-      cases = flat_map (λ n. (chain_end members bases cells place n).cases) (order_from place (length members));
+      cases = flat_map (λ n. (chain_end members bases cells place n).cases)
+          (order_from place (length members));
     }
 
 abbrev pub lost_in_chains : List PairEnds → List Transition → List (Cell Transition) → ℕ → List Loss
@@ -140,14 +167,16 @@ lost_in_chains members bases cells place =
 -- the exit's columns become auxiliaries after the case's own, and these are the posts
 abbrev pub exits_told : PairEnds → Transition → Transition
 exits_told member f =
-    hidden member.ends.entry.columns (with_entries (range_with_len member.ends.entry.columns member.ends.exit.columns) f)
+    hidden member.ends.entry.columns
+    (with_entries (range_with_len member.ends.entry.columns member.ends.exit.columns) f)
 
 abbrev pub lost_in_exits : PairEnds → Transition → List Loss
 lost_in_exits member f =
     lost_in_hiding member.ends.entry.columns
     (with_entries (range_with_len member.ends.entry.columns member.ends.exit.columns) f)
 
-unfoldable pub closed_by : List PairEnds → List Transition → ℕ → List (Cell Transition) → Posing Transition
+unfoldable pub closed_by : List PairEnds → List Transition → ℕ → List (Cell Transition)
+    → Posing Transition
 closed_by members bases place cells =
     Noted
     (loss_notes
@@ -156,19 +185,22 @@ closed_by members bases place cells =
     (settled_and_fitted (exits_told (ends_at members place) (chains_of members bases cells place))
     (ends_at members place).ends.entry (ends_at members place).ends.exit)
 
-unfoldable pub closed_member : List PairEnds → List Stretch → List Transition → ℕ → Posing Transition
+unfoldable pub closed_member : List PairEnds → List Stretch → List Transition → ℕ
+    → Posing Transition
 closed_member members stretches bases place =
     Noted (loss_notes (flat_map (lost_in_group_leaf members) stretches))
     (evaluated (group_graph members stretches) place) >>= λ cells.
     closed_by members bases place cells
 
-unfoldable pub with_closed : List PairEnds → List Stretch → List Transition → List Transition → ℕ → Posing (List Transition)
+unfoldable pub with_closed : List PairEnds → List Stretch → List Transition → List Transition → ℕ
+    → Posing (List Transition)
 with_closed members stretches bases made place =
     closed_member members stretches bases place >>= λ f. Done (made ++ f ∷ [])
 
 -- ---- the closure
 
-unfoldable pub closure_of : Program → List ℕ → List (Option Transition) → List Transition → List Transition → Posing (List Transition)
+unfoldable pub closure_of : Program → List ℕ → List (Option Transition) → List Transition
+    → List Transition → Posing (List Transition)
 closure_of program procs known bases table =
     sides_of program procs (with_table procs table known) >>= λ sides.
     each
@@ -182,15 +214,23 @@ closure_of program procs known bases table =
 unfoldable pub exit_from : Subject → Posing (Option Transition)
 exit_from s = cells_from s 0 >>= λ cells. Done (formula_at (columns_of s) cells s.exit)
 
--- what holds of the pairs of activations without a call of the group, by one evaluation from the entry
+-- what holds of the pairs of activations without a call of the group, by one evaluation from the
+-- entry
 unfoldable pub base_of : Program → List (Option Transition) → Proc → Posing Transition
 base_of program known p =
     cells_from (subject_of program p known) 0 >>= λ cells.
-    Noted (loss_notes (lost_in_base (pair_ends program p) (formula_at (columns_of (subject_of program p known)) cells (subject_of program p known).exit)))
-    (Done (base_from (pair_ends program p) (formula_at (columns_of (subject_of program p known)) cells (subject_of program p known).exit)))
+    Noted (loss_notes
+    (lost_in_base (pair_ends program p)
+    (formula_at (columns_of (subject_of program p known)) cells
+    (subject_of program p known).exit)))
+    (Done (base_from (pair_ends program p)
+    (formula_at (columns_of (subject_of program p known)) cells
+    (subject_of program p known).exit)))
 
-unfoldable pub with_base : Program → List (Option Transition) → List Transition → Proc → Posing (List Transition)
+unfoldable pub with_base : Program → List (Option Transition) → List Transition → Proc
+    → Posing (List Transition)
 with_base program known made p = base_of program known p >>= λ base. Done (made ++ base ∷ [])
 
 unfoldable pub bases_of : Program → List ℕ → List (Option Transition) → Posing (List Transition)
-bases_of program procs known = each (with_base program (with_table procs [] known)) [] (members_of program procs)
+bases_of program procs known = each (with_base program (with_table procs [] known)) []
+    (members_of program procs)

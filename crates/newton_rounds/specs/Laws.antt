@@ -22,15 +22,18 @@ CallsMember procs _ = ⊥
 -- each call of a member calls a member, or a procedure whose formula is known
 abbrev pub KnowsOthers : Program → List ℕ → List (Option Transition) → Type 0
 KnowsOthers program procs known =
-    (place proc : ℕ) (p : Proc) → slice_get procs place ≡ Some proc → slice_get program.procs proc ≡ Some p →
+    (place proc : ℕ) (p : Proc) → slice_get procs place ≡ Some proc
+    → slice_get program.procs proc ≡ Some p →
     AllByRecursion (λ way. CallsMember procs way.act ⊎ KnowsCallee known way.act) (own_graph p).arcs
 
--- Where the known formulas are met, and the flag calls no group linear that is not, each summary of the group is met, whatever
--- the answers are, as long as they are true and pass.
+-- Where the known formulas are met, and the flag calls no group linear that is not, each summary of
+-- the group is met, whatever the answers are, as long as they are true and pass.
 abbrev pub SummariesAreMet : Type 0
 SummariesAreMet =
-    (program : Program) (procs : List ℕ) (known : List (Option Transition)) (linear : Bool) → IsWellFormed program →
-    All (λ proc. proc < length program.procs) procs → length procs ≤ length program.procs → AreKnown program known →
+    (program : Program) (procs : List ℕ) (known : List (Option Transition)) (linear : Bool)
+    → IsWellFormed program →
+    All (λ proc. proc < length program.procs) procs → length procs ≤ length program.procs
+    → AreKnown program known →
     AreMet program known →
     KnowsOthers program procs known → (IsTrue linear → IsLinear program procs) →
     AlwaysPassing (AreMetMembers program procs) (closed_of linear program procs known)

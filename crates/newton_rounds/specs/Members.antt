@@ -24,8 +24,8 @@ members_of program procs = flat_map (λ n. option_to_list (slice_get program.pro
 
 -- ---- calls of the group
 
--- an edge of a member that calls a member: their places in the group, the nodes that it leads from and to, the
--- arguments and the column that awaits the value
+-- an edge of a member that calls a member: their places in the group, the nodes that it leads from
+-- and to, the arguments and the column that awaits the value
 pub record GroupCall : Type 0 where
   pub caller : ℕ
   pub callee : ℕ
@@ -37,7 +37,14 @@ pub record GroupCall : Type 0 where
 abbrev pub call_to : ℕ → Arc → List Term → Option ℕ → Option ℕ → List GroupCall
 call_to caller way args into None = []
 call_to caller way args into (Some callee) =
-    record { caller = caller; callee = callee; from = way.from; to = way.to; args = args; into = into } ∷ []
+    record {
+      caller = caller;
+      callee = callee;
+      from = way.from;
+      to = way.to;
+      args = args;
+      into = into;
+    } ∷ []
 
 abbrev pub call_by : List ℕ → ℕ → Arc → Statement → List GroupCall
 call_by procs caller way (Call proc args into) = call_to caller way args into (place_of proc procs)
@@ -63,10 +70,12 @@ is_call_to procs _ = false
 abbrev pub calls_in : List ℕ → List Arc → List Arc
 calls_in procs ways = filter (λ way. is_call_to procs way.act) ways
 
--- No walk leads from the end of such an edge to the beginning of such an edge. The walk without an edge counts.
+-- No walk leads from the end of such an edge to the beginning of such an edge. The walk without an
+-- edge counts.
 abbrev pub AreApart : List ℕ → List Arc → Type 0
 AreApart procs ways =
-    (first second : Arc) → Contains (calls_in procs ways) first → Contains (calls_in procs ways) second →
+    (first second : Arc) → Contains (calls_in procs ways) first
+    → Contains (calls_in procs ways) second →
     (word : List ℕ) → ¬ IsWalk (map link_of ways) first.to second.from word
 
 -- no call of the group can follow another in one activation of a member
@@ -76,8 +85,10 @@ IsLinear program procs =
 
 -- ---- what is known
 
--- the known formulas, with those of a table for the members; a member past the table's end is unknown
-abbrev pub with_table : List ℕ → List Transition → List (Option Transition) → List (Option Transition)
+-- the known formulas, with those of a table for the members; a member past the table's end is
+-- unknown
+abbrev pub with_table : List ℕ → List Transition → List (Option Transition)
+    → List (Option Transition)
 with_table [] table known = known
 with_table (p ∷ ps) [] known = with_table ps [] (slice_set known p None)
 with_table (p ∷ ps) (f ∷ table) known = with_table ps table (slice_set known p (Some f))

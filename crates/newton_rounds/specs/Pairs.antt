@@ -1,5 +1,5 @@
--- Pairs of entry and exit: a formula from the entry and exit of a procedure to those of a procedure that it calls,
--- for each call of the group; and one for the activations that make no such call.
+-- Pairs of entry and exit: a formula from the entry and exit of a procedure to those of a procedure
+-- that it calls, for each call of the group; and one for the activations that make no such call.
 use Rattle.std.specs.Prelude.{ℕ, ◌+◌, List, [], ◌∷◌, ◌++◌, Option, None, Some, length, map, take, drop}
 use Rattle.std.specs.List.{range_with_len}
 use Rattle.linear_terms.specs.declared.col.Col.TheVariants.{At, Aux}
@@ -20,21 +20,25 @@ use Rattle.leaf_cases.specs.Steps.{operand}
 use Rattle.proc_summary.specs.Summary.{Ends, exit_formula, exit_places}
 use Rattle.newton_rounds.specs.Members.{GroupCall}
 
--- the ends of a member, and the vocabulary of its pairs: the columns of its entry, then those of its exit
+-- the ends of a member, and the vocabulary of its pairs: the columns of its entry, then those of
+-- its exit
 pub record PairEnds : Type 0 where
   pub ends : Ends
   pub pair : Vocabulary
 
 -- ---- the activations without a call of the group
 
--- what the exit's formula says of a pair: the entry's other columns become auxiliaries, and a row for each column of
--- the exit says that it is the post there
+-- what the exit's formula says of a pair: the entry's other columns become auxiliaries, and a row
+-- for each column of the exit says that it is the post there
 abbrev pub entry_told : PairEnds → Option Transition → Transition
-entry_told member f = raised member.pair.columns (hidden member.ends.entry.columns (exit_formula member.ends.full.columns f))
+entry_told member f =
+    raised member.pair.columns
+    (hidden member.ends.entry.columns (exit_formula member.ends.full.columns f))
 
 abbrev pub base_from : PairEnds → Option Transition → Transition
 base_from member exit =
-    with_posts [] (equated member.ends.entry.columns (exit_places member.ends) (entry_told member exit))
+    with_posts []
+    (equated member.ends.entry.columns (exit_places member.ends) (entry_told member exit))
 
 abbrev pub lost_in_base : PairEnds → Option Transition → List Loss
 lost_in_base member exit =
@@ -47,9 +51,11 @@ lost_in_base member exit =
 abbrev pub columns_from : ℕ → ℕ → List Polynomial
 columns_from first count = map (λ n. column_of (At n)) (range_with_len first count)
 
--- the arguments become the callee's entry: its globals and parameters stand behind the columns of the caller
+-- the arguments become the callee's entry: its globals and parameters stand behind the columns of
+-- the caller
 abbrev pub entered_case : ℕ → ℕ → Case → Case
-entered_case columns globals case = cases.with_posts (columns_of columns ++ (columns_of globals ++ case.post)) case
+entered_case columns globals case =
+    cases.with_posts (columns_of columns ++ (columns_of globals ++ case.post)) case
 
 abbrev pub call_entry : ℕ → ℕ → List Term → Transition
 call_entry columns globals args =
@@ -63,14 +69,15 @@ call_entry columns globals args =
 abbrev pub exit_columns : ℕ → List Polynomial
 exit_columns count = map (λ n. column_of (Aux n)) (range_with_len 0 count)
 
--- the caller's columns where the call has returned with these values: first the globals, then what is returned
+-- the caller's columns where the call has returned with these values: first the globals, then what
+-- is returned
 abbrev pub returned : ℕ → ℕ → Option ℕ → List Polynomial → List Polynomial
 returned columns globals into values =
     received into (operand globals record { aux = 0; rows = []; post = values })
     (take globals values ++ drop globals (columns_of columns))
 
--- new auxiliaries for the callee's exit are put into the caller's columns; the callee's entry is carried along, and its exit
--- stands behind it
+-- new auxiliaries for the callee's exit are put into the caller's columns; the callee's entry is
+-- carried along, and its exit stands behind it
 abbrev pub call_exit : ℕ → ℕ → Option ℕ → ℕ → ℕ → Transition
 call_exit columns globals into entry exit =
     record {
@@ -81,7 +88,8 @@ call_exit columns globals into entry exit =
             aux = exit;
             rows = [];
             post =
-                returned columns globals into (exit_columns exit) ++ (columns_from columns entry ++ exit_columns exit);
+                returned columns globals into (exit_columns exit)
+                ++ (columns_from columns entry ++ exit_columns exit);
           } ∷ [];
     }
 
@@ -91,10 +99,14 @@ carrying_case columns more case = cases.with_posts (case.post ++ columns_from co
 
 abbrev pub carrying : ℕ → ℕ → Transition → Transition
 carrying columns more f =
-    record { from = columns + more; to = columns + more; cases = map (carrying_case columns more) f.cases }
+    record {
+      from = columns + more;
+      to = columns + more;
+      cases = map (carrying_case columns more) f.cases;
+    }
 
--- a call of the group, what holds from the caller's entry to where it begins, and what holds from where it ends to the
--- caller's exit
+-- a call of the group, what holds from the caller's entry to where it begins, and what holds from
+-- where it ends to the caller's exit
 pub record Stretch : Type 0 where
   pub call : GroupCall
   pub before : Option Transition
@@ -116,7 +128,8 @@ stations_of caller callee s =
       first = entry_told caller s.before;
       second = call_entry caller.ends.full.columns caller.ends.globals s.call.args;
       third =
-          call_exit caller.ends.full.columns caller.ends.globals s.call.into (caller.ends.globals + length s.call.args)
+          call_exit caller.ends.full.columns caller.ends.globals s.call.into
+          (caller.ends.globals + length s.call.args)
           callee.ends.exit.columns;
       fourth =
           carrying caller.ends.full.columns (callee_width caller.ends callee.ends s.call.args)
@@ -135,12 +148,15 @@ lost_along s =
 -- the formula of a call, from the caller's pair to the callee's
 abbrev pub pair_formula : PairEnds → PairEnds → Stretch → Transition
 pair_formula caller callee s =
-    with_posts (range_with_len caller.ends.full.columns (callee_width caller.ends callee.ends s.call.args))
-    (equated caller.ends.entry.columns (exit_places caller.ends) (along (stations_of caller callee s)))
+    with_posts (range_with_len caller.ends.full.columns
+    (callee_width caller.ends callee.ends s.call.args))
+    (equated caller.ends.entry.columns (exit_places caller.ends)
+    (along (stations_of caller callee s)))
 
 abbrev pub lost_in_pair : PairEnds → PairEnds → Stretch → List Loss
 lost_in_pair caller callee s =
     lost_in_hiding caller.ends.entry.columns (exit_formula caller.ends.full.columns s.before)
     ++ ((arguments_of s.call.args).lost
     ++ (lost_along (stations_of caller callee s)
-    ++ lost_in_equating caller.ends.entry.columns (exit_places caller.ends) (along (stations_of caller callee s))))
+    ++ lost_in_equating caller.ends.entry.columns (exit_places caller.ends)
+    (along (stations_of caller callee s))))

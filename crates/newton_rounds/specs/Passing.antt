@@ -1,4 +1,5 @@
--- A property of a computation's value, as long as its answers are true and pass the test of their questions.
+-- A property of a computation's value, as long as its answers are true and pass the test of their
+-- questions.
 use Rattle.std.specs.Prelude.{IsTrue}
 use Rattle.farkas_check.specs.declared.answer.Answer.{Answer}
 use Rattle.farkas_check.specs.Meaning.{IsTrueAnswer}
@@ -10,4 +11,5 @@ abbrev pub AlwaysPassing : {A : Type 0} → (A → Type 0) → Posing A → Type
 AlwaysPassing P (Done value) = P value
 AlwaysPassing P (Noted notes next) = AlwaysPassing P next
 AlwaysPassing P (Asked question next) =
-    (answer : Answer) → IsTrueAnswer question answer → IsTrue (passes question answer) → AlwaysPassing P (next answer)
+    (answer : Answer) → IsTrueAnswer question answer → IsTrue (passes question answer)
+    → AlwaysPassing P (next answer)

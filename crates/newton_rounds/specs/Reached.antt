@@ -6,13 +6,15 @@ use Rattle.path_expr.specs.Walks.{IsWalk}
 
 -- some walk leads to the node from one of these
 abbrev pub IsReached : List Link → List ℕ → ℕ → Type 0
-IsReached links starts node = (start : ℕ) × (word : List ℕ) × Contains starts start × IsWalk links start node word
+IsReached links starts node = (start : ℕ) × (word : List ℕ) × Contains starts start
+    × IsWalk links start node word
 
 abbrev pub is_marked : List Bool → ℕ → Bool
 is_marked marks node = slice_index_or marks node false
 
 -- one mark for each node, which says whether a walk leads to it
-pub record TellsReached (nodes : ℕ) (links : List Link) (starts : List ℕ) (marks : List Bool) : Type 0 where
+pub record TellsReached (nodes : ℕ) (links : List Link) (starts : List ℕ)
+    (marks : List Bool) : Type 0 where
   pub each : length marks ≡ nodes
   pub tells : (node : ℕ) → (is_marked marks node ≡ true) ↔ IsReached links starts node
 
@@ -45,7 +47,8 @@ count_unmarked (true ∷ marks) = count_unmarked marks
 count_unmarked (false ∷ marks) = suc (count_unmarked marks)
 
 -- marks of reached nodes alone, of which each of these has one
-pub record IsMarked (nodes : ℕ) (links : List Link) (starts : List ℕ) (marks : List Bool) : Type 0 where
+pub record IsMarked (nodes : ℕ) (links : List Link) (starts : List ℕ)
+    (marks : List Bool) : Type 0 where
   pub long : length marks ≡ nodes
   pub sound : (node : ℕ) → is_marked marks node ≡ true → IsReached links starts node
   pub begun : (start : ℕ) → Contains starts start → is_marked marks start ≡ true

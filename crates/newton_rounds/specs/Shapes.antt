@@ -58,10 +58,21 @@ lost_on_the_way caller callee s =
 -- a call with its terms
 abbrev pub plain_call : own.GroupCall → GroupCall
 plain_call call =
-    record { caller = call.caller; callee = call.callee; from = call.from; to = call.to; args = map term_of call.args; into = call.into }
+    record {
+      caller = call.caller;
+      callee = call.callee;
+      from = call.from;
+      to = call.to;
+      args = map term_of call.args;
+      into = call.into;
+    }
 
 abbrev pub stretch_of : own.GroupCall → Sides → Stretch
-stretch_of call sides = record { call = plain_call call; before = sides.before; after = sides.after }
+stretch_of call sides = record {
+  call = plain_call call;
+  before = sides.before;
+  after = sides.after;
+}
 
 -- ---- calls of a group, and what stands at both sides of them
 
@@ -69,7 +80,8 @@ stretch_of call sides = record { call = plain_call call; before = sides.before; 
 pub record IsCallIn (members : List PairEnds) (call : GroupCall) : Type 0 where
   pub caller : call.caller < length members
   pub callee : call.callee < length members
-  pub enters : (ends_at members call.callee).ends.entry.columns ≡ (ends_at members call.caller).ends.globals + length call.args
+  pub enters : (ends_at members call.callee).ends.entry.columns
+      ≡ (ends_at members call.caller).ends.globals + length call.args
   pub is : IsCallFrom (ends_at members call.caller) call
 
 -- between states of so many columns
@@ -94,7 +106,8 @@ FitCalls members (call ∷ calls) (one ∷ sides) =
 
 -- ---- what refutes a row
 
--- the row is over the entry columns and the posts of the case, whose auxiliaries are few enough to be numbered
+-- the row is over the entry columns and the posts of the case, whose auxiliaries are few enough to
+-- be numbered
 pub record IsOverPairs (from : ℕ) (case : Case) (row : Row) : Type 0 where
   pub row_is : IsTrue (every_column (is_below (from + length case.post) 0) row.poly)
   pub case_is : IsTrue (fits from (length case.post) case)

@@ -36,7 +36,8 @@ pub(crate) fn bases_of<O: Oracle>(
     requires formed { IsWellFormed program.now }
     requires there { All (λ proc. proc < length program.now.procs) procs.now }
     requires known { AreKnown program.now known.now }
-    ensures follows { Follows O.asking oracle.old oracle.new log.old log.new result (bases_of program.now procs.now known.now) }
+    ensures follows { Follows O.asking oracle.old oracle.new log.old log.new result
+        (bases_of program.now procs.now known.now) }
     ensures fits { IfOk result (AreBases (ends_of_members program.now procs.now)) }
 {
     let others = with_table(alloc, procs, &[], known)?;
@@ -54,7 +55,8 @@ fn bases_by<O: Oracle>(
     requires formed { IsWellFormed program.now }
     requires there { All (λ proc. proc < length program.now.procs) procs.now }
     requires known { AreKnown program.now known.now }
-    ensures follows { Follows O.asking oracle.old oracle.new log.old log.new result (each (with_base program.now known.now) [] (members_of program.now procs.now)) }
+    ensures follows { Follows O.asking oracle.old oracle.new log.old log.new result
+        (each (with_base program.now known.now) [] (members_of program.now procs.now)) }
     ensures fits { IfOk result (AreBases (ends_of_members program.now procs.now)) }
 {
     let mut made = Items::new(alloc);
@@ -77,8 +79,11 @@ fn with_base<O: Oracle>(
     requires formed { IsWellFormed program.now }
     requires procedure { proc < length program.now.procs }
     requires known { AreKnown program.now known.now }
-    ensures follows { (p : Procedure) → slice_get program.now.procs proc ≡ Some p → Follows O.asking oracle.old oracle.new log.old log.new result (with_base program.now known.now made p) }
-    ensures fits { (p : Procedure) → slice_get program.now.procs proc ≡ Some p → IfOk result (AddsBase (pair_ends program.now p) made) }
+    ensures follows { (p : Procedure) → slice_get program.now.procs proc ≡ Some p
+        → Follows O.asking oracle.old oracle.new log.old log.new result
+        (with_base program.now known.now made p) }
+    ensures fits { (p : Procedure) → slice_get program.now.procs proc ≡ Some p
+        → IfOk result (AddsBase (pair_ends program.now p) made) }
 {
     let base = base_of(alloc, program, proc, known, oracle, log)?;
     let mut all = made;
@@ -99,8 +104,11 @@ fn base_of<O: Oracle>(
     requires formed { IsWellFormed program.now }
     requires procedure { proc < length program.now.procs }
     requires known { AreKnown program.now known.now }
-    ensures follows { (p : Procedure) → slice_get program.now.procs proc ≡ Some p → Follows O.asking oracle.old oracle.new log.old log.new result (base_of program.now known.now p) }
-    ensures goes { (p : Procedure) → slice_get program.now.procs proc ≡ Some p → IfOk result (GoesBetween 1000 (pair_ends program.now p).pair.columns 0) }
+    ensures follows { (p : Procedure) → slice_get program.now.procs proc ≡ Some p
+        → Follows O.asking oracle.old oracle.new log.old log.new result
+        (base_of program.now known.now p) }
+    ensures goes { (p : Procedure) → slice_get program.now.procs proc ≡ Some p
+        → IfOk result (GoesBetween 1000 (pair_ends program.now p).pair.columns 0) }
 {
     let ends = pair_ends(alloc, program, proc)?;
     let exit = exit_from(alloc, program, proc, known, oracle, log)?;

@@ -12,8 +12,8 @@ use std::alloc::{AllocError, Global};
 use syntax_tree::{Core, copy_cores};
 use transition_formula::Formula;
 
-/// A call of a procedure of the group by one: their places in the group, the nodes that its edge leads from and to, the
-/// arguments, and the column that awaits the value.
+/// A call of a procedure of the group by one: their places in the group, the nodes that its edge
+/// leads from and to, the arguments, and the column that awaits the value.
 #[derive(Drop)]
 pub(crate) struct GroupCall {
     pub(crate) caller: u32,
@@ -24,8 +24,8 @@ pub(crate) struct GroupCall {
     pub(crate) into: Option<u32>,
 }
 
-/// What holds from a caller's entry to where a call of the group begins, and what holds from where it ends to the caller's
-/// exit.
+/// What holds from a caller's entry to where a call of the group begins, and what holds from where
+/// it ends to the caller's exit.
 #[derive(Drop)]
 pub(crate) struct Sides {
     pub(crate) before: Option<Formula>,
@@ -40,7 +40,9 @@ pub(crate) fn calls_of(
     caller: u32,
 ) -> Result<Items<GroupCall>, AllocError>
     requires { length procs.now < 2 ^ 32 }
-    ensures { IfOk result (λ calls. map plain_call calls ≡ flat_map (λ way. call_by procs.now caller way way.act) (map arc_of edges.now)) }
+    ensures { IfOk result
+        (λ calls. map plain_call calls ≡ flat_map (λ way. call_by procs.now caller way way.act)
+        (map arc_of edges.now)) }
 {
     let mut calls = Items::new(alloc);
     for edge in edges {
@@ -58,7 +60,9 @@ fn add_call(
     calls: &mut Items<GroupCall>,
 ) -> Result<(), AllocError>
     requires { length procs.now < 2 ^ 32 }
-    ensures { OnOk result (map plain_call calls.new ≡ map plain_call calls.old ++ call_by procs.now caller (arc_of edge.now) (statement_of_act edge.now.act)) }
+    ensures { OnOk result
+        (map plain_call calls.new ≡ map plain_call calls.old ++ call_by procs.now caller
+        (arc_of edge.now) (statement_of_act edge.now.act)) }
 {
     match &edge.act {
         Act::Call { proc, args, into } => {
@@ -85,7 +89,9 @@ fn add_call_to(
     caller: u32,
     calls: &mut Items<GroupCall>,
 ) -> Result<(), AllocError>
-    ensures { OnOk result (map plain_call calls.new ≡ map plain_call calls.old ++ call_to caller (arc_of edge.now) (map term_of args.now) into callee) }
+    ensures { OnOk result
+        (map plain_call calls.new ≡ map plain_call calls.old ++ call_to caller (arc_of edge.now)
+        (map term_of args.now) into callee) }
 {
     let Some(callee) = callee else {
         return Ok(());

@@ -21,7 +21,8 @@ use posing::{Log, WorkError};
 use std::alloc::{AllocError, Global};
 use transition_formula::{Formula, FormulaError};
 
-/// The bounds of a formula in the directions of its pairs; without a case nothing is asked, and there is no row.
+/// The bounds of a formula in the directions of its pairs; without a case nothing is asked, and
+/// there is no row.
 #[tactic(auto, using(posing::proofs::Following::following), unfolding(crate::specs::Candidates::candidate_of))]
 pub(crate) fn candidate_of<O: Oracle>(
     alloc: Global,
@@ -32,7 +33,8 @@ pub(crate) fn candidate_of<O: Oracle>(
 ) -> Result<Items<Row>, WorkError>
     requires member { IsMember member.now }
     requires summary { IsSummary member.now f.now }
-    ensures follows { Follows O.asking oracle.old oracle.new log.old log.new result (candidate_of member.now f.now) }
+    ensures follows { Follows O.asking oracle.old oracle.new log.old log.new result
+        (candidate_of member.now f.now) }
     ensures over { IfOk result (AllByRecursion (IsRowOver member.now.pair.columns)) }
 {
     if f.cases().is_empty() {
@@ -60,8 +62,11 @@ fn pair_bounds<O: Oracle>(
     log: &mut Log,
 ) -> Result<Items<Row>, WorkError>
     requires posts { All (IsCoveredByPosts cases.now) (directions member.now.pair) }
-    requires rows { All (IsCovered (length (columns_of member.now.pair.columns))) (directions member.now.pair) }
-    ensures { Follows O.asking oracle.old oracle.new log.old log.new result (each (bounded_after cases.now (columns_of member.now.pair.columns)) [] (directions member.now.pair)) }
+    requires rows { All (IsCovered (length (columns_of member.now.pair.columns)))
+        (directions member.now.pair) }
+    ensures { Follows O.asking oracle.old oracle.new log.old log.new result
+        (each (bounded_after cases.now (columns_of member.now.pair.columns)) []
+        (directions member.now.pair)) }
 {
     let after = columns_from(alloc, 0, member.pair.columns())?;
     let asked = directions(alloc, &member.pair)?;

@@ -15,8 +15,8 @@ use posing::{Log, WorkError};
 use std::alloc::{AllocError, Global};
 use transition_formula::{Formula, FormulaError, Loss, hidden, identity, seq, with_entries};
 
-/// The formula of the procedure at a place, by what stands at each procedure of the group: the chains of calls from the one
-/// to the other, each with the base of its end.
+/// The formula of the procedure at a place, by what stands at each procedure of the group: the
+/// chains of calls from the one to the other, each with the base of its end.
 #[tactic(auto, using(posing::proofs::Following::following), unfolding(crate::specs::Closure::closed_by))]
 pub(crate) fn closed_by<O: Oracle>(
     alloc: Global,
@@ -28,7 +28,8 @@ pub(crate) fn closed_by<O: Oracle>(
     log: &mut Log,
 ) -> Result<Formula, WorkError>
     requires { AreChained members.now bases.now place cells.now }
-    ensures { Follows O.asking oracle.old oracle.new log.old log.new result (closed_by members.now bases.now place cells.now) }
+    ensures { Follows O.asking oracle.old oracle.new log.old log.new result
+        (closed_by members.now bases.now place cells.now) }
 {
     let member = &members[place as usize];
     let mut lost = Items::new(alloc);
@@ -38,8 +39,8 @@ pub(crate) fn closed_by<O: Oracle>(
     leaf(alloc, &told, &member.entry, &member.exit, oracle, log)
 }
 
-/// All chains from a procedure, over its pair: first those that end with itself, then those that end with the others, in
-/// their order.
+/// All chains from a procedure, over its pair: first those that end with itself, then those that
+/// end with the others, in their order.
 fn chains_of(
     alloc: Global,
     members: &[PairEnds],
@@ -50,7 +51,8 @@ fn chains_of(
 ) -> Result<Formula, FormulaError>
     requires { AreChained members.now bases.now place cells.now }
     ensures made { IfOk result (λ f. f ≡ chains_of members.now bases.now cells.now place) }
-    ensures noted { OnOk result (lost.new ≡ lost.old ++ lost_in_chains members.now bases.now cells.now place) }
+    ensures noted { OnOk result
+        (lost.new ≡ lost.old ++ lost_in_chains members.now bases.now cells.now place) }
 {
     let mut cases = Items::new(alloc);
     add_chains(alloc, members, bases, place, place, cells, &mut cases, lost)?;
@@ -73,8 +75,13 @@ fn add_others(
 ) -> Result<(), FormulaError>
     requires chained { AreChained members.now bases.now place cells.now }
     requires there { n < length members.now }
-    ensures made { OnOk result (cases.new ≡ cases.old ++ flat_map (λ n. (chain_end members.now bases.now cells.now place n).cases) (others_in place (n ∷ []))) }
-    ensures noted { OnOk result (lost.new ≡ lost.old ++ flat_map (lost_in_chain_end members.now bases.now cells.now place) (others_in place (n ∷ []))) }
+    ensures made { OnOk result
+        (cases.new ≡ cases.old
+        ++ flat_map (λ n. (chain_end members.now bases.now cells.now place n).cases)
+        (others_in place (n ∷ []))) }
+    ensures noted { OnOk result
+        (lost.new ≡ lost.old ++ flat_map (lost_in_chain_end members.now bases.now cells.now place)
+        (others_in place (n ∷ []))) }
 {
     if n == place {
         return Ok(());
@@ -95,8 +102,10 @@ fn add_chains(
 ) -> Result<(), FormulaError>
     requires chained { AreChained members.now bases.now place cells.now }
     requires there { n < length members.now }
-    ensures made { OnOk result (cases.new ≡ cases.old ++ (chain_end members.now bases.now cells.now place n).cases) }
-    ensures noted { OnOk result (lost.new ≡ lost.old ++ lost_in_chain_end members.now bases.now cells.now place n) }
+    ensures made { OnOk result
+        (cases.new ≡ cases.old ++ (chain_end members.now bases.now cells.now place n).cases) }
+    ensures noted { OnOk result
+        (lost.new ≡ lost.old ++ lost_in_chain_end members.now bases.now cells.now place n) }
 {
     let chains = chain_end(alloc, members, bases, place, n, cells, lost)?;
     Ok(add_cases(chains.cases(), cases)?)
@@ -115,7 +124,8 @@ fn chain_end(
     requires chained { AreChained members.now bases.now place cells.now }
     requires there { n < length members.now }
     ensures made { IfOk result (λ f. f ≡ chain_end members.now bases.now cells.now place n) }
-    ensures noted { OnOk result (lost.new ≡ lost.old ++ lost_in_chain_end members.now bases.now cells.now place n) }
+    ensures noted { OnOk result
+        (lost.new ≡ lost.old ++ lost_in_chain_end members.now bases.now cells.now place n) }
 {
     let from = width_at(members, place);
     let to = width_at(members, n);
@@ -142,7 +152,8 @@ fn add_cases(cases: &[Case], made: &mut Items<Case>) -> Result<(), AllocError>
     Ok(())
 }
 
-/// From one pair to another: no case where no chain of calls leads, and the identity where none was made.
+/// From one pair to another: no case where no chain of calls leads, and the identity where none was
+/// made.
 fn pair_cell(
     alloc: Global,
     from: u32,

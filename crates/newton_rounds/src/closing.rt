@@ -25,8 +25,9 @@ use std::alloc::Global;
 use syntax_tree::Program;
 use transition_formula::Formula;
 
-/// The summaries of a recursive group, in the order of its procedures. `linear` says whether no call of the group can follow
-/// another in one activation. Where the known formulas are met and each other callee is known, each summary is met.
+/// The summaries of a recursive group, in the order of its procedures. `linear` says whether no
+/// call of the group can follow another in one activation. Where the known formulas are met and
+/// each other callee is known, each summary is met.
 pub fn close<O: Oracle>(
     alloc: Global,
     program: &Program,
@@ -40,9 +41,12 @@ pub fn close<O: Oracle>(
     requires there { All (λ proc. proc < length program.now.procs) procs.now }
     requires few { length procs.now ≤ length program.now.procs }
     requires known { AreKnown program.now known.now }
-    ensures follows { Follows O.asking oracle.old oracle.new log.old log.new result (closed_of linear program.now procs.now known.now) }
+    ensures follows { Follows O.asking oracle.old oracle.new log.old log.new result
+        (closed_of linear program.now procs.now known.now) }
     ensures known { IfOk result (AreKnownMembers program.now procs.now) }
-    ensures met { AreMet program.now known.now → KnowsOthers program.now procs.now known.now → (IsTrue linear → IsLinear program.now procs.now) → IfOk result (AreMetMembers program.now procs.now) }
+    ensures met { AreMet program.now known.now → KnowsOthers program.now procs.now known.now
+        → (IsTrue linear → IsLinear program.now procs.now)
+        → IfOk result (AreMetMembers program.now procs.now) }
 {
     closed_of(alloc, program, procs, known, linear, oracle, log)
 }
@@ -62,7 +66,8 @@ fn closed_of<O: Oracle>(
     requires there { All (λ proc. proc < length program.now.procs) procs.now }
     requires few { length procs.now ≤ length program.now.procs }
     requires known { AreKnown program.now known.now }
-    ensures follows { Follows O.asking oracle.old oracle.new log.old log.new result (closed_of linear program.now procs.now known.now) }
+    ensures follows { Follows O.asking oracle.old oracle.new log.old log.new result
+        (closed_of linear program.now procs.now known.now) }
     ensures known { IfOk result (AreKnownMembers program.now procs.now) }
 {
     let bases = bases_of(alloc, program, procs, known, oracle, log)?;
@@ -90,7 +95,8 @@ fn closed_by_rounds<O: Oracle>(
     requires few { length procs.now ≤ length program.now.procs }
     requires known { AreKnown program.now known.now }
     requires bases { AreBases (ends_of_members program.now procs.now) bases.now }
-    ensures follows { Follows O.asking oracle.old oracle.new log.old log.new result (closed_by_rounds program.now procs.now known.now bases.now) }
+    ensures follows { Follows O.asking oracle.old oracle.new log.old log.new result
+        (closed_by_rounds program.now procs.now known.now bases.now) }
     ensures fits { IfOk result (AreSummaries (ends_of_members program.now procs.now)) }
 {
     let members = ends_of_members(alloc, program, procs)?;
@@ -122,7 +128,8 @@ fn rounds_after<O: Oracle>(
     requires known { AreKnown program.now known.now }
     requires bases { AreBases (ends_of_members program.now procs.now) bases.now }
     requires table { FitTable program.now procs.now table.now }
-    ensures follows { Follows O.asking oracle.old oracle.new log.old log.new result (rounds_after program.now procs.now known.now bases.now table.now) }
+    ensures follows { Follows O.asking oracle.old oracle.new log.old log.new result
+        (rounds_after program.now procs.now known.now bases.now table.now) }
     ensures fits { IfOk result (AreSummaries (ends_of_members program.now procs.now)) }
 {
     let second = closure_of(alloc, program, procs, known, bases, table, oracle, log)?;
@@ -148,7 +155,8 @@ fn rounds_over<O: Oracle>(
     requires members { members.now ≡ ends_of_members program.now procs.now }
     requires known { AreKnown program.now known.now }
     requires table { AreSummaries members.now table.now }
-    ensures follows { Follows O.asking oracle.old oracle.new log.old log.new result (rounds_over program.now procs.now known.now table.now) }
+    ensures follows { Follows O.asking oracle.old oracle.new log.old log.new result
+        (rounds_over program.now procs.now known.now table.now) }
     ensures fits { IfOk result (AreSummaries (ends_of_members program.now procs.now)) }
 {
     let candidates = candidates_of(alloc, members, table, oracle, log)?;
@@ -167,7 +175,8 @@ fn candidates_of<O: Oracle>(
 ) -> Result<Items<Items<Row>>, WorkError>
     requires members { AllByRecursion IsMember members.now }
     requires table { AreSummaries members.now table.now }
-    ensures follows { Follows O.asking oracle.old oracle.new log.old log.new result (each with_candidate [] (paired_up members.now table.now)) }
+    ensures follows { Follows O.asking oracle.old oracle.new log.old log.new result
+        (each with_candidate [] (paired_up members.now table.now)) }
     ensures over { IfOk result (AreCandidates members.now) }
 {
     let mut made = Items::new(alloc);
@@ -188,7 +197,8 @@ fn with_candidate<O: Oracle>(
 ) -> Result<Items<Items<Row>>, WorkError>
     requires member { IsMember member.now }
     requires summary { IsSummary member.now f.now }
-    ensures { Follows O.asking oracle.old oracle.new log.old log.new result (with_candidate made (member.now, f.now)) }
+    ensures { Follows O.asking oracle.old oracle.new log.old log.new result
+        (with_candidate made (member.now, f.now)) }
 {
     let rows = candidate_of(alloc, member, f, oracle, log)?;
     let mut all = made;

@@ -28,8 +28,8 @@ use std::alloc::{AllocError, Global};
 use syntax_tree::Program;
 use transition_formula::{Formula, FormulaError, Loss};
 
-/// The closure of a table: a formula for each procedure of the group by one more unfolding of each chain of calls, where the
-/// group's calls on the way are read by the table.
+/// The closure of a table: a formula for each procedure of the group by one more unfolding of each
+/// chain of calls, where the group's calls on the way are read by the table.
 #[tactic(auto, using(posing::proofs::Following::following), unfolding(crate::specs::Closure::closure_of))]
 pub(crate) fn closure_of<O: Oracle>(
     alloc: Global,
@@ -47,7 +47,8 @@ pub(crate) fn closure_of<O: Oracle>(
     requires known { AreKnown program.now known.now }
     requires bases { AreBases (ends_of_members program.now procs.now) bases.now }
     requires table { FitTable program.now procs.now table.now }
-    ensures follows { Follows O.asking oracle.old oracle.new log.old log.new result (closure_of program.now procs.now known.now bases.now table.now) }
+    ensures follows { Follows O.asking oracle.old oracle.new log.old log.new result
+        (closure_of program.now procs.now known.now bases.now table.now) }
     ensures fits { IfOk result (AreSummaries (ends_of_members program.now procs.now)) }
 {
     let members = ends_of_members(alloc, program, procs)?;
@@ -81,8 +82,11 @@ fn sides_by<O: Oracle>(
     requires few { length procs.now < 2 ^ 32 }
     requires known { AreKnown program.now known.now }
     requires table { FitTable program.now procs.now table.now }
-    ensures follows { Follows O.asking oracle.old oracle.new log.old log.new result (sides_of program.now procs.now (with_table procs.now table.now known.now)) }
-    ensures fits { IfOk result (FitCalls (ends_of_members program.now procs.now) (calls_from procs.now 0 (members_of program.now procs.now))) }
+    ensures follows { Follows O.asking oracle.old oracle.new log.old log.new result
+        (sides_of program.now procs.now (with_table procs.now table.now known.now)) }
+    ensures fits { IfOk result
+        (FitCalls (ends_of_members program.now procs.now)
+        (calls_from procs.now 0 (members_of program.now procs.now))) }
 {
     let all = with_table(alloc, procs, table, known)?;
     sides_of(alloc, program, procs, all.as_slice(), oracle, log)
@@ -102,7 +106,9 @@ fn closed<O: Oracle>(
     requires each { length calls.now ≡ length sides.now }
     requires group { IsGroup members.now (stretches_with (map plain_call calls.now) sides.now) }
     requires bases { AreBases members.now bases.now }
-    ensures { Follows O.asking oracle.old oracle.new log.old log.new result (each (with_closed members.now (stretches_with (map plain_call calls.now) sides.now) bases.now) [] (range_with_len 0 (length members.now))) }
+    ensures { Follows O.asking oracle.old oracle.new log.old log.new result
+        (each (with_closed members.now (stretches_with (map plain_call calls.now) sides.now)
+        bases.now) [] (range_with_len 0 (length members.now))) }
 {
     let mut made = Items::new(alloc);
     for place in 0..members.len() as u32 {
@@ -129,7 +135,9 @@ fn with_closed<O: Oracle>(
     requires group { IsGroup members.now (stretches_with (map plain_call calls.now) sides.now) }
     requires bases { AreBases members.now bases.now }
     requires there { place < length members.now }
-    ensures { Follows O.asking oracle.old oracle.new log.old log.new result (with_closed members.now (stretches_with (map plain_call calls.now) sides.now) bases.now made place) }
+    ensures { Follows O.asking oracle.old oracle.new log.old log.new result
+        (with_closed members.now (stretches_with (map plain_call calls.now) sides.now) bases.now
+        made place) }
 {
     let f = closed_member(alloc, members, calls, sides, bases, place, oracle, log)?;
     let mut all = made;
@@ -153,7 +161,9 @@ fn closed_member<O: Oracle>(
     requires group { IsGroup members.now (stretches_with (map plain_call calls.now) sides.now) }
     requires bases { AreBases members.now bases.now }
     requires there { place < length members.now }
-    ensures { Follows O.asking oracle.old oracle.new log.old log.new result (closed_member members.now (stretches_with (map plain_call calls.now) sides.now) bases.now place) }
+    ensures { Follows O.asking oracle.old oracle.new log.old log.new result
+        (closed_member members.now (stretches_with (map plain_call calls.now) sides.now) bases.now
+        place) }
 {
     let cells = group_cells(alloc, members, calls, sides, place, oracle, log)?;
     closed_by(alloc, members, bases, place, cells.as_slice(), oracle, log)
@@ -173,7 +183,12 @@ fn group_cells<O: Oracle>(
     requires each { length calls.now ≡ length sides.now }
     requires group { IsGroup members.now (stretches_with (map plain_call calls.now) sides.now) }
     requires there { place < length members.now }
-    ensures follows { Follows O.asking oracle.old oracle.new log.old log.new result (Noted (loss_notes (flat_map (lost_in_group_leaf members.now) (stretches_with (map plain_call calls.now) sides.now))) (evaluated (group_graph members.now (stretches_with (map plain_call calls.now) sides.now)) place)) }
+    ensures follows { Follows O.asking oracle.old oracle.new log.old log.new result
+        (Noted (loss_notes
+        (flat_map (lost_in_group_leaf members.now)
+        (stretches_with (map plain_call calls.now) sides.now)))
+        (evaluated (group_graph members.now (stretches_with (map plain_call calls.now) sides.now))
+        place)) }
     ensures lead { IfOk result (AreChainsFrom members.now place) }
 {
     let links = links_of(alloc, calls)?;
@@ -191,7 +206,8 @@ fn group_cells<O: Oracle>(
 }
 
 fn links_of(alloc: Global, calls: &[GroupCall]) -> Result<Items<Link>, AllocError>
-    ensures { IfOk result (λ links. links ≡ map (λ call. record { from = call.caller; to = call.callee }) calls.now) }
+    ensures { IfOk result
+        (λ links. links ≡ map (λ call. record { from = call.caller; to = call.callee }) calls.now) }
 {
     let mut links = Items::new(alloc);
     for call in calls {
@@ -213,8 +229,12 @@ fn noted_leaves(
 ) -> Result<Items<Formula>, FormulaError>
     requires each { length calls.now ≡ length sides.now }
     requires group { IsGroup members.now (stretches_with (map plain_call calls.now) sides.now) }
-    ensures noted { Adds (loss_notes (flat_map (lost_in_group_leaf members.now) (stretches_with (map plain_call calls.now) sides.now))) log.old log.new result }
-    ensures made { IfOk result (λ leaves. leaves ≡ map (group_leaf members.now) (stretches_with (map plain_call calls.now) sides.now)) }
+    ensures noted { Adds
+        (loss_notes (flat_map (lost_in_group_leaf members.now)
+        (stretches_with (map plain_call calls.now) sides.now))) log.old log.new result }
+    ensures made { IfOk result
+        (λ leaves. leaves
+        ≡ map (group_leaf members.now) (stretches_with (map plain_call calls.now) sides.now)) }
 {
     let mut lost = Items::new(alloc);
     let leaves = leaves_of(alloc, members, calls, sides, &mut lost)?;
@@ -231,8 +251,12 @@ fn leaves_of(
 ) -> Result<Items<Formula>, FormulaError>
     requires each { length calls.now ≡ length sides.now }
     requires group { IsGroup members.now (stretches_with (map plain_call calls.now) sides.now) }
-    ensures made { IfOk result (λ leaves. leaves ≡ map (group_leaf members.now) (stretches_with (map plain_call calls.now) sides.now)) }
-    ensures noted { OnOk result (lost.new ≡ lost.old ++ flat_map (lost_in_group_leaf members.now) (stretches_with (map plain_call calls.now) sides.now)) }
+    ensures made { IfOk result
+        (λ leaves. leaves
+        ≡ map (group_leaf members.now) (stretches_with (map plain_call calls.now) sides.now)) }
+    ensures noted { OnOk result
+        (lost.new ≡ lost.old ++ flat_map (lost_in_group_leaf members.now)
+        (stretches_with (map plain_call calls.now) sides.now)) }
 {
     let mut leaves = Items::new(alloc);
     for (i, call) in calls.iter().enumerate() {

@@ -13,8 +13,8 @@ use std::marker::Model;
 use syntax_tree::Program;
 use vocabularies::{entry, full, pair};
 
-/// How many of a procedure's columns are globals, whether it returns a value, and the vocabularies of its states, of its entry,
-/// of its exit, and of pairs of both.
+/// How many of a procedure's columns are globals, whether it returns a value, and the vocabularies
+/// of its states, of its entry, of its exit, and of pairs of both.
 #[derive(Drop)]
 pub(crate) struct PairEnds {
     pub(crate) globals: u32,
@@ -30,7 +30,17 @@ impl Model for PairEnds {
 
     ghost Value = { plain.PairEnds };
 
-    ghost view = { λ m. record { ends = record { globals = m.globals; returns = m.returns; full = m.full; entry = m.entry; exit = m.exit }; pair = m.pair } };
+    ghost view = { λ m.
+        record {
+          ends = record {
+            globals = m.globals;
+            returns = m.returns;
+            full = m.full;
+            entry = m.entry;
+            exit = m.exit;
+          };
+          pair = m.pair;
+        } };
 }
 
 impl PairEnds {
@@ -63,7 +73,8 @@ pub(crate) fn numbers_from(alloc: Global, first: u32, count: u32) -> Result<Item
 pub(crate) fn pair_ends(alloc: Global, program: &Program, proc: u32) -> Result<PairEnds, AllocError>
     requires formed { IsWellFormed program.now }
     requires procedure { proc < length program.now.procs }
-    ensures { (p : Procedure) → slice_get program.now.procs proc ≡ Some p → IfOk result (λ ends. ends ≡ pair_ends program.now p) }
+    ensures { (p : Procedure) → slice_get program.now.procs proc ≡ Some p
+        → IfOk result (λ ends. ends ≡ pair_ends program.now p) }
 {
     let full = full(alloc, program, proc)?;
     let entry = entry(alloc, program, proc)?;

@@ -30,8 +30,11 @@ pub(crate) fn exit_from<O: Oracle>(
     requires formed { IsWellFormed program.now }
     requires procedure { proc < length program.now.procs }
     requires known { AreKnown program.now known.now }
-    ensures follows { (p : Procedure) → slice_get program.now.procs proc ≡ Some p → Follows O.asking oracle.old oracle.new log.old log.new result (exit_from (subject_of program.now p known.now)) }
-    ensures fits { (p : Procedure) → slice_get program.now.procs proc ≡ Some p → IfOk result (FitsIf (width_of program.now p)) }
+    ensures follows { (p : Procedure) → slice_get program.now.procs proc ≡ Some p
+        → Follows O.asking oracle.old oracle.new log.old log.new result
+        (exit_from (subject_of program.now p known.now)) }
+    ensures fits { (p : Procedure) → slice_get program.now.procs proc ≡ Some p
+        → IfOk result (FitsIf (width_of program.now p)) }
 {
     let columns = columns_of(program, proc);
     let exit = exit_node(alloc, program, proc)?;
@@ -43,7 +46,8 @@ pub(crate) fn exit_from<O: Oracle>(
 fn exit_node(alloc: Global, program: &Program, proc: u32) -> Result<u32, AllocError>
     requires formed { IsWellFormed program.now }
     requires procedure { proc < length program.now.procs }
-    ensures { (p : Procedure) → slice_get program.now.procs proc ≡ Some p → IfOk result (λ node. node ≡ exit_of (code_of p.body)) }
+    ensures { (p : Procedure) → slice_get program.now.procs proc ≡ Some p
+        → IfOk result (λ node. node ≡ exit_of (code_of p.body)) }
 {
     let graph = graph_of(alloc, program, proc)?;
     Ok(graph.nodes - 1)

@@ -1,4 +1,5 @@
-//! The summaries of recursive groups: whether a call of the group can follow another in one activation.
+//! The summaries of recursive groups: whether a call of the group can follow another in one
+//! activation.
 #![tactic(auto)]
 
 mod bases;

@@ -35,7 +35,8 @@ pub fn is_linear(alloc: Global, program: &Program, group: &Group) -> Result<bool
 fn are_apart(alloc: Global, program: &Program, proc: u32, procs: &[u32]) -> Result<bool, WorkError>
     requires formed { IsWellFormed program.now }
     requires there { proc < length program.now.procs }
-    ensures { IfOk result (λ apart. IsTrue apart ↔ AreApart procs.now (graph_of program.now proc).arcs) }
+    ensures { IfOk result
+        (λ apart. IsTrue apart ↔ AreApart procs.now (graph_of program.now proc).arcs) }
 {
     let Ok(graph) = graph(alloc, program, proc) else {
         return Err(WorkError::Memory);
@@ -74,7 +75,8 @@ fn links_of(alloc: Global, edges: &[Edge]) -> Result<Items<Link>, AllocError>
 
 /// Where the edges end that call one of these.
 fn ends_of_calls(alloc: Global, edges: &[Edge], procs: &[u32]) -> Result<Items<u32>, AllocError>
-    ensures { IfOk result (λ ends. ends ≡ map (λ way. way.to) (calls_in procs.now (map arc_of edges.now))) }
+    ensures { IfOk result
+        (λ ends. ends ≡ map (λ way. way.to) (calls_in procs.now (map arc_of edges.now))) }
 {
     let mut ends = Items::new(alloc);
     for edge in edges {
@@ -88,7 +90,8 @@ fn ends_of_calls(alloc: Global, edges: &[Edge], procs: &[u32]) -> Result<Items<u
 /// Whether no edge that calls one of these begins at a node with a mark.
 fn no_call_begins(edges: &[Edge], procs: &[u32], marks: &[bool]) -> bool
     requires { All (λ edge. edge.from < length marks.now) edges.now }
-    ensures { result ≡ list_all (λ way. not (is_marked marks.now way.from)) (calls_in procs.now (map arc_of edges.now)) }
+    ensures { result ≡ list_all (λ way. not (is_marked marks.now way.from))
+        (calls_in procs.now (map arc_of edges.now)) }
 {
     for edge in edges {
         if is_call_to(&edge.act, procs) && marks[edge.from as usize] {

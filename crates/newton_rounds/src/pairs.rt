@@ -29,7 +29,8 @@ pub(crate) fn exit_formula(
     }
 }
 
-/// What a formula of the states says of a pair: it says nothing of the pair's exit, and the other columns become auxiliaries.
+/// What a formula of the states says of a pair: it says nothing of the pair's exit, and the other
+/// columns become auxiliaries.
 pub(crate) fn entry_told(
     alloc: Global,
     member: &PairEnds,
@@ -39,15 +40,17 @@ pub(crate) fn entry_told(
     requires ends { AreEnds member.now }
     requires fits { FitsIf member.now.ends.full.columns f.now }
     ensures made { IfOk result (λ told. told ≡ entry_told member.now f.now) }
-    ensures noted { OnOk result (lost.new ≡ lost.old ++ lost_in_hiding member.now.ends.entry.columns (exit_formula member.now.ends.full.columns f.now)) }
+    ensures noted { OnOk result
+        (lost.new ≡ lost.old ++ lost_in_hiding member.now.ends.entry.columns
+        (exit_formula member.now.ends.full.columns f.now)) }
 {
     let whole = exit_formula(alloc, member.full.columns(), f)?;
     let told = hidden(alloc, &whole, member.entry.columns(), lost)?;
     raised(&told, member.pair.columns())
 }
 
-/// What holds of the pairs of activations without a call of the group, by the formula of the exit. Each loss is noted after those
-/// that are there. After an error more may be noted.
+/// What holds of the pairs of activations without a call of the group, by the formula of the exit.
+/// Each loss is noted after those that are there. After an error more may be noted.
 pub(crate) fn base_from(
     alloc: Global,
     member: &PairEnds,

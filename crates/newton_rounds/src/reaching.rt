@@ -37,7 +37,8 @@ fn marks_of(alloc: Global, nodes: u32, starts: &[u32]) -> Result<Vec<bool>, Allo
     Ok(marks)
 }
 
-/// Marks the end of each link whose beginning is marked, link by link. It tells whether that marked any.
+/// Marks the end of each link whose beginning is marked, link by link. It tells whether that marked
+/// any.
 fn spread(links: &[Link], marks: &mut Vec<bool>) -> bool
     requires { IsGraph (length marks.old.items) links.now }
     ensures marks { marks.new.items ≡ after_links marks.old.items links.now }

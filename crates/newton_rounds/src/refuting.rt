@@ -20,8 +20,8 @@ use posing::{Log, Note, Witness, WorkError, ask};
 use std::alloc::{AllocError, Global};
 use transition_formula::{Formula, FormulaError, Loss, Solved, note, solve};
 
-/// What refutes a row of a candidate, over all cases of the formula that one more unfolding makes: the first point, else the
-/// first limit, if there is one.
+/// What refutes a row of a candidate, over all cases of the formula that one more unfolding makes:
+/// the first point, else the first limit, if there is one.
 #[tactic(auto, using(posing::proofs::Following::following), unfolding(crate::specs::Candidates::refuted))]
 pub(crate) fn refuted<O: Oracle>(
     alloc: Global,
@@ -31,7 +31,8 @@ pub(crate) fn refuted<O: Oracle>(
     log: &mut Log,
 ) -> Result<Option<Witness>, WorkError>
     requires rows { IsRefutable f.now row.now }
-    ensures { Follows O.asking oracle.old oracle.new log.old log.new result (refuted f.now row.now) }
+    ensures { Follows O.asking oracle.old oracle.new log.old log.new result
+        (refuted f.now row.now) }
 {
     let found = found_over(alloc, f, row, oracle, log)?;
     outcome(alloc, found, oracle, log)
@@ -46,7 +47,8 @@ fn found_over<O: Oracle>(
     log: &mut Log,
 ) -> Result<Findings, WorkError>
     requires rows { IsRefutable f.now row.now }
-    ensures { Follows O.asking oracle.old oracle.new log.old log.new result (each (with_case f.now.from row.now) (record { point = None; limits = [] }) f.now.cases) }
+    ensures { Follows O.asking oracle.old oracle.new log.old log.new result
+        (each (with_case f.now.from row.now) (record { point = None; limits = [] }) f.now.cases) }
 {
     let mut found = Findings {
         point: None,
@@ -70,7 +72,8 @@ fn with_case<O: Oracle>(
     log: &mut Log,
 ) -> Result<Findings, WorkError>
     requires { IsOverPairs from case.now row.now }
-    ensures { Follows O.asking oracle.old oracle.new log.old log.new result (with_case from row.now found case.now) }
+    ensures { Follows O.asking oracle.old oracle.new log.old log.new result
+        (with_case from row.now found case.now) }
 {
     let mut lost = Items::new(alloc);
     let whole = against(alloc, from, case, row, &mut lost)?;
@@ -89,7 +92,8 @@ fn against(
 ) -> Result<Case, FormulaError>
     requires { IsOverPairs from case.now row.now }
     ensures made { IfOk result (λ c. c ≡ against from case.now row.now) }
-    ensures noted { OnOk result (lost.new ≡ lost.old ++ losses_of (contrary from case.now row.now)) }
+    ensures noted { OnOk result
+        (lost.new ≡ lost.old ++ losses_of (contrary from case.now row.now)) }
 {
     let mut rows = case.rows.clone()?;
     add_contrary(alloc, from, case, row, &mut rows, lost)?;
@@ -110,8 +114,10 @@ fn add_contrary(
     lost: &mut Items<Loss>,
 ) -> Result<(), FormulaError>
     requires { IsOverPairs from case.now row.now }
-    ensures made { OnOk result (rows.new ≡ rows.old ++ option_to_list (answered (contrary from case.now row.now))) }
-    ensures noted { OnOk result (lost.new ≡ lost.old ++ losses_of (contrary from case.now row.now)) }
+    ensures made { OnOk result
+        (rows.new ≡ rows.old ++ option_to_list (answered (contrary from case.now row.now))) }
+    ensures noted { OnOk result
+        (lost.new ≡ lost.old ++ losses_of (contrary from case.now row.now)) }
 {
     match contrary(alloc, from, case, row) {
         Ok(opposite) => rows.push(opposite)?,
@@ -166,7 +172,8 @@ fn found_left<O: Oracle>(
     oracle: &mut O,
     log: &mut Log,
 ) -> Result<Findings, WorkError>
-    ensures { Follows O.asking oracle.old oracle.new log.old log.new result (found_left found (kept_of left)) }
+    ensures { Follows O.asking oracle.old oracle.new log.old log.new result
+        (found_left found (kept_of left)) }
 {
     match left {
         Solved::Kept(case) => found_in(alloc, found, case.rows, oracle, log),
@@ -196,7 +203,8 @@ fn found_in<O: Oracle>(
 }
 
 fn with_answer(found: Findings, of: Items<Mono>, answer: Answer) -> Result<Findings, AllocError>
-    ensures { (rows : List PlainRow) → of ≡ columns rows [] → IfOk result (λ next. next ≡ with_answer found rows answer) }
+    ensures { (rows : List PlainRow) → of ≡ columns rows []
+        → IfOk result (λ next. next ≡ with_answer found rows answer) }
 {
     match answer {
         Answer::No(at) => Ok(with_point(found, Witness::Point { of, at })),
@@ -220,7 +228,8 @@ fn with_point(found: Findings, point: Witness) -> Findings
 }
 
 fn with_limit(found: Findings, limit: Limit) -> Result<Findings, AllocError>
-    ensures { IfOk result (λ next. next ≡ record { point = found.point; limits = found.limits ++ limit ∷ [] }) }
+    ensures { IfOk result
+        (λ next. next ≡ record { point = found.point; limits = found.limits ++ limit ∷ [] }) }
 {
     let Findings { point, limits } = found;
     let mut all = limits;
@@ -228,7 +237,8 @@ fn with_limit(found: Findings, limit: Limit) -> Result<Findings, AllocError>
     Ok(Findings { point, limits: all })
 }
 
-/// The point, else the first limit; limits that are not told so are noted by themselves. Nothing is asked.
+/// The point, else the first limit; limits that are not told so are noted by themselves. Nothing is
+/// asked.
 #[tactic(auto, using(posing::proofs::Following::following))]
 fn outcome<O: Oracle>(
     alloc: Global,
@@ -256,7 +266,8 @@ fn first_limit<O: Oracle>(
     _oracle: &mut O,
     log: &mut Log,
 ) -> Result<Option<Witness>, WorkError>
-    ensures { Follows O.asking _oracle.old _oracle.new log.old log.new result (outcome_by None limits.now) }
+    ensures { Follows O.asking _oracle.old _oracle.new log.old log.new result
+        (outcome_by None limits.now) }
 {
     match limits {
         [] => Ok(None),

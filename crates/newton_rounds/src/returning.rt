@@ -9,8 +9,8 @@ use linear_terms::{Case, Col, Poly};
 use std::alloc::{AllocError, Global};
 use transition_formula::{Formula, FormulaError, column};
 
-/// Where a call has returned: the callee's exit in new auxiliaries. These are put into the caller's columns; the callee's entry is
-/// carried along, and its exit stands behind it.
+/// Where a call has returned: the callee's exit in new auxiliaries. These are put into the caller's
+/// columns; the callee's entry is carried along, and its exit stands behind it.
 pub(crate) fn call_exit(
     alloc: Global,
     columns: u32,
@@ -49,7 +49,8 @@ fn exit_columns(alloc: Global, count: u32) -> Result<Items<Poly>, FormulaError>
     Ok(made)
 }
 
-/// The caller's columns where a call has returned with these values: first the globals, then what is returned.
+/// The caller's columns where a call has returned with these values: first the globals, then what
+/// is returned.
 fn returned(
     alloc: Global,
     columns: u32,

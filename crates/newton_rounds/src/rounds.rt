@@ -42,7 +42,8 @@ pub(crate) fn kept_candidates<O: Oracle>(
     requires few { length procs.now ≤ length program.now.procs }
     requires known { AreKnown program.now known.now }
     requires candidates { AreCandidates (ends_of_members program.now procs.now) candidates }
-    ensures follows { Follows O.asking oracle.old oracle.new log.old log.new result (kept_candidates program.now procs.now known.now candidates) }
+    ensures follows { Follows O.asking oracle.old oracle.new log.old log.new result
+        (kept_candidates program.now procs.now known.now candidates) }
     ensures over { IfOk result (AreCandidates (ends_of_members program.now procs.now)) }
 {
     let members = ends_of_members(alloc, program, procs)?;
@@ -83,7 +84,8 @@ fn round<O: Oracle>(
     requires members { members.now ≡ ends_of_members program.now procs.now }
     requires known { AreKnown program.now known.now }
     requires candidates { AreCandidates members.now candidates.now }
-    ensures follows { Follows O.asking oracle.old oracle.new log.old log.new result (round program.now procs.now known.now candidates.now) }
+    ensures follows { Follows O.asking oracle.old oracle.new log.old log.new result
+        (round program.now procs.now known.now candidates.now) }
     ensures over { IfOk result (λ next. AreCandidates members.now next.0) }
     ensures fewer { IfOk result (λ next. IsFewer candidates.now next) }
 {
@@ -104,7 +106,8 @@ fn known_with(
     requires procs { All (λ proc. proc < length known.now) procs.now }
     requires members { AllByRecursion IsMember members.now }
     requires candidates { AreCandidates members.now candidates.now }
-    ensures { IfOk result (λ all. all ≡ with_table procs.now (table_of members.now candidates.now) known.now) }
+    ensures { IfOk result
+        (λ all. all ≡ with_table procs.now (table_of members.now candidates.now) known.now) }
 {
     let table = table_of(alloc, members, candidates)?;
     Ok(with_table(alloc, procs, table.as_slice(), known)?)
@@ -118,7 +121,9 @@ fn rows_left(
 ) -> Result<(Items<Items<Row>>, bool), AllocError>
     requires { length judged.now < 2 ^ 32 }
     ensures noted { Adds (dropped_notes judged.now) log.old log.new result }
-    ensures exact { IfOk result (λ left. left ≡ (map (filter_map kept_row) judged.now, some_note (dropped_notes judged.now))) }
+    ensures exact { IfOk result
+        (λ left. left
+        ≡ (map (filter_map kept_row) judged.now, some_note (dropped_notes judged.now))) }
 {
     let notes = dropped_notes(alloc, judged)?;
     let dropped = !notes.is_empty();
@@ -142,7 +147,9 @@ fn judged_in<O: Oracle>(
     requires there { All (λ proc. proc < length program.now.procs) procs.now }
     requires known { AreKnown program.now known.now }
     requires candidates { AreCandidates (ends_of_members program.now procs.now) candidates.now }
-    ensures { Follows O.asking oracle.old oracle.new log.old log.new result (each (with_round program.now known.now) [] (members_with (members_of program.now procs.now) candidates.now)) }
+    ensures { Follows O.asking oracle.old oracle.new log.old log.new result
+        (each (with_round program.now known.now) []
+        (members_with (members_of program.now procs.now) candidates.now)) }
 {
     let mut made = Items::new(alloc);
     for (place, rows) in candidates.iter().enumerate() {
@@ -168,8 +175,11 @@ fn with_round<O: Oracle>(
     requires formed { IsWellFormed program.now }
     requires procedure { proc < length program.now.procs }
     requires known { AreKnown program.now known.now }
-    requires rows { (p : Procedure) → slice_get program.now.procs proc ≡ Some p → AllByRecursion (IsRowOver (pair_ends program.now p).pair.columns) rows.now }
-    ensures { (p : Procedure) → slice_get program.now.procs proc ≡ Some p → Follows O.asking oracle.old oracle.new log.old log.new result (with_round program.now known.now made (p, rows.now)) }
+    requires rows { (p : Procedure) → slice_get program.now.procs proc ≡ Some p
+        → AllByRecursion (IsRowOver (pair_ends program.now p).pair.columns) rows.now }
+    ensures { (p : Procedure) → slice_get program.now.procs proc ≡ Some p
+        → Follows O.asking oracle.old oracle.new log.old log.new result
+        (with_round program.now known.now made (p, rows.now)) }
 {
     let f = unfolded(alloc, program, proc, known, oracle, log)?;
     let judged = judged_by(alloc, &f, rows, oracle, log)?;
@@ -187,7 +197,8 @@ fn judged_by<O: Oracle>(
     log: &mut Log,
 ) -> Result<Items<Judged>, WorkError>
     requires { AllByRecursion (IsRefutable f.now) rows.now }
-    ensures { Follows O.asking oracle.old oracle.new log.old log.new result (each (with_judged f.now) [] rows.now) }
+    ensures { Follows O.asking oracle.old oracle.new log.old log.new result
+        (each (with_judged f.now) [] rows.now) }
 {
     let mut judged = Items::new(alloc);
     for row in rows {
@@ -206,7 +217,8 @@ fn with_judged<O: Oracle>(
     log: &mut Log,
 ) -> Result<Items<Judged>, WorkError>
     requires { IsRefutable f.now row.now }
-    ensures { Follows O.asking oracle.old oracle.new log.old log.new result (with_judged f.now made row.now) }
+    ensures { Follows O.asking oracle.old oracle.new log.old log.new result
+        (with_judged f.now made row.now) }
 {
     let copy = row.clone()?;
     let by = refuted(alloc, f, row, oracle, log)?;
@@ -215,7 +227,8 @@ fn with_judged<O: Oracle>(
     Ok(all)
 }
 
-/// The formula of a procedure as of one that is not recursive, where calls of the group are read by the candidates.
+/// The formula of a procedure as of one that is not recursive, where calls of the group are read by
+/// the candidates.
 #[tactic(auto, using(posing::proofs::Following::following))]
 fn unfolded<O: Oracle>(
     alloc: Global,
@@ -228,8 +241,11 @@ fn unfolded<O: Oracle>(
     requires formed { IsWellFormed program.now }
     requires procedure { proc < length program.now.procs }
     requires known { AreKnown program.now known.now }
-    ensures follows { (p : Procedure) → slice_get program.now.procs proc ≡ Some p → Follows O.asking oracle.old oracle.new log.old log.new result (unfolded program.now known.now p) }
-    ensures known { (p : Procedure) → slice_get program.now.procs proc ≡ Some p → IfOk result (IsKnown program.now p) }
+    ensures follows { (p : Procedure) → slice_get program.now.procs proc ≡ Some p
+        → Follows O.asking oracle.old oracle.new log.old log.new result
+        (unfolded program.now known.now p) }
+    ensures known { (p : Procedure) → slice_get program.now.procs proc ≡ Some p
+        → IfOk result (IsKnown program.now p) }
 {
     let exit = exit_from(alloc, program, proc, known, oracle, log)?;
     exit_summary(alloc, program, proc, &exit, oracle, log)

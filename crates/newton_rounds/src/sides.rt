@@ -34,8 +34,12 @@ pub(crate) fn calls_from(
     requires formed { IsWellFormed program.now }
     requires there { All (λ proc. proc < length program.now.procs) procs.now }
     requires few { length procs.now < 2 ^ 32 }
-    ensures made { IfOk result (λ calls. map plain_call calls ≡ calls_from procs.now 0 (members_of program.now procs.now)) }
-    ensures fit { IfOk result (λ calls. AllByRecursion (λ call. IsCallIn (ends_of_members program.now procs.now) (plain_call call)) calls) }
+    ensures made { IfOk result
+        (λ calls. map plain_call calls
+        ≡ calls_from procs.now 0 (members_of program.now procs.now)) }
+    ensures fit { IfOk result
+        (λ calls. AllByRecursion
+        (λ call. IsCallIn (ends_of_members program.now procs.now) (plain_call call)) calls) }
 {
     let mut calls = Items::new(alloc);
     for (place, proc) in procs.iter().enumerate() {
@@ -58,8 +62,11 @@ pub(crate) fn sides_of<O: Oracle>(
     requires there { All (λ proc. proc < length program.now.procs) procs.now }
     requires few { length procs.now < 2 ^ 32 }
     requires known { AreKnown program.now known.now }
-    ensures follows { Follows O.asking oracle.old oracle.new log.old log.new result (sides_of program.now procs.now known.now) }
-    ensures fits { IfOk result (FitCalls (ends_of_members program.now procs.now) (calls_from procs.now 0 (members_of program.now procs.now))) }
+    ensures follows { Follows O.asking oracle.old oracle.new log.old log.new result
+        (sides_of program.now procs.now known.now) }
+    ensures fits { IfOk result
+        (FitCalls (ends_of_members program.now procs.now)
+        (calls_from procs.now 0 (members_of program.now procs.now))) }
 {
     let mut made = Items::new(alloc);
     for place in 0..procs.len() as u32 {
@@ -85,8 +92,12 @@ fn with_member<O: Oracle>(
     requires few { length procs.now < 2 ^ 32 }
     requires known { AreKnown program.now known.now }
     requires place { place < length procs.now }
-    ensures follows { (p : Procedure) → slice_get program.now.procs (slice_index procs.now place) ≡ Some p → Follows O.asking oracle.old oracle.new log.old log.new result (with_member program.now procs.now known.now made (place, p)) }
-    ensures fits { (p : Procedure) → slice_get program.now.procs (slice_index procs.now place) ≡ Some p → IfOk result (AddSides (width_of program.now p) (length (calls_of procs.now place p)) made) }
+    ensures follows { (p : Procedure) → slice_get program.now.procs (slice_index procs.now place)
+        ≡ Some p → Follows O.asking oracle.old oracle.new log.old log.new result
+        (with_member program.now procs.now known.now made (place, p)) }
+    ensures fits { (p : Procedure) → slice_get program.now.procs (slice_index procs.now place)
+        ≡ Some p → IfOk result
+        (AddSides (width_of program.now p) (length (calls_of procs.now place p)) made) }
 {
     let proc = procs[place as usize];
     let (exit, calls) = member_calls(alloc, program, procs, place)?;
@@ -117,8 +128,10 @@ fn member_calls(
     requires there { All (λ proc. proc < length program.now.procs) procs.now }
     requires few { length procs.now < 2 ^ 32 }
     requires place { place < length procs.now }
-    ensures nodes { (p : Procedure) → slice_get program.now.procs (slice_index procs.now place) ≡ Some p → IfOk result (λ found. HasNodes p found.0 found.1) }
-    ensures made { (p : Procedure) → slice_get program.now.procs (slice_index procs.now place) ≡ Some p → IfOk result (λ found. map plain_call found.1 ≡ calls_of procs.now place p) }
+    ensures nodes { (p : Procedure) → slice_get program.now.procs (slice_index procs.now place)
+        ≡ Some p → IfOk result (λ found. HasNodes p found.0 found.1) }
+    ensures made { (p : Procedure) → slice_get program.now.procs (slice_index procs.now place)
+        ≡ Some p → IfOk result (λ found. map plain_call found.1 ≡ calls_of procs.now place p) }
 {
     let graph = graph_of(alloc, program, procs[place as usize])?;
     let calls = calls_of(alloc, graph.edges.as_slice(), procs, place)?;
@@ -130,7 +143,8 @@ pub(crate) fn graph_of(alloc: Global, program: &Program, proc: u32) -> Result<Gr
     requires formed { IsWellFormed program.now }
     requires procedure { proc < length program.now.procs }
     ensures exact { IfOk result (λ g. plain g ≡ graph_of program.now proc) }
-    ensures edges { IfOk result (λ g. All (λ edge. (edge.from < g.nodes) × (edge.to < g.nodes)) g.edges) }
+    ensures edges { IfOk result
+        (λ g. All (λ edge. (edge.from < g.nodes) × (edge.to < g.nodes)) g.edges) }
 {
     match graph(alloc, program, proc) {
         Ok(made) => Ok(made),
@@ -142,7 +156,8 @@ pub(crate) fn graph_of(alloc: Global, program: &Program, proc: u32) -> Result<Gr
 pub(crate) fn columns_of(program: &Program, proc: u32) -> u32
     requires formed { IsWellFormed program.now }
     requires procedure { proc < length program.now.procs }
-    ensures { (p : Procedure) → slice_get program.now.procs proc ≡ Some p → result ≡ width_of program.now p }
+    ensures { (p : Procedure) → slice_get program.now.procs proc ≡ Some p
+        → result ≡ width_of program.now p }
 {
     let p = &program.procs.as_slice()[proc as usize];
     (program.globals.len() + p.columns.len() + 1) as u32
@@ -164,10 +179,16 @@ fn with_all_sides<O: Oracle>(
     requires formed { IsWellFormed program.now }
     requires procedure { proc < length program.now.procs }
     requires known { AreKnown program.now known.now }
-    requires starts { (p : Procedure) → slice_get program.now.procs proc ≡ Some p → AreFittedCells (graph_by (subject_of program.now p known.now)) 0 starts.now }
-    requires nodes { (p : Procedure) → slice_get program.now.procs proc ≡ Some p → HasNodes p exit calls.now }
-    ensures follows { (p : Procedure) → slice_get program.now.procs proc ≡ Some p → Follows O.asking oracle.old oracle.new log.old log.new result (each (with_sides (subject_of program.now p known.now) starts.now) made (map plain_call calls.now)) }
-    ensures fits { (p : Procedure) → slice_get program.now.procs proc ≡ Some p → IfOk result (AddSides (width_of program.now p) (length calls.now) made) }
+    requires starts { (p : Procedure) → slice_get program.now.procs proc ≡ Some p
+        → AreFittedCells (graph_by (subject_of program.now p known.now)) 0 starts.now }
+    requires nodes { (p : Procedure) → slice_get program.now.procs proc ≡ Some p
+        → HasNodes p exit calls.now }
+    ensures follows { (p : Procedure) → slice_get program.now.procs proc ≡ Some p
+        → Follows O.asking oracle.old oracle.new log.old log.new result
+        (each (with_sides (subject_of program.now p known.now) starts.now) made
+        (map plain_call calls.now)) }
+    ensures fits { (p : Procedure) → slice_get program.now.procs proc ≡ Some p
+        → IfOk result (AddSides (width_of program.now p) (length calls.now) made) }
 {
     let mut all = made;
     for call in calls {
@@ -194,11 +215,17 @@ fn with_sides<O: Oracle>(
     requires formed { IsWellFormed program.now }
     requires procedure { proc < length program.now.procs }
     requires known { AreKnown program.now known.now }
-    requires starts { (p : Procedure) → slice_get program.now.procs proc ≡ Some p → AreFittedCells (graph_by (subject_of program.now p known.now)) 0 starts.now }
-    requires node { (p : Procedure) → slice_get program.now.procs proc ≡ Some p → call.now.to < (own_graph p).nodes }
-    requires exit { (p : Procedure) → slice_get program.now.procs proc ≡ Some p → exit ≡ exit_of (code_of p.body) }
-    ensures follows { (p : Procedure) → slice_get program.now.procs proc ≡ Some p → Follows O.asking oracle.old oracle.new log.old log.new result (with_sides (subject_of program.now p known.now) starts.now made (plain_call call.now)) }
-    ensures fits { (p : Procedure) → slice_get program.now.procs proc ≡ Some p → IfOk result (AddSides (width_of program.now p) 1 made) }
+    requires starts { (p : Procedure) → slice_get program.now.procs proc ≡ Some p
+        → AreFittedCells (graph_by (subject_of program.now p known.now)) 0 starts.now }
+    requires node { (p : Procedure) → slice_get program.now.procs proc ≡ Some p
+        → call.now.to < (own_graph p).nodes }
+    requires exit { (p : Procedure) → slice_get program.now.procs proc ≡ Some p
+        → exit ≡ exit_of (code_of p.body) }
+    ensures follows { (p : Procedure) → slice_get program.now.procs proc ≡ Some p
+        → Follows O.asking oracle.old oracle.new log.old log.new result
+        (with_sides (subject_of program.now p known.now) starts.now made (plain_call call.now)) }
+    ensures fits { (p : Procedure) → slice_get program.now.procs proc ≡ Some p
+        → IfOk result (AddSides (width_of program.now p) 1 made) }
 {
     let sides = sides_from(alloc, program, proc, known, exit, starts, call, oracle, log)?;
     let mut all = made;
@@ -222,11 +249,17 @@ fn sides_from<O: Oracle>(
     requires formed { IsWellFormed program.now }
     requires procedure { proc < length program.now.procs }
     requires known { AreKnown program.now known.now }
-    requires starts { (p : Procedure) → slice_get program.now.procs proc ≡ Some p → AreFittedCells (graph_by (subject_of program.now p known.now)) 0 starts.now }
-    requires node { (p : Procedure) → slice_get program.now.procs proc ≡ Some p → call.now.to < (own_graph p).nodes }
-    requires exit { (p : Procedure) → slice_get program.now.procs proc ≡ Some p → exit ≡ exit_of (code_of p.body) }
-    ensures follows { (p : Procedure) → slice_get program.now.procs proc ≡ Some p → Follows O.asking oracle.old oracle.new log.old log.new result (sides_from (subject_of program.now p known.now) starts.now (plain_call call.now)) }
-    ensures fits { (p : Procedure) → slice_get program.now.procs proc ≡ Some p → IfOk result (FitSides (width_of program.now p)) }
+    requires starts { (p : Procedure) → slice_get program.now.procs proc ≡ Some p
+        → AreFittedCells (graph_by (subject_of program.now p known.now)) 0 starts.now }
+    requires node { (p : Procedure) → slice_get program.now.procs proc ≡ Some p
+        → call.now.to < (own_graph p).nodes }
+    requires exit { (p : Procedure) → slice_get program.now.procs proc ≡ Some p
+        → exit ≡ exit_of (code_of p.body) }
+    ensures follows { (p : Procedure) → slice_get program.now.procs proc ≡ Some p
+        → Follows O.asking oracle.old oracle.new log.old log.new result
+        (sides_from (subject_of program.now p known.now) starts.now (plain_call call.now)) }
+    ensures fits { (p : Procedure) → slice_get program.now.procs proc ≡ Some p
+        → IfOk result (FitSides (width_of program.now p)) }
 {
     let columns = columns_of(program, proc);
     let ends = cells(alloc, program, proc, known, call.to, oracle, log)?;

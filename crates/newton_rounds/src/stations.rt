@@ -23,10 +23,13 @@ pub(crate) fn call_entry(
 ) -> Result<Formula, FormulaError>
     requires ends { AreEnds caller.now }
     requires call { IsCallFrom caller.now (plain_call call.now) }
-    ensures made { IfOk result (λ f. f ≡ call_entry caller.now.ends.full.columns caller.now.ends.globals (plain_call call.now).args) }
+    ensures made { IfOk result
+        (λ f. f ≡ call_entry caller.now.ends.full.columns caller.now.ends.globals
+        (plain_call call.now).args) }
     ensures fits { IfOk result (λ f. IsTransition f.from f.to f.cases) }
     ensures few { IfOk result (λ f. All (λ case. case.aux < 2 ^ 31) f.cases) }
-    ensures noted { OnOk result (lost.new ≡ lost.old ++ (arguments_of (plain_call call.now).args).lost) }
+    ensures noted { OnOk result
+        (lost.new ≡ lost.old ++ (arguments_of (plain_call call.now).args).lost) }
 {
     let columns = caller.full.columns();
     let args = call.args.as_slice();
@@ -42,7 +45,8 @@ pub(crate) fn fronted_cases(
     front: &[Poly],
     cases: &[Case],
 ) -> Result<Items<Case>, AllocError>
-    ensures { IfOk result (λ made. made ≡ map (λ case. with_posts (front.now ++ case.post) case) cases.now) }
+    ensures { IfOk result
+        (λ made. made ≡ map (λ case. with_posts (front.now ++ case.post) case) cases.now) }
 {
     let mut made = Items::new(alloc);
     for case in cases {
@@ -96,7 +100,8 @@ pub(crate) fn carrying(
 }
 
 fn carrying_cases(alloc: Global, back: &[Poly], cases: &[Case]) -> Result<Items<Case>, AllocError>
-    ensures { IfOk result (λ made. made ≡ map (λ case. with_posts (case.post ++ back.now) case) cases.now) }
+    ensures { IfOk result
+        (λ made. made ≡ map (λ case. with_posts (case.post ++ back.now) case) cases.now) }
 {
     let mut made = Items::new(alloc);
     for case in cases {

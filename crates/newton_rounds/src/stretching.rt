@@ -15,8 +15,8 @@ use items::Items;
 use std::alloc::Global;
 use transition_formula::{Formula, FormulaError, Loss, equated, seq, with_posts};
 
-/// The formulas between the stations of a call, one after another. The losses of each are noted where it is made, those of
-/// the sequences behind them.
+/// The formulas between the stations of a call, one after another. The losses of each are noted
+/// where it is made, those of the sequences behind them.
 fn along(
     alloc: Global,
     caller: &PairEnds,
@@ -26,8 +26,11 @@ fn along(
     lost: &mut Items<Loss>,
 ) -> Result<Formula, FormulaError>
     requires { IsStretchBetween caller.now callee.now (stretch_of call.now sides.now) }
-    ensures made { IfOk result (λ f. f ≡ along (stations_of caller.now callee.now (stretch_of call.now sides.now))) }
-    ensures noted { OnOk result (lost.new ≡ lost.old ++ lost_on_the_way caller.now callee.now (stretch_of call.now sides.now)) }
+    ensures made { IfOk result
+        (λ f. f ≡ along (stations_of caller.now callee.now (stretch_of call.now sides.now))) }
+    ensures noted { OnOk result
+        (lost.new ≡ lost.old ++ lost_on_the_way caller.now callee.now
+        (stretch_of call.now sides.now)) }
 {
     let first = entry_told(alloc, caller, &sides.before, lost)?;
     let second = call_entry(alloc, caller, call, lost)?;
@@ -46,11 +49,24 @@ fn along_from_entry(
     lost: &mut Items<Loss>,
 ) -> Result<Formula, FormulaError>
     requires stretch { IsStretchBetween caller.now callee.now (stretch_of call.now sides.now) }
-    requires entered { entered.now ≡ sequence_of (stations_of caller.now callee.now (stretch_of call.now sides.now)).first (stations_of caller.now callee.now (stretch_of call.now sides.now)).second }
-    requires third { AreFew entered.now (stations_of caller.now callee.now (stretch_of call.now sides.now)).third }
-    requires fourth { AreFew (sequence_of entered.now (stations_of caller.now callee.now (stretch_of call.now sides.now)).third) (stations_of caller.now callee.now (stretch_of call.now sides.now)).fourth }
-    ensures made { IfOk result (λ f. f ≡ along (stations_of caller.now callee.now (stretch_of call.now sides.now))) }
-    ensures noted { OnOk result (lost.new ≡ (lost.old ++ lost_in_sequence entered.now (stations_of caller.now callee.now (stretch_of call.now sides.now)).third) ++ lost_in_sequence (sequence_of entered.now (stations_of caller.now callee.now (stretch_of call.now sides.now)).third) (stations_of caller.now callee.now (stretch_of call.now sides.now)).fourth) }
+    requires entered { entered.now
+        ≡ sequence_of (stations_of caller.now callee.now (stretch_of call.now sides.now)).first
+        (stations_of caller.now callee.now (stretch_of call.now sides.now)).second }
+    requires third { AreFew entered.now
+        (stations_of caller.now callee.now (stretch_of call.now sides.now)).third }
+    requires fourth { AreFew
+        (sequence_of entered.now
+        (stations_of caller.now callee.now (stretch_of call.now sides.now)).third)
+        (stations_of caller.now callee.now (stretch_of call.now sides.now)).fourth }
+    ensures made { IfOk result
+        (λ f. f ≡ along (stations_of caller.now callee.now (stretch_of call.now sides.now))) }
+    ensures noted { OnOk result
+        (lost.new ≡ (lost.old ++ lost_in_sequence entered.now
+        (stations_of caller.now callee.now (stretch_of call.now sides.now)).third)
+        ++ lost_in_sequence
+        (sequence_of entered.now
+        (stations_of caller.now callee.now (stretch_of call.now sides.now)).third)
+        (stations_of caller.now callee.now (stretch_of call.now sides.now)).fourth) }
 {
     let columns = caller.full.columns();
     let entry = caller.globals + call.args.len() as u32;
@@ -76,8 +92,8 @@ fn carried_exit(
     carrying(alloc, columns, more, &rest)
 }
 
-/// The formula of a call, from the caller's pair to the callee's. Each loss is noted after those that are there. After an error
-/// more may be noted.
+/// The formula of a call, from the caller's pair to the callee's. Each loss is noted after those
+/// that are there. After an error more may be noted.
 pub(crate) fn pair_formula(
     alloc: Global,
     caller: &PairEnds,
@@ -87,8 +103,11 @@ pub(crate) fn pair_formula(
     lost: &mut Items<Loss>,
 ) -> Result<Formula, FormulaError>
     requires { IsStretchBetween caller.now callee.now (stretch_of call.now sides.now) }
-    ensures made { IfOk result (λ f. f ≡ pair_formula caller.now callee.now (stretch_of call.now sides.now)) }
-    ensures noted { OnOk result (lost.new ≡ lost.old ++ lost_in_pair caller.now callee.now (stretch_of call.now sides.now)) }
+    ensures made { IfOk result
+        (λ f. f ≡ pair_formula caller.now callee.now (stretch_of call.now sides.now)) }
+    ensures noted { OnOk result
+        (lost.new ≡ lost.old ++ lost_in_pair caller.now callee.now
+        (stretch_of call.now sides.now)) }
 {
     let whole = along(alloc, caller, callee, call, sides, lost)?;
     let told = caller.exit_places(alloc)?;

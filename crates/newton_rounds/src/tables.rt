@@ -5,7 +5,8 @@ use items::Items;
 use std::alloc::{AllocError, Global};
 use transition_formula::Formula;
 
-/// The known formulas, with those of a table for these procedures; a procedure past the table's end is unknown.
+/// The known formulas, with those of a table for these procedures; a procedure past the table's end
+/// is unknown.
 pub fn with_table(
     alloc: Global,
     procs: &[u32],
