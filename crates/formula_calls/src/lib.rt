@@ -3,6 +3,7 @@
 //! it.
 #![tactic(auto)]
 
+pub mod closed_form_calls;
 pub mod leaf_calls;
 pub mod polyhedra_calls;
 pub mod recurrence_calls;
