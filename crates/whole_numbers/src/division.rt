@@ -1,9 +1,23 @@
 ghost use Rattle.std.specs.Prelude.{◌≡◌, ◌^◌, ◌<◌, ◌≤◌, int_div, neg_ℤ, pos};
 ghost use Rattle.whole_numbers.specs.Divisors.{gcd_of, ceiling_of};
 
-/// The greatest number that divides both; 0 where both are 0. Euclid's algorithm.
+/// The greatest number that divides both; 0 where both are 0. Euclid's algorithm, whose divisions
+/// are those of 64 bits as soon as both numbers have no more.
 #[tactic(auto, using(crate::proofs::CommonDivisors::euclid))]
 pub fn gcd(a: u128, b: u128) -> u128
+    ensures { result ≡ gcd_of a b }
+{
+    if a <= u64::MAX as u128 && b <= u64::MAX as u128 {
+        short_gcd(a as u64, b as u64) as u128
+    } else if b == 0 {
+        a
+    } else {
+        gcd(b, a % b)
+    }
+}
+
+#[tactic(auto, using(crate::proofs::CommonDivisors::euclid))]
+fn short_gcd(a: u64, b: u64) -> u64
     ensures { result ≡ gcd_of a b }
 {
     let mut x = a;

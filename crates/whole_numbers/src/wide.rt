@@ -1,4 +1,4 @@
-ghost use Rattle.std.specs.Prelude.{◌≡◌};
+ghost use Rattle.std.specs.Prelude.{◌≡◌, ◌^◌, ◌≤◌, ◌*ℤ◌, IsTrue, unsigned_abs};
 ghost use Rattle.whole_numbers.specs.Fits.{sum_of, product_of};
 
 /// Two numbers whose sum, or product where `times` holds, is no number of 128 bits.
@@ -7,6 +7,13 @@ pub struct Wide {
     pub left: i128,
     pub right: i128,
     pub times: bool,
+}
+
+/// Whether a number has 64 bits, sign and all: the product of two such numbers has 128.
+fn is_short(number: i128) -> bool
+    ensures { IsTrue result → unsigned_abs number ≤ 2 ^ 63 }
+{
+    i64::MIN as i128 <= number && number <= i64::MAX as i128
 }
 
 /// The sum, or its operands where it leaves 128 bits.
@@ -24,6 +31,9 @@ pub fn sum(left: i128, right: i128) -> Result<i128, Wide>
 pub fn product(left: i128, right: i128) -> Result<i128, Wide>
     ensures { result ≡ product_of left right }
 {
+    if is_short(left) && is_short(right) {
+        return Ok(left * right);
+    }
     left.checked_mul(right).ok_or(Wide {
         left,
         right,

@@ -1,6 +1,6 @@
 use Rattle.std.proofs.Common.{◌≡◌}
 use Rattle.whole_numbers.specs.Divisors.{gcd_of}
-use Rattle.whole_numbers.proofs.division.gcd.Given as goal
+use Rattle.whole_numbers.proofs.division.short_gcd.Given as goal
 
 abbrev pub invariant-loop-y : goal.invariant-loop-y
 invariant-loop-y l = gcd_of l.x l.y ≡ gcd_of l.fn.a l.fn.b
