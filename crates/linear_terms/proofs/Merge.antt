@@ -9,8 +9,8 @@ use Rattle.linear_terms.specs.declared.col.Col.{Col}
 use Rattle.linear_terms.specs.declared.error.TermError.{TermError}
 use Rattle.linear_terms.specs.TermError.{plus}
 use Rattle.linear_terms.specs.Mono.{mono_cmp}
-use Rattle.linear_terms.specs.Polynomial.{Terms, IsCanonical}
-use Rattle.linear_terms.specs.Operations.{kept, put, put_all}
+use Rattle.linear_terms.specs.Polynomial.{Terms, Polynomial, constant_of, IsCanonical}
+use Rattle.linear_terms.specs.Operations.{kept, put, put_all, sum_of_polys}
 use Rattle.linear_terms.proofs.Steps.{with_front}
 use Rattle.linear_terms.proofs.Order.{mono_tie}
 use Rattle.linear_terms.proofs.Canonical.{Before, Before-trans, first_before, first_some, IsCanonical-tail, reversed}
@@ -56,6 +56,17 @@ pub put_all-nil : (us : Terms) → IsCanonical us → put_all [] us ≡ Ok us
 put_all-nil [] k = refl
 put_all-nil (u ∷ us) k =
     ap (λ l. put_all l us) (kept-some u.0 u.1 [] (first_some u us k)) ∙ put_all-behind u [] us (first_before u us k) ∙ ap (with_front (u ∷ [])) (put_all-nil us (IsCanonical-tail u us k))
+
+abbrev make : Terms → ℤ → Polynomial
+make ts x = record { terms = ts; rest = x }
+
+-- the sum of a constant and a polynomial
+pub sum_of_polys-constant : (c : ℤ) (more : Polynomial) → IsCanonical more.terms → sum_of_polys (constant_of c) more ≡ (plus c more.rest >>= λ r. Ok (make more.terms r))
+sum_of_polys-constant c more k = ap (λ s. s >>= λ ts. plus c more.rest >>= λ r. Ok (make ts r)) (put_all-nil more.terms k)
+
+-- where the first has no terms
+pub sum_of_polys-no_terms : (a b : Polynomial) → a.terms ≡ [] → sum_of_polys (constant_of a.rest) b ≡ sum_of_polys a b
+sum_of_polys-no_terms a b e = ap (λ ts. sum_of_polys (make ts a.rest) b) (sym e)
 
 -- ---- the same behind what is made already
 

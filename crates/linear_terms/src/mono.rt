@@ -179,6 +179,14 @@ impl PartialEq for Mono {
     ghost laws = { partial_equiv_from_equiv (eq_by_cmp_equiv mono_cmp_total) };
 
     fn eq(&self, other: &Self) -> bool {
+        let columns = self.columns();
+        let others = other.columns();
+        if columns.len() != others.len() {
+            return false;
+        }
+        if columns.len() == 1 {
+            return columns[0] == others[0];
+        }
         self.cmp(other) == Ordering::Equal
     }
 }
@@ -211,6 +219,9 @@ impl Ord for Mono {
     fn cmp(&self, other: &Self) -> Ordering {
         let columns = self.columns();
         let others = other.columns();
+        if columns.len() == 1 && others.len() == 1 {
+            return columns[0].cmp(&others[0]);
+        }
         match others.len().cmp(&columns.len()) {
             Ordering::Equal => columns.cmp(others),
             by_degree => by_degree,

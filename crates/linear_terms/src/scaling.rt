@@ -26,7 +26,7 @@ fn scaled(alloc: Global, terms: &[(Mono, i128)], by: i128) -> Result<Items<(Mono
     ensures exact { Gives cause (λ made. made) result (times_each terms.now by) }
     ensures no_degree { IfErr result (λ e. e ≢ Degree) }
 {
-    let mut made = Items::new(alloc);
+    let mut made = Items::from_vec(Vec::with_capacity(alloc, terms.len())?);
     for (mono, number) in terms {
         let number = product(*number, by)?;
         push_kept(&mut made, (*mono, number))?;

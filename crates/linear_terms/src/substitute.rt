@@ -1,13 +1,14 @@
-ghost use Rattle.std.specs.Prelude.{◌≡◌, ◌≤◌, [], ◌∷◌, length, All, Ok, IfOk, IfErr, OnOk};
-ghost use Rattle.items.specs.Gives.{FailsBy, Gives};
+ghost use Rattle.std.specs.Prelude.{◌≡◌, ◌≤◌, [], ◌∷◌, length, All, Ok, IfOk};
+ghost use Rattle.items.specs.Gives.{Gives};
 ghost use Rattle.linear_terms.specs.TermError.{cause};
-ghost use Rattle.linear_terms.specs.Operations.{add_substituted, product_on, replaced, substituted};
+ghost use Rattle.linear_terms.specs.Operations.{add_substituted, product_on, put_part, replaced, substituted, sum_of_polys};
+ghost use Rattle.linear_terms.specs.Polynomial.{constant_of};
 ghost use Rattle.linear_terms.specs.Replacement.{HasPoly, put_in};
 ghost use Rattle.linear_terms.specs.Value.{Valuation, value_of};
 
-use crate::total::Total;
-use crate::{Col, Mono, Poly, TermError, mul, scale};
+use crate::{Col, Mono, Poly, TermError, add, mul, scale};
 use std::alloc::Global;
+use whole_numbers::sum;
 
 /// Each column replaced by the polynomial at its number: an entry column by one of `at`, an
 /// auxiliary by one of `aux`.
@@ -27,30 +28,55 @@ fn substituted(alloc: Global, a: &Poly, at: &[Poly], aux: &[Poly]) -> Result<Pol
     requires { All (λ t. All (HasPoly at.now aux.now) t.0) a.now.terms }
     ensures { Gives cause (λ p. p) result (substituted (put_in at.now aux.now) a.now) }
 {
-    let mut total = Total::new(alloc);
+    let mut total = Poly::constant(alloc, 0);
     for term in a.terms.as_slice() {
-        add_replaced(alloc, &mut total, term, at, aux)?;
+        total = with_replaced(alloc, total, term, at, aux)?;
     }
-    total.with_constant(alloc, &a.rest)
+    with_constant(total, &a.rest)
 }
 
-/// Adds what comes of one term.
-fn add_replaced(
+/// The sum so far with what comes of one term.
+fn with_replaced(
     alloc: Global,
-    total: &mut Total,
+    total: Poly,
     term: &(Mono, i128),
     at: &[Poly],
     aux: &[Poly],
-) -> Result<(), TermError>
+) -> Result<Poly, TermError>
     requires { All (HasPoly at.now aux.now) term.now.0 }
-    ensures ok { OnOk result (add_substituted (put_in at.now aux.now) (term.now ∷ []) total.old
-        ≡ Ok total.new) }
-    ensures err { IfErr result
-        (λ e. FailsBy (cause e)
-        (add_substituted (put_in at.now aux.now) (term.now ∷ []) total.old)) }
+    ensures { Gives cause (λ p. p) result
+        (add_substituted (put_in at.now aux.now) (term.now ∷ []) total) }
 {
     let made = replaced(alloc, term.0.columns(), term.1, at, aux)?;
-    total.add(&made)
+    with_poly(alloc, total, made)
+}
+
+/// The sum of two polynomials; where the first has no terms, those of the second stay as they are.
+fn with_poly(alloc: Global, total: Poly, more: Poly) -> Result<Poly, TermError>
+    ensures { Gives cause (λ p. p) result (sum_of_polys total more) }
+{
+    if total.terms.is_empty() {
+        return sum_with_constant(&total.rest, more);
+    }
+    add(alloc, &total, &more)
+}
+
+/// The sum of a constant and a polynomial.
+fn sum_with_constant(constant: &i128, more: Poly) -> Result<Poly, TermError>
+    ensures { Gives cause (λ p. p) result (sum_of_polys (constant_of constant.now) more) }
+{
+    let Poly { terms, rest } = more;
+    let rest = sum(*constant, rest)?;
+    Ok(Poly { terms, rest })
+}
+
+/// The polynomial with a number added to its constant.
+fn with_constant(total: Poly, number: &i128) -> Result<Poly, TermError>
+    ensures { Gives cause (λ p. p) result (put_part [] number.now total) }
+{
+    let Poly { terms, rest } = total;
+    let rest = sum(rest, *number)?;
+    Ok(Poly { terms, rest })
 }
 
 /// The product of what is put in for the columns, times the coefficient.

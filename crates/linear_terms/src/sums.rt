@@ -36,7 +36,8 @@ fn merged(
     ensures exact { Gives cause (λ made. made) result (put_all left.now right.now) }
     ensures no_degree { IfErr result (λ e. e ≢ Degree) }
 {
-    let mut made = Items::new(alloc);
+    let room = left.len().saturating_add(right.len());
+    let mut made = Items::from_vec(Vec::with_capacity(alloc, room)?);
     let mut left = left;
     let mut right = right;
     loop {

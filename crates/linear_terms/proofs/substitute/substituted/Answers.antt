@@ -9,15 +9,15 @@ use Rattle.linear_terms.proofs.substitute.substituted.Goals as goal
 
 pub loop-term-preserved : goal.loop-term-preserved
 loop-term-preserved c =
-    sym (substituted-next (put_in c.args.at.now c.args.aux.now) c.as_slice-term-items.result.now c.loop-term.term-index c.term-item.result c.loop-term.total c.add_replaced.new.total (omega arith) c.term-item.is c.in_ok-add_replaced.ensures.ok)
+    sym (substituted-next (put_in c.args.at.now c.args.aux.now) c.as_slice-term-items.result.now c.loop-term.term-index c.term-item.result c.loop-term.total c.in_ok-total.total (omega arith) c.term-item.is c.in_ok-total.ensures)
     ∙ c.loop-term.invariant
 
-pub returns-in_err-add_replaced : goal.returns-in_err-add_replaced
-returns-in_err-add_replaced c =
+pub returns-in_err-total : goal.returns-in_err-total
+returns-in_err-total c =
     let p = err_from_is_err_and c.from_residual.result c.from_residual.ensures.1 in
     rw (p.1, p.2)
-    (substituted-failed (put_in c.args.at.now c.args.aux.now) c.args.a.now c.as_slice-term-items.result.now c.loop-term.term-index c.term-item.result c.loop-term.total (cause c.in_err-add_replaced.field-0.0)
-    (omega arith) c.term-item.is c.loop-term.invariant c.in_err-add_replaced.ensures.err)
+    (substituted-failed (put_in c.args.at.now c.args.aux.now) c.args.a.now c.as_slice-term-items.result.now c.loop-term.term-index c.term-item.result c.loop-term.total (cause c.in_err-total.field-0.0)
+    (omega arith) c.term-item.is c.loop-term.invariant c.in_err-total.ensures)
 
 pub returns : goal.returns
 returns c =
