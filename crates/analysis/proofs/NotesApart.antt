@@ -44,7 +44,7 @@ leads_apart O old new before inner outer after p q swap leads =
       noted = swap.back ∙ sym (append-nil before.notes);
       logged = swap.logged ∙ leads.logged ∙ ap (λ taken. taken ++ leads.answers) swap.same;
       taken = leads.taken;
-      later = leads.later;
+      counted = leads.counted;
       path = subst (λ ns. Path (IsGood O.allows) (apart p) [] leads.answers (apart_from ns q)) own (path_apart (IsGood O.allows) p q [] leads.notes leads.answers leads.path);
     }
 
@@ -61,7 +61,9 @@ fails_apart O old new before inner outer after p Refused swap refused =
     record {
       question = refused.question;
       next = λ answer. apart_from outer.notes (refused.next answer);
-      leads = leads_apart O old new before inner outer after p (Asked refused.question refused.next) swap refused.leads;
+      at = refused.at;
+      leads = leads_apart O old refused.at before inner outer after p (Asked refused.question refused.next) swap refused.leads;
+      left = refused.left;
       declined = refused.declined;
       rose = refused.rose;
     }

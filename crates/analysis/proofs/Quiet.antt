@@ -64,7 +64,7 @@ pub quiet-kept : {S A : Type 0} (O : Asking S) (old new : S) (before after : Log
     → IsQuiet p → Follows O old new before after result p → after.notes ≡ before.notes
 quiet-kept O old new before after (Ok value) p h follows = leads-kept O old new before after p (Done value) follows.comes h
 quiet-kept O old new before after (Err Refused) p h follows =
-    leads-kept O old new before after p (Asked follows.comes.question follows.comes.next) follows.comes.leads h
+    leads-kept O old follows.comes.at before after p (Asked follows.comes.question follows.comes.next) follows.comes.leads h
 quiet-kept O old new before after (Err Memory) p h follows = leads-kept O old new before after p follows.comes.rest follows.comes.leads h
 
 -- ---- the analysis

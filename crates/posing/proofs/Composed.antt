@@ -69,14 +69,14 @@ pub replay_stuck : {S A : Type 0} (O : Asking S) (old new : S) (before after : L
     → IsReplay O → O.left old ≡ Some all → IsRefused O old new before after p → ReplayStuck O new p all
 replay_stuck O old new before after p all replay told refused =
     let leads = refused.leads in
-    let parts = split leads.answers (O.left old) (O.left new) all told leads.taken in
+    let parts = split leads.answers (O.left old) (O.left refused.at) all told leads.taken in
     record {
       question = refused.question;
       left = parts.0;
-      remain = parts.1;
+      remain = refused.left ∙ parts.1;
       comes = ap (run p) parts.2
           ∙ path_run (IsGood O.allows) p (Asked refused.question refused.next) leads.notes leads.answers parts.0 (good-passes O.allows) leads.path
-          ∙ ap (after_notes leads.notes) (stuck_there refused.question refused.next parts.0 (replay.missing new refused.question parts.0 parts.1 refused.declined));
+          ∙ ap (after_notes leads.notes) (stuck_there refused.question refused.next parts.0 (replay.missing new refused.question parts.0 (refused.left ∙ parts.1) refused.declined));
     }
 
 pub replay_refused : {S A : Type 0} (O : Asking S) (old new : S) (before after : Log) (p : Posing A) (error : WorkError) (all : List Answer)
@@ -131,4 +131,4 @@ kept_always allows p value notes answers P kept holds =
 pub leads_kept : {S A : Type 0} (O : Asking S) (state : S) (before after : Log) (p : Posing A) (value : A) (notes : List Note) (answers : List Answer)
     → Keeps (IsGood O.allows) p value notes answers → after.notes ≡ before.notes ++ notes → after.answers ≡ before.answers ++ answers → Leads (silent O) state state before after p (Done value)
 leads_kept O state before after p value notes answers kept noted logged =
-    record { notes = notes; answers = answers; noted = noted; logged = logged; taken = refl; later = omega arith; path = kept.path }
+    record { notes = notes; answers = answers; noted = noted; logged = logged; taken = refl; counted = refl; path = kept.path }

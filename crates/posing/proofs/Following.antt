@@ -59,7 +59,7 @@ leads_none O state log p =
       noted = sym (append-nil log.notes);
       logged = sym (append-nil log.answers);
       taken = with_none (O.left state);
-      later = omega arith;
+      counted = refl;
       path = posing.here p;
     }
 
@@ -72,7 +72,7 @@ leads_then O old now new before between after p q r first second =
       noted = second.noted ∙ ap (λ ns. ns ++ second.notes) first.noted ∙ append_assoc before.notes first.notes second.notes;
       logged = second.logged ∙ ap (λ ns. ns ++ second.answers) first.logged ∙ append_assoc before.answers first.answers second.answers;
       taken = with_both first.answers second.answers (O.left old) (O.left now) (O.left new) first.taken second.taken;
-      later = omega (arith, first.later, second.later);
+      counted = second.counted ∙ first.counted;
       path = path_then (IsGood O.allows) p q r first.notes second.notes first.answers second.answers first.path second.path;
     }
 
@@ -85,7 +85,7 @@ leads_into O old new before after p q f leads =
       noted = leads.noted;
       logged = leads.logged;
       taken = leads.taken;
-      later = leads.later;
+      counted = leads.counted;
       path = path_into (IsGood O.allows) p q leads.notes leads.answers f leads.path;
     }
 
@@ -98,28 +98,25 @@ leads_noted O state before after notes p e =
       noted = ap (λ (l : Log). l.notes) e ∙ ap (λ ns. before.notes ++ ns) (sym (append-nil notes));
       logged = ap (λ (l : Log). l.answers) e ∙ sym (append-nil before.answers);
       taken = with_none (O.left state);
-      later = omega arith;
+      counted = refl;
       path = posing.noted notes [] [] p p (posing.here p);
     }
 
 pub leads_asked : {S A : Type 0} (O : Asking S) (old new : S) (before after : Log) (question : Question) (answer : Answer) (next : Answer → Posing A)
-    → IsGood O.allows question answer → O.left old ≡ with_first answer (O.left new) → O.refusals old ≤ O.refusals new → after.notes ≡ before.notes → after.answers ≡ before.answers ++ answer ∷ []
+    → IsGood O.allows question answer → O.left old ≡ with_first answer (O.left new) → O.refusals new ≡ O.refusals old → after.notes ≡ before.notes → after.answers ≡ before.answers ++ answer ∷ []
     → Leads O old new before after (Asked question next) (next answer)
-leads_asked O old new before after question answer next good taken later same e =
+leads_asked O old new before after question answer next good taken counted same e =
     record {
       notes = [];
       answers = answer ∷ [];
       noted = same ∙ sym (append-nil before.notes);
       logged = e;
       taken = with_one answer (O.left old) (O.left new) taken;
-      later = later;
+      counted = counted;
       path = posing.asked question answer next [] [] (next answer) good (posing.here (next answer));
     }
 
 -- ---- a call
-
-rose_later : (a b c : ℕ) → a ≤ b → Rose b c → Rose a c
-rose_later a b c le rose = omega arith
 
 refused_then : {S A : Type 0} (O : Asking S) (old now new : S) (before between after : Log) (p q : Posing A)
     → Leads O old now before between p q → IsRefused O now new between after q → IsRefused O old new before after p
@@ -127,9 +124,11 @@ refused_then O old now new before between after p q first second =
     record {
       question = second.question;
       next = second.next;
-      leads = leads_then O old now new before between after p q (Asked second.question second.next) first second.leads;
+      at = second.at;
+      leads = leads_then O old now second.at before between after p q (Asked second.question second.next) first second.leads;
+      left = second.left;
       declined = second.declined;
-      rose = rose_later (O.refusals old) (O.refusals now) (O.refusals new) first.later second.rose;
+      rose = second.rose;
     }
 
 halted_then : {S A : Type 0} (O : Asking S) (old now new : S) (before between after : Log) (p q : Posing A)
@@ -152,7 +151,9 @@ fails_into O old new before after Refused p f refused =
     record {
       question = refused.question;
       next = λ answer. refused.next answer >>= f;
-      leads = leads_into O old new before after p (Asked refused.question refused.next) f refused.leads;
+      at = refused.at;
+      leads = leads_into O old refused.at before after p (Asked refused.question refused.next) f refused.leads;
+      left = refused.left;
       declined = refused.declined;
       rose = refused.rose;
     }
@@ -161,15 +162,15 @@ fails_into O old new before after Memory p f halted =
 
 -- nothing was taken or logged
 pub leads_quiet : {S A : Type 0} (O : Asking S) (old new : S) (before after : Log) (p : Posing A)
-    → after.notes ≡ before.notes → after.answers ≡ before.answers → O.left new ≡ O.left old → O.refusals old ≤ O.refusals new → Leads O old new before after p p
-leads_quiet O old new before after p notes answers kept later =
+    → after.notes ≡ before.notes → after.answers ≡ before.answers → O.left new ≡ O.left old → O.refusals new ≡ O.refusals old → Leads O old new before after p p
+leads_quiet O old new before after p notes answers kept counted =
     record {
       notes = [];
       answers = [];
       noted = notes ∙ sym (append-nil before.notes);
       logged = answers ∙ sym (append-nil before.answers);
       taken = sym kept ∙ with_none (O.left new);
-      later = later;
+      counted = counted;
       path = posing.here p;
     }
 
@@ -224,7 +225,7 @@ stops O state before after (Ok value) p same is = absurd is
 stops O state before after (Err error) p same is =
     record {
       comes = subst (λ d. FailsAt O state state before after d p) (sym is)
-          (record { rest = p; leads = leads_quiet O state state before after p (ap (λ (l : Log). l.notes) same) (ap (λ (l : Log). l.answers) same) refl (omega arith) });
+          (record { rest = p; leads = leads_quiet O state state before after p (ap (λ (l : Log). l.notes) same) (ap (λ (l : Log). l.answers) same) refl refl });
     }
 
 -- the same computation in other words
@@ -247,12 +248,12 @@ asked_none O old new log (Ok value) question next error cause declined kept is =
 asked_none O old new log (Err e) question next asked.Refused cause declined kept is =
     record {
       comes = subst (λ d. FailsAt O old new log log d (Asked question next)) (sym is)
-          (record { question = question; next = next; leads = leads_quiet O old new log log (Asked question next) refl refl kept cause.later; declined = declined refl; rose = cause.refused refl });
+          (record { question = question; next = next; at = old; leads = leads_none O old log (Asked question next); left = kept; declined = declined refl; rose = cause.refused refl });
     }
 asked_none O old new log (Err e) question next asked.Memory cause declined kept is =
     record {
       comes = subst (λ d. FailsAt O old new log log d (Asked question next)) (sym is)
-          (record { rest = Asked question next; leads = leads_quiet O old new log log (Asked question next) refl refl kept cause.later });
+          (record { rest = Asked question next; leads = leads_quiet O old new log log (Asked question next) refl refl kept (cause.memory refl) });
     }
 
 -- an answer was taken and logged, and memory was wanting for its copy

@@ -1,5 +1,5 @@
 -- What a call that asks an oracle did: how far the answers that it took led its stated computation.
-use Rattle.std.specs.Prelude.{◌≡◌, ◌≤◌, List, ◌++◌, Option, None, Result, Ok, Err}
+use Rattle.std.specs.Prelude.{◌≡◌, List, ◌++◌, Option, None, Result, Ok, Err}
 use Rattle.std.specs.Option.{option_map}
 use Rattle.farkas_check.specs.declared.answer.Answer.{Answer}
 use Rattle.farkas_check.specs.declared.question.Question.{Question}
@@ -34,7 +34,7 @@ silent O = record {
 }
 
 -- The log gained notes and answers that lead from one computation to what is left of it. They are
--- those that the oracle had next, and its count of refusals did not fall.
+-- those that the oracle had next, and it refused nothing meanwhile.
 pub record Leads {S A : Type 0} (O : Asking S) (old new : S) (before after : Log)
     (p q : Posing A) : Type 0 where
   pub notes : List Note
@@ -42,19 +42,21 @@ pub record Leads {S A : Type 0} (O : Asking S) (old new : S) (before after : Log
   pub noted : after.notes ≡ before.notes ++ notes
   pub logged : after.answers ≡ before.answers ++ answers
   pub taken : O.left old ≡ with_all answers (O.left new)
-  pub later : O.refusals old ≤ O.refusals new
+  pub counted : O.refusals new ≡ O.refusals old
   pub path : Path (IsGood O.allows) p notes answers q
 
--- the answers led to a question that the oracle refused
+-- the answers led to a question that the oracle refused, as it then stood
 pub record IsRefused {S A : Type 0} (O : Asking S) (old new : S) (before after : Log)
     (p : Posing A) : Type 0 where
   pub question : Question
   pub next : Answer → Posing A
-  pub leads : Leads O old new before after p (Asked question next)
+  pub at : S
+  pub leads : Leads O old at before after p (Asked question next)
+  pub left : O.left new ≡ O.left at
   pub declined : O.declines new question
-  pub rose : Rose (O.refusals old) (O.refusals new)
+  pub rose : Rose (O.refusals at) (O.refusals new)
 
--- memory was wanting somewhere on the way
+-- memory was wanting somewhere on the way, on which nothing was refused
 pub record IsHalted {S A : Type 0} (O : Asking S) (old new : S) (before after : Log)
     (p : Posing A) : Type 0 where
   pub rest : Posing A

@@ -2,6 +2,7 @@
 use Rattle.std.proofs.Common.{◌≡◌, ℕ, List, [], ◌++◌, length, sym, ap, subst, ◌∙◌, IsErrAnd}
 use Rattle.std.specs.Prelude.{Result, Ok, Err}
 use Rattle.farkas_check.specs.Asking.{Asking}
+use Rattle.whole_numbers.specs.Counters.{Rose}
 use Rattle.syntax_tree.specs.declared.program.Program.{Program}
 use Rattle.posing.specs.declared.error.WorkError.{WorkError}
 use Rattle.posing.specs.declared.error.WorkError.TheVariants.{Refused, Memory}
@@ -23,27 +24,27 @@ use Rattle.summary_cache.specs.Submitted.{IsWorkCause, IsWorked, Works}
 
 module _ {S : Type 0} (O : Asking S) (old new : S) (before after : Log) (analysis : Posing Report) (empty : before ≡ record { notes = []; answers = [] })
     (kept : after.notes ≡ before.notes) where
-  all-answers : (q : Posing Report) (leads : Leads O old new before after analysis q) → after.answers ≡ leads.answers
-  all-answers q leads = leads.logged ∙ ap (λ (log : Log). log.answers ++ leads.answers) empty
+  all-answers : (at : S) (q : Posing Report) (leads : Leads O old at before after analysis q) → after.answers ≡ leads.answers
+  all-answers at q leads = leads.logged ∙ ap (λ (log : Log). log.answers ++ leads.answers) empty
 
-  unnoted : (q : Posing Report) → Leads O old new before after analysis q → Path (IsGood O.allows) analysis [] after.answers q
-  unnoted q leads =
+  unnoted : (at : S) (q : Posing Report) → Leads O old at before after analysis q → Path (IsGood O.allows) analysis [] after.answers q
+  unnoted at q leads =
       let none : [] ≡ leads.notes = subst (λ (log : Log). log.notes ≡ log.notes ++ leads.notes) empty (sym kept ∙ leads.noted) in
-      subst (λ answers. Path (IsGood O.allows) analysis [] answers q) (sym (all-answers q leads))
+      subst (λ answers. Path (IsGood O.allows) analysis [] answers q) (sym (all-answers at q leads))
       (subst (λ notes. Path (IsGood O.allows) analysis notes leads.answers q) (sym none) leads.path)
 
-  all-taken : (q : Posing Report) (leads : Leads O old new before after analysis q) → O.left old ≡ with_all after.answers (O.left new)
-  all-taken q leads = leads.taken ∙ ap (λ answers. with_all answers (O.left new)) (sym (all-answers q leads))
+  all-taken : (at : S) (q : Posing Report) (leads : Leads O old at before after analysis q) → O.left old ≡ with_all after.answers (O.left at)
+  all-taken at q leads = leads.taken ∙ ap (λ answers. with_all answers (O.left at)) (sym (all-answers at q leads))
 
   pub answered : (report : Report) (last : Analysed) → last ≡ record { report = report; answers = after.answers }
       → Follows O old new before after (Ok report) analysis → IsAnswered O old new last analysis
   answered report last is follows =
       let leads = follows.comes in
       subst (λ last. IsAnswered O old new last analysis) (sym is)
-      (record { stated = unnoted (Done report) leads; taken = all-taken (Done report) leads; later = leads.later })
+      (record { stated = unnoted new (Done report) leads; taken = all-taken new (Done report) leads; counted = leads.counted })
 
   pub unanswered : (error : WorkError) → Follows O old new before after (Err error) analysis → CameTo O old new (Err error) analysis
-  unanswered Memory follows = tt
+  unanswered Memory follows = follows.comes.leads.counted
   unanswered Refused follows =
       let at = follows.comes in
       let rest = Asked at.question at.next in
@@ -51,10 +52,10 @@ module _ {S : Type 0} (O : Asking S) (old new : S) (before after : Log) (analysi
         answers = after.answers;
         question = at.question;
         next = at.next;
-        stated = unnoted rest at.leads;
-        taken = all-taken rest at.leads;
+        stated = unnoted at.at rest at.leads;
+        taken = all-taken at.at rest at.leads ∙ ap (with_all after.answers) (sym at.left);
         declined = at.declined;
-        rose = at.rose;
+        rose = subst (λ count. Rose count (O.refusals new)) at.leads.counted at.rose;
       }
 
 module _ {S : Type 0} (O : Asking S) (rule : ℕ) (old new : S) (text : List ℕ) where
@@ -65,7 +66,7 @@ module _ {S : Type 0} (O : Asking S) (rule : ℕ) (old new : S) (text : List ℕ
 
   declined : (program : Program) (plan : List Planned) (error : WorkError) → IsPlanned rule text program plan
       → CameTo O old new (Err error) (analysis_of rule text program plan) → IsWorkCause O rule old new text error
-  declined program plan Memory planned came = tt
+  declined program plan Memory planned came = came
   declined program plan Refused planned came = record { program = program; plan = plan; planned = planned; declined = came }
 
   pub unworked : (program ruled : Program) (plan : List Planned) (places : List TextPlace) (error : WorkError) (result : Result (Analysed × Counts) WorkError)
@@ -93,6 +94,6 @@ module _ {S : Type 0} (O : Asking S) (rule : ℕ) (old new : S) (text : List ℕ
           met = free program rule last.report (subst (λ (ruled : Program). ClaimsAreMet ruled last.report) under met);
         };
         taken = is.taken;
-        later = is.later;
+        refused_none = is.counted;
         counted = counted;
       }

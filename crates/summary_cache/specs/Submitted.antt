@@ -1,5 +1,5 @@
 -- What comes of a text that is submitted to a session.
-use Rattle.std.specs.Prelude.{◌≡◌, ℕ, ◌≤◌, List, [], length, Option, None, Some, Result, Ok, Err}
+use Rattle.std.specs.Prelude.{◌≡◌, ℕ, List, [], length, Option, None, Some, Result, Ok, Err}
 use Rattle.std.specs.Option.{option_map}
 use Rattle.farkas_check.specs.declared.answer.Answer.{Answer}
 use Rattle.farkas_check.specs.Asking.{Asking}
@@ -34,12 +34,12 @@ answers_in session = answers_of session.last
 -- ---- what comes of a text
 
 -- The text is accepted. Its report is what the analysis comes to under the answers that the oracle
--- had next, and all groups of the plan were summed up.
+-- had next, which refused none, and all groups of the plan were summed up.
 pub record IsWorked {S : Type 0} (O : Asking S) (rule : ℕ) (old new : S) (text : List ℕ)
     (last : Analysed) (counts : Counts) : Type 0 where
   pub analysed : IsAnalysedBy O.allows rule text last.answers last.report
   pub taken : O.left old ≡ with_all last.answers (O.left new)
-  pub later : O.refusals old ≤ O.refusals new
+  pub refused_none : O.refusals new ≡ O.refusals old
   pub counted : counts ≡ counts_of (length analysed.plan) last.report
 
 -- The text spells a program, and the oracle declines a question of its analysis.
@@ -50,10 +50,10 @@ pub record IsUnanswered {S : Type 0} (O : Asking S) (rule : ℕ) (old new : S)
   pub planned : IsPlanned rule text program plan
   pub declined : IsDeclined O old new (analysis_of rule text program plan)
 
--- what an error of the work says
+-- what an error of the work says; where memory is wanting, nothing was refused
 abbrev pub IsWorkCause : {S : Type 0} → Asking S → ℕ → S → S → List ℕ → WorkError → Type 0
 IsWorkCause O rule old new text work.Refused = IsUnanswered O rule old new text
-IsWorkCause O rule old new text work.Memory = Unit {0}
+IsWorkCause O rule old new text work.Memory = O.refusals new ≡ O.refusals old
 
 abbrev pub Works : {S : Type 0} → Asking S → ℕ → S → S → List ℕ
     → Result (Analysed × Counts) WorkError → Type 0
@@ -64,7 +64,7 @@ Works O rule old new text (Err error) = IsWorkCause O rule old new text error
 abbrev pub IsCause : {S : Type 0} → Asking S → ℕ → S → S → List ℕ → SubmitError → Type 0
 IsCause O rule old new text (Text refusal) = IsRefusedBy text refusal × (new ≡ old)
 IsCause O rule old new text Refused = IsUnanswered O rule old new text
-IsCause O rule old new text Memory = Unit {0}
+IsCause O rule old new text Memory = O.refusals new ≡ O.refusals old
 
 abbrev pub Comes : {S : Type 0} → Asking S → ℕ → S → S → List ℕ
     → Result (Analysed × Counts) SubmitError → Type 0

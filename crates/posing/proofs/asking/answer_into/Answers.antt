@@ -20,7 +20,7 @@ returns-in_err-copy-in-Ok g c = λ notes.
     let a = c.in_ok-answer.ensures in
     asked_lost _ _ _ _ _ _ _ _
     (leads_asked g.O.Oracle.asking _ _ (log_of notes c.args.answers.now.items) (log_of notes c.push.new.self.items) c.args.question.now c.in_ok-answer.answer (λ answer. Done answer)
-    (record { passes = a.passes; is_true = a.sound; allowed = a.allowed }) a.taken a.cause.later refl
+    (record { passes = a.passes; is_true = a.sound; allowed = a.allowed }) a.taken a.cause.ok refl
     (c.in-Ok.ensures.items ∙ ap (λ items. items ++ c.in_ok-answer.answer ∷ []) c.in_ok-reserve.ensures.items))
     c.from_residual-in_err-copy-in-Ok.ensures.1
 
@@ -31,6 +31,6 @@ returns g c = λ notes.
       comes = subst (λ answer. Leads g.O.Oracle.asking c.args.oracle.now c.ask.new.self (log_of notes c.args.answers.now.items) (log_of notes c.push.new.self.items) (answer_to c.args.question.now) (Done answer))
           (sym c.in_ok-copy-in-Ok.ensures.copy)
           (leads_asked g.O.Oracle.asking _ _ (log_of notes c.args.answers.now.items) (log_of notes c.push.new.self.items) c.args.question.now c.in_ok-answer.answer (λ answer. Done answer)
-          (record { passes = a.passes; is_true = a.sound; allowed = a.allowed }) a.taken a.cause.later refl
+          (record { passes = a.passes; is_true = a.sound; allowed = a.allowed }) a.taken a.cause.ok refl
           (c.in-Ok.ensures.items ∙ ap (λ items. items ++ c.in_ok-answer.answer ∷ []) c.in_ok-reserve.ensures.items));
     }

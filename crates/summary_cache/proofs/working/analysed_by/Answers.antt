@@ -28,10 +28,10 @@ answered_by-requires g c =
     (c.rules_are_free.ensures c.args.program c.args.rule (c.accepted_is_well_formed.ensures c.args.text.now c.args.program c.requires.accepted) c.requires.rule)
 
 pub returns-in_err-plan : goal.returns-in_err-plan
-returns-in_err-plan g c = fails g.O.Oracle.asking c.args.rule _ _ c.args.text.now Memory _ c.from_residual.ensures.1 tt
+returns-in_err-plan g c = fails g.O.Oracle.asking c.args.rule _ _ c.args.text.now Memory _ c.from_residual.ensures.1 refl
 
 pub returns-in_err-places : goal.returns-in_err-places
-returns-in_err-places g c = fails g.O.Oracle.asking c.args.rule _ _ c.args.text.now Memory _ c.from_residual-in_err-places.ensures.1 tt
+returns-in_err-places g c = fails g.O.Oracle.asking c.args.rule _ _ c.args.text.now Memory _ c.from_residual-in_err-places.ensures.1 refl
 
 pub returns-in_err-last : goal.returns-in_err-last
 returns-in_err-last g c =
