@@ -5,3 +5,5 @@ pub mod Following
 pub mod Steps
 -- Computations apart from calls: paths through them, and properties of all their ends.
 pub mod Paths
+-- Properties of all ends under answers that are good, whatever that is.
+pub mod Under

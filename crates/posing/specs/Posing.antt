@@ -69,6 +69,14 @@ Always P (Noted notes next) = Always P next
 Always P (Asked question next) = (answer : Answer) → IsTrueAnswer question answer
     → Always P (next answer)
 
+-- its value has a property, as long as each answer is good for its question
+abbrev pub AlwaysUnder : {A : Type 0} → (Question → Answer → Type 0) → (A → Type 0) → Posing A
+    → Type 0
+AlwaysUnder Good P (Done value) = P value
+AlwaysUnder Good P (Noted notes next) = AlwaysUnder Good P next
+AlwaysUnder Good P (Asked question next) = (answer : Answer) → Good question answer
+    → AlwaysUnder Good P (next answer)
+
 -- ---- how far answers lead
 
 -- these notes and answers lead from one computation to what is left of it, and each answer is good
