@@ -24,6 +24,7 @@ mod Listing
 mod Lookups
 mod Ordered
 mod Sums
+mod OwnColumns
 mod Shortcuts
 mod Halves
 mod Pivots

@@ -8,9 +8,10 @@ use Rattle.whole_numbers.specs.Divisors.{gcd_of}
 use Rattle.whole_numbers.specs.Fits.{fits, sum_of, product_of}
 use Rattle.whole_numbers.proofs.CommonDivisors.{zero-gcd_of}
 use Rattle.whole_numbers.proofs.Quotients.{int_div-*ℤ}
-use Rattle.farkas_check.specs.Ratios.{Fraction, IsLowest, whole, lowest_terms, common_multiple, ratio_sum}
+use Rattle.farkas_check.specs.Ratios.{Fraction, IsLowest, whole, lowest_terms, common_multiple, ratio_product, ratio_sum}
+use Rattle.farkas_check.specs.Steps.{with_multiple}
 use Rattle.farkas_check.proofs.Lowest.{IsLowest-whole}
-use Rattle.farkas_check.proofs.Sums.{zero_times, plus_zero}
+use Rattle.farkas_check.proofs.Sums.{zero_product, zero_times, plus_zero}
 
 quotient_by_one : (z : ℤ) → int_div z (pos 1) ≡ z
 quotient_by_one z = (let same : int_div z (pos 1) *ℤ pos 1 ≡ z = int_div-*ℤ z 1 (one-dvd (unsigned_abs z)) in omega (arith, ints, same))
@@ -68,6 +69,24 @@ lowest_zero number d p e = sym (ap (λ n. lowest_terms n d) e ∙ ap (λ z. reco
     own (pos n) p = ap pos (zero-gcd_of n)
     own (negsuc n) p = absurd (omega (arith, ints, p))
 
+-- ---- products with zero
+
+one_times : (a : ℤ) → fits a ≡ true → product_of (pos 1) a ≡ Ok a
+one_times a f =
+    let same : pos 1 *ℤ a ≡ a = omega (arith, ints) in
+    ap (λ z. cond (fits z) (Ok z) (Err (record { left = pos 1; right = a; times = true }))) same
+    ∙ ap (λ b. cond b (Ok a) (Err (record { left = pos 1; right = a; times = true }))) f
+
+none_times : (b : Fraction) → fits b.den ≡ true → ratio_product (whole (pos 0)) b ≡ Ok (lowest_terms (pos 0) b.den)
+none_times b f =
+    ap (λ p. p >>= λ num. product_of (pos 1) b.den >>= λ den. Ok (lowest_terms num den)) (zero_times b.num)
+    ∙ ap (λ p. p >>= λ den. Ok (lowest_terms (pos 0) den)) (one_times b.den f)
+
+times_none : (a : Fraction) → fits a.den ≡ true → ratio_product a (whole (pos 0)) ≡ Ok (lowest_terms (pos 0) a.den)
+times_none a f =
+    ap (λ p. p >>= λ num. product_of a.den (pos 1) >>= λ den. Ok (lowest_terms num den)) (zero_product a.num)
+    ∙ ap (λ p. p >>= λ den. Ok (lowest_terms (pos 0) den)) (product_by_one a.den f)
+
 -- ---- for the code
 
 pub lowest_whole : (number den : ℤ) → den ≡ pos 1 → whole number ≡ lowest_terms number den
@@ -82,6 +101,20 @@ multiple_of_one d e f one = sym (ap (common_multiple d) one ∙ multiple_with_on
 
 pub sum_with_zero : (a r : Fraction) → IsLowest a → IsLowest r → fits a.num ≡ true → fits a.den ≡ true → r.num ≡ pos 0 → Ok a ≡ ratio_sum a r
 sum_with_zero a r low own f g zero = sym (ap (ratio_sum a) (zero_is_whole r own zero) ∙ plus_none a low f g)
+
+pub product_from_zero : (a b : Fraction) → IsLowest a → fits b.den ≡ true → a.num ≡ pos 0 → Ok (lowest_terms (pos 0) b.den) ≡ ratio_product a b
+product_from_zero a b own f zero = sym (ap (λ r. ratio_product r b) (zero_is_whole a own zero) ∙ none_times b f)
+
+pub product_with_zero : (a b : Fraction) → IsLowest b → fits a.den ≡ true → b.num ≡ pos 0 → Ok (lowest_terms (pos 0) a.den) ≡ ratio_product a b
+product_with_zero a b own f zero = sym (ap (ratio_product a) (zero_is_whole b own zero) ∙ times_none a f)
+
+pub with_multiple-zero : (total ratio : Fraction) (number : ℤ) → IsLowest total → IsLowest ratio → fits total.num ≡ true → fits total.den ≡ true → ratio.num ≡ pos 0 → Ok total ≡ with_multiple total number ratio
+with_multiple-zero total ratio number low own f g zero =
+    sym (
+    ap (with_multiple total number) (zero_is_whole ratio own zero)
+    ∙ ap (λ p. p >>= λ part. ratio_sum total part) (times_none (whole number) refl ∙ ap Ok (lowest_terms_itself (whole (pos 0)) (IsLowest-whole (pos 0))))
+    ∙ plus_none total low f g
+    )
 
 pub ruleset zeros = (sum_with_zero)
 

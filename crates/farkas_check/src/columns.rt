@@ -6,7 +6,7 @@ ghost use Rattle.linear_terms.specs.Polynomial.{IsCanonical};
 ghost use Rattle.farkas_check.specs.Columns.{columns};
 ghost use Rattle.farkas_check.specs.Relations.{stratum_columns, source_columns};
 ghost use Rattle.farkas_check.specs.Listing.{columns_in};
-ghost use Rattle.farkas_check.specs.Walk.{IsNext, IsBlank, IsListing, IsRightBefore, is_after, lesser, least_after, least_in_rows, least_in_polys, least_in_cases};
+ghost use Rattle.farkas_check.specs.Walk.{IsNext, IsBlank, IsListing, IsRightBefore, is_after, lesser, multiplied, least_after, least_in_row, least_in_multiplied, least_in_rows, least_in_polys, least_in_cases};
 
 use crate::search::{first_behind, is_after};
 use crate::source::{Columns, LISTED, Source};
@@ -157,6 +157,43 @@ fn next_of_stratum(cases: &[Change], lower: &[Poly], last: &Option<Mono>) -> Opt
 {
     let least = least_in_cases(cases, last);
     least_in_polys(lower, last, least)
+}
+
+/// The next column of the rows whose multipliers are not 0, and of terms in print order.
+#[tactic(auto, using(crate::proofs::Walks::next_column))]
+pub(crate) fn next_of_multiplied(
+    rows: &[Row],
+    by: &[i128],
+    terms: &[(Mono, i128)],
+    last: &Option<Mono>,
+) -> Option<Mono>
+    requires by { length by.now ≡ length rows.now }
+    requires terms { IsCanonical terms.now }
+    ensures { IsNext result last.now (columns (multiplied rows.now by.now) terms.now) }
+{
+    let least = least_in_multiplied(rows, by, last);
+    least_in_order(terms, last, least)
+}
+
+fn least_in_multiplied(rows: &[Row], by: &[i128], last: &Option<Mono>) -> Option<Mono>
+    requires { length by.now ≡ length rows.now }
+    ensures { result ≡ least_in_multiplied last.now None rows.now by.now }
+{
+    let mut least = None;
+    for (i, row) in rows.iter().enumerate() {
+        least = least_in_row(row, &by[i], last, least);
+    }
+    least
+}
+
+fn least_in_row(row: &Row, by: &i128, last: &Option<Mono>, known: Option<Mono>) -> Option<Mono>
+    ensures { result ≡ least_in_row last.now known by.now row.now }
+{
+    if *by == 0 {
+        known
+    } else {
+        least_in_order(row.poly.terms(), last, known)
+    }
 }
 
 fn least_in_cases(cases: &[Change], last: &Option<Mono>) -> Option<Mono>

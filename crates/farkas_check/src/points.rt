@@ -67,8 +67,7 @@ fn terms_value(columns: &Columns<'_>, point: &[Ratio], of: &[(Mono, i128)]) -> R
     let mut place = 0;
     for (mono, number) in of {
         let (ratio, found) = ratio_and_place(columns, point, place, mono);
-        let part = Ratio::whole(*number).product(&ratio)?;
-        total = total.sum(&part)?;
+        total = total.with_multiple(number, &ratio)?;
         place = found;
     }
     Ok(total)

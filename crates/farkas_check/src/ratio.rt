@@ -3,6 +3,7 @@ ghost use Rattle.whole_numbers.specs.Fits.{product_of};
 ghost use Rattle.std.specs.Option.{SomeIff};
 ghost use Rattle.std.specs.Cmp.{partial_equiv_from_equiv};
 ghost use Rattle.farkas_check.specs.Ratios.{IsLowest, whole, lowest_terms, is_lowest, ratio_product, ratio_sum, common_multiple, is_at_least, ratio_eq, ratio_eq_equiv};
+ghost use Rattle.farkas_check.specs.Steps.{with_multiple};
 ghost use Rattle.farkas_check.specs.Stratum.{is_exactly};
 ghost use Rattle.farkas_check.specs.Laws.{SumsAreExact, ProductsAreExact, ValuesAreExact};
 
@@ -102,9 +103,35 @@ impl Ratio {
     pub fn product(&self, by: &Ratio) -> Result<Ratio, Wide>
         ensures { result ≡ ratio_product self.now by.now }
     {
+        if self.num == 0 {
+            return Ok(Ratio::lowest(0, by.den));
+        }
+        if by.num == 0 {
+            return Ok(Ratio::lowest(0, self.den));
+        }
+        self.product_of_both(by)
+    }
+
+    /// The same, of numerators and denominators.
+    fn product_of_both(&self, by: &Ratio) -> Result<Ratio, Wide>
+        ensures { result ≡ ratio_product self.now by.now }
+    {
         let num = product(self.num, by.num)?;
         let den = product(self.den, by.den)?;
         Ok(Ratio::lowest(num, den))
+    }
+
+    /// The sum with a multiple of another ratio, or the first step that leaves 128 bits. The
+    /// multiple of 0 leaves it as it is.
+    pub(crate) fn with_multiple(&self, number: &i128, of: &Ratio) -> Result<Ratio, Wide>
+        ensures { result ≡ with_multiple self.now number.now of.now }
+    {
+        if of.num == 0 {
+            let Ratio { num, den } = *self;
+            return Ok(Ratio { num, den });
+        }
+        let part = Ratio::whole(*number).product(of)?;
+        self.sum(&part)
     }
 
     /// The sum, or the first step that leaves 128 bits.

@@ -2,7 +2,7 @@ ghost use Rattle.std.specs.Prelude.{◌≡◌, ◌&&◌, ◌==◌, [], ◌∷◌
 ghost use Rattle.std.specs.List.{list_all, zip};
 ghost use Rattle.farkas_check.specs.Listing.{columns_in};
 ghost use Rattle.farkas_check.specs.Relations.{Term, Lower, One, sides, numbers_of, with_side, with_sides, coefficient_at, difference_numbers, difference_form, has_count, have_equally_many};
-ghost use Rattle.farkas_check.specs.Steps.{sums_cancel, terms_from, lower_from, value_in, is_constant, scaled_by, are_multiples};
+ghost use Rattle.farkas_check.specs.Steps.{sums_cancel, terms_from, lower_from, value_in, is_constant, scaled_by, are_multiples, with_half_constants};
 ghost use Rattle.farkas_check.specs.Stratum.{all_of, tested_multiple, tested_half, tested_tie, tested_relation, has_unknowns};
 
 use crate::columns::next_column;
@@ -225,8 +225,53 @@ fn is_multiple_at(
     Ok(left == right)
 }
 
-/// Whether the sum of the multiples is the scale, or minus the scale, times the difference.
+/// Whether the sum of the multiples is the scale, or minus the scale, times the difference. Where
+/// no step at a column leaves 128 bits, the order of these steps does not matter.
 fn tested_multiple(
+    relation: &Relation,
+    case: &Change,
+    lower: &[Poly],
+    columns: &Columns<'_>,
+    multiples: &Multiples<'_>,
+) -> Result<bool, Wide>
+    requires terms { length relation.now.a ≡ length case.now.terms }
+    requires lower { length relation.now.b ≡ length lower.now }
+    requires by { length multiples.now.by.now ≡ length case.now.rows }
+    ensures { result ≡ tested_multiple (scaled_by multiples.now.half multiples.now.scale)
+        (columns_in columns.now) case.now.rows
+        (difference_form (numbers_of relation.now) (sides case.now.terms lower.now)
+        (columns_in columns.now)) multiples.now.by.now }
+{
+    match are_multiples(relation, case, lower, columns, multiples) {
+        Ok(same) => with_half_constants(relation, case, lower, multiples, same),
+        Err(_step) => tested_multiple_in_order(relation, case, lower, columns, multiples),
+    }
+}
+
+/// Whether the constants of both sides agree, as other numbers do.
+fn with_half_constants(
+    relation: &Relation,
+    case: &Change,
+    lower: &[Poly],
+    multiples: &Multiples<'_>,
+    same: bool,
+) -> Result<bool, Wide>
+    requires terms { length relation.now.a ≡ length case.now.terms }
+    requires lower { length relation.now.b ≡ length lower.now }
+    requires by { length multiples.now.by.now ≡ length case.now.rows }
+    ensures { result
+        ≡ with_half_constants (scaled_by multiples.now.half multiples.now.scale) case.now.rows
+        multiples.now.by.now (numbers_of relation.now) (sides case.now.terms lower.now) same }
+{
+    let left = constant_sum(case.rows.as_slice(), multiples.by)?;
+    let own = difference_at(relation, case.terms.as_slice(), lower, &Place::Constant)?;
+    let right = scaled_by(multiples.half, &multiples.scale, own)?;
+    Ok(is_same(same, &left, &right))
+}
+
+/// The same as `tested_multiple`, with every number of a side made before the first one of the
+/// next.
+fn tested_multiple_in_order(
     relation: &Relation,
     case: &Change,
     lower: &[Poly],
@@ -243,7 +288,6 @@ fn tested_multiple(
 {
     let rows = case.rows.as_slice();
     let terms = case.terms.as_slice();
-    // Every number of a side is made before the first one of the next.
     sums_cancel(rows, columns, multiples.by)?;
     let left = constant_sum(rows, multiples.by)?;
     differences_cancel(relation, terms, lower, columns)?;

@@ -1,29 +1,42 @@
-use Rattle.std.proofs.Common.{◌≡◌, ℕ, ◌+◌, ◌<◌, length, get_or, drop, List, ◌∷◌, ℤ, Ok, sym, ap, ◌∙◌, rules, SFits}
-use Rattle.std.specs.Int.{w128}
-use Rattle.std.proofs.lemmas.Int.{to_z-of_z}
+use Rattle.std.proofs.Common.{◌≡◌, ℕ, ◌+◌, ◌<◌, length, get_or, drop, List, ◌∷◌, ℤ, Ok, Err, sym, ap, ◌∙◌, rules}
 use Rattle.std.proofs.lemmas.List.{drop_more}
 use Rattle.items.specs.Gives.{◌>>=◌}
+use Rattle.items.proofs.Gives.{bind-assoc}
 use Rattle.linear_terms.specs.declared.col.Col.{Col}
 use Rattle.linear_terms.specs.Polynomial.{Terms}
 use Rattle.farkas_check.specs.Ratios.{Fraction, whole, ratio_product, ratio_sum}
 use Rattle.farkas_check.specs.Listing.{columns_in}
 use Rattle.farkas_check.specs.Points.{ratio_at, value_from}
+use Rattle.farkas_check.specs.Steps.{with_multiple}
 use Rattle.farkas_check.proofs.points.terms_value.Goals as goal
 
-value_from-next : (at : List Col → Fraction) (items : Terms) (i : ℕ) (t : List Col × ℤ) (total number ratio part next : Fraction) → i < length items → t ≡ get_or items i t → number ≡ whole t.1 → ratio ≡ at t.0
-    → Ok part ≡ ratio_product number ratio → Ok next ≡ ratio_sum total part → value_from at next (drop (i + 1) items) ≡ value_from at total (drop i items)
-value_from-next at items i t total number ratio part next lt e f g multiplied added =
-    let begins : drop i items ≡ t ∷ drop (i + 1) items = drop_more items i t lt ∙ ap (λ u. u ∷ drop (i + 1) items) (sym e) in
-    sym (
-    ap (value_from at total) begins
-    ∙ ap (λ r. r >>= λ p. ratio_sum total p >>= λ n. value_from at n (drop (i + 1) items)) (sym (multiplied ∙ (λ j. ratio_product (f j) (g j))))
-    ∙ ap (λ r. r >>= λ n. value_from at n (drop (i + 1) items)) (sym added)
-    )
+-- one term, and then the others
+value_from-step : (at : List Col → Fraction) (items : Terms) (i : ℕ) (t : List Col × ℤ) (total ratio : Fraction) → i < length items → t ≡ get_or items i t → ratio ≡ at t.0
+    → value_from at total (drop i items) ≡ (with_multiple total t.1 ratio >>= λ next. value_from at next (drop (i + 1) items))
+value_from-step at items i t total ratio lt e g =
+    ap (value_from at total) (drop_more items i t lt ∙ ap (λ u. u ∷ drop (i + 1) items) (sym e))
+    ∙ ap (λ r. ratio_product (whole t.1) r >>= λ part. ratio_sum total part >>= λ next. value_from at next (drop (i + 1) items)) (sym g)
+    ∙ sym (bind-assoc (ratio_product (whole t.1) ratio) (ratio_sum total) (λ next. value_from at next (drop (i + 1) items)))
 
 pub loop-mono-preserved : goal.loop-mono-preserved
 loop-mono-preserved c =
+    let at = ratio_at (columns_in c.args.columns.now) c.args.point.now in
+    let items = c.args.of.now in
     let item = c.loop-mono-item.result in
-    let fits : SFits w128 c.loop-mono-item.result.1 = search rules in
-    value_from-next (ratio_at (columns_in c.args.columns.now) c.args.point.now) c.args.of.now c.loop-mono.mono-index item c.loop-mono.total c.whole.result c.ratio_and_place-ratio.result.0 c.in_ok-part.part c.in_ok-total.total
-    c.loop-mono-test.true c.loop-mono-item.is (c.whole.ensures ∙ ap whole (to_z-of_z w128 item.1 fits)) c.ratio_and_place-ratio.ensures c.in_ok-part.ensures c.in_ok-total.ensures
+    let told : with_multiple c.loop-mono.total item.1 c.ratio_and_place-ratio.result.0 ≡ Ok c.in_ok-total.total = search rules in
+    sym (ap (λ r. r >>= λ next. value_from at next (drop (c.loop-mono.mono-index + 1) items)) told)
+    ∙ sym (value_from-step at items c.loop-mono.mono-index item c.loop-mono.total c.ratio_and_place-ratio.result.0 c.loop-mono-test.true c.loop-mono-item.is c.ratio_and_place-ratio.ensures)
+    ∙ c.loop-mono.invariant
+
+pub returns-in_err-total : goal.returns-in_err-total
+returns-in_err-total c =
+    let at = ratio_at (columns_in c.args.columns.now) c.args.point.now in
+    let items = c.args.of.now in
+    let item = c.loop-mono-item.result in
+    let fault = c.in_err-total.field-0.0 in
+    let told : with_multiple c.loop-mono.total item.1 c.ratio_and_place-ratio.result.0 ≡ Err fault = search rules in
+    let fails : c.from_residual.result ≡ Err fault = search rules in
+    fails
+    ∙ sym (ap (λ r. r >>= λ next. value_from at next (drop (c.loop-mono.mono-index + 1) items)) told)
+    ∙ sym (value_from-step at items c.loop-mono.mono-index item c.loop-mono.total c.ratio_and_place-ratio.result.0 c.loop-mono-test.true c.loop-mono-item.is c.ratio_and_place-ratio.ensures)
     ∙ c.loop-mono.invariant
