@@ -20,6 +20,7 @@ pub mod Covering
 -- ---- steps of calls
 pub mod Lists
 pub mod Objectives
+pub mod Kept
 pub mod PutIn
 pub mod Same
 pub mod Places

@@ -24,4 +24,5 @@ pub mod Squash
 pub mod Laws
 -- ---- words of proofs
 pub mod Keys
+pub mod Kept
 pub mod Tables

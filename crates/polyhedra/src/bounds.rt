@@ -1,26 +1,31 @@
 ghost use Rattle.std.specs.Prelude.{◌≡◌, ◌++◌, true, List, All, Ok, Result, IfOk, length, option_to_list};
 ghost use Rattle.items.specs.Gives.{Gives};
+ghost use Rattle.linear_terms.specs.declared.row.Case.{Case};
 ghost use Rattle.linear_terms.specs.declared.row.Row.{Row};
 ghost use Rattle.linear_terms.specs.declared.error.TermError.{TermError};
-ghost use Rattle.linear_terms.specs.Expressions.{◌⊟◌, at_most, put_into};
+ghost use Rattle.linear_terms.specs.Expressions.{Made, ◌⊟◌, at_most, put_into};
 ghost use Rattle.linear_terms.specs.TermError.{cause};
 ghost use Rattle.transition_formula.specs.Loss.{answered, losses_of};
 ghost use Rattle.farkas_check.specs.declared.question.Goal.{Goal};
+ghost use Rattle.farkas_check.specs.declared.question.Question.TheVariants.{Sup};
 ghost use Rattle.posing.specs.Follows.{Follows};
 ghost use Rattle.posing.specs.Logs.{Adds, loss_notes};
 ghost use Rattle.posing.specs.Posing.{each};
-ghost use Rattle.polyhedra.specs.Bounds.{put_in_for, goals_of, bound_by, bound_in, before_row, after_row, bounded_before, bounded_after, so_often, change_row, bounded_change, IsCovered, IsCoveredByPosts, for_entries};
+ghost use Rattle.polyhedra.specs.Bounds.{put_in_for, bound_of, bound_by, bound_in, before_row, after_row, bounded_before, bounded_after, so_often, change_row, bounded_change, IsCovered, IsCoveredByPosts, for_entries};
 ghost use Rattle.polyhedra.specs.Changes.{change};
+ghost use Rattle.polyhedra.specs.Kept.{AreOver, with_objectives, objectives_of};
 ghost use Rattle.polyhedra.specs.Tables.{AreTables};
 
 use crate::changes::{Moves, objective, tables_of};
-use crate::infeasible::answer_once;
+use crate::goals::{goals_in, goals_over, with_objectives};
+use crate::infeasible::noted_answer;
 use crate::losses::note;
 use crate::{Log, WorkError};
 use farkas_check::{Answer, Goal, Oracle, Question};
 use items::Items;
 use linear_terms::{Case, Col, Kind, Poly, Row, TermError, difference, mul, subst};
 use std::alloc::{AllocError, Global};
+use std::mem;
 
 // ---- the greatest value of an objective
 
@@ -28,13 +33,14 @@ use std::alloc::{AllocError, Global};
 #[tactic(auto, using(posing::proofs::Following::following), unfolding(crate::specs::Bounds::bound_by))]
 fn ask_bound<O: Oracle>(
     alloc: Global,
-    goals: Items<Goal>,
+    question: &Question,
     oracle: &mut O,
     log: &mut Log,
 ) -> Result<Option<i128>, WorkError>
-    ensures { Follows O.asking oracle.old oracle.new log.old log.new result (bound_by (Ok goals)) }
+    ensures { (goals : List Goal) → question.now ≡ Sup goals →
+        Follows O.asking oracle.old oracle.new log.old log.new result (bound_by (Ok goals)) }
 {
-    let answer = answer_once(alloc, Question::Sup(goals), oracle, log)?;
+    let answer = noted_answer(alloc, question, oracle, log)?;
     Ok(bound_in(&answer))
 }
 
@@ -59,12 +65,54 @@ pub fn bound_by<O: Oracle>(
         Follows O.asking oracle.old oracle.new log.old log.new result (bound_by stated) }
 {
     match goals {
-        Ok(goals) => ask_bound(alloc, goals, oracle, log),
+        Ok(goals) => ask_bound(alloc, &Question::Sup(goals), oracle, log),
         Err(error) => {
             note(alloc, error, log)?;
             Ok(None)
         }
     }
+}
+
+/// The greatest value of objectives over the rows of goals, if it is known. Where an objective is
+/// lost, its loss is noted and nothing is asked; a limit is noted too.
+fn bound_over<O: Oracle>(
+    alloc: Global,
+    goals: &mut Items<Goal>,
+    objectives: Result<Items<Poly>, TermError>,
+    oracle: &mut O,
+    log: &mut Log,
+) -> Result<Option<i128>, WorkError>
+    ensures follows { (cases : List Case) (objective : Case → Made) → AreOver cases goals.old →
+        Gives cause (λ ps. ps) objectives (objectives_of objective cases) →
+        Follows O.asking oracle.old oracle.new log.old log.new result (bound_of cases objective) }
+    ensures goals { (cases : List Case) → AreOver cases goals.old → AreOver cases goals.new }
+{
+    match objectives {
+        Ok(objectives) => bound_with(alloc, goals, objectives, oracle, log),
+        Err(error) => {
+            note(alloc, error, log)?;
+            Ok(None)
+        }
+    }
+}
+
+/// The same of objectives that could be made. The goals are moved into the question and back.
+fn bound_with<O: Oracle>(
+    alloc: Global,
+    goals: &mut Items<Goal>,
+    objectives: Items<Poly>,
+    oracle: &mut O,
+    log: &mut Log,
+) -> Result<Option<i128>, WorkError>
+    ensures follows { Follows O.asking oracle.old oracle.new log.old log.new result
+        (bound_by (Ok (with_objectives goals.old objectives))) }
+    ensures goals { goals.new ≡ with_objectives goals.old objectives }
+{
+    let kept = mem::replace(goals, Items::new(alloc));
+    let question = Question::Sup(with_objectives(kept, objectives));
+    let bound = ask_bound(alloc, &question, oracle, log);
+    *goals = goals_in(alloc, question);
+    bound
 }
 
 // ---- rows
@@ -112,14 +160,6 @@ fn put_in_for(alloc: Global, polys: &[Poly], d: &Poly) -> Result<Poly, TermError
     subst(alloc, d, polys, &[])
 }
 
-/// An objective over the rows of a case.
-fn goal_of(case: &Case, objective: Poly) -> Result<Goal, AllocError>
-    ensures { IfOk result (λ goal. goal ≡ record { rows = case.now.rows; objective = objective }) }
-{
-    let rows = case.rows.clone()?;
-    Ok(Goal { rows, objective })
-}
-
 // ---- bounds before
 
 /// Each direction's greatest value on the entry columns is asked; where there is one, it gives a
@@ -135,9 +175,10 @@ pub fn bounds_before<O: Oracle>(
     ensures { Follows O.asking oracle.old oracle.new log.old log.new result
         (each (bounded_before cases.now) rows directions.now) }
 {
+    let mut goals = goals_over(alloc, cases)?;
     let mut made = rows;
     for d in directions {
-        made = bound_before(alloc, made, cases, d, oracle, log)?;
+        made = bound_before(alloc, made, cases, &mut goals, d, oracle, log)?;
     }
     Ok(made)
 }
@@ -146,15 +187,18 @@ fn bound_before<O: Oracle>(
     alloc: Global,
     rows: Items<Row>,
     cases: &[Case],
+    goals: &mut Items<Goal>,
     d: &Poly,
     oracle: &mut O,
     log: &mut Log,
 ) -> Result<Items<Row>, WorkError>
-    ensures { Follows O.asking oracle.old oracle.new log.old log.new result
+    requires { AreOver cases.now goals.old }
+    ensures follows { Follows O.asking oracle.old oracle.new log.old log.new result
         (bounded_before cases.now rows d.now) }
+    ensures goals { AreOver cases.now goals.new }
 {
-    let goals = goals_before(alloc, cases, d);
-    let bound = bound_by(alloc, goals, oracle, log)?;
+    let objectives = objectives_before(alloc, cases, d);
+    let bound = bound_over(alloc, goals, objectives, oracle, log)?;
     match &bound {
         None => Ok(rows),
         Some(most) => {
@@ -164,21 +208,14 @@ fn bound_before<O: Oracle>(
     }
 }
 
-fn goals_before(alloc: Global, cases: &[Case], d: &Poly) -> Result<Items<Goal>, TermError>
-    ensures { Gives cause (λ g. g) result (goals_of (λ case. Ok d.now) cases.now) }
+fn objectives_before(alloc: Global, cases: &[Case], d: &Poly) -> Result<Items<Poly>, TermError>
+    ensures { Gives cause (λ ps. ps) result (objectives_of (λ case. Ok d.now) cases.now) }
 {
-    let mut goals = Items::new(alloc);
-    for case in cases {
-        goals.push(goal_before(case, d)?)?;
+    let mut objectives = Items::new(alloc);
+    for _case in cases {
+        objectives.push(d.clone()?)?;
     }
-    Ok(goals)
-}
-
-fn goal_before(case: &Case, d: &Poly) -> Result<Goal, AllocError>
-    ensures { IfOk result (λ goal. goal ≡ record { rows = case.now.rows; objective = d.now }) }
-{
-    let objective = d.clone()?;
-    goal_of(case, objective)
+    Ok(objectives)
 }
 
 fn before_row(alloc: Global, d: &Poly, most: &i128) -> Result<Row, TermError>
@@ -205,9 +242,10 @@ pub fn bounds_after<O: Oracle>(
     ensures { Follows O.asking oracle.old oracle.new log.old log.new result
         (each (bounded_after cases.now after.now) rows directions.now) }
 {
+    let mut goals = goals_over(alloc, cases)?;
     let mut made = rows;
     for d in directions {
-        made = bound_after(alloc, made, cases, after, d, oracle, log)?;
+        made = bound_after(alloc, made, cases, &mut goals, after, d, oracle, log)?;
     }
     Ok(made)
 }
@@ -216,6 +254,7 @@ fn bound_after<O: Oracle>(
     alloc: Global,
     rows: Items<Row>,
     cases: &[Case],
+    goals: &mut Items<Goal>,
     after: &[Poly],
     d: &Poly,
     oracle: &mut O,
@@ -223,11 +262,13 @@ fn bound_after<O: Oracle>(
 ) -> Result<Items<Row>, WorkError>
     requires posts { IsCoveredByPosts cases.now d.now }
     requires rows { IsCovered (length after.now) d.now }
-    ensures { Follows O.asking oracle.old oracle.new log.old log.new result
+    requires goals { AreOver cases.now goals.old }
+    ensures follows { Follows O.asking oracle.old oracle.new log.old log.new result
         (bounded_after cases.now after.now rows d.now) }
+    ensures goals { AreOver cases.now goals.new }
 {
-    let goals = goals_after(alloc, cases, d);
-    let bound = bound_by(alloc, goals, oracle, log)?;
+    let objectives = objectives_after(alloc, cases, d);
+    let bound = bound_over(alloc, goals, objectives, oracle, log)?;
     match &bound {
         None => Ok(rows),
         Some(most) => {
@@ -237,17 +278,16 @@ fn bound_after<O: Oracle>(
     }
 }
 
-fn goals_after(alloc: Global, cases: &[Case], d: &Poly) -> Result<Items<Goal>, TermError>
+fn objectives_after(alloc: Global, cases: &[Case], d: &Poly) -> Result<Items<Poly>, TermError>
     requires { IsCoveredByPosts cases.now d.now }
-    ensures { Gives cause (λ g. g) result
-        (goals_of (λ case. put_in_for case.post d.now) cases.now) }
+    ensures { Gives cause (λ ps. ps) result
+        (objectives_of (λ case. put_in_for case.post d.now) cases.now) }
 {
-    let mut goals = Items::new(alloc);
+    let mut objectives = Items::new(alloc);
     for case in cases {
-        let objective = put_in_for(alloc, case.post.as_slice(), d)?;
-        goals.push(goal_of(case, objective)?)?;
+        objectives.push(put_in_for(alloc, case.post.as_slice(), d)?)?;
     }
-    Ok(goals)
+    Ok(objectives)
 }
 
 fn after_row(alloc: Global, after: &[Poly], d: &Poly, most: &i128) -> Result<Row, TermError>
@@ -282,10 +322,14 @@ pub fn bounds_on_changes<O: Oracle>(
         (each (bounded_change cases.now moved.now turns) rows directions.now) }
 {
     let tables = tables_of(alloc, true, cases, to)?;
+    let mut goals = goals_over(alloc, cases)?;
     let mut made = rows;
     for d in directions {
         let tables = tables.as_slice();
-        made = bound_on_changes(alloc, made, cases, tables, moved, turns, d, oracle, log)?;
+        let goals = &mut goals;
+        made = bound_on_changes(
+            alloc, made, cases, goals, tables, moved, turns, d, oracle, log,
+        )?;
     }
     Ok(made)
 }
@@ -294,6 +338,7 @@ fn bound_on_changes<O: Oracle>(
     alloc: Global,
     rows: Items<Row>,
     cases: &[Case],
+    goals: &mut Items<Goal>,
     tables: &[Moves],
     moved: &[Poly],
     turns: Option<Col>,
@@ -303,11 +348,13 @@ fn bound_on_changes<O: Oracle>(
 ) -> Result<Items<Row>, WorkError>
     requires tables { AreTables cases.now tables.now d.now }
     requires rows { IsCovered (length moved.now) d.now }
-    ensures { Follows O.asking oracle.old oracle.new log.old log.new result
+    requires goals { AreOver cases.now goals.old }
+    ensures follows { Follows O.asking oracle.old oracle.new log.old log.new result
         (bounded_change cases.now moved.now turns rows d.now) }
+    ensures goals { AreOver cases.now goals.new }
 {
-    let goals = goals_on_changes(alloc, cases, tables, d);
-    let bound = bound_by(alloc, goals, oracle, log)?;
+    let objectives = objectives_on_changes(alloc, cases, tables, d);
+    let bound = bound_over(alloc, goals, objectives, oracle, log)?;
     match &bound {
         None => Ok(rows),
         Some(most) => {
@@ -317,22 +364,21 @@ fn bound_on_changes<O: Oracle>(
     }
 }
 
-fn goals_on_changes(
+fn objectives_on_changes(
     alloc: Global,
     cases: &[Case],
     tables: &[Moves],
     d: &Poly,
-) -> Result<Items<Goal>, TermError>
+) -> Result<Items<Poly>, TermError>
     requires { AreTables cases.now tables.now d.now }
-    ensures { Gives cause (λ g. g) result
-        (goals_of (λ case. put_into (for_entries (change true case)) d.now) cases.now) }
+    ensures { Gives cause (λ ps. ps) result
+        (objectives_of (λ case. put_into (for_entries (change true case)) d.now) cases.now) }
 {
-    let mut goals = Items::new(alloc);
-    for (place, case) in cases.iter().enumerate() {
-        let objective = objective(alloc, &tables[place], d)?;
-        goals.push(goal_of(case, objective)?)?;
+    let mut objectives = Items::new(alloc);
+    for (place, _case) in cases.iter().enumerate() {
+        objectives.push(objective(alloc, &tables[place], d)?)?;
     }
-    Ok(goals)
+    Ok(objectives)
 }
 
 fn change_row(

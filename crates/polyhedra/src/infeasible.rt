@@ -25,7 +25,7 @@ pub(crate) fn assent<O: Oracle>(
 
 /// The answer to a question. A limit is noted.
 #[tactic(auto, using(posing::proofs::Following::following), unfolding(crate::specs::Infeasibility::noted_answer))]
-fn noted_answer<O: Oracle>(
+pub(crate) fn noted_answer<O: Oracle>(
     alloc: Global,
     question: &Question,
     oracle: &mut O,

@@ -9,6 +9,7 @@ mod candidates;
 mod changes;
 mod finishing;
 mod fitting;
+mod goals;
 mod infeasible;
 mod losses;
 mod relations;

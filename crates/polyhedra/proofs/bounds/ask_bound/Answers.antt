@@ -1,4 +1,4 @@
-use Rattle.std.proofs.Common.{◌≡◌, List, Ok, refl}
+use Rattle.std.proofs.Common.{◌≡◌, List, Ok, refl, ap}
 use Rattle.farkas_check.specs.declared.question.Goal.{Goal}
 use Rattle.farkas_check.specs.declared.question.Question.TheVariants.{Sup}
 use Rattle.polyhedra.specs.Infeasibility.{noted_answer}
@@ -12,9 +12,9 @@ unfolding bound_by noted_answer ◌>>=◌
 answer-first goals = refl
 
 pub returns-in_err-answer : goal.returns-in_err-answer
-returns-in_err-answer g c =
-    in_other_words (answer-first c.args.goals) (error_first _ c.in_err-answer.ensures refl c.from_residual.ensures.1)
+returns-in_err-answer g c = λ goals same.
+    in_other_words (answer-first goals) (error_first _ c.in_err-answer.ensures (ap noted_answer same) c.from_residual.ensures.1)
 
 pub returns : goal.returns
-returns g c =
-    in_other_words (answer-first c.args.goals) (value_first _ c.in_ok-answer.ensures refl (at_end c.bound_in.ensures))
+returns g c = λ goals same.
+    in_other_words (answer-first goals) (value_first _ c.in_ok-answer.ensures (ap noted_answer same) (at_end c.bound_in.ensures))

@@ -1,17 +1,19 @@
 use Rattle.std.proofs.Common.{refl, sym, subst, ◌∙◌}
-use Rattle.posing.proofs.Following.{leads_none, stops}
+use Rattle.posing.proofs.Following.{leads_none, loop_ends, stops}
 use Rattle.posing.proofs.Steps.{each_next, each_fails}
 use Rattle.polyhedra.specs.Bounds.{IsCovered, bounded_change}
+use Rattle.polyhedra.specs.Kept.{AreOver}
+use Rattle.polyhedra.proofs.Kept.{AreOver-first}
 use Rattle.polyhedra.proofs.bounds.bounds_on_changes.Goals as goal
 
 pub loop-d-init : goal.loop-d-init
-loop-d-init g c = leads_none _ _ _ _
+loop-d-init g c = (leads_none _ _ _ _, subst (AreOver c.args.cases.now) (sym c.in_ok-goals.ensures) (AreOver-first c.args.cases.now))
 
 pub returns-in_err-made : goal.returns-in_err-made
-returns-in_err-made g c = each_fails (bounded_change c.args.cases.now c.args.moved.now c.args.turns) _ _ c.loop-d.invariant c.loop-d-test.true c.d-item.is c.in_err-made.ensures c.from_residual-in_err-made.ensures.1
+returns-in_err-made g c = each_fails (bounded_change c.args.cases.now c.args.moved.now c.args.turns) _ _ c.loop-d.invariant.0 c.loop-d-test.true c.d-item.is c.in_err-made.ensures.follows c.from_residual-in_err-made.ensures.1
 
 pub loop-d-preserved : goal.loop-d-preserved
-loop-d-preserved g c = each_next (bounded_change c.args.cases.now c.args.moved.now c.args.turns) _ _ c.loop-d.invariant c.loop-d-test.true c.d-item.is c.in_ok-made.ensures
+loop-d-preserved g c = (each_next (bounded_change c.args.cases.now c.args.moved.now c.args.turns) _ _ c.loop-d.invariant.0 c.loop-d-test.true c.d-item.is c.in_ok-made.ensures.follows, c.in_ok-made.ensures.goals)
 
 pub bound_on_changes-requires-clause-tables : goal.bound_on_changes-requires-clause-tables
 bound_on_changes-requires-clause-tables g c = record {
@@ -22,3 +24,9 @@ bound_on_changes-requires-clause-tables g c = record {
 
 pub returns-in_err-tables : goal.returns-in_err-tables
 returns-in_err-tables g c = stops _ _ _ _ _ _ refl c.from_residual.ensures.1
+
+pub returns-in_err-goals : goal.returns-in_err-goals
+returns-in_err-goals g c = stops _ _ _ _ _ _ refl c.from_residual-in_err-goals.ensures.1
+
+pub returns : goal.returns
+returns g c = loop_ends _ _ _ _ _ _ _ _ _ _ c.loop-d.invariant.0 c.loop-d-test.false
