@@ -2,7 +2,7 @@
 import os
 import sys
 
-from . import program, story
+from . import language, program, story
 
 HERE = os.path.dirname(os.path.abspath(__file__))
 MOST = 300  # steps that a page shows of a run
@@ -53,9 +53,9 @@ def write(told, file):
     """Writes the page."""
     jinja2, markupsafe, pygments = libraries()
     codes, style = highlighted(pygments, told.text.encode("latin-1").decode("utf-8", "replace"))
-    steps, inputs = {}, {}
+    steps, inputs, tree = {}, {}, language.read(told.text)
     for it in (it for it in told.judged if it.run):
-        steps[it.verdict.number] = cut(story.steps_of(told, it.run))
+        steps[it.verdict.number] = cut(story.steps_of(told, tree, it.run))
         inputs[it.verdict.number] = program.replay_input(told.text, it.run.values, it.run.turns)
     loader = jinja2.FileSystemLoader(HERE)
     around = jinja2.Environment(loader=loader, autoescape=True, trim_blocks=True, lstrip_blocks=True, undefined=jinja2.StrictUndefined)

@@ -54,6 +54,8 @@ def not_seen(it):
 
 
 def summaries(story, paint):
+    if any("$" in line for it in story.procedures for line in it.summary):
+        yield "(a case holds where there are whole numbers $1, $2, .. that fit; each case has its own)"
     for it in story.procedures:
         yield paint(f"{it.name} (line {it.line})", "1")
         yield from (f"  {line}" for line in it.summary)

@@ -35,6 +35,11 @@ TOKENS = {
     "bool": "`bool` is not in the language: write int, with 1 and 0",
     "true": "`true` is no name here: write 1",
     "false": "`false` is no name here: write 0",
+    "<<=": "shifts are not in the language: x = x * 8 has the value of x <<= 3",
+    ">>=": "shifts are not in the language: write a division, and mind that / rounds towards zero",
+    "&=": "bitwise operators are not in the language: write tests, or sums of powers of two",
+    "|=": "bitwise operators are not in the language: write tests, or sums of powers of two",
+    "^=": "bitwise operators are not in the language: write tests, or sums of powers of two",
     "NULL": "pointers are not in the language",
     "printf": "there is no output: leave the call out",
     "_Static_assert": "`_Static_assert` is not in the language: write assert inside a procedure",
@@ -105,11 +110,23 @@ def sentence(word, text, at):
     here = next((number for number, it in enumerate(tokens) if it.at <= at < it.end), None)
     if here is not None and word == "literal":
         return literal(tokens[here].text)
-    special = of_token(tokens, here) if here is not None and word in ("byte", "unsupported", "syntax", "unknown") else None
-    if special:
-        return special
-    if here is not None and word == "syntax" and tokens[here].text == "=":
-        return "an assignment is a statement of its own here, and stands in no expression"
-    if here is not None and word == "syntax" and tokens[here].text == ",":
-        return "the comma operator is not in the language: write two statements"
+    if here is not None and word in ("byte", "unsupported", "syntax", "unknown"):
+        special = of_token(tokens, here) or (of_syntax(tokens, here) if word == "syntax" else None)
+        if special or tokens[here].text in ("break", "continue"):
+            return special or f"`{tokens[here].text}` stands in no loop"
     return WORDS.get(word, "the text is refused")
+
+
+def of_syntax(tokens, at):
+    """A sentence for a token that the grammar has not there, or None."""
+    before = tokens[at - 1].text if at else ""
+    if before == "bool":
+        return TOKENS["bool"]
+    found = {
+        "=": "an assignment is a statement of its own here, and stands in no expression",
+        ",": "the comma operator is not in the language, nor several prototypes on one line: write two statements",
+        "++": "`x++` and `x--` are statements of their own here, and stand in no expression",
+        "--": "`x++` and `x--` are statements of their own here, and stand in no expression",
+        "*": "pointers are not in the language: return values, or use globals",
+    }
+    return found.get(tokens[at].text)

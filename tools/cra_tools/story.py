@@ -165,7 +165,7 @@ def advice(cra, story, tree, made, it, read_report):
     """What to try for an unproved assertion."""
     text, number, places = story.text, it.verdict.number, language.Places(story.text)
     if it.run:
-        return ["the assertion is false: the run below fails it"]
+        return ["the assertion is false, since this run fails it: change the program, or assume what keeps such values out"]
     told = []
     found = helped(cra, text, tree, made, number, read_report)
     if found:
@@ -179,9 +179,9 @@ def advice(cra, story, tree, made, it, read_report):
     earlier = [str(other.number) for other in made.verdicts if not other.proved and other.number < number]
     if earlier:
         told.append(f"assertion {', '.join(earlier)} is not proved either: mend that first, since what stands behind an assertion is judged where it held")
-    if any("*" in key for row in it.verdict.rows for key in row.split() if key.count("$") > 1):
-        told.append("products of variables are unknowns of their own here: a fact about such a product, as assert(x*x >= 0), has to be said and proved by its factors")
-    if it.notes or any(procedure.notes for procedure in story.procedures):
+    if not found and any(key.count("$") > 1 for row in it.verdict.rows for key in row.split()):
+        told.append("the rows have products of variables: each product is an unknown of its own, so x*x may seem to be negative")
+    if not found and (it.notes or any(procedure.notes for procedure in story.procedures)):
         told.append("read the notes: where facts were left out, smaller procedures or fewer branches before the assertion keep more")
     if not told:
         told.append("run it on values of your own (tools/search --tries 20000, or ./cra replay)")

@@ -127,16 +127,17 @@ def counters(case):
 
 
 def change_words(name, change, mark, turns):
-    """`x` grows by at most 2 a turn: a change that is bounded by a multiple of a number of turns and nothing else."""
-    keys = [key for key in change]
-    if len(keys) != 1 or len(keys[0]) > 1:
+    """`x` grows by at most 2 a turn: a change that is a number, a multiple of a number of turns, or has one sign."""
+    if len(change) == 1 and all(key == () or key == (it,) for key in change for it in key or ("",)):
+        (by, number), *_ = change.items()
+        if not by or by[0] in turns:
+            verb, bound = ("grows", mark) if number > 0 else ("falls", {"at most": "at least", "at least": "at most", "": ""}[mark])
+            return f"`{name}` {verb} by {bound + ' ' if bound else ''}{abs(number)}" + (" a turn" if by else "")
+    if mark or not change or any(is_auxiliary(it) for it in names_in(change)):
         return None
-    by, number = keys[0], change[keys[0]]
-    if by and by[0] not in turns:
-        return None
-    verb, bound = ("grows", mark) if number > 0 else ("falls", {"at most": "at least", "at least": "at most", "": ""}[mark])
-    how = f"{bound} " if bound else ""
-    return f"`{name}` {verb} by {how}{abs(number)}" + (" a turn" if by else "")
+    if all(number < 0 for number in change.values()):
+        return f"`{name}` falls by {shown_sum({key: -number for key, number in change.items()})}"
+    return f"`{name}` grows by {shown_sum(change)}"
 
 
 def post_words(name, text, case, turns):
