@@ -9,6 +9,7 @@ from .report import value_at
 
 PAD = 64  # values behind those that were chosen, so that a loop that reads has some
 WIDE = (1 << 127) - 1
+MOST_TURNS = 100_000  # of a replay
 STOP = re.compile(r"stopped: (.*) after (\d+) steps?")
 FAILED = re.compile(r"assertion (\d+) failed at \d+:\d+")
 

@@ -1,5 +1,6 @@
 """A story as one HTML page without scripts. Debian: python3-jinja2 and python3-pygments."""
 import os
+import re
 import sys
 
 from . import language, program, story
@@ -25,6 +26,15 @@ def highlighted(pygments, text):
     lexer = pygments.lexers.CLexer(stripnl=False, ensurenl=False)
     formatter = pygments.formatters.HtmlFormatter(nowrap=True, style="friendly")
     return pygments.highlight(text, lexer, formatter).split("\n"), formatter.get_style_defs(".highlight")
+
+
+def coded(markupsafe):
+    """A filter that sets what stands between backticks as code."""
+
+    def filtered(text):
+        return markupsafe.Markup(re.sub(r"`([^`]+)`", r"<code>\1</code>", str(markupsafe.escape(text))))
+
+    return filtered
 
 
 def worst(judged):
@@ -59,6 +69,7 @@ def write(told, file):
         inputs[it.verdict.number] = program.replay_input(told.text, it.run.values, it.run.turns)
     loader = jinja2.FileSystemLoader(HERE)
     around = jinja2.Environment(loader=loader, autoescape=True, trim_blocks=True, lstrip_blocks=True, undefined=jinja2.StrictUndefined)
+    around.filters["coded"] = coded(markupsafe)
     words = {"story": told, "style": markupsafe.Markup(style), "lines": list(lines_of(markupsafe, told, codes)), "steps": steps, "inputs": inputs}
     with open(file, "w", encoding="utf-8") as it:
         it.write(around.get_template("page.html").render(words))

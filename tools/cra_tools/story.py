@@ -122,11 +122,12 @@ def has_call(node):
 
 
 def with_head(text, loop, condition):
-    """A text with an assertion as the first statement of a loop, or None where the body has no braces."""
+    """A text with an assertion as the first statement of a loop, and where it stands; nothing where the body has no braces."""
     body = loop.parts[3]
     if body.kind != "block" or text[body.at] != "{":
         return None
-    return text[: body.at + 1] + f" assert({condition});" + text[body.at + 1 :]
+    at = body.at + 1
+    return text[:at] + f" assert({condition});" + text[at:], at + 1
 
 
 def loops_for(tree, node):
@@ -135,7 +136,7 @@ def loops_for(tree, node):
     return [it for it in reversed(language.loops(procedure)) if it.at < node.at] if procedure else []
 
 
-def helped(cra, text, tree, made, number, read_report):
+def helped(cra, text, tree, number, read_report):
     """A loop and a condition whose assertion at the loop's head is proved and makes this one proved, by trying."""
     node = tree.assertions[number - 1]
     if has_call(node.parts[0].parts[0] if node.parts[0].parts else node.parts[0]):
@@ -143,22 +144,17 @@ def helped(cra, text, tree, made, number, read_report):
     for loop in loops_for(tree, node)[:3]:
         for condition in conditions(text, tree, number)[:5]:
             changed = with_head(text, loop, condition)
-            status, printed = cra.run("analyse", changed.encode("latin-1")) if changed else (3, "")
-            if status in (0, 1) and is_better(text, tree, changed, read_report(printed), number, made):
+            status, printed = cra.run("analyse", changed[0].encode("latin-1")) if changed else (3, "")
+            if status in (0, 1) and is_better(text, node, *changed, read_report(printed)):
                 return loop, condition
     return None
 
 
-def is_better(text, tree, changed, report, number, made):
-    """Whether both the new assertion and this one are proved now."""
-    after = language.read(changed)
-    places = language.Places(changed)
-    shift = len(changed) - len(text)
-    grown = next((at for at, (a, b) in enumerate(zip(text, changed)) if a != b), len(text))
-    old = tree.assertions[number - 1].at
-    wanted = {places.place(old + shift if old >= grown else old)}
-    wanted |= {places.place(it.at) for it in after.assertions if grown <= it.at < grown + shift}
-    return len(wanted) == 2 and wanted <= {(it.line, it.column) for it in report.verdicts if it.proved}
+def is_better(text, node, changed, at, report):
+    """Whether both the assertion that was put in at an offset and the old one are proved."""
+    places, shift = language.Places(changed), len(changed) - len(text)
+    wanted = {places.place(at), places.place(node.at + shift if node.at >= at - 1 else node.at)}
+    return wanted <= {(it.line, it.column) for it in report.verdicts if it.proved}
 
 
 def advice(cra, story, tree, made, it, read_report):
@@ -167,7 +163,7 @@ def advice(cra, story, tree, made, it, read_report):
     if it.run:
         return ["the assertion is false, since this run fails it: change the program, or assume what keeps such values out"]
     told = []
-    found = helped(cra, text, tree, made, number, read_report)
+    found = helped(cra, text, tree, number, read_report)
     if found:
         loop, condition = found
         line = places.line(loop.at)
