@@ -169,12 +169,12 @@ outside t w i j wide h k = past (get_or t.lines i []) j (subst (λ (n : ℕ). n 
     past (z ∷ zs) zero h = absurd (omega (arith, h))
     past (z ∷ zs) (suc j) h = past zs j (omega (arith, h))
 
-no_line : (ls : List (List ℤ)) (i j : ℕ) → length ls ≤ i → entry (get_or ls i []) j ≡ pos 0
+pub no_line : (ls : List (List ℤ)) (i j : ℕ) → length ls ≤ i → entry (get_or ls i []) j ≡ pos 0
 no_line [] i j h = refl
 no_line (l ∷ ls) zero j h = absurd (omega (arith, h))
 no_line (l ∷ ls) (suc i) j h = no_line ls i j (omega (arith, h))
 
-nothing_small : (z : ℤ) (n : ℕ) → z ≡ pos 0 → unsigned_abs z ≤ n
+pub nothing_small : (z : ℤ) (n : ℕ) → z ≡ pos 0 → unsigned_abs z ≤ n
 nothing_small z n e = omega (arith, ints, e)
 
 pub small_frame_of : (n : ℕ) (f : Frame) (frame : ℕ → ℕ → ℤ) (rows : ℕ) → HasNumbers f frame → IsCalmUpTo n f → IsSmallFrame n (record { units = f.units; rows = rows; frame = frame }) (line_count f)

@@ -67,6 +67,12 @@ pub mod Moves
 pub mod Swaps
 pub mod OtherGoals
 pub mod SameCases
+pub mod Skips
+pub mod Wider
+pub mod WiderCorners
+pub mod WiderCases
+pub mod WiderColumns
+pub mod OwnColumns
 -- A raise: it begins at a corner, its goal grows, and no choice comes twice.
 pub mod Beginnings
 pub mod Raises

@@ -1,17 +1,19 @@
 -- What the code makes of lines: their lengths and their numbers.
-use Rattle.std.proofs.Common.{◌≡◌, ℕ, zero, suc, ◌+◌, ◌<◌, ◌≤◌, Bool, true, false, cond, List, [], ◌∷◌, length, drop, get_or, refl, sym, ap, ◌∙◌, arith, Ok, ℤ, pos, negsuc}
+use Rattle.std.proofs.Common.{◌≡◌, ℕ, zero, suc, ◌+◌, ◌<◌, ◌≤◌, Bool, true, false, cond, List, [], ◌∷◌, length, drop, get_or, refl, sym, ap, ◌∙◌, arith, Ok, Err, ℤ, pos, negsuc, ◌+ℤ◌, ◌*ℤ◌}
 use Rattle.std.specs.Prelude.{unsigned_abs, int_lt, int_div, nat_eq, map, Result}
+use Rattle.std.proofs.Math.IntN.{*ℤ_comm, zero-*ℤ}
 use Rattle.std.proofs.Math.Nat.{one-dvd}
+use Rattle.std.proofs.lemmas.Int.{ints}
 use Rattle.std.proofs.lemmas.List.{drop_more, drop_all, get_or_read}
 use Rattle.items.specs.Gives.{◌>>=◌}
 use Rattle.items.proofs.Gives.{on_ok}
-use Rattle.whole_numbers.specs.Fits.{product_of}
+use Rattle.whole_numbers.specs.Fits.{fits, sum_of, product_of}
 use Rattle.whole_numbers.specs.Divisors.{gcd_of, gcd_of_all}
 use Rattle.whole_numbers.specs.declared.wide.Wide as Step
 use Rattle.whole_numbers.proofs.CommonDivisors.{gcd_of_assoc, gcd_of-zero, gcd_of-unique, zero-gcd_of}
 use Rattle.whole_numbers.proofs.Quotients.{int_div-*ℤ}
 use Rattle.whole_numbers.proofs.Ring.{*ℤ-one}
-use Rattle.simplex.specs.Exchange.{line_multiple, reduced, upright_line}
+use Rattle.simplex.specs.Exchange.{sum_of_products, line_multiple, reduced, upright_line}
 use Rattle.farkas_check.specs.Relations.{entry}
 
 -- ---- the greatest common divisor
@@ -25,6 +27,12 @@ pub divisor-end : (d : ℕ) (line : List ℤ) (i : ℕ) → length line ≤ i �
 divisor-end d line i h = let e : drop i line ≡ [] = drop_all i line h in ap (λ zs. gcd_of d (gcd_of_all zs)) e ∙ gcd_of-zero d
 
 pub ruleset divisors = (zero-gcd_of)
+
+-- 0 has all divisors
+pub gcd_of-nothing : (d : ℕ) (z : ℤ) → z ≡ pos 0 → d ≡ gcd_of d (unsigned_abs z)
+gcd_of-nothing d z e = sym (ap (λ w. gcd_of d (unsigned_abs w)) e ∙ gcd_of-zero d)
+
+pub ruleset zero_divisors = (gcd_of-nothing)
 
 -- no number has a greater divisor with 1
 pub one-gcd_of : (n : ℕ) → gcd_of 1 n ≡ 1
@@ -50,6 +58,43 @@ reduced-short line h = go (gcd_of_all line) refl h
     go (suc (suc d)) e k = absurd (omega (arith, k))
 
 pub ruleset short_lines = (reduced-short)
+
+-- ---- sums in which a number is 0
+
+zero_product : (p z : ℤ) → z ≡ pos 0 → product_of p z ≡ Ok (pos 0)
+zero_product p z e = ap (product_of p) e ∙ ap (λ w. cond (fits w) (Ok w) (Err record { left = p; right = pos 0; times = true })) (*ℤ_comm p (pos 0) ∙ zero-*ℤ p)
+
+-- a product is a number of 128 bits, so nothing more leaves them
+added : (q b : ℤ) → (product_of q b >>= λ y. sum_of (pos 0) y) ≡ product_of q b
+added q b = go (fits (q *ℤ b)) refl
+  where
+    go : (c : Bool) → fits (q *ℤ b) ≡ c → (cond c (Ok (q *ℤ b)) (Err record { left = q; right = b; times = true }) >>= λ y. sum_of (pos 0) y) ≡ cond c (Ok (q *ℤ b)) (Err record { left = q; right = b; times = true })
+    go true e = ap (λ w. cond (fits w) (Ok w) (Err record { left = pos 0; right = q *ℤ b; times = false })) (plain (q *ℤ b)) ∙ ap (λ c. cond c (Ok (q *ℤ b)) (Err record { left = pos 0; right = q *ℤ b; times = false })) e
+      where
+        plain : (z : ℤ) → pos 0 +ℤ z ≡ z
+        plain z = omega (arith, ints)
+    go false e = refl
+
+left_alone : (p a : ℤ) → (product_of p a >>= λ x. sum_of x (pos 0)) ≡ product_of p a
+left_alone p a = go (fits (p *ℤ a)) refl
+  where
+    go : (c : Bool) → fits (p *ℤ a) ≡ c → (cond c (Ok (p *ℤ a)) (Err record { left = p; right = a; times = true }) >>= λ x. sum_of x (pos 0)) ≡ cond c (Ok (p *ℤ a)) (Err record { left = p; right = a; times = true })
+    go true e = ap (λ w. cond (fits w) (Ok w) (Err record { left = p *ℤ a; right = pos 0; times = false })) (plain (p *ℤ a)) ∙ ap (λ c. cond c (Ok (p *ℤ a)) (Err record { left = p *ℤ a; right = pos 0; times = false })) e
+      where
+        plain : (z : ℤ) → z +ℤ pos 0 ≡ z
+        plain z = omega (arith, ints)
+    go false e = refl
+
+pub first_nothing : (p a q b : ℤ) → a ≡ pos 0 → product_of q b ≡ sum_of_products p a q b
+first_nothing p a q b e = sym (ap (λ r. r >>= λ x. product_of q b >>= λ y. sum_of x y) (zero_product p a e) ∙ added q b)
+
+pub second_nothing : (p a q b : ℤ) → b ≡ pos 0 → product_of p a ≡ sum_of_products p a q b
+second_nothing p a q b e = sym (ap (λ r. product_of p a >>= λ x. r >>= λ y. sum_of x y) (zero_product q b e) ∙ left_alone p a)
+
+pub both_nothing : (p a q b : ℤ) → a ≡ pos 0 → b ≡ pos 0 → Ok (pos 0) ≡ sum_of_products p a q b
+both_nothing p a q b e f = sym (zero_product q b f) ∙ first_nothing p a q b e
+
+pub ruleset nothing_added = (first_nothing, second_nothing, both_nothing)
 
 -- ---- lengths
 

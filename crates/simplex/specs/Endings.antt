@@ -4,6 +4,7 @@ use Rattle.linear_terms.specs.declared.col.Col.{Col}
 use Rattle.linear_terms.specs.declared.row.Row.{Row}
 use Rattle.linear_terms.specs.Polynomial.{Polynomial}
 use Rattle.items.specs.Gives.{◌>>=◌}
+use Rattle.farkas_check.specs.Columns.{columns}
 use Rattle.whole_numbers.specs.declared.wide.Wide as Step
 use Rattle.simplex.specs.Exchange.{line_without}
 use Rattle.simplex.specs.Rows.{kinds_of}
@@ -34,6 +35,12 @@ pub record StandsAt (cs : List (List Col)) (rows : List Row) (enters : List Bool
     (t : Tableau) : Type 0 where
   pub objective : Polynomial
   pub met : IsMetFor cs rows objective enters t
+
+-- the same over the rows' own columns
+pub record IsLeftAt (cs : List (List Col)) (rows : List Row) (enters : List Bool)
+    (t : Tableau) : Type 0 where
+  pub own : cs ≡ columns rows []
+  pub stands : StandsAt cs rows enters t
 
 -- what a search over the frame of the rows and the objective came to
 abbrev pub FoundFor : List (List Col) → List Row → Polynomial → ℕ → List Bool → Tableau → Found

@@ -18,11 +18,12 @@ ghost use Rattle.simplex.specs.Suprema.{IsSupremumOver};
 ghost use Rattle.simplex.specs.Ties.{IsHonestHalf};
 ghost use Rattle.simplex.specs.declared.differences.Strata.{Strata};
 
-use crate::Stop;
+use crate::next_supremum::supremum_from;
 use crate::spots::entry;
-use crate::supremum::{Supremum, supremum_over};
+use crate::supremum::Supremum;
 use crate::tableau::line_multiple;
 use crate::values::{sums_of, value_at};
+use crate::{Endings, Stop};
 use farkas_check::{Cert, Change, Ratio, Tie};
 use items::Items;
 use linear_terms::{Mono, Poly, add, scale};
@@ -207,6 +208,8 @@ fn half_of(
     case: &Change,
     numbers: &[i128],
     up: bool,
+    endings: &mut Endings,
+    place: usize,
 ) -> Result<Half, Stop>
     requires asked { IsAsked strata.now }
     requires case { IsCaseOf strata.now case.now }
@@ -219,13 +222,16 @@ fn half_of(
     ensures refusal { IfErr result (IsRefusalOf strata.now) }
 {
     let objective = difference_in(alloc, strata, case, numbers, up)?;
-    let found = supremum_over(
+    let last = endings.taken(place);
+    let (found, ending) = supremum_from(
         alloc,
         strata.columns,
         case.rows.as_slice(),
         &objective,
         strata.budget,
+        last,
     )?;
+    endings.note(place, ending)?;
     half_at(alloc, strata, case, numbers, up, &objective, found)
 }
 
@@ -286,6 +292,8 @@ pub(crate) fn bond_of(
     strata: &Strata<'_>,
     case: &Change,
     numbers: &[i128],
+    endings: &mut Endings,
+    place: usize,
 ) -> Result<Bond, Stop>
     requires asked { IsAsked strata.now }
     requires case { IsCaseOf strata.now case.now }
@@ -297,8 +305,8 @@ pub(crate) fn bond_of(
     ensures small { IfOk result (HasSmallBond strata.now) }
     ensures refusal { IfErr result (IsRefusalOf strata.now) }
 {
-    match half_of(alloc, strata, case, numbers, true)? {
-        Half::Tied(up) => bond_with(alloc, strata, case, numbers, up),
+    match half_of(alloc, strata, case, numbers, true, endings, place)? {
+        Half::Tied(up) => bond_with(alloc, strata, case, numbers, up, endings, place),
         Half::Apart(at) => Ok(Bond::Apart(at)),
         Half::Pivots => Ok(Bond::Pivots),
     }
@@ -310,6 +318,8 @@ fn bond_with(
     case: &Change,
     numbers: &[i128],
     up: Cert,
+    endings: &mut Endings,
+    place: usize,
 ) -> Result<Bond, Stop>
     requires asked { IsAsked strata.now }
     requires case { IsCaseOf strata.now case.now }
@@ -324,7 +334,7 @@ fn bond_with(
     ensures small { IfOk result (HasSmallBond strata.now) }
     ensures refusal { IfErr result (IsRefusalOf strata.now) }
 {
-    match half_of(alloc, strata, case, numbers, false)? {
+    match half_of(alloc, strata, case, numbers, false, endings, place)? {
         Half::Tied(down) => Ok(Bond::Tied(tie_of(up, down))),
         Half::Apart(at) => Ok(Bond::Apart(at)),
         Half::Pivots => Ok(Bond::Pivots),

@@ -4,7 +4,8 @@ use linear_terms::{Mono, Row};
 use std::alloc::{AllocFailed, Global};
 use std::marker::Model;
 
-/// Where the raise of an objective over the rows of a case ended: a corner of the rows.
+/// Where the raise of an objective over the rows of a case ended: a corner of the rows, over their
+/// own columns.
 #[derive(Drop)]
 pub(crate) struct Ending {
     pub(crate) columns: Items<Mono>,
@@ -15,17 +16,17 @@ pub(crate) struct Ending {
 // Clauses see nothing of an ending.
 impl Model for Ending {
     ghost use Rattle.std.specs.Prelude.{⊤};
-    ghost use Rattle.simplex.specs.Endings.{StandsAt};
+    ghost use Rattle.simplex.specs.Endings.{IsLeftAt};
 
     ghost Value = { ⊤ };
 
     ghost view = { λ _. tt };
 
-    ghost invariant = { λ e. StandsAt e.columns e.rows e.stage.enters e.stage.tableau };
+    ghost invariant = { λ e. IsLeftAt e.columns e.rows e.stage.enters e.stage.tableau };
 }
 
 /// Where the last suprema of cases ended, a place for each case, as far as it is known. A supremum
-/// over the same rows and columns begins there. What an answer may be does not depend on it.
+/// over the same rows begins there. What an answer may be does not depend on it.
 #[derive(Drop)]
 pub struct Endings {
     cases: Vec<Option<Ending>>,

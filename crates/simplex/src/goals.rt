@@ -58,8 +58,7 @@ pub fn sup(alloc: Global, goals: &[Goal]) -> Result<Answer, AllocError>
     sup_with(alloc, goals, &mut endings)
 }
 
-/// The same, where the search of each case begins where the last one over the same rows and columns
-/// ended.
+/// The same, where the search of each case begins where the last one over the same rows ended.
 pub fn sup_with(alloc: Global, goals: &[Goal], endings: &mut Endings) -> Result<Answer, AllocError>
     ensures passes { IfOk result (λ a. Passes (question.Sup goals.now) a) }
     ensures tight { IfOk result (λ a. (IsLimit a → ⊥) → IsTight (question.Sup goals.now) a) }

@@ -27,6 +27,7 @@ mod supremum;
 mod swap;
 mod tableau;
 mod values;
+mod widening;
 
 pub use answering::infeasible;
 pub use endings::Endings;

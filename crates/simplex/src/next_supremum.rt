@@ -1,5 +1,9 @@
-ghost use Rattle.std.specs.Prelude.{◌≡◌, ◌+◌, ◌<◌, ◌++◌, ◌∷◌, [], Some, length, IsTrue, IfOk, IfErr, IfSome};
+ghost use Rattle.std.specs.Prelude.{◌≡◌, ℕ, ◌+◌, ◌<◌, ◌++◌, ◌∷◌, [], Some, length, IsTrue, IfOk, IfErr, IfSome};
+ghost use Rattle.std.specs.Map.{keys_of};
 ghost use Rattle.linear_terms.specs.declared.row.Kind.TheVariants.{AtMost};
+ghost use Rattle.farkas_check.specs.Columns.{columns as columns_of};
+ghost use Rattle.farkas_check.proofs.Spreads.{AreAmong};
+ghost use Rattle.simplex.specs.Wider.{AreColumnsOf, IsBesides};
 ghost use Rattle.simplex.specs.Endings.{IsMetFor, StandsAt, FoundFor};
 ghost use Rattle.simplex.specs.Raise.{Framed};
 ghost use Rattle.simplex.specs.Refusal.{IsRefusalIn};
@@ -7,21 +11,23 @@ ghost use Rattle.simplex.specs.Rows.{kinds_of};
 ghost use Rattle.simplex.specs.Search.{IsMet};
 ghost use Rattle.simplex.specs.Suprema.{frame_over, goal_frame, IsSupremumOver, IsSupremumOf, SupremumAt};
 
+use crate::corner::corner;
 use crate::endings::Ending;
 use crate::frame::{framed, kinds_of};
 use crate::gauss::Stage;
 use crate::search::{Found, searched};
 use crate::supremum::{bound_of, point_and_ray, top_of, with_goal};
 use crate::swap::turned;
+use crate::widening::{first_besides, unit_ray, widened, widened_supremum};
 use crate::{Stop, Supremum, Top};
 use farkas_check::{Goal, case_columns};
 use items::Items;
-use linear_terms::{Kind, Mono, Row};
+use linear_terms::{Kind, Mono, Poly, Row};
 use std::alloc::{AllocError, Global};
 
 /// What a case of a supremum question comes to, with no more turns a raise than the budget, and
-/// where it ended. It begins where the last one ended, if that was over the same rows and columns,
-/// and else at the frame of the rows.
+/// where it ended. It begins where the last one ended, if that was over the same rows, and else at
+/// the frame of the rows.
 pub(crate) fn next_supremum(
     alloc: Global,
     goal: &Goal,
@@ -31,94 +37,86 @@ pub(crate) fn next_supremum(
     ensures supremum { IfOk result (λ r. IsSupremumOf goal.now budget r.0) }
     ensures refusal { IfErr result (IsRefusalIn (goal_frame goal.now) (length goal.now.rows + 1)) }
 {
-    let columns = case_columns(alloc, goal.rows.as_slice(), goal.objective.terms())?;
-    supremum_from(alloc, columns, goal, budget, last)
+    let rows = goal.rows.as_slice();
+    let columns = case_columns(alloc, rows, goal.objective.terms())?;
+    supremum_from(
+        alloc,
+        columns.as_slice(),
+        rows,
+        &goal.objective,
+        budget,
+        last,
+    )
 }
 
-fn supremum_from(
+/// The same of rows and an objective over columns, among which are theirs. The search is over the
+/// rows' own columns, and what it comes to has 0 at the others.
+pub(crate) fn supremum_from(
     alloc: Global,
-    columns: Items<Mono>,
-    goal: &Goal,
+    columns: &[Mono],
+    rows: &[Row],
+    objective: &Poly,
     budget: u128,
     last: Option<Ending>,
 ) -> Result<(Supremum, Option<Ending>), Stop>
+    requires { AreColumnsOf columns.now rows.now objective.now }
     ensures supremum { IfOk result
-        (λ r. IsSupremumOver columns goal.now.rows goal.now.objective budget r.0) }
+        (λ r. IsSupremumOver columns.now rows.now objective.now budget r.0) }
     ensures refusal { IfErr result
-        (IsRefusalIn (frame_over columns goal.now.rows goal.now.objective)
-        (length goal.now.rows + 1)) }
+        (IsRefusalIn (frame_over columns.now rows.now objective.now) (length rows.now + 1)) }
 {
-    match corner_for(alloc, last, &columns, goal)? {
-        Some((rows, stage)) => ended_at(alloc, columns, rows, stage, goal, budget),
-        None => supremum_anew(alloc, columns, goal, budget),
+    match corner_for(alloc, last, rows, objective)? {
+        Some((own, copies, stage)) => {
+            supremum_at(alloc, columns, own, copies, stage, rows, objective, budget)
+        }
+        None => supremum_anew(alloc, columns, rows, objective, budget),
     }
 }
 
-/// The rows and the corner where the last supremum ended, with the objective as its goal, if it was
-/// over the same rows and columns and no step leaves 128 bits.
+/// The rows' own columns, the rows and the corner where the last supremum ended, with the objective
+/// as its goal, if it was over the same rows and no step leaves 128 bits.
 fn corner_for(
     alloc: Global,
     last: Option<Ending>,
-    columns: &Items<Mono>,
-    goal: &Goal,
-) -> Result<Option<(Items<Row>, Stage)>, AllocError>
-    ensures rows { IfOk result (λ found. IfSome found (λ r. r.0 ≡ goal.now.rows)) }
+    rows: &[Row],
+    objective: &Poly,
+) -> Result<Option<(Items<Mono>, Items<Row>, Stage)>, AllocError>
+    ensures own { IfOk result (λ found. IfSome found (λ r. r.0 ≡ columns_of rows.now [])) }
+    ensures rows { IfOk result (λ found. IfSome found (λ r. r.1 ≡ rows.now)) }
     ensures met { IfOk result
         (λ found. IfSome found
-        (λ r. IsMetFor columns.now goal.now.rows goal.now.objective r.1.enters r.1.tableau)) }
+        (λ r. IsMetFor r.0 rows.now objective.now r.2.enters r.2.tableau)) }
 {
     match last {
         None => Ok(None),
-        Some(ending) => corner_over(alloc, ending, columns, goal),
+        Some(ending) => corner_over(alloc, ending, rows, objective),
     }
 }
 
 fn corner_over(
     alloc: Global,
     ending: Ending,
-    columns: &Items<Mono>,
-    goal: &Goal,
-) -> Result<Option<(Items<Row>, Stage)>, AllocError>
-    ensures rows { IfOk result (λ found. IfSome found (λ r. r.0 ≡ goal.now.rows)) }
+    rows: &[Row],
+    objective: &Poly,
+) -> Result<Option<(Items<Mono>, Items<Row>, Stage)>, AllocError>
+    ensures own { IfOk result (λ found. IfSome found (λ r. r.0 ≡ columns_of rows.now [])) }
+    ensures rows { IfOk result (λ found. IfSome found (λ r. r.1 ≡ rows.now)) }
     ensures met { IfOk result
         (λ found. IfSome found
-        (λ r. IsMetFor columns.now goal.now.rows goal.now.objective r.1.enters r.1.tableau)) }
+        (λ r. IsMetFor r.0 rows.now objective.now r.2.enters r.2.tableau)) }
 {
     let Ending {
         columns: own,
-        rows,
+        rows: copies,
         stage,
     } = ending;
-    if !is_same_case(
-        own.as_slice(),
-        columns.as_slice(),
-        rows.as_slice(),
-        goal.rows.as_slice(),
-    ) {
+    if !are_rows(copies.as_slice(), rows) {
         return Ok(None);
     }
-    match turned(
-        alloc,
-        own.as_slice(),
-        rows.as_slice(),
-        stage,
-        &goal.objective,
-    )? {
-        Some(next) => Ok(Some((rows, next))),
+    match turned(alloc, own.as_slice(), copies.as_slice(), stage, objective)? {
+        Some(next) => Ok(Some((own, copies, next))),
         None => Ok(None),
     }
-}
-
-fn is_same_case(own: &[Mono], columns: &[Mono], first: &[Row], rows: &[Row]) -> bool
-    ensures { IsTrue result → (own.now ≡ columns.now) × (first.now ≡ rows.now) }
-{
-    are_columns(own, columns) && are_rows(first, rows)
-}
-
-fn are_columns(own: &[Mono], columns: &[Mono]) -> bool
-    ensures { IsTrue result → own.now ≡ columns.now }
-{
-    own == columns
 }
 
 fn are_rows(own: &[Row], rows: &[Row]) -> bool
@@ -130,43 +128,144 @@ fn are_rows(own: &[Row], rows: &[Row]) -> bool
 /// The supremum from the frame of the rows on.
 fn supremum_anew(
     alloc: Global,
-    columns: Items<Mono>,
-    goal: &Goal,
+    columns: &[Mono],
+    rows: &[Row],
+    objective: &Poly,
     budget: u128,
 ) -> Result<(Supremum, Option<Ending>), Stop>
+    requires { AreColumnsOf columns.now rows.now objective.now }
     ensures supremum { IfOk result
-        (λ r. IsSupremumOver columns goal.now.rows goal.now.objective budget r.0) }
+        (λ r. IsSupremumOver columns.now rows.now objective.now budget r.0) }
     ensures refusal { IfErr result
-        (IsRefusalIn (frame_over columns goal.now.rows goal.now.objective)
-        (length goal.now.rows + 1)) }
+        (IsRefusalIn (frame_over columns.now rows.now objective.now) (length rows.now + 1)) }
 {
-    let (stage, found) = searched_case(alloc, &columns, goal, budget)?;
+    let own = case_columns(alloc, rows, &[])?;
+    let (stage, found) = searched_case(alloc, &own, rows, objective, budget)?;
     match found {
         Found::Refuted(_line) => Ok((Supremum::Empty, None)),
         Found::Pivots => Ok((Supremum::Pivots, None)),
         Found::Corner => {
-            let rows = goal.rows.clone()?;
-            ended_at(alloc, columns, rows, stage, goal, budget)
+            let copies = copies_of(alloc, rows)?;
+            supremum_at(alloc, columns, own, copies, stage, rows, objective, budget)
         }
     }
+}
+
+/// The supremum from a corner of the rows on. Along a monomial that no row has the objective grows
+/// without end.
+fn supremum_at(
+    alloc: Global,
+    columns: &[Mono],
+    own: Items<Mono>,
+    copies: Items<Row>,
+    stage: Stage,
+    rows: &[Row],
+    objective: &Poly,
+    budget: u128,
+) -> Result<(Supremum, Option<Ending>), Stop>
+    requires columns { AreColumnsOf columns.now rows.now objective.now }
+    requires own { own ≡ columns_of rows.now [] }
+    requires rows { copies ≡ rows.now }
+    requires met { IsMetFor own rows.now objective.now stage.enters stage.tableau }
+    ensures supremum { IfOk result
+        (λ r. IsSupremumOver columns.now rows.now objective.now budget r.0) }
+    ensures refusal { IfErr result
+        (IsRefusalIn (frame_over columns.now rows.now objective.now) (length rows.now + 1)) }
+{
+    match first_besides(own.as_slice(), objective.terms()) {
+        Some((mono, up)) => {
+            let found = opened_along(alloc, columns, &own, &stage, rows, objective, &mono, up)?;
+            let left = Some(stage);
+            Ok((found, ending_of(own, copies, left)))
+        }
+        None => {
+            let (found, left) = topped_over(alloc, columns, &own, stage, rows, objective, budget)?;
+            Ok((found, ending_of(own, copies, left)))
+        }
+    }
+}
+
+/// The corner, and the ray from it along a monomial that no row has.
+fn opened_along(
+    alloc: Global,
+    columns: &[Mono],
+    own: &Items<Mono>,
+    stage: &Stage,
+    rows: &[Row],
+    objective: &Poly,
+    mono: &Mono,
+    up: bool,
+) -> Result<Supremum, Stop>
+    ghost over: { Framed }
+    requires frame { over ≡ frame_over own.now rows.now objective.now }
+    requires columns { AreColumnsOf columns.now rows.now objective.now }
+    requires own { own.now ≡ columns_of rows.now [] }
+    requires met { IsMetFor own.now rows.now objective.now stage.now.enters stage.now.tableau }
+    requires besides { IsBesides own.now objective.now.terms mono.now up }
+    ensures supremum { (budget : ℕ) → IfOk result
+        (λ found. IsSupremumOver columns.now rows.now objective.now budget found) }
+    ensures refusal { IfErr result
+        (IsRefusalIn (frame_over columns.now rows.now objective.now) (length rows.now + 1)) }
+{
+    let (_rows, _objective) = (rows, objective);
+    let point = corner(alloc, &stage.tableau, own.len())?;
+    let at = widened(alloc, own.as_slice(), columns, point.as_slice())?;
+    let ray = unit_ray(alloc, mono, up, columns)?;
+    Ok(Supremum::Unbounded(at, ray))
+}
+
+/// The raise of the objective, whose monomials are all among the rows'.
+fn topped_over(
+    alloc: Global,
+    columns: &[Mono],
+    own: &Items<Mono>,
+    stage: Stage,
+    rows: &[Row],
+    objective: &Poly,
+    budget: u128,
+) -> Result<(Supremum, Option<Stage>), Stop>
+    requires columns { AreColumnsOf columns.now rows.now objective.now }
+    requires own { own.now ≡ columns_of rows.now [] }
+    requires met { IsMetFor own.now rows.now objective.now stage.enters stage.tableau }
+    requires inside { AreAmong (keys_of objective.now.terms) own.now }
+    ensures supremum { IfOk result
+        (λ r. IsSupremumOver columns.now rows.now objective.now budget r.0) }
+    ensures left { IfOk result
+        (λ r. IfSome r.1 (λ s. StandsAt own.now rows.now s.enters s.tableau)) }
+    ensures refusal { IfErr result
+        (IsRefusalIn (frame_over columns.now rows.now objective.now) (length rows.now + 1)) }
+{
+    let (found, left) = ended_at(alloc, own, stage, rows, objective, budget)?;
+    let wide = widened_supremum(alloc, own.as_slice(), columns, found)?;
+    Ok((wide, left))
+}
+
+fn copies_of(alloc: Global, rows: &[Row]) -> Result<Items<Row>, AllocError>
+    ensures { IfOk result (λ copies. copies ≡ rows.now) }
+{
+    let mut copies = Items::from_vec(Vec::with_capacity(alloc, rows.len())?);
+    for row in rows {
+        copies.push(row.clone()?)?;
+    }
+    Ok(copies)
 }
 
 /// The search for a corner of the rows, in the frame that they have with the objective.
 fn searched_case(
     alloc: Global,
     columns: &Items<Mono>,
-    goal: &Goal,
+    rows: &[Row],
+    objective: &Poly,
     budget: u128,
 ) -> Result<(Stage, Found), Stop>
     ensures found { IfOk result
-        (λ r. FoundFor columns.now goal.now.rows goal.now.objective budget r.0.enters r.0.tableau
+        (λ r. FoundFor columns.now rows.now objective.now budget r.0.enters r.0.tableau
         r.1) }
     ensures refusal { IfErr result
-        (IsRefusalIn (frame_over columns.now goal.now.rows goal.now.objective)
-        (length goal.now.rows + 1)) }
+        (IsRefusalIn (frame_over columns.now rows.now objective.now)
+        (length rows.now + 1)) }
 {
-    let rows = goal.rows.as_slice();
-    let all = with_goal(alloc, rows, &goal.objective)?;
+    let all = with_goal(alloc, rows, objective)?;
     let kinds = kinds_of(alloc, all.as_slice())?;
     let t = framed(alloc, all.as_slice(), columns.as_slice())?;
     searched(
@@ -182,32 +281,32 @@ fn searched_case(
 /// Raises the objective from a corner of the rows, and tells where that ends.
 fn ended_at(
     alloc: Global,
-    columns: Items<Mono>,
-    rows: Items<Row>,
+    columns: &Items<Mono>,
     stage: Stage,
-    goal: &Goal,
+    rows: &[Row],
+    objective: &Poly,
     budget: u128,
-) -> Result<(Supremum, Option<Ending>), Stop>
+) -> Result<(Supremum, Option<Stage>), Stop>
     ghost over: { Framed }
-    requires frame { over ≡ frame_over columns goal.now.rows goal.now.objective }
-    requires rows { rows ≡ goal.now.rows }
-    requires met { IsMetFor columns goal.now.rows goal.now.objective stage.enters stage.tableau }
+    requires frame { over ≡ frame_over columns.now rows.now objective.now }
+    requires met { IsMetFor columns.now rows.now objective.now stage.enters stage.tableau }
     ensures supremum { IfOk result
-        (λ r. IsSupremumOver columns goal.now.rows goal.now.objective budget r.0) }
+        (λ r. IsSupremumOver columns.now rows.now objective.now budget r.0) }
+    ensures left { IfOk result
+        (λ r. IfSome r.1 (λ s. StandsAt columns.now rows.now s.enters s.tableau)) }
     ensures refusal { IfErr result
-        (IsRefusalIn (frame_over columns goal.now.rows goal.now.objective)
-        (length goal.now.rows + 1)) }
+        (IsRefusalIn (frame_over columns.now rows.now objective.now) (length rows.now + 1)) }
 {
-    let kinds = kinds_with_goal(alloc, goal.rows.as_slice())?;
-    let (found, left) = topped_stage(
+    let _objective = objective;
+    let kinds = kinds_with_goal(alloc, rows)?;
+    topped_stage(
         alloc,
         stage,
         columns.len(),
         kinds.as_slice(),
-        goal.rows.len(),
+        rows.len(),
         budget,
-    )?;
-    Ok((found, ending_of(columns, rows, left)))
+    )
 }
 
 /// The kinds of the rows, and of an objective behind them.
@@ -220,7 +319,8 @@ fn kinds_with_goal(alloc: Global, rows: &[Row]) -> Result<Items<Kind>, AllocErro
 }
 
 fn ending_of(columns: Items<Mono>, rows: Items<Row>, left: Option<Stage>) -> Option<Ending>
-    requires { IfSome left (λ s. StandsAt columns rows s.enters s.tableau) }
+    requires own { columns ≡ columns_of rows [] }
+    requires left { IfSome left (λ s. StandsAt columns rows s.enters s.tableau) }
 {
     match left {
         Some(stage) => Some(Ending {

@@ -18,12 +18,12 @@ ghost use Rattle.simplex.specs.Strata.{IsAsked, AreKnown, VerdictAt, CourseAt, I
 ghost use Rattle.simplex.specs.Ties.{AreTies};
 ghost use Rattle.simplex.specs.declared.stop.Stop.TheVariants as stop;
 
-use crate::Stop;
 use crate::answering::limit_of;
 use crate::corner::line_choosing;
 use crate::differences::{Bond, Strata, bond_of};
 use crate::goals::case_number;
 use crate::spots::{Spots, entry, no_spots, relation_of, relations_of, unit_lists, with_spot};
+use crate::{Endings, Stop};
 use farkas_check::{
     Answer, Change, Limit, Ratio, Relation, Spot, Stratum, Tie, canonical_stratum, positivity,
     stratum_columns, stratum_outcome, truth_of_passing,
@@ -204,8 +204,9 @@ fn basis_of(alloc: Global, strata: &Strata<'_>) -> Result<Answer, Stop>
         relations: Items::new(alloc),
         spots: no_spots(alloc),
     };
+    let mut endings = Endings::new(alloc);
     for _turn in 0..strata.budget {
-        match course_of(alloc, strata, known)? {
+        match course_of(alloc, strata, known, &mut endings)? {
             Course::On(more) => known = more,
             Course::End(answer) => return Ok(answer),
         }
@@ -240,7 +241,12 @@ fn basis_with(alloc: Global, strata: &Strata<'_>, known: Known) -> Result<Answer
 }
 
 /// What the next unknown leads to, or the end where all have had their turn.
-fn course_of(alloc: Global, strata: &Strata<'_>, known: Known) -> Result<Course, Stop>
+fn course_of(
+    alloc: Global,
+    strata: &Strata<'_>,
+    known: Known,
+    endings: &mut Endings,
+) -> Result<Course, Stop>
     requires count { strata.now.count ≡ strata.now.terms + length strata.now.lower.now + 1 }
     requires few { strata.now.count < 2 ^ 61 }
     requires asked { IsAsked strata.now }
@@ -254,12 +260,17 @@ fn course_of(alloc: Global, strata: &Strata<'_>, known: Known) -> Result<Course,
     }
     match line_choosing(known.spots.tableau.chosen.as_slice(), known.next) {
         Some(_line) => Ok(Course::On(with_next(known))),
-        None => tested_unknown(alloc, strata, known),
+        None => tested_unknown(alloc, strata, known, endings),
     }
 }
 
 /// What the test of the next unknown's relation leads to.
-fn tested_unknown(alloc: Global, strata: &Strata<'_>, known: Known) -> Result<Course, Stop>
+fn tested_unknown(
+    alloc: Global,
+    strata: &Strata<'_>,
+    known: Known,
+    endings: &mut Endings,
+) -> Result<Course, Stop>
     requires count { strata.now.count ≡ strata.now.terms + length strata.now.lower.now + 1 }
     requires few { strata.now.count < 2 ^ 61 }
     requires asked { IsAsked strata.now }
@@ -272,7 +283,7 @@ fn tested_unknown(alloc: Global, strata: &Strata<'_>, known: Known) -> Result<Co
 {
     let numbers = relation_of(alloc, strata.count, &known.spots, known.next)?;
     let line = numbers.as_slice();
-    let verdict = verdict_of(alloc, strata, line)?;
+    let verdict = verdict_of(alloc, strata, line, endings)?;
     course_after(alloc, strata, known, line, verdict)
 }
 
@@ -502,7 +513,12 @@ fn spot_added(
 }
 
 /// Tests a relation case by case.
-fn verdict_of(alloc: Global, strata: &Strata<'_>, numbers: &[i128]) -> Result<Verdict, Stop>
+fn verdict_of(
+    alloc: Global,
+    strata: &Strata<'_>,
+    numbers: &[i128],
+    endings: &mut Endings,
+) -> Result<Verdict, Stop>
     requires asked { IsAsked strata.now }
     requires count { strata.now.count ≡ strata.now.terms + length strata.now.lower.now + 1 }
     requires numbers { length numbers.now ≡ strata.now.count }
@@ -514,7 +530,7 @@ fn verdict_of(alloc: Global, strata: &Strata<'_>, numbers: &[i128]) -> Result<Ve
 {
     let mut ties = Items::new(alloc);
     for place in 0..strata.cases.len() {
-        match bond_of(alloc, strata, &strata.cases[place], numbers)? {
+        match bond_of(alloc, strata, &strata.cases[place], numbers, endings, place)? {
             Bond::Tied(tie) => ties.push(tie)?,
             Bond::Apart(at) => return Ok(Verdict::Apart(place, at)),
             Bond::Pivots => return Ok(Verdict::Pivots),

@@ -1,6 +1,6 @@
-ghost use Rattle.std.specs.Prelude.{◌≡◌, ◌+◌, ◌<◌, ℕ, ℤ, [], if◌then◌else◌, pos, int_div, length, map, get_or, IfOk, IfErr};
+ghost use Rattle.std.specs.Prelude.{◌≡◌, ◌+◌, ◌<◌, ℕ, ℤ, [], if◌then◌else◌, pos, int_div, unsigned_abs, length, map, get_or, IfOk, IfErr};
 ghost use Rattle.items.specs.Gives.{Gives};
-ghost use Rattle.whole_numbers.specs.Divisors.{gcd_of_all};
+ghost use Rattle.whole_numbers.specs.Divisors.{gcd_of, gcd_of_all};
 ghost use Rattle.simplex.specs.Calm.{HasSquares, HasSmallLines, IsMemory};
 ghost use Rattle.simplex.specs.Refusal.{LeavesBits, IsRefusal};
 ghost use Rattle.simplex.specs.Exchange.{cause, sum_of_lines, sum_of_products, line_multiple, reduced, upright_line, line_without, line_without_at, lines_without, exchange, numbers_of, HasShape, KeepsFrames};
@@ -116,11 +116,11 @@ pub(crate) fn line_multiple(alloc: Global, line: &[i128], by: &i128) -> Result<I
     ensures exact { Gives cause (λ made. made) result (line_multiple line.now by.now) }
     ensures refusal { IfErr result IsRefusal }
 {
-    let mut made = Items::new(alloc);
-    for number in line {
-        made.push(step_product(number, by)?)?;
+    let mut made = Vec::from_slice(alloc, line)?;
+    for i in 0..made.len() {
+        made[i] = step_product(&line[i], by)?;
     }
-    Ok(made)
+    Ok(Items::from_vec(made))
 }
 
 /// A line cleared at the column by one that is positive there.
@@ -139,34 +139,39 @@ pub(crate) fn line_without(
         return Ok(line);
     }
     let by = step_product(&line[column], &-1)?;
-    let made = sum_of_lines(alloc, &pivot[column], line.as_slice(), &by, pivot)?;
-    Ok(reduced(alloc, made)?)
+    let made = sum_of_lines(&pivot[column], line, &by, pivot)?;
+    Ok(reduced(made))
 }
 
-/// A multiple of a line and a multiple of another.
-fn sum_of_lines(
-    alloc: Global,
-    p: &i128,
-    line: &[i128],
-    q: &i128,
-    pivot: &[i128],
-) -> Result<Items<i128>, Stop>
-    requires { length pivot.now ≡ length line.now }
-    ensures exact { Gives cause (λ made. made) result
-        (sum_of_lines p.now line.now q.now pivot.now) }
+/// A multiple of a line and a multiple of another, in the place of the first.
+fn sum_of_lines(p: &i128, line: Items<i128>, q: &i128, pivot: &[i128]) -> Result<Items<i128>, Stop>
+    requires { length pivot.now ≡ length line }
+    ensures exact { Gives cause (λ made. made) result (sum_of_lines p.now line q.now pivot.now) }
     ensures refusal { IfErr result IsRefusal }
 {
-    let mut made = Items::from_vec(Vec::with_capacity(alloc, line.len())?);
-    for (i, number) in line.iter().enumerate() {
-        made.push(sum_of_products(p, number, q, &pivot[i])?)?;
+    let mut made = line.into_vec();
+    for i in 0..made.len() {
+        let number = made[i];
+        made[i] = sum_of_products(p, &number, q, &pivot[i])?;
     }
-    Ok(made)
+    Ok(Items::from_vec(made))
 }
 
+/// Where a number is 0 its product is not made.
+#[tactic(auto, using(crate::proofs::Lines::nothing_added))]
 fn sum_of_products(p: &i128, a: &i128, q: &i128, b: &i128) -> Result<i128, Wide>
     ensures exact { result ≡ sum_of_products p.now a.now q.now b.now }
     ensures width { IfErr result LeavesBits }
 {
+    if *b == 0 {
+        if *a == 0 {
+            return Ok(0);
+        }
+        return step_product(p, a);
+    }
+    if *a == 0 {
+        return step_product(q, b);
+    }
     let left = step_product(p, a)?;
     let right = step_product(q, b)?;
     step_sum(&left, &right)
@@ -174,25 +179,37 @@ fn sum_of_products(p: &i128, a: &i128, q: &i128, b: &i128) -> Result<i128, Wide>
 
 /// The numbers divided by their greatest common divisor.
 #[tactic(auto, using(crate::proofs::Lines::short_lines))]
-fn reduced(alloc: Global, line: Items<i128>) -> Result<Items<i128>, AllocError>
-    ensures { IfOk result (λ made. made ≡ reduced line) }
+fn reduced(line: Items<i128>) -> Items<i128>
+    ensures { result ≡ reduced line }
 {
     let divisor = divisor(line.as_slice());
     if divisor <= 1 {
-        return Ok(line);
+        return line;
     }
-    quotients(alloc, line.as_slice(), divisor)
+    quotients(line, divisor)
 }
 
-fn quotients(alloc: Global, line: &[i128], divisor: u128) -> Result<Items<i128>, AllocError>
+/// The numbers divided, each in its place.
+fn quotients(line: Items<i128>, divisor: u128) -> Items<i128>
     requires { 0 < divisor }
-    ensures { IfOk result (λ made. made ≡ map (λ z. int_div z (pos divisor)) line.now) }
+    ensures { result ≡ map (λ z. int_div z (pos divisor)) line }
 {
-    let mut made = Items::from_vec(Vec::with_capacity(alloc, line.len())?);
-    for number in line {
-        made.push(quotient(*number, divisor))?;
+    let mut made = line.into_vec();
+    for i in 0..made.len() {
+        let number = made[i];
+        made[i] = share(number, divisor);
     }
-    Ok(made)
+    Items::from_vec(made)
+}
+
+fn share(number: i128, divisor: u128) -> i128
+    requires { 0 < divisor }
+    ensures { result ≡ int_div number (pos divisor) }
+{
+    if number == 0 {
+        return 0;
+    }
+    quotient(number, divisor)
 }
 
 /// The greatest common divisor of the numbers.
@@ -204,7 +221,17 @@ fn divisor(line: &[i128]) -> u128
         if divisor == 1 {
             return 1;
         }
-        divisor = gcd(divisor, number.unsigned_abs());
+        divisor = divisor_with(divisor, number);
     }
     divisor
+}
+
+#[tactic(auto, using(crate::proofs::Lines::zero_divisors))]
+fn divisor_with(divisor: u128, number: &i128) -> u128
+    ensures { result ≡ gcd_of divisor (unsigned_abs number.now) }
+{
+    if *number == 0 {
+        return divisor;
+    }
+    gcd(divisor, number.unsigned_abs())
 }

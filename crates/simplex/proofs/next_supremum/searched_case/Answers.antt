@@ -11,33 +11,29 @@ use Rattle.simplex.proofs.next_supremum.searched_case.Goals as goal
 
 pub searched-requires : goal.searched-requires
 searched-requires c =
-    let rows : c.as_slice-rows.result.now ≡ c.args.goal.now.rows = search rules in
-    let all : c.in_ok-all.all ≡ with_goal c.args.goal.now.rows c.args.goal.now.objective = search rules in
+    let all : c.in_ok-all.all ≡ with_goal c.args.rows.now c.args.objective.now = search rules in
     let t : c.in_ok-t.t ≡ framed c.args.columns.now c.in_ok-all.all = search rules in
     let len : c.len.result ≡ length c.args.columns.now = search rules in
     let kinds : c.as_slice-4.result.now ≡ kinds_of c.in_ok-all.all = search rules in
-    let many : length c.as_slice-4.result.now ≡ length c.args.goal.now.rows + 1 = ap length (kinds ∙ ap kinds_of all) ∙ kinds-length (with_goal c.args.goal.now.rows c.args.goal.now.objective) ∙ more_rows c.args.goal.now.rows c.args.goal.now.objective in
-    let count : length c.as_slice-rows.result.now ≡ length c.args.goal.now.rows = ap length rows in (
-      solving_goal_at c.args.columns.now c.args.goal.now.rows c.in_ok-all.all c.args.goal.now.objective c.len.result (length c.as_slice-rows.result.now) c.as_slice-4.result.now c.in_ok-t.t all len count t kinds,
-      (refl, (omega (arith, many, count), search rules)),
+    let many : length c.as_slice-4.result.now ≡ length c.args.rows.now + 1 = ap length (kinds ∙ ap kinds_of all) ∙ kinds-length (with_goal c.args.rows.now c.args.objective.now) ∙ more_rows c.args.rows.now c.args.objective.now in (
+      solving_goal_at c.args.columns.now c.args.rows.now c.in_ok-all.all c.args.objective.now c.len.result (length c.args.rows.now) c.as_slice-4.result.now c.in_ok-t.t all len refl t kinds,
+      (refl, (omega (arith, many), search rules)),
     )
 
 pub returns-clause-found : goal.returns-clause-found
 returns-clause-found c =
-    let all : c.in_ok-all.all ≡ with_goal c.args.goal.now.rows c.args.goal.now.objective = search rules in
+    let all : c.in_ok-all.all ≡ with_goal c.args.rows.now c.args.objective.now = search rules in
     let t : c.in_ok-t.t ≡ framed c.args.columns.now c.in_ok-all.all = search rules in
     let len : c.len.result ≡ length c.args.columns.now = search rules in
     let kinds : c.as_slice-4.result.now ≡ kinds_of c.in_ok-all.all = search rules in
-    let count : length c.as_slice-rows.result.now ≡ length c.args.goal.now.rows = search rules in
-    of_beginning (λ over constants ks. IfOk c.searched.result (λ r. FoundAt over constants ks c.args.budget r.0.enters r.0.tableau r.1)) c.args.columns.now c.args.goal.now.rows c.in_ok-all.all c.args.goal.now.objective c.len.result (length c.as_slice-rows.result.now) c.as_slice-4.result.now c.in_ok-t.t all len count t kinds c.searched.ensures.found
+    of_beginning (λ over constants ks. IfOk c.searched.result (λ r. FoundAt over constants ks c.args.budget r.0.enters r.0.tableau r.1)) c.args.columns.now c.args.rows.now c.in_ok-all.all c.args.objective.now c.len.result (length c.args.rows.now) c.as_slice-4.result.now c.in_ok-t.t all len refl t kinds c.searched.ensures.found
 
 pub returns-clause-refusal : goal.returns-clause-refusal
 returns-clause-refusal c =
-    let all : c.in_ok-all.all ≡ with_goal c.args.goal.now.rows c.args.goal.now.objective = search rules in
+    let all : c.in_ok-all.all ≡ with_goal c.args.rows.now c.args.objective.now = search rules in
     let t : c.in_ok-t.t ≡ framed c.args.columns.now c.in_ok-all.all = search rules in
     let len : c.len.result ≡ length c.args.columns.now = search rules in
     let kinds : c.as_slice-4.result.now ≡ kinds_of c.in_ok-all.all = search rules in
-    let count : length c.as_slice-rows.result.now ≡ length c.args.goal.now.rows = search rules in
-    subst (λ (n : ℕ). IfErr c.searched.result (IsRefusalIn (frame_over c.args.columns.now c.args.goal.now.rows c.args.goal.now.objective) n))
-    (kinds-length (with_goal c.args.goal.now.rows c.args.goal.now.objective) ∙ more_rows c.args.goal.now.rows c.args.goal.now.objective)
-    (of_beginning (λ over constants ks. IfErr c.searched.result (IsRefusalIn over (length ks))) c.args.columns.now c.args.goal.now.rows c.in_ok-all.all c.args.goal.now.objective c.len.result (length c.as_slice-rows.result.now) c.as_slice-4.result.now c.in_ok-t.t all len count t kinds c.searched.ensures.refusal)
+    subst (λ (n : ℕ). IfErr c.searched.result (IsRefusalIn (frame_over c.args.columns.now c.args.rows.now c.args.objective.now) n))
+    (kinds-length (with_goal c.args.rows.now c.args.objective.now) ∙ more_rows c.args.rows.now c.args.objective.now)
+    (of_beginning (λ over constants ks. IfErr c.searched.result (IsRefusalIn over (length ks))) c.args.columns.now c.args.rows.now c.in_ok-all.all c.args.objective.now c.len.result (length c.args.rows.now) c.as_slice-4.result.now c.in_ok-t.t all len refl t kinds c.searched.ensures.refusal)

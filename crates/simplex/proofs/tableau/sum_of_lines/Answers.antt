@@ -1,22 +1,28 @@
-use Rattle.std.proofs.Common.{◌≡◌, ◌++◌, ◌∷◌, ◌+◌, ◌<◌, [], length, drop, get_or, sym, ap, ◌∙◌, arith, rules, List, Ok, ℤ, pos}
-use Rattle.std.proofs.lemmas.List.{drop_more}
-use Rattle.simplex.specs.Exchange.{behind, sum_of_products, sum_of_lines}
-use Rattle.simplex.proofs.Behind.{behind-next}
+use Rattle.std.proofs.Common.{rules, arith, ap, ◌∙◌, ◌≡◌, ◌<◌, length, get_or, Err, ℤ, pos, to_z, of_z}
+use Rattle.std.specs.Int.{w128}
+use Rattle.std.proofs.Math.ListN.{set, length-set}
+use Rattle.std.proofs.lemmas.Int.{to_z-of_z}
+use Rattle.std.proofs.lemmas.List.{get_or_default}
+use Rattle.simplex.specs.Exchange.{sum_of_lines}
+use Rattle.simplex.proofs.Behind.{sum-next, sum-fails}
 use Rattle.simplex.proofs.tableau.sum_of_lines.Goals as goal
+
+pub returns-in_err-made-clause-exact : goal.returns-in_err-made-clause-exact
+returns-in_err-made-clause-exact c =
+    let b : ℤ = get_or c.args.pivot.now c.loop-i.i (pos 0) in
+    let within : c.loop-i.i < length c.args.pivot.now = search rules in
+    let same : length c.loop-i.made.items ≡ length c.args.pivot.now = c.loop-i.invariant.0 in
+    let failed : sum_of_lines c.args.p.now c.args.line c.args.q.now c.args.pivot.now ≡ Err c.in_err-made.field-0.0 =
+    sum-fails c.args.p.now c.args.q.now c.args.pivot.now c.loop-i.made.items c.loop-i.i c.index.result.now b c.in_err-made.field-0.0 (sum_of_lines c.args.p.now c.args.line c.args.q.now c.args.pivot.now)
+    (omega (arith, within, same)) within (search rules) (get_or_default c.args.pivot.now c.loop-i.i (pos 0) b within) (search rules) c.loop-i.invariant.1 in search rules
 
 pub loop-i-preserved : goal.loop-i-preserved
 loop-i-preserved c =
-    let p = c.args.p.now in
-    let q = c.args.q.now in
-    let line = c.args.line.now in
-    let pivot = c.args.pivot.now in
-    let i = c.loop-i.i in
-    let z : ℤ = c.in_ok-sum_of_products.field-0 in
-    let more : c.push.new.self ≡ c.loop-i.made ++ z ∷ [] = search rules in
-    let first : sum_of_products p (get_or line i (pos 0)) q (get_or pivot i (pos 0)) ≡ Ok z = search rules in
-    let own : drop i line ≡ get_or line i (pos 0) ∷ drop (i + 1) line = drop_more line i (pos 0) c.loop-i-test.true in
-    let within : i < length pivot = omega (arith, c.requires, c.loop-i-test.true) in
-    let others : drop i pivot ≡ get_or pivot i (pos 0) ∷ drop (i + 1) pivot = drop_more pivot i (pos 0) within in
-    behind-next c.loop-i.made c.push.new.self z (sum_of_products p (get_or line i (pos 0)) q (get_or pivot i (pos 0))) (sum_of_lines p (drop (i + 1) line) q (drop (i + 1) pivot)) more first
-    ∙ sym (ap (λ (zs : List ℤ). behind c.loop-i.made (sum_of_lines p zs q (drop i pivot))) own ∙ ap (λ (zs : List ℤ). behind c.loop-i.made (sum_of_lines p (get_or line i (pos 0) ∷ drop (i + 1) line) q zs)) others)
-    ∙ c.loop-i.invariant
+    let b : ℤ = get_or c.args.pivot.now c.loop-i.i (pos 0) in
+    let within : c.loop-i.i < length c.args.pivot.now = search rules in
+    let same : length c.loop-i.made.items ≡ length c.args.pivot.now = c.loop-i.invariant.0 in
+    let is : to_z w128 (of_z w128 c.in_ok-made.field-0) ≡ c.in_ok-made.field-0 = to_z-of_z w128 c.in_ok-made.field-0 (search rules) in (
+      length-set c.loop-i.made.items c.loop-i.i (to_z w128 (of_z w128 c.in_ok-made.field-0)) ∙ same,
+      sum-next c.args.p.now c.args.q.now c.args.pivot.now c.loop-i.made.items (set c.loop-i.made.items c.loop-i.i (to_z w128 (of_z w128 c.in_ok-made.field-0))) c.loop-i.i c.index.result.now b c.in_ok-made.field-0 (sum_of_lines c.args.p.now c.args.line c.args.q.now c.args.pivot.now)
+          (omega (arith, within, same)) within (search rules) (get_or_default c.args.pivot.now c.loop-i.i (pos 0) b within) (search rules) (ap (λ (z : ℤ). set c.loop-i.made.items c.loop-i.i z) is) c.loop-i.invariant.1,
+    )
