@@ -198,12 +198,18 @@ class Follower:
             self.choice(node.at, node.name)
         else:
             scope[node.name] = self.whole(value, node.name)
-            self.tell("set", "", node.at, node.name, scope[node.name])
+            self.tell_set(node, scope[node.name])
 
     def do_set(self, node):
         value = self.whole(node.parts[0], node.name)
         self.scope_of(node.name)[node.name] = value
-        self.tell("set", "", node.at, node.name, value)
+        self.tell_set(node, value)
+
+    def tell_set(self, node, value):
+        """What was set; a choice that went into the variable at once is told already."""
+        it = node.parts[0]
+        if it.kind != "call" or it.name != CHOICE:
+            self.tell("set", "", node.at, node.name, value)
 
     def do_act(self, node):
         call = node.parts[0]
