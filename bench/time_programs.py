@@ -1,11 +1,16 @@
 #!/usr/bin/env python3
-"""Times the built program on made texts that grow: chains of procedures with nested loops, one loop over more and more variables
-that branches, loops one behind the other, loops inside each other, and recursion over more and more globals. For each text:
-its lines, the seconds of `analyse`, of `certify` and of `check` of what that printed, and the number of answers.
+"""Times the built program on the texts of `bench/texts`, and on made texts that grow: chains of procedures with nested loops, one
+loop over more and more variables that branches, loops one behind the other, loops inside each other, recursion over more and more
+globals, and procedures of many locals with loops of many branches. For each text: its lines, the cost of `analyse`, of `certify`
+and of `check` of what that printed, and the number of answers. Where a made text has twice the size of one before it, the growth
+of the three costs is told as an exponent: 1 is linear, 2 quadratic.
 
-usage: time_programs.py PROGRAM
+usage: time_programs.py [--instructions] [--only NAME] PROGRAM
+
+A cost is in seconds of processor time; with --instructions it is in millions of instructions, as callgrind counts them. These are
+the same in each run, and take fifty times as long to count. --only takes the name of one text or of one family.
 """
-import json, resource, subprocess, sys
+import glob, json, math, os, re, resource, subprocess, sys
 
 
 def chain(count):
@@ -50,11 +55,27 @@ def recursion(count):
     return text + f"int main(void) {{ f{procedures - 1}(__VERIFIER_nondet_int()); assert(g0 >= 0); }}\n"
 
 
+def locals_(count):
+    text = ""
+    for k in range(count):
+        text += f"int p{k}(int n) {{\n" + "".join(f"  int x{i} = {i};\n" for i in range(13))
+        for loop in range(2):
+            text += f"  while (x{loop} < n + {k}) {{\n    x{loop}++;\n"
+            for i in range(5):
+                a, b, c = (f"x{(6 * loop + i + d) % 13}" for d in (2, 3, 5))
+                text += f"    if ({a} < {b}) {c}++; else {a} += {i + 1};\n"
+            text += "  }\n"
+        text += (f"  x2 = x2 + p{k - 1}(x3);\n" if k else "") + "  return x2;\n}\n"
+    return text + f"int main(void) {{\n  int y = p{count - 1}(__VERIFIER_nondet_int());\n  assert(y >= 0);\n}}\n"
+
+
 MADE = [("chain", chain, (1, 2, 4, 8, 16, 32, 64)), ("variables", variables, (2, 4, 8, 12, 16)), ("loops", loops, (5, 10, 20, 40)),
-        ("nested", nested, (2, 4, 6, 8, 10)), ("recursion", recursion, (2, 4, 8, 12, 16))]
+        ("nested", nested, (2, 4, 6, 8, 10)), ("recursion", recursion, (2, 4, 8, 12, 16)),
+        ("locals", locals_, (1, 2, 4))]
+TEXTS = os.path.join(os.path.dirname(os.path.abspath(__file__)), "texts")
 
 
-def timed(command, given):
+def seconds(command, given):
     """The seconds of processor time that a run takes, and what it prints."""
     before = resource.getrusage(resource.RUSAGE_CHILDREN)
     made = subprocess.run(command, input=given, capture_output=True).stdout
@@ -62,17 +83,47 @@ def timed(command, given):
     return after.ru_utime + after.ru_stime - before.ru_utime - before.ru_stime, made
 
 
+def instructions(command, given):
+    """The millions of instructions that a run takes, and what it prints."""
+    run = subprocess.run(["valgrind", "--tool=callgrind", "--callgrind-out-file=/dev/null", *command], input=given, capture_output=True)
+    return int(re.search(rb"Collected : (\d+)", run.stderr)[1]) / 1e6, run.stdout
+
+
+def costs(cost, program, text):
+    """What `analyse`, `certify` and `check` take of a text, and the number of answers."""
+    analyse, _ = cost([program, "analyse"], text)
+    certify, file = cost([program, "certify"], text)
+    check, passed = cost([program, "check"], file)
+    assert passed == b"check passed\n", passed
+    return (analyse, certify, check), len(json.loads(file)["answers"])
+
+
+def growth(small, great):
+    """The exponents of the growth from one size to twice it."""
+    return " ".join("%6.2f" % math.log2(b / a) if a > 0 and b > 0 else "     -" for a, b in zip(small, great))
+
+
 def main():
-    program = sys.argv[1]
-    print("%-10s %4s %6s %9s %9s %9s %8s" % ("text", "size", "lines", "analyse", "certify", "check", "answers"))
+    words = sys.argv[1:]
+    cost = instructions if "--instructions" in words else seconds
+    only = words[words.index("--only") + 1] if "--only" in words else None
+    print("%-16s %4s %6s %9s %9s %9s %8s  growth" % ("text", "size", "lines", "analyse", "certify", "check", "answers"))
+
+    def line(name, size, text, before=None):
+        made, answers = costs(cost, words[-1], text)
+        grows = growth(before, made) if before else ""
+        print("%-16s %4s %6d %9.2f %9.2f %9.2f %8d  %s" % (name, size, text.count(b"\n"), *made, answers, grows), flush=True)
+        return made
+
+    for path in sorted(glob.glob(TEXTS + "/*.c")):
+        name = os.path.splitext(os.path.basename(path))[0]
+        if only in (None, name):
+            with open(path, "rb") as file:
+                line(name, "", file.read())
     for name, make, sizes in MADE:
-        for size in sizes:
-            text = make(size).encode()
-            analyse, _ = timed([program, "analyse"], text)
-            certify, file = timed([program, "certify"], text)
-            check, passed = timed([program, "check"], file)
-            assert passed == b"check passed\n", passed
-            print("%-10s %4d %6d %9.2f %9.2f %9.2f %8d" % (name, size, text.count(b"\n"), analyse, certify, check, len(json.loads(file)["answers"])))
+        made = {}
+        for size in sizes if only in (None, name) else ():
+            made[size] = line(name, size, make(size).encode(), made.get(size / 2))
 
 
 if __name__ == "__main__":
