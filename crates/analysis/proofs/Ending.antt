@@ -1,8 +1,10 @@
 -- What a report is made from, where all procedures are found.
 --     flows-are, flows-hold      a flow for each procedure, which holds
 --     blocks-met                 the summary of each block is met
-use Rattle.std.proofs.Common.{◌≡◌, ℕ, ◌<◌, length, arith, ◌∙◌}
+--     blocks-all                 there is a block for each procedure
+use Rattle.std.proofs.Common.{◌≡◌, ℕ, ◌<◌, length, map, arith, ◌∙◌}
 use Rattle.std.specs.Prelude.{Some, slice_get}
+use Rattle.syntax_tree.specs.declared.program.Proc.{Proc}
 use Rattle.syntax_tree.specs.declared.program.Program.{Program}
 use Rattle.transition_formula.specs.Transition.{Transition}
 use Rattle.leaf_cases.specs.Summaries.{SummaryIsMet}
@@ -14,6 +16,7 @@ use Rattle.analysis.specs.Analysis.{blocks_by}
 use Rattle.analysis.specs.Claims.{FitsFound, FoundIsMet, HasAll}
 use Rattle.analysis.specs.Found.{flows_in}
 use Rattle.analysis.proofs.BlocksKnown.{block-known, flow-known, flows-long}
+use Rattle.analysis.proofs.Covering.{blocks-cover}
 
 module _ (program : Program) (found : Found) (fits : FitsFound program found) (all : HasAll program found) where
   flow-there : (i : ℕ) → i < length found.flows → (flow : Flow) × (slice_get found.flows i ≡ Some (Some flow))
@@ -35,3 +38,6 @@ module _ (program : Program) (found : Found) (fits : FitsFound program found) (a
   pub blocks-met : FoundIsMet program found → (proc : ℕ) (block : ProcBlock) → slice_get (blocks_by program program.procs found.known found.notes) proc ≡ Some block → SummaryIsMet program proc block.formula
   blocks-met met proc block at =
       met.summaries proc block.formula (block-known program program.procs found.known found.notes fits.known.each fits.notes known-there proc block at)
+
+  pub blocks-all : map (λ (b : ProcBlock). b.name) (blocks_by program program.procs found.known found.notes) ≡ map (λ (p : Proc). p.name) program.procs
+  blocks-all = blocks-cover program program.procs found.known found.notes fits.known.each fits.notes known-there

@@ -16,6 +16,8 @@ pub mod Finding
 pub mod ChecksStand
 pub mod Asserting
 pub mod BlocksKnown
+-- that nothing is left out
+pub mod Covering
 pub mod Ending
 -- no notes beside the report
 pub mod Quiet

@@ -1,6 +1,6 @@
 -- What is asked where a group is summed up, what parts and findings are like, and what they say of
 -- executions.
-use Rattle.std.specs.Prelude.{◌≡◌, ◌<◌, ◌≤◌, ◌+◌, ℕ, All, List, [], ◌∷◌, ◌++◌, Option, Some, length, slice_get}
+use Rattle.std.specs.Prelude.{◌≡◌, ◌<◌, ◌≤◌, ◌+◌, ℕ, All, List, [], ◌∷◌, ◌++◌, Option, Some, length, map, slice_get}
 use Rattle.std.specs.List.{Contains}
 use Rattle.syntax_tree.specs.declared.program.Proc.{Proc}
 use Rattle.syntax_tree.specs.declared.program.Program.{Program}
@@ -24,6 +24,7 @@ use Rattle.analysis.specs.declared.planning.GroupKind.{GroupKind}
 use Rattle.analysis.specs.declared.planning.GroupKind.TheVariants.{Plain, Linear, Rounds}
 use Rattle.analysis.specs.declared.planning.Planned.{Planned}
 use Rattle.analysis.specs.declared.found.Found.{Found}
+use Rattle.analysis.specs.declared.places.TextPlace.{TextPlace}
 use Rattle.analysis.specs.declared.standing.CheckAt.{CheckAt}
 use Rattle.analysis.specs.Plan.{ArePlannedOf}
 
@@ -145,6 +146,10 @@ pub record FoundIsMet (program : Program) (found : Found) : Type 0 where
       → FlowHolds program proc flow
 
 -- ---- assertions
+
+-- the places in the text are those of the program's assertions, in order
+abbrev pub AreTheirPlaces : Program → List TextPlace → Type 0
+AreTheirPlaces program places = map (λ (at : TextPlace). at.at) places ≡ program.checks
 
 -- an assertion of a graph stands there
 pub record IsCheckOf (program : Program) (c : CheckAt) : Type 0 where

@@ -4,11 +4,11 @@ ghost use Rattle.syntax_tree.specs.WellFormed.{IsWellFormed};
 ghost use Rattle.posing.specs.Follows.{Follows};
 ghost use Rattle.context.specs.Claims.{AreEntries, AreFlows, EntriesHold, FlowsHold};
 ghost use Rattle.context.specs.Entries.{entries_from};
-ghost use Rattle.report.specs.Claims.{ClaimsAreMet};
+ghost use Rattle.report.specs.Claims.{ClaimsAreMet, ReportCovers};
 ghost use Rattle.analysis.specs.declared.planning.Planned.{Planned as PlannedGroup};
 ghost use Rattle.analysis.specs.Analysis.{analysed, ended_by};
 ghost use Rattle.analysis.specs.Apart.{apart};
-ghost use Rattle.analysis.specs.Claims.{FitsFound, FoundIsMet, HasAll};
+ghost use Rattle.analysis.specs.Claims.{AreTheirPlaces, FitsFound, FoundIsMet, HasAll};
 ghost use Rattle.analysis.specs.Plan.{IsPlan};
 
 use crate::blocks::blocks_by;
@@ -45,6 +45,8 @@ pub fn analyse<O: Oracle>(
     ensures planned { IfOk result (λ report. (plan : List PlannedGroup) × IsPlan program.now plan) }
     ensures kept { log.new.notes ≡ log.old.notes }
     ensures met { IfOk result (ClaimsAreMet program.now) }
+    ensures covers { AreTheirPlaces program.now places.now
+        → IfOk result (ReportCovers program.now) }
 {
     let plan = plan(alloc, program)?;
     let found = found_by(alloc, program, plan.as_slice(), oracle, log)?;
@@ -67,6 +69,8 @@ pub fn ended_by<O: Oracle>(
     ensures follows { Follows O.asking oracle.old oracle.new log.old log.new result
         (ended_by program.now places.now found) }
     ensures met { FoundIsMet program.now found → IfOk result (ClaimsAreMet program.now) }
+    ensures covers { AreTheirPlaces program.now places.now
+        → IfOk result (ReportCovers program.now) }
 {
     let Found {
         known,

@@ -1,12 +1,15 @@
 use Rattle.std.proofs.Common.{◌≡◌, ◌∙◌, sym, ap, subst}
-use Rattle.std.specs.Prelude.{Some, slice_get}
-use Rattle.posing.proofs.Steps.{at_end, value_first}
+use Rattle.std.specs.Prelude.{Some, map, slice_get}
+use Rattle.posing.proofs.Steps.{at_end, value_first, value_has}
+use Rattle.report.specs.declared.blocks.Judged.{Judged}
+use Rattle.report.specs.declared.blocks.ProcBlock.{ProcBlock}
 use Rattle.context.specs.Claims.{AreFlows, EntriesHold, FlowsHold}
 use Rattle.context.specs.Entries.{entries_from}
 use Rattle.analysis.specs.Analysis.{blocks_by, ended_by, report_by}
 use Rattle.analysis.specs.Apart.{apart}
 use Rattle.analysis.specs.Judging.{judged_by}
-use Rattle.analysis.proofs.Ending.{blocks-met, flows-are, flows-hold}
+use Rattle.analysis.proofs.Covering.{always-judged_by}
+use Rattle.analysis.proofs.Ending.{blocks-all, blocks-met, flows-are, flows-hold}
 use Rattle.analysis.proofs.whole.ended_by.Goals as goal
 
 pub entries_apart-requires-clause-flows : goal.entries_apart-requires-clause-flows
@@ -40,4 +43,14 @@ returns-clause-met g c = λ met.
     record {
       summaries = λ proc block at. blocks-met program found c.requires.found c.requires.all met proc block (subst (λ blocks. slice_get blocks proc ≡ Some block) procs at);
       proved = λ n judged at. c.in_ok-judged.ensures.sound (subst (EntriesHold program) (sym c.as_slice-4.ensures) enter) (subst (FlowsHold program) (sym again) hold) n judged at;
+    }
+
+pub returns-clause-covers : goal.returns-clause-covers
+returns-clause-covers g c = λ theirs.
+    let program = c.args.program.now in
+    let found = c.args.found in
+    let procs = c.in_ok-procs.ensures ∙ (λ i. blocks_by program program.procs (c.as_slice.ensures i) (c.as_slice-2.ensures i)) in
+    record {
+      blocks = ap (map (λ (b : ProcBlock). b.name)) procs ∙ blocks-all program found c.requires.found c.requires.all;
+      verdicts = value_has (λ made. map (λ (j : Judged). j.at) made ≡ program.checks) c.in_ok-judged.ensures.follows (always-judged_by program c.args.places.now _ _ theirs);
     }
