@@ -1,8 +1,9 @@
 ghost use Rattle.std.specs.Prelude.{◌≡◌, ◌≤◌, List, length, IfOk};
 ghost use Rattle.syntax_tree.specs.WellFormed.{IsWellFormed};
-ghost use Rattle.report.specs.Claims.{ClaimsAreMet};
+ghost use Rattle.report.specs.Claims.{ClaimsAreMet, ReportCovers};
 ghost use Rattle.analysis.specs.declared.planning.Planned.{Planned as PlannedGroup};
 ghost use Rattle.analysis.specs.Analysis.{analysed};
+ghost use Rattle.analysis.specs.Claims.{AreTheirPlaces};
 ghost use Rattle.analysis.specs.Plan.{IsPlan};
 ghost use Rattle.summary_cache.specs.Answered.{Answers};
 ghost use Rattle.summary_cache.specs.Accepted.{Accepts};
@@ -65,6 +66,8 @@ fn answered_by<O: Oracle>(
     ensures follows { (plan : List PlannedGroup) → IsPlan program.now plan
         → Answers O.asking oracle.old oracle.new result (analysed program.now places.now plan) }
     ensures met { IfOk result (λ last. ClaimsAreMet program.now last.report) }
+    ensures covers { AreTheirPlaces program.now places.now
+        → IfOk result (λ last. ReportCovers program.now last.report) }
 {
     let mut log = Log::new(alloc);
     match analyse(alloc, program, places, oracle, &mut log) {

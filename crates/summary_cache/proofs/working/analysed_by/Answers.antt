@@ -1,15 +1,21 @@
-use Rattle.std.proofs.Common.{◌≡◌, IsTrue, sym, ap, subst, ◌∙◌}
+use Rattle.std.proofs.Common.{◌≡◌, ℕ, List, [], ◌∷◌, IsTrue, refl, sym, ap, subst, ◌∙◌}
 use Rattle.std.specs.Prelude.{map}
 use Rattle.c_lexer.specs.Laws.{ascends_from}
 use Rattle.syntax_tree.specs.declared.program.Program.{Program}
 use Rattle.syntax_tree.specs.WellFormed.{IsWellFormed}
 use Rattle.posing.specs.declared.error.WorkError.TheVariants.{Memory}
+use Rattle.analysis.specs.declared.places.TextPlace.{TextPlace}
 use Rattle.analysis.specs.Plan.{IsPlan}
 use Rattle.summary_cache.specs.Counted.{counts_of}
 use Rattle.summary_cache.specs.Rules.{with_rule}
 use Rattle.summary_cache.specs.Stated.{text_place}
 use Rattle.summary_cache.proofs.Statements.{fails, unworked, worked}
 use Rattle.summary_cache.proofs.working.analysed_by.Goals as goal
+
+-- the place of a byte is that byte
+text-places : (text checks : List ℕ) → map (λ (at : TextPlace). at.at) (map (text_place text) checks) ≡ checks
+text-places text [] = refl
+text-places text (at ∷ checks) = ap (λ rest. at ∷ rest) (text-places text checks)
 
 pub plan-requires : goal.plan-requires
 plan-requires g c =
@@ -56,7 +62,9 @@ returns g c =
     let under : ruled ≡ with_rule c.args.rule program = c.with_rule-program.ensures in
     let checks : ruled.checks ≡ program.checks = ap (λ (p : Program). p.checks) under in
     let places = c.as_slice-2.ensures ∙ c.in_ok-places.ensures ∙ ap (map (text_place text)) (c.as_slice.ensures ∙ checks) in
+    let theirs = ap (map (λ (at : TextPlace). at.at)) places ∙ text-places text program.checks ∙ sym checks in
+    let covers = c.in_ok-last.ensures.covers theirs in
     let counted = c.counts_of-counts.ensures ∙ ap (λ n. counts_of n last.report) c.len.ensures in
     worked g.O.Oracle.asking c.args.rule _ _ text program ruled plan _ last _
     (record { accepted = c.requires.accepted; is_plan = subst (λ (p : Program). IsPlan p plan) under c.in_ok-plan.ensures }) under places
-    (c.in_ok-last.ensures.follows plan c.in_ok-plan.ensures) c.claims_know_no_rule.ensures c.in_ok-last.ensures.met counted
+    (c.in_ok-last.ensures.follows plan c.in_ok-plan.ensures) c.claims_know_no_rule.ensures c.in_ok-last.ensures.met covers counted
