@@ -2,6 +2,8 @@
 pub mod Complete
 -- Certificate files pass or do not, and the output of `certify` passes.
 pub mod Passing
+-- What the ends of a run say of executions.
+pub mod Sentences
 -- What is read and written.
 pub mod Inputs
 pub mod Outputs

@@ -28,7 +28,7 @@ use Rattle.cra.specs.Certified.{IsCertified, file_text}
 use Rattle.cra.specs.Checked.{IsShown, answers_in, answers_of, rule_of}
 use Rattle.cra.specs.Input.{IsInput}
 use Rattle.cra.specs.Limits.{most_file}
-use Rattle.cra.specs.Replies.{IsRenewed, IsRenewedBy, IsReply, IsReplyToCertificate, IsReplyToCertify, IsReplyToChecked, IsReplyToFile, IsReplyToOldCertificate, IsReplyToOldFile, IsReplyToRead, IsReplyToWork, IsToCheck, IsToCheckCertified, IsToRenew, compared_reply, failed, output_too_long, passed, posed_reply}
+use Rattle.cra.specs.Replies.{IsRenewed, IsRenewedBy, IsReply, IsReplyToCertificate, IsReplyToCertify, IsReplyToChecked, IsReplyToFile, IsReplyToOldCertificate, IsReplyToOldFile, IsReplyToRead, IsReplyToWork, IsToCheck, IsToCheckCertified, IsToRenew, IsToRenewCertified, compared_reply, failed, output_too_long, passed, posed_reply}
 use Rattle.cra.proofs.Checks.{ends}
 use Rattle.cra.proofs.Complete.{certified-text, whole-input}
 
@@ -159,6 +159,38 @@ output-short text printed (inr (refusal, refused, e)) is = let other = sym is �
 pub certified-passes : NewlineIsReadOver → (words : List (List ℕ)) (before after : Option (List ℕ)) (reply : Reply) → IsToCheckCertified words before → IsReply words before after reply → reply.status ≡ CheckPassed
 certified-passes over words before after reply to answer =
     let read : IsReplyToRead most_file IsReplyToFile before after reply = subst (λ work. IsReplyToWork work before after reply) to.asked answer in
-    let short = output-short to.text to.printed to.is_printed to.certified in
-    let all = whole-input most_file to.printed.text read.input short (subst (λ before. IsInput most_file before read.input) to.whole read.is_input) in
-    ap (λ (r : Reply). r.status) (output-passes over to.text to.printed reply to.is_printed to.certified (subst (λ input. IsReplyToFile input reply) all read.is_reply))
+    let f = to.file in
+    let short = output-short f.text f.printed f.is_printed f.certified in
+    let all = whole-input most_file f.printed.text read.input short (subst (λ before. IsInput most_file before read.input) f.whole read.is_input) in
+    ap (λ (r : Reply). r.status) (output-passes over f.text f.printed reply f.is_printed f.certified (subst (λ input. IsReplyToFile input reply) all read.is_reply))
+
+-- ---- the output of `certify` made anew
+
+-- a file that is certified, where its check passed, is certified again
+file-renewed : (text : List ℕ) (file : Certificate) (reply : Reply) → IsCertified text file → IsRenewed file reply → (reply.status ≡ Certified) ⊎ (reply.status ≡ TooLong)
+file-renewed text file reply c renewed = go renewed.is_renewed
+  where
+    own : Accepts file.text c.analysed.program
+    own = subst (λ text. Accepts text c.analysed.program) (sym c.is_file.text_is) c.analysed.planned.accepted
+
+    go : IsRenewedBy file.text renewed.checked reply → (reply.status ≡ Certified) ⊎ (reply.status ≡ TooLong)
+    go (inl (is, certify)) = certified-text file.text c.analysed.program reply own certify
+    go (inr (ne, e)) = absurd (ne (ap (λ (r : Reply). r.status) (file-passes text file renewed.checked c renewed.is_checked)))
+
+output-renewed : NewlineIsReadOver → (text : List ℕ) (printed reply : Reply) → IsReplyToCertify text printed → printed.status ≡ Certified → length printed.text ≤ most_file → IsReplyToOldFile printed.text reply
+    → (reply.status ≡ Certified) ⊎ (reply.status ≡ TooLong)
+output-renewed over text printed reply (inl (file, c, e)) is short (inl (long, told)) = absurd (omega (arith, short, long))
+output-renewed over text printed reply (inl (file, c, e)) is short (inr (within, outcome)) =
+    let told = told-file (nat_lt (length (file_text file)) most_file) (file_text file) printed e is in
+    let read = ap certificate_of told.1 ∙ over (file_text file) file c.back in
+    file-renewed text file reply c (subst (λ outcome. IsReplyToOldCertificate outcome reply) read outcome)
+output-renewed over text printed reply (inr (refusal, refused, e)) is short answer = let other = sym is ∙ ap (λ (r : Reply). r.status) e in cc
+
+pub certified-renewed : NewlineIsReadOver → (words : List (List ℕ)) (before after : Option (List ℕ)) (reply : Reply) → IsToRenewCertified words before → IsReply words before after reply
+    → (reply.status ≡ Certified) ⊎ (reply.status ≡ TooLong)
+certified-renewed over words before after reply to answer =
+    let read : IsReplyToRead most_file IsReplyToOldFile before after reply = subst (λ work. IsReplyToWork work before after reply) to.asked answer in
+    let f = to.file in
+    let short = output-short f.text f.printed f.is_printed f.certified in
+    let all = whole-input most_file f.printed.text read.input short (subst (λ before. IsInput most_file before read.input) f.whole read.is_input) in
+    output-renewed over f.text f.printed reply f.is_printed f.certified short (subst (λ input. IsReplyToOldFile input reply) all read.is_reply)

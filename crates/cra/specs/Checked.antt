@@ -1,10 +1,10 @@
 -- What a certificate file shows: the analysis of its text under its answers.
-use Rattle.std.specs.Prelude.{ℕ, List, map}
+use Rattle.std.specs.Prelude.{◌≡◌, ℕ, List, map}
 use Rattle.farkas_check.specs.declared.answer.Answer.{Answer}
 use Rattle.syntax_tree.specs.declared.program.Program.{Program}
 use Rattle.posing.specs.Posing.{Posed, Finished, Stuck}
 use Rattle.report.specs.declared.blocks.Report.{Report}
-use Rattle.report.specs.Claims.{ClaimsAreMet}
+use Rattle.report.specs.Claims.{ClaimsAreMet, ReportCovers}
 use Rattle.wire.specs.declared.certificate.Certificate.{Certificate}
 use Rattle.wire.specs.declared.certificate.Version.{Version}
 use Rattle.wire.specs.declared.certificate.Version.TheVariants.{First, Second}
@@ -24,13 +24,14 @@ answers_in Second answers order = map (answer_at answers) order
 abbrev pub answers_of : Certificate → List Answer
 answers_of file = answers_in file.version file.answers file.order
 
--- where the analysis comes to a report, its claims are met
+-- where the analysis comes to a report, its claims are met, and it covers the program
 abbrev pub IsMetBy : Program → Posed Report → Type 0
 IsMetBy program (Finished report notes left) = ClaimsAreMet program report
+    × ReportCovers program report
 IsMetBy program (Stuck question left) = Unit {0}
 
 -- The text is accepted, and the analysis of its program comes to this under listed answers and a
--- rule. Whoever listed them, the claims of a report to which it comes are met.
+-- rule. Whoever listed them, a report to which it comes covers the program, and its claims are met.
 pub record IsShown (rule : ℕ) (text : List ℕ) (answers : List Answer)
     (posed : Posed Report) : Type 0 where
   pub program : Program

@@ -10,6 +10,7 @@ pub mod Certified
 pub mod Checked
 pub mod Sampled
 pub mod Replies
+pub mod Sentences
 -- ---- words of proofs and of private functions
 pub mod Submitted
 pub mod Commands

@@ -366,12 +366,20 @@ pub record IsToRenew (words : List (List ℕ)) (left : Option (List ℕ)) : Type
   pub asked : work_of words ≡ Some Renew
   pub file : FileIn left
 
--- The words ask for the check of all that the source has, which is what `certify` printed for a
--- text.
-pub record IsToCheckCertified (words : List (List ℕ)) (left : Option (List ℕ)) : Type 0 where
-  pub asked : work_of words ≡ Some Check
+-- all that the source has: what `certify` printed for a text
+pub record PrintedIn (left : Option (List ℕ)) : Type 0 where
   pub text : List ℕ
   pub printed : Reply
   pub is_printed : IsReplyToCertify text printed
   pub certified : printed.status ≡ ended.Certified
   pub whole : left ≡ Some printed.text
+
+-- The words ask for the check of what `certify` printed for a text.
+pub record IsToCheckCertified (words : List (List ℕ)) (left : Option (List ℕ)) : Type 0 where
+  pub asked : work_of words ≡ Some Check
+  pub file : PrintedIn left
+
+-- The words ask for such a file made anew.
+pub record IsToRenewCertified (words : List (List ℕ)) (left : Option (List ℕ)) : Type 0 where
+  pub asked : work_of words ≡ Some Renew
+  pub file : PrintedIn left

@@ -3,7 +3,8 @@ ghost use Rattle.std.specs.Io.KnownBytes.{append_known};
 ghost use Rattle.whole_numbers.specs.Counters.{Rose};
 ghost use Rattle.cra.specs.Output.{TookPart};
 ghost use Rattle.cra.specs.declared.reply.Reply.{Reply as Answer};
-ghost use Rattle.cra.specs.Replies.{IsReply, IsReplyToWork, IsToAnalyse, IsToCertify, IsToCheck, IsToCheckCertified, IsToRenew, IsToReplay};
+ghost use Rattle.cra.specs.Replies.{IsReply, IsReplyToWork, IsToAnalyse, IsToCertify, IsToCheck, IsToCheckCertified, IsToRenew, IsToRenewCertified, IsToReplay};
+ghost use Rattle.cra.specs.Sentences.{AnAssertionFails, IsTrueFile, NoAssertionFails};
 ghost use Rattle.cra.specs.Status.{IsAnswer};
 ghost use Rattle.cra.specs.Words.{reads_source, work_of};
 
@@ -90,6 +91,17 @@ pub fn run<R: Source, W: Sink>(
     source: &mut R,
     sink: &mut W,
 ) -> Status
+    // Asked to analyse an accepted text, `AllProved` says that no execution of its program from
+    // `main` fails an assertion.
+    ensures sound { (asked : IsToAnalyse (map string_bytes words.now) (R.left source.old))
+        → result ≡ Status.AllProved → NoAssertionFails asked.program }
+    // `CheckPassed` says that all that the file's report claims is true, whoever made the file.
+    ensures sound_check { (asked : IsToCheck (map string_bytes words.now) (R.left source.old))
+        → result ≡ Status.CheckPassed → IsTrueFile asked.file.file asked.file.program }
+    // Asked to replay, `SomeFailed` says that an execution from `main` fails an assertion.
+    ensures failing { (asked : IsToReplay (map string_bytes words.now) (R.left source.old))
+        → result ≡ Status.SomeFailed → AnAssertionFails asked.program }
+
     // Every status but those of the source, the sink and memory is the answer to the words and to
     // the input.
     ensures answered { IsAnswer result → (reply : Answer)
@@ -132,6 +144,13 @@ pub fn run<R: Source, W: Sink>(
         → ¬ Rose (R.faults source.old) (R.faults source.new)
         → ¬ Rose (W.faults sink.old) (W.faults sink.new)
         → (result ≡ Status.CheckPassed) ⊎ (result ≡ Status.WantOfMemory) }
+
+    // And it is renewed, where what comes of it is within the limit.
+    ensures passes_renew { IsToRenewCertified (map string_bytes words.now) (R.left source.old)
+        → ¬ Rose (R.faults source.old) (R.faults source.new)
+        → ¬ Rose (W.faults sink.old) (W.faults sink.new)
+        → (result ≡ Status.Certified) ⊎ (result ≡ Status.TooLong)
+        ⊎ (result ≡ Status.WantOfMemory) }
 
     // An input whose text is accepted has its trace, where memory is not wanting and no count of
     // faults rose.

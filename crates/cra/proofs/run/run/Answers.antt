@@ -2,7 +2,8 @@ use Rattle.std.proofs.Common.{◌≡◌, ◌⊎◌, inl, inr}
 use Rattle.cra.specs.declared.status.Status.{Status}
 use Rattle.cra.specs.declared.status.Status.TheVariants.{AllProved, SomeUnproved, NoneFailed, SomeFailed, Certified, CheckFailed, CheckPassed, TooLong, WantOfMemory}
 use Rattle.cra.proofs.Complete.{complete, complete-certify, complete-replay}
-use Rattle.cra.proofs.Passing.{certified-passes, complete-check, complete-renew}
+use Rattle.cra.proofs.Passing.{certified-passes, certified-renewed, complete-check, complete-renew}
+use Rattle.cra.proofs.Sentences.{failing, sound, sound-check}
 use Rattle.cra.proofs.run.run.Goals as goal
 
 or-memory : (status : Status) → (status ≡ AllProved) ⊎ (status ≡ SomeUnproved) → (status ≡ AllProved) ⊎ (status ≡ SomeUnproved) ⊎ (status ≡ WantOfMemory)
@@ -55,3 +56,18 @@ returns-in-Ok-write_all-clause-complete_renew g c to_renew source sink =
 pub returns-in-Ok-write_all-clause-passes : goal.returns-in-Ok-write_all-clause-passes
 returns-in-Ok-write_all-clause-passes g c to_check source sink =
     inl (certified-passes c.newline_is_read_over.ensures _ _ _ c.in-Ok.reply to_check c.in-Ok.ensures.answer)
+
+-- and is renewed
+pub returns-in-Ok-write_all-clause-passes_renew : goal.returns-in-Ok-write_all-clause-passes_renew
+returns-in-Ok-write_all-clause-passes_renew g c to_renew source sink =
+    or-memory-certified c.in-Ok.reply.status (certified-renewed c.newline_is_read_over.ensures _ _ _ c.in-Ok.reply to_renew c.in-Ok.ensures.answer)
+
+-- what the end says of executions
+pub returns-in-Ok-write_all-clause-sound : goal.returns-in-Ok-write_all-clause-sound
+returns-in-Ok-write_all-clause-sound g c asked is = sound _ _ _ c.in-Ok.reply asked c.in-Ok.ensures.answer is
+
+pub returns-in-Ok-write_all-clause-sound_check : goal.returns-in-Ok-write_all-clause-sound_check
+returns-in-Ok-write_all-clause-sound_check g c asked is = sound-check _ _ _ c.in-Ok.reply asked c.in-Ok.ensures.answer is
+
+pub returns-in-Ok-write_all-clause-failing : goal.returns-in-Ok-write_all-clause-failing
+returns-in-Ok-write_all-clause-failing g c asked is = failing _ _ _ c.in-Ok.reply asked c.in-Ok.ensures.answer is

@@ -1,0 +1,164 @@
+-- What the ends of a run say of executions.
+--     sound          a text all of whose assertions are proved
+--     sound-check    a certificate file that passes
+--     failing        an execution that ends at a failed assertion
+use Rattle.std.proofs.Common.{◌≡◌, ◌≢◌, ℕ, zero, suc, ◌+◌, ◌<◌, ◌≤◌, ◌⊎◌, inl, inr, true, false, cond, List, [], ◌∷◌, length, Option, Some, Result, Ok, Err, refl, sym, ap, subst, ◌∙◌, arith}
+use Rattle.std.specs.Prelude.{Bool, ◌-◌, ◌==◌, if◌then◌else◌, slice_get, map}
+use Rattle.std.specs.List.{count_by}
+use Rattle.std.proofs.lemmas.List.{length-map}
+use Rattle.std.proofs.lemmas.Slice.Eq.{bytes_eq-Decides}
+use Rattle.std.specs.Str.{bytes_eq}
+use Rattle.farkas_check.specs.declared.answer.Answer.{Answer}
+use Rattle.posing.specs.Posing.{Posed, Finished, Stuck}
+use Rattle.execution.specs.Execution.{Fails}
+use Rattle.syntax_tree.specs.declared.program.Program.{Program}
+use Rattle.replay.specs.declared.trace.Stop.{Stop}
+use Rattle.replay.specs.declared.trace.Stop.TheVariants as stop
+use Rattle.replay.specs.TraceText.{is_failed}
+use Rattle.report.specs.declared.blocks.Judged.{Judged}
+use Rattle.report.specs.declared.blocks.Report.{Report}
+use Rattle.report.specs.declared.verdict.Verdict.{Verdict}
+use Rattle.report.specs.declared.verdict.Verdict.TheVariants as verdict
+use Rattle.report.specs.Claims.{ClaimsAreMet, ReportCovers}
+use Rattle.report.specs.Text.{is_proof, is_proved, proved_count, text_of}
+use Rattle.summary_cache.specs.Accepted.{Accepts}
+use Rattle.summary_cache.specs.Limits.{most_bytes}
+use Rattle.summary_cache.proofs.Complete.{accepted-once}
+use Rattle.wire.specs.declared.certificate.Certificate.{Certificate}
+use Rattle.wire.specs.declared.input.Input.{Input}
+use Rattle.wire.specs.Files.{certificate_of}
+use Rattle.wire.specs.Inputs.{input_of}
+use Rattle.cra.specs.declared.reply.Reply.{Reply}
+use Rattle.cra.specs.declared.status.Status.{Status}
+use Rattle.cra.specs.declared.status.Status.TheVariants.{AllProved, SomeUnproved, NoneFailed, SomeFailed, CheckPassed, CheckFailed}
+use Rattle.cra.specs.Checked.{IsShown, answers_of, rule_of}
+use Rattle.cra.specs.Input.{IsInput}
+use Rattle.cra.specs.Limits.{most_file, most_input}
+use Rattle.cra.specs.Replies.{IsReply, IsReplyToCertificate, IsReplyToChecked, IsReplyToFile, IsReplyToInput, IsReplyToOutcome, IsReplyToRead, IsReplyToText, IsReplyToValues, IsReplyToWork, IsToAnalyse, IsToCheck, IsToReplay, compared_reply, finished_reply, posed_reply}
+use Rattle.cra.specs.Sentences.{AnAssertionFails, IsTrueFile, NoAssertionFails}
+use Rattle.cra.proofs.Complete.{whole-input}
+
+-- ---- counts of verdicts
+
+proof-is : (v : Verdict) → is_proof v ≡ true → v ≡ verdict.Proved
+proof-is verdict.Proved e = refl
+proof-is (verdict.Unproved case point) e = absurd (cc e)
+proof-is (verdict.UnprovedLimit case limit) e = absurd (cc e)
+
+count-most : (js : List Judged) → proved_count js ≤ length js
+count-most [] = omega arith
+count-most (j ∷ js) = go (is_proved j) (count-most js)
+  where
+    go : (b : Bool) → proved_count js ≤ length js → cond b (suc (proved_count js)) (proved_count js) ≤ suc (length js)
+    go true most = omega (arith, most)
+    go false most = omega (arith, most)
+
+all-proved : (js : List Judged) → length js - proved_count js ≡ 0 → (n : ℕ) (j : Judged) → slice_get js n ≡ Some j → j.verdict ≡ verdict.Proved
+all-proved [] none n j e = absurd (cc e)
+all-proved (first ∷ js) none n j e = go (is_proved first) refl (count-most js) none n e
+  where
+    go : (b : Bool) → is_proved first ≡ b → proved_count js ≤ length js → suc (length js) - cond b (suc (proved_count js)) (proved_count js) ≡ 0 → (n : ℕ) → slice_get (first ∷ js) n ≡ Some j → j.verdict ≡ verdict.Proved
+    go true is most none zero e = let same : first ≡ j = cc e in subst (λ (k : Judged). k.verdict ≡ verdict.Proved) same (proof-is first.verdict is)
+    go true is most none (suc n) e = all-proved js (omega (arith, none)) n j e
+    go false is most none n e = absurd (omega (arith, most, none))
+
+-- an element stands at each place
+there : (js : List Judged) (n : ℕ) → n < length js → (j : Judged) × (slice_get js n ≡ Some j)
+there [] n lt = absurd (omega (arith, lt))
+there (j ∷ js) zero lt = (j, refl)
+there (j ∷ js) (suc n) lt = there js n (omega (arith, lt))
+
+none-fails : (program : Program) (report : Report) → ReportCovers program report → ClaimsAreMet program report → length report.judged - proved_count report.judged ≡ 0 → NoAssertionFails program
+none-fails program report covers met none n lt =
+    let long : length report.judged ≡ length program.checks = sym (length-map report.judged (λ (j : Judged). j.at)) ∙ ap length covers.verdicts in
+    let at = there report.judged n (omega (arith, lt, long)) in
+    met.proved n at.0 at.1 (all-proved report.judged none n at.0 at.1)
+
+-- ---- a text
+
+zero-of : (n : ℕ) → (if n == 0 then AllProved else SomeUnproved) ≡ AllProved → n ≡ 0
+zero-of zero e = refl
+zero-of (suc n) e = absurd (cc e)
+
+sound-text : (all : List ℕ) (program : Program) (reply : Reply) → Accepts all program → IsReplyToText all reply → reply.status ≡ AllProved → NoAssertionFails program
+sound-text all program reply a (inl (long, is)) e = absurd (cc (sym (ap (λ (r : Reply). r.status) is) ∙ e))
+sound-text all program reply a (inr (fits, inl (report, answers, is, told))) e =
+    let none = zero-of (length report.judged - proved_count report.judged) (sym (ap (λ (r : Reply). r.status) told) ∙ e) in
+    let same : is.program ≡ program = accepted-once all is.program program is.planned.accepted a in
+    subst NoAssertionFails same (none-fails is.program report is.covers is.met none)
+sound-text all program reply a (inr (fits, inr (refusal, is, told))) e = absurd (cc (sym (ap (λ (r : Reply). r.status) told) ∙ e))
+
+pub sound : (words : List (List ℕ)) (before after : Option (List ℕ)) (reply : Reply) (asked : IsToAnalyse words before) → IsReply words before after reply → reply.status ≡ AllProved
+    → NoAssertionFails asked.program
+sound words before after reply a answer e =
+    let read : IsReplyToRead most_bytes IsReplyToText before after reply = subst (λ work. IsReplyToWork work before after reply) a.asked answer in
+    let all = whole-input most_bytes a.input read.input a.short (subst (λ before. IsInput most_bytes before read.input) a.whole read.is_input) in
+    sound-text a.input a.program reply a.accepted (subst (λ input. IsReplyToText input reply) all read.is_reply) e
+
+-- ---- a certificate file
+
+passed-same : (same : Bool) (one other : Reply) → one.status ≢ CheckPassed → Reply.status (if same then other else one) ≡ CheckPassed → same ≡ true
+passed-same true one other ne e = refl
+passed-same false one other ne e = absurd (ne e)
+
+passed-text : (made told : List ℕ) (left : ℕ) → Reply.status (finished_reply made told left) ≡ CheckPassed → made ≡ told
+passed-text made told zero e = (bytes_eq-Decides made told).0 (passed-same (bytes_eq made told) _ _ (λ f. cc f) e)
+passed-text made told (suc left) e = absurd (cc e)
+
+sound-checked : (file : Certificate) (program : Program) (reply : Reply) → Accepts file.text program → IsReplyToChecked file reply → reply.status ≡ CheckPassed → IsTrueFile file program
+sound-checked file program reply a (inl (Finished report notes left, is, told)) e =
+    let same : is.program ≡ program = accepted-once file.text is.program program is.is_posed.planned.accepted a in
+    let text = passed-text (text_of report) file.report (length left) (sym (ap (λ (r : Reply). r.status) told) ∙ e) in
+    record {
+      report = report;
+      told = sym text;
+      covers = subst (λ (p : Program). ReportCovers p report) same is.met.1;
+      met = subst (λ (p : Program). ClaimsAreMet p report) same is.met.0;
+    }
+sound-checked file program reply a (inl (Stuck question left, is, told)) e = absurd (cc (sym (ap (λ (r : Reply). r.status) told) ∙ e))
+sound-checked file program reply a (inr (refusal, is, told)) e = absurd (cc (sym (ap (λ (r : Reply). r.status) told) ∙ e))
+
+sound-file : (bytes : List ℕ) (file : Certificate) (program : Program) (reply : Reply) → certificate_of bytes ≡ Ok file → Accepts file.text program → IsReplyToFile bytes reply
+    → reply.status ≡ CheckPassed → IsTrueFile file program
+sound-file bytes file program reply shaped a (inl (long, is)) e = absurd (cc (sym (ap (λ (r : Reply). r.status) is) ∙ e))
+sound-file bytes file program reply shaped a (inr (fits, outcome)) e =
+    sound-checked file program reply a (subst (λ outcome. IsReplyToCertificate outcome reply) shaped outcome) e
+
+pub sound-check : (words : List (List ℕ)) (before after : Option (List ℕ)) (reply : Reply) (asked : IsToCheck words before) → IsReply words before after reply → reply.status ≡ CheckPassed
+    → IsTrueFile asked.file.file asked.file.program
+sound-check words before after reply to answer e =
+    let read : IsReplyToRead most_file IsReplyToFile before after reply = subst (λ work. IsReplyToWork work before after reply) to.asked answer in
+    let f = to.file in
+    let all = whole-input most_file f.bytes read.input f.short (subst (λ before. IsInput most_file before read.input) f.whole read.is_input) in
+    sound-file f.bytes f.file f.program reply f.shaped f.accepted (subst (λ input. IsReplyToFile input reply) all read.is_reply) e
+
+-- ---- one execution on given values
+
+failed-stop : (s : Stop) → (if is_failed s then SomeFailed else NoneFailed) ≡ SomeFailed → (number : ℕ) × (s ≡ stop.Failed number)
+failed-stop (stop.Failed number) e = (number, refl)
+failed-stop (stop.Done value) e = absurd (cc e)
+failed-stop stop.Guard e = absurd (cc e)
+failed-stop stop.Zero e = absurd (cc e)
+failed-stop stop.Dry e = absurd (cc e)
+failed-stop (stop.Wide left right op) e = absurd (cc e)
+failed-stop stop.Spent e = absurd (cc e)
+
+failing-text : (input : Input) (program : Program) (reply : Reply) → Accepts input.text program → IsReplyToInput input reply → reply.status ≡ SomeFailed → AnAssertionFails program
+failing-text input program reply a (inl (other, trace, is, told)) e =
+    let at = failed-stop trace.stop (sym (ap (λ (r : Reply). r.status) told) ∙ e) in
+    let same : other ≡ program = accepted-once input.text other program is.accepted a in
+    subst AnAssertionFails same (at.0, is.fails at.0 at.1)
+failing-text input program reply a (inr (refusal, is, told)) e = absurd (cc (sym (ap (λ (r : Reply). r.status) told) ∙ e))
+
+failing-values : (bytes : List ℕ) (input : Input) (program : Program) (reply : Reply) → input_of bytes ≡ Ok input → Accepts input.text program → IsReplyToValues bytes reply
+    → reply.status ≡ SomeFailed → AnAssertionFails program
+failing-values bytes input program reply shaped a (inl (long, is)) e = absurd (cc (sym (ap (λ (r : Reply). r.status) is) ∙ e))
+failing-values bytes input program reply shaped a (inr (fits, outcome)) e =
+    failing-text input program reply a (subst (λ outcome. IsReplyToOutcome outcome reply) shaped outcome) e
+
+pub failing : (words : List (List ℕ)) (before after : Option (List ℕ)) (reply : Reply) (asked : IsToReplay words before) → IsReply words before after reply → reply.status ≡ SomeFailed
+    → AnAssertionFails asked.program
+failing words before after reply a answer e =
+    let read : IsReplyToRead most_input IsReplyToValues before after reply = subst (λ work. IsReplyToWork work before after reply) a.asked answer in
+    let all = whole-input most_input a.bytes read.input a.short (subst (λ before. IsInput most_input before read.input) a.whole read.is_input) in
+    failing-values a.bytes a.input a.program reply a.shaped a.accepted (subst (λ bytes. IsReplyToValues bytes reply) all read.is_reply) e
