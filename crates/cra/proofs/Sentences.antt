@@ -4,7 +4,9 @@
 --     failing        an execution that ends at a failed assertion
 use Rattle.std.proofs.Common.{◌≡◌, ◌≢◌, ℕ, zero, suc, ◌+◌, ◌<◌, ◌≤◌, ◌⊎◌, inl, inr, true, false, cond, List, [], ◌∷◌, length, Option, Some, Result, Ok, Err, refl, sym, ap, subst, ◌∙◌, arith}
 use Rattle.std.specs.Prelude.{Bool, ◌-◌, ◌==◌, if◌then◌else◌, slice_get, map}
-use Rattle.std.specs.List.{count_by}
+use Rattle.std.specs.List.{filter}
+use Rattle.std.proofs.lemmas.Bool.{eqb-true}
+use Rattle.std.proofs.lemmas.List.Sums.{count_by-le-length, length-filter}
 use Rattle.std.proofs.lemmas.List.{length-map}
 use Rattle.std.proofs.lemmas.Slice.Eq.{bytes_eq-Decides}
 use Rattle.std.specs.Str.{bytes_eq}
@@ -45,22 +47,24 @@ proof-is verdict.Proved e = refl
 proof-is (verdict.Unproved case point) e = absurd (cc e)
 proof-is (verdict.UnprovedLimit case limit) e = absurd (cc e)
 
-count-most : (js : List Judged) → proved_count js ≤ length js
-count-most [] = omega arith
-count-most (j ∷ js) = go (is_proved j) (count-most js)
-  where
-    go : (b : Bool) → proved_count js ≤ length js → cond b (suc (proved_count js)) (proved_count js) ≤ suc (length js)
-    go true most = omega (arith, most)
-    go false most = omega (arith, most)
+filter-most : (js : List Judged) → length (filter is_proved js) ≤ length js
+filter-most js = let same = length-filter is_proved js in let most = count_by-le-length is_proved js in omega (arith, same, most)
+
+passed-first : (first : Judged) (js : List Judged) → (length js ≤ length (filter is_proved js) → (n : ℕ) (j : Judged) → slice_get js n ≡ Some j → j.verdict ≡ verdict.Proved) → length (filter is_proved js) ≤ length js
+    → (b : Bool) → is_proved first ≡ b → suc (length js) ≤ length (cond b (first ∷ filter is_proved js) (filter is_proved js)) → (n : ℕ) (j : Judged) → slice_get (first ∷ js) n ≡ Some j → j.verdict ≡ verdict.Proved
+passed-first first js rest few true is most zero j e = let same : first ≡ j = cc e in subst (λ (k : Judged). k.verdict ≡ verdict.Proved) same (proof-is first.verdict is)
+passed-first first js rest few true is most (suc n) j e = rest (omega (arith, most)) n j e
+passed-first first js rest few false is most n j e = absurd (omega (arith, most, few))
+
+-- where none is left out, each passes
+all-passed : (js : List Judged) → length js ≤ length (filter is_proved js) → (n : ℕ) (j : Judged) → slice_get js n ≡ Some j → j.verdict ≡ verdict.Proved
+all-passed [] most n j e = absurd (cc e)
+all-passed (first ∷ js) most n j e = passed-first first js (all-passed js) (filter-most js) (is_proved first) refl most n j e
 
 all-proved : (js : List Judged) → length js - proved_count js ≡ 0 → (n : ℕ) (j : Judged) → slice_get js n ≡ Some j → j.verdict ≡ verdict.Proved
-all-proved [] none n j e = absurd (cc e)
-all-proved (first ∷ js) none n j e = go (is_proved first) refl (count-most js) none n e
-  where
-    go : (b : Bool) → is_proved first ≡ b → proved_count js ≤ length js → suc (length js) - cond b (suc (proved_count js)) (proved_count js) ≡ 0 → (n : ℕ) → slice_get (first ∷ js) n ≡ Some j → j.verdict ≡ verdict.Proved
-    go true is most none zero e = let same : first ≡ j = cc e in subst (λ (k : Judged). k.verdict ≡ verdict.Proved) same (proof-is first.verdict is)
-    go true is most none (suc n) e = all-proved js (omega (arith, none)) n j e
-    go false is most none n e = absurd (omega (arith, most, none))
+all-proved js none n j e =
+    let same = length-filter is_proved js in
+    all-passed js (omega (arith, none, same)) n j e
 
 -- an element stands at each place
 there : (js : List Judged) (n : ℕ) → n < length js → (j : Judged) × (slice_get js n ≡ Some j)
@@ -76,9 +80,12 @@ none-fails program report covers met none n lt =
 
 -- ---- a text
 
+all-or-some : (all : Bool) → (if all then AllProved else SomeUnproved) ≡ AllProved → all ≡ true
+all-or-some true e = refl
+all-or-some false e = absurd (cc e)
+
 zero-of : (n : ℕ) → (if n == 0 then AllProved else SomeUnproved) ≡ AllProved → n ≡ 0
-zero-of zero e = refl
-zero-of (suc n) e = absurd (cc e)
+zero-of n e = eqb-true n 0 (all-or-some (n == 0) e)
 
 sound-text : (all : List ℕ) (program : Program) (reply : Reply) → Accepts all program → IsReplyToText all reply → reply.status ≡ AllProved → NoAssertionFails program
 sound-text all program reply a (inl (long, is)) e = absurd (cc (sym (ap (λ (r : Reply). r.status) is) ∙ e))
@@ -101,9 +108,13 @@ passed-same : (same : Bool) (one other : Reply) → one.status ≢ CheckPassed �
 passed-same true one other ne e = refl
 passed-same false one other ne e = absurd (ne e)
 
+passed-one : (one : Bool) (first other : Reply) → other.status ≢ CheckPassed → Reply.status (if one then first else other) ≡ CheckPassed → first.status ≡ CheckPassed
+passed-one true first other ne e = e
+passed-one false first other ne e = absurd (ne e)
+
 passed-text : (made told : List ℕ) (left : ℕ) → Reply.status (finished_reply made told left) ≡ CheckPassed → made ≡ told
-passed-text made told zero e = (bytes_eq-Decides made told).0 (passed-same (bytes_eq made told) _ _ (λ f. cc f) e)
-passed-text made told (suc left) e = absurd (cc e)
+passed-text made told left e =
+    (bytes_eq-Decides made told).0 (passed-same (bytes_eq made told) _ _ (λ f. cc f) (passed-one (left == 0) (compared_reply made told) _ (λ f. cc f) e))
 
 sound-checked : (file : Certificate) (program : Program) (reply : Reply) → Accepts file.text program → IsReplyToChecked file reply → reply.status ≡ CheckPassed → IsTrueFile file program
 sound-checked file program reply a (inl (Finished report notes left, is, told)) e =
