@@ -211,7 +211,7 @@ module _ (allows : Question → Answer → Type 0) (case : Case) (number : ℕ) 
         good = good;
         grows =
             let tight = (passing (first_question case.rows change last) (answer.No point) good.passes).1 (λ never. never) in
-            grows case.rows change last tight.point asked.asks tight.refutes;
+            grows case.rows change last tight.point asked.asks tight.met;
       };
     }
 

@@ -130,7 +130,7 @@ module _ (count : ℕ) (lines : List (List ℤ)) (s : AreSmallLines count lines)
       with_one p t r e f h = omega (arith, ints, e, f, h)
 
   has_point : (numbers : List ℤ) → length numbers ≡ count → AllByRecursion (IsBelow numbers) lines → HasRationalPoint rows
-  has_point numbers same below = record { point = point_at numbers; refutes = all_true numbers lines s.each same below }
+  has_point numbers same below = record { point = point_at numbers; met = all_true numbers lines s.each same below }
 
   -- ---- what the search finds
 

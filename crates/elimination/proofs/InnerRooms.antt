@@ -22,7 +22,7 @@ use Rattle.farkas_check.proofs.Walks.{IsOrdered, IsOrdered-columns}
 use Rattle.simplex.proofs.Certificates.{sum_below-first}
 use Rattle.farkas_check.specs.Calm.{paired_sum}
 use Rattle.farkas_check.specs.Frames.{line_of, sum_below}
-use Rattle.farkas_check.specs.Rational.{RationalPoint, terms_at, sum_at, IsTrueAt, Refutes}
+use Rattle.farkas_check.specs.Rational.{RationalPoint, terms_at, sum_at, IsTrueAt, Meets}
 use Rattle.farkas_check.specs.Ratios.{whole}
 use Rattle.farkas_check.specs.Sizes.{HasNumbersUpTo}
 use Rattle.farkas_check.proofs.PointValues.{Stands-whole}
@@ -45,13 +45,13 @@ some_terms : (t : List Col × ℤ) (ts : Terms) → t ∷ ts ≡ [] → ⊥
 some_terms t ts e = cc
 
 -- a row of a case with room is open
-open_row : (rows : List Row) (row : Row) → HasSmallRoom rows → IsCanonical row.poly.terms → ((x : RationalPoint) → Refutes x rows → IsTrueAt x row) → is_open row ≡ true
+open_row : (rows : List Row) (row : Row) → HasSmallRoom rows → IsCanonical row.poly.terms → ((x : RationalPoint) → Meets x rows → IsTrueAt x row) → is_open row ≡ true
 open_row rows row room canonical true_at = go row.poly.terms refl
   where
     constant : row.poly.terms ≡ [] → is_within row.kind row.poly.rest ≡ true
     constant e =
         within_back row.kind (whole row.poly.rest) (row.poly.rest *ℤ room.point.point.over) room.point.point.over room.point.point.positive (Stands-whole row.poly.rest room.point.point.over)
-        (subst (IsWithin row.kind) (ap (λ ts. terms_at room.point.point.numerator ts +ℤ row.poly.rest *ℤ room.point.point.over) e ∙ left (row.poly.rest *ℤ room.point.point.over)) (true_at room.point.point room.point.refutes))
+        (subst (IsWithin row.kind) (ap (λ ts. terms_at room.point.point.numerator ts +ℤ row.poly.rest *ℤ room.point.point.over) e ∙ left (row.poly.rest *ℤ room.point.point.over)) (true_at room.point.point room.point.met))
       where
         left : (z : ℤ) → pos 0 +ℤ z ≡ z
         left z = omega (arith, ints)
@@ -86,21 +86,21 @@ not_open rows k e room = false≢true (sym e ∙ all_open rows (each_row (λ row
 -- ---- a point in the midst
 
 -- an open row is not met with equality everywhere
-not_flat : (rows : List Row) (row : Row) → HasSmallRoom rows → IsCanonical row.poly.terms → ((x : RationalPoint) → Refutes x rows → IsTrueAt x row) → is_open row ≡ true → (HasClear rows row → ⊥) → ⊥
+not_flat : (rows : List Row) (row : Row) → HasSmallRoom rows → IsCanonical row.poly.terms → ((x : RationalPoint) → Meets x rows → IsTrueAt x row) → is_open row ≡ true → (HasClear rows row → ⊥) → ⊥
 not_flat rows row room canonical true_at opened never = go row.poly.terms refl opened
   where
     at_most : (kind : Kind) → row.kind ≡ kind → is_at_most kind ≡ true → row.kind ≡ AtMost
     at_most AtMost f e = f
     at_most Equal f e = absurd (false≢true e)
 
-    level : row.kind ≡ AtMost → (x : RationalPoint) → Refutes x rows → sum_at x row.poly ≡ pos 0
-    level f x h = decide (sum_at x row.poly) (subst (λ kind. IsWithin kind (sum_at x row.poly)) f (true_at x h)) (λ below. never (record { kind = inr f; point = x; refutes = h; clear = inr below }))
+    level : row.kind ≡ AtMost → (x : RationalPoint) → Meets x rows → sum_at x row.poly ≡ pos 0
+    level f x h = decide (sum_at x row.poly) (subst (λ kind. IsWithin kind (sum_at x row.poly)) f (true_at x h)) (λ below. never (record { kind = inr f; point = x; met = h; clear = inr below }))
       where
         decide : (z : ℤ) → z ≤ℤ pos 0 → (z <ℤ pos 0 → ⊥) → z ≡ pos 0
         decide z h k = by_lt_z z (pos 0) (λ l. absurd (k l)) (λ l. omega (arith, ints, h, l))
 
     go : (ts : Terms) → row.poly.terms ≡ ts → is_open_with ts row.kind row.poly.rest ≡ true → ⊥
-    go [] e o = never (record { kind = inl e; point = room.point.point; refutes = room.point.refutes; clear = inl e })
+    go [] e o = never (record { kind = inl e; point = room.point.point; met = room.point.met; clear = inl e })
     go (t ∷ ts) e o = some_terms t ts (sym e ∙ room.free row.poly canonical (level (at_most row.kind refl o)))
 
 together : (rows own : List Row) → AllByRecursion (λ row. (HasClear rows row → ⊥) → ⊥) own → (AllByRecursion (HasClear rows) own → ⊥) → ⊥
@@ -334,9 +334,9 @@ roomy cs rows inner i row ordered k among deep = ⊎_elim (λ constant. without 
 
 pub room_of : (cs : List (List Col)) (rows : List Row) (inner : Inner) → IsSmallCase 4 rows [] → HasColumns cs rows → AreCanonical rows → IsInner cs rows inner → HasSmallRoom rows
 room_of cs rows inner s h k i = record {
-  point = record { point = inner_at cs rows inner i; refutes = refutes };
-  free = free_rows rows canonical (recursion_from_All (λ (r : Row). HasNumbersUpTo 4 r.poly) rows s.small) (record { point = inner_at cs rows inner i; refutes = refutes })
-      (each_row (HasClear rows) rows (λ l row here. let r = at l row here in record { kind = r.kind; point = inner_at cs rows inner i; refutes = refutes; clear = r.clear }));
+  point = record { point = inner_at cs rows inner i; met = point_met };
+  free = free_rows rows canonical (recursion_from_All (λ (r : Row). HasNumbersUpTo 4 r.poly) rows s.small) (record { point = inner_at cs rows inner i; met = point_met })
+      (each_row (HasClear rows) rows (λ l row here. let r = at l row here in record { kind = r.kind; point = inner_at cs rows inner i; met = point_met; clear = r.clear }));
 }
   where
     canonical : AllByRecursion (λ (r : Row). IsCanonical r.poly.terms) rows
@@ -345,8 +345,8 @@ room_of cs rows inner s h k i = record {
     at : (l : ℕ) (row : Row) → slice_get rows l ≡ Some row → IsRoomy (inner_at cs rows inner i) row
     at l row here = roomy cs rows inner i row h.ordered (all_at (λ (r : Row). IsCanonical r.poly.terms) rows l row canonical here) (all_at (λ (r : Row). AreAmong (keys_of r.poly.terms) cs) rows l row h.among here) (all_at (IsDeepIn cs inner) rows l row i.deep here)
 
-    refutes : Refutes (inner_at cs rows inner i) rows
-    refutes = each_row (IsTrueAt (inner_at cs rows inner i)) rows (λ l row here. (at l row here).true_there)
+    point_met : Meets (inner_at cs rows inner i) rows
+    point_met = each_row (IsTrueAt (inner_at cs rows inner i)) rows (λ l row here. (at l row here).true_there)
 
 -- ---- the answer
 

@@ -16,7 +16,7 @@ use Rattle.linear_terms.specs.Mono.{mono_cmp}
 use Rattle.linear_terms.specs.Polynomial.{Terms, Polynomial, IsCanonical, coefficient_in}
 use Rattle.linear_terms.specs.Row.{IsWithin}
 use Rattle.linear_terms.proofs.Canonical.{Before, first_before, IsCanonical-tail}
-use Rattle.farkas_check.specs.Rational.{RationalPoint, terms_at, sum_at, IsTrueAt, Refutes}
+use Rattle.farkas_check.specs.Rational.{RationalPoint, terms_at, sum_at, IsTrueAt, Meets}
 use Rattle.farkas_check.specs.Sizes.{HasNoEquation, HasRationalPoint, HasNumbersUpTo}
 use Rattle.farkas_check.proofs.Spreads.{same_mono, itself}
 use Rattle.farkas_check.proofs.Walks.{reversed}
@@ -82,9 +82,9 @@ within_between AtMost u v a b h k p q =
     both s t h k = omega (arith, ints, h, k)
 within_between Equal u v a b h k p q = ap (λ z. z *ℤ b +ℤ v *ℤ a) h ∙ ap (λ z. pos 0 *ℤ b +ℤ z *ℤ a) k ∙ rw (zero-*ℤ a, zero-*ℤ b) refl
 
-pub refutes_between : (x y : RationalPoint) (rows : List Row) → Refutes x rows → Refutes y rows → Refutes (between x y) rows
-refutes_between x y [] h k = tt
-refutes_between x y (row ∷ rows) h k = (subst (IsWithin row.kind) (sym (sum_between x y row.poly)) (within_between row.kind (sum_at x row.poly) (sum_at y row.poly) x.over y.over h.0 k.0 x.positive y.positive), refutes_between x y rows h.1 k.1)
+pub met_between : (x y : RationalPoint) (rows : List Row) → Meets x rows → Meets y rows → Meets (between x y) rows
+met_between x y [] h k = tt
+met_between x y (row ∷ rows) h k = (subst (IsWithin row.kind) (sym (sum_between x y row.poly)) (within_between row.kind (sum_at x row.poly) (sum_at y row.poly) x.over y.over h.0 k.0 x.positive y.positive), met_between x y rows h.1 k.1)
 
 strict_between : (s t : ℤ) → s <ℤ pos 0 → t ≤ℤ pos 0 → (s +ℤ t) <ℤ pos 0
 strict_between s t h k = omega (arith, ints, h, k)
@@ -93,7 +93,7 @@ strict_between s t h k = omega (arith, ints, h, k)
 
 pub record HasMidst (rows some : List Row) : Type 0 where
   pub point : RationalPoint
-  pub refutes : Refutes point rows
+  pub met : Meets point rows
   pub clear : AllByRecursion (IsClear point) some
 
 at_most_of : (row : Row) (x : RationalPoint) → (row.poly.terms ≡ []) ⊎ (row.kind ≡ AtMost) → IsTrueAt x row → (row.poly.terms ≡ []) ⊎ (sum_at x row.poly ≤ℤ pos 0)
@@ -113,18 +113,18 @@ clear_right x y row kind h c =
     turned s t = omega (arith, ints)
 
 -- rows of which each is clear at some point are clear together at one
-midst_of : (rows some : List Row) → AllByRecursion (HasClear rows) some → ((x : RationalPoint) → Refutes x rows → Refutes x some) → HasRationalPoint rows → HasMidst rows some
-midst_of rows [] h sub p = record { point = p.point; refutes = p.refutes; clear = tt }
+midst_of : (rows some : List Row) → AllByRecursion (HasClear rows) some → ((x : RationalPoint) → Meets x rows → Meets x some) → HasRationalPoint rows → HasMidst rows some
+midst_of rows [] h sub p = record { point = p.point; met = p.met; clear = tt }
 midst_of rows (row ∷ some) h sub p = joined (midst_of rows some h.1 (λ y r. (sub y r).1) p)
   where
     joined : HasMidst rows some → HasMidst rows (row ∷ some)
     joined m = record {
       point = between h.0.point m.point;
-      refutes = refutes_between h.0.point m.point rows h.0.refutes m.refutes;
-      clear = (clear_left h.0.point m.point row h.0.kind h.0.clear (sub m.point m.refutes).0, each some h.1 m.clear (sub h.0.point h.0.refutes).1);
+      met = met_between h.0.point m.point rows h.0.met m.met;
+      clear = (clear_left h.0.point m.point row h.0.kind h.0.clear (sub m.point m.met).0, each some h.1 m.clear (sub h.0.point h.0.met).1);
     }
       where
-        each : (some : List Row) → AllByRecursion (HasClear rows) some → AllByRecursion (IsClear m.point) some → Refutes h.0.point some → AllByRecursion (IsClear (between h.0.point m.point)) some
+        each : (some : List Row) → AllByRecursion (HasClear rows) some → AllByRecursion (IsClear m.point) some → Meets h.0.point some → AllByRecursion (IsClear (between h.0.point m.point)) some
         each [] k c r = tt
         each (other ∷ some) k c r = (clear_right h.0.point m.point other k.0.kind r.0 c.0, each some k.1 c.1 r.1)
 
@@ -193,13 +193,13 @@ true_shifted m x row k small kind h clear =
 pub free_rows : (rows : List Row) → AllByRecursion (λ (row : Row). IsCanonical row.poly.terms) rows → AllByRecursion (λ (row : Row). HasNumbersUpTo 4 row.poly) rows → HasRationalPoint rows → AllByRecursion (HasClear rows) rows → HasNoEquation rows
 free_rows rows canonical small some clear p k vanishes = go p.terms refl (midst rows clear some)
   where
-    each : (m : List Col) (x : RationalPoint) (own : List Row) → AllByRecursion (λ (row : Row). IsCanonical row.poly.terms) own → AllByRecursion (λ (row : Row). HasNumbersUpTo 4 row.poly) own → AllByRecursion (HasClear rows) own → Refutes x own → AllByRecursion (IsClear x) own → Refutes (shifted m x) own
+    each : (m : List Col) (x : RationalPoint) (own : List Row) → AllByRecursion (λ (row : Row). IsCanonical row.poly.terms) own → AllByRecursion (λ (row : Row). HasNumbersUpTo 4 row.poly) own → AllByRecursion (HasClear rows) own → Meets x own → AllByRecursion (IsClear x) own → Meets (shifted m x) own
     each m x [] a b c d e = tt
     each m x (row ∷ own) a b c d e = (true_shifted m x row a.0 b.0 c.0.kind d.0 e.0, each m x own a.1 b.1 c.1 d.1 e.1)
 
     go : (ts : Terms) → p.terms ≡ ts → HasMidst rows rows → p.terms ≡ []
     go [] e m = e
-    go (t ∷ ts) e m = absurd (nonzero (subst IsCanonical e k) (zero_number (sum_at m.point p) (coefficient_in p.terms t.0) (vanishes m.point m.refutes) (sym (sum_shifted t.0 m.point p k) ∙ vanishes (shifted t.0 m.point) (each t.0 m.point rows canonical small clear m.refutes m.clear))))
+    go (t ∷ ts) e m = absurd (nonzero (subst IsCanonical e k) (zero_number (sum_at m.point p) (coefficient_in p.terms t.0) (vanishes m.point m.met) (sym (sum_shifted t.0 m.point p k) ∙ vanishes (shifted t.0 m.point) (each t.0 m.point rows canonical small clear m.met m.clear))))
       where
         zero_number : (s c : ℤ) → s ≡ pos 0 → pos 4 *ℤ s +ℤ c ≡ pos 0 → c ≡ pos 0
         zero_number s c h g = omega (arith, ints, h, g)

@@ -86,14 +86,14 @@ goal_rows_narrow goal s =
 
 pub no_has_point : (rows : List Row) (a : Answer) → (IsLimit a → ⊥) → ((IsLimit a → ⊥) → IsTight (Infeasible rows) a) → is_no a ≡ true → HasRationalPoint rows
 no_has_point rows (answer.Yes by) live tight e = absurd (false≢true e)
-no_has_point rows (answer.No numbers) live tight e = let p = tight live in record { point = p.point; refutes = p.refutes }
+no_has_point rows (answer.No numbers) live tight e = let p = tight live in record { point = p.point; met = p.met }
 no_has_point rows (answer.Bound at certs case point) live tight e = absurd (tight live)
 no_has_point rows (answer.Unbounded case point ray) live tight e = absurd (tight live)
 no_has_point rows (answer.Basis relations spots free) live tight e = absurd (tight live)
 no_has_point rows (answer.Limit l) live tight e = absurd (live tt)
 
 pub point_says_no : (rows : List Row) (a : Answer) → (IsLimit a → ⊥) → ((IsLimit a → ⊥) → IsTight (Infeasible rows) a) → HasRationalPoint rows → is_no a ≡ true
-point_says_no rows (answer.Yes by) live tight p = absurd (tight live p.point p.refutes)
+point_says_no rows (answer.Yes by) live tight p = absurd (tight live p.point p.met)
 point_says_no rows (answer.No numbers) live tight p = refl
 point_says_no rows (answer.Bound at certs case point) live tight p = absurd (tight live)
 point_says_no rows (answer.Unbounded case point ray) live tight p = absurd (tight live)

@@ -23,7 +23,7 @@ use Rattle.linear_terms.specs.Polynomial.{Terms, Polynomial, column_of}
 use Rattle.linear_terms.specs.TermError.{cause, wide, plus, times}
 use Rattle.farkas_check.specs.Columns.{columns, monos_of, with_mono, in_print_order}
 use Rattle.farkas_check.specs.Frames.{sum_below}
-use Rattle.farkas_check.specs.Rational.{RationalPoint, terms_at, sum_at, Refutes}
+use Rattle.farkas_check.specs.Rational.{RationalPoint, terms_at, sum_at, Meets}
 use Rattle.farkas_check.specs.Relations.{entry}
 use Rattle.farkas_check.specs.Sizes.{HasNumbersUpTo}
 use Rattle.farkas_check.proofs.Spreads.{is_among, same_mono, itself}
@@ -229,11 +229,11 @@ pub each_from : {A : Type 0} (P : A → Type 0) (xs : List A) (d : A) → ((i : 
 each_from P [] d h = tt
 each_from P (x ∷ xs) d h = (h 0 (omega arith), each_from P xs d (λ i g. h (suc i) (omega (arith, g))))
 
-pub equations_hold : (point : RationalPoint) (lines : List (List ℤ)) → ((i : ℕ) → i < length lines → sum_at point (poly_from 0 (get_or lines i [])) ≡ pos 0) → Refutes point (map equation_of lines)
+pub equations_hold : (point : RationalPoint) (lines : List (List ℤ)) → ((i : ℕ) → i < length lines → sum_at point (poly_from 0 (get_or lines i [])) ≡ pos 0) → Meets point (map equation_of lines)
 equations_hold point [] h = tt
 equations_hold point (line ∷ lines) h = (h 0 (omega arith), equations_hold point lines (λ i g. h (suc i) (omega (arith, g))))
 
-pub equation_holds : (point : RationalPoint) (lines : List (List ℤ)) (i : ℕ) → Refutes point (map equation_of lines) → i < length lines → sum_at point (poly_from 0 (get_or lines i [])) ≡ pos 0
+pub equation_holds : (point : RationalPoint) (lines : List (List ℤ)) (i : ℕ) → Meets point (map equation_of lines) → i < length lines → sum_at point (poly_from 0 (get_or lines i [])) ≡ pos 0
 equation_holds point [] i h g = absurd (omega (arith, g))
 equation_holds point (line ∷ lines) zero h g = h.0
 equation_holds point (line ∷ lines) (suc i) h g = equation_holds point lines i h.1 (omega (arith, g))

@@ -15,7 +15,7 @@ use Rattle.farkas_check.specs.declared.question.Question.TheVariants.{Infeasible
 use Rattle.farkas_check.specs.Calm.{IsLiveAndCalm, choices}
 use Rattle.farkas_check.specs.Columns.{columns}
 use Rattle.farkas_check.specs.Frames.{line_of, frame_of, line_count, IsCalmUpTo}
-use Rattle.farkas_check.specs.Rational.{RationalPoint, sum_at, Refutes}
+use Rattle.farkas_check.specs.Rational.{RationalPoint, sum_at, Meets}
 use Rattle.farkas_check.specs.Sizes.{row_polys, HasRationalPoint, HasNumbersUpTo}
 use Rattle.simplex.proofs.Sums.{sum_below-same}
 use Rattle.elimination.specs.Equations.{poly_from, equation_of, AreRegularLines}
@@ -91,7 +91,7 @@ equations_point lines r = by_solution (r.regular.lines (λ i. neg_ℤ (number_at
     k = length lines
 
     by_solution : HasSolution (length lines) (number_at lines) (λ i. neg_ℤ (number_at lines i (length lines))) → HasRationalPoint (map equation_of lines)
-    by_solution s = record { point = point; refutes = equations_hold point lines zero_at }
+    by_solution s = record { point = point; met = equations_hold point lines zero_at }
       where
         point : RationalPoint
         point = record { numerator = number_of (λ j. s.scale *ℤ s.x j); over = s.scale *ℤ s.scale; positive = square_positive s.scale s.apart }
@@ -116,7 +116,7 @@ equations_point lines r = by_solution (r.regular.lines (λ i. neg_ℤ (number_at
 
 -- ---- what a point is
 
-pub point_null : (lines : List (List ℤ)) (point : RationalPoint) → AllByRecursion (λ (line : List ℤ). length line ≡ length lines + 1) lines → Refutes point (map equation_of lines) → IsNull (length lines) (number_at lines) (numerator_at point (length lines))
+pub point_null : (lines : List (List ℤ)) (point : RationalPoint) → AllByRecursion (λ (line : List ℤ). length line ≡ length lines + 1) lines → Meets point (map equation_of lines) → IsNull (length lines) (number_at lines) (numerator_at point (length lines))
 point_null lines point wide h = record {
   each = λ i g. sym (line_sum point (length lines) (get_or lines i []) (each_at (λ (line : List ℤ). length line ≡ length lines + 1) lines i [] wide g)) ∙ equation_holds point lines i h g;
 }

@@ -65,7 +65,7 @@ solution_read lines point r p = record {
   same = λ j h. ⊎_elim (λ (e : j ≡ length lines). at_end j e) (λ other. before j (let a : length (front ++ whole (pos 1) ∷ []) ≡ length front + 1 = length-append front (whole (pos 1) ∷ []) in let b : length front ≡ length lines = front_length in omega (arith, h, other, a, b))) (cases_eq j (length lines));
   last = last;
   last_too = ap (λ (b : Bool). cond b p.point.over (p.point.numerator (At (length lines) ∷ []))) (eq-eqb (length lines) (length lines) refl);
-  solves = (point_null lines p.point r.wide p.refutes).each;
+  solves = (point_null lines p.point r.wide p.met).each;
 }
   where
     cs : List (List Col)

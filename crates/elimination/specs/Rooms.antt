@@ -2,7 +2,7 @@
 use Rattle.std.specs.Prelude.{◌≡◌, ◌⊎◌, pos, ◌<ℤ◌, List, []}
 use Rattle.linear_terms.specs.declared.row.Kind.TheVariants.{AtMost}
 use Rattle.linear_terms.specs.declared.row.Row.{Row}
-use Rattle.farkas_check.specs.Rational.{RationalPoint, sum_at, Refutes}
+use Rattle.farkas_check.specs.Rational.{RationalPoint, sum_at, Meets}
 use Rattle.farkas_check.specs.Sizes.{HasRationalPoint, HasNoEquation}
 
 -- ---- rows that are met with more than equality
@@ -16,7 +16,7 @@ IsClear x row = (row.poly.terms ≡ []) ⊎ (sum_at x row.poly <ℤ pos 0)
 pub record HasClear (rows : List Row) (row : Row) : Type 0 where
   pub kind : (row.poly.terms ≡ []) ⊎ (row.kind ≡ AtMost)
   pub point : RationalPoint
-  pub refutes : Refutes point rows
+  pub met : Meets point rows
   pub clear : IsClear point row
 
 -- ---- cases

@@ -23,7 +23,7 @@ use Rattle.farkas_check.specs.declared.question.Goal.{Goal}
 use Rattle.farkas_check.specs.declared.question.Question.{Question}
 use Rattle.farkas_check.specs.declared.question.Question.TheVariants.{Infeasible, Sup, Stratum}
 use Rattle.farkas_check.specs.Columns.{columns}
-use Rattle.farkas_check.specs.Meaning.{terms_at, sum_at, Refutes, HasPoint, IsBounded, IsBoundedBelow, IsReached, IsRoundedSup, IsTight, IsLimit, IsAtMost, IsTrueAnswer}
+use Rattle.farkas_check.specs.Meaning.{terms_at, sum_at, Meets, HasPoint, IsBounded, IsBoundedBelow, IsReached, IsRoundedSup, IsTight, IsLimit, IsAtMost, IsTrueAnswer}
 use Rattle.farkas_check.specs.Parts.{and_then}
 use Rattle.farkas_check.specs.Points.{ratio_at, slope_at, ratio_value, meets}
 use Rattle.farkas_check.specs.Ratios.{Fraction, is_at_least}
@@ -35,7 +35,7 @@ use Rattle.farkas_check.proofs.Farkas.{bool_ok, on_parts, ok_true, CanonicalRows
 use Rattle.farkas_check.proofs.Bounds as Goals
 use Rattle.farkas_check.proofs.Bounds.{bounded_below}
 use Rattle.farkas_check.specs.Kept.{IsCanonicalGoal, IsCanonicalQuestion, HasPositive}
-use Rattle.farkas_check.proofs.RationalPoints.{point_of, same_length, listed, refutes, point_at, sum_at-value, refutes_at}
+use Rattle.farkas_check.proofs.RationalPoints.{point_of, same_length, listed, point-meets, point_at, sum_at-value, met_at}
 use Rattle.farkas_check.proofs.PointValues.{Stands, ArePositive, over_of, over_of-positive, numerator_of, Stands-ratio_at, slope_at-stands, ratio_value-stands, meets-each, reached, grows}
 
 -- ---- points
@@ -46,7 +46,7 @@ has_point rows numbers p e =
     (λ f g. record {
       point = point_of (columns rows []) numbers p;
       listed = listed (columns rows []) numbers p (same_length (length numbers) (length (columns rows [])) (ok_true (length numbers == length (columns rows [])) f));
-      refutes = refutes (columns rows []) numbers p rows g;
+      met = point-meets (columns rows []) numbers p rows g;
     })
 
 -- ---- a bound that is reached
@@ -61,10 +61,10 @@ on_case {P} goals case part e k = go (slice_get goals case) refl
         none_passes g = cc
     go (Some goal) f = k goal f (rw f at e)
 
-point_refutes : (goal : Goal) (numbers : List Fraction) (p : ArePositive numbers) → tested_point goal numbers ≡ Ok true → Refutes (point_of (goal_columns goal) numbers p) goal.rows
-point_refutes goal numbers p e =
+goal_met : (goal : Goal) (numbers : List Fraction) (p : ArePositive numbers) → tested_point goal numbers ≡ Ok true → Meets (point_of (goal_columns goal) numbers p) goal.rows
+goal_met goal numbers p e =
     on_parts (Ok (length numbers == length (goal_columns goal))) (meets (ratio_value (ratio_at (goal_columns goal) numbers)) goal.rows) e
-    (λ f g. refutes (goal_columns goal) numbers p goal.rows g)
+    (λ f g. point-meets (goal_columns goal) numbers p goal.rows g)
 
 point_reaches : (at : ℤ) (goal : Goal) (numbers : List Fraction) (p : ArePositive numbers) → (ratio_value (ratio_at (goal_columns goal) numbers) goal.objective >>= λ v. is_at_least v at) ≡ Ok true → (at *ℤ over_of numbers) ≤ℤ sum_at (point_of (goal_columns goal) numbers p) goal.objective
 point_reaches at goal numbers p e =
@@ -76,7 +76,7 @@ is_reached : (at : ℤ) (goals : List Goal) (case : ℕ) (numbers : List Fractio
 is_reached at goals case numbers p e =
     on_case goals case (λ goal. tested_reached at goal numbers) e
     (λ goal f g. on_parts (tested_point goal numbers) (ratio_value (ratio_at (goal_columns goal) numbers) goal.objective >>= λ v. is_at_least v at) g
-    (λ h k. record { case = case; goal = goal; is = f; point = point_of (goal_columns goal) numbers p; refutes = point_refutes goal numbers p h; reached = point_reaches at goal numbers p k }))
+    (λ h k. record { case = case; goal = goal; is = f; point = point_of (goal_columns goal) numbers p; met = goal_met goal numbers p h; reached = point_reaches at goal numbers p k }))
 
 rounded_sup : (at : ℤ) (goals : List Goal) (certs : List Cert) (case : ℕ) (numbers : List Fraction) → AllByRecursion Goals.IsCanonicalGoal goals → ArePositive numbers → tested_bound at goals certs case numbers ≡ Ok true → IsRoundedSup at goals
 rounded_sup at goals certs case numbers k p e =
@@ -183,7 +183,7 @@ unbounded goals case numbers ray p q e at =
           goal = goal;
           is = f;
           point = record { numerator = moved x d y k; over = e *ℤ d; positive = positive_product e d (over_of-positive numbers p) (over_of-positive ray q) };
-          refutes = rows_moved x y e d k (weak d (over_of-positive ray q)) (not_negative (at *ℤ (e *ℤ d) -ℤ v *ℤ d)) goal.rows (point_refutes goal numbers p h) each;
+          met = rows_moved x y e d k (weak d (over_of-positive ray q)) (not_negative (at *ℤ (e *ℤ d) -ℤ v *ℤ d)) goal.rows (goal_met goal numbers p h) each;
           reached = subst (λ (z : ℤ). (at *ℤ (e *ℤ d)) ≤ℤ z) (sym (sum-moved x y e d k goal.objective)) (far_enough at v (terms_at y goal.objective.terms) e d grow);
         }
 
@@ -209,7 +209,7 @@ at_most at top bottom p below (goal ∷ goals) b = (λ v h. here v h, at_most at
         clash x f g h = chain ((at +ℤ pos 1) *ℤ bottom) (x *ℤ bottom) (top *ℤ pos 1) top f h g below
 
     here : (v : Valuation) → RowsHold v goal.rows → value_of v goal.objective ≤ℤ at
-    here v h = not_above (value_of v goal.objective) (subst (λ (z : ℤ). (z *ℤ bottom) ≤ℤ (top *ℤ pos 1)) (sum_at-value v goal.objective) (b.0 (point_at v) (refutes_at v goal.rows h)))
+    here v h = not_above (value_of v goal.objective) (subst (λ (z : ℤ). (z *ℤ bottom) ≤ℤ (top *ℤ pos 1)) (sum_at-value v goal.objective) (b.0 (point_at v) (met_at v goal.rows h)))
 
 -- ---- answers
 
@@ -253,7 +253,7 @@ tight (Stratum asked) (answer.Basis relations spots free) k p e h = basis_tight 
 tight (Stratum asked) (answer.Limit limit) k p e h = h tt
 
 pub sound : (question : Question) (answer : Answer) → IsCanonicalQuestion question → HasPositive answer → outcome question answer ≡ Ok true → IsTrueAnswer question answer
-sound (Infeasible rows) (answer.Yes by) k p e = λ at h. no_point rows by (rows_too rows k) e (point_at at) (refutes_at at rows h)
+sound (Infeasible rows) (answer.Yes by) k p e = λ at h. no_point rows by (rows_too rows k) e (point_at at) (met_at at rows h)
 sound (Infeasible rows) (answer.No numbers) k p e = tt
 sound (Infeasible rows) (answer.Bound at certs case point) k p e = tt
 sound (Infeasible rows) (answer.Unbounded case point ray) k p e = tt

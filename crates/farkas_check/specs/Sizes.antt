@@ -12,7 +12,7 @@ use Rattle.farkas_check.specs.declared.question.Question.{Question}
 use Rattle.farkas_check.specs.declared.question.Question.TheVariants.{Infeasible, Sup, Stratum}
 use Rattle.farkas_check.specs.declared.stratum.Change.{Change}
 use Rattle.farkas_check.specs.Columns.{columns}
-use Rattle.farkas_check.specs.Rational.{RationalPoint, sum_at, Refutes}
+use Rattle.farkas_check.specs.Rational.{RationalPoint, sum_at, Meets}
 use Rattle.farkas_check.specs.Relations.{stratum_columns, term_count}
 use Rattle.farkas_check.specs.Tested.{goal_columns}
 
@@ -55,7 +55,7 @@ question_polys (Stratum asked) = change_polys asked.cases asked.lower
 -- some rational point makes each of the rows true
 pub record HasRationalPoint (rows : List Row) : Type 0 where
   pub point : RationalPoint
-  pub refutes : Refutes point rows
+  pub met : Meets point rows
 
 -- some case has no rational point
 pub record HasEmptyCase (cases : List (List Row)) : Type 0 where
@@ -99,7 +99,7 @@ pub record HasNumbersUpTo (most : ℕ) (p : Polynomial) : Type 0 where
 -- no monomial
 abbrev pub HasNoEquation : List Row → Type 0
 HasNoEquation rows = (p : Polynomial) → IsCanonical p.terms
-    → ((point : RationalPoint) → Refutes point rows → sum_at point p ≡ pos 0) → p.terms ≡ []
+    → ((point : RationalPoint) → Meets point rows → sum_at point p ≡ pos 0) → p.terms ≡ []
 
 -- a case whose rows leave room in each direction
 pub record HasRoom (case : Change) : Type 0 where

@@ -32,7 +32,7 @@ use Rattle.farkas_check.specs.Meaning.{IsTrueAnswer}
 use Rattle.farkas_check.specs.Tested.{passes}
 use Rattle.posing.specs.declared.note.Witness.{Witness}
 use Rattle.posing.specs.declared.note.Witness.TheVariants as witness
-use Rattle.posing.specs.Posing.{◌>>=◌, each}
+use Rattle.posing.specs.Posing.{◌>>=◌, each, AlwaysPassing, IsPassing}
 use Rattle.transition_formula.specs.Hiding.{own_auxiliaries}
 use Rattle.transition_formula.specs.Loss.{answered}
 use Rattle.transition_formula.specs.Meaning.{Holds, HoldsAt, HoldsCase, HoldsLeft, HoldsSome, numbers}
@@ -45,11 +45,10 @@ use Rattle.leaf_cases.specs.Guard.{columns_of}
 use Rattle.leaf_cases.proofs.Guards.{columns-read}
 use Rattle.newton_rounds.specs.declared.findings.Findings.{Findings}
 use Rattle.newton_rounds.specs.Candidates.{against, contrary, found_in, found_left, outcome, outcome_by, refuted, with_answer, with_case, with_point}
-use Rattle.newton_rounds.specs.Passing.{AlwaysPassing}
 use Rattle.newton_rounds.specs.Shapes.{IsOverPairs, IsRefutable}
 use Rattle.newton_rounds.proofs.CanonicalOrder.{IsCanonicalCase, IsCanonicalFormula, IsCanonicalRow}
 use Rattle.newton_rounds.proofs.Opposite.{against-solvable, negation-covered}
-use Rattle.newton_rounds.proofs.PassingLaws.{passing-bind, passing-each, passing-weaker}
+use Rattle.posing.proofs.Under.{under-bind, under-each, under-weaker}
 
 -- the numbers of a pair; a row of a candidate has no auxiliaries
 abbrev pub pair_numbers : List ℤ → Valuation
@@ -156,17 +155,17 @@ module _ (from : ℕ) (case : Case) (row : Row) (over : IsOverPairs from case ro
   found_in-tells found left [] same leads = λ clear. unclear found (witness.Point [] []) clear
   found_in-tells found left (r ∷ rows) same leads = asked
     where
-      asked : (a : Answer) → IsTrueAnswer (Infeasible (r ∷ rows)) a → IsTrue (passes (Infeasible (r ∷ rows)) a) → Tells found (with_answer found (r ∷ rows) a)
-      asked (answer.Yes by) is_true passed = λ clear. (clear, case-tells (λ before after k. let there = leads before after k in is_true (numbers before there.0) (subst (RowsHold (numbers before there.0)) same there.1.rows)))
-      asked (answer.No point) is_true passed = λ clear. unclear found (witness.Point (columns (r ∷ rows) []) point) clear
-      asked (answer.Limit limit) is_true passed = λ clear. absurd (none found.limits clear.1)
+      asked : (a : Answer) → IsPassing (Infeasible (r ∷ rows)) a → Tells found (with_answer found (r ∷ rows) a)
+      asked (answer.Yes by) passing = λ clear. (clear, case-tells (λ before after k. let there = leads before after k in passing.is_true (numbers before there.0) (subst (RowsHold (numbers before there.0)) same there.1.rows)))
+      asked (answer.No point) passing = λ clear. unclear found (witness.Point (columns (r ∷ rows) []) point) clear
+      asked (answer.Limit limit) passing = λ clear. absurd (none found.limits clear.1)
         where
           none : (ls : List Limit) → ls ++ limit ∷ [] ≡ [] → ⊥
           none [] e = cc
           none (l ∷ ls) e = cc
-      asked (answer.Bound most certs place point) is_true passed = absurd (cc)
-      asked (answer.Unbounded place point ray) is_true passed = absurd (cc)
-      asked (answer.Basis relations spots free) is_true passed = absurd (cc)
+      asked (answer.Bound most certs place point) passing = absurd (let passed = passing.passes.passed in cc)
+      asked (answer.Unbounded place point ray) passing = absurd (let passed = passing.passes.passed in cc)
+      asked (answer.Basis relations spots free) passing = absurd (let passed = passing.passes.passed in cc)
 
   with_case-tells : IsCanonicalCase case → (found : Findings) → AlwaysPassing (Tells found) (with_case from row found case)
   unfolding with_case
@@ -193,7 +192,7 @@ module _ (f : Transition) (row : Row) (kind : row.kind ≡ AtMost) where
 
   one-more : (all rest : List Case) (case : Case) (found : Findings) → Tells-so-far all (case ∷ rest) found → AlwaysPassing (Tells-so-far all rest) (with_case f.from row found case)
   one-more all rest case found so_far =
-      passing-weaker (λ next. IsFree next → IsFree found × CaseTells f.from case row so_far.ready.0.0 kind) (Tells-so-far all rest) (with_case f.from row found case)
+      under-weaker IsPassing (λ next. IsFree next → IsFree found × CaseTells f.from case row so_far.ready.0.0 kind) (Tells-so-far all rest) (with_case f.from row found case)
       (λ next tells. record {
         ready = so_far.ready.1;
         tells = λ free before after long some. let both = tells free in either before after (both.1 before after long) (so_far.tells both.0 before after long some);
@@ -209,8 +208,8 @@ module _ (f : Transition) (row : Row) (kind : row.kind ≡ AtMost) where
   pub refuted-entails : IsCanonicalFormula f → IsRefutable f row → AlwaysPassing (λ by. by ≡ None → Entails f row) (refuted f row)
   unfolding refuted
   refuted-entails canonical over =
-      passing-bind (Tells-so-far f.cases []) (λ by. by ≡ None → Entails f row) (each (with_case f.from row) record { point = None; limits = [] } f.cases) (λ found. outcome found)
-      (passing-each (Tells-so-far f.cases) (with_case f.from row) record { point = None; limits = [] } f.cases (λ case rest made k. one-more f.cases rest case made k)
+      under-bind IsPassing (Tells-so-far f.cases []) (λ by. by ≡ None → Entails f row) (each (with_case f.from row) record { point = None; limits = [] } f.cases) (λ found. outcome found)
+      (under-each IsPassing (Tells-so-far f.cases) (with_case f.from row) record { point = None; limits = [] } f.cases (λ case rest made k. one-more f.cases rest case made k)
       (record { ready = each-both (λ case. IsOverPairs f.from case row) IsCanonicalCase f.cases (recursion_from_All (λ case. IsOverPairs f.from case row) f.cases over) canonical; tells = λ free before after long some. inr some }))
       (λ found so_far. go found.point found.limits (λ free. so_far.tells free))
     where

@@ -8,7 +8,7 @@ use Rattle.linear_terms.specs.declared.row.Row.{Row}
 use Rattle.linear_terms.specs.declared.row.Case.{Case}
 use Rattle.linear_terms.specs.Row.{RowHolds}
 use Rattle.posing.specs.declared.note.Witness.{Witness}
-use Rattle.posing.specs.Posing.{Done, ◌>>=◌, each, Always}
+use Rattle.posing.specs.Posing.{Done, ◌>>=◌, each, Always, AlwaysPassing, IsPassing}
 use Rattle.polyhedra.specs.Vocabulary.{Vocabulary}
 use Rattle.recurrence.proofs.Starred.{always_every}
 use Rattle.syntax_tree.specs.declared.program.Proc.{Proc}
@@ -25,12 +25,11 @@ use Rattle.checked_tree.proofs.Between.{IsFewCase, few-cases}
 use Rattle.newton_rounds.specs.declared.dropping.Judged.{Judged}
 use Rattle.newton_rounds.specs.Candidates.{dropped_by, dropped_in, kept_row, members_with, refuted, unfolded, unless_refuted, with_judged, with_round}
 use Rattle.newton_rounds.specs.Closure.{pair_ends, placed_from}
-use Rattle.newton_rounds.specs.Passing.{AlwaysPassing}
 use Rattle.newton_rounds.specs.Shapes.{IsOverPairs, IsRefutable}
 use Rattle.newton_rounds.proofs.CanonicalOrder.{IsCanonicalFormula}
 use Rattle.newton_rounds.proofs.CandidateRows.{ArePairRows, IsPairRow}
 use Rattle.newton_rounds.proofs.MemberTables.{IsProcedure}
-use Rattle.newton_rounds.proofs.PassingLaws.{passing-always, passing-bind, passing-each, passing-weaker}
+use Rattle.posing.proofs.Under.{passing-always, under-bind, under-each, under-weaker}
 use Rattle.newton_rounds.proofs.Placed.{exit-few}
 use Rattle.newton_rounds.proofs.Entailed.{Entails, pair_numbers, refuted-entails}
 use Rattle.newton_rounds.proofs.Rounded.{AreOf, kept-over}
@@ -108,15 +107,15 @@ module _ (f : Transition) (columns : ℕ) (canonical : IsCanonicalFormula f) (re
   row-judged : (rows : List Row) (row : Row) (rest : List Row) (made : List Judged) → RowsLeft rows (row ∷ rest) made → AlwaysPassing (RowsLeft rows rest) (with_judged f made row)
   unfolding with_judged
   row-judged rows row rest made k =
-      passing-bind (λ by. by ≡ None → Entails f row) (RowsLeft rows rest) (refuted f row) (λ by. Done (made ++ record { row = row; by = by } ∷ []))
+      under-bind IsPassing (λ by. by ≡ None → Entails f row) (RowsLeft rows rest) (refuted f row) (λ by. Done (made ++ record { row = row; by = by } ∷ []))
       (refuted-entails f row k.0.0.kind canonical (ready row k.0.0))
       (λ by tells. (k.0.1, judged-step (Entails f) rows rest row made (record { row = row; by = by }) k.1 refl tells))
 
   -- the rows of a candidate are judged by the formula
   pub rows-judged : (rows : List Row) → ArePairRows columns rows → AlwaysPassing (AreJudged (Entails f) rows) (each (with_judged f) [] rows)
   rows-judged rows are =
-      passing-weaker (RowsLeft rows []) (AreJudged (Entails f) rows) (each (with_judged f) [] rows) (λ made k. subst (AreJudged (Entails f) rows) (append-nil made) (k.1 [] tt))
-      (passing-each (RowsLeft rows) (with_judged f) [] rows (λ row rest made k. row-judged rows row rest made k) (are, λ js h. h))
+      under-weaker IsPassing (RowsLeft rows []) (AreJudged (Entails f) rows) (each (with_judged f) [] rows) (λ made k. subst (AreJudged (Entails f) rows) (append-nil made) (k.1 [] tt))
+      (under-each IsPassing (RowsLeft rows) (with_judged f) [] rows (λ row rest made k. row-judged rows row rest made k) (are, λ js h. h))
 
 -- ---- the members of a round
 
@@ -172,7 +171,7 @@ module _ (program : Program) (formed : IsWellFormed program) where
         let ends = ends-are program member.0 p formed member.1 in
         let few = exit-few (pair_ends program p) ends in
         let wide = ends.pair in
-        passing-weaker (AreJudged (Entails f) rows) (AreJudged (IsTrueOf known p) rows) (each (with_judged f) [] rows)
+        under-weaker IsPassing (AreJudged (Entails f) rows) (AreJudged (IsTrueOf known p) rows) (each (with_judged f) [] rows)
         (λ js h. judged-more (Entails f) (IsTrueOf known p) (λ row entails proc is globals args after value r. entails (globals ++ args) (exit_values p after value) ((tells (proc, is)).tells globals args after value r)) rows js h)
         (rows-judged f (columns_of_pair p) own.canonical
         (refutable f (columns_of_pair p) (pair_ends program p).ends.entry (pair_ends program p).ends.exit own.between (sym wide) (omega (arith, few))) rows over)
@@ -181,17 +180,17 @@ module _ (program : Program) (formed : IsWellFormed program) where
         → AlwaysPassing (λ next. AllByRecursion IsReady rest × AllSoFar all rest next) (with_round program known made m)
     unfolding with_round
     with_round-judged all m rest made k =
-        passing-bind (λ f. (number : (proc : ℕ) × (slice_get program.procs proc ≡ Some m.0)) → IsUnfolded program number.0 m.0 known number.1 formed are f) (λ next. AllByRecursion IsReady rest × AllSoFar all rest next)
+        under-bind IsPassing (λ f. (number : (proc : ℕ) × (slice_get program.procs proc ≡ Some m.0)) → IsUnfolded program number.0 m.0 known number.1 formed are f) (λ next. AllByRecursion IsReady rest × AllSoFar all rest next)
         (unfolded program known m.0) (λ f. each (with_judged f) [] m.1 >>= λ judged. Done (made ++ judged ∷ []))
         (passing-always _ (unfolded program known m.0) (every-number m.0))
-        (λ f tells. passing-bind (AreJudged (IsTrueOf known m.0) m.1) (λ next. AllByRecursion IsReady rest × AllSoFar all rest next) (each (with_judged f) [] m.1) (λ judged. Done (made ++ judged ∷ []))
+        (λ f tells. under-bind IsPassing (AreJudged (IsTrueOf known m.0) m.1) (λ next. AllByRecursion IsReady rest × AllSoFar all rest next) (each (with_judged f) [] m.1) (λ judged. Done (made ++ judged ∷ []))
         (member-judged m.0 m.1 k.0.0.0 k.0.0.1 f tells)
         (λ judged h. (k.0.1, λ jss more. subst (AreAllJudged all) (sym (append_assoc made (judged ∷ []) jss)) (k.1 (judged ∷ jss) (h, more)))))
 
     pub all-judged : (all : List (Proc × List Row)) → AllByRecursion IsReady all → AlwaysPassing (AreAllJudged all) (each (with_round program known) [] all)
     all-judged all ready =
-        passing-weaker (λ made. AllByRecursion IsReady [] × AllSoFar all [] made) (AreAllJudged all) (each (with_round program known) [] all) (λ made k. subst (AreAllJudged all) (append-nil made) (k.1 [] tt))
-        (passing-each (λ rest made. AllByRecursion IsReady rest × AllSoFar all rest made) (with_round program known) [] all (λ m rest made k. with_round-judged all m rest made k) (ready, λ jss h. h))
+        under-weaker IsPassing (λ made. AllByRecursion IsReady [] × AllSoFar all [] made) (AreAllJudged all) (each (with_round program known) [] all) (λ made k. subst (AreAllJudged all) (append-nil made) (k.1 [] tt))
+        (under-each IsPassing (λ rest made. AllByRecursion IsReady rest × AllSoFar all rest made) (with_round program known) [] all (λ m rest made k. with_round-judged all m rest made k) (ready, λ jss h. h))
 
     -- ---- what a round keeps
 

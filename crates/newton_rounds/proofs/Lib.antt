@@ -38,8 +38,6 @@ pub mod Gathered
 pub mod CanonicalOrder
 pub mod CanonicalStars
 pub mod CanonicalEvaluations
--- ---- what holds under answers that are true and pass
-pub mod PassingLaws
 -- ---- one more unfolding
 pub mod LeafFits
 pub mod Unfolded

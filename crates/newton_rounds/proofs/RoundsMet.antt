@@ -9,7 +9,7 @@ use Rattle.items.proofs.Each.{each-more}
 use Rattle.linear_terms.specs.declared.row.Row.{Row}
 use Rattle.linear_terms.specs.Row.{RowHolds, RowsHold}
 use Rattle.posing.specs.declared.note.Note.{Note}
-use Rattle.posing.specs.Posing.{Done, Noted, each, Always}
+use Rattle.posing.specs.Posing.{Done, Noted, each, Always, AlwaysPassing, IsPassing}
 use Rattle.posing.proofs.Paths.{always_any, always_bind, always_each, always_weaker}
 use Rattle.syntax_tree.specs.declared.program.Proc.{Proc}
 use Rattle.syntax_tree.specs.declared.program.Program.{Program}
@@ -38,13 +38,12 @@ use Rattle.newton_rounds.specs.Closure.{closed_member, closure_of, ends_of_membe
 use Rattle.newton_rounds.specs.Laws.{CallsMember, KnowsOthers}
 use Rattle.newton_rounds.specs.Members.{calls_from, members_of, with_table}
 use Rattle.newton_rounds.specs.Pairs.{PairEnds, Stretch}
-use Rattle.newton_rounds.specs.Passing.{AlwaysPassing}
 use Rattle.newton_rounds.proofs.Called.{AreThere, member-at, members-many}
 use Rattle.newton_rounds.proofs.CandidateFormulas.{candidate-holds, candidate-known, table-at, table-long}
 use Rattle.newton_rounds.proofs.CandidateRows.{ArePairRows, candidate-rows}
 use Rattle.newton_rounds.proofs.JudgedRows.{AreAllJudged, AreCandidates, AreTrueOf, IsTrueOf, all-judged, all-of, all-ready, kept-candidates, kept-true}
 use Rattle.newton_rounds.proofs.MemberTables.{IsKnownAt, each-member, table-either, table-keeps, table-knows}
-use Rattle.newton_rounds.proofs.PassingLaws.{IsRound, passing-always, passing-bind, passing-until}
+use Rattle.posing.proofs.Under.{IsRound, passing-always, under-bind, under-until}
 use Rattle.newton_rounds.proofs.Entailed.{pair_numbers}
 use Rattle.newton_rounds.proofs.Tabled.{AreFor, tabled-known}
 use Rattle.newton_rounds.proofs.ToldCalls.{TellsArcs, TellsCall, returns-told}
@@ -201,7 +200,7 @@ module _ (program : Program) (procs : List ℕ) (known : List (Option Transition
   unfolding round
   round-kept candidates over =
       let fine = with-known candidates over in
-      passing-bind (AreAllJudged program formed (known_with candidates) fine (members_with ps candidates)) (IsRound (AreCandidates program formed ps) AreSettled row_count candidates)
+      under-bind IsPassing (AreAllJudged program formed (known_with candidates) fine (members_with ps candidates)) (IsRound (AreCandidates program formed ps) AreSettled row_count candidates)
       (each (with_round program (known_with candidates)) [] (members_with ps candidates)) (λ judged. Noted (dropped_notes judged) (Done (map (filter_map kept_row) judged, some_note (dropped_notes judged))))
       (all-judged program formed (known_with candidates) fine (members_with ps candidates) (all-ready program formed (known_with candidates) fine ps candidates (each-member program procs there) over))
       (λ judged h. record {
@@ -210,7 +209,7 @@ module _ (program : Program) (procs : List ℕ) (known : List (Option Transition
             let some = noted (dropped_notes judged) e in
             let count = all-counted 0 candidates judged (all-of program formed (known_with candidates) fine ps candidates judged over h) in
             omega (arith, some, count);
-        good = λ e.
+        fine = λ e.
             let all = kept-true program formed (known_with candidates) fine 0 ps candidates judged over h (unnoted (dropped_notes judged) e) in
             subst AreSettled (sym all.0) all.1;
       })
@@ -220,7 +219,7 @@ module _ (program : Program) (procs : List ℕ) (known : List (Option Transition
   unfolding kept_candidates
   candidates-settled candidates over =
       let many = rows-counted candidates in
-      passing-until (AreCandidates program formed ps) AreSettled row_count (round program procs known) (most_rounds candidates) candidates round-kept (omega (arith, many)) over
+      under-until IsPassing (AreCandidates program formed ps) AreSettled row_count (round program procs known) (most_rounds candidates) candidates round-kept (omega (arith, many)) over
 
   -- ---- settled candidates are met
 
@@ -319,11 +318,11 @@ module _ (program : Program) (procs : List ℕ) (known : List (Option Transition
   pub closed_by_rounds-met : AreMet program known → KnowsOthers program procs known → (bases : List Transition) → AlwaysPassing (AreMetMembers program procs) (closed_by_rounds program procs known bases)
   unfolding closed_by_rounds
   closed_by_rounds-met met knows bases =
-      passing-bind (λ t. Unit {0}) (AreMetMembers program procs) (closure_of program procs known bases []) _
+      under-bind IsPassing (λ t. Unit {0}) (AreMetMembers program procs) (closure_of program procs known bases []) _
       (passing-always (λ t. Unit {0}) (closure_of program procs known bases []) (always_any (λ t. Unit {0}) (closure_of program procs known bases []) (λ t. tt))) (λ first any.
-      passing-bind (λ t. length t ≡ length ps) (AreMetMembers program procs) (closure_of program procs known bases first) _
+      under-bind IsPassing (λ t. length t ≡ length ps) (AreMetMembers program procs) (closure_of program procs known bases first) _
       (passing-always (λ t. length t ≡ length ps) (closure_of program procs known bases first) (closure-long program procs known bases first)) (λ second long.
-      passing-bind (AreRowsFor (paired_up (map (pair_ends program) ps) second)) (AreMetMembers program procs) (each with_candidate [] (paired_up (map (pair_ends program) ps) second)) _
+      under-bind IsPassing (AreRowsFor (paired_up (map (pair_ends program) ps) second)) (AreMetMembers program procs) (each with_candidate [] (paired_up (map (pair_ends program) ps) second)) _
       (passing-always (AreRowsFor (paired_up (map (pair_ends program) ps) second)) (each with_candidate [] (paired_up (map (pair_ends program) ps) second)) (rows-for (paired_up (map (pair_ends program) ps) second))) (λ candidates rows.
-      passing-bind (λ kept. AreCandidates program formed ps kept × AreSettled kept) (AreMetMembers program procs) (kept_candidates program procs known candidates) (λ kept. Done (table kept))
+      under-bind IsPassing (λ kept. AreCandidates program formed ps kept × AreSettled kept) (AreMetMembers program procs) (kept_candidates program procs known candidates) (λ kept. Done (table kept))
       (candidates-settled candidates (candidates-for program formed ps second candidates long rows)) (λ kept both. rounds-met met knows kept both.0 both.1))))

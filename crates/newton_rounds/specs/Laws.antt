@@ -9,10 +9,10 @@ use Rattle.transition_formula.specs.Transition.{Transition}
 use Rattle.leaf_cases.specs.Conditions.{AreKnown}
 use Rattle.leaf_cases.specs.Summaries.{AreMet, KnowsCallee}
 use Rattle.proc_summary.specs.Subject.{own_graph}
+use Rattle.posing.specs.Posing.{AlwaysPassing}
 use Rattle.newton_rounds.specs.Claims.{AreMetMembers}
 use Rattle.newton_rounds.specs.Close.{closed_of}
 use Rattle.newton_rounds.specs.Members.{IsLinear}
-use Rattle.newton_rounds.specs.Passing.{AlwaysPassing}
 
 -- a call of one of these
 abbrev pub CallsMember : List ℕ → Statement → Type 0

@@ -11,7 +11,6 @@ pub mod Members
 pub mod Pairs
 pub mod Closure
 -- rows that may hold of all activations, and rounds that drop others
-pub mod Passing
 pub mod Candidates
 -- the summaries, and what they say of executions
 pub mod Close

@@ -9,6 +9,9 @@
 --     under-path          what is left after good answers
 --     under-has           the value of a call that follows the computation
 --     under-result        the same of a call that may fail
+--     passing-always      what holds under all true answers holds as long as they pass
+--     passing-has         the value of a call that follows the computation, as its answers pass
+--     passing-result      the same of a call that may fail
 use Rattle.std.proofs.Common.{◌≡◌, ℕ, zero, suc, ◌<◌, Bool, true, false, List, [], ◌∷◌, Result, Ok, Err, refl, arith}
 use Rattle.std.specs.Prelude.{IfOk, if◌then◌else◌}
 use Rattle.farkas_check.specs.declared.answer.Answer.{Answer}
@@ -19,7 +22,7 @@ use Rattle.posing.specs.declared.error.WorkError.{WorkError}
 use Rattle.posing.specs.declared.log.Log.{Log}
 use Rattle.posing.specs.declared.note.Note.{Note}
 use Rattle.posing.specs.Follows.{Follows, IsGood}
-use Rattle.posing.specs.Posing.{Posing, Done, Noted, Asked, ◌>>=◌, each, down, until, Always, AlwaysUnder, Path, here, noted, asked}
+use Rattle.posing.specs.Posing.{Posing, Done, Noted, Asked, ◌>>=◌, each, down, until, Always, AlwaysUnder, AlwaysPassing, IsPassing, Path, here, noted, asked}
 
 pub under-always : {A : Type 0} (Good : Question → Answer → Type 0) → ((question : Question) (answer : Answer) → Good question answer → IsTrueAnswer question answer)
     → (P : A → Type 0) (p : Posing A) → Always P p → AlwaysUnder Good P p
@@ -94,3 +97,19 @@ pub under-result : {S A : Type 0} {O : Asking S} {old new : S} {before after : L
     → (P : A → Type 0) (r : Result A WorkError) → Follows O old new before after r p → AlwaysUnder Good P p → IfOk r P
 under-result Good good P (Ok value) follows h = under-has Good good P follows h
 under-result Good good P (Err error) follows h = tt
+
+-- ---- answers that pass
+
+pub passing-always : {A : Type 0} (P : A → Type 0) (p : Posing A) → Always P p → AlwaysPassing P p
+passing-always P p h = under-always IsPassing (λ question answer good. good.is_true) P p h
+
+good-passing : {allows : Question → Answer → Type 0} (question : Question) (answer : Answer) → IsGood allows question answer → IsPassing question answer
+good-passing question answer good = record { is_true = good.is_true; passes = good.passes }
+
+pub passing-has : {S A : Type 0} {O : Asking S} {old new : S} {before after : Log} {p : Posing A} {value : A}
+    → (P : A → Type 0) → Follows O old new before after (Ok value) p → AlwaysPassing P p → P value
+passing-has P follows h = under-has IsPassing good-passing P follows h
+
+pub passing-result : {S A : Type 0} {O : Asking S} {old new : S} {before after : Log} {p : Posing A}
+    → (P : A → Type 0) (r : Result A WorkError) → Follows O old new before after r p → AlwaysPassing P p → IfOk r P
+passing-result P r follows h = under-result IsPassing good-passing P r follows h

@@ -3,7 +3,7 @@ use Rattle.std.specs.Prelude.{ℕ, zero, suc, List, [], ◌∷◌, ◌++◌, Boo
 use Rattle.farkas_check.specs.declared.answer.Answer.{Answer}
 use Rattle.farkas_check.specs.declared.question.Question.{Question}
 use Rattle.farkas_check.specs.Meaning.{IsTrueAnswer}
-use Rattle.farkas_check.specs.Tested.{passes}
+use Rattle.farkas_check.specs.Tested.{passes, Passes}
 use Rattle.posing.specs.declared.note.Note.{Note}
 
 -- it ends with a value, or makes notes and goes on, or asks a question and goes on by the answer
@@ -76,6 +76,16 @@ AlwaysUnder Good P (Done value) = P value
 AlwaysUnder Good P (Noted notes next) = AlwaysUnder Good P next
 AlwaysUnder Good P (Asked question next) = (answer : Answer) → Good question answer
     → AlwaysUnder Good P (next answer)
+
+-- an answer that passes the test of its question, and is true. One of another kind than its question
+-- asks for says nothing, but does not pass.
+pub record IsPassing (question : Question) (answer : Answer) : Type 0 where
+  pub is_true : IsTrueAnswer question answer
+  pub passes : Passes question answer
+
+-- its value has a property, as long as the answers pass
+abbrev pub AlwaysPassing : {A : Type 0} → (A → Type 0) → Posing A → Type 0
+AlwaysPassing P p = AlwaysUnder IsPassing P p
 
 -- ---- how far answers lead
 

@@ -88,7 +88,7 @@ no_point_over cs rows p t line ordered canonical among r has = by_sign (int_lt (
 
     with_sign : (sign : ℤ) → pos 0 <ℤ (sign *ℤ numbers_of t line (length cs)) → ((l : ℕ) → l < length t.lines → kind_at (kinds_of (with_goal rows p)) l ≡ AtMost → pos 0 ≤ℤ (sign *ℤ unit l)) → ⊥
     with_sign sign above signs = clash (total (λ (row : Row). sum_at has.point row.poly) rows by) (spread (λ c. total (coefficient_at c) rows by) has.point.numerator cs) (total constant_in rows by *ℤ has.point.over)
-        (total-within has.point rows by has.refutes (all_multipliers rows by not_below))
+        (total-within has.point rows by has.met (all_multipliers rows by not_below))
         (total-at has.point cs rows by ordered (recursion_from_All (λ (row : Row). IsCanonical row.poly.terms) rows canonical) among)
         (spread-zero (λ c. total (coefficient_at c) rows by) has.point.numerator cs (all_columns (λ c. total (coefficient_at c) rows by ≡ pos 0) cs zeros))
         (positive_product (total constant_in rows by) has.point.over constant has.point.positive)

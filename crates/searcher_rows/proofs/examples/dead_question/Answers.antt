@@ -6,5 +6,5 @@ pub returns-clause-point : goal.returns-clause-point
 returns-clause-point c =
     record {
       point = record { numerator = λ m. pos 0; over = pos 1; positive = omega (arith, ints) };
-      refutes = (omega (arith, ints), tt);
+      met = (omega (arith, ints), tt);
     }
