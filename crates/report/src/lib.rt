@@ -1,9 +1,10 @@
 //! What a user reads: the summary of each procedure, the verdict on each assertion with what
-//! refutes it, and the notes of what was left out; and the bytes that tell it. Here stands too what
-//! a report claims, and when its claims are met.
+//! refutes it, and the notes of what was left out; the bounds on a global's change; and the bytes
+//! that tell them. Here stands too what a report claims, and when its claims are met.
 #![tactic(auto)]
 
 mod blocks;
+mod costs;
 mod judged;
 mod names;
 mod notes;
@@ -14,5 +15,6 @@ mod text;
 mod verdict;
 
 pub use blocks::{Judged, ProcBlock, Report};
+pub use costs::print_costs;
 pub use printing::{print, proved, unproved};
 pub use verdict::Verdict;
