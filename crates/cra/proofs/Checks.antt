@@ -18,7 +18,8 @@ use Rattle.summary_cache.specs.Accepted.{IsRefusedBy}
 use Rattle.summary_cache.specs.Stated.{IsAnalysedBy, analysis_of}
 use Rattle.summary_cache.specs.Submitted.{IsUnanswered}
 use Rattle.cra.specs.declared.reply.Reply.{Reply}
-use Rattle.cra.specs.Replies.{IsReplyToShown, failed, finished_reply, refused_reply}
+use Rattle.cra.specs.Check.{IsCheckUnder, failed, finished_reply}
+use Rattle.cra.specs.Within.{refused_reply}
 
 -- how a replay says of itself what it answers
 abbrev pub asking : Asking Replayed
@@ -40,7 +41,7 @@ ends allows rule text answers rest report a =
 module _ (rule : ℕ) (text : List ℕ) (old new : Replayed) (told : List ℕ) (reply : Reply) where
   -- it came to a report
   pub shown-finished : (last : Analysed) (left : ℕ) → IsAnalysedBy Passes rule text last.answers last.report → Some old.left ≡ Some (last.answers ++ new.left)
-      → left ≡ length new.left → reply ≡ finished_reply (text_of last.report) told left → IsReplyToShown rule text old.left told reply
+      → left ≡ length new.left → reply ≡ finished_reply (text_of last.report) told left → IsCheckUnder rule text old.left told reply
   shown-finished last left a taken counted is =
       let all : old.left ≡ last.answers ++ new.left = cc taken in
       inl (
@@ -55,7 +56,7 @@ module _ (rule : ℕ) (text : List ℕ) (old new : Replayed) (told : List ℕ) (
 
   -- it came to a question whose answer is missing or does not pass
   pub shown-stuck : (all left : ℕ) → IsUnanswered asking rule old new text → all ≡ length old.left → left ≡ length new.left
-      → reply ≡ failed (codes "answer ") (all - left + 1) [] → IsReplyToShown rule text old.left told reply
+      → reply ≡ failed (codes "answer ") (all - left + 1) [] → IsCheckUnder rule text old.left told reply
   shown-stuck all left u counted_all counted is =
       let at = u.declined in
       let analysis = analysis_of rule text u.program u.plan in
@@ -75,7 +76,7 @@ module _ (rule : ℕ) (text : List ℕ) (old new : Replayed) (told : List ℕ) (
         is ∙ ap (λ n. failed (codes "answer ") (n - left + 1) []) counted_all ∙ ap (λ n. failed (codes "answer ") (length old.left - n + 1) []) counted,
       )
 
-  pub shown-refused : (refusal : Refusal) → IsRefusedBy text refusal → reply ≡ refused_reply text refusal → IsReplyToShown rule text old.left told reply
+  pub shown-refused : (refusal : Refusal) → IsRefusedBy text refusal → reply ≡ refused_reply text refusal → IsCheckUnder rule text old.left told reply
   shown-refused refusal refused is = inr (refusal, refused, is)
 
 -- what holds of a value wherever something else does

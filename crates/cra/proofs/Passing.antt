@@ -24,11 +24,13 @@ use Rattle.summary_cache.proofs.Complete.{accepted-once, not-refused}
 use Rattle.cra.specs.declared.reply.Reply.{Reply}
 use Rattle.cra.specs.declared.status.Status.{Status}
 use Rattle.cra.specs.declared.status.Status.TheVariants.{Certified, CheckFailed, CheckPassed, TooLong}
-use Rattle.cra.specs.Certified.{IsCertified, file_text}
-use Rattle.cra.specs.Checked.{IsShown, answers_in, answers_of, rule_of}
+use Rattle.cra.specs.Certify.{IsCertified, TellsFile, file_text, output_too_long}
+use Rattle.cra.specs.Check.{IsCheckOf, IsReplyToCheck, IsShown, IsToCheck, IsToCheckCertified, answers_in, answers_of, compared_reply, failed, passed, posed_reply, rule_of}
+use Rattle.cra.specs.Renew.{IsRenewed, IsRenewedBy, IsReplyToRenew, IsToRenew, IsToRenewCertified}
+use Rattle.cra.specs.Replies.{IsReply, IsReplyToRead, IsReplyToWork}
+use Rattle.cra.specs.Within.{OrRefused, OrWrong}
 use Rattle.cra.specs.Input.{IsInput}
 use Rattle.cra.specs.Limits.{most_file}
-use Rattle.cra.specs.Replies.{IsRenewed, IsRenewedBy, IsReply, IsReplyToCertificate, IsReplyToCertify, IsReplyToChecked, IsReplyToFile, IsReplyToOldCertificate, IsReplyToOldFile, IsReplyToRead, IsReplyToWork, IsToCheck, IsToCheckCertified, IsToRenew, IsToRenewCertified, compared_reply, failed, output_too_long, passed, posed_reply}
 use Rattle.cra.proofs.Checks.{ends}
 use Rattle.cra.proofs.Complete.{certified-text, whole-input}
 
@@ -48,24 +50,24 @@ posed-status answers told (Stuck question left) = inr refl
 posed-status answers told (Finished report notes left) =
     left-or-not _ (compared_reply (text_of report) told) _ (compared-or-not (bytes_eq (text_of report) told) _ refl) refl
 
-checked-status : (file : Certificate) (program : Program) (reply : Reply) → Accepts file.text program → IsReplyToChecked file reply → (reply.status ≡ CheckPassed) ⊎ (reply.status ≡ CheckFailed)
+checked-status : (file : Certificate) (program : Program) (reply : Reply) → Accepts file.text program → IsCheckOf file reply → (reply.status ≡ CheckPassed) ⊎ (reply.status ≡ CheckFailed)
 checked-status file program reply a (inl (posed, is, e)) =
     subst (λ (r : Reply). (r.status ≡ CheckPassed) ⊎ (r.status ≡ CheckFailed)) (sym e) (posed-status (answers_of file) file.report posed)
 checked-status file program reply a (inr (refusal, is, e)) = absurd (not-refused file.text program refusal a is)
 
 checked-file : (bytes : List ℕ) (file : Certificate) (program : Program) (reply : Reply) → length bytes ≤ most_file → certificate_of bytes ≡ Ok file → Accepts file.text program
-    → IsReplyToFile bytes reply → (reply.status ≡ CheckPassed) ⊎ (reply.status ≡ CheckFailed)
+    → IsReplyToCheck bytes reply → (reply.status ≡ CheckPassed) ⊎ (reply.status ≡ CheckFailed)
 checked-file bytes file program reply short shaped a (inl (long, is)) = absurd (omega arith)
 checked-file bytes file program reply short shaped a (inr (fits, outcome)) =
-    checked-status file program reply a (subst (λ outcome. IsReplyToCertificate outcome reply) shaped outcome)
+    checked-status file program reply a (subst (λ outcome. OrWrong outcome IsCheckOf reply) shaped outcome)
 
 pub complete-check : (words : List (List ℕ)) (before after : Option (List ℕ)) (reply : Reply) → IsToCheck words before → IsReply words before after reply
     → (reply.status ≡ CheckPassed) ⊎ (reply.status ≡ CheckFailed)
 complete-check words before after reply to answer =
-    let read : IsReplyToRead most_file IsReplyToFile before after reply = subst (λ work. IsReplyToWork work before after reply) to.asked answer in
+    let read : IsReplyToRead most_file IsReplyToCheck before after reply = subst (λ work. IsReplyToWork work before after reply) to.asked answer in
     let f = to.file in
     let all = whole-input most_file f.bytes read.input f.short (subst (λ before. IsInput most_file before read.input) f.whole read.is_input) in
-    checked-file f.bytes f.file f.program reply f.short f.shaped f.accepted (subst (λ input. IsReplyToFile input reply) all read.is_reply)
+    checked-file f.bytes f.file f.program reply f.short f.shaped f.accepted (subst (λ input. IsReplyToCheck input reply) all read.is_reply)
 
 -- ---- a file that is made anew
 
@@ -86,18 +88,18 @@ renewed-by text program checked reply a are (inl (is, certify)) = certified-stat
 renewed-by text program checked reply a are (inr (ne, e)) = inr (inr (ap (λ (r : Reply). r.status) e ∙ failed-alone checked.status are ne))
 
 renewed-file : (bytes : List ℕ) (file : Certificate) (program : Program) (reply : Reply) → length bytes ≤ most_file → certificate_of bytes ≡ Ok file → Accepts file.text program
-    → IsReplyToOldFile bytes reply → IsRenewedStatus reply.status
+    → IsReplyToRenew bytes reply → IsRenewedStatus reply.status
 renewed-file bytes file program reply short shaped a (inl (long, is)) = absurd (omega arith)
 renewed-file bytes file program reply short shaped a (inr (fits, outcome)) =
-    let r : IsRenewed file reply = subst (λ outcome. IsReplyToOldCertificate outcome reply) shaped outcome in
+    let r : IsRenewed file reply = subst (λ outcome. OrWrong outcome IsRenewed reply) shaped outcome in
     renewed-by file.text program r.checked reply a (checked-status file program r.checked a r.is_checked) r.is_renewed
 
 pub complete-renew : (words : List (List ℕ)) (before after : Option (List ℕ)) (reply : Reply) → IsToRenew words before → IsReply words before after reply → IsRenewedStatus reply.status
 complete-renew words before after reply to answer =
-    let read : IsReplyToRead most_file IsReplyToOldFile before after reply = subst (λ work. IsReplyToWork work before after reply) to.asked answer in
+    let read : IsReplyToRead most_file IsReplyToRenew before after reply = subst (λ work. IsReplyToWork work before after reply) to.asked answer in
     let f = to.file in
     let all = whole-input most_file f.bytes read.input f.short (subst (λ before. IsInput most_file before read.input) f.whole read.is_input) in
-    renewed-file f.bytes f.file f.program reply f.short f.shaped f.accepted (subst (λ input. IsReplyToOldFile input reply) all read.is_reply)
+    renewed-file f.bytes f.file f.program reply f.short f.shaped f.accepted (subst (λ input. IsReplyToRenew input reply) all read.is_reply)
 
 -- ---- the output of `certify`
 
@@ -116,7 +118,7 @@ same-report told made e =
     let same = (bytes_eq-Decides made made).1 refl in
     subst (λ told. compared_reply made told ≡ passed) (sym e) (ap (λ same. if same then passed else failed (codes "report differs at byte ") (common_prefix_len nat_eq made made) []) same)
 
-file-passes : (text : List ℕ) (file : Certificate) (reply : Reply) → IsCertified text file → IsReplyToChecked file reply → reply ≡ passed
+file-passes : (text : List ℕ) (file : Certificate) (reply : Reply) → IsCertified text file → IsCheckOf file reply → reply ≡ passed
 file-passes text file reply c (inl (posed, is, e)) =
     let f = c.is_file in
     let answers : answers_of file ≡ c.answers = ap (λ version. answers_in version file.answers file.order) f.version ∙ f.shared.answers_are in
@@ -128,13 +130,13 @@ file-passes text file reply c (inr (refusal, is, e)) =
     absurd (not-refused text c.analysed.program refusal c.analysed.planned.accepted (subst (λ text. IsRefusedBy text refusal) c.is_file.text_is is))
 
 printed-passes : NewlineIsReadOver → (text : List ℕ) (file : Certificate) (reply : Reply) → IsCertified text file → nat_lt (length (file_text file)) most_file ≡ true
-    → IsReplyToFile (file_text file ++ codes "\n") reply → reply ≡ passed
+    → IsReplyToCheck (file_text file ++ codes "\n") reply → reply ≡ passed
 printed-passes over text file reply c fits (inl (long, is)) =
     let below = ltb-true (length (file_text file)) most_file fits in
     let more = length-append (file_text file) (codes "\n") in
     absurd (omega (arith, below, more, long))
 printed-passes over text file reply c fits (inr (within, outcome)) =
-    file-passes text file reply c (subst (λ outcome. IsReplyToCertificate outcome reply) (over (file_text file) file c.back) outcome)
+    file-passes text file reply c (subst (λ outcome. OrWrong outcome IsCheckOf reply) (over (file_text file) file c.back) outcome)
 
 -- the file behind a reply that has the status of one
 told-file : (within : Bool) (file : List ℕ) (printed : Reply) → printed ≡ (if within then record { status = Certified; text = file ++ codes "\n" } else output_too_long) → printed.status ≡ Certified
@@ -142,13 +144,13 @@ told-file : (within : Bool) (file : List ℕ) (printed : Reply) → printed ≡ 
 told-file true file printed e is = (refl, ap (λ (r : Reply). r.text) e)
 told-file false file printed e is = let other = sym is ∙ ap (λ (r : Reply). r.status) e in cc
 
-output-passes : NewlineIsReadOver → (text : List ℕ) (printed reply : Reply) → IsReplyToCertify text printed → printed.status ≡ Certified → IsReplyToFile printed.text reply → reply ≡ passed
+output-passes : NewlineIsReadOver → (text : List ℕ) (printed reply : Reply) → OrRefused text (TellsFile text) printed → printed.status ≡ Certified → IsReplyToCheck printed.text reply → reply ≡ passed
 output-passes over text printed reply (inl (file, c, e)) is answer =
     let told = told-file (nat_lt (length (file_text file)) most_file) (file_text file) printed e is in
-    printed-passes over text file reply c told.0 (subst (λ bytes. IsReplyToFile bytes reply) told.1 answer)
+    printed-passes over text file reply c told.0 (subst (λ bytes. IsReplyToCheck bytes reply) told.1 answer)
 output-passes over text printed reply (inr (refusal, refused, e)) is answer = let other = sym is ∙ ap (λ (r : Reply). r.status) e in cc
 
-output-short : (text : List ℕ) (printed : Reply) → IsReplyToCertify text printed → printed.status ≡ Certified → length printed.text ≤ most_file
+output-short : (text : List ℕ) (printed : Reply) → OrRefused text (TellsFile text) printed → printed.status ≡ Certified → length printed.text ≤ most_file
 output-short text printed (inl (file, c, e)) is =
     let told = told-file (nat_lt (length (file_text file)) most_file) (file_text file) printed e is in
     let below = ltb-true (length (file_text file)) most_file told.0 in
@@ -158,11 +160,11 @@ output-short text printed (inr (refusal, refused, e)) is = let other = sym is �
 
 pub certified-passes : NewlineIsReadOver → (words : List (List ℕ)) (before after : Option (List ℕ)) (reply : Reply) → IsToCheckCertified words before → IsReply words before after reply → reply.status ≡ CheckPassed
 certified-passes over words before after reply to answer =
-    let read : IsReplyToRead most_file IsReplyToFile before after reply = subst (λ work. IsReplyToWork work before after reply) to.asked answer in
+    let read : IsReplyToRead most_file IsReplyToCheck before after reply = subst (λ work. IsReplyToWork work before after reply) to.asked answer in
     let f = to.file in
     let short = output-short f.text f.printed f.is_printed f.certified in
     let all = whole-input most_file f.printed.text read.input short (subst (λ before. IsInput most_file before read.input) f.whole read.is_input) in
-    ap (λ (r : Reply). r.status) (output-passes over f.text f.printed reply f.is_printed f.certified (subst (λ input. IsReplyToFile input reply) all read.is_reply))
+    ap (λ (r : Reply). r.status) (output-passes over f.text f.printed reply f.is_printed f.certified (subst (λ input. IsReplyToCheck input reply) all read.is_reply))
 
 -- ---- the output of `certify` made anew
 
@@ -177,20 +179,20 @@ file-renewed text file reply c renewed = go renewed.is_renewed
     go (inl (is, certify)) = certified-text file.text c.analysed.program reply own certify
     go (inr (ne, e)) = absurd (ne (ap (λ (r : Reply). r.status) (file-passes text file renewed.checked c renewed.is_checked)))
 
-output-renewed : NewlineIsReadOver → (text : List ℕ) (printed reply : Reply) → IsReplyToCertify text printed → printed.status ≡ Certified → length printed.text ≤ most_file → IsReplyToOldFile printed.text reply
+output-renewed : NewlineIsReadOver → (text : List ℕ) (printed reply : Reply) → OrRefused text (TellsFile text) printed → printed.status ≡ Certified → length printed.text ≤ most_file → IsReplyToRenew printed.text reply
     → (reply.status ≡ Certified) ⊎ (reply.status ≡ TooLong)
 output-renewed over text printed reply (inl (file, c, e)) is short (inl (long, told)) = absurd (omega (arith, short, long))
 output-renewed over text printed reply (inl (file, c, e)) is short (inr (within, outcome)) =
     let told = told-file (nat_lt (length (file_text file)) most_file) (file_text file) printed e is in
     let read = ap certificate_of told.1 ∙ over (file_text file) file c.back in
-    file-renewed text file reply c (subst (λ outcome. IsReplyToOldCertificate outcome reply) read outcome)
+    file-renewed text file reply c (subst (λ outcome. OrWrong outcome IsRenewed reply) read outcome)
 output-renewed over text printed reply (inr (refusal, refused, e)) is short answer = let other = sym is ∙ ap (λ (r : Reply). r.status) e in cc
 
 pub certified-renewed : NewlineIsReadOver → (words : List (List ℕ)) (before after : Option (List ℕ)) (reply : Reply) → IsToRenewCertified words before → IsReply words before after reply
     → (reply.status ≡ Certified) ⊎ (reply.status ≡ TooLong)
 certified-renewed over words before after reply to answer =
-    let read : IsReplyToRead most_file IsReplyToOldFile before after reply = subst (λ work. IsReplyToWork work before after reply) to.asked answer in
+    let read : IsReplyToRead most_file IsReplyToRenew before after reply = subst (λ work. IsReplyToWork work before after reply) to.asked answer in
     let f = to.file in
     let short = output-short f.text f.printed f.is_printed f.certified in
     let all = whole-input most_file f.printed.text read.input short (subst (λ before. IsInput most_file before read.input) f.whole read.is_input) in
-    output-renewed over f.text f.printed reply f.is_printed f.certified short (subst (λ input. IsReplyToOldFile input reply) all read.is_reply)
+    output-renewed over f.text f.printed reply f.is_printed f.certified short (subst (λ input. IsReplyToRenew input reply) all read.is_reply)

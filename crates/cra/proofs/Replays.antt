@@ -14,7 +14,7 @@ use Rattle.wire.specs.Files.{if_short, json_of, most_text, shaped, source}
 use Rattle.wire.specs.Inputs.{input, input_of, turns, values}
 use Rattle.wire.specs.Shapes.{Reading, field, member_of, member_path, or_wrong, text, under}
 use Rattle.cra.specs.declared.reply.Reply.{Reply}
-use Rattle.cra.specs.Replies.{IsFollowed, IsReplyToInput, trace_reply}
+use Rattle.cra.specs.Replay.{IsFollowed, IsTraceOf, trace_reply}
 
 lifted-ok : {A E F : Type 0} (as_fault : E → F) (r : Result A E) (x : A) → lifted as_fault r ≡ Ok x → r ≡ Ok x
 lifted-ok as_fault (Ok y) x e = let same : y ≡ x = cc in ap (λ v. Ok v) same
@@ -53,6 +53,6 @@ short_input bytes i e = on_ok (json_of bytes) (λ d. shaped (input d)) i e (λ d
 -- ---- answers
 
 pub trace-answers : {E : Type 0} (result : Result Reply E) (input : Input) (program : Program) (trace : Trace) (text : List ℕ) → text ≡ input.text → IsFollowed input program trace
-    → IfOk result (λ reply. reply ≡ trace_reply text program trace) → IfOk result (IsReplyToInput input)
+    → IfOk result (λ reply. reply ≡ trace_reply text program trace) → IfOk result (IsTraceOf input)
 trace-answers (Ok reply) input program trace text same followed e = inl (program, trace, followed, e ∙ ap (λ text. trace_reply text program trace) same)
 trace-answers (Err error) input program trace text same followed e = e

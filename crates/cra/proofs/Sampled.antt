@@ -11,7 +11,7 @@ use Rattle.finder.specs.Found.{IsFound}
 use Rattle.summary_cache.specs.declared.working.Analysed.{Analysed}
 use Rattle.summary_cache.specs.declared.working.Counts.{Counts}
 use Rattle.summary_cache.specs.Submitted.{IsWorked, Keeps}
-use Rattle.cra.specs.Replies.{IsCounted}
+use Rattle.cra.specs.Sample.{IsCounted}
 
 -- the part for one number more, behind those for the first k
 pub parts-more : (f : ℕ → List ℕ) (k : ℕ) (old before after : List ℕ) → before ≡ old ++ flat_map f (range_with_len 1 k)

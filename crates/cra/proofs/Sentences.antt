@@ -33,10 +33,13 @@ use Rattle.wire.specs.Inputs.{input_of}
 use Rattle.cra.specs.declared.reply.Reply.{Reply}
 use Rattle.cra.specs.declared.status.Status.{Status}
 use Rattle.cra.specs.declared.status.Status.TheVariants.{AllProved, SomeUnproved, NoneFailed, SomeFailed, CheckPassed, CheckFailed}
-use Rattle.cra.specs.Checked.{IsShown, answers_of, rule_of}
+use Rattle.cra.specs.Analyse.{IsReplyToAnalyse, IsToAnalyse}
+use Rattle.cra.specs.Check.{IsCheckOf, IsReplyToCheck, IsShown, IsToCheck, answers_of, compared_reply, finished_reply, posed_reply, rule_of}
+use Rattle.cra.specs.Replay.{IsReplyToReplay, IsToReplay, IsTraceOf}
+use Rattle.cra.specs.Replies.{IsReply, IsReplyToRead, IsReplyToWork}
+use Rattle.cra.specs.Within.{OrWrong}
 use Rattle.cra.specs.Input.{IsInput}
 use Rattle.cra.specs.Limits.{most_file, most_input}
-use Rattle.cra.specs.Replies.{IsReply, IsReplyToCertificate, IsReplyToChecked, IsReplyToFile, IsReplyToInput, IsReplyToOutcome, IsReplyToRead, IsReplyToText, IsReplyToValues, IsReplyToWork, IsToAnalyse, IsToCheck, IsToReplay, compared_reply, finished_reply, posed_reply}
 use Rattle.cra.specs.Sentences.{AnAssertionFails, IsTrueFile, NoAssertionFails}
 use Rattle.cra.proofs.Complete.{whole-input}
 
@@ -87,7 +90,7 @@ all-or-some false e = absurd (cc e)
 zero-of : (n : ℕ) → (if n == 0 then AllProved else SomeUnproved) ≡ AllProved → n ≡ 0
 zero-of n e = eqb-true n 0 (all-or-some (n == 0) e)
 
-sound-text : (all : List ℕ) (program : Program) (reply : Reply) → Accepts all program → IsReplyToText all reply → reply.status ≡ AllProved → NoAssertionFails program
+sound-text : (all : List ℕ) (program : Program) (reply : Reply) → Accepts all program → IsReplyToAnalyse all reply → reply.status ≡ AllProved → NoAssertionFails program
 sound-text all program reply a (inl (long, is)) e = absurd (cc (sym (ap (λ (r : Reply). r.status) is) ∙ e))
 sound-text all program reply a (inr (fits, inl (report, answers, is, told))) e =
     let none = zero-of (length report.judged - proved_count report.judged) (sym (ap (λ (r : Reply). r.status) told) ∙ e) in
@@ -98,9 +101,9 @@ sound-text all program reply a (inr (fits, inr (refusal, is, told))) e = absurd 
 pub sound : (words : List (List ℕ)) (before after : Option (List ℕ)) (reply : Reply) (asked : IsToAnalyse words before) → IsReply words before after reply → reply.status ≡ AllProved
     → NoAssertionFails asked.program
 sound words before after reply a answer e =
-    let read : IsReplyToRead most_bytes IsReplyToText before after reply = subst (λ work. IsReplyToWork work before after reply) a.asked answer in
+    let read : IsReplyToRead most_bytes IsReplyToAnalyse before after reply = subst (λ work. IsReplyToWork work before after reply) a.asked answer in
     let all = whole-input most_bytes a.input read.input a.short (subst (λ before. IsInput most_bytes before read.input) a.whole read.is_input) in
-    sound-text a.input a.program reply a.accepted (subst (λ input. IsReplyToText input reply) all read.is_reply) e
+    sound-text a.input a.program reply a.accepted (subst (λ input. IsReplyToAnalyse input reply) all read.is_reply) e
 
 -- ---- a certificate file
 
@@ -116,7 +119,7 @@ passed-text : (made told : List ℕ) (left : ℕ) → Reply.status (finished_rep
 passed-text made told left e =
     (bytes_eq-Decides made told).0 (passed-same (bytes_eq made told) _ _ (λ f. cc f) (passed-one (left == 0) (compared_reply made told) _ (λ f. cc f) e))
 
-sound-checked : (file : Certificate) (program : Program) (reply : Reply) → Accepts file.text program → IsReplyToChecked file reply → reply.status ≡ CheckPassed → IsTrueFile file program
+sound-checked : (file : Certificate) (program : Program) (reply : Reply) → Accepts file.text program → IsCheckOf file reply → reply.status ≡ CheckPassed → IsTrueFile file program
 sound-checked file program reply a (inl (Finished report notes left, is, told)) e =
     let same : is.program ≡ program = accepted-once file.text is.program program is.is_posed.planned.accepted a in
     let text = passed-text (text_of report) file.report (length left) (sym (ap (λ (r : Reply). r.status) told) ∙ e) in
@@ -129,19 +132,19 @@ sound-checked file program reply a (inl (Finished report notes left, is, told)) 
 sound-checked file program reply a (inl (Stuck question left, is, told)) e = absurd (cc (sym (ap (λ (r : Reply). r.status) told) ∙ e))
 sound-checked file program reply a (inr (refusal, is, told)) e = absurd (cc (sym (ap (λ (r : Reply). r.status) told) ∙ e))
 
-sound-file : (bytes : List ℕ) (file : Certificate) (program : Program) (reply : Reply) → certificate_of bytes ≡ Ok file → Accepts file.text program → IsReplyToFile bytes reply
+sound-file : (bytes : List ℕ) (file : Certificate) (program : Program) (reply : Reply) → certificate_of bytes ≡ Ok file → Accepts file.text program → IsReplyToCheck bytes reply
     → reply.status ≡ CheckPassed → IsTrueFile file program
 sound-file bytes file program reply shaped a (inl (long, is)) e = absurd (cc (sym (ap (λ (r : Reply). r.status) is) ∙ e))
 sound-file bytes file program reply shaped a (inr (fits, outcome)) e =
-    sound-checked file program reply a (subst (λ outcome. IsReplyToCertificate outcome reply) shaped outcome) e
+    sound-checked file program reply a (subst (λ outcome. OrWrong outcome IsCheckOf reply) shaped outcome) e
 
 pub sound-check : (words : List (List ℕ)) (before after : Option (List ℕ)) (reply : Reply) (asked : IsToCheck words before) → IsReply words before after reply → reply.status ≡ CheckPassed
     → IsTrueFile asked.file.file asked.file.program
 sound-check words before after reply to answer e =
-    let read : IsReplyToRead most_file IsReplyToFile before after reply = subst (λ work. IsReplyToWork work before after reply) to.asked answer in
+    let read : IsReplyToRead most_file IsReplyToCheck before after reply = subst (λ work. IsReplyToWork work before after reply) to.asked answer in
     let f = to.file in
     let all = whole-input most_file f.bytes read.input f.short (subst (λ before. IsInput most_file before read.input) f.whole read.is_input) in
-    sound-file f.bytes f.file f.program reply f.shaped f.accepted (subst (λ input. IsReplyToFile input reply) all read.is_reply) e
+    sound-file f.bytes f.file f.program reply f.shaped f.accepted (subst (λ input. IsReplyToCheck input reply) all read.is_reply) e
 
 -- ---- one execution on given values
 
@@ -154,22 +157,22 @@ failed-stop stop.Dry e = absurd (cc e)
 failed-stop (stop.Wide left right op) e = absurd (cc e)
 failed-stop stop.Spent e = absurd (cc e)
 
-failing-text : (input : Input) (program : Program) (reply : Reply) → Accepts input.text program → IsReplyToInput input reply → reply.status ≡ SomeFailed → AnAssertionFails program
+failing-text : (input : Input) (program : Program) (reply : Reply) → Accepts input.text program → IsTraceOf input reply → reply.status ≡ SomeFailed → AnAssertionFails program
 failing-text input program reply a (inl (other, trace, is, told)) e =
     let at = failed-stop trace.stop (sym (ap (λ (r : Reply). r.status) told) ∙ e) in
     let same : other ≡ program = accepted-once input.text other program is.accepted a in
     subst AnAssertionFails same (at.0, is.fails at.0 at.1)
 failing-text input program reply a (inr (refusal, is, told)) e = absurd (cc (sym (ap (λ (r : Reply). r.status) told) ∙ e))
 
-failing-values : (bytes : List ℕ) (input : Input) (program : Program) (reply : Reply) → input_of bytes ≡ Ok input → Accepts input.text program → IsReplyToValues bytes reply
+failing-values : (bytes : List ℕ) (input : Input) (program : Program) (reply : Reply) → input_of bytes ≡ Ok input → Accepts input.text program → IsReplyToReplay bytes reply
     → reply.status ≡ SomeFailed → AnAssertionFails program
 failing-values bytes input program reply shaped a (inl (long, is)) e = absurd (cc (sym (ap (λ (r : Reply). r.status) is) ∙ e))
 failing-values bytes input program reply shaped a (inr (fits, outcome)) e =
-    failing-text input program reply a (subst (λ outcome. IsReplyToOutcome outcome reply) shaped outcome) e
+    failing-text input program reply a (subst (λ outcome. OrWrong outcome IsTraceOf reply) shaped outcome) e
 
 pub failing : (words : List (List ℕ)) (before after : Option (List ℕ)) (reply : Reply) (asked : IsToReplay words before) → IsReply words before after reply → reply.status ≡ SomeFailed
     → AnAssertionFails asked.program
 failing words before after reply a answer e =
-    let read : IsReplyToRead most_input IsReplyToValues before after reply = subst (λ work. IsReplyToWork work before after reply) a.asked answer in
+    let read : IsReplyToRead most_input IsReplyToReplay before after reply = subst (λ work. IsReplyToWork work before after reply) a.asked answer in
     let all = whole-input most_input a.bytes read.input a.short (subst (λ before. IsInput most_input before read.input) a.whole read.is_input) in
-    failing-values a.bytes a.input a.program reply a.shaped a.accepted (subst (λ bytes. IsReplyToValues bytes reply) all read.is_reply) e
+    failing-values a.bytes a.input a.program reply a.shaped a.accepted (subst (λ bytes. IsReplyToReplay bytes reply) all read.is_reply) e

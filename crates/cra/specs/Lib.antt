@@ -6,9 +6,14 @@ pub mod Output
 pub mod Status
 pub mod Refused
 pub mod Stated
-pub mod Certified
-pub mod Checked
-pub mod Sampled
+pub mod Within
+pub mod Told
+pub mod Analyse
+pub mod Certify
+pub mod Check
+pub mod Renew
+pub mod Replay
+pub mod Sample
 pub mod Replies
 pub mod Sentences
 -- ---- words of proofs and of private functions

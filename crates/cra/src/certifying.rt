@@ -1,13 +1,13 @@
 ghost use Rattle.std.specs.Prelude.{◌≡◌, ◌≤◌, length, IfOk, IsUtf8};
 ghost use Rattle.wire.specs.Written.{IsWritable};
 ghost use Rattle.summary_cache.specs.Limits.{most_bytes};
-ghost use Rattle.cra.specs.Certified.{IsFileOf};
-ghost use Rattle.cra.specs.Replies.{IsReplyToCertify, IsReplyToSource, file_reply};
+ghost use Rattle.cra.specs.Certify.{IsFileOf, IsReplyToCertify, TellsFile, file_reply};
+ghost use Rattle.cra.specs.Within.{OrRefused};
 ghost use Rattle.cra.specs.Stated.{IsAnalysed};
 ghost use Rattle.cra.specs.Status.{IsAnswer};
 
 use crate::limits::MOST_FILE;
-use crate::reply::{Reply, line, refused_reply};
+use crate::reply::{Reply, line, refused_reply, too_long};
 use crate::status::Status;
 use crate::submitting::found;
 use crate::text::between;
@@ -72,7 +72,7 @@ fn file_reply(alloc: Global, file: &[u8]) -> Result<Reply, AllocError>
 fn reply_to_analysed(alloc: Global, text: &[u8], last: Analysed) -> Result<Reply, AllocError>
     requires short { length text.now ≤ most_bytes }
     requires analysed { IsAnalysed text.now last.answers last.report }
-    ensures reply { IfOk result (IsReplyToCertify text.now) }
+    ensures reply { IfOk result (OrRefused text.now (TellsFile text.now)) }
     ensures status { IfOk result (λ reply. IsAnswer reply.status) }
 {
     let Analysed { report, answers } = last;
@@ -82,9 +82,9 @@ fn reply_to_analysed(alloc: Global, text: &[u8], last: Analysed) -> Result<Reply
 }
 
 /// The answer to a text.
-pub fn reply_to_short(alloc: Global, text: &[u8]) -> Result<Reply, AllocError>
+pub fn certificate_reply(alloc: Global, text: &[u8]) -> Result<Reply, AllocError>
     requires { length text.now ≤ most_bytes }
-    ensures reply { IfOk result (IsReplyToCertify text.now) }
+    ensures reply { IfOk result (OrRefused text.now (TellsFile text.now)) }
     ensures status { IfOk result (λ reply. IsAnswer reply.status) }
 {
     match found(alloc, text) {
@@ -95,12 +95,12 @@ pub fn reply_to_short(alloc: Global, text: &[u8]) -> Result<Reply, AllocError>
 }
 
 /// The answer to an input of which the certificate file is asked for.
-pub fn reply_to_source(alloc: Global, input: &[u8]) -> Result<Reply, AllocError>
-    ensures reply { IfOk result (IsReplyToSource input.now) }
+pub fn certify_reply(alloc: Global, input: &[u8]) -> Result<Reply, AllocError>
+    ensures reply { IfOk result (IsReplyToCertify input.now) }
     ensures status { IfOk result (λ reply. IsAnswer reply.status) }
 {
     if input.len() > MOST_BYTES {
-        return line(alloc, Status::TooLong, b"input is too long\n");
+        return too_long(alloc);
     }
-    reply_to_short(alloc, input)
+    certificate_reply(alloc, input)
 }

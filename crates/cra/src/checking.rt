@@ -4,13 +4,12 @@ ghost use Rattle.report.specs.Text.{text_of};
 ghost use Rattle.wire.specs.Written.{IsOrder, IsWritable};
 ghost use Rattle.summary_cache.specs.Limits.{most_bytes};
 ghost use Rattle.summary_cache.specs.Rules.{IsRule};
-ghost use Rattle.cra.specs.Checked.{answers_in, rule_of};
-ghost use Rattle.cra.specs.Replies.{IsReplyToChecked, IsReplyToFile, IsReplyToShown, compared_reply, failed, finished_reply};
+ghost use Rattle.cra.specs.Check.{IsCheckOf, IsCheckUnder, IsReplyToCheck, answers_in, compared_reply, failed, finished_reply, rule_of};
 ghost use Rattle.cra.specs.Status.{IsAnswer};
 
 use crate::limits::MOST_FILE;
 use crate::replaying::wrong_input;
-use crate::reply::{Reply, line, refused_reply};
+use crate::reply::{Reply, line, refused_reply, too_long};
 use crate::status::Status;
 use crate::submitting::submitted;
 use crate::text::Text;
@@ -119,7 +118,7 @@ fn shown_reply(
 ) -> Result<Reply, AllocError>
     requires short { length text.now ≤ most_bytes }
     requires rule { IsRule rule }
-    ensures reply { IfOk result (IsReplyToShown rule text.now replay.left told.now) }
+    ensures reply { IfOk result (IsCheckUnder rule text.now replay.left told.now) }
     ensures status { IfOk result (λ reply. IsAnswer reply.status) }
 {
     let mut replay = replay;
@@ -158,7 +157,7 @@ fn replay_of(version: Version, answers: Items<Answer>, order: Items<usize>) -> R
 /// The answer to a file.
 pub fn reply_to_checked(alloc: Global, file: Certificate) -> Result<Reply, AllocError>
     requires { IsWritable file }
-    ensures reply { IfOk result (IsReplyToChecked file) }
+    ensures reply { IfOk result (IsCheckOf file) }
     ensures status { IfOk result (λ reply. IsAnswer reply.status) }
 {
     let Certificate {
@@ -180,12 +179,12 @@ pub fn reply_to_checked(alloc: Global, file: Certificate) -> Result<Reply, Alloc
 }
 
 /// The answer to bytes that are to be checked as a certificate file.
-pub fn reply_to_file(alloc: Global, bytes: &[u8]) -> Result<Reply, AllocError>
-    ensures reply { IfOk result (IsReplyToFile bytes.now) }
+pub fn check_reply(alloc: Global, bytes: &[u8]) -> Result<Reply, AllocError>
+    ensures reply { IfOk result (IsReplyToCheck bytes.now) }
     ensures status { IfOk result (λ reply. IsAnswer reply.status) }
 {
     if bytes.len() > MOST_FILE {
-        return line(alloc, Status::TooLong, b"input is too long\n");
+        return too_long(alloc);
     }
     match read_certificate(alloc, bytes) {
         Ok(file) => reply_to_checked(alloc, file),

@@ -1,5 +1,5 @@
 ghost use Rattle.std.specs.Prelude.{◌≡◌, IfOk};
-ghost use Rattle.cra.specs.Replies.{help, version};
+ghost use Rattle.cra.specs.Told.{help_reply, usage_reply, version_reply};
 ghost use Rattle.cra.specs.Status.{IsAnswer};
 
 use crate::reply::{Reply, line};
@@ -23,17 +23,29 @@ usage: cra analyse | certify | check | sample N | renew | replay
 ";
 
 /// The answer to words that ask for help.
-pub fn help(alloc: Global) -> Result<Reply, AllocError>
-    ensures reply { IfOk result (λ reply. reply ≡ help) }
+pub fn help_reply(alloc: Global) -> Result<Reply, AllocError>
+    ensures reply { IfOk result (λ reply. reply ≡ help_reply) }
     ensures status { IfOk result (λ reply. IsAnswer reply.status) }
 {
     line(alloc, Status::Told, HELP)
 }
 
 /// The answer to words that ask for the version.
-pub fn version(alloc: Global) -> Result<Reply, AllocError>
-    ensures reply { IfOk result (λ reply. reply ≡ version) }
+pub fn version_reply(alloc: Global) -> Result<Reply, AllocError>
+    ensures reply { IfOk result (λ reply. reply ≡ version_reply) }
     ensures status { IfOk result (λ reply. IsAnswer reply.status) }
 {
     line(alloc, Status::Told, b"cra 0.1.0\n")
+}
+
+/// The answer to words that ask for nothing.
+pub fn usage_reply(alloc: Global) -> Result<Reply, AllocError>
+    ensures reply { IfOk result (λ reply. reply ≡ usage_reply) }
+    ensures status { IfOk result (λ reply. IsAnswer reply.status) }
+{
+    line(
+        alloc,
+        Status::WrongWords,
+        b"usage: cra analyse | certify | check | sample N | renew | replay\n",
+    )
 }

@@ -9,6 +9,7 @@ use std::io::ErrorKind;
 use std::process::ExitCode;
 use std::{env, io};
 
+mod analysing;
 mod certifying;
 mod checking;
 mod help;

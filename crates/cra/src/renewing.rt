@@ -1,14 +1,14 @@
 ghost use Rattle.std.specs.Prelude.{◌≡◌, ◌≤◌, length, IfOk};
 ghost use Rattle.wire.specs.Written.{IsWritable};
 ghost use Rattle.summary_cache.specs.Limits.{most_bytes};
-ghost use Rattle.cra.specs.Replies.{IsRenewed, IsRenewedBy, IsReplyToOldFile};
+ghost use Rattle.cra.specs.Renew.{IsRenewed, IsRenewedBy, IsReplyToRenew};
 ghost use Rattle.cra.specs.Status.{IsAnswer};
 
-use crate::certifying::reply_to_short;
+use crate::certifying::certificate_reply;
 use crate::checking::reply_to_checked;
 use crate::limits::MOST_FILE;
 use crate::replaying::wrong_input;
-use crate::reply::{Reply, line};
+use crate::reply::{Reply, too_long};
 use crate::status::Status;
 use std::alloc::{AllocError, Global};
 use wire::{Certificate, WireError, read_certificate};
@@ -21,7 +21,7 @@ fn renewed(alloc: Global, text: &[u8], checked: Reply) -> Result<Reply, AllocErr
     ensures status { IfOk result (λ reply. IsAnswer reply.status) }
 {
     match checked.status {
-        Status::CheckPassed => reply_to_short(alloc, text),
+        Status::CheckPassed => certificate_reply(alloc, text),
         _ => Ok(checked),
     }
 }
@@ -38,12 +38,12 @@ fn reply_to_old(alloc: Global, file: Certificate) -> Result<Reply, AllocError>
 }
 
 /// The answer to bytes of which, as a certificate file, one that is made anew is asked for.
-pub fn reply_to_old_file(alloc: Global, bytes: &[u8]) -> Result<Reply, AllocError>
-    ensures reply { IfOk result (IsReplyToOldFile bytes.now) }
+pub fn renew_reply(alloc: Global, bytes: &[u8]) -> Result<Reply, AllocError>
+    ensures reply { IfOk result (IsReplyToRenew bytes.now) }
     ensures status { IfOk result (λ reply. IsAnswer reply.status) }
 {
     if bytes.len() > MOST_FILE {
-        return line(alloc, Status::TooLong, b"input is too long\n");
+        return too_long(alloc);
     }
     match read_certificate(alloc, bytes) {
         Ok(file) => reply_to_old(alloc, file),

@@ -1,11 +1,12 @@
 ghost use Rattle.std.specs.Prelude.{◌≡◌, ◌≤◌, length, IfOk};
 ghost use Rattle.summary_cache.specs.Accepted.{Accepts};
 ghost use Rattle.summary_cache.specs.Limits.{most_bytes};
-ghost use Rattle.cra.specs.Replies.{IsReplyToInput, IsReplyToValues, place_of, status_of, trace_reply, wrong_input, wrong_text};
+ghost use Rattle.cra.specs.Replay.{IsReplyToReplay, IsTraceOf, place_of, status_of, trace_reply};
+ghost use Rattle.cra.specs.Within.{wrong_input, wrong_text};
 ghost use Rattle.cra.specs.Status.{IsAnswer};
 
 use crate::limits::MOST_INPUT;
-use crate::reply::{Reply, line, refused_reply};
+use crate::reply::{Reply, refused_reply, too_long};
 use crate::status::Status;
 use crate::text::between;
 use items::Items;
@@ -93,7 +94,7 @@ fn trace_reply(
 fn reply_to_accepted(alloc: Global, input: &Input, program: &Program) -> Result<Reply, AllocError>
     requires short { length input.now.text ≤ most_bytes }
     requires accepted { Accepts input.now.text program.now }
-    ensures reply { IfOk result (IsReplyToInput input.now) }
+    ensures reply { IfOk result (IsTraceOf input.now) }
     ensures status { IfOk result (λ reply. IsAnswer reply.status) }
 {
     accepted_is_well_formed();
@@ -105,7 +106,7 @@ fn reply_to_accepted(alloc: Global, input: &Input, program: &Program) -> Result<
 /// The answer to an input.
 fn reply_to_input(alloc: Global, input: &Input) -> Result<Reply, AllocError>
     requires { length input.now.text ≤ most_bytes }
-    ensures reply { IfOk result (IsReplyToInput input.now) }
+    ensures reply { IfOk result (IsTraceOf input.now) }
     ensures status { IfOk result (λ reply. IsAnswer reply.status) }
 {
     let text = input.text.as_str().as_bytes();
@@ -118,12 +119,12 @@ fn reply_to_input(alloc: Global, input: &Input) -> Result<Reply, AllocError>
 
 /// The answer to bytes on which an execution is to be followed.
 #[tactic(auto, using(crate::proofs::Replays::short_input))]
-pub fn reply_to_values(alloc: Global, bytes: &[u8]) -> Result<Reply, AllocError>
-    ensures reply { IfOk result (IsReplyToValues bytes.now) }
+pub fn replay_reply(alloc: Global, bytes: &[u8]) -> Result<Reply, AllocError>
+    ensures reply { IfOk result (IsReplyToReplay bytes.now) }
     ensures status { IfOk result (λ reply. IsAnswer reply.status) }
 {
     if bytes.len() > MOST_INPUT {
-        return line(alloc, Status::TooLong, b"input is too long\n");
+        return too_long(alloc);
     }
     match read_replay(alloc, bytes) {
         Ok(input) => reply_to_input(alloc, &input),

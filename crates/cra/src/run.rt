@@ -3,21 +3,27 @@ ghost use Rattle.std.specs.Io.KnownBytes.{append_known};
 ghost use Rattle.whole_numbers.specs.Counters.{Rose};
 ghost use Rattle.cra.specs.Output.{TookPart};
 ghost use Rattle.cra.specs.declared.reply.Reply.{Reply as Answer};
-ghost use Rattle.cra.specs.Replies.{IsReply, IsReplyToWork, IsToAnalyse, IsToCertify, IsToCheck, IsToCheckCertified, IsToRenew, IsToRenewCertified, IsToReplay};
+ghost use Rattle.cra.specs.Analyse.{IsToAnalyse};
+ghost use Rattle.cra.specs.Certify.{IsToCertify};
+ghost use Rattle.cra.specs.Check.{IsToCheck, IsToCheckCertified};
+ghost use Rattle.cra.specs.Renew.{IsToRenew, IsToRenewCertified};
+ghost use Rattle.cra.specs.Replay.{IsToReplay};
+ghost use Rattle.cra.specs.Replies.{IsReply, IsReplyToWork};
 ghost use Rattle.cra.specs.Sentences.{AnAssertionFails, IsTrueFile, NoAssertionFails};
 ghost use Rattle.cra.specs.Status.{IsAnswer};
 ghost use Rattle.cra.specs.Words.{reads_source, work_of};
 
-use crate::certifying::reply_to_source;
-use crate::checking::reply_to_file;
-use crate::help::{help, version};
+use crate::analysing::analyse_reply;
+use crate::certifying::certify_reply;
+use crate::checking::check_reply;
+use crate::help::{help_reply, usage_reply, version_reply};
 use crate::input::{InputError, read_input};
 use crate::limits::{MOST_FILE, MOST_INPUT, PIECE};
 use crate::output::write_all;
-use crate::renewing::reply_to_old_file;
-use crate::replaying::reply_to_values;
-use crate::reply::{Reply, reply_to_text, wrong_words};
-use crate::sampling::reply_to_sample;
+use crate::renewing::renew_reply;
+use crate::replaying::replay_reply;
+use crate::reply::Reply;
+use crate::sampling::sample_reply;
 use crate::status::Status;
 use crate::words::{Work, work_of};
 use cra_io::{Sink, Source};
@@ -39,30 +45,30 @@ fn answer_to<R: Source>(
     ensures counted { result ≢ Err InputError.Failed → R.faults source.new ≡ R.faults source.old }
 {
     match work {
-        None => Ok(wrong_words(alloc)?),
+        None => Ok(usage_reply(alloc)?),
         Some(Work::Analyse) => {
             let input = read_input(alloc, source, MOST_BYTES, PIECE)?;
-            Ok(reply_to_text(alloc, &input)?)
+            Ok(analyse_reply(alloc, &input)?)
         }
         Some(Work::Certify) => {
             let input = read_input(alloc, source, MOST_BYTES, PIECE)?;
-            Ok(reply_to_source(alloc, &input)?)
+            Ok(certify_reply(alloc, &input)?)
         }
         Some(Work::Check) => {
             let input = read_input(alloc, source, MOST_FILE, PIECE)?;
-            Ok(reply_to_file(alloc, &input)?)
+            Ok(check_reply(alloc, &input)?)
         }
-        Some(Work::Sample(count)) => Ok(reply_to_sample(alloc, count)?),
+        Some(Work::Sample(count)) => Ok(sample_reply(alloc, count)?),
         Some(Work::Renew) => {
             let input = read_input(alloc, source, MOST_FILE, PIECE)?;
-            Ok(reply_to_old_file(alloc, &input)?)
+            Ok(renew_reply(alloc, &input)?)
         }
         Some(Work::Replay) => {
             let input = read_input(alloc, source, MOST_INPUT, PIECE)?;
-            Ok(reply_to_values(alloc, &input)?)
+            Ok(replay_reply(alloc, &input)?)
         }
-        Some(Work::Help) => Ok(help(alloc)?),
-        Some(Work::Version) => Ok(version(alloc)?),
+        Some(Work::Help) => Ok(help_reply(alloc)?),
+        Some(Work::Version) => Ok(version_reply(alloc)?),
     }
 }
 

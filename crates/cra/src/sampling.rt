@@ -1,11 +1,11 @@
 ghost use Rattle.std.specs.Prelude.{◌≡◌, ◌≤◌, ◌++◌, decimal, length, IfOk, OnOk};
 ghost use Rattle.std.specs.List.{flat_map, range_with_len};
 ghost use Rattle.summary_cache.specs.Limits.{most_bytes};
-ghost use Rattle.cra.specs.Replies.{IsCountsOf, IsReplyToMade, IsReplyToSample};
-ghost use Rattle.cra.specs.Sampled.{call_text, procedure_text, sample_line, sample_reply, sample_text};
+ghost use Rattle.cra.specs.Sample.{IsCountsOf, IsReplyToSample, TellsCounts, call_text, counts_line, counts_reply, procedure_text, sample_text};
+ghost use Rattle.cra.specs.Within.{OrRefused};
 ghost use Rattle.cra.specs.Status.{IsAnswer};
 
-use crate::reply::{Reply, line, refused_reply};
+use crate::reply::{Reply, refused_reply, too_long};
 use crate::status::Status;
 use crate::text::Text;
 use finder::Finder;
@@ -84,13 +84,13 @@ fn sample_text(alloc: Global, count: u32) -> Result<Vec<u8>, AllocError>
 }
 
 /// The line that tells the counts of a made text.
-fn sample_line(
+fn counts_line(
     alloc: Global,
     count: u32,
     bytes: usize,
     counts: Counts,
 ) -> Result<Vec<u8>, AllocError>
-    ensures { IfOk result (λ line. line.items ≡ sample_line count bytes counts) }
+    ensures { IfOk result (λ line. line.items ≡ counts_line count bytes counts) }
 {
     let mut text = Text {
         bytes: Vec::new(alloc),
@@ -105,16 +105,16 @@ fn sample_line(
 }
 
 /// The answer that tells the counts of a made text.
-fn sample_reply(
+fn counts_reply(
     alloc: Global,
     count: u32,
     bytes: usize,
     counts: Counts,
 ) -> Result<Reply, AllocError>
-    ensures reply { IfOk result (λ reply. reply ≡ sample_reply count bytes counts) }
+    ensures reply { IfOk result (λ reply. reply ≡ counts_reply count bytes counts) }
     ensures status { IfOk result (λ reply. IsAnswer reply.status) }
 {
-    let line = sample_line(alloc, count, bytes, counts)?;
+    let line = counts_line(alloc, count, bytes, counts)?;
     Ok(Reply {
         status: if counts.unproved == 0 {
             Status::AllProved
@@ -143,24 +143,24 @@ fn counts_of(alloc: Global, text: &[u8]) -> Result<Counts, TextError>
 /// The answer to a made text.
 fn reply_to_made(alloc: Global, count: u32, text: &[u8]) -> Result<Reply, AllocError>
     requires { length text.now ≤ most_bytes }
-    ensures reply { IfOk result (IsReplyToMade count text.now) }
+    ensures reply { IfOk result (OrRefused text.now (TellsCounts count text.now)) }
     ensures status { IfOk result (λ reply. IsAnswer reply.status) }
 {
     match counts_of(alloc, text) {
-        Ok(counts) => sample_reply(alloc, count, text.len(), counts),
+        Ok(counts) => counts_reply(alloc, count, text.len(), counts),
         Err(TextError::Refused(refusal)) => refused_reply(alloc, text, refusal),
         Err(TextError::Memory) => Err(AllocError),
     }
 }
 
 /// The answer to a made text of so many procedures.
-pub fn reply_to_sample(alloc: Global, count: u32) -> Result<Reply, AllocError>
+pub fn sample_reply(alloc: Global, count: u32) -> Result<Reply, AllocError>
     ensures reply { IfOk result (IsReplyToSample count) }
     ensures status { IfOk result (λ reply. IsAnswer reply.status) }
 {
     let text = sample_text(alloc, count)?;
     if text.len() > MOST_BYTES {
-        return line(alloc, Status::TooLong, b"input is too long\n");
+        return too_long(alloc);
     }
     reply_to_made(alloc, count, &text)
 }

@@ -2,7 +2,7 @@ use Rattle.std.proofs.Common.{◌≡◌, rules, ◌+◌, ◌-◌, [], codes, sub
 use Rattle.report.specs.Text.{text_of}
 use Rattle.summary_cache.specs.declared.error.SubmitError.TheVariants.{Refused}
 use Rattle.summary_cache.specs.Submitted.{IsCause, IsUnanswered}
-use Rattle.cra.specs.Replies.{IsReplyToShown, failed, finished_reply}
+use Rattle.cra.specs.Check.{IsCheckUnder, failed, finished_reply}
 use Rattle.cra.proofs.Checks.{asking, shown-finished, shown-stuck, where-ok}
 use Rattle.cra.proofs.checking.shown_reply.Goals as goal
 
@@ -14,7 +14,7 @@ returns-in-Ok-clause-reply c =
     let new = c.submitted.new.oracle in
     let last = c.in-Ok.last in
     let left = c.left.result in
-    where-ok c.finished_reply.result (λ reply. reply ≡ finished_reply (text_of last.report) told left) (IsReplyToShown c.args.rule text old.left told)
+    where-ok c.finished_reply.result (λ reply. reply ≡ finished_reply (text_of last.report) told left) (IsCheckUnder c.args.rule text old.left told)
     (λ reply is. shown-finished c.args.rule text old new told reply last left c.in-Ok.ensures.0 c.in-Ok.ensures.1 c.left.ensures is)
     c.finished_reply.ensures.reply
 
@@ -28,6 +28,6 @@ returns-in-Err-Refused-clause-reply c =
     let left = c.left-in-Err-Refused.result in
     let refused : c.in-Err-Refused.field-0 ≡ Refused = search rules in
     let unanswered : IsUnanswered asking c.args.rule old new text = subst (IsCause asking c.args.rule old new text) refused c.in-Err-Refused.ensures in
-    where-ok c.stuck_reply.result (λ reply. reply ≡ failed (codes "answer ") (all - left + 1) []) (IsReplyToShown c.args.rule text old.left told)
+    where-ok c.stuck_reply.result (λ reply. reply ≡ failed (codes "answer ") (all - left + 1) []) (IsCheckUnder c.args.rule text old.left told)
     (λ reply is. shown-stuck c.args.rule text old new told reply all left unanswered c.left-all.ensures c.left-in-Err-Refused.ensures is)
     c.stuck_reply.ensures.reply

@@ -1,5 +1,5 @@
 use Rattle.std.proofs.Common.{◌≡◌, rules, IfOk, List, ℕ, subst}
-use Rattle.cra.specs.Replies.{IsRenewed, IsRenewedBy}
+use Rattle.cra.specs.Renew.{IsRenewed, IsRenewedBy}
 use Rattle.cra.proofs.Checks.{where-ok}
 use Rattle.cra.proofs.renewing.reply_to_old.Goals as goal
 

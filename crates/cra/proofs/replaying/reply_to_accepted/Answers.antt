@@ -1,6 +1,6 @@
 use Rattle.std.proofs.Common.{◌≡◌, rules, subst}
 use Rattle.replay.specs.Chosen.{IsTrace}
-use Rattle.cra.specs.Replies.{IsFollowed}
+use Rattle.cra.specs.Replay.{IsFollowed}
 use Rattle.cra.proofs.Replays.{trace-answers}
 use Rattle.cra.proofs.replaying.reply_to_accepted.Goals as goal
 

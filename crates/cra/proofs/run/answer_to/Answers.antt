@@ -5,69 +5,74 @@ use Rattle.cra.specs.declared.words.Work.TheVariants.{Analyse, Certify, Check, R
 use Rattle.cra.specs.Input.{IsInput}
 use Rattle.summary_cache.specs.Limits.{most_bytes}
 use Rattle.cra.specs.Limits.{most_file, most_input}
-use Rattle.cra.specs.Replies.{IsReplyToFile, IsReplyToOldFile, IsReplyToRead, IsReplyToSource, IsReplyToText, IsReplyToValues, IsReplyToWork}
+use Rattle.cra.specs.Analyse.{IsReplyToAnalyse}
+use Rattle.cra.specs.Certify.{IsReplyToCertify}
+use Rattle.cra.specs.Check.{IsReplyToCheck}
+use Rattle.cra.specs.Renew.{IsReplyToRenew}
+use Rattle.cra.specs.Replay.{IsReplyToReplay}
+use Rattle.cra.specs.Replies.{IsReplyToRead, IsReplyToWork}
 use Rattle.cra.proofs.run.answer_to.Goals as goal
 
 to-read : (limit : ℕ) (Answers : List ℕ → Reply → Type 0) (before after : Option (List ℕ)) (input : List ℕ) (reply : Reply) → IsInput limit before input
     → before ≡ prepend_known input after → Answers input reply → IsReplyToRead limit Answers before after reply
 to-read limit Answers before after input reply is front answer = record { input = input; is_input = is; is_front = front; is_reply = answer }
 
-pub returns-in_ok-reply_to_text-in-Some-Analyse-clause-answer :
-    goal.returns-in_ok-reply_to_text-in-Some-Analyse-clause-answer
-returns-in_ok-reply_to_text-in-Some-Analyse-clause-answer g c =
+pub returns-in_ok-analyse_reply-in-Some-Analyse-clause-answer :
+    goal.returns-in_ok-analyse_reply-in-Some-Analyse-clause-answer
+returns-in_ok-analyse_reply-in-Some-Analyse-clause-answer g c =
     let before = g.R.Source.left c.args.source.now in
     let after = g.R.Source.left c.read_input.new.source in
-    let reply = c.in_ok-reply_to_text-in-Some-Analyse.field-0 in
+    let reply = c.in_ok-analyse_reply-in-Some-Analyse.field-0 in
     let is : IsInput most_bytes before c.deref.result.now = search rules in
     let front : before ≡ prepend_known c.deref.result.now after = search rules in
     let asked : c.in-Some-Analyse.field-0 ≡ Analyse = search rules in
     subst (λ work. IsReplyToWork work before after reply) (sym c.in-Some-Analyse.is) (subst (λ work. IsReplyToWork (Some work) before after reply) (sym asked)
-    (to-read most_bytes IsReplyToText before after c.deref.result.now reply is front c.in_ok-reply_to_text-in-Some-Analyse.ensures.reply))
+    (to-read most_bytes IsReplyToAnalyse before after c.deref.result.now reply is front c.in_ok-analyse_reply-in-Some-Analyse.ensures.reply))
 
-pub returns-in_ok-reply_to_source-in-Some-Certify-clause-answer :
-    goal.returns-in_ok-reply_to_source-in-Some-Certify-clause-answer
-returns-in_ok-reply_to_source-in-Some-Certify-clause-answer g c =
+pub returns-in_ok-certify_reply-in-Some-Certify-clause-answer :
+    goal.returns-in_ok-certify_reply-in-Some-Certify-clause-answer
+returns-in_ok-certify_reply-in-Some-Certify-clause-answer g c =
     let before = g.R.Source.left c.args.source.now in
     let after = g.R.Source.left c.read_input-in-Some-Certify.new.source in
-    let reply = c.in_ok-reply_to_source-in-Some-Certify.field-0 in
+    let reply = c.in_ok-certify_reply-in-Some-Certify.field-0 in
     let is : IsInput most_bytes before c.deref-in-Some-Certify.result.now = search rules in
     let front : before ≡ prepend_known c.deref-in-Some-Certify.result.now after = search rules in
     let asked : c.in-Some-Certify.field-0 ≡ Certify = search rules in
     subst (λ work. IsReplyToWork work before after reply) (sym c.in-Some-Certify.is) (subst (λ work. IsReplyToWork (Some work) before after reply) (sym asked)
-    (to-read most_bytes IsReplyToSource before after c.deref-in-Some-Certify.result.now reply is front c.in_ok-reply_to_source-in-Some-Certify.ensures.reply))
+    (to-read most_bytes IsReplyToCertify before after c.deref-in-Some-Certify.result.now reply is front c.in_ok-certify_reply-in-Some-Certify.ensures.reply))
 
-pub returns-in_ok-reply_to_file-in-Some-Check-clause-answer :
-    goal.returns-in_ok-reply_to_file-in-Some-Check-clause-answer
-returns-in_ok-reply_to_file-in-Some-Check-clause-answer g c =
+pub returns-in_ok-check_reply-in-Some-Check-clause-answer :
+    goal.returns-in_ok-check_reply-in-Some-Check-clause-answer
+returns-in_ok-check_reply-in-Some-Check-clause-answer g c =
     let before = g.R.Source.left c.args.source.now in
     let after = g.R.Source.left c.read_input-in-Some-Check.new.source in
-    let reply = c.in_ok-reply_to_file-in-Some-Check.field-0 in
+    let reply = c.in_ok-check_reply-in-Some-Check.field-0 in
     let is : IsInput most_file before c.deref-in-Some-Check.result.now = search rules in
     let front : before ≡ prepend_known c.deref-in-Some-Check.result.now after = search rules in
     let asked : c.in-Some-Check.field-0 ≡ Check = search rules in
     subst (λ work. IsReplyToWork work before after reply) (sym c.in-Some-Check.is) (subst (λ work. IsReplyToWork (Some work) before after reply) (sym asked)
-    (to-read most_file IsReplyToFile before after c.deref-in-Some-Check.result.now reply is front c.in_ok-reply_to_file-in-Some-Check.ensures.reply))
+    (to-read most_file IsReplyToCheck before after c.deref-in-Some-Check.result.now reply is front c.in_ok-check_reply-in-Some-Check.ensures.reply))
 
-pub returns-in_ok-reply_to_old_file-in-Some-Renew-clause-answer :
-    goal.returns-in_ok-reply_to_old_file-in-Some-Renew-clause-answer
-returns-in_ok-reply_to_old_file-in-Some-Renew-clause-answer g c =
+pub returns-in_ok-renew_reply-in-Some-Renew-clause-answer :
+    goal.returns-in_ok-renew_reply-in-Some-Renew-clause-answer
+returns-in_ok-renew_reply-in-Some-Renew-clause-answer g c =
     let before = g.R.Source.left c.args.source.now in
     let after = g.R.Source.left c.read_input-in-Some-Renew.new.source in
-    let reply = c.in_ok-reply_to_old_file-in-Some-Renew.field-0 in
+    let reply = c.in_ok-renew_reply-in-Some-Renew.field-0 in
     let is : IsInput most_file before c.deref-in-Some-Renew.result.now = search rules in
     let front : before ≡ prepend_known c.deref-in-Some-Renew.result.now after = search rules in
     let asked : c.in-Some-Renew.field-0 ≡ Renew = search rules in
     subst (λ work. IsReplyToWork work before after reply) (sym c.in-Some-Renew.is) (subst (λ work. IsReplyToWork (Some work) before after reply) (sym asked)
-    (to-read most_file IsReplyToOldFile before after c.deref-in-Some-Renew.result.now reply is front c.in_ok-reply_to_old_file-in-Some-Renew.ensures.reply))
+    (to-read most_file IsReplyToRenew before after c.deref-in-Some-Renew.result.now reply is front c.in_ok-renew_reply-in-Some-Renew.ensures.reply))
 
-pub returns-in_ok-reply_to_values-in-Some-Replay-clause-answer :
-    goal.returns-in_ok-reply_to_values-in-Some-Replay-clause-answer
-returns-in_ok-reply_to_values-in-Some-Replay-clause-answer g c =
+pub returns-in_ok-replay_reply-in-Some-Replay-clause-answer :
+    goal.returns-in_ok-replay_reply-in-Some-Replay-clause-answer
+returns-in_ok-replay_reply-in-Some-Replay-clause-answer g c =
     let before = g.R.Source.left c.args.source.now in
     let after = g.R.Source.left c.read_input-in-Some-Replay.new.source in
-    let reply = c.in_ok-reply_to_values-in-Some-Replay.field-0 in
+    let reply = c.in_ok-replay_reply-in-Some-Replay.field-0 in
     let is : IsInput most_input before c.deref-in-Some-Replay.result.now = search rules in
     let front : before ≡ prepend_known c.deref-in-Some-Replay.result.now after = search rules in
     let asked : c.in-Some-Replay.field-0 ≡ Replay = search rules in
     subst (λ work. IsReplyToWork work before after reply) (sym c.in-Some-Replay.is) (subst (λ work. IsReplyToWork (Some work) before after reply) (sym asked)
-    (to-read most_input IsReplyToValues before after c.deref-in-Some-Replay.result.now reply is front c.in_ok-reply_to_values-in-Some-Replay.ensures.reply))
+    (to-read most_input IsReplyToReplay before after c.deref-in-Some-Replay.result.now reply is front c.in_ok-replay_reply-in-Some-Replay.ensures.reply))

@@ -1,4 +1,4 @@
-use Rattle.cra.specs.Sampled.{call_text}
+use Rattle.cra.specs.Sample.{call_text}
 use Rattle.cra.proofs.Sampled.{parts-more}
 use Rattle.cra.proofs.sampling.put_calls.Goals as goal
 

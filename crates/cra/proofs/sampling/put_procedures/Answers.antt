@@ -1,4 +1,4 @@
-use Rattle.cra.specs.Sampled.{procedure_text}
+use Rattle.cra.specs.Sample.{procedure_text}
 use Rattle.cra.proofs.Sampled.{parts-more}
 use Rattle.cra.proofs.sampling.put_procedures.Goals as goal
 

@@ -1,6 +1,6 @@
 use Rattle.std.proofs.Common.{◌≡◌, ◌++◌}
 use Rattle.std.specs.List.{flat_map, range_with_len}
-use Rattle.cra.specs.Sampled.{procedure_text}
+use Rattle.cra.specs.Sample.{procedure_text}
 use Rattle.cra.proofs.sampling.put_procedures.Given as goal
 
 abbrev pub invariant-loop-number : goal.invariant-loop-number
