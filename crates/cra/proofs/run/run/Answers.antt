@@ -1,7 +1,9 @@
-use Rattle.std.proofs.Common.{◌≡◌, ◌⊎◌, inl, inr}
+use Rattle.std.proofs.Common.{◌≡◌, ◌⊎◌, inl, inr, rules}
+use Rattle.std.specs.Io.KnownBytes.{append_known}
 use Rattle.cra.specs.declared.status.Status.{Status}
-use Rattle.cra.specs.declared.status.Status.TheVariants.{AllProved, SomeUnproved, NoneFailed, SomeFailed, Certified, CheckFailed, CheckPassed, TooLong, WantOfMemory}
+use Rattle.cra.specs.declared.status.Status.TheVariants.{AllProved, SomeUnproved, NoneFailed, SomeFailed, Certified, CheckFailed, CheckPassed, CostsTold, NoGlobal, TooLong, WantOfMemory}
 use Rattle.cra.proofs.Complete.{complete, complete-certify, complete-replay}
+use Rattle.cra.proofs.Costs.{complete-cost, sound-cost}
 use Rattle.cra.proofs.Passing.{certified-passes, certified-renewed, complete-check, complete-renew}
 use Rattle.cra.proofs.Sentences.{failing, sound, sound-check}
 use Rattle.cra.proofs.run.run.Goals as goal
@@ -71,3 +73,17 @@ returns-in-Ok-write_all-clause-sound_check g c asked is = sound-check _ _ _ c.in
 
 pub returns-in-Ok-write_all-clause-failing : goal.returns-in-Ok-write_all-clause-failing
 returns-in-Ok-write_all-clause-failing g c asked is = failing _ _ _ c.in-Ok.reply asked c.in-Ok.ensures.answer is
+
+-- what is told of a global's change
+pub returns-in-Ok-write_all-clause-sound_cost : goal.returns-in-Ok-write_all-clause-sound_cost
+returns-in-Ok-write_all-clause-sound_cost g c asked is =
+    let taken : g.W.Sink.taken c.write_all.new.sink ≡ append_known (g.W.Sink.taken c.args.sink.now) c.in-Ok.reply.text = search rules in
+    record { text = c.in-Ok.reply.text; taken = taken; bounds = sound-cost _ _ _ c.in-Ok.reply asked c.in-Ok.ensures.answer is }
+
+or-memory-costed : {P Q : Type 0} (status : Status) → ((status ≡ CostsTold) × P) ⊎ ((status ≡ NoGlobal) × Q) → ((status ≡ CostsTold) × P) ⊎ ((status ≡ NoGlobal) × Q) ⊎ (status ≡ WantOfMemory)
+or-memory-costed status (inl told) = inl told
+or-memory-costed status (inr none) = inr (inl none)
+
+-- a text of which the costs were asked for has them, or has no such global
+pub returns-in-Ok-write_all-clause-complete_cost : goal.returns-in-Ok-write_all-clause-complete_cost
+returns-in-Ok-write_all-clause-complete_cost g c asked source sink = or-memory-costed c.in-Ok.reply.status (complete-cost _ _ _ c.in-Ok.reply asked c.in-Ok.ensures.answer)
