@@ -9,7 +9,7 @@ ghost use Rattle.cra.specs.Check.{IsToCheck, IsToCheckCertified};
 ghost use Rattle.cra.specs.Renew.{IsToRenew, IsToRenewCertified};
 ghost use Rattle.cra.specs.Replay.{IsToReplay};
 ghost use Rattle.cra.specs.Replies.{IsReply, IsReplyToWork};
-ghost use Rattle.cra.specs.Sentences.{AnAssertionFails, IsTrueFile, NoAssertionFails};
+ghost use Rattle.cra.specs.Sentences.{AnAssertionFails, IsTrueFile, NoAssertionFails, TellsTrueText};
 ghost use Rattle.cra.specs.Status.{IsAnswer};
 ghost use Rattle.cra.specs.Words.{reads_source, work_of};
 
@@ -101,7 +101,12 @@ pub fn run<R: Source, W: Sink>(
     // `main` fails an assertion.
     ensures sound { (asked : IsToAnalyse (map string_bytes words.now) (R.left source.old))
         → result ≡ Status.AllProved → NoAssertionFails asked.program }
-    // `CheckPassed` says that all that the file's report claims is true, whoever made the file.
+    // So asked, it writes a report that covers the program, whose claims are met, and whose points
+    // refute the assertions for which they are told.
+    ensures told { (asked : IsToAnalyse (map string_bytes words.now) (R.left source.old))
+        → IsAnswer result
+        → TellsTrueText asked.program (W.taken sink.old) (W.taken sink.new) }
+    // `CheckPassed` says that all that the file's report tells is true, whoever made the file.
     ensures sound_check { (asked : IsToCheck (map string_bytes words.now) (R.left source.old))
         → result ≡ Status.CheckPassed → IsTrueFile asked.file.file asked.file.program }
     // Asked to replay, `SomeFailed` says that an execution from `main` fails an assertion.

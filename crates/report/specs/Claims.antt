@@ -1,11 +1,14 @@
--- What a report claims of a program, and when that is true. It speaks of executions alone. And that
--- a report leaves nothing of its program out.
+-- What a report claims of a program, and when that is true. It speaks of executions alone. That a
+-- report leaves nothing of its program out, and that the points that it tells are what they seem.
 use Rattle.std.specs.Prelude.{◌≡◌, ℕ, ◌+◌, map, Some, slice_get}
 use Rattle.syntax_tree.specs.declared.program.Proc.{Proc}
 use Rattle.syntax_tree.specs.declared.program.Program.{Program}
 use Rattle.execution.specs.Execution.{Fails}
+use Rattle.farkas_check.specs.Meaning.{HasPoint}
+use Rattle.leaf_cases.specs.Conditions.{IsKnown}
 use Rattle.leaf_cases.specs.Summaries.{SummaryIsMet}
-use Rattle.report.specs.declared.verdict.Verdict.TheVariants.{Proved}
+use Rattle.report.specs.declared.verdict.Verdict.{Verdict}
+use Rattle.report.specs.declared.verdict.Verdict.TheVariants.{Proved, Unproved, UnprovedLimit}
 use Rattle.report.specs.declared.blocks.ProcBlock.{ProcBlock}
 use Rattle.report.specs.declared.blocks.Judged.{Judged}
 use Rattle.report.specs.declared.blocks.Report.{Report}
@@ -26,3 +29,17 @@ pub record ReportCovers (program : Program) (report : Report) : Type 0 where
   pub blocks : map (λ (b : ProcBlock). b.name) report.procs
       ≡ map (λ (p : Proc). p.name) program.procs
   pub verdicts : map (λ (j : Judged). j.at) report.judged ≡ program.checks
+  -- each summary goes from the columns at the entry of its procedure to those at its exit
+  pub fit : (proc : ℕ) (p : Proc) (block : ProcBlock) → slice_get program.procs proc ≡ Some p
+      → slice_get report.procs proc ≡ Some block → IsKnown program p block.formula
+
+-- the point makes each row of the case true, with a number for each of their monomials
+abbrev pub IsRefuted : Verdict → Type 0
+IsRefuted Proved = Unit {0}
+IsRefuted (Unproved case point) = HasPoint case.rows point
+IsRefuted (UnprovedLimit case limit) = Unit {0}
+
+-- each assertion that is told as unproved with a point is refuted by it
+abbrev pub PointsRefute : Report → Type 0
+PointsRefute report = (n : ℕ) (judged : Judged) → slice_get report.judged n ≡ Some judged
+    → IsRefuted judged.verdict

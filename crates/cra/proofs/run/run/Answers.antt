@@ -3,7 +3,7 @@ use Rattle.cra.specs.declared.status.Status.{Status}
 use Rattle.cra.specs.declared.status.Status.TheVariants.{AllProved, SomeUnproved, NoneFailed, SomeFailed, Certified, CheckFailed, CheckPassed, TooLong, WantOfMemory}
 use Rattle.cra.proofs.Complete.{complete, complete-certify, complete-replay}
 use Rattle.cra.proofs.Passing.{certified-passes, certified-renewed, complete-check, complete-renew}
-use Rattle.cra.proofs.Sentences.{failing, sound, sound-check}
+use Rattle.cra.proofs.Sentences.{failing, sound, sound-check, true-text}
 use Rattle.cra.proofs.run.run.Goals as goal
 
 or-memory : (status : Status) → (status ≡ AllProved) ⊎ (status ≡ SomeUnproved) → (status ≡ AllProved) ⊎ (status ≡ SomeUnproved) ⊎ (status ≡ WantOfMemory)
@@ -71,3 +71,6 @@ returns-in-Ok-write_all-clause-sound_check g c asked is = sound-check _ _ _ c.in
 
 pub returns-in-Ok-write_all-clause-failing : goal.returns-in-Ok-write_all-clause-failing
 returns-in-Ok-write_all-clause-failing g c asked is = failing _ _ _ c.in-Ok.reply asked c.in-Ok.ensures.answer is
+
+pub returns-in-Ok-write_all-clause-told : goal.returns-in-Ok-write_all-clause-told
+returns-in-Ok-write_all-clause-told g c asked is = (c.in-Ok.reply.text, true-text _ _ _ c.in-Ok.reply asked c.in-Ok.ensures.answer, c.in-Ok-write_all.ensures.all)
