@@ -168,7 +168,7 @@ abbrev pub AreJudged : Program → List Judged → Type 0
 AreJudged program judged = (n : ℕ) (j : Judged) → slice_get judged n ≡ Some j
     → IsJudged program (n + 1) j
 
--- where a point is told, it refutes
+-- where a point is told, it makes the rows of its case true
 abbrev pub AreRefuted : List Judged → Type 0
 AreRefuted judged = (n : ℕ) (j : Judged) → slice_get judged n ≡ Some j → IsRefuted j.verdict
 

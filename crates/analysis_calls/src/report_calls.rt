@@ -1,7 +1,7 @@
 ghost use Rattle.std.specs.Prelude.{◌≡◌, ◌-◌, List, length, IfOk, IsUtf8};
 ghost use Rattle.syntax_tree.specs.WellFormed.{IsWellFormed};
 ghost use Rattle.posing.specs.Follows.{Follows};
-ghost use Rattle.report.specs.Claims.{ClaimsAreMet, PointsRefute, ReportCovers};
+ghost use Rattle.report.specs.Claims.{ClaimsAreMet, PointsMeetRows, ReportCovers};
 ghost use Rattle.report.specs.Text.{proved_count, text_of};
 ghost use Rattle.analysis.specs.declared.planning.Planned.{Planned as PlannedGroup};
 ghost use Rattle.analysis.specs.Analysis.{analysed};
@@ -42,7 +42,7 @@ pub fn analyse<O: Oracle>(
     ensures met { IfOk result (ClaimsAreMet program.now) }
     ensures covers { AreTheirPlaces program.now places.now
         → IfOk result (ReportCovers program.now) }
-    ensures refuted { IfOk result PointsRefute }
+    ensures points { IfOk result PointsMeetRows }
 {
     analysis::analyse(alloc, program, places, oracle, log)
 }

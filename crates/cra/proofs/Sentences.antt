@@ -115,7 +115,7 @@ told-text all program reply short a (inr (fits, inl (report, answers, is, told))
       told = ap (λ (r : Reply). r.text) told;
       covers = subst (λ (p : Program). ReportCovers p report) same is.covers;
       met = subst (λ (p : Program). ClaimsAreMet p report) same is.met;
-      refuted = is.refuted;
+      points = is.points;
     }
 told-text all program reply short a (inr (fits, inr (refusal, is, told))) = absurd (not-refused all program refusal a is)
 
@@ -148,7 +148,7 @@ sound-checked file program reply a (inl (Finished report notes left, is, told)) 
       told = sym text;
       covers = subst (λ (p : Program). ReportCovers p report) same is.met.0;
       met = subst (λ (p : Program). ClaimsAreMet p report) same is.met.1;
-      refuted = is.met.2;
+      points = is.met.2;
     }
 sound-checked file program reply a (inl (Stuck question left, is, told)) e = absurd (cc (sym (ap (λ (r : Reply). r.status) told) ∙ e))
 sound-checked file program reply a (inr (refusal, is, told)) e = absurd (cc (sym (ap (λ (r : Reply). r.status) told) ∙ e))

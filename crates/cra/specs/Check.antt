@@ -7,7 +7,7 @@ use Rattle.syntax_tree.specs.declared.program.Program.{Program}
 use Rattle.posing.specs.Posing.{Posed, Finished, Stuck}
 use Rattle.posing.specs.Replay.{stopped_at}
 use Rattle.report.specs.declared.blocks.Report.{Report}
-use Rattle.report.specs.Claims.{ClaimsAreMet, PointsRefute, ReportCovers}
+use Rattle.report.specs.Claims.{ClaimsAreMet, PointsMeetRows, ReportCovers}
 use Rattle.report.specs.Text.{text_of}
 use Rattle.wire.specs.declared.certificate.Certificate.{Certificate}
 use Rattle.wire.specs.declared.certificate.Version.{Version}
@@ -37,11 +37,11 @@ answers_in Second answers order = map (answer_at answers) order
 abbrev pub answers_of : Certificate → List Answer
 answers_of file = answers_in file.version file.answers file.order
 
--- where the analysis comes to a report, it covers the program, its claims are met, and the points
--- that it tells refute
+-- where the analysis comes to a report, it covers the program, its claims are met, and its points
+-- make rows true
 abbrev pub IsMetBy : Program → Posed Report → Type 0
 IsMetBy program (Finished report notes left) = ReportCovers program report
-    × ClaimsAreMet program report × PointsRefute report
+    × ClaimsAreMet program report × PointsMeetRows report
 IsMetBy program (Stuck question left) = Unit {0}
 
 -- The text is accepted, and the analysis of its program comes to this under listed answers and a

@@ -4,7 +4,7 @@ use Rattle.std.specs.Io.KnownBytes.{append_known}
 use Rattle.execution.specs.Execution.{Fails}
 use Rattle.syntax_tree.specs.declared.program.Program.{Program}
 use Rattle.report.specs.declared.blocks.Report.{Report}
-use Rattle.report.specs.Claims.{ClaimsAreMet, PointsRefute, ReportCovers}
+use Rattle.report.specs.Claims.{ClaimsAreMet, PointsMeetRows, ReportCovers}
 use Rattle.report.specs.Text.{text_of}
 use Rattle.wire.specs.declared.certificate.Certificate.{Certificate}
 
@@ -16,14 +16,14 @@ NoAssertionFails program = (n : ℕ) → n < length program.checks → ¬ Fails 
 abbrev pub AnAssertionFails : Program → Type 0
 AnAssertionFails program = (number : ℕ) × Fails program number
 
--- The text is that of a report that covers the program, whose claims are met, and whose points
--- refute the assertions for which they are told.
+-- The text is that of a report that covers the program, whose claims are met, and each point of
+-- which makes the rows of its case true.
 pub record IsTrueText (program : Program) (text : List ℕ) : Type 0 where
   pub report : Report
   pub told : text ≡ text_of report
   pub covers : ReportCovers program report
   pub met : ClaimsAreMet program report
-  pub refuted : PointsRefute report
+  pub points : PointsMeetRows report
 
 -- the report of a certificate file, whoever made the file, is true of the program of its text
 abbrev pub IsTrueFile : Certificate → Program → Type 0

@@ -101,8 +101,8 @@ pub fn run<R: Source, W: Sink>(
     // `main` fails an assertion.
     ensures sound { (asked : IsToAnalyse (map string_bytes words.now) (R.left source.old))
         → result ≡ Status.AllProved → NoAssertionFails asked.program }
-    // So asked, it writes a report that covers the program, whose claims are met, and whose points
-    // refute the assertions for which they are told.
+    // So asked, it writes a report that covers the program, whose claims are met, and each point of
+    // which makes the rows of its case true.
     ensures told { (asked : IsToAnalyse (map string_bytes words.now) (R.left source.old))
         → IsAnswer result
         → TellsTrueText asked.program (W.taken sink.old) (W.taken sink.new) }

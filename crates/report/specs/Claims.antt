@@ -1,5 +1,6 @@
--- What a report claims of a program, and when that is true. It speaks of executions alone. That a
--- report leaves nothing of its program out, and that the points that it tells are what they seem.
+-- What a report claims of a program, and when that is true. It speaks of executions alone (`Fails`
+-- and `Returns` of `execution`, `specs/Execution`). That a report leaves nothing of its program
+-- out, and that each point that it tells makes the rows of its case true.
 use Rattle.std.specs.Prelude.{◌≡◌, ℕ, ◌+◌, map, Some, slice_get}
 use Rattle.syntax_tree.specs.declared.program.Proc.{Proc}
 use Rattle.syntax_tree.specs.declared.program.Program.{Program}
@@ -13,8 +14,9 @@ use Rattle.report.specs.declared.blocks.ProcBlock.{ProcBlock}
 use Rattle.report.specs.declared.blocks.Judged.{Judged}
 use Rattle.report.specs.declared.blocks.Report.{Report}
 
--- The claims of a report are met: each summary holds of every execution that returns, and no
--- execution from `main` fails an assertion that is proved.
+-- The claims of a report are met: each summary holds of every execution that returns
+-- (`SummaryIsMet` of `leaf_cases`, `specs/Summaries`), and no execution from `main` fails an
+-- assertion that is proved.
 pub record ClaimsAreMet (program : Program) (report : Report) : Type 0 where
   pub summaries : (proc : ℕ) (block : ProcBlock) → slice_get report.procs proc ≡ Some block
       → SummaryIsMet program proc block.formula
@@ -33,13 +35,15 @@ pub record ReportCovers (program : Program) (report : Report) : Type 0 where
   pub fit : (proc : ℕ) (p : Proc) (block : ProcBlock) → slice_get program.procs proc ≡ Some p
       → slice_get report.procs proc ≡ Some block → IsKnown program p block.formula
 
--- the point makes each row of the case true, with a number for each of their monomials
+-- The point makes each row of the case true, with a number for each of their monomials (`HasPoint`
+-- of `farkas_check`, `specs/Meaning`). Which case that is, says `verdict_of` of `context`,
+-- `specs/Verdicts`.
 abbrev pub IsRefuted : Verdict → Type 0
 IsRefuted Proved = Unit {0}
 IsRefuted (Unproved case point) = HasPoint case.rows point
 IsRefuted (UnprovedLimit case limit) = Unit {0}
 
--- each assertion that is told as unproved with a point is refuted by it
-abbrev pub PointsRefute : Report → Type 0
-PointsRefute report = (n : ℕ) (judged : Judged) → slice_get report.judged n ≡ Some judged
+-- where an assertion is told as unproved with a point, the point makes the rows of its case true
+abbrev pub PointsMeetRows : Report → Type 0
+PointsMeetRows report = (n : ℕ) (judged : Judged) → slice_get report.judged n ≡ Some judged
     → IsRefuted judged.verdict

@@ -10,7 +10,7 @@ use Rattle.posing.specs.declared.log.Log.{Log}
 use Rattle.posing.specs.Follows.{Follows, IsGood, Leads, with_all}
 use Rattle.posing.specs.Posing.{Path, Posing, Done, Asked}
 use Rattle.report.specs.declared.blocks.Report.{Report}
-use Rattle.report.specs.Claims.{ClaimsAreMet, PointsRefute, ReportCovers}
+use Rattle.report.specs.Claims.{ClaimsAreMet, PointsMeetRows, ReportCovers}
 use Rattle.analysis.specs.declared.places.TextPlace.{TextPlace}
 use Rattle.analysis.specs.declared.planning.Planned.{Planned}
 use Rattle.analysis.specs.Analysis.{analysed}
@@ -90,8 +90,8 @@ module _ {S : Type 0} (O : Asking S) (rule : ℕ) (old new : S) (text : List ℕ
 
   pub worked : (program ruled : Program) (plan : List Planned) (places : List TextPlace) (last : Analysed) (counts : Counts) → IsPlanned rule text program plan
       → ruled ≡ with_rule rule program → places ≡ places_of text program → Answers O old new (Ok last) (analysed ruled places plan) → ClaimsKnowNoRule
-      → ClaimsAreMet ruled last.report → ReportCovers ruled last.report → PointsRefute last.report → counts ≡ counts_of (length plan) last.report → IsWorked O rule old new text last counts
-  worked program ruled plan places last counts planned under same answers free met covers refuted counted =
+      → ClaimsAreMet ruled last.report → ReportCovers ruled last.report → PointsMeetRows last.report → counts ≡ counts_of (length plan) last.report → IsWorked O rule old new text last counts
+  worked program ruled plan places last counts planned under same answers free met covers points counted =
       let is =
       subst (λ (ruled : Program). IsAnswered O old new last (analysed ruled (places_of text program) plan)) under
       (subst (λ places. IsAnswered O old new last (analysed ruled places plan)) same answers.came) in
@@ -103,7 +103,7 @@ module _ {S : Type 0} (O : Asking S) (rule : ℕ) (old new : S) (text : List ℕ
           leads = is.stated;
           met = free program rule last.report (subst (λ (ruled : Program). ClaimsAreMet ruled last.report) under met);
           covers = covers-without program (subst (λ (ruled : Program). ReportCovers ruled last.report) under covers);
-          refuted = refuted;
+          points = points;
         };
         taken = is.taken;
         refused_none = is.counted;
