@@ -2,7 +2,7 @@
 --     check-within      its flow has a formula for where it stands
 --     asserted-is       the assertion by its entry and that formula
 --     stands-at         both, by what is read at the place of its procedure
---     judged-next       verdicts, and one more
+--     judged-next, refuted-next       verdicts, and one more
 use Rattle.std.proofs.Common.{◌≡◌, ℕ, ◌+◌, ◌<◌, ◌⊎◌, inl, inr, List, [], ◌∷◌, ◌++◌, length, get_or, sym, ap, subst, ◌∙◌, arith}
 use Rattle.std.specs.Prelude.{Option, Some, slice_get}
 use Rattle.std.proofs.lemmas.List.{length-map}
@@ -17,8 +17,9 @@ use Rattle.proc_summary.specs.Subject.{own_graph}
 use Rattle.proc_summary.proofs.Below.{some_at}
 use Rattle.context.specs.Claims.{AreEntries, AreFlows}
 use Rattle.report.specs.declared.blocks.Judged.{Judged}
+use Rattle.report.specs.Claims.{IsRefuted}
 use Rattle.analysis.specs.declared.standing.CheckAt.{CheckAt}
-use Rattle.analysis.specs.Claims.{AreJudged, IsCheckOf, IsJudged}
+use Rattle.analysis.specs.Claims.{AreJudged, AreRefuted, IsCheckOf, IsJudged}
 use Rattle.analysis.specs.Judging.{asserted_at, asserted_by, asserted_if, stops_in}
 use Rattle.analysis.proofs.Puts.{push-get}
 
@@ -74,3 +75,10 @@ judged-next program made judged n long are this place j e = go (push-get made ju
     go : (slice_get made place ≡ Some j) ⊎ ((place ≡ length made) × (judged ≡ j)) → IsJudged program (place + 1) j
     go (inl there) = are place j there
     go (inr last) = subst (λ k. IsJudged program (k + 1) j) (sym (last.0 ∙ long)) (subst (IsJudged program (n + 1)) last.1 this)
+
+pub refuted-next : (made : List Judged) (judged : Judged) → AreRefuted made → IsRefuted judged.verdict → AreRefuted (made ++ judged ∷ [])
+refuted-next made judged are this place j e = go (push-get made judged place j e)
+  where
+    go : (slice_get made place ≡ Some j) ⊎ ((place ≡ length made) × (judged ≡ j)) → IsRefuted j.verdict
+    go (inl there) = are place j there
+    go (inr last) = subst (λ (k : Judged). IsRefuted k.verdict) last.1 this

@@ -1,12 +1,14 @@
 -- What a report is made from, where all procedures are found.
 --     flows-are, flows-hold      a flow for each procedure, which holds
 --     blocks-met                 the summary of each block is met
+--     blocks-fit                 and fits its procedure
 --     blocks-all                 there is a block for each procedure
 use Rattle.std.proofs.Common.{◌≡◌, ℕ, ◌<◌, length, map, arith, ◌∙◌}
 use Rattle.std.specs.Prelude.{Some, slice_get}
 use Rattle.syntax_tree.specs.declared.program.Proc.{Proc}
 use Rattle.syntax_tree.specs.declared.program.Program.{Program}
 use Rattle.transition_formula.specs.Transition.{Transition}
+use Rattle.leaf_cases.specs.Conditions.{IsKnown}
 use Rattle.leaf_cases.specs.Summaries.{SummaryIsMet}
 use Rattle.proc_summary.specs.declared.stop.Flow.{Flow}
 use Rattle.context.specs.Claims.{AreFlows, FlowsHold}
@@ -38,6 +40,10 @@ module _ (program : Program) (found : Found) (fits : FitsFound program found) (a
   pub blocks-met : FoundIsMet program found → (proc : ℕ) (block : ProcBlock) → slice_get (blocks_by program program.procs found.known found.notes) proc ≡ Some block → SummaryIsMet program proc block.formula
   blocks-met met proc block at =
       met.summaries proc block.formula (block-known program program.procs found.known found.notes fits.known.each fits.notes known-there proc block at)
+
+  pub blocks-fit : (proc : ℕ) (p : Proc) (block : ProcBlock) → slice_get program.procs proc ≡ Some p → slice_get (blocks_by program program.procs found.known found.notes) proc ≡ Some block → IsKnown program p block.formula
+  blocks-fit proc p block is at =
+      fits.known.fit proc p block.formula is (block-known program program.procs found.known found.notes fits.known.each fits.notes known-there proc block at)
 
   pub blocks-all : map (λ (b : ProcBlock). b.name) (blocks_by program program.procs found.known found.notes) ≡ map (λ (p : Proc). p.name) program.procs
   blocks-all = blocks-cover program program.procs found.known found.notes fits.known.each fits.notes known-there

@@ -20,6 +20,7 @@ use Rattle.newton_rounds.specs.Members.{IsLinear}
 use Rattle.context.specs.Claims.{EntriesHold, FlowsHold}
 use Rattle.report.specs.declared.blocks.Judged.{Judged}
 use Rattle.report.specs.declared.verdict.Verdict.TheVariants.{Proved}
+use Rattle.report.specs.Claims.{IsRefuted}
 use Rattle.analysis.specs.declared.planning.GroupKind.{GroupKind}
 use Rattle.analysis.specs.declared.planning.GroupKind.TheVariants.{Plain, Linear, Rounds}
 use Rattle.analysis.specs.declared.planning.Planned.{Planned}
@@ -167,9 +168,14 @@ abbrev pub AreJudged : Program → List Judged → Type 0
 AreJudged program judged = (n : ℕ) (j : Judged) → slice_get judged n ≡ Some j
     → IsJudged program (n + 1) j
 
+-- where a point is told, it makes the rows of its case true
+abbrev pub AreRefuted : List Judged → Type 0
+AreRefuted judged = (n : ℕ) (j : Judged) → slice_get judged n ≡ Some j → IsRefuted j.verdict
+
 -- one more of a number, by entries and flows
 pub record AddsJudged (program : Program) (entries : List (Option Transition)) (flows : List Flow)
     (made : List Judged) (number : ℕ) (all : List Judged) : Type 0 where
   pub judged : Judged
   pub is : all ≡ made ++ judged ∷ []
+  pub refuted : IsRefuted judged.verdict
   pub sound : EntriesHold program entries → FlowsHold program flows → IsJudged program number judged

@@ -10,11 +10,12 @@ ghost use Rattle.proc_summary.specs.declared.stop.Stop.{Stop};
 ghost use Rattle.proc_summary.specs.Claims.{FitsFlow, FlowHolds};
 ghost use Rattle.proc_summary.specs.Subject.{own_graph};
 ghost use Rattle.report.specs.declared.verdict.Verdict.TheVariants.{Proved};
+ghost use Rattle.report.specs.Claims.{IsRefuted};
 ghost use Rattle.context.specs.Claims.{AreEntries, AreFlows, EntriesHold, EntryHolds, FlowsHold, IsEntryIf};
 ghost use Rattle.context.specs.Verdicts.{place_of, shown_of, verdict_of};
 ghost use Rattle.analysis.specs.Apart.{apart};
 ghost use Rattle.analysis.specs.Judging.{asserted, asserted_by, checks_of, column_names, global_names, judged_by, judged_of, place_in, unreached, with_judged};
-ghost use Rattle.analysis.specs.Claims.{AddsJudged, AreJudged, IsCheckOf, IsJudged};
+ghost use Rattle.analysis.specs.Claims.{AddsJudged, AreJudged, AreRefuted, IsCheckOf, IsJudged};
 
 use crate::names::{add_names, global_names};
 use crate::places::{TextPlace, place_in};
@@ -47,6 +48,7 @@ pub(crate) fn judged_by<O: Oracle>(
         (judged_by program.now places.now entries.now flows.now) }
     ensures sound { EntriesHold program.now entries.now → FlowsHold program.now flows.now
         → IfOk result (AreJudged program.now) }
+    ensures refuted { IfOk result AreRefuted }
 {
     let checks = checks_of(alloc, program)?;
     let checks = checks.as_slice();
@@ -121,6 +123,7 @@ fn judged_of<O: Oracle>(
         (asserted program.now entries.now flows.now number)) }
     ensures sound { EntriesHold program.now entries.now → FlowsHold program.now flows.now
         → IfOk result (IsJudged program.now number) }
+    ensures refuted { IfOk result (λ judged. IsRefuted judged.verdict) }
 {
     let at = place_in(places, number);
     match check_with(number, checks) {
@@ -163,6 +166,7 @@ fn judged_at<O: Oracle>(
         (judged_of at (asserted_by program.now entries.now flows.now check)) }
     ensures sound { EntriesHold program.now entries.now → FlowsHold program.now flows.now
         → IfOk result (IsJudged program.now check.number) }
+    ensures refuted { IfOk result (λ judged. IsRefuted judged.verdict) }
 {
     let CheckAt { proc, check, .. } = check;
     let named = named_columns(alloc, program, proc)?;
@@ -208,6 +212,7 @@ fn verdict_apart<O: Oracle>(
         → slice_get (own_graph p).checks check ≡ Some at → EntryHolds program.now proc entry.now
         → FlowHolds program.now proc flow.now
         → IfOk result (λ made. made.0 ≡ Proved → ¬ Fails program.now at.number) }
+    ensures refuted { IfOk result (λ made. IsRefuted made.0) }
 {
     let others = mem::replace(&mut log.notes, Items::new(alloc));
     let result = verdict(alloc, program, proc, check, entry, flow, oracle, log);

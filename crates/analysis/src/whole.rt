@@ -4,7 +4,7 @@ ghost use Rattle.syntax_tree.specs.WellFormed.{IsWellFormed};
 ghost use Rattle.posing.specs.Follows.{Follows};
 ghost use Rattle.context.specs.Claims.{AreEntries, AreFlows, EntriesHold, FlowsHold};
 ghost use Rattle.context.specs.Entries.{entries_from};
-ghost use Rattle.report.specs.Claims.{ClaimsAreMet, ReportCovers};
+ghost use Rattle.report.specs.Claims.{ClaimsAreMet, PointsMeetRows, ReportCovers};
 ghost use Rattle.analysis.specs.declared.planning.Planned.{Planned as PlannedGroup};
 ghost use Rattle.analysis.specs.Analysis.{analysed, ended_by};
 ghost use Rattle.analysis.specs.Apart.{apart};
@@ -47,6 +47,7 @@ pub fn analyse<O: Oracle>(
     ensures met { IfOk result (ClaimsAreMet program.now) }
     ensures covers { AreTheirPlaces program.now places.now
         → IfOk result (ReportCovers program.now) }
+    ensures points { IfOk result PointsMeetRows }
 {
     let plan = plan(alloc, program)?;
     let found = found_by(alloc, program, plan.as_slice(), oracle, log)?;
@@ -71,6 +72,7 @@ pub fn ended_by<O: Oracle>(
     ensures met { FoundIsMet program.now found → IfOk result (ClaimsAreMet program.now) }
     ensures covers { AreTheirPlaces program.now places.now
         → IfOk result (ReportCovers program.now) }
+    ensures points { IfOk result PointsMeetRows }
 {
     let Found {
         known,

@@ -1,10 +1,11 @@
 ghost use Rattle.std.specs.Prelude.{◌≡◌, ◌-◌, List, length, IfOk, IsUtf8};
 ghost use Rattle.syntax_tree.specs.WellFormed.{IsWellFormed};
 ghost use Rattle.posing.specs.Follows.{Follows};
-ghost use Rattle.report.specs.Claims.{ClaimsAreMet};
+ghost use Rattle.report.specs.Claims.{ClaimsAreMet, PointsMeetRows, ReportCovers};
 ghost use Rattle.report.specs.Text.{proved_count, text_of};
 ghost use Rattle.analysis.specs.declared.planning.Planned.{Planned as PlannedGroup};
 ghost use Rattle.analysis.specs.Analysis.{analysed};
+ghost use Rattle.analysis.specs.Claims.{AreTheirPlaces};
 ghost use Rattle.analysis.specs.Plan.{IsPlan};
 
 use analysis::{Planned, TextPlace};
@@ -39,6 +40,9 @@ pub fn analyse<O: Oracle>(
     ensures planned { IfOk result (λ report. (plan : List PlannedGroup) × IsPlan program.now plan) }
     ensures kept { log.new.notes ≡ log.old.notes }
     ensures met { IfOk result (ClaimsAreMet program.now) }
+    ensures covers { AreTheirPlaces program.now places.now
+        → IfOk result (ReportCovers program.now) }
+    ensures points { IfOk result PointsMeetRows }
 {
     analysis::analyse(alloc, program, places, oracle, log)
 }

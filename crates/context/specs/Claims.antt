@@ -6,7 +6,6 @@ use Rattle.execution.specs.Execution.{initial_globals}
 use Rattle.execution.specs.Machine.{Config}
 use Rattle.flow_graph.specs.Stack.{Beginning, IsChain}
 use Rattle.transition_formula.specs.Transition.{Transition, IsTransition, IsFitted, fits}
-use Rattle.farkas_check.specs.Meaning.{HasPoint}
 use Rattle.vocabularies.specs.Ends.{entry_width}
 use Rattle.proc_summary.specs.declared.stop.Flow.{Flow}
 use Rattle.proc_summary.specs.Claims.{FitsFlow, FlowHolds, HoldsIf}
@@ -73,9 +72,3 @@ abbrev pub FitsVerdict : ℕ → Verdict → Type 0
 FitsVerdict shown Proved = Unit {0}
 FitsVerdict shown (Unproved case point) = IsTrue (fits 0 shown case)
 FitsVerdict shown (UnprovedLimit case limit) = IsTrue (fits 0 shown case)
-
--- the point makes each row of the case true, with a number for each of their monomials
-abbrev pub IsRefuted : Verdict → Type 0
-IsRefuted Proved = Unit {0}
-IsRefuted (Unproved case point) = HasPoint case.rows point
-IsRefuted (UnprovedLimit case limit) = Unit {0}

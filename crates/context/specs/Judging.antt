@@ -10,7 +10,8 @@ use Rattle.transition_formula.specs.Meaning.{HoldsCase, HoldsLeft}
 use Rattle.transition_formula.specs.Transition.{fits}
 use Rattle.report.specs.declared.verdict.Verdict.{Verdict}
 use Rattle.report.specs.declared.verdict.Verdict.TheVariants.{Proved, Unproved, UnprovedLimit}
-use Rattle.context.specs.Claims.{FitsVerdict, IsRefuted}
+use Rattle.report.specs.Claims.{IsRefuted}
+use Rattle.context.specs.Claims.{FitsVerdict}
 use Rattle.context.specs.Verdicts.{is_refuted}
 
 -- the case holds of nothing

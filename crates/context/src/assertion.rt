@@ -15,7 +15,8 @@ ghost use Rattle.proc_summary.specs.declared.stop.Stop.{Stop};
 ghost use Rattle.proc_summary.specs.Claims.{FitsFlow, FitsIf, FlowHolds, IsBetweenStates};
 ghost use Rattle.proc_summary.specs.Subject.{own_graph};
 ghost use Rattle.report.specs.declared.verdict.Verdict.TheVariants.{Proved};
-ghost use Rattle.context.specs.Claims.{EntryHolds, FitsVerdict, IsEntryIf, IsRefuted};
+ghost use Rattle.report.specs.Claims.{IsRefuted};
+ghost use Rattle.context.specs.Claims.{EntryHolds, FitsVerdict, IsEntryIf};
 ghost use Rattle.context.specs.Ends.{HasFew, HoldsAfter, HoldsBegun, HoldsFailing, IsCondition, IsFromStart, IsPlace, NoneFails, NoneFailsAt};
 ghost use Rattle.context.specs.Verdicts.{begun_of, extended, extended_case, failed_from, failing_of, lost_in_failing, place_of, reached_from, shown_of, verdict_of};
 

@@ -49,7 +49,7 @@ module _ (rule : ℕ) (text : List ℕ) (old new : Replayed) (told : List ℕ) (
         record {
           program = a.program;
           is_posed = record { plan = a.plan; planned = a.planned; comes = ap (run (analysis_of rule text a.program a.plan)) all ∙ ends Passes rule text last.answers new.left last.report a };
-          met = (a.met, a.covers);
+          met = (a.covers, a.met, a.points);
         },
         is ∙ ap (finished_reply (text_of last.report) told) counted,
       )

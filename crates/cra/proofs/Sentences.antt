@@ -25,7 +25,7 @@ use Rattle.report.specs.Claims.{ClaimsAreMet, ReportCovers}
 use Rattle.report.specs.Text.{is_proof, is_proved, proved_count, text_of}
 use Rattle.summary_cache.specs.Accepted.{Accepts}
 use Rattle.summary_cache.specs.Limits.{most_bytes}
-use Rattle.summary_cache.proofs.Complete.{accepted-once}
+use Rattle.summary_cache.proofs.Complete.{accepted-once, not-refused}
 use Rattle.wire.specs.declared.certificate.Certificate.{Certificate}
 use Rattle.wire.specs.declared.input.Input.{Input}
 use Rattle.wire.specs.Files.{certificate_of}
@@ -40,7 +40,7 @@ use Rattle.cra.specs.Replies.{IsReply, IsReplyToRead, IsReplyToWork}
 use Rattle.cra.specs.Within.{OrWrong}
 use Rattle.cra.specs.Input.{IsInput}
 use Rattle.cra.specs.Limits.{most_file, most_input}
-use Rattle.cra.specs.Sentences.{AnAssertionFails, IsTrueFile, NoAssertionFails}
+use Rattle.cra.specs.Sentences.{AnAssertionFails, IsTrueFile, IsTrueText, NoAssertionFails}
 use Rattle.cra.proofs.Complete.{whole-input}
 
 -- ---- counts of verdicts
@@ -105,6 +105,26 @@ sound words before after reply a answer e =
     let all = whole-input most_bytes a.input read.input a.short (subst (λ before. IsInput most_bytes before read.input) a.whole read.is_input) in
     sound-text a.input a.program reply a.accepted (subst (λ input. IsReplyToAnalyse input reply) all read.is_reply) e
 
+-- a text within the limit that is accepted has a report, which is true of its program
+told-text : (all : List ℕ) (program : Program) (reply : Reply) → length all ≤ most_bytes → Accepts all program → IsReplyToAnalyse all reply → IsTrueText program reply.text
+told-text all program reply short a (inl (long, is)) = absurd (omega (arith, short, long))
+told-text all program reply short a (inr (fits, inl (report, answers, is, told))) =
+    let same : is.program ≡ program = accepted-once all is.program program is.planned.accepted a in
+    record {
+      report = report;
+      told = ap (λ (r : Reply). r.text) told;
+      covers = subst (λ (p : Program). ReportCovers p report) same is.covers;
+      met = subst (λ (p : Program). ClaimsAreMet p report) same is.met;
+      points = is.points;
+    }
+told-text all program reply short a (inr (fits, inr (refusal, is, told))) = absurd (not-refused all program refusal a is)
+
+pub true-text : (words : List (List ℕ)) (before after : Option (List ℕ)) (reply : Reply) (asked : IsToAnalyse words before) → IsReply words before after reply → IsTrueText asked.program reply.text
+true-text words before after reply a answer =
+    let read : IsReplyToRead most_bytes IsReplyToAnalyse before after reply = subst (λ work. IsReplyToWork work before after reply) a.asked answer in
+    let all = whole-input most_bytes a.input read.input a.short (subst (λ before. IsInput most_bytes before read.input) a.whole read.is_input) in
+    told-text a.input a.program reply a.short a.accepted (subst (λ input. IsReplyToAnalyse input reply) all read.is_reply)
+
 -- ---- a certificate file
 
 passed-same : (same : Bool) (one other : Reply) → one.status ≢ CheckPassed → Reply.status (if same then other else one) ≡ CheckPassed → same ≡ true
@@ -126,8 +146,9 @@ sound-checked file program reply a (inl (Finished report notes left, is, told)) 
     record {
       report = report;
       told = sym text;
-      covers = subst (λ (p : Program). ReportCovers p report) same is.met.1;
-      met = subst (λ (p : Program). ClaimsAreMet p report) same is.met.0;
+      covers = subst (λ (p : Program). ReportCovers p report) same is.met.0;
+      met = subst (λ (p : Program). ClaimsAreMet p report) same is.met.1;
+      points = is.met.2;
     }
 sound-checked file program reply a (inl (Stuck question left, is, told)) e = absurd (cc (sym (ap (λ (r : Reply). r.status) told) ∙ e))
 sound-checked file program reply a (inr (refusal, is, told)) e = absurd (cc (sym (ap (λ (r : Reply). r.status) told) ∙ e))

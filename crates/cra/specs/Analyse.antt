@@ -32,7 +32,7 @@ IsReplyToAnalyse input reply =
     Within most_bytes input (OrRefused input (TellsReport input)) reply
 
 -- The words ask for the analysis of all that the source has: a text within the limit that is
--- accepted.
+-- accepted (`Accepts` of `summary_cache`, `specs/Accepted`).
 pub record IsToAnalyse (words : List (List ℕ)) (left : Option (List ℕ)) : Type 0 where
   pub asked : work_of words ≡ Some Analyse
   pub input : List ℕ

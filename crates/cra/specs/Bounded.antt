@@ -1,6 +1,5 @@
 -- What the bounds that `cra cost NAME` prints say, in words of executions alone.
-use Rattle.std.specs.Prelude.{◌≡◌, ℕ, ℤ, List, ◌++◌, map, Option, Some, slice_get}
-use Rattle.std.specs.Io.KnownBytes.{append_known}
+use Rattle.std.specs.Prelude.{◌≡◌, ℕ, ℤ, List, ◌++◌, map, Some, slice_get}
 use Rattle.linear_terms.specs.declared.row.Case.{Case}
 use Rattle.linear_terms.specs.declared.row.Row.{Row}
 use Rattle.transition_formula.specs.Meaning.{HoldsCase}
@@ -55,10 +54,3 @@ pub record AreTrueBounds (program : Program) (name text : List ℕ) : Type 0 whe
       → IsBounded number blocks costs proc (globals ++ args) (exit_values p after value)
   pub shown : (proc place : ℕ) (told : List Cost) (made : Cost) → slice_get costs proc ≡ Some told
       → slice_get told place ≡ Some made → IsShown made
-
--- what a sink took behind what it had tells true bounds
-pub record IsTrueCost (program : Program) (name : List ℕ)
-    (before after : Option (List ℕ)) : Type 0 where
-  pub text : List ℕ
-  pub taken : after ≡ append_known before text
-  pub bounds : AreTrueBounds program name text

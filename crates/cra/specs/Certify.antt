@@ -62,7 +62,7 @@ abbrev pub IsReplyToCertify : List ℕ → Reply → Type 0
 IsReplyToCertify input reply = Within most_bytes input (OrRefused input (TellsFile input)) reply
 
 -- The words ask for the certificate file of all that the source has: a text within the limit that
--- is accepted.
+-- is accepted (`Accepts` of `summary_cache`, `specs/Accepted`).
 pub record IsToCertify (words : List (List ℕ)) (left : Option (List ℕ)) : Type 0 where
   pub asked : work_of words ≡ Some Certify
   pub input : List ℕ

@@ -7,7 +7,7 @@ use Rattle.syntax_tree.specs.declared.program.Program.{Program}
 use Rattle.posing.specs.Posing.{Posed, Finished, Stuck}
 use Rattle.posing.specs.Replay.{stopped_at}
 use Rattle.report.specs.declared.blocks.Report.{Report}
-use Rattle.report.specs.Claims.{ClaimsAreMet, ReportCovers}
+use Rattle.report.specs.Claims.{ClaimsAreMet, PointsMeetRows, ReportCovers}
 use Rattle.report.specs.Text.{text_of}
 use Rattle.wire.specs.declared.certificate.Certificate.{Certificate}
 use Rattle.wire.specs.declared.certificate.Version.{Version}
@@ -37,14 +37,15 @@ answers_in Second answers order = map (answer_at answers) order
 abbrev pub answers_of : Certificate → List Answer
 answers_of file = answers_in file.version file.answers file.order
 
--- where the analysis comes to a report, its claims are met, and it covers the program
+-- where the analysis comes to a report, it covers the program, its claims are met, and its points
+-- make rows true
 abbrev pub IsMetBy : Program → Posed Report → Type 0
-IsMetBy program (Finished report notes left) = ClaimsAreMet program report
-    × ReportCovers program report
+IsMetBy program (Finished report notes left) = ReportCovers program report
+    × ClaimsAreMet program report × PointsMeetRows report
 IsMetBy program (Stuck question left) = Unit {0}
 
 -- The text is accepted, and the analysis of its program comes to this under listed answers and a
--- rule. Whoever listed them, a report to which it comes covers the program, and its claims are met.
+-- rule. Whoever listed them, a report to which it comes is true of the program.
 pub record IsShown (rule : ℕ) (text : List ℕ) (answers : List Answer)
     (posed : Posed Report) : Type 0 where
   pub program : Program

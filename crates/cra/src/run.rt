@@ -4,14 +4,14 @@ ghost use Rattle.whole_numbers.specs.Counters.{Rose};
 ghost use Rattle.cra.specs.Output.{TookPart};
 ghost use Rattle.cra.specs.declared.reply.Reply.{Reply as Answer};
 ghost use Rattle.cra.specs.Analyse.{IsToAnalyse};
-ghost use Rattle.cra.specs.Bounded.{IsTrueCost};
+ghost use Rattle.cra.specs.Bounded.{AreTrueBounds};
 ghost use Rattle.cra.specs.Certify.{IsToCertify};
 ghost use Rattle.cra.specs.Check.{IsToCheck, IsToCheckCertified};
 ghost use Rattle.cra.specs.Cost.{HasGlobal, HasNoGlobal, IsToCost};
 ghost use Rattle.cra.specs.Renew.{IsToRenew, IsToRenewCertified};
 ghost use Rattle.cra.specs.Replay.{IsToReplay};
 ghost use Rattle.cra.specs.Replies.{IsReply, IsReplyToWork};
-ghost use Rattle.cra.specs.Sentences.{AnAssertionFails, IsTrueFile, NoAssertionFails};
+ghost use Rattle.cra.specs.Sentences.{AnAssertionFails, IsTrueFile, NoAssertionFails, TellsTrueText};
 ghost use Rattle.cra.specs.Status.{IsAnswer};
 ghost use Rattle.cra.specs.Words.{reads_source, work_of};
 
@@ -108,7 +108,12 @@ pub fn run<R: Source, W: Sink>(
     // `main` fails an assertion.
     ensures sound { (asked : IsToAnalyse (map string_bytes words.now) (R.left source.old))
         → result ≡ Status.AllProved → NoAssertionFails asked.program }
-    // `CheckPassed` says that all that the file's report claims is true, whoever made the file.
+    // So asked, it writes a report that covers the program, whose claims are met, and each point of
+    // which makes the rows of its case true.
+    ensures told { (asked : IsToAnalyse (map string_bytes words.now) (R.left source.old))
+        → IsAnswer result
+        → TellsTrueText asked.program (W.taken sink.old) (W.taken sink.new) }
+    // `CheckPassed` says that all that the file's report tells is true, whoever made the file.
     ensures sound_check { (asked : IsToCheck (map string_bytes words.now) (R.left source.old))
         → result ≡ Status.CheckPassed → IsTrueFile asked.file.file asked.file.program }
     // Asked to replay, `SomeFailed` says that an execution from `main` fails an assertion.
@@ -119,8 +124,9 @@ pub fn run<R: Source, W: Sink>(
     // returns is held by some case of its summary, that the global changes as is printed of that
     // case, and that the multipliers of each bound show it.
     ensures sound_cost { (asked : IsToCost (map string_bytes words.now) (R.left source.old))
-        → result ≡ Status.CostsTold → IsTrueCost asked.program asked.name (W.taken sink.old)
-        (W.taken sink.new) }
+        → result ≡ Status.CostsTold → (text : List ℕ)
+        × AreTrueBounds asked.program asked.name text
+        × (W.taken sink.new ≡ append_known (W.taken sink.old) text) }
 
     // Every status but those of the source, the sink and memory is the answer to the words and to
     // the input.

@@ -10,7 +10,7 @@ use Rattle.posing.specs.declared.log.Log.{Log}
 use Rattle.posing.specs.Follows.{Follows, IsGood, Leads, with_all}
 use Rattle.posing.specs.Posing.{Path, Posing, Done, Asked}
 use Rattle.report.specs.declared.blocks.Report.{Report}
-use Rattle.report.specs.Claims.{ClaimsAreMet, ReportCovers}
+use Rattle.report.specs.Claims.{ClaimsAreMet, PointsMeetRows, ReportCovers}
 use Rattle.analysis.specs.declared.places.TextPlace.{TextPlace}
 use Rattle.analysis.specs.declared.planning.Planned.{Planned}
 use Rattle.analysis.specs.Analysis.{analysed}
@@ -80,12 +80,18 @@ module _ {S : Type 0} (O : Asking S) (rule : ℕ) (old new : S) (text : List ℕ
 
   -- a report covers a program whatever its rule
   covers-without : (program : Program) {report : Report} → ReportCovers (with_rule rule program) report → ReportCovers program report
-  covers-without program covers = record { blocks = covers.blocks; verdicts = covers.verdicts }
+  covers-without program covers = record {
+    blocks = covers.blocks;
+    verdicts = covers.verdicts;
+    fit = λ proc p block is at.
+        let known = covers.fit proc p block is at in
+        record { enters = known.enters; leaves = known.leaves; fits = known.fits; cases = known.cases; auxiliaries = known.auxiliaries };
+  }
 
   pub worked : (program ruled : Program) (plan : List Planned) (places : List TextPlace) (last : Analysed) (counts : Counts) → IsPlanned rule text program plan
       → ruled ≡ with_rule rule program → places ≡ places_of text program → Answers O old new (Ok last) (analysed ruled places plan) → ClaimsKnowNoRule
-      → ClaimsAreMet ruled last.report → ReportCovers ruled last.report → counts ≡ counts_of (length plan) last.report → IsWorked O rule old new text last counts
-  worked program ruled plan places last counts planned under same answers free met covers counted =
+      → ClaimsAreMet ruled last.report → ReportCovers ruled last.report → PointsMeetRows last.report → counts ≡ counts_of (length plan) last.report → IsWorked O rule old new text last counts
+  worked program ruled plan places last counts planned under same answers free met covers points counted =
       let is =
       subst (λ (ruled : Program). IsAnswered O old new last (analysed ruled (places_of text program) plan)) under
       (subst (λ places. IsAnswered O old new last (analysed ruled places plan)) same answers.came) in
@@ -97,6 +103,7 @@ module _ {S : Type 0} (O : Asking S) (rule : ℕ) (old new : S) (text : List ℕ
           leads = is.stated;
           met = free program rule last.report (subst (λ (ruled : Program). ClaimsAreMet ruled last.report) under met);
           covers = covers-without program (subst (λ (ruled : Program). ReportCovers ruled last.report) under covers);
+          points = points;
         };
         taken = is.taken;
         refused_none = is.counted;

@@ -6,7 +6,7 @@ use Rattle.syntax_tree.specs.declared.program.Program.{Program}
 use Rattle.posing.specs.Follows.{IsGood}
 use Rattle.posing.specs.Posing.{Path, Posed, Posing, Done, run}
 use Rattle.report.specs.declared.blocks.Report.{Report}
-use Rattle.report.specs.Claims.{ClaimsAreMet, ReportCovers}
+use Rattle.report.specs.Claims.{ClaimsAreMet, PointsMeetRows, ReportCovers}
 use Rattle.analysis.specs.declared.places.TextPlace.{TextPlace}
 use Rattle.analysis.specs.declared.planning.Planned.{Planned}
 use Rattle.analysis.specs.Analysis.{analysed}
@@ -34,8 +34,8 @@ abbrev pub analysis_of : ℕ → List ℕ → Program → List Planned → Posin
 analysis_of rule text program plan = analysed (with_rule rule program) (places_of text program) plan
 
 -- The text is accepted, and the report is what the analysis of its program comes to under these
--- answers, each of which passes, is true and is one that may be given. It covers the program, and
--- its claims are met.
+-- answers, each of which passes, is true and is one that may be given. It covers the program, its
+-- claims are met, and each point that it tells makes the rows of its case true.
 pub record IsAnalysedBy (allows : Question → Answer → Type 0) (rule : ℕ) (text : List ℕ)
     (answers : List Answer) (report : Report) : Type 0 where
   pub program : Program
@@ -44,6 +44,7 @@ pub record IsAnalysedBy (allows : Question → Answer → Type 0) (rule : ℕ) (
   pub leads : Path (IsGood allows) (analysis_of rule text program plan) [] answers (Done report)
   pub met : ClaimsAreMet program report
   pub covers : ReportCovers program report
+  pub points : PointsMeetRows report
 
 -- The text is accepted, and the analysis of its program comes to this under listed answers.
 pub record IsPosed (rule : ℕ) (text : List ℕ) (program : Program) (answers : List Answer)

@@ -1,6 +1,6 @@
 ghost use Rattle.std.specs.Prelude.{◌≡◌, ◌≤◌, List, length, IfOk};
 ghost use Rattle.syntax_tree.specs.WellFormed.{IsWellFormed};
-ghost use Rattle.report.specs.Claims.{ClaimsAreMet, ReportCovers};
+ghost use Rattle.report.specs.Claims.{ClaimsAreMet, PointsMeetRows, ReportCovers};
 ghost use Rattle.analysis.specs.declared.planning.Planned.{Planned as PlannedGroup};
 ghost use Rattle.analysis.specs.Analysis.{analysed};
 ghost use Rattle.analysis.specs.Claims.{AreTheirPlaces};
@@ -68,6 +68,7 @@ fn answered_by<O: Oracle>(
     ensures met { IfOk result (λ last. ClaimsAreMet program.now last.report) }
     ensures covers { AreTheirPlaces program.now places.now
         → IfOk result (λ last. ReportCovers program.now last.report) }
+    ensures points { IfOk result (λ last. PointsMeetRows last.report) }
 {
     let mut log = Log::new(alloc);
     match analyse(alloc, program, places, oracle, &mut log) {

@@ -5,9 +5,9 @@ use Rattle.posing.specs.Follows.{Leads}
 use Rattle.posing.specs.Posing.{each}
 use Rattle.posing.proofs.Following.{leads_none, loop_ends, stops}
 use Rattle.posing.proofs.Steps.{each_fails, each_next}
-use Rattle.analysis.specs.Claims.{AreJudged}
+use Rattle.analysis.specs.Claims.{AreJudged, AreRefuted}
 use Rattle.analysis.specs.Judging.{judged_by, with_judged}
-use Rattle.analysis.proofs.Asserting.{judged-next}
+use Rattle.analysis.proofs.Asserting.{judged-next, refuted-next}
 use Rattle.analysis.proofs.judging.judged_by.Goals as goal
 
 pub returns-in_err-checks-clause-follows : goal.returns-in_err-checks-clause-follows
@@ -23,6 +23,7 @@ loop-n-init g c =
       leads = subst (λ made. Leads g.O.Oracle.asking c.args.oracle.now c.args.oracle.now c.args.log.now c.args.log.now (each step [] numbers) (each step made numbers)) none (leads_none _ _ _ _);
       long = ap length c.new-made.ensures;
       sound = λ enter hold. subst (AreJudged program) none (λ n j e. absurd (cc e));
+      refuted = subst AreRefuted none (λ n j e. absurd (cc e));
     }
 
 pub returns-in_err-made-clause-follows : goal.returns-in_err-made-clause-follows
@@ -54,6 +55,7 @@ loop-n-preserved g c =
       leads = each_next (with_judged program c.args.places.now c.args.entries.now c.args.flows.now) (range_with_len 1 count) n so_far.leads (omega (arith, lt, long)) is c.in_ok-made.ensures.follows;
       long = omega (arith, before, more, both);
       sound = λ enter hold. subst (AreJudged program) (sym added.is) (judged-next program made added.judged n before (so_far.sound enter hold) (added.sound enter hold));
+      refuted = subst AreRefuted (sym added.is) (refuted-next made added.judged so_far.refuted added.refuted);
     }
 
 pub returns-clause-follows : goal.returns-clause-follows

@@ -3,7 +3,7 @@ use Rattle.std.specs.List.{range_with_len}
 use Rattle.posing.specs.Follows.{Leads}
 use Rattle.posing.specs.Posing.{each}
 use Rattle.context.specs.Claims.{EntriesHold, FlowsHold}
-use Rattle.analysis.specs.Claims.{AreJudged}
+use Rattle.analysis.specs.Claims.{AreJudged, AreRefuted}
 use Rattle.analysis.specs.Judging.{with_judged}
 use Rattle.analysis.proofs.judging.judged_by.Given as goal
 
@@ -15,4 +15,5 @@ invariant-loop-n g l =
           (each (with_judged l.program l.places l.entries l.flows) l.made (drop l.n (range_with_len 1 (length l.program.checks))));
       long : length l.made ≡ l.n;
       sound : EntriesHold l.program l.entries → FlowsHold l.program l.flows → AreJudged l.program l.made;
+      refuted : AreRefuted l.made;
     }

@@ -9,7 +9,7 @@ use Rattle.analysis.specs.Analysis.{blocks_by, ended_by, report_by}
 use Rattle.analysis.specs.Apart.{apart}
 use Rattle.analysis.specs.Judging.{judged_by}
 use Rattle.analysis.proofs.Covering.{always-judged_by}
-use Rattle.analysis.proofs.Ending.{blocks-all, blocks-met, flows-are, flows-hold}
+use Rattle.analysis.proofs.Ending.{blocks-all, blocks-fit, blocks-met, flows-are, flows-hold}
 use Rattle.analysis.proofs.whole.ended_by.Goals as goal
 
 pub entries_apart-requires-clause-flows : goal.entries_apart-requires-clause-flows
@@ -53,4 +53,5 @@ returns-clause-covers g c = λ theirs.
     record {
       blocks = ap (map (λ (b : ProcBlock). b.name)) procs ∙ blocks-all program found c.requires.found c.requires.all;
       verdicts = value_has (λ made. map (λ (j : Judged). j.at) made ≡ program.checks) c.in_ok-judged.ensures.follows (always-judged_by program c.args.places.now _ _ theirs);
+      fit = λ proc p block is at. blocks-fit program found c.requires.found c.requires.all proc p block is (subst (λ blocks. slice_get blocks proc ≡ Some block) procs at);
     }

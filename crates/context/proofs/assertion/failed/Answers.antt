@@ -4,7 +4,8 @@ use Rattle.std.specs.List.{AllByRecursion}
 use Rattle.transition_formula.specs.Transition.{Transition, fits}
 use Rattle.posing.proofs.Steps.{in_other_words, notes_first}
 use Rattle.syntax_tree.specs.Term.{term_of}
-use Rattle.context.specs.Claims.{FitsVerdict, IsRefuted}
+use Rattle.report.specs.Claims.{IsRefuted}
+use Rattle.context.specs.Claims.{FitsVerdict}
 use Rattle.context.specs.Judging.{IsVerdictOnAll}
 use Rattle.context.specs.Verdicts.{failed_from, judged_from}
 use Rattle.context.proofs.Reached.{cases-fit-shown, dead-of, if_ok-more, none-fails-at}

@@ -1,11 +1,10 @@
-use Rattle.std.proofs.Common.{◌≡◌, ◌⊎◌, inl, inr, rules}
-use Rattle.std.specs.Io.KnownBytes.{append_known}
+use Rattle.std.proofs.Common.{◌≡◌, ◌⊎◌, inl, inr}
 use Rattle.cra.specs.declared.status.Status.{Status}
 use Rattle.cra.specs.declared.status.Status.TheVariants.{AllProved, SomeUnproved, NoneFailed, SomeFailed, Certified, CheckFailed, CheckPassed, CostsTold, NoGlobal, TooLong, WantOfMemory}
 use Rattle.cra.proofs.Complete.{complete, complete-certify, complete-replay}
 use Rattle.cra.proofs.Costs.{complete-cost, sound-cost}
 use Rattle.cra.proofs.Passing.{certified-passes, certified-renewed, complete-check, complete-renew}
-use Rattle.cra.proofs.Sentences.{failing, sound, sound-check}
+use Rattle.cra.proofs.Sentences.{failing, sound, sound-check, true-text}
 use Rattle.cra.proofs.run.run.Goals as goal
 
 or-memory : (status : Status) → (status ≡ AllProved) ⊎ (status ≡ SomeUnproved) → (status ≡ AllProved) ⊎ (status ≡ SomeUnproved) ⊎ (status ≡ WantOfMemory)
@@ -74,11 +73,12 @@ returns-in-Ok-write_all-clause-sound_check g c asked is = sound-check _ _ _ c.in
 pub returns-in-Ok-write_all-clause-failing : goal.returns-in-Ok-write_all-clause-failing
 returns-in-Ok-write_all-clause-failing g c asked is = failing _ _ _ c.in-Ok.reply asked c.in-Ok.ensures.answer is
 
+pub returns-in-Ok-write_all-clause-told : goal.returns-in-Ok-write_all-clause-told
+returns-in-Ok-write_all-clause-told g c asked is = (c.in-Ok.reply.text, true-text _ _ _ c.in-Ok.reply asked c.in-Ok.ensures.answer, c.in-Ok-write_all.ensures.all)
+
 -- what is told of a global's change
 pub returns-in-Ok-write_all-clause-sound_cost : goal.returns-in-Ok-write_all-clause-sound_cost
-returns-in-Ok-write_all-clause-sound_cost g c asked is =
-    let taken : g.W.Sink.taken c.write_all.new.sink ≡ append_known (g.W.Sink.taken c.args.sink.now) c.in-Ok.reply.text = search rules in
-    record { text = c.in-Ok.reply.text; taken = taken; bounds = sound-cost _ _ _ c.in-Ok.reply asked c.in-Ok.ensures.answer is }
+returns-in-Ok-write_all-clause-sound_cost g c asked is = (c.in-Ok.reply.text, sound-cost _ _ _ c.in-Ok.reply asked c.in-Ok.ensures.answer is, c.in-Ok-write_all.ensures.all)
 
 or-memory-costed : {P Q : Type 0} (status : Status) → ((status ≡ CostsTold) × P) ⊎ ((status ≡ NoGlobal) × Q) → ((status ≡ CostsTold) × P) ⊎ ((status ≡ NoGlobal) × Q) ⊎ (status ≡ WantOfMemory)
 or-memory-costed status (inl told) = inl told

@@ -67,4 +67,4 @@ returns g c =
     let counted = c.counts_of-counts.ensures ∙ ap (λ n. counts_of n last.report) c.len.ensures in
     worked g.O.Oracle.asking c.args.rule _ _ text program ruled plan _ last _
     (record { accepted = c.requires.accepted; is_plan = subst (λ (p : Program). IsPlan p plan) under c.in_ok-plan.ensures }) under places
-    (c.in_ok-last.ensures.follows plan c.in_ok-plan.ensures) c.claims_know_no_rule.ensures c.in_ok-last.ensures.met covers counted
+    (c.in_ok-last.ensures.follows plan c.in_ok-plan.ensures) c.claims_know_no_rule.ensures c.in_ok-last.ensures.met covers c.in_ok-last.ensures.points counted
