@@ -4,7 +4,7 @@ ghost use Rattle.whole_numbers.specs.Counters.{Rose};
 ghost use Rattle.cra.specs.Output.{TookPart};
 ghost use Rattle.cra.specs.declared.reply.Reply.{Reply as Answer};
 ghost use Rattle.cra.specs.Analyse.{IsToAnalyse};
-ghost use Rattle.cra.specs.Bounded.{AreTrueBounds};
+ghost use Rattle.cra.specs.Bounded.{TellsTrueBounds};
 ghost use Rattle.cra.specs.Certify.{IsToCertify};
 ghost use Rattle.cra.specs.Check.{IsToCheck, IsToCheckCertified};
 ghost use Rattle.cra.specs.Cost.{HasGlobal, HasNoGlobal, IsToCost};
@@ -124,9 +124,8 @@ pub fn run<R: Source, W: Sink>(
     // returns is held by some case of its summary, that the global changes as is printed of that
     // case, and that the multipliers of each bound show it.
     ensures sound_cost { (asked : IsToCost (map string_bytes words.now) (R.left source.old))
-        → result ≡ Status.CostsTold → (text : List ℕ)
-        × AreTrueBounds asked.program asked.name text
-        × (W.taken sink.new ≡ append_known (W.taken sink.old) text) }
+        → result ≡ Status.CostsTold
+        → TellsTrueBounds asked.program asked.name (W.taken sink.old) (W.taken sink.new) }
 
     // Every status but those of the source, the sink and memory is the answer to the words and to
     // the input.
