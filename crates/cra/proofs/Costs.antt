@@ -78,7 +78,7 @@ have-posts program report name number covers global = record { each = λ proc bl
         let to = eqb-true (length case.post) block.formula.to (both (length case.post == block.formula.to) (every_column_of (is_below block.formula.from case.aux) case) fit).0 in
         let leaves = known.leaves in
         let few = globals-left program p.0 in
-        let counts = slice_get_within program.globals number global.0 global.1.0 in
+        let counts = slice_get_within program.globals number global.0 global.1 in
         omega (arith, to, leaves, few, counts)
 
 -- what is told of the report of a text is told of the text

@@ -22,7 +22,7 @@ numbered program name number e = by_list program.globals e
     by_list [] e = absurd (cc e)
     by_list (g ∷ globals) e =
         let at = position-Some (is_named name) (g ∷ globals) number g e in
-        (get_or (g ∷ globals) number g, slice_get-get_or (g ∷ globals) number g at.0, (bytes_eq-Decides _ name).0 at.1.0)
+        (get_or (g ∷ globals) number g, slice_get-get_or (g ∷ globals) number g at.0, (bytes_eq-Decides _ name).0 at.1)
 
 -- where one passes, not all are passed over
 module _ (p : GlobalVar → Bool) where
@@ -54,7 +54,7 @@ module _ (p : GlobalVar → Bool) where
 
 unnumbered : (program : Program) (name : List ℕ) → position (is_named name) program.globals ≡ None → HasNoGlobal program name
 unnumbered program name e number is =
-    never (is_named name) program.globals number is.0 (all-passed_over (is_named name) program.globals e) is.1.0 ((bytes_eq-Decides is.0.name name).1 is.1.1)
+    never (is_named name) program.globals number is.0 (all-passed_over (is_named name) program.globals e) is.1 ((bytes_eq-Decides is.0.name name).1 is.2)
 
 pub found : (program : Program) (name : List ℕ) (o : Option ℕ) → o ≡ position (is_named name) program.globals → IsFoundAs program name o
 found program name (Some number) e = numbered program name number (sym e)

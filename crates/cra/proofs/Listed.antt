@@ -92,14 +92,17 @@ module _ (name : List ℕ) where
   unfolding clap_on_literals
   named-name text = refl
 
-  -- a name that does not begin with a dash
-  word-fault : (b : ℕ) (rest : List ℕ) → (b == 45) ≡ false → fault_of commands (name ∷ codes "cost" ∷ (b ∷ rest) ∷ []) ≡ []
-  unfolding clap_on_literals
-  word-fault b rest e = rw e refl
+  -- a name whose first byte is past that of a dash
+  abbrev past_dash : ℕ → ℕ
+  past_dash d = suc (suc (suc (suc (suc (suc (suc (suc (suc (suc (suc (suc (suc (suc (suc (suc (suc (suc (suc (suc (suc (suc (suc (suc (suc (suc (suc (suc (suc (suc (suc (suc (suc (suc (suc (suc (suc (suc (suc (suc (suc (suc (suc (suc (suc (suc d)))))))))))))))))))))))))))))))))))))))))))))
 
-  word-name : (b : ℕ) (rest : List ℕ) → (b == 45) ≡ false → name_of (subcommand_of commands (name ∷ codes "cost" ∷ (b ∷ rest) ∷ [])) ≡ Some (codes "cost")
+  word-fault : (d : ℕ) (rest : List ℕ) → fault_of commands (name ∷ codes "cost" ∷ (past_dash d ∷ rest) ∷ []) ≡ []
   unfolding clap_on_literals
-  word-name b rest e = rw e refl
+  word-fault d rest = refl
+
+  word-name : (d : ℕ) (rest : List ℕ) → name_of (subcommand_of commands (name ∷ codes "cost" ∷ (past_dash d ∷ rest) ∷ [])) ≡ Some (codes "cost")
+  unfolding clap_on_literals
+  word-name d rest = refl
 
   -- a number that begins with a digit from 1 to 9
   number-fault : (d : ℕ) → d ≤ 8 → (rest : List ℕ) → fault_of commands (name ∷ codes "sample" ∷ ((49 + d) ∷ rest) ∷ []) ≡ []

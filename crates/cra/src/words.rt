@@ -1,7 +1,7 @@
 ghost use Rattle.std.specs.Prelude.{◌≡◌, ◌≢◌, ◌-◌, None, Some, map, string_bytes, IfOk, IfErr, if◌then◌else◌};
 ghost use Rattle.std.specs.Str.Parse.{digits_value};
 ghost use Rattle.clap.specs.Words.{app_of, subcommand_name_of};
-ghost use Rattle.c_lexer.specs.Bytes.{is_word_byte};
+ghost use Rattle.c_lexer.specs.Bytes.{is_word_byte, is_word_start};
 ghost use Rattle.c_lexer.specs.Kinds.{is_word_shape};
 ghost use Rattle.cra.specs.Commands.{commands, matched_work, told_work};
 ghost use Rattle.cra.specs.Words.{cost_of, count_of, is_digit, is_short_number, sample_of, work_named, work_of, work_with};
@@ -104,6 +104,12 @@ fn count_of(text: &str) -> Option<u32>
 /// The most procedures of a made text, without `main`.
 const MOST_PROCEDURES: u32 = 250;
 
+fn is_word_start(byte: u8) -> bool
+    ensures { result ≡ is_word_start byte }
+{
+    byte.is_ascii_alphabetic() || byte == b'_'
+}
+
 fn is_word_byte(byte: u8) -> bool
     ensures { result ≡ is_word_byte byte }
 {
@@ -117,8 +123,7 @@ fn is_word(text: &[u8]) -> bool
 {
     match text {
         [first, rest @ ..] => {
-            (first.is_ascii_alphabetic() || *first == b'_')
-                && rest.iter().all(|byte| is_word_byte(*byte))
+            is_word_start(*first) && rest.iter().all(|byte| is_word_byte(*byte))
         }
         [] => false,
     }
@@ -151,10 +156,26 @@ fn work_under(alloc: Global, name: &str, words: &[String]) -> Result<Option<Work
     ensures { IfOk result (λ work. work ≡ matched_work (Some name.now) (map string_bytes words.now)) }
 {
     match words {
-        [_, word] if word.as_str() == name => Ok(work_named(name)),
-        [_, word, text] if word.as_str() == name => work_with(alloc, name, text.as_str()),
-        [_, word, dashes, text] if word.as_str() == name && dashes.as_str() == "--" => {
-            work_with(alloc, name, text.as_str())
+        [_, word] => {
+            if word.as_str() == name {
+                Ok(work_named(name))
+            } else {
+                Ok(None)
+            }
+        }
+        [_, word, text] => {
+            if word.as_str() == name {
+                work_with(alloc, name, text.as_str())
+            } else {
+                Ok(None)
+            }
+        }
+        [_, word, dashes, text] => {
+            if word.as_str() == name && dashes.as_str() == "--" {
+                work_with(alloc, name, text.as_str())
+            } else {
+                Ok(None)
+            }
         }
         _ => Ok(None),
     }

@@ -5,7 +5,7 @@ use Rattle.cra.proofs.Pairs.{AreSoFar, so-far-all, so-far-next, so-far-none}
 use Rattle.cra.proofs.costing.case_costs.Goals as goal
 
 pub loop-case-init : goal.loop-case-init
-loop-case-init c = subst (AreSoFar (IsCostOf c.args.number) c.args.cases.now 0) (sym c.new.ensures) (so-far-none (IsCostOf c.args.number) c.args.cases.now)
+loop-case-init c = subst (AreSoFar (IsCostOf c.args.number) c.args.cases.now 0) (sym c.new-costs.ensures) (so-far-none (IsCostOf c.args.number) c.args.cases.now)
 
 pub case_cost-requires : goal.case_cost-requires
 case_cost-requires c =

@@ -1,5 +1,6 @@
-use Rattle.std.proofs.Common.{◌≡◌, refl, sym, subst, arith, length, rules}
+use Rattle.std.proofs.Common.{◌≡◌, List, refl, sym, subst, arith, length, rules}
 use Rattle.std.proofs.lemmas.Option.{slice_get_read}
+use Rattle.cost_bounds.specs.declared.cost.Cost.{Cost}
 use Rattle.report.specs.declared.blocks.ProcBlock.{ProcBlock}
 use Rattle.cra.specs.Cost.{AreCostsOf}
 use Rattle.cra.specs.Posts.{HavePost}
@@ -8,7 +9,7 @@ use Rattle.cra.proofs.costing.proc_costs.Goals as goal
 
 pub loop-block-init : goal.loop-block-init
 loop-block-init c =
-    let belongs = λ (block : ProcBlock) made. AreCostsOf c.args.number block.formula.cases made in
+    let belongs = λ (block : ProcBlock) (made : List Cost). AreCostsOf c.args.number block.formula.cases made in
     subst (AreSoFar belongs c.args.blocks.now 0) (sym c.new-costs.ensures) (so-far-none belongs c.args.blocks.now)
 
 pub case_costs-requires : goal.case_costs-requires
@@ -19,7 +20,7 @@ case_costs-requires c =
 
 pub loop-block-preserved : goal.loop-block-preserved
 loop-block-preserved c =
-    let belongs = λ (block : ProcBlock) made. AreCostsOf c.args.number block.formula.cases made in
+    let belongs = λ (block : ProcBlock) (made : List Cost). AreCostsOf c.args.number block.formula.cases made in
     let lt = c.loop-block-test.true in
     so-far-next belongs c.args.blocks.now c.loop-block.block-index c.loop-block.costs c.block-item.result c.in_ok-made.made c.push.new.self c.loop-block.invariant
     (slice_get_read c.args.blocks.now (length c.args.blocks.now) c.loop-block.block-index c.block-item.result refl lt c.block-item.is)
@@ -27,4 +28,4 @@ loop-block-preserved c =
 
 pub returns : goal.returns
 returns c =
-    so-far-all (λ (block : ProcBlock) made. AreCostsOf c.args.number block.formula.cases made) c.args.blocks.now c.loop-block.block-index c.loop-block.costs c.loop-block.invariant (search rules)
+    so-far-all (λ (block : ProcBlock) (made : List Cost). AreCostsOf c.args.number block.formula.cases made) c.args.blocks.now c.loop-block.block-index c.loop-block.costs c.loop-block.invariant (search rules)

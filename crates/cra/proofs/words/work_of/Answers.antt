@@ -1,4 +1,6 @@
-use Rattle.std.proofs.Common.{ap, subst, ◌≡◌, ◌≢◌, ◌⊎◌, inl, inr, ◌∙◌, map, string_bytes, List, [], ℕ}
+use Rattle.std.proofs.Common.{ap, subst, ◌≡◌, ◌≢◌, ◌⊎◌, inl, inr, ◌∙◌, map, string_bytes, List, [], ℕ, Option}
+use Rattle.std.specs.Prelude.{IfOk}
+use Rattle.cra.specs.declared.words.Work.{Work}
 use Rattle.clap.specs.Words.{App, FailsBy, HasKind, fault_of, is_simple, is_simple_and_free, kind_of, subcommand_of}
 use Rattle.clap.specs.declared.error.kind.ErrorKind.TheVariants.{DisplayHelp, DisplayVersion, OutOfMemory}
 use Rattle.cra.specs.Commands.{commands, matched_work}
@@ -12,7 +14,7 @@ returns-in-Ok c =
     let fault = subst (λ a. fault_of a words ≡ []) is (c.in-Ok.ensures.kinds (ap is_simple_and_free is ∙ commands-simple)) in
     let rows = (c.in-Ok.ensures.matches (ap is_simple is ∙ commands-exact)).1 ∙ ap (λ a. subcommand_of a words) is in
     let met = name-met c.in-Ok.matches ∙ ap name_of rows in
-    c.work_matched.ensures ∙ ap (λ n. matched_work n words) met ∙ (words-fit words).matched fault
+    subst (λ (asked : Option Work). IfOk c.work_matched.result (λ work. work ≡ asked)) (ap (λ n. matched_work n words) met ∙ (words-fit words).matched fault) c.work_matched.ensures
 
 pub returns-in-DisplayHelp : goal.returns-in-DisplayHelp
 returns-in-DisplayHelp c =
