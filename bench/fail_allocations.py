@@ -3,7 +3,7 @@
 failing too. Each run has to end with status 6 and nothing written, or with the status and the bytes of the run in which none
 fails. Counts what came.
 
-usage: fail_allocations.py PROGRAM WORD < INPUT
+usage: fail_allocations.py PROGRAM WORD.. < INPUT      (as PROGRAM cost g)
 
 The allocations are those of the C library that the program calls, counted by a small library that is loaded before it (`cc`).
 """
@@ -38,7 +38,7 @@ __attribute__((destructor)) static void told(void) {
 
 
 def main():
-    program, word = sys.argv[1:3]
+    program, words = sys.argv[1], sys.argv[2:]
     given = sys.stdin.buffer.read()
     with tempfile.TemporaryDirectory() as folder:
         library = os.path.join(folder, "counting.so")
@@ -47,7 +47,7 @@ def main():
         subprocess.run(["cc", "-O2", "-shared", "-fPIC", source.name, "-o", library, "-ldl"], check=True)
 
         def run(**how):
-            made = subprocess.run([program, word], input=given, capture_output=True, env={**os.environ, "LD_PRELOAD": library, **how})
+            made = subprocess.run([program, *words], input=given, capture_output=True, env={**os.environ, "LD_PRELOAD": library, **how})
             return (made.returncode, made.stdout), made.stderr
 
         wanted, told = run(TELL_COUNT="1")

@@ -8,6 +8,11 @@ pub mod Sentences
 pub mod Inputs
 pub mod Outputs
 pub mod Replays
+-- The bounds on a global's change: what they say of executions, the global of a name, and lists that
+-- are made one by one.
+pub mod Costs
+pub mod Globals
+pub mod Pairs
 -- Texts that are made.
 pub mod Sampled
 -- What clap makes of the words that are listed.

@@ -1,8 +1,8 @@
 -- What clap makes of the words that are listed: it takes them, or tells that help or the version is
 -- asked for.
 use Rattle.std.proofs.Common.{refl, sym, subst, ap, codes, true, false, List, ℕ, [], ◌∷◌, Option, Some, None, ◌≡◌, ◌≢◌, ◌⊎◌, inl, inr, Bool, zero, suc, ◌≤◌, ◌-◌, ◌+◌, arith, option_map, true≢false, length, if◌then◌else◌, ◌∙◌}
-use Rattle.std.proofs.lemmas.Bool.{leb-true}
-use Rattle.std.specs.Prelude.{nat_le, ◌&&◌}
+use Rattle.std.proofs.lemmas.Bool.{eqb-true, leb-true}
+use Rattle.std.specs.Prelude.{nat_le, ◌&&◌, ◌==◌}
 use Rattle.std.proofs.lemmas.Slice.Eq.{bytes_eq-Decides}
 use Rattle.std.specs.Str.{bytes_eq}
 use Rattle.clap.specs.Words.{Row, Text, fault_of, is_simple, is_simple_and_free, subcommand_of}
@@ -20,7 +20,8 @@ use Rattle.clap.specs.declared.error.kind.ErrorKind.{ErrorKind}
 use Rattle.clap.specs.declared.error.kind.ErrorKind.TheVariants as kind
 use Rattle.clap.proofs.OnLiterals.{clap_on_literals}
 use Rattle.cra.specs.declared.words.Work.{Work}
-use Rattle.cra.specs.Words.{count_of, is_short_number, sample_of, work_named, work_of}
+use Rattle.c_lexer.specs.Kinds.{is_word_shape}
+use Rattle.cra.specs.Words.{cost_of, count_of, is_short_number, sample_of, work_named, work_of, work_with}
 use Rattle.cra.specs.Commands.{commands, matched_work, told_work}
 
 pub commands-simple : is_simple_and_free commands ≡ true
@@ -74,7 +75,7 @@ module _ (name : List ℕ) where
   unfolding clap_on_literals
   version-fault = refl
 
-  -- a number behind two dashes
+  -- a number, or a name, behind two dashes
   dashes-fault : (text : List ℕ) → fault_of commands (name ∷ codes "sample" ∷ codes "--" ∷ text ∷ []) ≡ []
   unfolding clap_on_literals
   dashes-fault text = refl
@@ -82,6 +83,23 @@ module _ (name : List ℕ) where
   dashes-name : (text : List ℕ) → name_of (subcommand_of commands (name ∷ codes "sample" ∷ codes "--" ∷ text ∷ [])) ≡ Some (codes "sample")
   unfolding clap_on_literals
   dashes-name text = refl
+
+  named-fault : (text : List ℕ) → fault_of commands (name ∷ codes "cost" ∷ codes "--" ∷ text ∷ []) ≡ []
+  unfolding clap_on_literals
+  named-fault text = refl
+
+  named-name : (text : List ℕ) → name_of (subcommand_of commands (name ∷ codes "cost" ∷ codes "--" ∷ text ∷ [])) ≡ Some (codes "cost")
+  unfolding clap_on_literals
+  named-name text = refl
+
+  -- a name that does not begin with a dash
+  word-fault : (b : ℕ) (rest : List ℕ) → (b == 45) ≡ false → fault_of commands (name ∷ codes "cost" ∷ (b ∷ rest) ∷ []) ≡ []
+  unfolding clap_on_literals
+  word-fault b rest e = rw e refl
+
+  word-name : (b : ℕ) (rest : List ℕ) → (b == 45) ≡ false → name_of (subcommand_of commands (name ∷ codes "cost" ∷ (b ∷ rest) ∷ [])) ≡ Some (codes "cost")
+  unfolding clap_on_literals
+  word-name b rest e = rw e refl
 
   -- a number that begins with a digit from 1 to 9
   number-fault : (d : ℕ) → d ≤ 8 → (rest : List ℕ) → fault_of commands (name ∷ codes "sample" ∷ ((49 + d) ∷ rest) ∷ []) ≡ []
@@ -190,22 +208,54 @@ module _ (name : List ℕ) where
   begun-name : (text : List ℕ) → IsBegun text → name_of (subcommand_of commands (sampled text)) ≡ Some (codes "sample")
   begun-name text h = subst (λ t. name_of (subcommand_of commands (sampled t)) ≡ Some (codes "sample")) (sym h.is) (number-name h.digit h.few h.rest)
 
-  -- no number asks for nothing, whatever is found
-  matched-unasked : (text : List ℕ) (found : Option Text) → sample_of text ≡ None → matched_work found (sampled text) ≡ None
-  matched-unasked text None none = refl
-  matched-unasked text (Some n) none = by_eq (bytes_eq (codes "sample") n && bytes_eq n (codes "sample"))
-    where
-      by_eq : (b : Bool) → (if b then sample_of text else None) ≡ None
-      by_eq true = none
-      by_eq false = refl
+  -- ---- a command and a name
 
-  sampled-fits : (text : List ℕ) (asked : Option Work) → sample_of text ≡ asked → Fits (sampled text)
-  sampled-fits text None none = record {
-    matched = λ _. matched-unasked text (name_of (subcommand_of commands (sampled text))) none ∙ sym none;
+  -- no word begins with a dash
+  record IsUndashed (text : List ℕ) : Type 0 where
+    first : ℕ
+    rest : List ℕ
+    is : text ≡ first ∷ rest
+    undashed : (first == 45) ≡ false
+
+  undashed : (first : ℕ) (rest : List ℕ) (b : Bool) → (first == 45) ≡ b → is_word_shape (first ∷ rest) ≡ true → IsUndashed (first ∷ rest)
+  undashed first rest false e is = record { first = first; rest = rest; is = refl; undashed = e }
+  undashed first rest true e is =
+      absurd (true≢false (sym is ∙ ap (λ n. is_word_shape (n ∷ rest)) (eqb-true first 45 e)))
+
+  word-undashed : (text : List ℕ) (work : Work) (b : Bool) → is_word_shape text ≡ b → cost_of text ≡ Some work → IsUndashed text
+  word-undashed [] work b is some = absurd (some-apart refl some)
+  word-undashed (first ∷ rest) work true is some = undashed first rest (first == 45) refl is
+  word-undashed (first ∷ rest) work false is some = absurd (some-apart (rw is refl) some)
+
+  abbrev costed : List ℕ → List (List ℕ)
+  costed text = name ∷ codes "cost" ∷ text ∷ []
+
+  undashed-fault : (text : List ℕ) → IsUndashed text → fault_of commands (costed text) ≡ []
+  undashed-fault text h = subst (λ t. fault_of commands (costed t) ≡ []) (sym h.is) (word-fault h.first h.rest h.undashed)
+
+  undashed-name : (text : List ℕ) → IsUndashed text → name_of (subcommand_of commands (costed text)) ≡ Some (codes "cost")
+  undashed-name text h = subst (λ t. name_of (subcommand_of commands (costed t)) ≡ Some (codes "cost")) (sym h.is) (word-name h.first h.rest h.undashed)
+
+  -- ---- a command and its argument
+
+  -- what asks for nothing does so, whatever is found
+  matched-unasked : (word text : List ℕ) (found : Option Text) → work_with word text ≡ None → matched_work found (name ∷ word ∷ text ∷ []) ≡ None
+  matched-unasked word text None none = refl
+  matched-unasked word text (Some n) none = by_eq (bytes_eq word n) refl
+    where
+      by_eq : (b : Bool) → bytes_eq word n ≡ b → (if b then work_with n text else None) ≡ None
+      by_eq true same = subst (λ w. work_with w text ≡ None) ((bytes_eq-Decides word n).0 same) none
+      by_eq false same = refl
+
+  unasked-fit : (word text : List ℕ) → work_with word text ≡ None → Fits (name ∷ word ∷ text ∷ [])
+  unasked-fit word text none = record {
+    matched = λ _. matched-unasked word text (name_of (subcommand_of commands (name ∷ word ∷ text ∷ []))) none ∙ sym none;
     answered = λ work some. absurd (some-apart none some);
     told = λ _ _. sym none;
   }
-  sampled-fits text (Some work) some =
+
+  sampled-fits : (text : List ℕ) (work : Work) → sample_of text ≡ Some work → Fits (sampled text)
+  sampled-fits text work some =
       let begins = number-begun text work some in
       record {
         matched = λ _. ap (λ n. matched_work n (sampled text)) (begun-name text begins);
@@ -213,60 +263,73 @@ module _ (name : List ℕ) where
         told = λ k told. absurd (kinds-apart told (begun-fault text begins));
       }
 
-  matched-other : (word text : List ℕ) (found : Option Text) → bytes_eq word (codes "sample") ≡ false
-      → matched_work found (name ∷ word ∷ text ∷ []) ≡ None
-  matched-other word text None other = refl
-  matched-other word text (Some n) other = by_eq (bytes_eq word n) refl
-    where
-      by_eq : (b : Bool) → bytes_eq word n ≡ b → (if b && bytes_eq n (codes "sample") then sample_of text else None) ≡ None
-      by_eq true same =
-          let not_it : bytes_eq n (codes "sample") ≡ false = subst (λ t. bytes_eq t (codes "sample") ≡ false) ((bytes_eq-Decides word n).0 same) other in
-          rw not_it refl
-      by_eq false same = refl
+  costed-fits : (text : List ℕ) (work : Work) → cost_of text ≡ Some work → Fits (costed text)
+  costed-fits text work some =
+      let begins = word-undashed text work (is_word_shape text) refl some in
+      record {
+        matched = λ _. ap (λ n. matched_work n (costed text)) (undashed-name text begins);
+        answered = λ _ _. inl (undashed-fault text begins);
+        told = λ k told. absurd (kinds-apart told (undashed-fault text begins));
+      }
 
-  text-fits : (word text : List ℕ) → Fits (name ∷ word ∷ text ∷ [])
-  text-fits word text = by_literal (λ w. Fits (name ∷ w ∷ text ∷ [])) (codes "sample") word _ refl (sampled-fits text _ refl) (λ other. record {
-    matched = λ _. matched-other word text (name_of (subcommand_of commands (name ∷ word ∷ text ∷ []))) other ∙ rw other refl;
-    answered = λ work some. absurd (some-apart (rw other refl) some);
-    told = λ _ _. rw other refl;
-  })
+  abbrev FitsWith : List ℕ → List ℕ → Work → Type 0
+  FitsWith text word work = work_with word text ≡ Some work → Fits (name ∷ word ∷ text ∷ [])
 
-  -- ---- a command, two dashes and a number
+  asked-fit : (word text : List ℕ) (work : Work) → FitsWith text word work
+  asked-fit word text work =
+      by_literal (λ w. FitsWith text w work) (codes "sample") word _ refl (λ some. sampled-fits text work some) (λ e1.
+      by_literal (λ w. FitsWith text w work) (codes "cost") word _ refl (λ some. costed-fits text work some) (λ e2 some.
+      absurd (some-apart (rw (e1, e2) refl) some)))
 
-  dashed-fits : (text : List ℕ) → Fits (name ∷ codes "sample" ∷ codes "--" ∷ text ∷ [])
-  dashed-fits text = record {
-    matched = λ _. ap (λ n. matched_work n (name ∷ codes "sample" ∷ codes "--" ∷ text ∷ [])) (dashes-name text);
+  text-fits : (word text : List ℕ) (asked : Option Work) → work_with word text ≡ asked → Fits (name ∷ word ∷ text ∷ [])
+  text-fits word text None none = unasked-fit word text none
+  text-fits word text (Some work) some = asked-fit word text work some
+
+  -- ---- a command, two dashes and its argument
+
+  abbrev behind : List ℕ → List ℕ → List (List ℕ)
+  behind word text = name ∷ word ∷ codes "--" ∷ text ∷ []
+
+  sampled_behind-fits : (text : List ℕ) → Fits (behind (codes "sample") text)
+  sampled_behind-fits text = record {
+    matched = λ _. ap (λ n. matched_work n (behind (codes "sample") text)) (dashes-name text);
     answered = λ _ _. inl (dashes-fault text);
     told = λ k told. absurd (kinds-apart told (dashes-fault text));
   }
 
-  matched-undashed : (word dashes text : List ℕ) (found : Option Text) → (bytes_eq word (codes "sample") && bytes_eq dashes (codes "--")) ≡ false
+  costed_behind-fits : (text : List ℕ) → Fits (behind (codes "cost") text)
+  costed_behind-fits text = record {
+    matched = λ _. ap (λ n. matched_work n (behind (codes "cost") text)) (named-name text);
+    answered = λ _ _. inl (named-fault text);
+    told = λ k told. absurd (kinds-apart told (named-fault text));
+  }
+
+  abbrev asked_behind : List ℕ → List ℕ → List ℕ → Option Work
+  asked_behind word dashes text = work_of (name ∷ word ∷ dashes ∷ text ∷ [])
+
+  matched-undashed : (word dashes text : List ℕ) (found : Option Text) → asked_behind word dashes text ≡ None
       → matched_work found (name ∷ word ∷ dashes ∷ text ∷ []) ≡ None
-  matched-undashed word dashes text None other = refl
-  matched-undashed word dashes text (Some n) other = by_eq (bytes_eq word n) refl
+  matched-undashed word dashes text None none = refl
+  matched-undashed word dashes text (Some n) none = by_eq (bytes_eq word n) refl
     where
-      by_eq : (b : Bool) → bytes_eq word n ≡ b
-          → (if b && bytes_eq n (codes "sample") && bytes_eq dashes (codes "--") then sample_of text else None) ≡ None
-      by_eq true same =
-          let not_it : (bytes_eq n (codes "sample") && bytes_eq dashes (codes "--")) ≡ false =
-          subst (λ t. (bytes_eq t (codes "sample") && bytes_eq dashes (codes "--")) ≡ false) ((bytes_eq-Decides word n).0 same) other in
-          rw not_it refl
+      by_eq : (b : Bool) → bytes_eq word n ≡ b → (if b && bytes_eq dashes (codes "--") then work_with n text else None) ≡ None
+      by_eq true same = subst (λ w. (if bytes_eq dashes (codes "--") then work_with w text else None) ≡ None) ((bytes_eq-Decides word n).0 same) none
       by_eq false same = refl
 
-  others_dashed : (word dashes text : List ℕ) → (bytes_eq word (codes "sample") && bytes_eq dashes (codes "--")) ≡ false
-      → Fits (name ∷ word ∷ dashes ∷ text ∷ [])
-  others_dashed word dashes text other = record {
-    matched = λ _. matched-undashed word dashes text (name_of (subcommand_of commands (name ∷ word ∷ dashes ∷ text ∷ []))) other ∙ rw other refl;
-    answered = λ work some. absurd (some-apart (rw other refl) some);
-    told = λ _ _. rw other refl;
+  unasked_behind-fit : (word dashes text : List ℕ) → asked_behind word dashes text ≡ None → Fits (name ∷ word ∷ dashes ∷ text ∷ [])
+  unasked_behind-fit word dashes text none = record {
+    matched = λ _. matched-undashed word dashes text (name_of (subcommand_of commands (name ∷ word ∷ dashes ∷ text ∷ []))) none ∙ sym none;
+    answered = λ work some. absurd (some-apart none some);
+    told = λ _ _. sym none;
   }
 
   behind-fits : (word dashes text : List ℕ) → Fits (name ∷ word ∷ dashes ∷ text ∷ [])
   behind-fits word dashes text =
-      by_literal (λ w. Fits (name ∷ w ∷ dashes ∷ text ∷ [])) (codes "sample") word _ refl
-      (by_literal (λ d. Fits (name ∷ codes "sample" ∷ d ∷ text ∷ [])) (codes "--") dashes _ refl (dashed-fits text)
-      (λ other. others_dashed (codes "sample") dashes text other))
-      (λ other. others_dashed word dashes text (rw other refl))
+      by_literal (λ d. Fits (name ∷ word ∷ d ∷ text ∷ [])) (codes "--") dashes _ refl
+      (by_literal (λ w. Fits (behind w text)) (codes "sample") word _ refl (sampled_behind-fits text) (λ e1.
+      by_literal (λ w. Fits (behind w text)) (codes "cost") word _ refl (costed_behind-fits text) (λ e2.
+      unasked_behind-fit word (codes "--") text (rw (e1, e2) refl))))
+      (λ other. unasked_behind-fit word dashes text (rw other refl))
 
 -- ---- all words
 
@@ -297,7 +360,7 @@ pub words-fit : (words : List (List ℕ)) → Fits words
 words-fit [] = unlisted-fit [] (refl, refl, none-empty)
 words-fit (name ∷ []) = unlisted-fit (name ∷ []) (refl, refl, none-alone name)
 words-fit (name ∷ word ∷ []) = word-fits name word
-words-fit (name ∷ word ∷ text ∷ []) = text-fits name word text
+words-fit (name ∷ word ∷ text ∷ []) = text-fits name word text _ refl
 words-fit (name ∷ word ∷ dashes ∷ text ∷ []) = behind-fits name word dashes text
 words-fit (name ∷ word ∷ dashes ∷ text ∷ more ∷ rest) =
     unlisted-fit (name ∷ word ∷ dashes ∷ text ∷ more ∷ rest) (refl, refl, none-longer name word dashes text more rest)

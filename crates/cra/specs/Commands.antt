@@ -3,7 +3,7 @@ use Rattle.std.specs.Prelude.{◌≡◌, ◌++◌, ℕ, List, [], ◌∷◌, Opt
 use Rattle.std.specs.Str.{bytes_eq}
 use Rattle.clap.specs.Words.{App, Rule, Shape, new_app, new_rule, with_rule, with_subcommand}
 use Rattle.cra.specs.declared.words.Work.{Work}
-use Rattle.cra.specs.Words.{sample_of, work_named}
+use Rattle.cra.specs.Words.{work_named, work_with}
 
 -- a command without arguments
 abbrev pub plain : List ℕ → Shape
@@ -12,6 +12,9 @@ plain name = (new_app name).top
 abbrev pub count_rule : Rule
 count_rule = record (new_rule (codes "count")) { required = true }
 
+abbrev pub name_rule : Rule
+name_rule = record (new_rule (codes "name")) { required = true }
+
 abbrev pub top : App
 top = record { top = record (plain (codes "cra")) { has_version = true }; subs = [] }
 
@@ -19,21 +22,23 @@ top = record { top = record (plain (codes "cra")) { has_version = true }; subs =
 abbrev pub commands : App
 commands =
     with_subcommand
+    (with_subcommand
     (with_subcommand (with_subcommand (with_subcommand (with_subcommand (with_subcommand top
     (plain (codes "analyse")))
     (plain (codes "certify")))
     (plain (codes "check")))
     (with_rule (new_app (codes "sample")) count_rule).top)
     (plain (codes "renew")))
-    (plain (codes "replay"))
+    (plain (codes "replay")))
+    (with_rule (new_app (codes "cost")) name_rule).top
 
 -- what words ask for that name this subcommand
 abbrev pub matched_work : Option (List ℕ) → List (List ℕ) → Option Work
 matched_work (Some name) (first ∷ word ∷ []) = if bytes_eq word name then work_named name else None
-matched_work (Some name) (first ∷ word ∷ text ∷ []) =
-    if bytes_eq word name && bytes_eq name (codes "sample") then sample_of text else None
+matched_work (Some name) (first ∷ word ∷ text ∷ []) = if bytes_eq word name then work_with name text
+    else None
 matched_work (Some name) (first ∷ word ∷ dashes ∷ text ∷ []) =
-    if bytes_eq word name && bytes_eq name (codes "sample") && bytes_eq dashes (codes "--") then sample_of text else None
+    if bytes_eq word name && bytes_eq dashes (codes "--") then work_with name text else None
 matched_work _ _ = None
 
 -- what words ask for that name none

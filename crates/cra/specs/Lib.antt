@@ -14,8 +14,11 @@ pub mod Check
 pub mod Renew
 pub mod Replay
 pub mod Sample
+pub mod Cost
 pub mod Replies
 pub mod Sentences
+pub mod Bounded
 -- ---- words of proofs and of private functions
 pub mod Submitted
+pub mod Posts
 pub mod Commands

@@ -5,10 +5,11 @@ use Rattle.std.specs.Io.KnownBytes.{prepend_known}
 use Rattle.summary_cache.specs.Limits.{most_bytes}
 use Rattle.cra.specs.declared.reply.Reply.{Reply}
 use Rattle.cra.specs.declared.words.Work.{Work}
-use Rattle.cra.specs.declared.words.Work.TheVariants.{Analyse, Certify, Check, Sample, Renew, Replay, Help, Version}
+use Rattle.cra.specs.declared.words.Work.TheVariants.{Analyse, Certify, Check, Sample, Renew, Replay, Cost, Help, Version}
 use Rattle.cra.specs.Analyse.{IsReplyToAnalyse}
 use Rattle.cra.specs.Certify.{IsReplyToCertify}
 use Rattle.cra.specs.Check.{IsReplyToCheck}
+use Rattle.cra.specs.Cost.{IsReplyToCost}
 use Rattle.cra.specs.Input.{IsInput}
 use Rattle.cra.specs.Limits.{most_file, most_input}
 use Rattle.cra.specs.Renew.{IsReplyToRenew}
@@ -42,6 +43,8 @@ IsReplyToWork (Some Renew) before after reply = IsReplyToRead most_file IsReplyT
     reply
 IsReplyToWork (Some Replay) before after reply = IsReplyToRead most_input IsReplyToReplay before
     after reply
+IsReplyToWork (Some (Cost name)) before after reply = IsReplyToRead most_bytes (IsReplyToCost name)
+    before after reply
 
 -- What a run replies, where its source has some bytes left before it and others after it. Words
 -- that ask for nothing are refused before anything is read.

@@ -1,7 +1,7 @@
 -- How a run ends, and with which number.
 use Rattle.std.specs.Prelude.{◌≢◌, ℕ}
 use Rattle.cra.specs.declared.status.Status.{Status}
-use Rattle.cra.specs.declared.status.Status.TheVariants.{AllProved, SomeUnproved, NoneFailed, SomeFailed, Certified, CheckPassed, CheckFailed, Told, WrongWords, Refused, SourceFailed, SinkFailed, WantOfMemory, WrongInput, TooLong}
+use Rattle.cra.specs.declared.status.Status.TheVariants.{AllProved, SomeUnproved, NoneFailed, SomeFailed, Certified, CheckPassed, CheckFailed, CostsTold, NoGlobal, Told, WrongWords, Refused, SourceFailed, SinkFailed, WantOfMemory, WrongInput, TooLong}
 
 abbrev pub code_of : Status → ℕ
 code_of AllProved = 0
@@ -11,6 +11,8 @@ code_of SomeFailed = 1
 code_of Certified = 0
 code_of CheckPassed = 0
 code_of CheckFailed = 8
+code_of CostsTold = 0
+code_of NoGlobal = 10
 code_of Told = 0
 code_of WrongWords = 2
 code_of Refused = 3

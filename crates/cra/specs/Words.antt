@@ -3,8 +3,9 @@ use Rattle.std.specs.Prelude.{ℕ, List, [], ◌∷◌, Bool, true, false, ◌&&
 use Rattle.std.specs.List.{list_all}
 use Rattle.std.specs.Str.{bytes_eq}
 use Rattle.std.specs.Str.Parse.{digits_value}
+use Rattle.c_lexer.specs.Kinds.{is_word_shape}
 use Rattle.cra.specs.declared.words.Work.{Work}
-use Rattle.cra.specs.declared.words.Work.TheVariants.{Analyse, Certify, Check, Sample, Renew, Replay, Help, Version}
+use Rattle.cra.specs.declared.words.Work.TheVariants.{Analyse, Certify, Check, Sample, Renew, Replay, Cost, Help, Version}
 
 -- what one word asks for
 abbrev pub work_named : List ℕ → Option Work
@@ -37,12 +38,22 @@ count_of text = if is_short_number text && nat_le (digits_value 10 text) most_pr
 abbrev pub sample_of : List ℕ → Option Work
 sample_of text = option_map Sample (count_of text)
 
--- What a command line asks for: the program's name and one word, or `sample` and a number, before
--- which two dashes may stand. Every other list of words asks for nothing.
+-- the bounds on the change of a global, whose name is a word of the programs that are read
+abbrev pub cost_of : List ℕ → Option Work
+cost_of text = if is_word_shape text then Some (Cost text) else None
+
+-- what a command asks for that has an argument
+abbrev pub work_with : List ℕ → List ℕ → Option Work
+work_with word text = if bytes_eq word (codes "sample") then sample_of text
+    else (if bytes_eq word (codes "cost") then cost_of text else None)
+
+-- What a command line asks for: the program's name and one word, or `sample` and a number, or `cost`
+-- and a name, before which two dashes may stand. Every other list of words asks for nothing.
 abbrev pub work_of : List (List ℕ) → Option Work
 work_of (name ∷ word ∷ []) = work_named word
-work_of (name ∷ word ∷ text ∷ []) = if bytes_eq word (codes "sample") then sample_of text else None
-work_of (name ∷ word ∷ dashes ∷ text ∷ []) = if bytes_eq word (codes "sample") && bytes_eq dashes (codes "--") then sample_of text else None
+work_of (name ∷ word ∷ text ∷ []) = work_with word text
+work_of (name ∷ word ∷ dashes ∷ text ∷ []) = if bytes_eq dashes (codes "--") then work_with word text
+    else None
 work_of _ = None
 
 -- whether the source is read for it
@@ -53,6 +64,7 @@ reads_source (Some Check) = true
 reads_source (Some (Sample count)) = false
 reads_source (Some Renew) = true
 reads_source (Some Replay) = true
+reads_source (Some (Cost name)) = true
 reads_source (Some Help) = false
 reads_source (Some Version) = false
 reads_source None = false

@@ -10,7 +10,7 @@ use std::alloc::{AllocError, Global};
 const HELP: &[u8] = b"\
 cra: a verified analyser of numeric C
 
-usage: cra analyse | certify | check | sample N | renew | replay
+usage: cra analyse | certify | check | sample N | renew | replay | cost NAME
 
   analyse    reads the text of a program, and prints what is proved of it
   certify    reads the text of a program, and prints its report with all that shows it, as JSON
@@ -18,6 +18,7 @@ usage: cra analyse | certify | check | sample N | renew | replay
   sample N   makes a text of N procedures with loops, 1 to 250, and prints how many assertions are proved
   renew      reads a certificate file, and where it passes prints one that is made anew
   replay     reads a text with values and turns as JSON, and prints one execution
+  cost NAME  reads the text of a program, and prints by how much each procedure changes a global
   --help     prints this
   --version  prints the version
 ";
@@ -46,6 +47,6 @@ pub fn usage_reply(alloc: Global) -> Result<Reply, AllocError>
     line(
         alloc,
         Status::WrongWords,
-        b"usage: cra analyse | certify | check | sample N | renew | replay\n",
+        b"usage: cra analyse | certify | check | sample N | renew | replay | cost NAME\n",
     )
 }

@@ -12,6 +12,7 @@ use std::{env, io};
 mod analysing;
 mod certifying;
 mod checking;
+mod costing;
 mod help;
 mod input;
 mod limits;

@@ -4,8 +4,10 @@ ghost use Rattle.whole_numbers.specs.Counters.{Rose};
 ghost use Rattle.cra.specs.Output.{TookPart};
 ghost use Rattle.cra.specs.declared.reply.Reply.{Reply as Answer};
 ghost use Rattle.cra.specs.Analyse.{IsToAnalyse};
+ghost use Rattle.cra.specs.Bounded.{TellsTrueBounds};
 ghost use Rattle.cra.specs.Certify.{IsToCertify};
 ghost use Rattle.cra.specs.Check.{IsToCheck, IsToCheckCertified};
+ghost use Rattle.cra.specs.Cost.{HasGlobal, HasNoGlobal, IsToCost};
 ghost use Rattle.cra.specs.Renew.{IsToRenew, IsToRenewCertified};
 ghost use Rattle.cra.specs.Replay.{IsToReplay};
 ghost use Rattle.cra.specs.Replies.{IsReply, IsReplyToWork};
@@ -16,6 +18,7 @@ ghost use Rattle.cra.specs.Words.{reads_source, work_of};
 use crate::analysing::analyse_reply;
 use crate::certifying::certify_reply;
 use crate::checking::check_reply;
+use crate::costing::cost_reply;
 use crate::help::{help_reply, usage_reply, version_reply};
 use crate::input::{InputError, read_input};
 use crate::limits::{MOST_FILE, MOST_INPUT, PIECE};
@@ -67,6 +70,10 @@ fn answer_to<R: Source>(
             let input = read_input(alloc, source, MOST_INPUT, PIECE)?;
             Ok(replay_reply(alloc, &input)?)
         }
+        Some(Work::Cost(name)) => {
+            let input = read_input(alloc, source, MOST_BYTES, PIECE)?;
+            Ok(cost_reply(alloc, name.as_slice(), &input)?)
+        }
         Some(Work::Help) => Ok(help_reply(alloc)?),
         Some(Work::Version) => Ok(version_reply(alloc)?),
     }
@@ -112,6 +119,13 @@ pub fn run<R: Source, W: Sink>(
     // Asked to replay, `SomeFailed` says that an execution from `main` fails an assertion.
     ensures failing { (asked : IsToReplay (map string_bytes words.now) (R.left source.old))
         → result ≡ Status.SomeFailed → AnAssertionFails asked.program }
+
+    // Asked what an accepted text costs, `CostsTold` says that each execution of a procedure that
+    // returns is held by some case of its summary, that the global changes as is printed of that
+    // case, and that the multipliers of each bound show it.
+    ensures sound_cost { (asked : IsToCost (map string_bytes words.now) (R.left source.old))
+        → result ≡ Status.CostsTold
+        → TellsTrueBounds asked.program asked.name (W.taken sink.old) (W.taken sink.new) }
 
     // Every status but those of the source, the sink and memory is the answer to the words and to
     // the input.
@@ -169,6 +183,14 @@ pub fn run<R: Source, W: Sink>(
         → ¬ Rose (R.faults source.old) (R.faults source.new)
         → ¬ Rose (W.faults sink.old) (W.faults sink.new)
         → (result ≡ Status.NoneFailed) ⊎ (result ≡ Status.SomeFailed)
+        ⊎ (result ≡ Status.WantOfMemory) }
+
+    // A text that is accepted has its costs where it has the global, and else is told to have none.
+    ensures complete_cost { (asked : IsToCost (map string_bytes words.now) (R.left source.old))
+        → ¬ Rose (R.faults source.old) (R.faults source.new)
+        → ¬ Rose (W.faults sink.old) (W.faults sink.new)
+        → ((result ≡ Status.CostsTold) × HasGlobal asked.program asked.name)
+        ⊎ ((result ≡ Status.NoGlobal) × HasNoGlobal asked.program asked.name)
         ⊎ (result ≡ Status.WantOfMemory) }
 
     // The source failed: exactly where its count of faults rose, and then nothing is written.

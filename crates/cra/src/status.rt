@@ -19,6 +19,10 @@ pub enum Status {
     /// An answer of a certificate file does not pass, answers are left over, or its report is
     /// another.
     CheckFailed,
+    /// The bounds on a global's change were told.
+    CostsTold,
+    /// The text has no such global.
+    NoGlobal,
     /// The help or the version was told.
     Told,
     /// The words ask for nothing.
@@ -49,6 +53,8 @@ impl Status {
             Status::Certified => 0,
             Status::CheckPassed => 0,
             Status::CheckFailed => 8,
+            Status::CostsTold => 0,
+            Status::NoGlobal => 10,
             Status::Told => 0,
             Status::WrongWords => 2,
             Status::Refused => 3,

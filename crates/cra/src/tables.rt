@@ -180,6 +180,15 @@ cra sample -3
 cra sample 3 3
 cra sample -- -- 3
 cra -- sample 3
+cra cost
+cra cost 1x
+cra cost -x
+cra cost a-b
+cra cost g h
+cra cost g --
+cra cost --help
+cra cost -- -- g
+cra -- cost g
 analyse cra
 ";
 

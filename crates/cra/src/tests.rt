@@ -7,7 +7,8 @@ use std::process::Abort;
 use std::test::Fail;
 use summary_cache::MOST_BYTES;
 
-const USAGE: &[u8] = b"usage: cra analyse | certify | check | sample N | renew | replay\n";
+const USAGE: &[u8] =
+    b"usage: cra analyse | certify | check | sample N | renew | replay | cost NAME\n";
 
 const TOO_LONG: &[u8] = b"input is too long\n";
 
@@ -93,6 +94,41 @@ const QUOTIENT: &[u8] = b"int main(void) {\n  assert(7 / -2 == -4);\n}\n";
 
 const QUOTIENT_REPORT: &[u8] =
     b"procedure main\nnone\nassertion 1 at 2:3 unproved\n  point none\ntotal 0 proved, 1 unproved\n";
+
+// A sum that a loop adds up in a global.
+const WORK: &[u8] =
+    b"int g;\nvoid work(int n) {\n  int i = 0;\n  while (i < n) {\n    g = g + i;\n    i = i + 1;\n  }\n}\nint main(void) { work(4); }\n";
+
+// Names of globals and texts, each with its status and its output.
+const COSTS: [(&str, &[u8], u8, &[u8]); 7] = [
+    (
+        "g",
+        WORK,
+        0,
+        b"procedure work\ncase 1\n  change = 0\ncase 2\n  2*change <= n*n - n\n  by -1, 1, -1, 2\nprocedure main\ncase 1\n  change = 6\n",
+    ),
+    ("h", WORK, 10, b"no global h\n"),
+    ("int", WORK, 10, b"no global int\n"),
+    (
+        "g",
+        b"int g; int main(void) { g = __VERIFIER_nondet_int(); }",
+        0,
+        b"procedure main\ncase 1\n  no bound\n",
+    ),
+    (
+        "g",
+        b"int g; int main(void) { int x = __VERIFIER_nondet_int(); assume(x <= 3); g = g + x + 5; }",
+        0,
+        b"procedure main\ncase 1\n  change <= 8\n  by 1, 1\n",
+    ),
+    (
+        "cost",
+        b"int h, cost; void e(void) { assert(0); } int main(void) { cost = cost * cost + h; }",
+        0,
+        b"procedure e\nnone\nprocedure main\ncase 1\n  change = cost*cost + h - cost\n",
+    ),
+    ("g", b"int main(void) { @ }", 3, b"refused byte at 1:18\n"),
+];
 
 // Inputs on which an execution is followed, each with its status and its output.
 const REPLAYS: [(&[u8], u8, &[u8]); 16] = [
@@ -329,6 +365,23 @@ fn files(rt: HostRuntime) -> Result<(), Fail> {
 fn replays(rt: HostRuntime) -> Result<(), Fail> {
     for (input, status, text) in REPLAYS {
         ends(rt.alloc(), &rt, &["cra", "replay"], input, status, text)?;
+    }
+    Ok(())
+}
+
+// Bounds on a global's change that an independent model of the rules gives.
+#[test]
+fn costs(rt: HostRuntime) -> Result<(), Fail> {
+    for (name, input, status, text) in COSTS {
+        ends(rt.alloc(), &rt, &["cra", "cost", name], input, status, text)?;
+        ends(
+            rt.alloc(),
+            &rt,
+            &["cra", "cost", "--", name],
+            input,
+            status,
+            text,
+        )?;
     }
     Ok(())
 }

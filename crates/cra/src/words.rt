@@ -1,15 +1,18 @@
 ghost use Rattle.std.specs.Prelude.{◌≡◌, ◌≢◌, ◌-◌, None, Some, map, string_bytes, IfOk, IfErr, if◌then◌else◌};
 ghost use Rattle.std.specs.Str.Parse.{digits_value};
 ghost use Rattle.clap.specs.Words.{app_of, subcommand_name_of};
+ghost use Rattle.c_lexer.specs.Bytes.{is_word_byte};
+ghost use Rattle.c_lexer.specs.Kinds.{is_word_shape};
 ghost use Rattle.cra.specs.Commands.{commands, matched_work, told_work};
-ghost use Rattle.cra.specs.Words.{count_of, is_digit, is_short_number, sample_of, work_named, work_of};
+ghost use Rattle.cra.specs.Words.{cost_of, count_of, is_digit, is_short_number, sample_of, work_named, work_of, work_with};
 
 use clap::error::ErrorKind;
 use clap::{Arg, ArgMatches, Command};
+use items::Items;
 use std::alloc::{AllocError, Global};
 
 /// What the words of a command line ask for.
-#[derive(Clone, Copy, Debug, PartialEq, Eq)]
+#[derive(Drop)]
 pub enum Work {
     /// The report of a text.
     Analyse,
@@ -23,6 +26,8 @@ pub enum Work {
     Renew,
     /// One execution of a text on given values.
     Replay,
+    /// The bounds on the change of the global of this name.
+    Cost(Items<u8>),
     Help,
     Version,
 }
@@ -49,6 +54,8 @@ fn command<'a>(alloc: Global) -> Result<Command<'a>, AllocError>
 {
     let count = Arg::new(alloc, "count").required(true);
     let sample = Command::new(alloc, "sample").arg(count)?;
+    let name = Arg::new(alloc, "name").required(true);
+    let cost = Command::new(alloc, "cost").arg(name)?;
     Ok(
         Command::new(alloc, "cra")
             .version("0.1.0")
@@ -57,7 +64,8 @@ fn command<'a>(alloc: Global) -> Result<Command<'a>, AllocError>
             .subcommand(Command::new(alloc, "check"))?
             .subcommand(sample)?
             .subcommand(Command::new(alloc, "renew"))?
-            .subcommand(Command::new(alloc, "replay"))?,
+            .subcommand(Command::new(alloc, "replay"))?
+            .subcommand(cost)?,
     )
 }
 
@@ -96,21 +104,74 @@ fn count_of(text: &str) -> Option<u32>
 /// The most procedures of a made text, without `main`.
 const MOST_PROCEDURES: u32 = 250;
 
-/// What words ask for that name a command.
-fn work_matched(matches: &ArgMatches<'_>, words: &[String]) -> Option<Work>
-    ensures { result ≡ matched_work (subcommand_name_of matches.now) (map string_bytes words.now) }
+fn is_word_byte(byte: u8) -> bool
+    ensures { result ≡ is_word_byte byte }
 {
-    let name = matches.subcommand_name()?;
+    byte.is_ascii_alphanumeric() || byte == b'_'
+}
+
+/// Whether a text is a word of the programs that are read: a letter or `_`, and then letters, digits
+/// and `_`.
+fn is_word(text: &[u8]) -> bool
+    ensures { result ≡ is_word_shape text.now }
+{
+    match text {
+        [first, rest @ ..] => {
+            (first.is_ascii_alphabetic() || *first == b'_')
+                && rest.iter().all(|byte| is_word_byte(*byte))
+        }
+        [] => false,
+    }
+}
+
+/// The bounds on a global's change, where the text is a word.
+fn cost_of(alloc: Global, text: &[u8]) -> Result<Option<Work>, AllocError>
+    ensures { IfOk result (λ work. work ≡ cost_of text.now) }
+{
+    if !is_word(text) {
+        return Ok(None);
+    }
+    let name = Items::from_slice(alloc, text)?;
+    Ok(Some(Work::Cost(name)))
+}
+
+/// What a command asks for that has an argument.
+fn work_with(alloc: Global, name: &str, text: &str) -> Result<Option<Work>, AllocError>
+    ensures { IfOk result (λ work. work ≡ work_with name.now text.now) }
+{
+    match name {
+        "sample" => Ok(count_of(text).map(Work::Sample)),
+        "cost" => cost_of(alloc, text.as_bytes()),
+        _ => Ok(None),
+    }
+}
+
+/// What words ask for that name this command.
+fn work_under(alloc: Global, name: &str, words: &[String]) -> Result<Option<Work>, AllocError>
+    ensures { IfOk result (λ work. work ≡ matched_work (Some name.now) (map string_bytes words.now)) }
+{
     match words {
-        [_, word] if word.as_str() == name => work_named(name),
-        [_, word, count] if word.as_str() == name && name == "sample" => {
-            count_of(count.as_str()).map(Work::Sample)
+        [_, word] if word.as_str() == name => Ok(work_named(name)),
+        [_, word, text] if word.as_str() == name => work_with(alloc, name, text.as_str()),
+        [_, word, dashes, text] if word.as_str() == name && dashes.as_str() == "--" => {
+            work_with(alloc, name, text.as_str())
         }
-        [_, word, dashes, count]
-            if word.as_str() == name && name == "sample" && dashes.as_str() == "--" => {
-            count_of(count.as_str()).map(Work::Sample)
-        }
-        _ => None,
+        _ => Ok(None),
+    }
+}
+
+/// What words ask for that name a command.
+fn work_matched(
+    alloc: Global,
+    matches: &ArgMatches<'_>,
+    words: &[String],
+) -> Result<Option<Work>, AllocError>
+    ensures { IfOk result (λ work. work
+        ≡ matched_work (subcommand_name_of matches.now) (map string_bytes words.now)) }
+{
+    match matches.subcommand_name() {
+        Some(name) => work_under(alloc, name, words),
+        None => Ok(None),
     }
 }
 
@@ -129,7 +190,7 @@ pub fn work_of(alloc: Global, words: &[String]) -> Result<Option<Work>, AllocErr
     ensures { IfOk result (λ work. work ≡ work_of (map string_bytes words.now)) }
 {
     match command(alloc)?.try_get_matches_from(words) {
-        Ok(matches) => Ok(work_matched(&matches, words)),
+        Ok(matches) => work_matched(alloc, &matches, words),
         Err(error) => match error.kind() {
             ErrorKind::OutOfMemory => Err(AllocError),
             ErrorKind::DisplayHelp | ErrorKind::DisplayVersion => Ok(work_told(words)),

@@ -7,7 +7,8 @@ use simplex::{answer, infeasible, sup};
 use std::alloc::{AllocError, Global};
 use std::fmt::Write;
 
-fn write_limit(text: &mut String, limit: Limit) -> Result<(), AllocError> {
+/// A limit in words.
+pub(crate) fn write_limit(text: &mut String, limit: Limit) -> Result<(), AllocError> {
     match limit {
         Limit::Pivots => text.push_str("pivots"),
         Limit::Wide { left, right, times } => {

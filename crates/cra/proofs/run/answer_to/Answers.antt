@@ -1,13 +1,14 @@
 use Rattle.std.proofs.Common.{◌≡◌, rules, List, ℕ, Option, Some, subst, sym}
 use Rattle.std.specs.Io.KnownBytes.{prepend_known}
 use Rattle.cra.specs.declared.reply.Reply.{Reply}
-use Rattle.cra.specs.declared.words.Work.TheVariants.{Analyse, Certify, Check, Renew, Replay}
+use Rattle.cra.specs.declared.words.Work.TheVariants.{Analyse, Certify, Check, Renew, Replay, Cost}
 use Rattle.cra.specs.Input.{IsInput}
 use Rattle.summary_cache.specs.Limits.{most_bytes}
 use Rattle.cra.specs.Limits.{most_file, most_input}
 use Rattle.cra.specs.Analyse.{IsReplyToAnalyse}
 use Rattle.cra.specs.Certify.{IsReplyToCertify}
 use Rattle.cra.specs.Check.{IsReplyToCheck}
+use Rattle.cra.specs.Cost.{IsReplyToCost}
 use Rattle.cra.specs.Renew.{IsReplyToRenew}
 use Rattle.cra.specs.Replay.{IsReplyToReplay}
 use Rattle.cra.specs.Replies.{IsReplyToRead, IsReplyToWork}
@@ -76,3 +77,15 @@ returns-in_ok-replay_reply-in-Some-Replay-clause-answer g c =
     let asked : c.in-Some-Replay.field-0 ≡ Replay = search rules in
     subst (λ work. IsReplyToWork work before after reply) (sym c.in-Some-Replay.is) (subst (λ work. IsReplyToWork (Some work) before after reply) (sym asked)
     (to-read most_input IsReplyToReplay before after c.deref-in-Some-Replay.result.now reply is front c.in_ok-replay_reply-in-Some-Replay.ensures.reply))
+
+pub returns-in_ok-cost_reply-in-Some-Cost-clause-answer :
+    goal.returns-in_ok-cost_reply-in-Some-Cost-clause-answer
+returns-in_ok-cost_reply-in-Some-Cost-clause-answer g c =
+    let before = g.R.Source.left c.args.source.now in
+    let after = g.R.Source.left c.read_input-in-Some-Cost.new.source in
+    let reply = c.in_ok-cost_reply-in-Some-Cost.field-0 in
+    let is : IsInput most_bytes before c.deref-in-Some-Cost.result.now = search rules in
+    let front : before ≡ prepend_known c.deref-in-Some-Cost.result.now after = search rules in
+    let asked : c.in-Some-Cost.field-0 ≡ Cost c.as_slice.result.now = search rules in
+    subst (λ work. IsReplyToWork work before after reply) (sym c.in-Some-Cost.is) (subst (λ work. IsReplyToWork (Some work) before after reply) (sym asked)
+    (to-read most_bytes (IsReplyToCost c.as_slice.result.now) before after c.deref-in-Some-Cost.result.now reply is front c.in_ok-cost_reply-in-Some-Cost.ensures.reply))

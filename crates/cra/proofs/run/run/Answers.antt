@@ -1,7 +1,8 @@
 use Rattle.std.proofs.Common.{◌≡◌, ◌⊎◌, inl, inr}
 use Rattle.cra.specs.declared.status.Status.{Status}
-use Rattle.cra.specs.declared.status.Status.TheVariants.{AllProved, SomeUnproved, NoneFailed, SomeFailed, Certified, CheckFailed, CheckPassed, TooLong, WantOfMemory}
+use Rattle.cra.specs.declared.status.Status.TheVariants.{AllProved, SomeUnproved, NoneFailed, SomeFailed, Certified, CheckFailed, CheckPassed, CostsTold, NoGlobal, TooLong, WantOfMemory}
 use Rattle.cra.proofs.Complete.{complete, complete-certify, complete-replay}
+use Rattle.cra.proofs.Costs.{complete-cost, sound-cost}
 use Rattle.cra.proofs.Passing.{certified-passes, certified-renewed, complete-check, complete-renew}
 use Rattle.cra.proofs.Sentences.{failing, sound, sound-check, true-text}
 use Rattle.cra.proofs.run.run.Goals as goal
@@ -74,3 +75,15 @@ returns-in-Ok-write_all-clause-failing g c asked is = failing _ _ _ c.in-Ok.repl
 
 pub returns-in-Ok-write_all-clause-told : goal.returns-in-Ok-write_all-clause-told
 returns-in-Ok-write_all-clause-told g c asked is = (c.in-Ok.reply.text, true-text _ _ _ c.in-Ok.reply asked c.in-Ok.ensures.answer, c.in-Ok-write_all.ensures.all)
+
+-- what is told of a global's change
+pub returns-in-Ok-write_all-clause-sound_cost : goal.returns-in-Ok-write_all-clause-sound_cost
+returns-in-Ok-write_all-clause-sound_cost g c asked is = (c.in-Ok.reply.text, sound-cost _ _ _ c.in-Ok.reply asked c.in-Ok.ensures.answer is, c.in-Ok-write_all.ensures.all)
+
+or-memory-costed : {P Q : Type 0} (status : Status) → ((status ≡ CostsTold) × P) ⊎ ((status ≡ NoGlobal) × Q) → ((status ≡ CostsTold) × P) ⊎ ((status ≡ NoGlobal) × Q) ⊎ (status ≡ WantOfMemory)
+or-memory-costed status (inl told) = inl told
+or-memory-costed status (inr none) = inr (inl none)
+
+-- a text of which the costs were asked for has them, or has no such global
+pub returns-in-Ok-write_all-clause-complete_cost : goal.returns-in-Ok-write_all-clause-complete_cost
+returns-in-Ok-write_all-clause-complete_cost g c asked source sink = or-memory-costed c.in-Ok.reply.status (complete-cost _ _ _ c.in-Ok.reply asked c.in-Ok.ensures.answer)

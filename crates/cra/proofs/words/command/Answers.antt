@@ -1,7 +1,7 @@
 use Rattle.std.proofs.Common.{rules, ap, ap₂, refl, codes, true, ◌≡◌, ◌∙◌, ◌||◌}
 use Rattle.clap.specs.declared.builder.arg.Arg.{Arg}
 use Rattle.clap.specs.Words.{App, Rule, app_of, new_app, rule_of, with_rule, with_subcommand}
-use Rattle.cra.specs.Commands.{count_rule, plain, top}
+use Rattle.cra.specs.Commands.{count_rule, name_rule, plain, top}
 use Rattle.cra.proofs.words.command.Goals as goal
 
 pub returns : goal.returns
@@ -11,6 +11,11 @@ returns c =
     let sample_global = ap (λ (a : Arg). a.global) c.required-count.ensures ∙ c.new.ensures.optional.1 in
     let sample_is : app_of c.in_ok-sample.sample ≡ with_rule (new_app (codes "sample")) count_rule =
     c.in_ok-sample.ensures.shape sample_global ∙ ap₂ with_rule c.new-2.ensures.app count_is in
+    let name_is : rule_of c.required-name.result ≡ name_rule =
+    ap rule_of c.required-name.ensures ∙ ap (λ (r : Rule). record r { required = true }) c.new-3.ensures.rule in
+    let name_global = ap (λ (a : Arg). a.global) c.required-name.ensures ∙ c.new-3.ensures.optional.1 in
+    let cost_is : app_of c.in_ok-cost.cost ≡ with_rule (new_app (codes "cost")) name_rule =
+    c.in_ok-cost.ensures.shape name_global ∙ ap₂ with_rule c.new-4.ensures.app name_is in
     let top_is : app_of c.version.result ≡ top = search rules in
     let first = c.in_ok-subcommand.ensures.shape (search rules) ∙ ap₂ with_subcommand top_is (ap (λ (a : App). a.top) c.new-4.ensures.app) in
     let second = c.in_ok-subcommand-2.ensures.shape (search rules) ∙ ap₂ with_subcommand first (ap (λ (a : App). a.top) c.new-5.ensures.app) in
