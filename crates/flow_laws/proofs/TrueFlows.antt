@@ -94,7 +94,7 @@ module _ (program : Program) (proc : ℕ) (p : Proc) (known : List (Option Trans
   -- as many cells as nodes, each Zero exactly where its path is
   record AreByPaths (cells : List (Cell Transition)) : Type 0 where
     each : length cells ≡ nodes
-    zero : (node : ℕ) (cell : Cell Transition) → slice_get cells node ≡ Some cell → IsZeroBy (path_at nodes links 0 node) cell
+    zero_by : (node : ℕ) (cell : Cell Transition) → slice_get cells node ≡ Some cell → IsZeroBy (path_at nodes links 0 node) cell
 
   cells-by-paths : Always AreByPaths (cells_from (subject_of program p known) 0)
   unfolding cells_from evaluated
@@ -103,7 +103,7 @@ module _ (program : Program) (proc : ℕ) (p : Proc) (known : List (Option Trans
       always_bind (λ made. Unit {0}) AreByPaths (evaluation g 0) (λ made. Done (cells_of g 0 made)) (always_any (λ made. Unit {0}) (evaluation g 0) (λ made. tt))
       (λ made any. record {
         each = cells-one_each g 0 made ∙ count;
-        zero = subst (λ n. (node : ℕ) (cell : Cell Transition) → slice_get (cells_of g 0 made) node ≡ Some cell → IsZeroBy (path_at n links 0 node) cell) count
+        zero_by = subst (λ n. (node : ℕ) (cell : Cell Transition) → slice_get (cells_of g 0 made) node ≡ Some cell → IsZeroBy (path_at n links 0 node) cell) count
             (cells-found g 0 (λ node cell. IsZeroBy (path_at (length g.nodes) g.links 0 node) cell) made (λ node lt. zero-by made (path_at (length g.nodes) g.links 0 node)));
       })
 
@@ -149,7 +149,7 @@ module _ (program : Program) (proc : ℕ) (p : Proc) (known : List (Option Trans
         go (Some cell) e =
             let lt = subst (λ n. node < n) by.each (slice_get_within cells node cell e) in
             let zero = zero_is_no_walk nodes links 0 node (links-inside program proc p known is formed are) (some-nodes program proc p formed is) lt in
-            let same = by.zero node cell e in (
+            let same = by.zero_by node cell e in (
               λ none. zero.0 (same.0 (formula-none (columns_of s) cell none)),
               λ none. ap (formula_of (columns_of s)) (same.1 (zero.1 none)),
             )
