@@ -1,0 +1,2 @@
+-- every end is true
+pub mod TrueFlows
