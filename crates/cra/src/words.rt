@@ -1,4 +1,5 @@
 ghost use Rattle.std.specs.Prelude.{◌≡◌, ◌≢◌, ◌-◌, None, Some, map, string_bytes, IfOk, IfErr, if◌then◌else◌};
+ghost use Rattle.std.specs.List.{list_all};
 ghost use Rattle.std.specs.Str.Parse.{digits_value};
 ghost use Rattle.clap.specs.Words.{app_of, subcommand_name_of};
 ghost use Rattle.c_lexer.specs.Bytes.{is_word_byte, is_word_start};
@@ -116,6 +117,12 @@ fn is_word_byte(byte: u8) -> bool
     byte.is_ascii_alphanumeric() || byte == b'_'
 }
 
+fn are_word_bytes(bytes: &[u8]) -> bool
+    ensures { result ≡ list_all is_word_byte bytes.now }
+{
+    bytes.iter().all(|byte| is_word_byte(*byte))
+}
+
 /// Whether a text is a word of the programs that are read: a letter or `_`, and then letters, digits
 /// and `_`.
 fn is_word(text: &[u8]) -> bool
@@ -124,7 +131,7 @@ fn is_word(text: &[u8]) -> bool
     let Some((first, rest)) = text.split_first() else {
         return false;
     };
-    is_word_start(*first) && rest.iter().all(|byte| is_word_byte(*byte))
+    is_word_start(*first) && are_word_bytes(rest)
 }
 
 /// The bounds on a global's change, where the text is a word.
