@@ -123,8 +123,8 @@ fn are_word_bytes(bytes: &[u8]) -> bool
     bytes.iter().all(|byte| is_word_byte(*byte))
 }
 
-/// Whether a text is a word of the programs that are read: a letter or `_`, and then letters, digits
-/// and `_`.
+/// Whether a text is a word of the programs that are read: a letter or `_`, and then letters,
+/// digits and `_`.
 fn is_word(text: &[u8]) -> bool
     ensures { result ≡ is_word_shape text.now }
 {
@@ -159,7 +159,8 @@ fn work_with(alloc: Global, name: &str, text: &str) -> Result<Option<Work>, Allo
 
 /// What words ask for that name this command.
 fn work_under(alloc: Global, name: &str, words: &[String]) -> Result<Option<Work>, AllocError>
-    ensures { IfOk result (λ work. work ≡ matched_work (Some name.now) (map string_bytes words.now)) }
+    ensures { IfOk result (λ work. work
+        ≡ matched_work (Some name.now) (map string_bytes words.now)) }
 {
     match words {
         [_, word] => {
