@@ -47,13 +47,13 @@ unfoldable pub work_with : List ℕ → List ℕ → Option Work
 work_with word text = if bytes_eq word (codes "sample") then sample_of text
     else (if bytes_eq word (codes "cost") then cost_of text else None)
 
--- What a command line asks for: the program's name and one word, or `sample` and a number, or `cost`
--- and a name, before which two dashes may stand. Every other list of words asks for nothing.
+-- What a command line asks for: the program's name and one word, or `sample` and a number, or
+-- `cost` and a name, before which two dashes may stand. Every other list of words asks for nothing.
 abbrev pub work_of : List (List ℕ) → Option Work
 work_of (name ∷ word ∷ []) = work_named word
 work_of (name ∷ word ∷ text ∷ []) = work_with word text
-work_of (name ∷ word ∷ dashes ∷ text ∷ []) = if bytes_eq dashes (codes "--") then work_with word text
-    else None
+work_of (name ∷ word ∷ dashes ∷ text ∷ []) =
+    if bytes_eq dashes (codes "--") then work_with word text else None
 work_of _ = None
 
 -- whether the source is read for it
