@@ -43,7 +43,7 @@ abbrev pub cost_of : List ℕ → Option Work
 cost_of text = if is_word_shape text then Some (Cost text) else None
 
 -- what a command asks for that has an argument
-abbrev pub work_with : List ℕ → List ℕ → Option Work
+unfoldable pub work_with : List ℕ → List ℕ → Option Work
 work_with word text = if bytes_eq word (codes "sample") then sample_of text
     else (if bytes_eq word (codes "cost") then cost_of text else None)
 

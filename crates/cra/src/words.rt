@@ -121,12 +121,10 @@ fn is_word_byte(byte: u8) -> bool
 fn is_word(text: &[u8]) -> bool
     ensures { result ≡ is_word_shape text.now }
 {
-    match text {
-        [first, rest @ ..] => {
-            is_word_start(*first) && rest.iter().all(|byte| is_word_byte(*byte))
-        }
-        [] => false,
-    }
+    let Some((first, rest)) = text.split_first() else {
+        return false;
+    };
+    is_word_start(*first) && rest.iter().all(|byte| is_word_byte(*byte))
 }
 
 /// The bounds on a global's change, where the text is a word.
@@ -141,6 +139,7 @@ fn cost_of(alloc: Global, text: &[u8]) -> Result<Option<Work>, AllocError>
 }
 
 /// What a command asks for that has an argument.
+#[tactic(auto, unfolding(crate::specs::Words::work_with))]
 fn work_with(alloc: Global, name: &str, text: &str) -> Result<Option<Work>, AllocError>
     ensures { IfOk result (λ work. work ≡ work_with name.now text.now) }
 {
