@@ -97,15 +97,15 @@ pub owns-done : {A : Type 0} (before : Question → Answer → Type 0) (names : 
 owns-done before names value old =
     record {
       own = λ notes answers last path question answer h.
-        inl (old question answer (subst (λ v. names v question answer) ((from-Done value last notes answers path).same) h))
+          inl (old question answer (subst (λ v. names v question answer) ((from-Done value last notes answers path).same) h));
     }
 
 pub owns-noted : {A : Type 0} (before : Question → Answer → Type 0) (names : A → Question → Answer → Type 0) (first : List Note) (p : Posing A) → Owns before names p → Owns before names (Noted first p)
 owns-noted before names first p owns =
     record {
       own = λ notes answers last path question answer h.
-        let step = from-Noted first notes p answers last path in
-        go answers question answer (owns.own step.more answers last step.path question answer h)
+          let step = from-Noted first notes p answers last path in
+          go answers question answer (owns.own step.more answers last step.path question answer h);
     }
   where
     go : (answers : List Answer) (question : Question) (answer : Answer) → before question answer ⊎ WasAsked p answers question answer → before question answer ⊎ WasAsked (Noted first p) answers question answer
@@ -117,10 +117,10 @@ pub owns-bind : {A B : Type 0} (before : Question → Answer → Type 0) (betwee
 owns-bind {A = A} before between names p f first rest =
     record {
       own = λ notes answers last path question answer h.
-        let cut = path-cut p f notes answers last path in
-        second answers cut.share cut.others cut.answers_are cut.value cut.first cut.leads question answer
-        (λ old. first.own cut.first cut.share cut.value cut.leads question answer old)
-        ((rest cut.value).own cut.more cut.others last cut.rest question answer h)
+          let cut = path-cut p f notes answers last path in
+          second answers cut.share cut.others cut.answers_are cut.value cut.first cut.leads question answer
+          (λ old. first.own cut.first cut.share cut.value cut.leads question answer old)
+          ((rest cut.value).own cut.more cut.others last cut.rest question answer h);
     }
   where
     one : (answers share others : List Answer) → answers ≡ share ++ others → (question : Question) (answer : Answer) → before question answer ⊎ WasAsked p share question answer

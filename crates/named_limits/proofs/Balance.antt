@@ -53,12 +53,12 @@ pub balances-done : {A : Type 0} (owed : List Limit) (carried : A → List Limit
 balances-done owed carried value e =
     record {
       balance = λ test notes answers last path.
-        let end = from-Done value last notes answers path in
-        let none = ap (told test) end.notes_are in
-        let nothing = ap (given test) end.answers_are in
-        let same = ap (λ x. count test (carried x)) end.same in
-        let equal = e.same test in
-        omega (arith, equal, none, nothing, same)
+          let end = from-Done value last notes answers path in
+          let none = ap (told test) end.notes_are in
+          let nothing = ap (given test) end.answers_are in
+          let same = ap (λ x. count test (carried x)) end.same in
+          let equal = e.same test in
+          omega (arith, equal, none, nothing, same);
     }
 
 pub balances-noted : {A : Type 0} (owed rest : List Limit) (carried : A → List Limit) (first : List Note) (p : Posing A)
@@ -66,11 +66,11 @@ pub balances-noted : {A : Type 0} (owed rest : List Limit) (carried : A → List
 balances-noted owed rest carried first p e balances =
     record {
       balance = λ test notes answers last path.
-        let step = from-Noted first notes p answers last path in
-        let own = balances.balance test step.more answers last step.path in
-        let split = ap (told test) step.notes_are ∙ told-append test first step.more in
-        let equal = e test in
-        omega (arith, equal, own, split)
+          let step = from-Noted first notes p answers last path in
+          let own = balances.balance test step.more answers last step.path in
+          let split = ap (told test) step.notes_are ∙ told-append test first step.more in
+          let equal = e test in
+          omega (arith, equal, own, split);
     }
 
 pub balances-asked : {A : Type 0} (owed : List Limit) (carried : A → List Limit) (question : Question) (next : Answer → Posing A)
@@ -78,11 +78,11 @@ pub balances-asked : {A : Type 0} (owed : List Limit) (carried : A → List Limi
 balances-asked owed carried question next balances =
     record {
       balance = λ test notes answers last path.
-        let step = from-Asked question next notes answers last path in
-        let own = (balances step.answer).balance test notes step.others last step.path in
-        let split = ap (given test) step.answers_are ∙ count-append test (limit_given step.answer) (limits_given step.others) in
-        let both = count-append test owed (limit_given step.answer) in
-        omega (arith, own, split, both)
+          let step = from-Asked question next notes answers last path in
+          let own = (balances step.answer).balance test notes step.others last step.path in
+          let split = ap (given test) step.answers_are ∙ count-append test (limit_given step.answer) (limits_given step.others) in
+          let both = count-append test owed (limit_given step.answer) in
+          omega (arith, own, split, both);
     }
 
 pub balances-bind : {A B : Type 0} (owed : List Limit) (between : A → List Limit) (carried : B → List Limit) (p : Posing A) (f : A → Posing B)
@@ -90,21 +90,21 @@ pub balances-bind : {A B : Type 0} (owed : List Limit) (between : A → List Lim
 balances-bind owed between carried p f first rest =
     record {
       balance = λ test notes answers last path.
-        let cut = path-cut p f notes answers last path in
-        let one = first.balance test cut.first cut.share cut.value cut.leads in
-        let other = (rest cut.value).balance test cut.more cut.others last cut.rest in
-        let in_notes = ap (told test) cut.notes_are ∙ told-append test cut.first cut.more in
-        let in_answers = ap (given test) cut.answers_are ∙ given-append test cut.share cut.others in
-        omega (arith, one, other, in_notes, in_answers)
+          let cut = path-cut p f notes answers last path in
+          let one = first.balance test cut.first cut.share cut.value cut.leads in
+          let other = (rest cut.value).balance test cut.more cut.others last cut.rest in
+          let in_notes = ap (told test) cut.notes_are ∙ told-append test cut.first cut.more in
+          let in_answers = ap (given test) cut.answers_are ∙ given-append test cut.share cut.others in
+          omega (arith, one, other, in_notes, in_answers);
     }
 
 pub balances-same : {A : Type 0} (owed other : List Limit) (carried : A → List Limit) (p : Posing A) → AreSame other owed → Balances owed carried p → Balances other carried p
 balances-same owed other carried p same balances =
     record {
       balance = λ test notes answers value path.
-        let own = balances.balance test notes answers value path in
-        let equal = same.same test in
-        omega (arith, own, equal)
+          let own = balances.balance test notes answers value path in
+          let equal = same.same test in
+          omega (arith, own, equal);
     }
 
 pub same-refl : (limits : List Limit) → AreSame limits limits
@@ -141,9 +141,9 @@ pub balances-frame : {A : Type 0} (more : List Limit) (carried : A → List Limi
 balances-frame more carried p balances =
     record {
       balance = λ test notes answers value path.
-        let own = balances.balance test notes answers value path in
-        let both = count-append test more (carried value) in
-        omega (arith, own, both)
+          let own = balances.balance test notes answers value path in
+          let both = count-append test more (carried value) in
+          omega (arith, own, both);
     }
 
 -- ---- where nothing is owed and nothing carried on

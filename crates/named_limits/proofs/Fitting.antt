@@ -62,7 +62,7 @@ unfolding ◌>>=◌
 answered-tells question value =
     record {
       balances = balances-asked [] no_limit question _
-        (λ a. balances-noted (limit_given a) [] no_limit (limits_of a) (Done (value a)) (λ test. limit-noted test a) (balances-done [] no_limit (value a) (same-refl [])));
+          (λ a. balances-noted (limit_given a) [] no_limit (limits_of a) (Done (value a)) (λ test. limit-noted test a) (balances-done [] no_limit (value a) (same-refl [])));
     }
 
 pub assent-tells : (question : Question) → TellsAll (assent question)

@@ -59,9 +59,10 @@ module _ (program : Program) where
   are-new come [] (one ∷ plan) after planned closed = absurd planned
   are-new come (group ∷ groups) [] after planned closed = absurd planned
   are-new come (group ∷ groups) (one ∷ plan) after planned closed =
-      let same = sym planned.0.procs in
-      (subst (IsNew program come) same (new-group come group after.0 closed),
-      subst (λ procs. AreNew program (come ++ procs) plan) same (are-new (come ++ group.procs) groups plan after.1 planned.1 (closed-next come group after.0 closed)))
+      let same = sym planned.0.procs in (
+        subst (IsNew program come) same (new-group come group after.0 closed),
+        subst (λ procs. AreNew program (come ++ procs) plan) same (are-new (come ++ group.procs) groups plan after.1 planned.1 (closed-next come group after.0 closed)),
+      )
 
   pub plan-new : (plan : List Planned) → IsPlan program plan → AreNew program [] plan
   plan-new plan is = are-new [] is.groups plan is.are is.planned (λ p q there. absurd (in_of [] p there))

@@ -77,20 +77,21 @@ placed program come (first ∷ procs) notes noted new clear =
     let within = new.within first head in
     let free = clear.clear first within (new.new first head) in
     record {
-      stand = λ last same.
-        (same first (Contains-append_right come (first ∷ procs) first head) ∙ set-there noted first notes (omega (arith, within, long)),
+      stand = λ last same. (
+        same first (Contains-append_right come (first ∷ procs) first head) ∙ set-there noted first notes (omega (arith, within, long)),
         each-of (λ proc. slice_get last proc ≡ Some []) procs (λ q there.
-        let own : Contains (first ∷ procs) q = contains_of (first ∷ procs) q (inr there) in
-        let above = new.ascends.0 q (contains_of procs q there) in
-        same q (Contains-append_right come (first ∷ procs) q own)
-        ∙ set-other noted first q notes (λ e. omega (arith, above, e))
-        ∙ clear.clear q (new.within q own) (new.new q own)));
+            let own : Contains (first ∷ procs) q = contains_of (first ∷ procs) q (inr there) in
+            let above = new.ascends.0 q (contains_of procs q there) in
+            same q (Contains-append_right come (first ∷ procs) q own)
+            ∙ set-other noted first q notes (λ e. omega (arith, above, e))
+            ∙ clear.clear q (new.within q own) (new.new q own)),
+      );
       kept = λ q came. set-other noted first q notes (λ e. new.new first head (subst (Contains come) (sym e) came));
       clear = record {
         long = length-set noted first notes ∙ long;
         clear = λ q lt out.
-          set-other noted first q notes (λ e. out (subst (Contains (come ++ first ∷ procs)) e (Contains-append_right come (first ∷ procs) first head)))
-          ∙ clear.clear q lt (λ came. out (Contains-append_left come (first ∷ procs) q came));
+            set-other noted first q notes (λ e. out (subst (Contains (come ++ first ∷ procs)) e (Contains-append_right come (first ∷ procs) first head)))
+            ∙ clear.clear q lt (λ came. out (Contains-append_left come (first ∷ procs) q came));
       };
       sum = λ test. set-told test noted first notes free;
     }

@@ -222,9 +222,9 @@ unfolding round
 round-tells program procs known candidates =
     record {
       balances = balances-bind [] limits_of_all no_limit _ _ (balances-each limits_of_all _ [] _ (λ made member. with_round-balances program _ made member))
-        (λ judged. balances-noted (limits_of_all judged) [] no_limit (dropped_notes judged) (Done _)
-        (λ test. let told = ap (count test) (all-told 0 judged) in omega (arith, told))
-        (balances-done [] no_limit _ (same-refl [])));
+          (λ judged. balances-noted (limits_of_all judged) [] no_limit (dropped_notes judged) (Done _)
+          (λ test. let told = ap (count test) (all-told 0 judged) in omega (arith, told))
+          (balances-done [] no_limit _ (same-refl [])));
     }
 
 kept-tells : (program : Program) (procs : List ℕ) (known : List (Option Transition)) (candidates : List (List Row)) → TellsAll (kept_candidates program procs known candidates)

@@ -114,11 +114,11 @@ part-named program planned known notes share part path =
       quiet = none-both cut.notes_are own.quiet end.notes_are;
       same = record {
         same = λ test.
-          let balance = (summed-tells planned.kind program planned.procs known).balances.balance test own.own cut.share cut.value.0 own.leads in
-          let whole = ap (given test) cut.answers_are ∙ given-append test cut.share cut.others in
-          let none = ap (given test) end.answers_are in
-          let stands = ap (λ (p : Part). told test p.notes) end.same ∙ ap (count test) (in-program planned.procs cut.value.1) ∙ ap (told test) own.own_are in
-          omega (arith, balance, whole, none, stands);
+            let balance = (summed-tells planned.kind program planned.procs known).balances.balance test own.own cut.share cut.value.0 own.leads in
+            let whole = ap (given test) cut.answers_are ∙ given-append test cut.share cut.others in
+            let none = ap (given test) end.answers_are in
+            let stands = ap (λ (p : Part). told test p.notes) end.same ∙ ap (count test) (in-program planned.procs cut.value.1) ∙ ap (told test) own.own_are in
+            omega (arith, balance, whole, none, stands);
       };
     }
 
@@ -142,9 +142,9 @@ groups-shared program come found last [] notes answers new clear path =
       kept = λ q came. ap (λ (f : Found). slice_get f.notes q) end.same;
       clear = ap (λ (f : Found). length f.notes) end.same ∙ clear.long;
       sum = λ test.
-        let same = ap (λ (f : Found). all_told test f.notes) end.same in
-        let none = ap (given test) end.answers_are in
-        omega (arith, same, none);
+          let same = ap (λ (f : Found). all_told test f.notes) end.same in
+          let none = ap (given test) end.answers_are in
+          omega (arith, same, none);
     }
 groups-shared program come found last (planned ∷ plan) notes answers new clear path =
     let cut = path-cut (with_group program found planned) (λ next. each (with_group program) next plan) notes answers last path in
@@ -155,26 +155,26 @@ groups-shared program come found last (planned ∷ plan) notes answers new clear
     let next = with_part found planned.procs part in
     let there = placed program come planned.procs part.notes found.notes new.0 clear in
     let rest = groups-shared program (come ++ planned.procs) next last plan cut.more cut.others new.1 there.clear
-        (subst (λ made. LeadsTo (each (with_group program) made plan) cut.more cut.others (Done last)) end.same cut.rest) in
+    (subst (λ made. LeadsTo (each (with_group program) made plan) cut.more cut.others (Done last)) end.same cut.rest) in
     let share : answers ≡ own.share ++ cut.others = own-first own.share cut.others cut.answers_are own.answers_are end.answers_are in
     record {
       quiet = none-both cut.notes_are (none-both own.notes_are named.quiet end.notes_are) rest.quiet;
       named = subst (λ l. AreGroupsNamed program last.notes found (planned ∷ plan) l last) (sym share)
-        (group found last planned plan part own.share cut.others
-        (record {
-          leads = subst (λ ns. LeadsTo (part_of program planned found.known) ns own.share (Done part)) named.quiet own.leads;
-          same = named.same;
-          stand = there.stand last.notes rest.kept;
-        })
-        rest.named);
+          (group found last planned plan part own.share cut.others
+          (record {
+            leads = subst (λ ns. LeadsTo (part_of program planned found.known) ns own.share (Done part)) named.quiet own.leads;
+            same = named.same;
+            stand = there.stand last.notes rest.kept;
+          })
+          rest.named);
       kept = λ q came. rest.kept q (Contains-append_left come planned.procs q came) ∙ there.kept q came;
       clear = rest.clear;
       sum = λ test.
-        let others = rest.sum test in
-        let placed_there = there.sum test in
-        let same = named.same.same test in
-        let parts = ap (given test) share ∙ given-append test own.share cut.others in
-        omega (arith, others, placed_there, same, parts);
+          let others = rest.sum test in
+          let placed_there = there.sum test in
+          let same = named.same.same test in
+          let parts = ap (given test) share ∙ given-append test own.share cut.others in
+          omega (arith, others, placed_there, same, parts);
     }
 
 -- ---- one assertion
@@ -201,16 +201,16 @@ assertion-shared at (Some a) notes share judged path =
     let verdict = ap (λ (j : Judged). j.verdict) end.same in
     let told_by = ap (λ (j : Judged). j.notes) end.same ∙ own.own_are in
     let leads : LeadsTo p judged.notes share (Done judged.verdict) =
-        subst (λ v. LeadsTo p judged.notes share (Done v)) (sym verdict) (subst (λ ns. LeadsTo p ns share (Done cut.value.0)) (sym told_by) (subst (λ l. LeadsTo p own.own l (Done cut.value.0)) (sym split) own.leads)) in
+    subst (λ v. LeadsTo p judged.notes share (Done v)) (sym verdict) (subst (λ ns. LeadsTo p ns share (Done cut.value.0)) (sym told_by) (subst (λ l. LeadsTo p own.own l (Done cut.value.0)) (sym split) own.leads)) in
     record {
       quiet = none-both cut.notes_are own.quiet end.notes_are;
       named = record {
         leads = leads;
         same = record {
           same = λ test.
-            let balance = (verdict-balances (place_of a.program a.p) a.cond a.entry a.stand).balance test judged.notes share judged.verdict leads in
-            let both = count-append test (limit_carried judged.verdict) (limits_told judged.notes) in
-            omega (arith, balance, both);
+              let balance = (verdict-balances (place_of a.program a.p) a.cond a.entry a.stand).balance test judged.notes share judged.verdict leads in
+              let both = count-append test (limit_carried judged.verdict) (limits_told judged.notes) in
+              omega (arith, balance, both);
         };
         own = λ case limit e. verdict-owns (place_of a.program a.p) a.cond a.entry a.stand judged.notes share judged.verdict case limit leads e;
       };
@@ -243,20 +243,20 @@ assertions-shared program places entries flows made (number ∷ numbers) notes a
     let end = from-Done (made ++ own.value ∷ []) cut.value own.more own.others own.rest in
     let one = assertion-shared (place_in places number) (asserted program entries flows number) own.first own.share own.value own.leads in
     let rest = assertions-shared program places entries flows (made ++ own.value ∷ []) numbers cut.more cut.others last
-        (subst (λ next. LeadsTo (each (with_judged program places entries flows) next numbers) cut.more cut.others (Done last)) end.same cut.rest) in
+    (subst (λ next. LeadsTo (each (with_judged program places entries flows) next numbers) cut.more cut.others (Done last)) end.same cut.rest) in
     let share : answers ≡ own.share ++ cut.others = own-first own.share cut.others cut.answers_are own.answers_are end.answers_are in
     record {
       quiet = none-both cut.notes_are (none-both own.notes_are one.quiet end.notes_are) rest.quiet;
       others = own.value ∷ rest.others;
       is = one-behind made own.value rest.others rest.is;
       named = subst (λ l. AreAssertionsNamed program entries flows (number ∷ numbers) l (own.value ∷ rest.others)) (sym share)
-        (assertion number numbers own.share cut.others own.value rest.others one.named rest.named);
+          (assertion number numbers own.share cut.others own.value rest.others one.named rest.named);
       sum = λ test.
-        let others = rest.sum test in
-        let same = one.named.same.same test in
-        let parts = ap (given test) share ∙ given-append test own.share cut.others in
-        let both = count-append test (limits_judged own.value) (flat_map limits_judged rest.others) in
-        omega (arith, others, same, parts, both);
+          let others = rest.sum test in
+          let same = one.named.same.same test in
+          let parts = ap (given test) share ∙ given-append test own.share cut.others in
+          let both = count-append test (limits_judged own.value) (flat_map limits_judged rest.others) in
+          omega (arith, others, same, parts, both);
     }
 
 -- ---- the whole
@@ -278,27 +278,27 @@ report-named program places plan found notes of_groups others report is_plan cov
     let split : of_groups ++ others ≡ of_groups ++ (of_entries ++ of_assertions) = ap (λ l. of_groups ++ l) (cut.answers_are ∙ ap (λ l. of_entries ++ l) rest) in
     let blocks = ap (λ (r : Report). r.procs) end.same in
     let long : length (blocks_by program program.procs found.known found.notes) ≡ length program.procs =
-        ap length (sym blocks) ∙ sym (length-map report.procs (λ (b : ProcBlock). b.name)) ∙ ap length covers.blocks ∙ length-map program.procs (λ (p : Proc). p.name) in
+    ap length (sym blocks) ∙ sym (length-map report.procs (λ (b : ProcBlock). b.name)) ∙ ap length covers.blocks ∙ length-map program.procs (λ (p : Proc). p.name) in
     let noted : notes_in report ≡ found.notes =
-        ap (map (λ (b : ProcBlock). b.notes)) blocks ∙ blocks-noted program program.procs found.known found.notes groups.clear long in
+    ap (map (λ (b : ProcBlock). b.notes)) blocks ∙ blocks-noted program program.procs found.known found.notes groups.clear long in
     let told_by : report.notes ≡ own.own = ap (λ (r : Report). r.notes) end.same ∙ own.own_are in
     let judged : report.judged ≡ assertions.others = ap (λ (r : Report). r.judged) end.same ∙ assertions.is in
     record {
       whole = record {
         same = λ test.
-          let in_blocks : count test (flat_map (λ (b : ProcBlock). limits_told b.notes) report.procs) ≡ all_told test found.notes =
-              ap (count test) (sym (flat_map-map limits_told (λ (b : ProcBlock). b.notes) report.procs)) ∙ ap (all_told test) noted in
-          let first = groups.sum test in
-          let blank = blank-told test (length program.procs) in
-          let entries = (entries-tell program (flows_in found)).balances.balance test own.own of_entries cut.value.0 own.leads in
-          let in_notes = ap (told test) told_by in
-          let last = assertions.sum test in
-          let in_judged = ap (λ l. count test (flat_map limits_judged l)) judged in
-          let parts = ap (given test) split ∙ given-append test of_groups (of_entries ++ of_assertions) in
-          let two = given-append test of_entries of_assertions in
-          let both = count-append test (flat_map (λ (b : ProcBlock). limits_told b.notes) report.procs) (limits_told report.notes ++ flat_map limits_judged report.judged) in
-          let ends = count-append test (limits_told report.notes) (flat_map limits_judged report.judged) in
-          omega (arith, in_blocks, first, blank, entries, in_notes, last, in_judged, parts, two, both, ends);
+            let in_blocks : count test (flat_map (λ (b : ProcBlock). limits_told b.notes) report.procs) ≡ all_told test found.notes =
+            ap (count test) (sym (flat_map-map limits_told (λ (b : ProcBlock). b.notes) report.procs)) ∙ ap (all_told test) noted in
+            let first = groups.sum test in
+            let blank = blank-told test (length program.procs) in
+            let entries = (entries-tell program (flows_in found)).balances.balance test own.own of_entries cut.value.0 own.leads in
+            let in_notes = ap (told test) told_by in
+            let last = assertions.sum test in
+            let in_judged = ap (λ l. count test (flat_map limits_judged l)) judged in
+            let parts = ap (given test) split ∙ given-append test of_groups (of_entries ++ of_assertions) in
+            let two = given-append test of_entries of_assertions in
+            let both = count-append test (flat_map (λ (b : ProcBlock). limits_told b.notes) report.procs) (limits_told report.notes ++ flat_map limits_judged report.judged) in
+            let ends = count-append test (limits_told report.notes) (flat_map limits_judged report.judged) in
+            omega (arith, in_blocks, first, blank, entries, in_notes, last, in_judged, parts, two, both, ends);
       };
       of_groups = of_groups;
       of_entries = of_entries;
@@ -311,9 +311,9 @@ report-named program places plan found notes of_groups others report is_plan cov
         leads = subst (λ ns. LeadsTo (entries_from program (flows_in found)) ns of_entries (Done cut.value.0)) (sym told_by) own.leads;
         same = record {
           same = λ test.
-            let balance = (entries-tell program (flows_in found)).balances.balance test own.own of_entries cut.value.0 own.leads in
-            let in_notes = ap (told test) told_by in
-            omega (arith, balance, in_notes);
+              let balance = (entries-tell program (flows_in found)).balances.balance test own.own of_entries cut.value.0 own.leads in
+              let in_notes = ap (told test) told_by in
+              omega (arith, balance, in_notes);
         };
       };
       assertions = subst (λ l. AreAssertionsNamed program cut.value.0 (flows_in found) (range_with_len 1 (length program.checks)) of_assertions l) (sym judged) assertions.named;

@@ -173,13 +173,13 @@ verdict_at-owns case [] same = owns-done Never Carries (Unproved case []) (λ qu
 verdict_at-owns case (row ∷ rows) same =
     record {
       own = λ notes answers last path question a h.
-        let step = from-Asked (Infeasible (row ∷ rows)) (λ a. Done (verdict_by case a)) notes answers last path in
-        let end = from-Done (verdict_by case step.answer) last notes step.others step.path in
-        let by = by-limit case h.case h.limit step.answer (sym end.same ∙ h.is) in
-        let asks : question ≡ Infeasible (row ∷ rows) = h.question_is ∙ ap (λ (c : Case). Infeasible c.rows) (sym by.0) ∙ ap (λ rs. Infeasible rs) same in
-        let gives : a ≡ step.answer = h.answer_is ∙ sym by.1 in
-        inr (moved answers (step.answer ∷ step.others) question (Infeasible (row ∷ rows)) a step.answer step.answers_are asks gives
-        (asked-now (Infeasible (row ∷ rows)) step.answer (λ a. Done (verdict_by case a)) step.others))
+          let step = from-Asked (Infeasible (row ∷ rows)) (λ a. Done (verdict_by case a)) notes answers last path in
+          let end = from-Done (verdict_by case step.answer) last notes step.others step.path in
+          let by = by-limit case h.case h.limit step.answer (sym end.same ∙ h.is) in
+          let asks : question ≡ Infeasible (row ∷ rows) = h.question_is ∙ ap (λ (c : Case). Infeasible c.rows) (sym by.0) ∙ ap (λ rs. Infeasible rs) same in
+          let gives : a ≡ step.answer = h.answer_is ∙ sym by.1 in
+          inr (moved answers (step.answer ∷ step.others) question (Infeasible (row ∷ rows)) a step.answer step.answers_are asks gives
+          (asked-now (Infeasible (row ∷ rows)) step.answer (λ a. Done (verdict_by case a)) step.others));
     }
   where
     moved : (answers others : List Answer) (question q : Question) (a b : Answer) → answers ≡ others → question ≡ q → a ≡ b → WasAsked (verdict_at case (row ∷ rows)) others q b → WasAsked (verdict_at case (row ∷ rows)) answers question a
