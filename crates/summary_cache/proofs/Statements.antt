@@ -14,6 +14,9 @@ use Rattle.report.specs.Claims.{ClaimsAreMet, PointsMeetRows, ReportCovers}
 use Rattle.analysis.specs.declared.places.TextPlace.{TextPlace}
 use Rattle.analysis.specs.declared.planning.Planned.{Planned}
 use Rattle.analysis.specs.Analysis.{analysed}
+use Rattle.named_limits.specs.Named.{LimitsAreNamed}
+use Rattle.named_limits.proofs.Asking.{any-leads}
+use Rattle.named_limits.proofs.Shares.{analysis-names}
 use Rattle.summary_cache.specs.declared.working.Analysed.{Analysed}
 use Rattle.summary_cache.specs.declared.working.Counts.{Counts}
 use Rattle.summary_cache.specs.Answered.{Answers, CameTo, IsAnswered}
@@ -88,6 +91,13 @@ module _ {S : Type 0} (O : Asking S) (rule : ℕ) (old new : S) (text : List ℕ
         record { enters = known.enters; leaves = known.leaves; fits = known.fits; cases = known.cases; auxiliaries = known.auxiliaries };
   }
 
+  -- a report that covers its program names the limits of its answers
+  limits-named : (program : Program) (plan : List Planned) (last : Analysed) → IsPlanned rule text program plan → Path (IsGood O.allows) (analysis_of rule text program plan) [] last.answers (Done last.report)
+      → ReportCovers (with_rule rule program) last.report → LimitsAreNamed (with_rule rule program) plan last.answers last.report
+  limits-named program plan last planned path covers =
+      analysis-names (with_rule rule program) (places_of text program) plan last.answers last.report planned.is_plan
+      (any-leads (IsGood O.allows) (analysis_of rule text program plan) (Done last.report) [] last.answers path) covers
+
   pub worked : (program ruled : Program) (plan : List Planned) (places : List TextPlace) (last : Analysed) (counts : Counts) → IsPlanned rule text program plan
       → ruled ≡ with_rule rule program → places ≡ places_of text program → Answers O old new (Ok last) (analysed ruled places plan) → ClaimsKnowNoRule
       → ClaimsAreMet ruled last.report → ReportCovers ruled last.report → PointsMeetRows last.report → counts ≡ counts_of (length plan) last.report → IsWorked O rule old new text last counts
@@ -104,6 +114,7 @@ module _ {S : Type 0} (O : Asking S) (rule : ℕ) (old new : S) (text : List ℕ
           met = free program rule last.report (subst (λ (ruled : Program). ClaimsAreMet ruled last.report) under met);
           covers = covers-without program (subst (λ (ruled : Program). ReportCovers ruled last.report) under covers);
           points = points;
+          named = limits-named program plan last planned is.stated (subst (λ (ruled : Program). ReportCovers ruled last.report) under covers);
         };
         taken = is.taken;
         refused_none = is.counted;

@@ -11,6 +11,7 @@ use Rattle.analysis.specs.declared.places.TextPlace.{TextPlace}
 use Rattle.analysis.specs.declared.planning.Planned.{Planned}
 use Rattle.analysis.specs.Analysis.{analysed}
 use Rattle.analysis.specs.Plan.{IsPlan}
+use Rattle.named_limits.specs.Named.{LimitsAreNamed}
 use Rattle.summary_cache.specs.Accepted.{Accepts}
 use Rattle.summary_cache.specs.Place.{column_at, line_at}
 use Rattle.summary_cache.specs.Rules.{with_rule}
@@ -35,7 +36,8 @@ analysis_of rule text program plan = analysed (with_rule rule program) (places_o
 
 -- The text is accepted, and the report is what the analysis of its program comes to under these
 -- answers, each of which passes, is true and is one that may be given. It covers the program, its
--- claims are met, and each point that it tells makes the rows of its case true.
+-- claims are met, each point that it tells makes the rows of its case true, and it names the limits
+-- of the answers, part by part.
 pub record IsAnalysedBy (allows : Question → Answer → Type 0) (rule : ℕ) (text : List ℕ)
     (answers : List Answer) (report : Report) : Type 0 where
   pub program : Program
@@ -45,6 +47,7 @@ pub record IsAnalysedBy (allows : Question → Answer → Type 0) (rule : ℕ) (
   pub met : ClaimsAreMet program report
   pub covers : ReportCovers program report
   pub points : PointsMeetRows report
+  pub named : LimitsAreNamed (with_rule rule program) plan answers report
 
 -- The text is accepted, and the analysis of its program comes to this under listed answers.
 pub record IsPosed (rule : ℕ) (text : List ℕ) (program : Program) (answers : List Answer)

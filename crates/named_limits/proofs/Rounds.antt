@@ -1,0 +1,249 @@
+-- The summaries of a recursive group tell each limit: at once, or at the end of the round that drops
+-- a row for it.
+--     refuted-balances      what refutes a row carries one limit at most, and tells the others
+--     round-tells           a round tells those of its rows at its end
+--     closed-tells          the whole
+use Rattle.std.proofs.Common.{◌≡◌, ℕ, ◌+◌, List, [], ◌∷◌, ◌++◌, Bool, true, false, refl, sym, ap, ◌∙◌, append_assoc, append-nil, arith}
+use Rattle.std.specs.Prelude.{Option, None, Some, unwrap_or}
+use Rattle.std.specs.List.{flat_map}
+use Rattle.std.proofs.lemmas.Grind.{flat_map-append}
+use Rattle.linear_terms.specs.declared.row.Case.{Case}
+use Rattle.linear_terms.specs.declared.row.Row.{Row}
+use Rattle.farkas_check.specs.declared.answer.Answer.{Answer}
+use Rattle.farkas_check.specs.declared.answer.Answer.TheVariants as answer
+use Rattle.farkas_check.specs.declared.answer.Limit.{Limit}
+use Rattle.farkas_check.specs.declared.question.Question.TheVariants.{Infeasible}
+use Rattle.farkas_check.specs.Columns.{columns}
+use Rattle.syntax_tree.specs.declared.program.Proc.{Proc}
+use Rattle.syntax_tree.specs.declared.program.Program.{Program}
+use Rattle.transition_formula.specs.Transition.{Transition}
+use Rattle.posing.specs.declared.note.Witness.{Witness}
+use Rattle.posing.specs.declared.note.Witness.TheVariants as witness
+use Rattle.posing.specs.Posing.{Done, ◌>>=◌, each}
+use Rattle.path_expr.specs.declared.cell.Cell.{Cell}
+use Rattle.proc_summary.specs.Subject.{Subject}
+use Rattle.newton_rounds.specs.Candidates.{candidate_by, candidate_of, dropped_by, dropped_in, dropped_notes, found_in, found_left, kept_candidates, kept_row, limit_notes, most_rounds, outcome, outcome_by, refuted, round, unfolded, with_answer, with_case, with_judged, with_point, with_round}
+use Rattle.newton_rounds.specs.Close.{closed_by_rounds, closed_from, closed_of, with_candidate}
+use Rattle.newton_rounds.specs.Closure.{base_of, bases_of, closed_by, closed_member, closure_of, placed_from, sides_from, sides_of, with_base, with_closed, with_member, with_sides}
+use Rattle.newton_rounds.specs.Members.{GroupCall}
+use Rattle.newton_rounds.specs.Pairs.{PairEnds, Stretch}
+use Rattle.named_limits.specs.Limits.{AreSame, count, limit_by, limit_given, limit_told, limits_told}
+use Rattle.named_limits.proofs.Balance.{Balances, TellsAll, balances-asked, balances-bind, balances-done, balances-each, balances-frame, balances-noted, balances-quiet, count-append, no_limit, same-of, same-refl, tells-bind, tells-done, tells-each, tells-frame, tells-noted, tells-then, tells-until}
+use Rattle.named_limits.proofs.Fitting.{bounded-tells, losses-tell_none}
+use Rattle.named_limits.proofs.Stars.{cells-tell, evaluated-tells, settled_and_fitted-tells, summary-tells}
+
+-- types that their crate keeps to itself
+abbrev Domain : {A B : Type 0} → (A → B) → Type 0
+Domain {A} f = A
+
+abbrev Findings : Type 0
+Findings = Domain outcome
+
+abbrev Judged : Type 0
+Judged = Domain kept_row
+
+-- ---- closures
+
+sides-tell : (s : Subject) (starts : List (Cell Transition)) (call : GroupCall) → TellsAll (sides_from s starts call)
+unfolding sides_from
+sides-tell s starts call = tells-then _ (cells-tell s call.to)
+
+with_sides-tells : (s : Subject) (starts : List (Cell Transition)) (made : _) (call : GroupCall) → TellsAll (with_sides s starts made call)
+unfolding with_sides
+with_sides-tells s starts made call = tells-then _ (sides-tell s starts call)
+
+with_member-tells : (program : Program) (procs : List ℕ) (known : List (Option Transition)) (made : _) (member : ℕ × Proc) → TellsAll (with_member program procs known made member)
+unfolding with_member
+with_member-tells program procs known made member = tells-bind (cells-tell _ 0) (λ starts. tells-each _ made _ (λ made call. with_sides-tells _ starts made call))
+
+sides_of-tells : (program : Program) (procs : List ℕ) (known : List (Option Transition)) → TellsAll (sides_of program procs known)
+unfolding sides_of
+sides_of-tells program procs known = tells-each _ [] _ (λ made member. with_member-tells program procs known made member)
+
+closed_by-tells : (members : List PairEnds) (bases : List Transition) (place : ℕ) (cells : List (Cell Transition)) → TellsAll (closed_by members bases place cells)
+unfolding closed_by
+closed_by-tells members bases place cells = tells-noted (losses-tell_none _) (settled_and_fitted-tells _ _ _)
+
+closed_member-tells : (members : List PairEnds) (stretches : List Stretch) (bases : List Transition) (place : ℕ) → TellsAll (closed_member members stretches bases place)
+unfolding closed_member
+closed_member-tells members stretches bases place = tells-bind (tells-noted (losses-tell_none _) (evaluated-tells _ place)) (λ cells. closed_by-tells members bases place cells)
+
+with_closed-tells : (members : List PairEnds) (stretches : List Stretch) (bases made : List Transition) (place : ℕ) → TellsAll (with_closed members stretches bases made place)
+unfolding with_closed
+with_closed-tells members stretches bases made place = tells-then _ (closed_member-tells members stretches bases place)
+
+closure-tells : (program : Program) (procs : List ℕ) (known : List (Option Transition)) (bases table : List Transition) → TellsAll (closure_of program procs known bases table)
+unfolding closure_of
+closure-tells program procs known bases table =
+    tells-bind (sides_of-tells program procs _) (λ sides. tells-each _ [] _ (λ made place. with_closed-tells _ _ bases made place))
+
+base-tells : (program : Program) (known : List (Option Transition)) (p : Proc) → TellsAll (base_of program known p)
+unfolding base_of
+base-tells program known p = tells-bind (cells-tell _ 0) (λ cells. tells-noted (losses-tell_none _) (tells-done _))
+
+with_base-tells : (program : Program) (known : List (Option Transition)) (made : List Transition) (p : Proc) → TellsAll (with_base program known made p)
+unfolding with_base
+with_base-tells program known made p = tells-then _ (base-tells program known p)
+
+bases-tell : (program : Program) (procs : List ℕ) (known : List (Option Transition)) → TellsAll (bases_of program procs known)
+unfolding bases_of
+bases-tell program procs known = tells-each _ [] _ (λ made p. with_base-tells program _ made p)
+
+-- ---- candidates
+
+candidate_by-tells : (member : PairEnds) (from : ℕ) (cases : List Case) → TellsAll (candidate_by member from cases)
+candidate_by-tells member from [] = tells-done []
+candidate_by-tells member from (case ∷ cases) = tells-each _ [] _ (λ rows d. bounded-tells _ _ _ rows)
+
+candidate-tells : (member : PairEnds) (f : Transition) → TellsAll (candidate_of member f)
+unfolding candidate_of
+candidate-tells member f = candidate_by-tells member f.from f.cases
+
+with_candidate-tells : (made : List (List Row)) (member : PairEnds × Transition) → TellsAll (with_candidate made member)
+unfolding with_candidate
+with_candidate-tells made member = tells-then _ (candidate-tells member.0 member.1)
+
+-- ---- what refutes a row
+
+abbrev pub limit_if : Option Witness → List Limit
+limit_if None = []
+limit_if (Some by) = limit_by by
+
+-- the limit of what was found first, and those that are found
+abbrev limits_found : Findings → List Limit
+limits_found found = limit_if found.point ++ found.limits
+
+first-stays : (point : Option Witness) (by : Witness) → limit_by by ≡ [] → limit_if (Some (unwrap_or point by)) ≡ limit_if point
+first-stays None by none = none
+first-stays (Some first) by none = refl
+
+point-same : (found : Findings) (by : Witness) → limit_by by ≡ [] → limits_found found ≡ limits_found (with_point found by)
+point-same found by none = ap (λ l. l ++ found.limits) (sym (first-stays found.point by none))
+
+answer-same : (found : Findings) (rows : List Row) (a : Answer) → AreSame (limits_found found ++ limit_given a) (limits_found (with_answer found rows a))
+answer-same found rows (answer.Yes by) = same-of (append-nil (limits_found found))
+answer-same found rows (answer.No point) = same-of (append-nil (limits_found found) ∙ point-same found (witness.Point (columns rows []) point) refl)
+answer-same found rows (answer.Bound at certs case point) = same-of (append-nil (limits_found found))
+answer-same found rows (answer.Unbounded case point ray) = same-of (append-nil (limits_found found))
+answer-same found rows (answer.Basis relations spots free) = same-of (append-nil (limits_found found))
+answer-same found rows (answer.Limit limit) = same-of (append_assoc (limit_if found.point) found.limits (limit ∷ []))
+
+found_in-balances : (found : Findings) (rows : List Row) → Balances (limits_found found) limits_found (found_in found rows)
+unfolding ◌>>=◌
+found_in-balances found [] = balances-done (limits_found found) limits_found _ (same-of (point-same found (witness.Point [] []) refl))
+found_in-balances found (row ∷ rows) =
+    balances-asked (limits_found found) limits_found (Infeasible (row ∷ rows)) _
+    (λ a. balances-done (limits_found found ++ limit_given a) limits_found (with_answer found (row ∷ rows) a) (answer-same found (row ∷ rows) a))
+
+found_left-balances : (found : Findings) (left : Option Case) → Balances (limits_found found) limits_found (found_left found left)
+found_left-balances found None = balances-done (limits_found found) limits_found found (same-refl (limits_found found))
+found_left-balances found (Some case) = found_in-balances found case.rows
+
+with_case-balances : (from : ℕ) (row : Row) (found : Findings) (case : Case) → Balances (limits_found found) limits_found (with_case from row found case)
+unfolding with_case
+with_case-balances from row found case = balances-quiet (losses-tell_none _) (found_left-balances found _)
+
+limits-noted : (limits : List Limit) → limits_told (limit_notes limits) ≡ limits
+limits-noted [] = refl
+limits-noted (limit ∷ limits) = ap (λ l. limit ∷ l) (limits-noted limits)
+
+outcome_by-balances : (point : Option Witness) (limits : List Limit) → Balances (limit_if point ++ limits) limit_if (outcome_by point limits)
+outcome_by-balances (Some point) limits =
+    balances-noted (limit_by point ++ limits) (limit_by point) limit_if (limit_notes limits) (Done (Some point))
+    (λ test.
+    let both = count-append test (limit_by point) limits in
+    let noted = ap (count test) (limits-noted limits) in
+    omega (arith, both, noted))
+    (balances-done (limit_by point) limit_if (Some point) (same-refl (limit_by point)))
+outcome_by-balances None [] = balances-done [] limit_if None (same-refl [])
+outcome_by-balances None (limit ∷ limits) =
+    balances-noted (limit ∷ limits) (limit ∷ []) limit_if (limit_notes limits) (Done (Some (witness.Limit limit)))
+    (λ test. let noted = ap (count test) (limits-noted limits) in omega (arith, noted))
+    (balances-done (limit ∷ []) limit_if (Some (witness.Limit limit)) (same-refl (limit ∷ [])))
+
+pub refuted-balances : (f : Transition) (row : Row) → Balances [] limit_if (refuted f row)
+unfolding refuted
+refuted-balances f row =
+    balances-bind [] limits_found limit_if _ outcome (balances-each limits_found (with_case f.from row) _ f.cases (λ found case. with_case-balances f.from row found case))
+    (λ found. outcome_by-balances found.point found.limits)
+
+-- ---- rounds
+
+-- the limits for which rows are dropped: of one member, and of all
+abbrev limits_of_member : List Judged → List Limit
+limits_of_member judged = flat_map (λ j. limit_if j.by) judged
+
+abbrev limits_of_all : List (List Judged) → List Limit
+limits_of_all judged = flat_map limits_of_member judged
+
+one-more : {X : Type 0} (f : X → List Limit) (xs : List X) (x : X) → f x ++ [] ≡ f x → flat_map f xs ++ f x ≡ flat_map f (xs ++ x ∷ [])
+one-more f xs x e = ap (λ l. flat_map f xs ++ l) (sym e) ∙ sym (flat_map-append f xs (x ∷ []))
+
+with_judged-balances : (f : Transition) (made : List Judged) (row : Row) → Balances (limits_of_member made) limits_of_member (with_judged f made row)
+unfolding with_judged
+with_judged-balances f made row =
+    balances-bind (limits_of_member made) (λ by. limits_of_member made ++ limit_if by) limits_of_member (refuted f row) _
+    (balances-frame (limits_of_member made) limit_if (refuted f row) (refuted-balances f row))
+    (λ by. balances-done (limits_of_member made ++ limit_if by) limits_of_member _ (same-of (one-more (λ j. limit_if j.by) made _ (append-nil (limit_if by)))))
+
+unfolded-tells : (program : Program) (known : List (Option Transition)) (p : Proc) → TellsAll (unfolded program known p)
+unfolding unfolded
+unfolded-tells program known p = tells-bind (cells-tell _ 0) (λ cells. summary-tells _ _)
+
+with_round-balances : (program : Program) (known : List (Option Transition)) (made : List (List Judged)) (member : Proc × List Row)
+    → Balances (limits_of_all made) limits_of_all (with_round program known made member)
+unfolding with_round
+with_round-balances program known made member =
+    balances-bind (limits_of_all made) (λ f. limits_of_all made) limits_of_all (unfolded program known member.0) _ (tells-frame (limits_of_all made) (unfolded-tells program known member.0))
+    (λ f. balances-bind (limits_of_all made) (λ judged. limits_of_all made ++ limits_of_member judged) limits_of_all (each (with_judged f) [] member.1) _
+    (balances-frame (limits_of_all made) limits_of_member (each (with_judged f) [] member.1)
+    (balances-each limits_of_member (with_judged f) [] member.1 (λ made row. with_judged-balances f made row)))
+    (λ judged. balances-done (limits_of_all made ++ limits_of_member judged) limits_of_all _
+    (same-of (one-more limits_of_member made judged (append-nil (limits_of_member judged))))))
+
+dropped_by-told : (place : ℕ) (row : Row) (by : Option Witness) → limits_told (dropped_by place row by) ≡ limit_if by
+dropped_by-told place row None = refl
+dropped_by-told place row (Some by) = append-nil (limit_by by)
+
+member-told : (place : ℕ) (judged : List Judged) → limits_told (dropped_in (place, judged)) ≡ limits_of_member judged
+member-told place [] = refl
+member-told place (j ∷ judged) =
+    flat_map-append limit_told (dropped_by place j.row j.by) (dropped_in (place, judged))
+    ∙ (λ i. dropped_by-told place j.row j.by i ++ member-told place judged i)
+
+all-told : (place : ℕ) (judged : List (List Judged)) → limits_told (flat_map dropped_in (placed_from place judged)) ≡ limits_of_all judged
+all-told place [] = refl
+all-told place (own ∷ judged) =
+    flat_map-append limit_told (dropped_in (place, own)) (flat_map dropped_in (placed_from (place + 1) judged))
+    ∙ (λ i. member-told place own i ++ all-told (place + 1) judged i)
+
+pub round-tells : (program : Program) (procs : List ℕ) (known : List (Option Transition)) (candidates : List (List Row)) → TellsAll (round program procs known candidates)
+unfolding round
+round-tells program procs known candidates =
+    record {
+      balances = balances-bind [] limits_of_all no_limit _ _ (balances-each limits_of_all _ [] _ (λ made member. with_round-balances program _ made member))
+          (λ judged. balances-noted (limits_of_all judged) [] no_limit (dropped_notes judged) (Done _)
+          (λ test. let told = ap (count test) (all-told 0 judged) in omega (arith, told))
+          (balances-done [] no_limit _ (same-refl [])));
+    }
+
+kept-tells : (program : Program) (procs : List ℕ) (known : List (Option Transition)) (candidates : List (List Row)) → TellsAll (kept_candidates program procs known candidates)
+unfolding kept_candidates
+kept-tells program procs known candidates = tells-until (round program procs known) (most_rounds candidates) candidates (λ made. round-tells program procs known made)
+
+-- ---- the whole
+
+rounds-tell : (program : Program) (procs : List ℕ) (known : List (Option Transition)) (bases : List Transition) → TellsAll (closed_by_rounds program procs known bases)
+unfolding closed_by_rounds
+rounds-tell program procs known bases =
+    tells-bind (closure-tells program procs known bases []) (λ first.
+    tells-bind (closure-tells program procs known bases first) (λ second.
+    tells-bind (tells-each with_candidate [] _ with_candidate-tells) (λ candidates. tells-then _ (kept-tells program procs known candidates))))
+
+closed_from-tells : (linear : Bool) (program : Program) (procs : List ℕ) (known : List (Option Transition)) (bases : List Transition) → TellsAll (closed_from linear program procs known bases)
+closed_from-tells true program procs known bases = closure-tells program procs known bases []
+closed_from-tells false program procs known bases = rounds-tell program procs known bases
+
+pub closed-tells : (linear : Bool) (program : Program) (procs : List ℕ) (known : List (Option Transition)) → TellsAll (closed_of linear program procs known)
+unfolding closed_of
+closed-tells linear program procs known = tells-bind (bases-tell program procs known) (λ bases. closed_from-tells linear program procs known bases)

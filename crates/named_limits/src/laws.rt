@@ -1,0 +1,19 @@
+//! Each law is the contract of a function that does nothing.
+ghost use Rattle.named_limits.specs.Laws.{AnalysisNamesLimits, LimitlessAnswersNameNone};
+ghost use Rattle.named_limits.specs.Laws.{TameQuestionsNameNone};
+
+/// The limits of a report are those of the answers under which it was made, and each part names
+/// those of its own share of the answers.
+pub fn law_of_named_limits()
+    ensures { AnalysisNamesLimits }
+{}
+
+/// Where no answer is a limit, the report has none.
+pub fn law_of_limitless_answers()
+    ensures { LimitlessAnswersNameNone }
+{}
+
+/// Where no tame question gets a limit, and every question posed is tame, the report has none.
+pub fn law_of_tame_questions()
+    ensures { TameQuestionsNameNone }
+{}
