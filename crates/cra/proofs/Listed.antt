@@ -2,7 +2,7 @@
 -- asked for.
 use Rattle.std.proofs.Common.{refl, sym, subst, ap, codes, true, false, List, ℕ, [], ◌∷◌, Option, Some, None, ◌≡◌, ◌≢◌, ◌⊎◌, inl, inr, Bool, zero, suc, ◌≤◌, ◌-◌, ◌+◌, arith, option_map, true≢false, length, if◌then◌else◌, ◌∙◌}
 use Rattle.std.proofs.lemmas.Bool.{eqb-true, leb-true}
-use Rattle.std.specs.Prelude.{nat_le, ◌&&◌, ◌==◌}
+use Rattle.std.specs.Prelude.{nat_le, ◌&&◌, ◌||◌, ◌==◌}
 use Rattle.std.proofs.lemmas.Slice.Eq.{bytes_eq-Decides}
 use Rattle.std.specs.Str.{bytes_eq}
 use Rattle.clap.specs.Words.{Row, Text, fault_of, is_simple, is_simple_and_free, subcommand_of}
@@ -20,7 +20,11 @@ use Rattle.clap.specs.declared.error.kind.ErrorKind.{ErrorKind}
 use Rattle.clap.specs.declared.error.kind.ErrorKind.TheVariants as kind
 use Rattle.clap.proofs.OnLiterals.{clap_on_literals}
 use Rattle.cra.specs.declared.words.Work.{Work}
+use Rattle.c_lexer.specs.Bytes.{is_word_byte, is_word_start}
 use Rattle.c_lexer.specs.Kinds.{is_word_shape}
+use Rattle.std.specs.Char.{is_ascii_alphabetic}
+use Rattle.std.specs.Int.{is_in_range}
+use Rattle.std.specs.List.{list_all}
 use Rattle.cra.specs.Words.{cost_of, count_of, is_short_number, sample_of, work_named, work_of, work_with}
 use Rattle.cra.specs.Commands.{commands, matched_work, told_work}
 
@@ -92,17 +96,78 @@ module _ (name : List ℕ) where
   unfolding clap_on_literals
   named-name text = refl
 
-  -- a name whose first byte is past that of a dash
+  -- a name, by its first letter
+  upper-fault : (d : ℕ) → d ≤ 25 → (rest : List ℕ) → fault_of commands (name ∷ codes "cost" ∷ ((65 + d) ∷ rest) ∷ []) ≡ []
+  unfolding clap_on_literals
+  upper-fault zero h rest = refl
+  upper-fault (suc zero) h rest = refl
+  upper-fault (suc (suc zero)) h rest = refl
+  upper-fault (suc (suc (suc zero))) h rest = refl
+  upper-fault (suc (suc (suc (suc zero)))) h rest = refl
+  upper-fault (suc (suc (suc (suc (suc zero))))) h rest = refl
+  upper-fault (suc (suc (suc (suc (suc (suc zero)))))) h rest = refl
+  upper-fault (suc (suc (suc (suc (suc (suc (suc zero))))))) h rest = refl
+  upper-fault (suc (suc (suc (suc (suc (suc (suc (suc zero)))))))) h rest = refl
+  upper-fault (suc (suc (suc (suc (suc (suc (suc (suc (suc zero))))))))) h rest = refl
+  upper-fault (suc (suc (suc (suc (suc (suc (suc (suc (suc (suc zero)))))))))) h rest = refl
+  upper-fault (suc (suc (suc (suc (suc (suc (suc (suc (suc (suc (suc zero))))))))))) h rest = refl
+  upper-fault (suc (suc (suc (suc (suc (suc (suc (suc (suc (suc (suc (suc zero)))))))))))) h rest = refl
+  upper-fault (suc (suc (suc (suc (suc (suc (suc (suc (suc (suc (suc (suc (suc zero))))))))))))) h rest = refl
+  upper-fault (suc (suc (suc (suc (suc (suc (suc (suc (suc (suc (suc (suc (suc (suc zero)))))))))))))) h rest = refl
+  upper-fault (suc (suc (suc (suc (suc (suc (suc (suc (suc (suc (suc (suc (suc (suc (suc zero))))))))))))))) h rest = refl
+  upper-fault (suc (suc (suc (suc (suc (suc (suc (suc (suc (suc (suc (suc (suc (suc (suc (suc zero)))))))))))))))) h rest = refl
+  upper-fault (suc (suc (suc (suc (suc (suc (suc (suc (suc (suc (suc (suc (suc (suc (suc (suc (suc zero))))))))))))))))) h rest = refl
+  upper-fault (suc (suc (suc (suc (suc (suc (suc (suc (suc (suc (suc (suc (suc (suc (suc (suc (suc (suc zero)))))))))))))))))) h rest = refl
+  upper-fault (suc (suc (suc (suc (suc (suc (suc (suc (suc (suc (suc (suc (suc (suc (suc (suc (suc (suc (suc zero))))))))))))))))))) h rest = refl
+  upper-fault (suc (suc (suc (suc (suc (suc (suc (suc (suc (suc (suc (suc (suc (suc (suc (suc (suc (suc (suc (suc zero)))))))))))))))))))) h rest = refl
+  upper-fault (suc (suc (suc (suc (suc (suc (suc (suc (suc (suc (suc (suc (suc (suc (suc (suc (suc (suc (suc (suc (suc zero))))))))))))))))))))) h rest = refl
+  upper-fault (suc (suc (suc (suc (suc (suc (suc (suc (suc (suc (suc (suc (suc (suc (suc (suc (suc (suc (suc (suc (suc (suc zero)))))))))))))))))))))) h rest = refl
+  upper-fault (suc (suc (suc (suc (suc (suc (suc (suc (suc (suc (suc (suc (suc (suc (suc (suc (suc (suc (suc (suc (suc (suc (suc zero))))))))))))))))))))))) h rest = refl
+  upper-fault (suc (suc (suc (suc (suc (suc (suc (suc (suc (suc (suc (suc (suc (suc (suc (suc (suc (suc (suc (suc (suc (suc (suc (suc zero)))))))))))))))))))))))) h rest = refl
+  upper-fault (suc (suc (suc (suc (suc (suc (suc (suc (suc (suc (suc (suc (suc (suc (suc (suc (suc (suc (suc (suc (suc (suc (suc (suc (suc zero))))))))))))))))))))))))) h rest = refl
+  upper-fault (suc (suc (suc (suc (suc (suc (suc (suc (suc (suc (suc (suc (suc (suc (suc (suc (suc (suc (suc (suc (suc (suc (suc (suc (suc (suc d)))))))))))))))))))))))))) h rest = absurd (omega arith)
+
+  lower-fault : (d : ℕ) → d ≤ 25 → (rest : List ℕ) → fault_of commands (name ∷ codes "cost" ∷ ((97 + d) ∷ rest) ∷ []) ≡ []
+  unfolding clap_on_literals
+  lower-fault zero h rest = refl
+  lower-fault (suc zero) h rest = refl
+  lower-fault (suc (suc zero)) h rest = refl
+  lower-fault (suc (suc (suc zero))) h rest = refl
+  lower-fault (suc (suc (suc (suc zero)))) h rest = refl
+  lower-fault (suc (suc (suc (suc (suc zero))))) h rest = refl
+  lower-fault (suc (suc (suc (suc (suc (suc zero)))))) h rest = refl
+  lower-fault (suc (suc (suc (suc (suc (suc (suc zero))))))) h rest = refl
+  lower-fault (suc (suc (suc (suc (suc (suc (suc (suc zero)))))))) h rest = refl
+  lower-fault (suc (suc (suc (suc (suc (suc (suc (suc (suc zero))))))))) h rest = refl
+  lower-fault (suc (suc (suc (suc (suc (suc (suc (suc (suc (suc zero)))))))))) h rest = refl
+  lower-fault (suc (suc (suc (suc (suc (suc (suc (suc (suc (suc (suc zero))))))))))) h rest = refl
+  lower-fault (suc (suc (suc (suc (suc (suc (suc (suc (suc (suc (suc (suc zero)))))))))))) h rest = refl
+  lower-fault (suc (suc (suc (suc (suc (suc (suc (suc (suc (suc (suc (suc (suc zero))))))))))))) h rest = refl
+  lower-fault (suc (suc (suc (suc (suc (suc (suc (suc (suc (suc (suc (suc (suc (suc zero)))))))))))))) h rest = refl
+  lower-fault (suc (suc (suc (suc (suc (suc (suc (suc (suc (suc (suc (suc (suc (suc (suc zero))))))))))))))) h rest = refl
+  lower-fault (suc (suc (suc (suc (suc (suc (suc (suc (suc (suc (suc (suc (suc (suc (suc (suc zero)))))))))))))))) h rest = refl
+  lower-fault (suc (suc (suc (suc (suc (suc (suc (suc (suc (suc (suc (suc (suc (suc (suc (suc (suc zero))))))))))))))))) h rest = refl
+  lower-fault (suc (suc (suc (suc (suc (suc (suc (suc (suc (suc (suc (suc (suc (suc (suc (suc (suc (suc zero)))))))))))))))))) h rest = refl
+  lower-fault (suc (suc (suc (suc (suc (suc (suc (suc (suc (suc (suc (suc (suc (suc (suc (suc (suc (suc (suc zero))))))))))))))))))) h rest = refl
+  lower-fault (suc (suc (suc (suc (suc (suc (suc (suc (suc (suc (suc (suc (suc (suc (suc (suc (suc (suc (suc (suc zero)))))))))))))))))))) h rest = refl
+  lower-fault (suc (suc (suc (suc (suc (suc (suc (suc (suc (suc (suc (suc (suc (suc (suc (suc (suc (suc (suc (suc (suc zero))))))))))))))))))))) h rest = refl
+  lower-fault (suc (suc (suc (suc (suc (suc (suc (suc (suc (suc (suc (suc (suc (suc (suc (suc (suc (suc (suc (suc (suc (suc zero)))))))))))))))))))))) h rest = refl
+  lower-fault (suc (suc (suc (suc (suc (suc (suc (suc (suc (suc (suc (suc (suc (suc (suc (suc (suc (suc (suc (suc (suc (suc (suc zero))))))))))))))))))))))) h rest = refl
+  lower-fault (suc (suc (suc (suc (suc (suc (suc (suc (suc (suc (suc (suc (suc (suc (suc (suc (suc (suc (suc (suc (suc (suc (suc (suc zero)))))))))))))))))))))))) h rest = refl
+  lower-fault (suc (suc (suc (suc (suc (suc (suc (suc (suc (suc (suc (suc (suc (suc (suc (suc (suc (suc (suc (suc (suc (suc (suc (suc (suc zero))))))))))))))))))))))))) h rest = refl
+  lower-fault (suc (suc (suc (suc (suc (suc (suc (suc (suc (suc (suc (suc (suc (suc (suc (suc (suc (suc (suc (suc (suc (suc (suc (suc (suc (suc d)))))))))))))))))))))))))) h rest = absurd (omega arith)
+
+  underscore-fault : (rest : List ℕ) → fault_of commands (name ∷ codes "cost" ∷ (95 ∷ rest) ∷ []) ≡ []
+  unfolding clap_on_literals
+  underscore-fault rest = refl
+
+  -- a first byte past that of a dash
   abbrev past_dash : ℕ → ℕ
   past_dash d = suc (suc (suc (suc (suc (suc (suc (suc (suc (suc (suc (suc (suc (suc (suc (suc (suc (suc (suc (suc (suc (suc (suc (suc (suc (suc (suc (suc (suc (suc (suc (suc (suc (suc (suc (suc (suc (suc (suc (suc (suc (suc (suc (suc (suc (suc d)))))))))))))))))))))))))))))))))))))))))))))
 
-  word-fault : (d : ℕ) (rest : List ℕ) → fault_of commands (name ∷ codes "cost" ∷ (past_dash d ∷ rest) ∷ []) ≡ []
+  past-name : (d : ℕ) (rest : List ℕ) → name_of (subcommand_of commands (name ∷ codes "cost" ∷ (past_dash d ∷ rest) ∷ [])) ≡ Some (codes "cost")
   unfolding clap_on_literals
-  word-fault d rest = refl
-
-  word-name : (d : ℕ) (rest : List ℕ) → name_of (subcommand_of commands (name ∷ codes "cost" ∷ (past_dash d ∷ rest) ∷ [])) ≡ Some (codes "cost")
-  unfolding clap_on_literals
-  word-name d rest = refl
+  past-name d rest = refl
 
   -- a number that begins with a digit from 1 to 9
   number-fault : (d : ℕ) → d ≤ 8 → (rest : List ℕ) → fault_of commands (name ∷ codes "sample" ∷ ((49 + d) ∷ rest) ∷ []) ≡ []
@@ -213,31 +278,80 @@ module _ (name : List ℕ) where
 
   -- ---- a command and a name
 
-  -- no word begins with a dash
-  record IsUndashed (text : List ℕ) : Type 0 where
-    first : ℕ
-    rest : List ℕ
-    is : text ≡ first ∷ rest
-    undashed : (first == 45) ≡ false
-
-  undashed : (first : ℕ) (rest : List ℕ) (b : Bool) → (first == 45) ≡ b → is_word_shape (first ∷ rest) ≡ true → IsUndashed (first ∷ rest)
-  undashed first rest false e is = record { first = first; rest = rest; is = refl; undashed = e }
-  undashed first rest true e is =
-      absurd (true≢false (sym is ∙ ap (λ n. is_word_shape (n ∷ rest)) (eqb-true first 45 e)))
-
-  word-undashed : (text : List ℕ) (work : Work) (b : Bool) → is_word_shape text ≡ b → cost_of text ≡ Some work → IsUndashed text
-  word-undashed [] work b is some = absurd (some-apart refl some)
-  word-undashed (first ∷ rest) work true is some = undashed first rest (first == 45) refl is
-  word-undashed (first ∷ rest) work false is some = absurd (some-apart (rw is refl) some)
-
   abbrev costed : List ℕ → List (List ℕ)
   costed text = name ∷ codes "cost" ∷ text ∷ []
 
-  undashed-fault : (text : List ℕ) → IsUndashed text → fault_of commands (costed text) ≡ []
-  undashed-fault text h = subst (λ t. fault_of commands (costed t) ≡ []) (sym h.is) (word-fault h.first h.rest h.undashed)
+  either_of : {P : Type 0} (a b : Bool) → a || b ≡ true → (a ≡ true → P) → (b ≡ true → P) → P
+  either_of true b e one other = one refl
+  either_of false b e one other = other e
 
-  undashed-name : (text : List ℕ) → IsUndashed text → name_of (subcommand_of commands (costed text)) ≡ Some (codes "cost")
-  undashed-name text h = subst (λ t. name_of (subcommand_of commands (costed t)) ≡ Some (codes "cost")) (sym h.is) (word-name h.first h.rest h.undashed)
+  both_of : (a b : Bool) → a && b ≡ true → (a ≡ true) × (b ≡ true)
+  both_of true b e = (refl, e)
+  both_of false b e = absurd (cc e)
+
+  -- a byte of a range is the first one and some more
+  record IsPast (low most b : ℕ) : Type 0 where
+    more : ℕ
+    few : more ≤ most
+    is : b ≡ low + more
+
+  in_range : (low high most b : ℕ) → high ≡ low + most → is_in_range low high b ≡ true → IsPast low most b
+  in_range low high most b wide e =
+      let parts = both_of (nat_le low b) (nat_le b high) e in
+      let least = leb-true low b parts.0 in
+      let greatest = leb-true b high parts.1 in
+      record { more = b - low; few = omega (arith, wide, greatest); is = omega (arith, least) }
+
+  word-fault : (b : ℕ) (rest : List ℕ) → is_word_start b ≡ true → fault_of commands (costed (b ∷ rest)) ≡ []
+  word-fault b rest e =
+      either_of (is_ascii_alphabetic b) (b == 95) e
+      (λ letter. either_of (is_in_range 65 90 b) (is_in_range 97 122 b) letter
+      (λ upper. let h = in_range 65 90 25 b refl upper in subst (λ n. fault_of commands (costed (n ∷ rest)) ≡ []) (sym h.is) (upper-fault h.more h.few rest))
+      (λ lower. let h = in_range 97 122 25 b refl lower in subst (λ n. fault_of commands (costed (n ∷ rest)) ≡ []) (sym h.is) (lower-fault h.more h.few rest)))
+      (λ underscore. subst (λ n. fault_of commands (costed (n ∷ rest)) ≡ []) (sym (eqb-true b 95 underscore)) (underscore-fault rest))
+
+  past_dash-of : (b : ℕ) → is_word_start b ≡ true → b ≡ past_dash (b - 46)
+  past_dash-of b e =
+      either_of (is_ascii_alphabetic b) (b == 95) e
+      (λ letter. either_of (is_in_range 65 90 b) (is_in_range 97 122 b) letter
+      (λ upper. let h = in_range 65 90 25 b refl upper in let same = h.is in omega (arith, same))
+      (λ lower. let h = in_range 97 122 25 b refl lower in let same = h.is in omega (arith, same)))
+      (λ underscore. let same = eqb-true b 95 underscore in omega (arith, same))
+
+  word-name : (b : ℕ) (rest : List ℕ) → is_word_start b ≡ true → name_of (subcommand_of commands (costed (b ∷ rest))) ≡ Some (codes "cost")
+  word-name b rest e = subst (λ n. name_of (subcommand_of commands (costed (n ∷ rest))) ≡ Some (codes "cost")) (sym (past_dash-of b e)) (past-name (b - 46) rest)
+
+  -- what a name begins with
+  record IsNamed (text : List ℕ) : Type 0 where
+    first : ℕ
+    rest : List ℕ
+    is : text ≡ first ∷ rest
+    starts : is_word_start first ≡ true
+
+  word-named : (text : List ℕ) (work : Work) (b : Bool) → is_word_shape text ≡ b → cost_of text ≡ Some work → IsNamed text
+  word-named [] work b is some = absurd (some-apart refl some)
+  word-named (first ∷ rest) work true is some = record { first = first; rest = rest; is = refl; starts = (both_of (is_word_start first) (list_all is_word_byte rest) is).0 }
+  word-named (first ∷ rest) work false is some = absurd (some-apart (rw is refl) some)
+
+  named-fault_of : (text : List ℕ) → IsNamed text → fault_of commands (costed text) ≡ []
+  named-fault_of text h = subst (λ t. fault_of commands (costed t) ≡ []) (sym h.is) (word-fault h.first h.rest h.starts)
+
+  named-name_of : (text : List ℕ) → IsNamed text → name_of (subcommand_of commands (costed text)) ≡ Some (codes "cost")
+  named-name_of text h = subst (λ t. name_of (subcommand_of commands (costed t)) ≡ Some (codes "cost")) (sym h.is) (word-name h.first h.rest h.starts)
+
+  -- ---- what is asked for
+
+  sample-asked : (text : List ℕ) (work : Work) → work_with (codes "sample") text ≡ Some work → sample_of text ≡ Some work
+  unfolding work_with
+  sample-asked text work some = some
+
+  cost-asked : (text : List ℕ) (work : Work) → work_with (codes "cost") text ≡ Some work → cost_of text ≡ Some work
+  unfolding work_with
+  cost-asked text work some = some
+
+  none-asked : (word text : List ℕ) → bytes_eq word (codes "sample") ≡ false → bytes_eq word (codes "cost") ≡ false → work_with word text ≡ None
+  unfolding work_with
+  none-asked word text e1 e2 = rw (e1, e2) refl
 
   -- ---- a command and its argument
 
@@ -268,11 +382,11 @@ module _ (name : List ℕ) where
 
   costed-fits : (text : List ℕ) (work : Work) → cost_of text ≡ Some work → Fits (costed text)
   costed-fits text work some =
-      let begins = word-undashed text work (is_word_shape text) refl some in
+      let begins = word-named text work (is_word_shape text) refl some in
       record {
-        matched = λ _. ap (λ n. matched_work n (costed text)) (undashed-name text begins);
-        answered = λ _ _. inl (undashed-fault text begins);
-        told = λ k told. absurd (kinds-apart told (undashed-fault text begins));
+        matched = λ _. ap (λ n. matched_work n (costed text)) (named-name_of text begins);
+        answered = λ _ _. inl (named-fault_of text begins);
+        told = λ k told. absurd (kinds-apart told (named-fault_of text begins));
       }
 
   abbrev FitsWith : List ℕ → List ℕ → Work → Type 0
@@ -280,9 +394,9 @@ module _ (name : List ℕ) where
 
   asked-fit : (word text : List ℕ) (work : Work) → FitsWith text word work
   asked-fit word text work =
-      by_literal (λ w. FitsWith text w work) (codes "sample") word _ refl (λ some. sampled-fits text work some) (λ e1.
-      by_literal (λ w. FitsWith text w work) (codes "cost") word _ refl (λ some. costed-fits text work some) (λ e2 some.
-      absurd (some-apart (rw (e1, e2) refl) some)))
+      by_literal (λ w. FitsWith text w work) (codes "sample") word _ refl (λ some. sampled-fits text work (sample-asked text work some)) (λ e1.
+      by_literal (λ w. FitsWith text w work) (codes "cost") word _ refl (λ some. costed-fits text work (cost-asked text work some)) (λ e2 some.
+      absurd (some-apart (none-asked word text e1 e2) some)))
 
   text-fits : (word text : List ℕ) (asked : Option Work) → work_with word text ≡ asked → Fits (name ∷ word ∷ text ∷ [])
   text-fits word text None none = unasked-fit word text none
@@ -331,7 +445,7 @@ module _ (name : List ℕ) where
       by_literal (λ d. Fits (name ∷ word ∷ d ∷ text ∷ [])) (codes "--") dashes _ refl
       (by_literal (λ w. Fits (behind w text)) (codes "sample") word _ refl (sampled_behind-fits text) (λ e1.
       by_literal (λ w. Fits (behind w text)) (codes "cost") word _ refl (costed_behind-fits text) (λ e2.
-      unasked_behind-fit word (codes "--") text (rw (e1, e2) refl))))
+      unasked_behind-fit word (codes "--") text (none-asked word text e1 e2))))
       (λ other. unasked_behind-fit word dashes text (rw other refl))
 
 -- ---- all words

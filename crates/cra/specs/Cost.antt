@@ -62,8 +62,8 @@ abbrev pub AreCosts : ℕ → List ProcBlock → List (List Cost) → Type 0
 AreCosts number blocks costs =
     ArePairs (λ (block : ProcBlock) made. AreCostsOf number block.formula.cases made) blocks costs
 
--- The text is accepted, and the global of this number has the name; these are the costs of the cases
--- of the report of its analysis.
+-- The text is accepted, and the global of this number has the name; these are the costs of the
+-- cases of the report of its analysis.
 pub record IsCosted (text name : List ℕ) (number : ℕ) (report : Report)
     (costs : List (List Cost)) : Type 0 where
   pub answers : List Answer

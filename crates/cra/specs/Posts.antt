@@ -1,5 +1,5 @@
--- A global that is found by its name, formulas that have a post for it, and what is told of a report
--- then.
+-- A global that is found by its name, formulas that have a post for it, and what is told of a
+-- report then.
 use Rattle.std.specs.Prelude.{◌≡◌, ℕ, ◌<◌, List, length, Option, None, Some, slice_get}
 use Rattle.syntax_tree.specs.declared.program.Program.{Program}
 use Rattle.cost_bounds.specs.declared.cost.Cost.{Cost}

@@ -43,17 +43,17 @@ abbrev pub cost_of : List ℕ → Option Work
 cost_of text = if is_word_shape text then Some (Cost text) else None
 
 -- what a command asks for that has an argument
-abbrev pub work_with : List ℕ → List ℕ → Option Work
+unfoldable pub work_with : List ℕ → List ℕ → Option Work
 work_with word text = if bytes_eq word (codes "sample") then sample_of text
     else (if bytes_eq word (codes "cost") then cost_of text else None)
 
--- What a command line asks for: the program's name and one word, or `sample` and a number, or `cost`
--- and a name, before which two dashes may stand. Every other list of words asks for nothing.
+-- What a command line asks for: the program's name and one word, or `sample` and a number, or
+-- `cost` and a name, before which two dashes may stand. Every other list of words asks for nothing.
 abbrev pub work_of : List (List ℕ) → Option Work
 work_of (name ∷ word ∷ []) = work_named word
 work_of (name ∷ word ∷ text ∷ []) = work_with word text
-work_of (name ∷ word ∷ dashes ∷ text ∷ []) = if bytes_eq dashes (codes "--") then work_with word text
-    else None
+work_of (name ∷ word ∷ dashes ∷ text ∷ []) =
+    if bytes_eq dashes (codes "--") then work_with word text else None
 work_of _ = None
 
 -- whether the source is read for it

@@ -1,4 +1,5 @@
 ghost use Rattle.std.specs.Prelude.{◌≡◌, ◌≢◌, ◌-◌, None, Some, map, string_bytes, IfOk, IfErr, if◌then◌else◌};
+ghost use Rattle.std.specs.List.{list_all};
 ghost use Rattle.std.specs.Str.Parse.{digits_value};
 ghost use Rattle.clap.specs.Words.{app_of, subcommand_name_of};
 ghost use Rattle.c_lexer.specs.Bytes.{is_word_byte, is_word_start};
@@ -116,17 +117,21 @@ fn is_word_byte(byte: u8) -> bool
     byte.is_ascii_alphanumeric() || byte == b'_'
 }
 
-/// Whether a text is a word of the programs that are read: a letter or `_`, and then letters, digits
-/// and `_`.
+fn are_word_bytes(bytes: &[u8]) -> bool
+    ensures { result ≡ list_all is_word_byte bytes.now }
+{
+    bytes.iter().all(|byte| is_word_byte(*byte))
+}
+
+/// Whether a text is a word of the programs that are read: a letter or `_`, and then letters,
+/// digits and `_`.
 fn is_word(text: &[u8]) -> bool
     ensures { result ≡ is_word_shape text.now }
 {
-    match text {
-        [first, rest @ ..] => {
-            is_word_start(*first) && rest.iter().all(|byte| is_word_byte(*byte))
-        }
-        [] => false,
-    }
+    let Some((first, rest)) = text.split_first() else {
+        return false;
+    };
+    is_word_start(*first) && are_word_bytes(rest)
 }
 
 /// The bounds on a global's change, where the text is a word.
@@ -141,6 +146,7 @@ fn cost_of(alloc: Global, text: &[u8]) -> Result<Option<Work>, AllocError>
 }
 
 /// What a command asks for that has an argument.
+#[tactic(auto, unfolding(crate::specs::Words::work_with))]
 fn work_with(alloc: Global, name: &str, text: &str) -> Result<Option<Work>, AllocError>
     ensures { IfOk result (λ work. work ≡ work_with name.now text.now) }
 {
@@ -153,7 +159,8 @@ fn work_with(alloc: Global, name: &str, text: &str) -> Result<Option<Work>, Allo
 
 /// What words ask for that name this command.
 fn work_under(alloc: Global, name: &str, words: &[String]) -> Result<Option<Work>, AllocError>
-    ensures { IfOk result (λ work. work ≡ matched_work (Some name.now) (map string_bytes words.now)) }
+    ensures { IfOk result (λ work. work
+        ≡ matched_work (Some name.now) (map string_bytes words.now)) }
 {
     match words {
         [_, word] => {

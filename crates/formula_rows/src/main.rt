@@ -1,12 +1,13 @@
 //! Worked rows of formulas: what the operations on polynomials, the closed forms and the formulas
 //! come to on examples, what the calls on polyhedra come to on small formulas under listed answers,
 //! by how much cases change a global, what the test says of an answer, what the simplex method
-//! answers, which questions are narrow, sums and products of ratios, reduced bases, and what is read
-//! and written of the files that hold answers. The rows of standard input have an empty line between
-//! two. A row of one line is its kind, a colon and what is given to the operation; a row of more
-//! lines has its kind in the first. The rows of a question are parted by semicolons; what stands
-//! after a colon belongs to the same case, and `%` parts cases. What is printed stands in `stdout`
-//! as another implementation, a model of the rules or a reader gave it. No clause says these.
+//! answers, which questions are narrow, sums and products of ratios, reduced bases, and what is
+//! read and written of the files that hold answers. The rows of standard input have an empty line
+//! between two. A row of one line is its kind, a colon and what is given to the operation; a row of
+//! more lines has its kind in the first. The rows of a question are parted by semicolons; what
+//! stands after a colon belongs to the same case, and `%` parts cases. What is printed stands in
+//! `stdout` as another implementation, a model of the rules or a reader gave it. No clause says
+//! these.
 #![tactic(auto)]
 
 mod bases;

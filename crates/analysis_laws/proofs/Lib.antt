@@ -1,0 +1,2 @@
+-- assertions that stand in no graph
+pub mod Unreached

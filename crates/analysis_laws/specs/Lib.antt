@@ -1,0 +1,2 @@
+-- What must be believed: which assertions are told without a question.
+pub mod Laws
