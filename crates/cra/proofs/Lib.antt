@@ -19,3 +19,5 @@ pub mod Sampled
 pub mod Listed
 -- What the analysis under listed answers comes to.
 pub mod Checks
+-- Tame questions.
+pub mod Tame

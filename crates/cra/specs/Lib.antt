@@ -18,6 +18,8 @@ pub mod Cost
 pub mod Replies
 pub mod Sentences
 pub mod Bounded
+-- reports that name no limit
+pub mod Tame
 -- ---- words of proofs and of private functions
 pub mod Submitted
 pub mod Posts

@@ -15,6 +15,7 @@ mod checking;
 mod costing;
 mod help;
 mod input;
+mod laws;
 mod limits;
 mod output;
 mod refusal;
