@@ -13,6 +13,7 @@ ghost use Rattle.cra.specs.Replay.{IsToReplay};
 ghost use Rattle.cra.specs.Replies.{IsReply, IsReplyToWork};
 ghost use Rattle.cra.specs.Sentences.{AnAssertionFails, IsTrueFile, NoAssertionFails, TellsTrueText};
 ghost use Rattle.cra.specs.Status.{IsAnswer};
+ghost use Rattle.cra.specs.Tame.{TameTextsHaveNoLimit};
 ghost use Rattle.cra.specs.Words.{reads_source, work_of};
 
 use crate::analysing::analyse_reply;
@@ -21,6 +22,7 @@ use crate::checking::check_reply;
 use crate::costing::cost_reply;
 use crate::help::{help_reply, usage_reply, version_reply};
 use crate::input::{InputError, read_input};
+use crate::laws::law_of_tame_texts;
 use crate::limits::{MOST_FILE, MOST_INPUT, PIECE};
 use crate::output::write_all;
 use crate::renewing::renew_reply;
@@ -126,6 +128,9 @@ pub fn run<R: Source, W: Sink>(
     ensures sound_cost { (asked : IsToCost (map string_bytes words.now) (R.left source.old))
         → result ≡ Status.CostsTold
         → TellsTrueBounds asked.program asked.name (W.taken sink.old) (W.taken sink.new) }
+    // The report of an accepted text, which `analyse`, `certify` and `sample` tell, has no limit
+    // where every question that its analysis posed is tame.
+    ensures tame { TameTextsHaveNoLimit }
 
     // Every status but those of the source, the sink and memory is the answer to the words and to
     // the input.
@@ -212,6 +217,7 @@ pub fn run<R: Source, W: Sink>(
     ensures memory_untouched { result ≡ Status.WantOfMemory → sink.new ≡ sink.old }
 {
     newline_is_read_over();
+    law_of_tame_texts();
     let reply = match compose(alloc, words, source) {
         Ok(reply) => reply,
         Err(InputError::Failed) => return Status::SourceFailed,
