@@ -2,5 +2,6 @@
 #![tactic(auto)]
 
 mod finder;
+mod memo;
 
 pub use finder::Finder;

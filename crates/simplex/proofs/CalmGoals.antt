@@ -78,7 +78,7 @@ room k h = let few : k * (1099511627776 * 1099511627776) ≤ 4294967295 * (10995
 fewer : (a b : ℕ) → a + b < 2 ^ 127 → a < 2 ^ 127
 fewer a b h = omega (arith, h)
 
-both_parts : (part others : Result Bool Step.Wide) (w : Step.Wide) → (part ≡ Err w → ⊥) → (others ≡ Err w → ⊥) → and_then part others ≡ Err w → ⊥
+pub both_parts : (part others : Result Bool Step.Wide) (w : Step.Wide) → (part ≡ Err w → ⊥) → (others ≡ Err w → ⊥) → and_then part others ≡ Err w → ⊥
 both_parts (Ok true) others w p q e = q e
 both_parts (Ok false) others w p q e = cc
 both_parts (Err v) others w p q e = p e
@@ -98,7 +98,7 @@ cert_small n constants goal t cert small c each = record {
   by = all_entries (λ z. unsigned_abs z ≤ n) cert.by (λ l h. subst (λ (z : ℤ). unsigned_abs z ≤ n) (sym (c.by l (subst (λ (x : ℕ). l < x) each h))) (subst (λ (x : ℕ). x ≤ n) (sym (unsigned_abs-mul (numbers_of t goal (constants + 1 + l)) (negsuc 0) ∙ mul-one (unsigned_abs (numbers_of t goal (constants + 1 + l))))) (small goal (constants + 1 + l))));
 }
 
-scaled_at-fits : (n : ℕ) (scale : ℤ) (terms : Terms) (cs : List (List Col)) → unsigned_abs scale ≤ n → ((j : ℕ) → j < length cs → unsigned_abs (coefficient_in terms (get_or cs j [])) ≤ n) → n * n < 2 ^ 127 → HasValue (scaled_at scale terms cs)
+pub scaled_at-fits : (n : ℕ) (scale : ℤ) (terms : Terms) (cs : List (List Col)) → unsigned_abs scale ≤ n → ((j : ℕ) → j < length cs → unsigned_abs (coefficient_in terms (get_or cs j [])) ≤ n) → n * n < 2 ^ 127 → HasValue (scaled_at scale terms cs)
 scaled_at-fits n scale terms [] s f h = ([], refl)
 scaled_at-fits n scale terms (c ∷ cs) s f h =
     bind_value (product_of scale (coefficient_in terms c)) (λ z. scaled_at scale terms cs >>= λ more. numbers_ok (z ∷ more)) (scale *ℤ coefficient_in terms c, product_of-fits scale (coefficient_in terms c) (let g : unsigned_abs (scale *ℤ coefficient_in terms c) ≤ n * n = product-small n n scale (coefficient_in terms c) s (f 0 (omega arith)) in omega (arith, g, h)))
@@ -110,7 +110,7 @@ scaled_at-fits n scale terms (c ∷ cs) s f h =
     rest : (z : ℤ) → HasValue (scaled_at scale terms cs) → HasValue (scaled_at scale terms cs >>= λ more. numbers_ok (z ∷ more))
     rest z v = bind_value (scaled_at scale terms cs) (λ more. numbers_ok (z ∷ more)) v (λ more e. (z ∷ more, refl))
 
-scaled_less-fits : (scale rest less : ℤ) → unsigned_abs scale ≤ 1099511627776 → unsigned_abs rest ≤ 1099511627776 → unsigned_abs less ≤ 1099511627776 → HasValue (scaled_less scale rest less)
+pub scaled_less-fits : (scale rest less : ℤ) → unsigned_abs scale ≤ 1099511627776 → unsigned_abs rest ≤ 1099511627776 → unsigned_abs less ≤ 1099511627776 → HasValue (scaled_less scale rest less)
 scaled_less-fits scale rest less s r l =
     let left_small : unsigned_abs (scale *ℤ rest) ≤ 1099511627776 * 1099511627776 = product-small 1099511627776 1099511627776 scale rest s r in
     let right_small : unsigned_abs (less *ℤ negsuc 0) ≤ 1099511627776 * 1 = product-small 1099511627776 1 less (negsuc 0) l (omega (arith, ints)) in
@@ -127,7 +127,7 @@ floor-small (pos a) (negsuc b) h = absurd (omega (arith, ints, h))
 floor-small (negsuc a) (pos b) h = let g = div-le_self a b in omega (arith, g)
 floor-small (negsuc a) (negsuc b) h = absurd (omega (arith, ints, h))
 
-below-fits : (at : ℤ) (cert : Cert) → unsigned_abs at ≤ 1099511627776 → unsigned_abs cert.scale ≤ 1099511627776 → HasValue (tested_below at cert)
+pub below-fits : (at : ℤ) (cert : Cert) → unsigned_abs at ≤ 1099511627776 → unsigned_abs cert.scale ≤ 1099511627776 → HasValue (tested_below at cert)
 below-fits at cert a s =
     let next_small : unsigned_abs (at +ℤ pos 1) ≤ unsigned_abs at + 1 = unsigned_abs-+ℤ at (pos 1) in
     bind_value (sum_of at (pos 1)) (λ next. product_of cert.scale next >>= λ limit. sum_of limit (negsuc 0) >>= λ most. bool_ok (int_le cert.sum most)) (at +ℤ pos 1, sum_of-fits at (pos 1) (omega (arith, next_small, a)))
@@ -144,7 +144,7 @@ below-fits at cert a s =
         bind_value (product_of cert.scale next) (λ limit. sum_of limit (negsuc 0) >>= λ most. bool_ok (int_le cert.sum most)) (cert.scale *ℤ next, product_of-fits cert.scale next (omega (arith, product_small)))
         (λ limit e. with_limit limit (subst (λ (z : ℤ). unsigned_abs z ≤ 1099511627776 * 1099511627777) (sym (product_of-value cert.scale next limit e)) product_small))
 
-abbrev form_ok : Form → Result Form Step.Wide
+abbrev pub form_ok : Form → Result Form Step.Wide
 form_ok form = Ok form
 
 sum-fits : (goal : Goal) (cert : Cert) → IsCalmGoal goal → IsSmallCert 1099511627776 cert → HasValue (tested_sum goal cert)

@@ -260,7 +260,7 @@ both_calm (Ok true) others w p q e = q e
 both_calm (Ok false) others w p q e = cc
 both_calm (Err v) others w p q e = p e
 
-certs_calm : (at : ℤ) (goals : List Goal) (certs : List Cert) (w : Step.Wide) → ((l : ℕ) (goal : Goal) (cert : Cert) → slice_get goals l ≡ Some goal → slice_get certs l ≡ Some cert → tested_cert at goal cert ≡ Err w → ⊥) → tested_certs at goals certs ≡ Err w → ⊥
+pub certs_calm : (at : ℤ) (goals : List Goal) (certs : List Cert) (w : Step.Wide) → ((l : ℕ) (goal : Goal) (cert : Cert) → slice_get goals l ≡ Some goal → slice_get certs l ≡ Some cert → tested_cert at goal cert ≡ Err w → ⊥) → tested_certs at goals certs ≡ Err w → ⊥
 certs_calm at [] certs w h e = cc
 certs_calm at (goal ∷ goals) [] w h e = cc
 certs_calm at (goal ∷ goals) (cert ∷ certs) w h e =

@@ -11,6 +11,7 @@ ghost use Rattle.simplex.specs.declared.stop.Stop.TheVariants as stop;
 
 use crate::answering::limit_of;
 use crate::next_supremum::next_supremum;
+use crate::shortness::is_short_goals_answer;
 use crate::{Endings, Stop, Supremum};
 use farkas_check::{
     Answer, Cert, Goal, Limit, Ratio, canonical_goals, goals_outcome, positivity, truth_of_passing,
@@ -97,12 +98,16 @@ fn step_answer(goals: &[Goal], step: &Wide) -> Answer
 }
 
 /// The answer where it passes its test, and else the first step of the test that leaves 128 bits.
+/// Where all numbers are short there is no such step, and the test is left out.
 fn tested_answer(goals: &[Goal], found: Answer) -> Answer
     requires canonical { All IsCanonicalGoal goals.now }
     requires found { IsFoundAmong (2 ^ 127 - 1) goals.now found }
     ensures { IsGoalsAnswer goals.now result }
 {
     positivity(&found);
+    if is_short_goals_answer(goals, &found) {
+        return found;
+    }
     match goals_outcome(goals, &found) {
         Ok(_holds) => found,
         Err(step) => limit_of(&step),

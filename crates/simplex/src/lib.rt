@@ -19,6 +19,7 @@ mod questions;
 mod raise;
 mod replies;
 mod search;
+mod shortness;
 mod spots;
 mod steps;
 mod stop;
