@@ -1,4 +1,5 @@
-use Rattle.std.proofs.Common.{◌≡◌, ◌⊎◌, inl, inr}
+use Rattle.std.proofs.Common.{◌≡◌, ◌⊎◌, inl, inr, rules}
+use Rattle.std.specs.Io.KnownBytes.{append_known}
 use Rattle.cra.specs.declared.status.Status.{Status}
 use Rattle.cra.specs.declared.status.Status.TheVariants.{AllProved, SomeUnproved, NoneFailed, SomeFailed, Certified, CheckFailed, CheckPassed, CostsTold, NoGlobal, TooLong, WantOfMemory}
 use Rattle.cra.proofs.Complete.{complete, complete-certify, complete-replay}
@@ -74,11 +75,15 @@ pub returns-in-Ok-write_all-clause-failing : goal.returns-in-Ok-write_all-clause
 returns-in-Ok-write_all-clause-failing g c asked is = failing _ _ _ c.in-Ok.reply asked c.in-Ok.ensures.answer is
 
 pub returns-in-Ok-write_all-clause-told : goal.returns-in-Ok-write_all-clause-told
-returns-in-Ok-write_all-clause-told g c asked is = (c.in-Ok.reply.text, true-text _ _ _ c.in-Ok.reply asked c.in-Ok.ensures.answer, c.in-Ok-write_all.ensures.all)
+returns-in-Ok-write_all-clause-told g c asked is =
+    let written : g.W.Sink.taken c.write_all.new.sink ≡ append_known (g.W.Sink.taken c.args.sink.now) c.in-Ok.reply.text = search rules in
+    (c.in-Ok.reply.text, true-text _ _ _ c.in-Ok.reply asked c.in-Ok.ensures.answer, written)
 
 -- what is told of a global's change
 pub returns-in-Ok-write_all-clause-sound_cost : goal.returns-in-Ok-write_all-clause-sound_cost
-returns-in-Ok-write_all-clause-sound_cost g c asked is = (c.in-Ok.reply.text, sound-cost _ _ _ c.in-Ok.reply asked c.in-Ok.ensures.answer is, c.in-Ok-write_all.ensures.all)
+returns-in-Ok-write_all-clause-sound_cost g c asked is =
+    let written : g.W.Sink.taken c.write_all.new.sink ≡ append_known (g.W.Sink.taken c.args.sink.now) c.in-Ok.reply.text = search rules in
+    (c.in-Ok.reply.text, sound-cost _ _ _ c.in-Ok.reply asked c.in-Ok.ensures.answer is, written)
 
 or-memory-costed : {P Q : Type 0} (status : Status) → ((status ≡ CostsTold) × P) ⊎ ((status ≡ NoGlobal) × Q) → ((status ≡ CostsTold) × P) ⊎ ((status ≡ NoGlobal) × Q) ⊎ (status ≡ WantOfMemory)
 or-memory-costed status (inl told) = inl told
