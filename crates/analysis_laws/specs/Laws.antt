@@ -1,14 +1,25 @@
--- Which assertions are told without a question: those that stand in no graph.
+-- Which assertions are told without a question: those that stand in no graph. That every end of the
+-- stated analysis covers its program.
 use Rattle.std.specs.Prelude.{◌≡◌, ◌↔◌, ℕ, List, Option, None, Some, slice_get}
 use Rattle.syntax_tree.specs.declared.program.Proc.{Proc}
 use Rattle.syntax_tree.specs.declared.program.Program.{Program}
+use Rattle.syntax_tree.specs.WellFormed.{IsWellFormed}
 use Rattle.execution.specs.Execution.{Fails}
 use Rattle.transition_formula.specs.Transition.{Transition}
 use Rattle.flow_graph.specs.FlowGraph.{CheckPlace}
+use Rattle.posing.specs.Posing.{AlwaysPassing}
 use Rattle.proc_summary.specs.declared.stop.Flow.{Flow}
 use Rattle.proc_summary.specs.Subject.{own_graph}
 use Rattle.context.specs.Claims.{AreEntries, AreFlows}
+use Rattle.report.specs.Claims.{ReportCovers}
+use Rattle.analysis.specs.declared.found.Found.{Found}
+use Rattle.analysis.specs.declared.places.TextPlace.{TextPlace}
+use Rattle.analysis.specs.declared.planning.Planned.{Planned}
+use Rattle.analysis.specs.Analysis.{analysed}
+use Rattle.analysis.specs.Claims.{AreTheirPlaces, FitsFound, HasAll}
+use Rattle.analysis.specs.Found.{found_by}
 use Rattle.analysis.specs.Judging.{asserted}
+use Rattle.analysis.specs.Plan.{IsPlan}
 
 -- the assertion of this number stands in the graph of a procedure
 pub record StandsInGraph (program : Program) (number : ℕ) : Type 0 where
@@ -32,3 +43,25 @@ UnreachedStandNowhere =
 abbrev pub UnreachedNeverFail : Type 0
 UnreachedNeverFail = (program : Program) (number : ℕ) → ¬ StandsInGraph program number
     → ¬ Fails program number
+
+-- ---- every end of the stated analysis
+
+-- what is found fits its procedures, and each procedure has its summary and its flow
+pub record IsWhole (program : Program) (found : Found) : Type 0 where
+  pub fits : FitsFound program found
+  pub all : HasAll program found
+
+-- Every end of what is stated to be found of a well-formed program, by its plan, is whole, whatever
+-- the answers are, as long as they are true and pass.
+abbrev pub FoundIsWhole : Type 0
+FoundIsWhole = (program : Program) (plan : List Planned) → IsWellFormed program
+    → IsPlan program plan → AlwaysPassing (IsWhole program) (found_by program plan)
+
+-- Every end of the stated analysis of a well-formed program, by its plan and with the places of its
+-- assertions, is a report that covers the program. So the arms of the definitions for a procedure
+-- without a summary (`block_onto` at `None`), for lists of another length (`blocks_by`) and for too
+-- few elements (`put_at`) are met by no well-formed program.
+abbrev pub ReportsCover : Type 0
+ReportsCover = (program : Program) (places : List TextPlace) (plan : List Planned)
+    → IsWellFormed program → IsPlan program plan → AreTheirPlaces program places
+    → AlwaysPassing (ReportCovers program) (analysed program places plan)
