@@ -1,4 +1,4 @@
-use Rattle.analysis_laws.proofs.Covered.{found-whole, reports-cover}
+use Rattle.analysis_laws.proofs.Covered.{found-whole, reports-cover, summaries-hold}
 use Rattle.analysis_laws.proofs.laws.law_of_reports.Goals as goal
 
 pub returns-clause-whole : goal.returns-clause-whole
@@ -6,3 +6,6 @@ returns-clause-whole c = found-whole
 
 pub returns-clause-covers : goal.returns-clause-covers
 returns-clause-covers c = reports-cover
+
+pub returns-clause-summaries : goal.returns-clause-summaries
+returns-clause-summaries c = summaries-hold
