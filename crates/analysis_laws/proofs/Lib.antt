@@ -4,3 +4,4 @@ pub mod Unreached
 pub mod GroupSummaries
 pub mod GroupParts
 pub mod Covered
+pub mod Points

@@ -14,7 +14,7 @@ use Rattle.proc_summary.specs.Subject.{own_graph}
 use Rattle.context.specs.Claims.{AreEntries, AreFlows}
 use Rattle.report.specs.declared.blocks.ProcBlock.{ProcBlock}
 use Rattle.report.specs.declared.blocks.Report.{Report}
-use Rattle.report.specs.Claims.{ReportCovers}
+use Rattle.report.specs.Claims.{PointsMeetRows, ReportCovers}
 use Rattle.analysis.specs.declared.found.Found.{Found}
 use Rattle.analysis.specs.declared.places.TextPlace.{TextPlace}
 use Rattle.analysis.specs.declared.planning.Planned.{Planned}
@@ -81,3 +81,8 @@ abbrev pub ReportedSummariesHold : Type 0
 ReportedSummariesHold = (program : Program) (places : List TextPlace) (plan : List Planned)
     → IsWellFormed program → IsPlan program plan
     → AlwaysPassing (SummariesHold program) (analysed program places plan)
+
+-- Each point that any end of the stated analysis tells makes the rows of its case true.
+abbrev pub ReportedPointsMeetRows : Type 0
+ReportedPointsMeetRows = (program : Program) (places : List TextPlace) (plan : List Planned)
+    → AlwaysPassing PointsMeetRows (analysed program places plan)
