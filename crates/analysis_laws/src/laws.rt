@@ -1,8 +1,17 @@
 //! Each law is the contract of a function that does nothing.
-ghost use Rattle.analysis_laws.specs.Laws.{UnreachedNeverFail, UnreachedStandNowhere};
+ghost use Rattle.analysis_laws.specs.Laws.{FoundIsWhole, ReportedPointsMeetRows, ReportedSummariesHold, ReportsCover, UnreachedNeverFail, UnreachedStandNowhere};
 
 /// An assertion that is told without a question stands in no graph, and never fails.
 pub fn law_of_unreached()
     ensures nowhere { UnreachedStandNowhere }
     ensures never { UnreachedNeverFail }
+{}
+
+/// Every end of the stated analysis of a well-formed program covers it, with summaries that hold and
+/// points that make their rows true, and before that each procedure has its summary and its flow.
+pub fn law_of_reports()
+    ensures whole { FoundIsWhole }
+    ensures covers { ReportsCover }
+    ensures summaries { ReportedSummariesHold }
+    ensures points { ReportedPointsMeetRows }
 {}
