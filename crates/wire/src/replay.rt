@@ -115,8 +115,11 @@ fn next_place(answers: &[Answer], places: &Option<Items<usize>>, taken: usize) -
 }
 
 impl Oracle for Replay {
-    ghost use Rattle.std.specs.Prelude.{Some};
+    ghost use Rattle.std.specs.Prelude.{◌∷◌, OnErr, Some};
+    ghost use Rattle.farkas_check.specs.Meaning.{IsTrueAnswer};
+    ghost use Rattle.farkas_check.specs.Refusals.{HasCause};
     ghost use Rattle.farkas_check.specs.Tested.{Passes};
+    ghost use Rattle.farkas_check.specs.declared.oracle.AskError.TheVariants.{Refused};
     ghost use Rattle.wire.specs.Replays.{IsMissing};
 
     ghost asking = { record {
@@ -129,8 +132,14 @@ impl Oracle for Replay {
 
     #[tactic(auto, using(crate::proofs::Replaying::replays))]
     fn ask(&mut self, alloc: Global, question: &Question) -> Result<Answer, AskError>
-        // Memory can be wanting only where the next answer passes.
-        ensures missing { IsMissing self.old.left question.now → result ≡ Err AskError.Refused }
+        ensures passes { IfOk result (λ answer. Passes question.now answer) }
+        ensures sound { IfOk result (λ answer. IsTrueAnswer question.now answer) }
+        ensures cause { HasCause self.old.refusals self.new.refusals result }
+        ensures taken { IfOk result (λ answer. self.old.left ≡ answer ∷ self.new.left) }
+        ensures kept { OnErr result (self.new.left ≡ self.old.left) }
+        ensures declined { result ≡ Err Refused → IsMissing self.new.left question.now }
+        // So memory can be wanting only where the next answer passes.
+        ensures missing { IsMissing self.old.left question.now → result ≡ Err Refused }
     {
         if self.taken < answer_count(&self.answers, &self.places) {
             let place = next_place(self.answers.as_slice(), &self.places, self.taken);
