@@ -1,11 +1,11 @@
 #!/usr/bin/env python3
 """Runs the built program on inputs at its limits: the deepest and the longest texts under a stack of 1 MiB, a text of 20,000 bytes,
 `sample` of all its numbers, `renew` of what `certify` printed, and a text whose certificate file is too long. Says of each whether
-the program ended as it has to, and what it took.
+the program ended as it has to, and how many seconds of the processor it took.
 
 usage: extremes.py [--only NAME] PROGRAM      (NAME: deep, long, samples, renewed or file)
 """
-import glob, os, resource, subprocess, sys, time
+import glob, os, resource, subprocess, sys
 
 import time_programs
 
@@ -58,12 +58,13 @@ DEEP_FILES = [
 
 
 def run(program, words, source=b"", stack=None):
-    """The status, the bytes and the seconds of a run."""
+    """The status, the bytes and the seconds of the processor of a run."""
     small = (lambda: resource.setrlimit(resource.RLIMIT_STACK, (stack, stack))) if stack else None
-    begun = time.time()
+    before = resource.getrusage(resource.RUSAGE_CHILDREN)
     made = subprocess.run([program, *words], input=source, capture_output=True, preexec_fn=small)
+    after = resource.getrusage(resource.RUSAGE_CHILDREN)
     assert made.stderr == b"", made.stderr
-    return made.returncode, made.stdout, time.time() - begun
+    return made.returncode, made.stdout, after.ru_utime + after.ru_stime - before.ru_utime - before.ru_stime
 
 
 def tell(name, right, took, more=""):

@@ -1,6 +1,7 @@
-ghost use Rattle.std.specs.Prelude.{◌≡◌, ◌<◌, length, map, IfOk, Err};
+ghost use Rattle.std.specs.Prelude.{◌≡◌, ◌<◌, length, map, IfOk, IsTrue, Err};
 ghost use Rattle.std.specs.List.{AllByRecursion};
-ghost use Rattle.farkas_check.specs.Tested.{passes};
+ghost use Rattle.farkas_check.specs.Meaning.{IsTrueAnswer};
+ghost use Rattle.farkas_check.specs.Tested.{Passes, passes};
 ghost use Rattle.wire.specs.Replays.{answer_at, count_of, next_place};
 
 use farkas_check::{Answer, AskError, Limit, Oracle, Question, test};
@@ -85,7 +86,9 @@ fn answer_count(answers: &Items<Answer>, places: &Option<Items<usize>>) -> usize
 
 /// Whether the answer at a place passes.
 fn passes_at(answers: &[Answer], place: usize, question: &Question) -> bool
-    ensures { result ≡ passes question.now (answer_at answers.now place) }
+    ensures exact { result ≡ passes question.now (answer_at answers.now place) }
+    ensures passing { IsTrue result → Passes question.now (answer_at answers.now place) }
+    ensures sound { IsTrue result → IsTrueAnswer question.now (answer_at answers.now place) }
 {
     match answers.get(place) {
         Some(answer) => test(question, answer),
@@ -116,9 +119,7 @@ fn next_place(answers: &[Answer], places: &Option<Items<usize>>, taken: usize) -
 
 impl Oracle for Replay {
     ghost use Rattle.std.specs.Prelude.{◌∷◌, OnErr, Some};
-    ghost use Rattle.farkas_check.specs.Meaning.{IsTrueAnswer};
     ghost use Rattle.farkas_check.specs.Refusals.{HasCause};
-    ghost use Rattle.farkas_check.specs.Tested.{Passes};
     ghost use Rattle.farkas_check.specs.declared.oracle.AskError.TheVariants.{Refused};
     ghost use Rattle.wire.specs.Replays.{IsMissing};
 
