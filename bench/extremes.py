@@ -130,28 +130,25 @@ def renewed(program):
             yield tell(os.path.basename(path), answer[:2] == (0, made), answer[2], "%d bytes" % len(made))
 
 
-def wide(count):
-    """Procedures with a loop over 24 locals and 16 globals, each with numbers of its own."""
-    text = "int " + ", ".join("g%d" % k for k in range(16)) + ";\n"
+def branching(count):
+    """Procedures with a loop of four branches over twelve locals, each with numbers of its own."""
+    text = ""
     for number in range(1, count + 1):
-        text += "void f%d(void) {\n" % number + "".join("  int x%d = %s;\n" % (k, UNKNOWN) for k in range(24))
-        text += "  while (x0 < x1) {\n" + "".join("    x%d = x%d + %d;\n" % (k, k, 1000 * number + k) for k in range(24))
-        text += "".join("    g%d = g%d + %d;\n" % (k, k, 1000 * number + k + 500) for k in range(16)) + "  }\n}\n"
+        text += "void f%d(void) {\n" % number + "".join("  int x%d = %s;\n" % (k, UNKNOWN) for k in range(12))
+        text += "  while (x0 < %d) {\n    x0++;\n" % (1000 * number)
+        for branch in range(4):
+            text += "    if (x%d > x%d + %d) {\n" % (branch + 1, branch + 2, 10 * number + branch)
+            text += "".join("      x%d += %d;\n" % (k, 100 * number + k * (branch + 1)) for k in range(branch + 1, 12, 4)) + "    }\n"
+        text += "  }\n}\n"
     return text + "int main(void) {\n" + "".join("  f%d();\n" % k for k in range(1, count + 1)) + "}\n"
 
 
 def file(program):
-    """Texts that grow until the certificate file is too long."""
-    count, before = 1, 0
-    while count <= 255:
-        text = wide(count).encode()
-        status, output, took = run(program, ["certify"], text)
-        right = (status, output) == (9, b"output is too long\n") if status == 9 else status == 0 and before < len(output) <= 64 * MIB
-        yield tell("file of %d procedures" % (count + 1), right, took, "%d bytes" % len(output) if status == 0 else last_line(output))
-        if status != 0:
-            return
-        before, count = len(output), count * 2
-    yield tell("a file that is too long", False, 0)
+    """A text whose certificate file is within the limit, and one whose file is too long."""
+    status, output, took = run(program, ["certify"], branching(16).encode())
+    yield tell("the file of 17 procedures", status == 0 and len(output) <= 64 * MIB, took, "%d bytes" % len(output))
+    status, output, took = run(program, ["certify"], branching(255).encode())
+    yield tell("the file of 256 procedures", (status, output) == (9, b"output is too long\n"), took, last_line(output))
 
 
 def main():

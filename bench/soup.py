@@ -1,7 +1,8 @@
 #!/usr/bin/env python3
-"""Runs the built program on hostile inputs: token soup, mutated programs, mutated certificate files of both versions, inputs of
-`replay`, words and bytes at random. Each run has to end within ten seconds of the processor with a status and a line of
-`docs/FORMATS.md`, write nothing to standard error, and give the same again. Counts the statuses, and tells what took longest.
+"""Runs the built program on hostile inputs: tokens and statements at random, mutated programs, mutated certificate files of both
+versions, inputs of `replay`, words and bytes at random. Each run has to end within ten seconds of the processor with a status and a
+line of `docs/FORMATS.md`, write nothing to standard error, and give the same again. Counts the statuses, and tells what took
+longest.
 
 usage: soup.py PROGRAM [--count N | --seconds S] [--seed K] [--jobs J] [--again N] [--first I]
        soup.py PROGRAM --show I [--seed K]
@@ -144,6 +145,29 @@ def soup(rng):
     return text.encode("utf-8" if rng.random() < 0.9 else "latin-1")
 
 
+def expression(rng):
+    """Operands and operators in turn, with a token at random now and then."""
+    pieces = [rng.choice("x y g 0 1 2 7 -x !y (x) f(x) (y+1) 9223372036854775807".split())]
+    for _ in range(rng.choice([0, 0, 1, 1, 2, 3])):
+        pieces += [rng.choice("+ - * / % < <= > >= == != && ||".split()), rng.choice("x y g 1 2 3 -1 (x*x) f(y)".split())]
+    if rng.random() < 0.05:
+        pieces.insert(rng.randrange(len(pieces) + 1), rng.choice(PIECES))
+    return " ".join(pieces)
+
+
+def statements(rng):
+    """Statements at random, whose expressions are mostly well formed."""
+    shapes = ["x = E;", "y = E;", "g = E;", "int z = E;", "x += E;", "y -= E;", "x++;", "y--;", "assert(E);", "assume(E);", "return E;", "y = f(E);",
+              "x = __VERIFIER_nondet_int();", "if (E) { S } else { S }", "if (E) S", "while (E) { S S }", "do { S } while (E);", "for (; E; x++) { S }",
+              "{ int x = E; S }", "break;", "continue;", ";"]
+    text = "S" * rng.choice([1, 2, 3, 5, 8])
+    while "S" in text or "E" in text:
+        short = len(text) > 300
+        text = re.sub("S", lambda _: rng.choice(shapes[:13] if short else shapes), text)
+        text = re.sub("E", lambda _: expression(rng), text)
+    return ("int g; int f(int x) { return x - 1; } int main(void) { int x = 0; int y = 5; " + text + " }").encode("latin-1")
+
+
 def deep(rng):
     """A piece so many times that a limit may be near."""
     piece = rng.choice(["{", "(", "!", "-", "if (x) ", "while (x) ", "x = 1;", "assert(x);", "int f(void) {}", "int v;", "1+", "1||", "f(", "x<1&&"])
@@ -159,10 +183,10 @@ def program(rng, texts):
 
 def mutated_program(rng, texts):
     text = program(rng, texts)
-    kind = rng.randrange(5)
-    if kind == 0:
+    kind = rng.randrange(6)
+    if kind < 2:
         return text
-    return mutated_tokens(rng, text) if kind < 4 else mutated_bytes(rng, text)
+    return mutated_tokens(rng, text) if kind < 5 else mutated_bytes(rng, text)
 
 
 def places_of(value):
@@ -234,8 +258,10 @@ def given(seed, number, texts, files):
     of_text = rng.choice([["analyse"], ["analyse"], ["certify"], ["cost", rng.choice(["g", "h", "x", "main"])]])
     of_file = rng.choice([["check"], ["check"], ["renew"]])
     kind = rng.randrange(20)
-    if kind < 6:
+    if kind < 3:
         return "tokens", of_text, soup(rng)
+    if kind < 6:
+        return "statements", of_text, statements(rng)
     if kind < 11:
         return "programs", of_text, mutated_program(rng, texts)
     if kind < 12:
@@ -285,7 +311,7 @@ def beginnings(path):
     """The texts and the certificate files that are mutated: always the same."""
     texts = [open(name, "rb").read() for name in sorted(glob.glob(os.path.join(HERE, "..", "examples", "**", "*.c"), recursive=True))]
     runner, files = Runner(path), []
-    made = [Maker(random.Random(number)).program().encode() for number in range(200)]
+    made = [Maker(random.Random(number)).program().encode() for number in range(100)]
     for text in [*texts, *made]:
         status, file, _, _ = runner.run(["certify"], text)
         if status == 0 and len(file) < 8_000:
@@ -312,7 +338,7 @@ def main():
             more, wrong, slow = part.result()
             counts, faults, slowest = counts + more, faults + wrong, slowest + slow
     for (kind, command, status), count in sorted(counts.items()):
-        print("%-9s %-9s status %3d %10d" % (kind, command or "-", status, count))
+        print("%-10s %-9s status %3d %10d" % (kind, command or "-", status, count))
     for number, kind, words, wrong in sorted(faults)[:20]:
         print("WRONG input %d, %s, %s: %s" % (number, kind, " ".join(words), wrong))
     for took, number, kind in sorted(slowest, reverse=True)[:5]:
