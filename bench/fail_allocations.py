@@ -1,13 +1,14 @@
 #!/usr/bin/env python3
 """Runs the built program on an input once for each allocation, which fails in that run, and once more with all later ones
 failing too. Each run has to end with status 6 and nothing written, or with the status and the bytes of the run in which none
-fails. Counts what came.
+fails. Counts what came; the status is 1 where a run ended otherwise.
 
-usage: fail_allocations.py PROGRAM WORD.. < INPUT      (as PROGRAM cost g)
+usage: fail_allocations.py PROGRAM                     `analyse` of a text with one loop, `check` of a file of seven answers
+       fail_allocations.py PROGRAM WORD.. < INPUT      (as PROGRAM cost g)
 
 The allocations are those of the C library that the program calls, counted by a small library that is loaded before it (`cc`).
 """
-import os, subprocess, sys, tempfile
+import json, os, subprocess, sys, tempfile
 
 COUNTING = r"""
 #define _GNU_SOURCE
@@ -37,29 +38,62 @@ __attribute__((destructor)) static void told(void) {
 """
 
 
+LOOP = b"""int main(void) {
+  int n = __VERIFIER_nondet_int();
+  int i = 0;
+  assume(n >= 0);
+  while (i < n) i++;
+  assert(i == n);
+}
+"""
+SEVEN = b"""int main(void) {
+  int x = __VERIFIER_nondet_int();
+  assume(x >= 1);
+  assert(x >= 0);
+}
+"""
+
+
+def counting_library(folder):
+    """The path of the library that counts, built into a folder."""
+    library, source = os.path.join(folder, "counting.so"), os.path.join(folder, "counting.c")
+    with open(source, "w") as file:
+        file.write(COUNTING)
+    subprocess.run(["cc", "-O2", "-shared", "-fPIC", source, "-o", library, "-ldl"], check=True)
+    return library
+
+
+def failures(library, command, given):
+    """Fails each allocation of a run. Whether each run ended as it has to."""
+    def run(**how):
+        made = subprocess.run(command, input=given, capture_output=True, env={**os.environ, "LD_PRELOAD": library, **how})
+        return (made.returncode, made.stdout), made.stderr
+
+    wanted, told = run(TELL_COUNT="1")
+    came = {"status 6 with nothing written": 0, "as with no failure": 0, "otherwise": 0}
+    for at in range(1, int(told) + 1):
+        for how in ({"FAIL_AT": str(at)}, {"FAIL_AT": str(at), "FAIL_ALL": "1"}):
+            found, _ = run(**how)
+            kind = "status 6 with nothing written" if found == (6, b"") else "as with no failure" if found == wanted else "otherwise"
+            came[kind] += 1
+            if kind == "otherwise":
+                print(how, found)
+    print("%s, status %d, %d allocations: %s" % (" ".join(command[1:]), wanted[0], int(told), ", ".join("%d %s" % (n, kind) for kind, n in came.items())))
+    return came["otherwise"] == 0
+
+
 def main():
-    program, words = sys.argv[1], sys.argv[2:]
-    given = sys.stdin.buffer.read()
+    program, words = os.path.abspath(sys.argv[1]), sys.argv[2:]
+    if words:
+        runs = [(words, sys.stdin.buffer.read())]
+    else:
+        file = subprocess.run([program, "certify"], input=SEVEN, capture_output=True).stdout
+        assert len(json.loads(file)["order"]) == 7, file
+        runs = [(["analyse"], LOOP), (["check"], file)]
     with tempfile.TemporaryDirectory() as folder:
-        library = os.path.join(folder, "counting.so")
-        with open(os.path.join(folder, "counting.c"), "w") as source:
-            source.write(COUNTING)
-        subprocess.run(["cc", "-O2", "-shared", "-fPIC", source.name, "-o", library, "-ldl"], check=True)
-
-        def run(**how):
-            made = subprocess.run([program, *words], input=given, capture_output=True, env={**os.environ, "LD_PRELOAD": library, **how})
-            return (made.returncode, made.stdout), made.stderr
-
-        wanted, told = run(TELL_COUNT="1")
-        came = {"status 6 with nothing written": 0, "as with no failure": 0, "otherwise": 0}
-        for at in range(1, int(told) + 1):
-            for how in ({"FAIL_AT": str(at)}, {"FAIL_AT": str(at), "FAIL_ALL": "1"}):
-                found, _ = run(**how)
-                kind = "status 6 with nothing written" if found == (6, b"") else "as with no failure" if found == wanted else "otherwise"
-                came[kind] += 1
-                if kind == "otherwise":
-                    print(how, found)
-    print("%d allocations: %s" % (int(told), ", ".join("%d %s" % (count, kind) for kind, count in came.items())))
+        library = counting_library(folder)
+        right = [failures(library, [program, *words], given) for words, given in runs]
+    sys.exit(0 if all(right) else 1)
 
 
 if __name__ == "__main__":

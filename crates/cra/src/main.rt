@@ -30,6 +30,8 @@ mod submitting;
 mod tables;
 #[cfg(test)]
 mod tests;
+#[cfg(test)]
+mod tests_limits;
 mod text;
 mod words;
 

@@ -158,6 +158,48 @@ pub(crate) const CHANGES: &str = "\
 3 refused syntax at 5:17 | while | whale
 ";
 
+/// The file of version 2 for the same text, that the model gives.
+pub(crate) const SHARED_LOOP_FILE: &str = "\
+{\"answers\":[{\"point\":[\"0\"]},{\"point\":[\"1\",\"0\"]},{\"point\":[\"0\",\"0\"]},{\"basis\":{\
+\"free\":[[\"-1\"]],\"relations\":[{\"a\":[\"1\"],\"b\":[],\"c\":\"1\",\"ties\":[{\"down\":[\"0\"]\
+,\"down_scale\":\"1\",\"up\":[\"0\"],\"up_scale\":\"1\"}]}],\"spots\":[{\"at\":[\"1\",\"0\"],\"cas\
+e\":0}]}},{\"unbounded\":{\"case\":0,\"point\":[\"1\",\"0\"],\"ray\":[\"1\",\"1\"]}},{\"unbounded\
+\":{\"case\":0,\"point\":[\"1\",\"0\"],\"ray\":[\"-1\",\"-1\"]}},{\"unbounded\":{\"case\":0,\"poin\
+t\":[\"1\",\"0\",\"0\"],\"ray\":[\"0\",\"0\",\"1\"]}},{\"unbounded\":{\"case\":0,\"point\":[\"1\",\
+\"0\",\"0\"],\"ray\":[\"0\",\"0\",\"-1\"]}},{\"unbounded\":{\"case\":0,\"point\":[\"1\",\"0\"],\"r\
+ay\":[\"1\",\"0\"]}},{\"bound\":{\"at\":\"-1\",\"case\":0,\"certs\":[{\"by\":[\"1\"],\"scale\":\"1\
+\",\"sum\":\"-1\"}],\"point\":[\"1\",\"0\"]}},{\"bound\":{\"at\":\"0\",\"case\":0,\"certs\":[{\"by\
+\":[\"1\"],\"scale\":\"1\",\"sum\":\"0\"}],\"point\":[\"1\",\"0\"]}},{\"bound\":{\"at\":\"0\",\"ca\
+se\":0,\"certs\":[{\"by\":[\"0\"],\"scale\":\"1\",\"sum\":\"0\"}],\"point\":[\"1\",\"0\"]}},{\"bou\
+nd\":{\"at\":\"1\",\"case\":0,\"certs\":[{\"by\":[\"0\"],\"scale\":\"1\",\"sum\":\"1\"}],\"point\"\
+:[\"1\",\"0\"]}},{\"bound\":{\"at\":\"-1\",\"case\":0,\"certs\":[{\"by\":[\"0\"],\"scale\":\"1\",\
+\"sum\":\"-1\"}],\"point\":[\"1\",\"0\"]}},{\"point\":[\"1\",\"0\",\"2\"]},{\"infeasible\":[\"1\",\
+\"1\",\"1\"]},{\"point\":[\"0\",\"0\",\"0\"]},{\"point\":[\"1\",\"0\",\"1\"]},{\"point\":[\"1\",\"\
+1\"]},{\"point\":[\"1\"]},{\"point\":[\"2\",\"1\"]}],\"order\":[0,1,2,2,1,3,4,5,4,5,6,7,8,7,9,7,6,\
+6,4,5,4,5,6,7,8,7,10,7,6,6,11,11,12,13,11,11,13,11,12,12,11,13,14,15,16,17,0,0,0,18,19,20,19,20,19\
+,20,19,19,19,19,19],\"report\":\"procedure main\\ncase 1\\n  $ret = $1\\ncase 2\\n  -$1 + 1 <= 0\\\
+n  $ret = $2\\nassertion 1 at 6:3 proved\\ntotal 1 proved, 0 unproved\\n\",\"text\":\"int main(voi\
+d) {\\n  int n = __VERIFIER_nondet_int();\\n  int i = 0;\\n  assume(n >= 0);\\n  while (i < n) i++\
+;\\n  assert(i == n);\\n}\\n\",\"version\":2}";
+
+/// Changes of that file.
+pub(crate) const SHARED_CHANGES: &str = "\
+0 check passed | x | x
+8 check failed: answer 44 | \"infeasible\":[\"1\" | \"infeasible\":[\"-1\"
+8 check failed: answer 1 | {\"point\":[\"0\"]} | {\"point\":[]}
+8 check failed: answer 7 | {\"unbounded\":{\"case\":0 | {\"unbounded\":{\"case\":1
+8 check failed: answer 15 | \"scale\":\"1\" | \"scale\":\"0\"
+8 check failed: answer 44 | {\"infeasible\":[\"1\",\"1\",\"1\"]} | {\"limit\":{\"left\":\"1\",\"right\":\"1\",\"times\":true}}
+8 check failed: 1 answers left | 19,19,19] | 19,19,19,19]
+8 check failed: answer 61 | 19,19,19] | 19,19]
+3 refused syntax at 5:17 | while | whale
+0 check passed | ,{\"point\":[\"2\",\"1\"]}] | ,{\"point\":[\"2\",\"1\"]},{\"point\":[\"7\"]}]
+7 input has a wrong shape at /order/51 | ,{\"point\":[\"2\",\"1\"]}] | ]
+7 input has a wrong shape at /order/60 | 19,19,19] | 19,19,21]
+7 input has a wrong shape at /order/60 | 19,19,19] | 19,19,\"19\"]
+8 check failed: answer 4 | \"version\":2 | \"version\":1
+";
+
 /// Words that ask for nothing.
 pub(crate) const WRONG_WORDS: &str = "\
 cra

@@ -61,6 +61,19 @@ const SPACED: &[u8] =
 const SPACED_REPORT: &[u8] =
     b"procedure main\ncase 1\n  $ret = $1\nassertion 1 at 3:2 proved\ntotal 1 proved, 0 unproved\n";
 
+// A loop that counts.
+const LOOP: &[u8] =
+    b"int main(void) {\n  int n = __VERIFIER_nondet_int();\n  int i = 0;\n  assume(n >= 0);\n  while (i < n) i++;\n  assert(i == n);\n}\n";
+
+const LOOP_REPORT: &[u8] =
+    b"procedure main\ncase 1\n  $ret = $1\ncase 2\n  -$1 + 1 <= 0\n  $ret = $2\nassertion 1 at 6:3 proved\ntotal 1 proved, 0 unproved\n";
+
+// As many blocks inside each other as a text can have.
+const DEEP: &[u8] =
+    b"int main(void) {{{{{{{{{{{{{{{{{{{{{{{{{{{{{{{{{{{{{{{{{{{{{{{{{{{{{{{{{{{{{{{{}}}}}}}}}}}}}}}}}}}}}}}}}}}}}}}}}}}}}}}}}}}}}}}}}}}}}}}}}}}}}}}}";
+
+const DEEP_REPORT: &[u8] = b"procedure main\ncase 1\n  $ret = $1\ntotal 0 proved, 0 unproved\n";
+
 // A sum of a progression in a loop.
 const SUM: &[u8] =
     b"int main(void) {\n  int n = __VERIFIER_nondet_int();\n  int i = 0;\n  int s = 0;\n  assume(n >= 0);\n  while (i < n) {\n    s += i;\n    i++;\n  }\n  assert(2 * s == n * n - n);\n}\n";
@@ -220,14 +233,14 @@ const CERTIFICATES: [(&[u8], &[u8]); 2] = [
 
 /// How a run went: its status, and what its sink took.
 #[derive(Drop)]
-struct Ended {
-    status: u8,
-    text: Vec<u8>,
+pub(crate) struct Ended {
+    pub(crate) status: u8,
+    pub(crate) text: Vec<u8>,
 }
 
 /// Which calls of the source and of the sink fail, and the most bytes that one of them moves.
 #[derive(Clone, Copy)]
-struct Outside {
+pub(crate) struct Outside {
     failing_read: u64,
     failing_write: u64,
     most: usize,
@@ -235,13 +248,19 @@ struct Outside {
 
 const NEVER: u64 = 999;
 
-const GOOD: Outside = Outside {
+pub(crate) const GOOD: Outside = Outside {
     failing_read: NEVER,
     failing_write: NEVER,
     most: 65_536,
 };
 
-fn run_on(alloc: Global, words: &[&str], input: &[u8], outside: Outside) -> Result<Ended, Fail> {
+/// A run on an input by its words.
+pub(crate) fn run_on(
+    alloc: Global,
+    words: &[&str],
+    input: &[u8],
+    outside: Outside,
+) -> Result<Ended, Fail> {
     let mut given = Vec::new(alloc);
     for word in words {
         given.push(word.to_string(alloc)?)?;
@@ -252,7 +271,7 @@ fn run_on(alloc: Global, words: &[&str], input: &[u8], outside: Outside) -> Resu
         most,
         [outside.failing_read].to_vec(alloc)?,
     );
-    let mut sink = MemorySink::new(alloc, 20_000, most, [outside.failing_write].to_vec(alloc)?)?;
+    let mut sink = MemorySink::new(alloc, 65_536, most, [outside.failing_write].to_vec(alloc)?)?;
     let status = run(alloc, &given, &mut source, &mut sink).code();
     Ok(Ended {
         status,
@@ -261,7 +280,7 @@ fn run_on(alloc: Global, words: &[&str], input: &[u8], outside: Outside) -> Resu
 }
 
 /// A run on an input ends with this status, and its sink took this text.
-fn ends(
+pub(crate) fn ends(
     alloc: Global,
     rt: &impl Abort,
     words: &[&str],
@@ -294,6 +313,8 @@ fn reports(rt: HostRuntime) -> Result<(), Fail> {
         (AGAIN, 1, AGAIN_REPORT),
         (HIDDEN, 1, HIDDEN_REPORT),
         (SPACED, 0, SPACED_REPORT),
+        (DEEP, 0, DEEP_REPORT),
+        (LOOP, 0, LOOP_REPORT),
         (SUM, 0, SUM_REPORT),
         (TRIANGLE, 0, TRIANGLE_REPORT),
         (BALANCED, 1, BALANCED_REPORT),
@@ -357,7 +378,8 @@ fn files(rt: HostRuntime) -> Result<(), Fail> {
     checked(alloc, &rt, 8, tables::CHECK_FAILED)?;
     checked(alloc, &rt, 7, tables::CHECKED_WRONG)?;
     checked(alloc, &rt, 3, tables::CHECKED_TEXT_REFUSED)?;
-    changed(alloc, &rt, tables::LOOP_FILE, tables::CHANGES)
+    changed(alloc, &rt, tables::LOOP_FILE, tables::CHANGES)?;
+    changed(alloc, &rt, tables::SHARED_LOOP_FILE, tables::SHARED_CHANGES)
 }
 
 // Rows of outputs that an independent model of the rules gives.
@@ -389,22 +411,6 @@ fn costs(rt: HostRuntime) -> Result<(), Fail> {
 /// The text is refused with this line.
 fn refused(alloc: Global, rt: &impl Abort, input: &[u8], line: &[u8]) -> Result<(), Fail> {
     ends(alloc, rt, &["cra", "analyse"], input, 3, line)
-}
-
-/// A piece so many times, between two others.
-fn repeated(
-    alloc: Global,
-    before: &[u8],
-    piece: &[u8],
-    times: usize,
-    after: &[u8],
-) -> Result<Vec<u8>, Fail> {
-    let mut text = before.to_vec(alloc)?;
-    for _ in 0..times {
-        text.extend_from_slice(piece)?;
-    }
-    text.extend_from_slice(after)?;
-    Ok(text)
 }
 
 /// Each text of a table is refused with the line that stands before it.
@@ -442,36 +448,6 @@ fn refused_texts(rt: HostRuntime) -> Result<(), Fail> {
         refused(alloc, &rt, text, line)?;
     }
     Ok(())
-}
-
-// Each limit that a short text does not pass.
-#[test]
-fn refused_by_great_counts(rt: HostRuntime) -> Result<(), Fail> {
-    let alloc = rt.alloc();
-    let tokens = repeated(alloc, b"", b";", 200_001, b"")?;
-    refused(alloc, &rt, &tokens, b"refused tokens at 1:200001\n")?;
-    let deep = repeated(alloc, b"int main(void) { return ", b"(", 64, b"")?;
-    refused(alloc, &rt, &deep, b"refused deep at 1:88\n")?;
-    let nodes = repeated(alloc, b"int main(void) { int x;", b"x = 1;", 510, b"}")?;
-    refused(alloc, &rt, &nodes, b"refused many nodes at 1:3084\n")?;
-    let assertions = repeated(alloc, b"int main(void) {", b"assert(1);", 1025, b"}")?;
-    refused(
-        alloc,
-        &rt,
-        &assertions,
-        b"refused many assertions at 1:10257\n",
-    )?;
-    let mut procedures = Vec::new(alloc);
-    for number in 0..257 {
-        let one = format!(in alloc; "void f{number}(void){{}}")?;
-        procedures.extend_from_slice(one.as_bytes())?;
-    }
-    refused(
-        alloc,
-        &rt,
-        &procedures,
-        b"refused many procedures at 1:4248\n",
-    )
 }
 
 /// The words of each line of a table ask for nothing.
@@ -541,31 +517,55 @@ fn cut_short(
     status: u8,
     taken: usize,
 ) -> Result<(), Fail> {
-    let ended = run_on(alloc, &["cra", "analyse"], FALSE, outside)?;
+    let ended = run_on(alloc, &["cra", "analyse"], LOOP, outside)?;
     assert_eq!(rt; ended.status, status);
-    assert_eq!(rt; Some(ended.text.as_slice()), FALSE_REPORT.get(..taken));
+    assert_eq!(rt; Some(ended.text.as_slice()), LOOP_REPORT.get(..taken));
     Ok(())
 }
 
+/// A run over pieces of one byte in which one read fails.
+fn read_fails(
+    alloc: Global,
+    rt: &impl Abort,
+    read: u64,
+    status: u8,
+    taken: usize,
+) -> Result<(), Fail> {
+    let outside = Outside {
+        failing_read: read,
+        most: 1,
+        ..GOOD
+    };
+    cut_short(alloc, rt, outside, status, taken)
+}
+
+/// A run over pieces of one byte in which one write fails.
+fn write_fails(
+    alloc: Global,
+    rt: &impl Abort,
+    write: u64,
+    status: u8,
+    taken: usize,
+) -> Result<(), Fail> {
+    let outside = Outside {
+        failing_write: write,
+        most: 1,
+        ..GOOD
+    };
+    cut_short(alloc, rt, outside, status, taken)
+}
+
+// The read that comes to the end is one more than the bytes.
 #[test]
 fn each_call_fails_in_turn(rt: HostRuntime) -> Result<(), Fail> {
-    let outside = Outside { most: 1, ..GOOD };
-    cut_short(rt.alloc(), &rt, outside, 1, FALSE_REPORT.len())?;
-    for (_, failing_read) in (0..=FALSE.len()).zip(0u64..) {
-        let outside = Outside {
-            failing_read,
-            most: 1,
-            ..GOOD
-        };
-        cut_short(rt.alloc(), &rt, outside, 4, 0)?;
+    let alloc = rt.alloc();
+    let whole = LOOP_REPORT.len();
+    for (_, read) in (0..=LOOP.len()).zip(0u64..) {
+        read_fails(alloc, &rt, read, 4, 0)?;
     }
-    for (taken, failing_write) in (0..FALSE_REPORT.len()).zip(0u64..) {
-        let outside = Outside {
-            failing_write,
-            most: 1,
-            ..GOOD
-        };
-        cut_short(rt.alloc(), &rt, outside, 5, taken)?;
+    for (taken, write) in (0..whole).zip(0u64..) {
+        write_fails(alloc, &rt, write, 5, taken)?;
     }
-    Ok(())
+    read_fails(alloc, &rt, LOOP.len() as u64 + 1, 0, whole)?;
+    write_fails(alloc, &rt, whole as u64, 0, whole)
 }

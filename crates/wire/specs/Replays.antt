@@ -22,10 +22,14 @@ abbrev pub count_of : List Answer → Option (List ℕ) → ℕ
 count_of answers None = length answers
 count_of answers (Some places) = length places
 
+-- the place of the next answer
+abbrev pub next_place : Option (List ℕ) → ℕ → ℕ
+next_place None taken = taken
+next_place (Some places) taken = slice_index places taken
+
 -- the next answer, and all behind those that were taken
 abbrev pub next_of : List Answer → Option (List ℕ) → ℕ → Answer
-next_of answers None taken = answer_at answers taken
-next_of answers (Some places) taken = answer_at answers (slice_index places taken)
+next_of answers places taken = answer_at answers (next_place places taken)
 
 abbrev pub left_from : List Answer → Option (List ℕ) → ℕ → List Answer
 left_from answers None taken = drop taken answers

@@ -1,6 +1,8 @@
-ghost use Rattle.std.specs.Prelude.{◌≡◌, ◌<◌, length, map, IfOk};
+ghost use Rattle.std.specs.Prelude.{◌≡◌, ◌<◌, length, map, IfOk, IsTrue, Err};
 ghost use Rattle.std.specs.List.{AllByRecursion};
-ghost use Rattle.wire.specs.Replays.{answer_at, count_of, next_of};
+ghost use Rattle.farkas_check.specs.Meaning.{IsTrueAnswer};
+ghost use Rattle.farkas_check.specs.Tested.{Passes, passes};
+ghost use Rattle.wire.specs.Replays.{answer_at, count_of, next_place};
 
 use farkas_check::{Answer, AskError, Limit, Oracle, Question, test};
 use items::Items;
@@ -82,6 +84,18 @@ fn answer_count(answers: &Items<Answer>, places: &Option<Items<usize>>) -> usize
     }
 }
 
+/// Whether the answer at a place passes.
+fn passes_at(answers: &[Answer], place: usize, question: &Question) -> bool
+    ensures exact { result ≡ passes question.now (answer_at answers.now place) }
+    ensures passing { IsTrue result → Passes question.now (answer_at answers.now place) }
+    ensures sound { IsTrue result → IsTrueAnswer question.now (answer_at answers.now place) }
+{
+    match answers.get(place) {
+        Some(answer) => test(question, answer),
+        None => test(question, &Answer::Limit(Limit::Pivots)),
+    }
+}
+
 /// A copy of the answer at a place.
 fn copy_at(alloc: Global, answers: &[Answer], place: usize) -> Result<Answer, AllocError>
     ensures { IfOk result (λ copy. copy ≡ answer_at answers.now place) }
@@ -92,25 +106,21 @@ fn copy_at(alloc: Global, answers: &[Answer], place: usize) -> Result<Answer, Al
     }
 }
 
-fn next_answer(
-    alloc: Global,
-    answers: &Items<Answer>,
-    places: &Option<Items<usize>>,
-    taken: usize,
-) -> Result<Answer, AllocError>
+/// The place of the next answer, where one is left.
+fn next_place(answers: &[Answer], places: &Option<Items<usize>>, taken: usize) -> usize
     requires { taken < count_of answers.now places.now }
-    ensures { IfOk result (λ next. next ≡ next_of answers.now places.now taken) }
+    ensures { result ≡ next_place places.now taken }
 {
-    let place = match places {
+    match places {
         Some(places) => places.as_slice()[taken],
         None => taken,
-    };
-    copy_at(alloc, answers.as_slice(), place)
+    }
 }
 
 impl Oracle for Replay {
-    ghost use Rattle.std.specs.Prelude.{Some};
-    ghost use Rattle.farkas_check.specs.Tested.{Passes};
+    ghost use Rattle.std.specs.Prelude.{◌∷◌, OnErr, Some};
+    ghost use Rattle.farkas_check.specs.Refusals.{HasCause};
+    ghost use Rattle.farkas_check.specs.declared.oracle.AskError.TheVariants.{Refused};
     ghost use Rattle.wire.specs.Replays.{IsMissing};
 
     ghost asking = { record {
@@ -122,12 +132,22 @@ impl Oracle for Replay {
     } };
 
     #[tactic(auto, using(crate::proofs::Replaying::replays))]
-    fn ask(&mut self, alloc: Global, question: &Question) -> Result<Answer, AskError> {
+    fn ask(&mut self, alloc: Global, question: &Question) -> Result<Answer, AskError>
+        ensures passes { IfOk result (λ answer. Passes question.now answer) }
+        ensures sound { IfOk result (λ answer. IsTrueAnswer question.now answer) }
+        ensures cause { HasCause self.old.refusals self.new.refusals result }
+        ensures taken { IfOk result (λ answer. self.old.left ≡ answer ∷ self.new.left) }
+        ensures kept { OnErr result (self.new.left ≡ self.old.left) }
+        ensures declined { result ≡ Err Refused → IsMissing self.new.left question.now }
+        // So memory can be wanting only where the next answer passes.
+        ensures missing { IsMissing self.old.left question.now → result ≡ Err Refused }
+    {
         if self.taken < answer_count(&self.answers, &self.places) {
-            let Ok(answer) = next_answer(alloc, &self.answers, &self.places, self.taken) else {
-                return Err(AskError::Memory);
-            };
-            if test(question, &answer) {
+            let place = next_place(self.answers.as_slice(), &self.places, self.taken);
+            if passes_at(self.answers.as_slice(), place, question) {
+                let Ok(answer) = copy_at(alloc, self.answers.as_slice(), place) else {
+                    return Err(AskError::Memory);
+                };
                 self.taken += 1;
                 return Ok(answer);
             }
