@@ -6,7 +6,8 @@ use Rattle.row_products.specs.Products.{same_row}
 
 -- there is room for no more than are made, or the row is there already
 abbrev pub is_left_out : (most : ℕ) (rows made : List Row) → Row → Bool
-is_left_out most rows made row = nat_le most (length made) || list_any (same_row row) (rows ++ made)
+is_left_out most rows made row =
+    nat_le most (length made) || list_any (same_row row) rows || list_any (same_row row) made
 
 -- the rows made, with one more that is offered, or none
 abbrev pub with_offer : (most : ℕ) (rows : List Row) → List Row → Option Row → List Row

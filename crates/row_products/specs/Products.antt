@@ -125,10 +125,10 @@ new_rows before (r ∷ rows) =
     else r ∷ new_rows (before ++ r ∷ []) rows
 
 -- all rows of squares, then all of products
-abbrev pub offered : List (List Col) → List Row → List (Option Row)
-offered monos rows = flat_map square_rows monos ++ product_rows monos (factors monos rows)
+abbrev pub offers_of : List (List Col) → List Row → List (Option Row)
+offers_of monos rows = flat_map square_rows monos ++ product_rows monos (factors monos rows)
 
 -- the first of those that the rows have not
 abbrev pub products : List Row → List Row
 products rows =
-    take most_products (new_rows rows (filter_map (λ row. row) (offered (high_monos rows) rows)))
+    take most_products (new_rows rows (filter_map (λ row. row) (offers_of (high_monos rows) rows)))

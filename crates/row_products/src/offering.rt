@@ -1,7 +1,7 @@
 ghost use Rattle.std.specs.Prelude.{◌≡◌, [], ◌∷◌, map, IfOk, OnOk};
 ghost use Rattle.std.specs.List.{filter, flat_map};
 ghost use Rattle.row_products.specs.Limits.{most_products};
-ghost use Rattle.row_products.specs.Products.{is_high, high_monos, square_rows, product_row, product_rows, factors, offered, products};
+ghost use Rattle.row_products.specs.Products.{is_high, high_monos, square_rows, product_row, product_rows, factors, offers_of, products};
 ghost use Rattle.row_products.specs.Offers.{with_offer, with_offers};
 
 use crate::factors::{factors, is_same};
@@ -19,11 +19,12 @@ use std::alloc::{AllocError, Global};
 /// monomials, where the product has one of these monomials. A row that cannot be made in 128 bits
 /// is left out, and so is one that is always true; one that never is becomes `1 <= 0`. The first 64
 /// are answered. The one error is want of memory.
+#[tactic(auto, using(crate::proofs::Gathered::gathered))]
 pub fn products(alloc: Global, rows: &[Row]) -> Result<Items<Row>, AllocError>
     ensures { IfOk result (λ made. made ≡ products rows.now) }
 {
     let monos = high_monos(alloc, rows)?;
-    offered(alloc, rows, monos.as_slice())
+    first_offers(alloc, rows, monos.as_slice())
 }
 
 /// The monomials of degree 2 and more, in print order, each once.
@@ -53,9 +54,10 @@ fn is_high(columns: &[Col]) -> bool
 }
 
 /// The rows of squares and of products, as far as they are new and there is room.
-fn offered(alloc: Global, rows: &[Row], monos: &[Mono]) -> Result<Items<Row>, AllocError>
+#[tactic(auto, using(crate::proofs::Gathered::gathered))]
+fn first_offers(alloc: Global, rows: &[Row], monos: &[Mono]) -> Result<Items<Row>, AllocError>
     ensures { IfOk result
-        (λ made. made ≡ with_offers most_products rows.now [] (offered monos.now rows.now)) }
+        (λ made. made ≡ with_offers most_products rows.now [] (offers_of monos.now rows.now)) }
 {
     let mut made = Items::new(alloc);
     add_squares(alloc, rows, monos, &mut made)?;
@@ -65,6 +67,7 @@ fn offered(alloc: Global, rows: &[Row], monos: &[Mono]) -> Result<Items<Row>, Al
 }
 
 /// Adds the rows of each square among monomials.
+#[tactic(auto, using(crate::proofs::Gathered::gathered))]
 fn add_squares(
     alloc: Global,
     rows: &[Row],
@@ -118,6 +121,7 @@ fn add_rows_of_square(
 }
 
 /// Adds the rows of the products of each two factors.
+#[tactic(auto, using(crate::proofs::Gathered::gathered))]
 fn add_products(
     alloc: Global,
     rows: &[Row],
@@ -158,6 +162,7 @@ fn add_products_with(
 }
 
 /// Adds the row of a product; where there is no room, it is not made.
+#[tactic(auto, using(crate::proofs::Gathered::gathered))]
 fn add_product(
     alloc: Global,
     rows: &[Row],
