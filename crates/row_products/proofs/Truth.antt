@@ -1,11 +1,10 @@
 -- Whole numbers that make rows true make their products true.
-use Rattle.std.proofs.Common.{◌≡◌, ℕ, zero, suc, Bool, true, false, cond, List, [], ◌∷◌, ◌++◌, map, take, Ok, Err, refl, sym, ap, subst, ◌∙◌, arith, ℤ, pos, negsuc, ◌+ℤ◌, ◌-ℤ◌, ◌*ℤ◌, ◌≤ℤ◌, ◌<ℤ◌}
-use Rattle.std.specs.Prelude.{Option, None, Some, Result, ◌↔◌, ◌&&◌, neg_ℤ}
-use Rattle.std.specs.List.{AllByRecursion, filter, filter_map, flat_map, list_all, list_any}
+use Rattle.std.proofs.Common.{◌≡◌, ℕ, zero, suc, Bool, true, false, cond, List, [], ◌∷◌, ◌++◌, map, take, Ok, Err, refl, arith, ℤ, pos, negsuc, ◌+ℤ◌, ◌-ℤ◌, ◌*ℤ◌, ◌≤ℤ◌}
+use Rattle.std.specs.Prelude.{Option, None, Some, Result, neg_ℤ}
+use Rattle.std.specs.List.{AllByRecursion, filter, filter_map, flat_map, list_any}
 use Rattle.std.specs.Ordering.{eq_by_cmp}
 use Rattle.std.proofs.lemmas.Int.{ints, by_lt_z}
 use Rattle.whole_numbers.proofs.Ring.{ring, *ℤ-not_negative}
-use Rattle.items.specs.Gives.{◌>>=◌}
 use Rattle.items.proofs.Gives.{on_ok}
 use Rattle.items.proofs.Each.{each-any, each-append, each-front, each-flat_map, each-map}
 use Rattle.linear_terms.specs.declared.col.Col.{Col}
@@ -16,15 +15,15 @@ use Rattle.linear_terms.specs.declared.row.Row.{Row}
 use Rattle.linear_terms.specs.declared.row.Normal.{Normal}
 use Rattle.linear_terms.specs.declared.row.Normal.TheVariants.{Constant, Kept}
 use Rattle.linear_terms.specs.Col.{col_cmp}
-use Rattle.linear_terms.specs.Expressions.{Made, ◌⊠◌, ◌⊞◌, ◌⊟◌, column, turned}
+use Rattle.linear_terms.specs.Expressions.{Made, ◌⊠◌, ◌⊞◌, column, turned}
 use Rattle.linear_terms.specs.Operations.{difference_of_polys, multiple_of, product_of_polys, sum_of_polys}
-use Rattle.linear_terms.specs.Polynomial.{IsCanonical, Polynomial, Terms, column_of}
+use Rattle.linear_terms.specs.Polynomial.{IsCanonical, Polynomial, column_of}
 use Rattle.linear_terms.specs.Row.{IsWithin, RowHolds, RowsHold, normal_form}
 use Rattle.linear_terms.specs.Value.{Valuation, value_of}
 use Rattle.linear_terms.proofs.Canonical.{IsCanonical-column, IsCanonical-difference_of_polys, IsCanonical-multiple_of, IsCanonical-product_of_polys, IsCanonical-sum_of_polys}
 use Rattle.linear_terms.proofs.Normals.{normal_form-SaysAsMuch}
 use Rattle.linear_terms.proofs.Worth.{IsTrueIfMade-at_most, IsWorth, IsWorth-Ok, IsWorth-column, IsWorth-difference, IsWorth-product, IsWorth-sum, IsWorth-turned}
-use Rattle.row_products.specs.Laws.{HasWholePoint, ProductsAreTrue, ProductsKeepPoints}
+use Rattle.row_products.specs.Laws.{ProductsAreTrue, ProductsKeepPoints}
 use Rattle.row_products.specs.Limits.{most_products}
 use Rattle.row_products.specs.Products.{above_square, below_square, factors, has_one_of, high_monos, is_factor, is_factor_by, minus_product, new_rows, offers_of, product_row, product_rows, products, row_of, same_row, square_rows, telling, with_one_of}
 

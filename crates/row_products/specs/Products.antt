@@ -1,6 +1,6 @@
 -- Products of rows: rows that are true where others are and the columns are whole numbers. Where
 -- each monomial counts as an unknown of its own, as it does in a question, they need not be.
-use Rattle.std.specs.Prelude.{ℕ, pos, List, [], ◌∷◌, ◌++◌, length, map, take, Option, None, Some, Bool, true, false, ◌&&◌, ◌==◌, nat_lt, Result, Ok, Err, if◌then◌else◌}
+use Rattle.std.specs.Prelude.{pos, List, [], ◌∷◌, ◌++◌, length, map, take, Option, None, Some, Bool, true, false, ◌&&◌, ◌==◌, nat_lt, Result, Ok, Err, if◌then◌else◌}
 use Rattle.std.specs.List.{filter, filter_map, flat_map, list_all, list_any}
 use Rattle.std.specs.Ordering.{eq_by_cmp}
 use Rattle.items.specs.Gives.{◌>>=◌}

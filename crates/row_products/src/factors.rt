@@ -44,7 +44,9 @@ fn is_linear(terms: &[(Mono, i128)]) -> bool
 fn has_column_in(monos: &[Mono], terms: &[(Mono, i128)]) -> bool
     ensures { result ≡ list_any (λ t. list_any (occurs_in monos.now) t.0) terms.now }
 {
-    terms.iter().any(|(mono, _)| has_one_in(monos, mono.columns()))
+    terms
+        .iter()
+        .any(|(mono, _)| has_one_in(monos, mono.columns()))
 }
 
 fn has_one_in(monos: &[Mono], columns: &[Col]) -> bool

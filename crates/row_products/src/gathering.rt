@@ -12,11 +12,7 @@ use std::alloc::AllocError;
 const MOST_PRODUCTS: usize = 64;
 
 /// Adds a row that is offered, if there is room and neither the rows nor those made have it.
-pub(crate) fn add(
-    rows: &[Row],
-    offer: Option<Row>,
-    made: &mut Items<Row>,
-) -> Result<(), AllocError>
+pub(crate) fn add(rows: &[Row], offer: Option<Row>, made: &mut Items<Row>) -> Result<(), AllocError>
     ensures { OnOk result (made.new ≡ with_offer most_products rows.now made.old offer) }
 {
     if let Some(row) = offer {

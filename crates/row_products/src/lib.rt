@@ -7,7 +7,6 @@ mod factors;
 mod gathering;
 mod laws;
 mod offering;
-
 mod rows;
 
 pub use laws::law_of_products;

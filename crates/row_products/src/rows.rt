@@ -10,7 +10,9 @@ ghost use Rattle.linear_terms.specs.Mono.{mono_cmp};
 ghost use Rattle.linear_terms.specs.Row.{normal_form};
 ghost use Rattle.row_products.specs.Products.{has_one_of, telling, form_of, row_of, below_square, above_square, minus_product, with_one_of, product_row, never};
 
-use linear_terms::{Col, Kind, Mono, Normal, Poly, Row, TermError, add, difference, mul, normal, scale};
+use linear_terms::{
+    Col, Kind, Mono, Normal, Poly, Row, TermError, add, difference, mul, normal, scale,
+};
 use std::alloc::{AllocError, Global};
 
 /// The row `x - x*x <= 0` of a column.

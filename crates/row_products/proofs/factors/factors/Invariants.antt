@@ -1,6 +1,4 @@
-use Rattle.std.proofs.Common.{◌≡◌, ◌++◌, drop, map}
-use Rattle.std.specs.List.{filter}
-use Rattle.linear_terms.specs.declared.row.Row.{Row}
+use Rattle.std.proofs.Common.{◌≡◌, ◌++◌, drop}
 use Rattle.row_products.specs.Products.{factors}
 use Rattle.row_products.proofs.factors.factors.Given as goal
 
