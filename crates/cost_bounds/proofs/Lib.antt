@@ -1,13 +1,10 @@
--- ---- code: the product of a monomial's columns, and lists without one element
-mod Products
+-- ---- code: lists without one element
 mod Divisors
 mod Lists
 mod Asked
 -- ---- laws
-mod Parts
 mod Bounds
 mod OverEntry
-mod LowestTerms
 mod Wide
 mod Grown
 mod Sound

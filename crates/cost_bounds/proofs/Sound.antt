@@ -36,13 +36,14 @@ use Rattle.cost_bounds.specs.declared.kept.Kept.{Kept}
 use Rattle.cost_bounds.specs.Changes.{post_at, change_of, is_over_entry}
 use Rattle.cost_bounds.specs.Questions.{cost_rows, entry_rows, first_question}
 use Rattle.cost_bounds.specs.Small.{yes_of, kept_of, left_by, yes_to, trial, is_of, row_trial, without_row, without_rows, entry_trial, without_entry, without_entries, least_kept}
-use Rattle.cost_bounds.specs.Costs.{lowest_terms, scale_in, bound_of, limit_of, bound_by, kept_bound, by_answer, cost_asked, cost_by_last, cost_of_change, cost_by, case_cost}
+use Rattle.farkas_check.specs.Multiples.{lowest_multipliers}
+use Rattle.cost_bounds.specs.Costs.{scale_in, bound_of, limit_of, bound_by, kept_bound, by_answer, cost_asked, cost_by_last, cost_of_change, cost_by, case_cost}
 use Rattle.cost_bounds.specs.Says.{change_between, entry_value, IsMet, IsMetByCase, IsWide, IsAsked, IsExact, IsBound, IsUnbounded, IsLimited, unanswered, change_wide, question_wide, bound_wide, Says}
 use Rattle.cost_bounds.proofs.Lists.{each-remove}
 use Rattle.cost_bounds.proofs.Bounds.{bound-met, scale-positive}
 use Rattle.cost_bounds.proofs.OverEntry.{IsOverEntry, IsOverEntry-test, IsEntryRow, entry_rows-are, flat_rows, bound-over, entry-value}
 use Rattle.cost_bounds.proofs.Grown.{grows}
-use Rattle.cost_bounds.proofs.LowestTerms.{yes-lowest_terms, coprime-lowest_terms}
+use Rattle.farkas_check.proofs.LowestMultipliers.{yes-lowest_multipliers, coprime-lowest_multipliers}
 use Rattle.cost_bounds.proofs.Wide.{difference_of_polys-wide, negation-wide, bound-wide}
 
 -- ---- the change under numbers of which the case holds
@@ -147,18 +148,18 @@ module _ (allows : Question → Answer → Type 0) (case : Case) (number : ℕ) 
   canonical_rows rows by passes = recursion_from_All (λ (row : Row). IsCanonical row.poly.terms) rows passes.canonical
 
   module _ (change : Polynomial) (last : Row) (asked : IsAsked case number change last) where
-    lowest_terms-passes : (rows : List Row) (by : List ℤ) → Passes (Infeasible rows) (answer.Yes by) → Passes (Infeasible rows) (answer.Yes (lowest_terms by))
-    lowest_terms-passes rows by passes = record {
+    lowest_multipliers-passes : (rows : List Row) (by : List ℤ) → Passes (Infeasible rows) (answer.Yes by) → Passes (Infeasible rows) (answer.Yes (lowest_multipliers by))
+    lowest_multipliers-passes rows by passes = record {
       canonical = passes.canonical;
       positive = tt;
-      passed = yes-lowest_terms rows by (canonical_rows rows by passes) passes.passed;
+      passed = yes-lowest_multipliers rows by (canonical_rows rows by passes) passes.passed;
     }
 
     bound-sound : (first : List ℤ) → IsGood allows (first_question case.rows change last) (answer.Yes first) → (kept : Kept) → IsKept last kept → IsSound (kept_bound change.rest last kept)
-    bound-sound first good kept known = go (bound_of change.rest kept.rows kept.entries (lowest_terms kept.by)) refl
+    bound-sound first good kept known = go (bound_of change.rest kept.rows kept.entries (lowest_multipliers kept.by)) refl
       where
-        passes : Passes (Infeasible (cost_rows kept.rows kept.entries last)) (answer.Yes (lowest_terms kept.by))
-        passes = lowest_terms-passes (cost_rows kept.rows kept.entries last) kept.by known.passes
+        passes : Passes (Infeasible (cost_rows kept.rows kept.entries last)) (answer.Yes (lowest_multipliers kept.by))
+        passes = lowest_multipliers-passes (cost_rows kept.rows kept.entries last) kept.by known.passes
 
         canonical : CanonicalRows (cost_rows kept.rows kept.entries last)
         canonical = canonical_rows (cost_rows kept.rows kept.entries last) kept.by known.passes
@@ -166,19 +167,19 @@ module _ (allows : Question → Answer → Type 0) (case : Case) (number : ℕ) 
         flat : AllByRecursion (λ (row : Row). row.poly.rest ≡ pos 0) kept.entries
         flat = flat_rows kept.entries known.entries_too
 
-        coprime : gcd_of_all (lowest_terms kept.by) ≡ 1
-        coprime = coprime-lowest_terms (cost_rows kept.rows kept.entries last) kept.by canonical known.passes.passed
+        coprime : gcd_of_all (lowest_multipliers kept.by) ≡ 1
+        coprime = coprime-lowest_multipliers (cost_rows kept.rows kept.entries last) kept.by canonical known.passes.passed
 
-        met : (p : Polynomial) → bound_of change.rest kept.rows kept.entries (lowest_terms kept.by) ≡ Ok p → (before after : List ℤ) → HoldsCase case before after
-            → (scale_in kept.rows kept.entries (lowest_terms kept.by) *ℤ change_between number before after) ≤ℤ entry_value before p
+        met : (p : Polynomial) → bound_of change.rest kept.rows kept.entries (lowest_multipliers kept.by) ≡ Ok p → (before after : List ℤ) → HoldsCase case before after
+            → (scale_in kept.rows kept.entries (lowest_multipliers kept.by) *ℤ change_between number before after) ≤ℤ entry_value before p
         met p e before after (aux, holds) =
-            subst (λ z. (scale_in kept.rows kept.entries (lowest_terms kept.by) *ℤ change_between number before after) ≤ℤ z)
-            (entry-value before aux (λ n. pos 0) p (bound-over change.rest kept.rows kept.entries (lowest_terms kept.by) p known.entries_too e))
-            (subst (λ z. (scale_in kept.rows kept.entries (lowest_terms kept.by) *ℤ z) ≤ℤ value_of (numbers before aux) p)
+            subst (λ z. (scale_in kept.rows kept.entries (lowest_multipliers kept.by) *ℤ change_between number before after) ≤ℤ z)
+            (entry-value before aux (λ n. pos 0) p (bound-over change.rest kept.rows kept.entries (lowest_multipliers kept.by) p known.entries_too e))
+            (subst (λ z. (scale_in kept.rows kept.entries (lowest_multipliers kept.by) *ℤ z) ≤ℤ value_of (numbers before aux) p)
             (change-between case number before after aux change counts holds asked.is)
-            (bound-met (numbers before aux) kept.rows kept.entries last change (lowest_terms kept.by) p flat asked.asks canonical passes.passed e (known.weaker (numbers before aux) holds.rows)))
+            (bound-met (numbers before aux) kept.rows kept.entries last change (lowest_multipliers kept.by) p flat asked.asks canonical passes.passed e (known.weaker (numbers before aux) holds.rows)))
 
-        go : (made : Made) → bound_of change.rest kept.rows kept.entries (lowest_terms kept.by) ≡ made → IsSound (bound_by kept.rows kept.entries last (lowest_terms kept.by) made)
+        go : (made : Made) → bound_of change.rest kept.rows kept.entries (lowest_multipliers kept.by) ≡ made → IsSound (bound_by kept.rows kept.entries last (lowest_multipliers kept.by) made)
         go (Ok p) e = record {
           met = met p e;
           says = record {
@@ -193,13 +194,13 @@ module _ (allows : Question → Answer → Type 0) (case : Case) (number : ℕ) 
             passes = passes;
             coprime = coprime;
             scale_is = refl;
-            positive = scale-positive (λ c. pos 0) kept.rows kept.entries last change (lowest_terms kept.by) flat asked.asks canonical passes.passed;
+            positive = scale-positive (λ c. pos 0) kept.rows kept.entries last change (lowest_multipliers kept.by) flat asked.asks canonical passes.passed;
             sum = e;
           };
         }
         go (Err e) f =
             limit-sound (limit_of e)
-            (bound_wide change last kept.rows kept.entries (lowest_terms kept.by) e (bound-wide change.rest kept.rows kept.entries (lowest_terms kept.by) e f) asked passes coprime f)
+            (bound_wide change last kept.rows kept.entries (lowest_multipliers kept.by) e (bound-wide change.rest kept.rows kept.entries (lowest_multipliers kept.by) e f) asked passes coprime f)
 
     unbounded-sound : (point : _) → IsGood allows (first_question case.rows change last) (answer.No point) → IsSound (cost.Unbounded point)
     unbounded-sound point good = record {

@@ -17,16 +17,13 @@ use Rattle.farkas_check.specs.declared.answer.Limit.TheVariants as limit
 use Rattle.posing.specs.Posing.{Posing, Done, answer_to, ◌>>=◌}
 use Rattle.cost_bounds.specs.declared.cost.Cost.{Cost}
 use Rattle.cost_bounds.specs.declared.cost.Cost.TheVariants as cost
+use Rattle.farkas_check.specs.Multiples.{lowest_multipliers}
 use Rattle.cost_bounds.specs.declared.kept.Kept.{Kept}
 use Rattle.cost_bounds.specs.Changes.{change_of, is_over_entry}
 use Rattle.cost_bounds.specs.Questions.{cost_rows, entry_rows, first_question}
 use Rattle.cost_bounds.specs.Small.{kept_of, least_kept}
 
 -- ---- multipliers
-
--- divided by their greatest common divisor
-abbrev pub lowest_terms : List ℤ → List ℤ
-lowest_terms by = map (λ m. int_div m (pos (max (gcd_of_all by) 1))) by
 
 abbrev pub first_of : List ℤ → ℤ
 first_of [] = pos 0
@@ -81,8 +78,8 @@ bound_by rows entries last by (Ok p) = cost.Bound (scale_in rows entries by) p
 
 -- the bound of what is left, with multipliers in lowest terms
 abbrev pub kept_bound : ℤ → Row → Kept → Cost
-kept_bound rest last kept = bound_by kept.rows kept.entries last (lowest_terms kept.by)
-    (bound_of rest kept.rows kept.entries (lowest_terms kept.by))
+kept_bound rest last kept = bound_by kept.rows kept.entries last (lowest_multipliers kept.by)
+    (bound_of rest kept.rows kept.entries (lowest_multipliers kept.by))
 
 -- by the answer to the first question; no other kind of answer passes its test
 abbrev pub by_answer : ℤ → Row → List Row → List Row → Answer → Posing Cost

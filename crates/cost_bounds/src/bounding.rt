@@ -19,7 +19,7 @@ use crate::Cost;
 use crate::entries::{entry_rows, is_over_entry};
 use crate::kept::Kept;
 use crate::limits::limit_of;
-use crate::multipliers::{lowest_terms, scale_in};
+use crate::multipliers::{lowest_multipliers, scale_in};
 use crate::questions::{asked_rows, bares_of, copy_of, question_of};
 use crate::small::least_kept;
 use crate::sums::bound_of;
@@ -242,7 +242,7 @@ fn kept_bound(alloc: Global, change: &Poly, last: Row, kept: Kept) -> Result<Cos
     ensures { IfOk result (λ made. made ≡ kept_bound change.now.rest last kept) }
 {
     let Kept { rows, entries, by } = kept;
-    let by = lowest_terms(alloc, by.as_slice())?;
+    let by = lowest_multipliers(alloc, by.as_slice())?;
     let sum = bound_of(
         alloc,
         change,

@@ -1,6 +1,7 @@
 ghost use Rattle.std.specs.Prelude.{◌≡◌, ◌<◌, pos, int_div, map, drop, length, IfOk};
 ghost use Rattle.whole_numbers.specs.Divisors.{gcd_of_all};
-ghost use Rattle.cost_bounds.specs.Costs.{first_of, lowest_terms, of_entries, scale_in};
+ghost use Rattle.farkas_check.specs.Multiples.{lowest_multipliers};
+ghost use Rattle.cost_bounds.specs.Costs.{first_of, of_entries, scale_in};
 
 use items::Items;
 use linear_terms::Row;
@@ -8,8 +9,8 @@ use std::alloc::{AllocError, Global};
 use whole_numbers::{gcd, quotient};
 
 /// The multipliers divided by their greatest common divisor.
-pub(crate) fn lowest_terms(alloc: Global, by: &[i128]) -> Result<Items<i128>, AllocError>
-    ensures { IfOk result (λ made. made ≡ lowest_terms by.now) }
+pub(crate) fn lowest_multipliers(alloc: Global, by: &[i128]) -> Result<Items<i128>, AllocError>
+    ensures { IfOk result (λ made. made ≡ lowest_multipliers by.now) }
 {
     let divisor = common_divisor(by).max(1);
     quotients(alloc, by, divisor)

@@ -3,6 +3,9 @@
 pub mod Tight
 -- Infeasible and Sup: sums of multiples of rows at a point, and the bounds that certificates give.
 pub mod Farkas
+-- Sums of multiples of rows by the parts of a list, and multipliers without a common divisor.
+pub mod Totals
+pub mod LowestMultipliers
 mod Bounds
 -- Stratum: ties make a relation vanish on a case, spots show that there are no others, and the
 -- lines are a reduced basis.

@@ -27,6 +27,10 @@ constant_of value = record { terms = []; rest = value }
 abbrev pub column_of : Col → Polynomial
 column_of col = record { terms = (col ∷ [], pos 1) ∷ []; rest = pos 0 }
 
+-- a monomial with coefficient 1
+abbrev pub mono_of : List Col → Polynomial
+mono_of m = record { terms = (m, pos 1) ∷ []; rest = pos 0 }
+
 -- the polynomial with 0 as its constant
 abbrev pub without_constant : Polynomial → Polynomial
 without_constant p = record { terms = p.terms; rest = pos 0 }

@@ -1,10 +1,10 @@
-ghost use Rattle.std.specs.Prelude.{◌≡◌, ◌↔◌, [], ◌∷◌, IsTrue, Ok, All, slice_get};
+ghost use Rattle.std.specs.Prelude.{◌≡◌, ◌↔◌, [], ◌∷◌, IfOk, IsTrue, Ok, All, slice_get};
 ghost use Rattle.std.specs.Cmp.{partial_equiv_from_equiv};
 ghost use Rattle.items.specs.Gives.{Gives};
 ghost use Rattle.std.specs.List.{list_any};
 ghost use Rattle.linear_terms.specs.TermError.{cause};
 ghost use Rattle.linear_terms.specs.Auxiliaries.{has_auxiliary, occurs, has_entry};
-ghost use Rattle.linear_terms.specs.Polynomial.{constant_of, column_of, without_constant, coefficient_in, IsCanonical};
+ghost use Rattle.linear_terms.specs.Polynomial.{constant_of, column_of, mono_of, without_constant, coefficient_in, IsCanonical};
 ghost use Rattle.linear_terms.specs.Replacement.{IsBelow};
 ghost use Rattle.linear_terms.specs.Equality.{poly_eq, poly_eq_equiv};
 
@@ -49,6 +49,16 @@ impl Poly {
     {
         let mut terms = Items::new(alloc);
         terms.push((Mono::of(col), 1))?;
+        Ok(Poly { terms, rest: 0 })
+    }
+
+    /// A monomial with coefficient 1. The one error is want of memory.
+    #[tactic(auto, using(crate::proofs::Canonical::canonical))]
+    pub fn monomial(alloc: Global, mono: Mono) -> Result<Poly, AllocError>
+        ensures { IfOk result (λ p. p ≡ mono_of mono) }
+    {
+        let mut terms = Items::new(alloc);
+        terms.push((mono, 1))?;
         Ok(Poly { terms, rest: 0 })
     }
 

@@ -262,6 +262,10 @@ pub nothing-more : {X : Type 0} (xs ys : List X) → xs ++ ys ≡ xs → ys ≡ 
 nothing-more xs [] e = refl
 nothing-more xs (y ∷ ys) e = let long = ap length e in absurd (omega (arith, long, length-append xs (y ∷ ys)))
 
+-- nothing was put behind a list that is as it was
+pub nothing-noted : {X : Type 0} {xs first more new : List X} → first ≡ [] → new ≡ xs ++ more → new ≡ xs → more ≡ first
+nothing-noted {X} {xs} {first} {more} e f g = nothing-more xs more (sym f ∙ g) ∙ sym e
+
 abbrev pub transition : ℕ → ℕ → List Case → Transition
 transition from to cases = record { from = from; to = to; cases = cases }
 

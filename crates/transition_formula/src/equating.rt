@@ -1,4 +1,4 @@
-ghost use Rattle.std.specs.Prelude.{◌≡◌, ◌↔◌, ◌+◌, ◌<◌, ◌≤◌, ◌^◌, ◌++◌, ◌∷◌, [], ℤ, List, All, map, take, drop, length, IfOk, OnOk};
+ghost use Rattle.std.specs.Prelude.{◌≡◌, ◌↔◌, ◌+◌, ◌<◌, ◌≤◌, ◌^◌, ◌++◌, ◌∷◌, [], ℤ, List, All, map, take, drop, length, IfOk, OnErr, OnOk};
 ghost use Rattle.std.specs.List.{filter_map, flat_map};
 ghost use Rattle.linear_terms.specs.declared.row.Kind.TheVariants.{Equal};
 ghost use Rattle.transition_formula.specs.Composition.{row_of};
@@ -35,7 +35,7 @@ pub fn raised(f: &Formula, from: u32) -> Result<Formula, FormulaError>
 /// The formula where the entry columns from `first` on are the posts at these places, in their
 /// order. It holds of the states that the formula links where these columns have those numbers, and
 /// of no others where nothing was lost. Each loss is noted after those that are there. After an
-/// error more may be noted.
+/// error nothing is noted.
 pub fn equated(
     alloc: Global,
     f: &Formula,
@@ -48,6 +48,7 @@ pub fn equated(
     ensures exact { IfOk result (λ g. g ≡ equated first places.now f.now) }
     ensures noted { OnOk result
         (losses.new ≡ losses.old ++ lost_in_equating first places.now f.now) }
+    ensures kept { OnErr result (losses.new ≡ losses.old) }
     ensures at_least { (before after : List ℤ)
         → IfOk result
         (λ g. take (length places.now) (drop first before) ≡ numbers_at places.now after
@@ -58,7 +59,9 @@ pub fn equated(
         × (take (length places.now) (drop first before) ≡ numbers_at places.now after))) }
 {
     let from = f.from();
-    let cases = equated_cases(alloc, f, first, places, losses)?;
+    let mut lost = Items::new(alloc);
+    let cases = equated_cases(alloc, f, first, places, &mut lost)?;
+    losses.append(lost)?;
     Ok(Formula {
         from,
         to: f.to,

@@ -1,4 +1,4 @@
-ghost use Rattle.std.specs.Prelude.{◌≡◌, ◌+◌, ◌-◌, ◌<◌, ◌≤◌, ◌^◌, ◌++◌, ℤ, List, All, map, take, length, IfOk, OnOk, IsTrue};
+ghost use Rattle.std.specs.Prelude.{◌≡◌, ◌+◌, ◌-◌, ◌<◌, ◌≤◌, ◌^◌, ◌++◌, ℤ, List, All, map, take, length, IfOk, OnErr, OnOk, IsTrue};
 ghost use Rattle.std.specs.List.{flat_map};
 ghost use Rattle.transition_formula.specs.Composition.{lost_by};
 ghost use Rattle.transition_formula.specs.Hiding.{entries_hidden, hiding, hidden_case, hidden, lost_in_hiding};
@@ -15,7 +15,7 @@ use std::alloc::Global;
 /// The formula whose entry columns are the first `n` alone: the others become auxiliaries, after
 /// those of the case. It holds of the first numbers of each state that the formula held of, and of
 /// no others where nothing was lost. Each loss is noted after those that are there. After an error
-/// more may be noted.
+/// nothing is noted.
 pub fn hidden(
     alloc: Global,
     f: &Formula,
@@ -26,13 +26,16 @@ pub fn hidden(
     requires few { All (λ case. case.aux + (f.now.from - n) + f.now.to < 2 ^ 32) f.now.cases }
     ensures exact { IfOk result (λ g. g ≡ hidden n f.now) }
     ensures noted { OnOk result (losses.new ≡ losses.old ++ lost_in_hiding n f.now) }
+    ensures kept { OnErr result (losses.new ≡ losses.old) }
     ensures at_least { (before after : List ℤ)
         → IfOk result (λ g. Holds f.now before after → Holds g (take n before) after) }
     ensures at_most { (told after : List ℤ) → losses.new ≡ losses.old
         → IfOk result (λ g. Holds g told after
         → ((more : List ℤ) × Holds f.now (told ++ more) after)) }
 {
-    let cases = hidden_cases(alloc, f, n, losses)?;
+    let mut lost = Items::new(alloc);
+    let cases = hidden_cases(alloc, f, n, &mut lost)?;
+    losses.append(lost)?;
     Ok(Formula {
         from: n,
         to: f.to,

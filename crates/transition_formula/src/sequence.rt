@@ -1,4 +1,4 @@
-ghost use Rattle.std.specs.Prelude.{◌≡◌, ◌+◌, ◌<◌, ◌^◌, ◌++◌, ℤ, List, map, length, count_by, All, IfOk, OnOk, IsTrue};
+ghost use Rattle.std.specs.Prelude.{◌≡◌, ◌+◌, ◌<◌, ◌^◌, ◌++◌, ℤ, List, map, length, count_by, All, IfOk, OnErr, OnOk, IsTrue};
 ghost use Rattle.std.specs.List.{flat_map, list_all, range_with_len};
 ghost use Rattle.std.specs.Option.{is_none};
 ghost use Rattle.linear_terms.specs.declared.col.Col.TheVariants.{Aux};
@@ -19,8 +19,33 @@ use std::alloc::Global;
 
 /// One formula and then another: each case of the first with each of the second, whose columns the
 /// posts of the first are put in for. A row that is lost is left out, and a post that is lost may
-/// be any number: each loss is noted after those that are there. After an error more may be noted.
+/// be any number: each loss is noted after those that are there. After an error nothing is noted.
 pub fn seq(
+    alloc: Global,
+    a: &Formula,
+    b: &Formula,
+    losses: &mut Items<Loss>,
+) -> Result<Formula, FormulaError>
+    requires between { a.now.to ≡ b.now.from }
+    requires few { AreFew a.now b.now }
+    ensures exact { IfOk result (λ f. f ≡ sequence_of a.now b.now) }
+    ensures noted { OnOk result (losses.new ≡ losses.old ++ lost_in_sequence a.now b.now) }
+    ensures kept { OnErr result (losses.new ≡ losses.old) }
+    ensures at_least { (before middle after : List ℤ)
+        → IfOk result (λ f. Holds a.now before middle → Holds b.now middle after
+        → Holds f before after) }
+    ensures at_most { (before after : List ℤ) → losses.new ≡ losses.old
+        → IfOk result (λ f. Holds f before after
+        → ((middle : List ℤ) × (Holds a.now before middle × Holds b.now middle after))) }
+{
+    let mut lost = Items::new(alloc);
+    let formula = sequence_formula(alloc, a, b, &mut lost)?;
+    losses.append(lost)?;
+    Ok(formula)
+}
+
+/// The formula, and what is noted.
+fn sequence_formula(
     alloc: Global,
     a: &Formula,
     b: &Formula,

@@ -1,4 +1,4 @@
-ghost use Rattle.std.specs.Prelude.{◌≡◌, ℕ, ℤ, List, ◌+◌, ◌<◌, ◌^◌, ◌++◌, length, IfOk, OnOk, IsTrue};
+ghost use Rattle.std.specs.Prelude.{◌≡◌, ℕ, ℤ, List, ◌+◌, ◌<◌, ◌^◌, ◌++◌, length, IfOk, OnErr, OnOk, IsTrue};
 ghost use Rattle.std.specs.Option.{option_map};
 ghost use Rattle.linear_terms.specs.Auxiliaries.{is_numbered};
 ghost use Rattle.transition_formula.specs.Meaning.{HoldsCase, HoldsSolved};
@@ -27,9 +27,32 @@ pub enum Solved {
 
 /// Puts a case in order: its rows are tidied, and equations solved for auxiliaries, until no more
 /// can be. What is lost is left out and noted after what is there. What comes of the case holds of
-/// at least what it held of, and of no more where nothing was lost. After an error more may be
-/// noted.
+/// at least what it held of, and of no more where nothing was lost. After an error nothing is noted.
 pub fn solve(alloc: Global, case: &Case, losses: &mut Items<Loss>) -> Result<Solved, FormulaError>
+    requires numbered { IsTrue (every_column_of (is_numbered case.now.aux) case.now) }
+    requires few { case.now.aux + length case.now.post < 2 ^ 32 }
+    ensures exact { IfOk result (λ made. made ≡ solved (in_order case.now).left) }
+    ensures noted { OnOk result (losses.new ≡ losses.old ++ (in_order case.now).losses) }
+    ensures kept { OnErr result (losses.new ≡ losses.old) }
+    ensures at_least { (before after : List ℤ)
+        → IfOk result (λ made. HoldsCase case.now before after → HoldsSolved made before after) }
+    ensures at_most { (before after : List ℤ) → losses.new ≡ losses.old
+        → IfOk result (λ made. HoldsSolved made before after → HoldsCase case.now before after) }
+    ensures fits { (from to : ℕ) → IsTrue (fits from to case.now)
+        → IfOk result (Stays (λ c. IsTrue (fits from to c))) }
+{
+    let mut lost = Items::new(alloc);
+    let solved = left_of_case(alloc, case, &mut lost)?;
+    losses.append(lost)?;
+    Ok(solved)
+}
+
+/// What is left of the case, and what is noted.
+fn left_of_case(
+    alloc: Global,
+    case: &Case,
+    losses: &mut Items<Loss>,
+) -> Result<Solved, FormulaError>
     requires numbered { IsTrue (every_column_of (is_numbered case.now.aux) case.now) }
     requires few { case.now.aux + length case.now.post < 2 ^ 32 }
     ensures exact { IfOk result (λ made. made ≡ solved (in_order case.now).left) }

@@ -2,6 +2,7 @@ use Rattle.std.proofs.Common.{◌≡◌, ap, subst}
 use Rattle.transition_formula.specs.Equating.{equated, lost_in_equating}
 use Rattle.transition_formula.specs.Transition.{Transition, IsTransition}
 use Rattle.transition_formula.proofs.PostsAsEntries.{equated-fits, equated-least, equated-most}
+use Rattle.transition_formula.proofs.Meanings.{nothing-noted}
 use Rattle.transition_formula.proofs.NormalRows.{nothing_new}
 use Rattle.transition_formula.proofs.equating.equated.Goals as goal
 
@@ -26,5 +27,5 @@ returns-clause-at_most c before after kept =
     let to : c.f.inside.to ≡ c.args.f.now.to = ap (λ (g : Transition). g.to) c.f.view_is in
     let made : Transition = record { from = c.from-from.result; to = c.f.inside.to; cases = c.in_ok-cases.cases } in
     let exact : made ≡ equated c.args.first c.args.places.now c.args.f.now = λ i. record { from = from i; to = to i; cases = c.in_ok-cases.ensures.made i } in
-    let none = nothing_new c.args.losses.now c.equated_cases.new.losses (lost_in_equating c.args.first c.args.places.now c.args.f.now) c.in_ok-cases.ensures.noted kept in
+    let none = nothing_new c.new-lost.result c.equated_cases.new.losses (lost_in_equating c.args.first c.args.places.now c.args.f.now) c.in_ok-cases.ensures.noted (nothing-noted c.new-lost.ensures c.in_ok-append.ensures.ok kept) in
     equated-most c.args.first c.args.places.now c.args.f.now made c.requires.columns exact before after none

@@ -1,7 +1,7 @@
 use Rattle.std.proofs.Common.{◌≡◌, ◌++◌, map, drop}
 use Rattle.std.specs.List.{flat_map}
 use Rattle.transition_formula.specs.Composition.{sequence_of_cases, lost_by, after_case, sequence_of, lost_in_sequence}
-use Rattle.transition_formula.proofs.sequence.seq.Given as goal
+use Rattle.transition_formula.proofs.sequence.sequence_formula.Given as goal
 
 abbrev pub invariant-loop-first : goal.invariant-loop-first
 invariant-loop-first l =

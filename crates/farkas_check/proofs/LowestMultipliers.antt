@@ -22,11 +22,10 @@ use Rattle.linear_terms.specs.declared.row.Kind.TheVariants.{AtMost, Equal}
 use Rattle.linear_terms.specs.declared.row.Row.{Row}
 use Rattle.linear_terms.specs.Value.{Valuation}
 use Rattle.farkas_check.specs.Columns.{columns}
-use Rattle.farkas_check.specs.Multiples.{is_multiplier, are_multipliers, Form, sum_from, number_at, constant_in, sums_at, constant_sum, sum_of_multiples, is_zero, is_positive_constant}
+use Rattle.farkas_check.specs.Multiples.{is_multiplier, are_multipliers, lowest_multipliers, Form, sum_from, number_at, constant_in, sums_at, constant_sum, sum_of_multiples, is_zero, is_positive_constant}
 use Rattle.farkas_check.specs.Tested.{tested_yes}
 use Rattle.farkas_check.proofs.Farkas.{bool_ok, both_true, on_parts, ok_true, total, CanonicalRows, numbers_ok, form_ok, form_of}
-use Rattle.cost_bounds.specs.Costs.{lowest_terms}
-use Rattle.cost_bounds.proofs.Parts.{Cancels, cancels}
+use Rattle.farkas_check.proofs.Totals.{Cancels, cancels}
 
 -- ---- numbers of 128 bits
 
@@ -83,17 +82,17 @@ module _ (g : ℕ) (some : 0 < g) where
       sum : start +ℤ part ≡ (s +ℤ number *ℤ n) *ℤ pos g
       sum = ap (λ z. z +ℤ part) f ∙ ap (λ z. s *ℤ pos g +ℤ z) (product_of-value number m part h ∙ product) ∙ sym (+ℤ-*ℤ s (number *ℤ n) (pos g))
 
-  sum-lowest_terms : (number : Row → ℤ) (start s : ℤ) (rows : List Row) (by : List ℤ) (total : ℤ) → DividesEach g by → start ≡ s *ℤ pos g → sum_from number start rows by ≡ Ok total
+  sum-lowest_multipliers : (number : Row → ℤ) (start s : ℤ) (rows : List Row) (by : List ℤ) (total : ℤ) → DividesEach g by → start ≡ s *ℤ pos g → sum_from number start rows by ≡ Ok total
       → HasSum number s rows by total
-  sum-lowest_terms number start s [] by total divides f e = let same : start ≡ total = cc in record { value = s; is = sym same ∙ f; made = refl }
-  sum-lowest_terms number start s (row ∷ rows) [] total divides f e = let same : start ≡ total = cc in record { value = s; is = sym same ∙ f; made = refl }
-  sum-lowest_terms number start s (row ∷ rows) (m ∷ by) total divides f e =
+  sum-lowest_multipliers number start s [] by total divides f e = let same : start ≡ total = cc in record { value = s; is = sym same ∙ f; made = refl }
+  sum-lowest_multipliers number start s (row ∷ rows) [] total divides f e = let same : start ≡ total = cc in record { value = s; is = sym same ∙ f; made = refl }
+  sum-lowest_multipliers number start s (row ∷ rows) (m ∷ by) total divides f e =
       on_ok (product_of (number row) m) (λ part. sum_of start part >>= λ next. sum_from number next rows by) total e
       (λ part h k. on_ok (sum_of start part) (λ next. sum_from number next rows by) total k
       (λ next l u.
       let n = int_div m (pos g) in
       let parts = step (number row) start s m part next n (int_div-*ℤ m g divides.0) f h l in
-      let rest = sum-lowest_terms number next (s +ℤ number row *ℤ n) rows by total divides.1 parts.1.1 u in
+      let rest = sum-lowest_multipliers number next (s +ℤ number row *ℤ n) rows by total divides.1 parts.1.1 u in
       record {
         value = rest.value;
         is = rest.is;
@@ -107,8 +106,8 @@ module _ (g : ℕ) (some : 0 < g) where
   zero_left : (z : ℤ) → z *ℤ pos g ≡ pos 0 → z ≡ pos 0
   zero_left z e = *ℤ_cancel z (pos 0) (pos g) (omega (arith, ints, some)) (e ∙ zero_start)
 
-  is_zero-lowest_terms : (sum z : ℤ) → sum ≡ z *ℤ pos g → is_zero sum ≡ true → is_zero z ≡ true
-  is_zero-lowest_terms sum z e f = (Decides-int_eq z (pos 0)).1 (zero_left z (sym e ∙ (Decides-int_eq sum (pos 0)).0 f))
+  is_zero-lowest_multipliers : (sum z : ℤ) → sum ≡ z *ℤ pos g → is_zero sum ≡ true → is_zero z ≡ true
+  is_zero-lowest_multipliers sum z e f = (Decides-int_eq z (pos 0)).1 (zero_left z (sym e ∙ (Decides-int_eq sum (pos 0)).0 f))
 
   record HaveSums (rows : List Row) (by : List ℤ) (cs : List (List Col)) : Type 0 where
     values : List ℤ
@@ -118,26 +117,26 @@ module _ (g : ℕ) (some : 0 < g) where
   both_are : (a b : Bool) → a ≡ true → b ≡ true → a && b ≡ true
   both_are a b e f = rw (e, f) refl
 
-  sums-lowest_terms : (rows : List Row) (by : List ℤ) (cs : List (List Col)) (ns : List ℤ) → DividesEach g by → sums_at rows by cs ≡ Ok ns → list_all is_zero ns ≡ true → HaveSums rows by cs
-  sums-lowest_terms rows by [] ns divides e zeros = record { values = []; zero_each = refl; made = refl }
-  sums-lowest_terms rows by (c ∷ cs) ns divides e zeros =
+  sums-lowest_multipliers : (rows : List Row) (by : List ℤ) (cs : List (List Col)) (ns : List ℤ) → DividesEach g by → sums_at rows by cs ≡ Ok ns → list_all is_zero ns ≡ true → HaveSums rows by cs
+  sums-lowest_multipliers rows by [] ns divides e zeros = record { values = []; zero_each = refl; made = refl }
+  sums-lowest_multipliers rows by (c ∷ cs) ns divides e zeros =
       on_ok (sum_from (number_at c) (pos 0) rows by) (λ s. sums_at rows by cs >>= λ more. numbers_ok (s ∷ more)) ns e
       (λ s h k. on_ok (sums_at rows by cs) (λ more. numbers_ok (s ∷ more)) ns k
-      (λ more l u. one s more (cc) h (λ k. sums-lowest_terms rows by cs more divides l k)))
+      (λ more l u. one s more (cc) h (λ k. sums-lowest_multipliers rows by cs more divides l k)))
     where
       one : (s : ℤ) (more : List ℤ) → s ∷ more ≡ ns → sum_from (number_at c) (pos 0) rows by ≡ Ok s → (list_all is_zero more ≡ true → HaveSums rows by cs) → HaveSums rows by (c ∷ cs)
       one s more same h later =
           let both = both_true (is_zero s) (list_all is_zero more) (ap (list_all is_zero) same ∙ zeros) in
-          let first = sum-lowest_terms (number_at c) (pos 0) (pos 0) rows by s divides zero_start h in
+          let first = sum-lowest_multipliers (number_at c) (pos 0) (pos 0) rows by s divides zero_start h in
           let rest = later both.1 in
           record {
             values = first.value ∷ rest.values;
-            zero_each = both_are (is_zero first.value) (list_all is_zero rest.values) (is_zero-lowest_terms s first.value first.is both.0) rest.zero_each;
+            zero_each = both_are (is_zero first.value) (list_all is_zero rest.values) (is_zero-lowest_multipliers s first.value first.is both.0) rest.zero_each;
             made = ap (λ r. r >>= λ z. sums_at rows (quotients g by) cs >>= λ zs. numbers_ok (z ∷ zs)) first.made ∙ ap (λ r. r >>= λ zs. numbers_ok (first.value ∷ zs)) rest.made;
           }
 
-  positive-lowest_terms : (s z : ℤ) → s ≡ z *ℤ pos g → int_lt (pos 0) s ≡ true → int_lt (pos 0) z ≡ true
-  positive-lowest_terms s z e f = go (int_lt (pos 0) z) refl
+  positive-lowest_multipliers : (s z : ℤ) → s ≡ z *ℤ pos g → int_lt (pos 0) s ≡ true → int_lt (pos 0) z ≡ true
+  positive-lowest_multipliers s z e f = go (int_lt (pos 0) z) refl
     where
       go : (t : Bool) → int_lt (pos 0) z ≡ t → t ≡ true
       go true h = refl
@@ -154,9 +153,9 @@ module _ (g : ℕ) (some : 0 < g) where
 
   -- ---- signs and lengths
 
-  sign-lowest_terms : (kind : Kind) (m n : ℤ) → n *ℤ pos g ≡ m → is_multiplier kind m ≡ true → is_multiplier kind n ≡ true
-  sign-lowest_terms Equal m n e f = refl
-  sign-lowest_terms AtMost m n e f = go (int_le (pos 0) n) refl
+  sign-lowest_multipliers : (kind : Kind) (m n : ℤ) → n *ℤ pos g ≡ m → is_multiplier kind m ≡ true → is_multiplier kind n ≡ true
+  sign-lowest_multipliers Equal m n e f = refl
+  sign-lowest_multipliers AtMost m n e f = go (int_le (pos 0) n) refl
     where
       go : (t : Bool) → int_le (pos 0) n ≡ t → t ≡ true
       go true h = refl
@@ -165,24 +164,24 @@ module _ (g : ℕ) (some : 0 < g) where
           let up : pos 0 ≤ℤ n = *ℤ-≤ℤ (pos 0) n (pos g) (omega (arith, ints, some)) high in
           absurd (omega (arith, ints, up, h))
 
-  signs-lowest_terms : (rows : List Row) (by : List ℤ) → DividesEach g by → list_all (λ (p : Row × ℤ). is_multiplier p.0.kind p.1) (zip rows by) ≡ true
+  signs-lowest_multipliers : (rows : List Row) (by : List ℤ) → DividesEach g by → list_all (λ (p : Row × ℤ). is_multiplier p.0.kind p.1) (zip rows by) ≡ true
       → list_all (λ (p : Row × ℤ). is_multiplier p.0.kind p.1) (zip rows (quotients g by)) ≡ true
-  signs-lowest_terms [] by divides e = refl
-  signs-lowest_terms (row ∷ rows) [] divides e = refl
-  signs-lowest_terms (row ∷ rows) (m ∷ by) divides e =
+  signs-lowest_multipliers [] by divides e = refl
+  signs-lowest_multipliers (row ∷ rows) [] divides e = refl
+  signs-lowest_multipliers (row ∷ rows) (m ∷ by) divides e =
       let both = both_true (is_multiplier row.kind m) (list_all (λ (p : Row × ℤ). is_multiplier p.0.kind p.1) (zip rows by)) e in
       both_are (is_multiplier row.kind (int_div m (pos g))) (list_all (λ (p : Row × ℤ). is_multiplier p.0.kind p.1) (zip rows (quotients g by)))
-      (sign-lowest_terms row.kind m (int_div m (pos g)) (int_div-*ℤ m g divides.0) both.0) (signs-lowest_terms rows by divides.1 both.1)
+      (sign-lowest_multipliers row.kind m (int_div m (pos g)) (int_div-*ℤ m g divides.0) both.0) (signs-lowest_multipliers rows by divides.1 both.1)
 
   length-quotients : (by : List ℤ) → length (quotients g by) ≡ length by
   length-quotients [] = refl
   length-quotients (m ∷ by) = ap suc (length-quotients by)
 
-  multipliers-lowest_terms : (rows : List Row) (by : List ℤ) → DividesEach g by → are_multipliers rows by ≡ true → are_multipliers rows (quotients g by) ≡ true
-  multipliers-lowest_terms rows by divides e =
+  multipliers-lowest_multipliers : (rows : List Row) (by : List ℤ) → DividesEach g by → are_multipliers rows by ≡ true → are_multipliers rows (quotients g by) ≡ true
+  multipliers-lowest_multipliers rows by divides e =
       let both = both_true (length by == length rows) (list_all (λ (p : Row × ℤ). is_multiplier p.0.kind p.1) (zip rows by)) e in
       both_are (length (quotients g by) == length rows) (list_all (λ (p : Row × ℤ). is_multiplier p.0.kind p.1) (zip rows (quotients g by)))
-      (ap (λ n. n == length rows) (length-quotients by) ∙ both.0) (signs-lowest_terms rows by divides both.1)
+      (ap (λ n. n == length rows) (length-quotients by) ∙ both.0) (signs-lowest_multipliers rows by divides both.1)
 
   -- ---- the test
 
@@ -201,12 +200,12 @@ module _ (g : ℕ) (some : 0 < g) where
           → is_positive_constant (form_of numbers rest) ≡ true → tested_yes rows (quotients g by) ≡ Ok true
       whole signs numbers rest u w p =
           let both = both_true (list_all is_zero numbers) (int_lt (pos 0) rest) p in
-          let sums = sums-lowest_terms rows by (columns rows []) numbers divides u both.0 in
-          let constant = sum-lowest_terms constant_in (pos 0) (pos 0) rows by rest divides zero_start w in
-          ap (λ b. cond b (sum_of_multiples rows (quotients g by) (columns rows []) >>= λ form. bool_ok (is_positive_constant form)) (Ok false)) (multipliers-lowest_terms rows by divides signs)
+          let sums = sums-lowest_multipliers rows by (columns rows []) numbers divides u both.0 in
+          let constant = sum-lowest_multipliers constant_in (pos 0) (pos 0) rows by rest divides zero_start w in
+          ap (λ b. cond b (sum_of_multiples rows (quotients g by) (columns rows []) >>= λ form. bool_ok (is_positive_constant form)) (Ok false)) (multipliers-lowest_multipliers rows by divides signs)
           ∙ ap (λ r. (r >>= λ ns. constant_sum rows (quotients g by) >>= λ c. form_ok (form_of ns c)) >>= λ form. bool_ok (is_positive_constant form)) sums.made
           ∙ ap (λ r. (r >>= λ c. form_ok (form_of sums.values c)) >>= λ form. bool_ok (is_positive_constant form)) constant.made
-          ∙ ap bool_ok (both_are (list_all is_zero sums.values) (int_lt (pos 0) constant.value) sums.zero_each (positive-lowest_terms rest constant.value constant.is both.1))
+          ∙ ap bool_ok (both_are (list_all is_zero sums.values) (int_lt (pos 0) constant.value) sums.zero_each (positive-lowest_multipliers rest constant.value constant.is both.1))
 
 -- ---- the greatest common divisor is not 0
 
@@ -238,17 +237,17 @@ some_divisor rows by canonical e = ⊎_elim (λ none. absurd (never (zero_below 
 
 -- ---- together
 
-lowest_terms-is : (by : List ℤ) → 0 < gcd_of_all by → lowest_terms by ≡ quotients (gcd_of_all by) by
-lowest_terms-is by some = ap (λ n. quotients n by) (most (gcd_of_all by) some)
+lowest_multipliers-is : (by : List ℤ) → 0 < gcd_of_all by → lowest_multipliers by ≡ quotients (gcd_of_all by) by
+lowest_multipliers-is by some = ap (λ n. quotients n by) (most (gcd_of_all by) some)
   where
     most : (n : ℕ) → 0 < n → max n 1 ≡ n
     most n h = omega (arith, h)
 
-pub yes-lowest_terms : (rows : List Row) (by : List ℤ) → CanonicalRows rows → tested_yes rows by ≡ Ok true → tested_yes rows (lowest_terms by) ≡ Ok true
-yes-lowest_terms rows by canonical e =
+pub yes-lowest_multipliers : (rows : List Row) (by : List ℤ) → CanonicalRows rows → tested_yes rows by ≡ Ok true → tested_yes rows (lowest_multipliers by) ≡ Ok true
+yes-lowest_multipliers rows by canonical e =
     let some = some_divisor rows by canonical e in
-    ap (tested_yes rows) (lowest_terms-is by some) ∙ yes-quotients (gcd_of_all by) some rows by (DividesEach-gcd_of_all by) e
+    ap (tested_yes rows) (lowest_multipliers-is by some) ∙ yes-quotients (gcd_of_all by) some rows by (DividesEach-gcd_of_all by) e
 
-pub coprime-lowest_terms : (rows : List Row) (by : List ℤ) → CanonicalRows rows → tested_yes rows by ≡ Ok true → gcd_of_all (lowest_terms by) ≡ 1
-coprime-lowest_terms rows by canonical e =
-    let some = some_divisor rows by canonical e in ap gcd_of_all (lowest_terms-is by some) ∙ gcd_of_all-reduced by some
+pub coprime-lowest_multipliers : (rows : List Row) (by : List ℤ) → CanonicalRows rows → tested_yes rows by ≡ Ok true → gcd_of_all (lowest_multipliers by) ≡ 1
+coprime-lowest_multipliers rows by canonical e =
+    let some = some_divisor rows by canonical e in ap gcd_of_all (lowest_multipliers-is by some) ∙ gcd_of_all-reduced by some
