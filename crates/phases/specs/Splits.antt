@@ -1,7 +1,7 @@
 -- The inequalities by which a body may split into phases: those of its rows that read the state
 -- where a turn begins, and their contraries. A polynomial p stands for the inequality p <= 0.
-use Rattle.std.specs.Prelude.{ℕ, pos, List, [], ◌∷◌, take, Option, None, Some, Result, Ok, Err, if◌then◌else◌}
-use Rattle.std.specs.List.{filter_map, flat_map}
+use Rattle.std.specs.Prelude.{ℕ, pos, List, [], ◌∷◌, take, Option, None, Some, Result, Ok, Err, option_to_list, if◌then◌else◌}
+use Rattle.std.specs.List.{flat_map}
 use Rattle.linear_terms.specs.declared.error.TermError.{TermError}
 use Rattle.linear_terms.specs.declared.row.Kind.{Kind}
 use Rattle.linear_terms.specs.declared.row.Kind.TheVariants.{AtMost, Equal}
@@ -41,7 +41,7 @@ normal_polynomial p = polynomial_in (normal_form (inequality p))
 
 -- in normal form; a row at which a step leaves 128 bits offers none
 abbrev pub normal_polynomials : Result (List Polynomial) TermError → List Polynomial
-normal_polynomials (Ok ps) = filter_map normal_polynomial ps
+normal_polynomials (Ok ps) = flat_map (λ p. option_to_list (normal_polynomial p)) ps
 normal_polynomials (Err e) = []
 
 -- the inequalities of a row, if it has entry columns alone

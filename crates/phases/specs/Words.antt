@@ -55,9 +55,13 @@ pub record IsRoomy (depth : ℕ) (body : Transition) (voc : Vocabulary) : Type 0
   pub few_columns : body.to ≤ 63
   pub room : AllByRecursion (λ (case : Case). case.aux + 64 * depth ≤ 1000) body.cases
 
-abbrev pub AreRoomy : ℕ → Vocabulary → Option Halves → Type 0
-AreRoomy depth voc None = Unit {0}
-AreRoomy depth voc (Some found) = IsRoomy depth found.first voc × IsRoomy depth found.second voc
+-- the halves have it, if there are any
+abbrev pub IfFound : (Halves → Type 0) → Option Halves → Type 0
+IfFound R None = Unit {0}
+IfFound R (Some found) = R found
+
+abbrev pub AreRoomy : ℕ → Vocabulary → Halves → Type 0
+AreRoomy depth voc found = IsRoomy depth found.first voc × IsRoomy depth found.second voc
 
 -- two formulas over the columns of a vocabulary, small enough to go on with
 pub record AreInTurn (voc : Vocabulary) (a b : Transition) : Type 0 where

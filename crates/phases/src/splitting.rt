@@ -1,5 +1,5 @@
 ghost use Rattle.std.specs.Prelude.{◌≡◌, IfOk, OnOk, option_to_list};
-ghost use Rattle.std.specs.List.{filter_map, flat_map};
+ghost use Rattle.std.specs.List.{flat_map};
 ghost use Rattle.items.specs.Gives.{Gives};
 ghost use Rattle.linear_terms.specs.TermError.{cause};
 ghost use Rattle.linear_terms.specs.Expressions.{Made};
@@ -67,7 +67,8 @@ fn add_offers(alloc: Global, row: &Row, made: &mut Items<Poly>) -> Result<(), Al
 /// Adds inequalities in normal form.
 fn add_normal(alloc: Global, polys: &[Poly], made: &mut Items<Poly>) -> Result<(), AllocError>
     ensures { OnOk result
-        (made.new ≡ with_splits made.old (filter_map normal_polynomial polys.now)) }
+        (made.new
+        ≡ with_splits made.old (flat_map (λ p. option_to_list (normal_polynomial p)) polys.now)) }
 {
     for poly in polys {
         add_split(alloc, poly, made)?;
