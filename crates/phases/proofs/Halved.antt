@@ -19,7 +19,7 @@ use Rattle.polyhedra.proofs.Settled.{settled_cases-fit}
 use Rattle.recurrence.specs.Law.{IsStarred}
 use Rattle.recurrence.proofs.Starred.{always_both}
 use Rattle.phases.specs.declared.halving.Halves.{Halves}
-use Rattle.phases.specs.Phases.{body_where, case_where, cases_exclude, first_halves, halves, halves_by, halves_if, halves_of, has_cases, is_apart, or_next, split, turns_where, with_first}
+use Rattle.phases.specs.Phases.{body_where, case_where, cases_exclude, first_halves, halves_at, halves_by, halves_if, halves_of, has_cases, is_apart, or_next, split, turns_where, with_first}
 use Rattle.phases.specs.Splits.{contrary, splits}
 use Rattle.phases.specs.Words.{AreExcludable, AreRoomy, IfFound, IsExcludable, IsHalvable, IsOverEntries, IsRoomy, IsSplittable}
 use Rattle.phases.proofs.BodiesWhere.{HoldsWhere, IsTrueAt, case-fits, contrary-true, truth-decided, turns_where-holds, where-canonical, where-fits}
@@ -112,24 +112,24 @@ module _ (body : Transition) (R : Halves → Type 0) where
     pub both-halves : Always (IfFound R) (turns_where q body >>= with_first body p q)
     both-halves = always_bind First (IfFound R) (turns_where q body) (with_first body p q) first_has with_first-has
 
-  pub halves-have : (p : Polynomial) → ((q : Polynomial) → contrary p ≡ Ok q → Always (IfFound R) (turns_where q body >>= with_first body p q)) → Always (IfFound R) (halves body p)
-  unfolding halves
+  pub halves-have : (p : Polynomial) → ((q : Polynomial) → contrary p ≡ Ok q → Always (IfFound R) (turns_where q body >>= with_first body p q)) → Always (IfFound R) (halves_at body p)
+  unfolding halves_at
   halves-have p h = go (contrary p) refl
     where
       go : (m : Made) → contrary p ≡ m → Always (IfFound R) (halves_by body p m)
       go (Ok q) e = h q e
       go (Err x) e = tt
 
-  first_halves-have : (ps : List Polynomial) → AllByRecursion (λ p. Always (IfFound R) (halves body p)) ps → Always (IfFound R) (first_halves body ps)
+  first_halves-have : (ps : List Polynomial) → AllByRecursion (λ p. Always (IfFound R) (halves_at body p)) ps → Always (IfFound R) (first_halves body ps)
   first_halves-have [] h = tt
   first_halves-have (p ∷ ps) h =
-      always_bind (IfFound R) (IfFound R) (halves body p) (λ found. or_next found (first_halves body ps)) h.0 (λ found k. go found k (first_halves-have ps h.1))
+      always_bind (IfFound R) (IfFound R) (halves_at body p) (λ found. or_next found (first_halves body ps)) h.0 (λ found k. go found k (first_halves-have ps h.1))
     where
       go : (found : Option Halves) → IfFound R found → Always (IfFound R) (first_halves body ps) → Always (IfFound R) (or_next found (first_halves body ps))
       go None k rest = rest
       go (Some found) k rest = k
 
-  pub split-has : AllByRecursion (λ p. Always (IfFound R) (halves body p)) (splits body) → Always (IfFound R) (split body)
+  pub split-has : AllByRecursion (λ p. Always (IfFound R) (halves_at body p)) (splits body) → Always (IfFound R) (split body)
   unfolding split
   split-has h = go (nat_lt (length body.cases) 2)
     where
@@ -188,7 +188,7 @@ module _ (depth : ℕ) (voc : Vocabulary) (body : Transition) (is : IsRoomy (suc
   pub split-roomy : Always (IfFound (AreRoomy depth voc)) (split body)
   split-roomy =
       split-has body (AreRoomy depth voc)
-      (each-more (IsOverEntries body.from) (λ p. Always (IfFound (AreRoomy depth voc)) (halves body p))
+      (each-more (IsOverEntries body.from) (λ p. Always (IfFound (AreRoomy depth voc)) (halves_at body p))
       (λ p over. halves-have body (AreRoomy depth voc) p (λ q e.
       both-halves body (AreRoomy depth voc) p q (λ g. IsRoomy depth g voc) (λ g. IsRoomy depth g voc) (turns-roomy q (contrary-over body.from p q e over)) (turns-roomy p over)
       (λ first second h k. always_any (λ (b : Bool). IsTrue b → AreRoomy depth voc (record { first = first; second = second })) (cases_exclude q second.cases) (λ b told. (h, k))))) (splits body) (splits-over body))
@@ -244,6 +244,6 @@ module _ (body : Transition) (is : IsSplittable body) (canonical : IsCanonicalFo
   pub split-true : Always (IfFound (AreTrueHalves body)) (split body)
   split-true =
       split-has body (AreTrueHalves body)
-      (each-more (λ p. IsOverEntries body.from p × IsInForm p) (λ p. Always (IfFound (AreTrueHalves body)) (halves body p))
+      (each-more (λ p. IsOverEntries body.from p × IsInForm p) (λ p. Always (IfFound (AreTrueHalves body)) (halves_at body p))
       (λ p k. halves-have body (AreTrueHalves body) p (λ q e. halves-true p q e k.0 k.1)) (splits body)
       (each-both (IsOverEntries body.from) IsInForm (splits body) (splits-over body) (splits-in_form body canonical)))

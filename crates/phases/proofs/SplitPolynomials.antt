@@ -56,7 +56,7 @@ module _ (Q : Polynomial → Type 0) (steps : Steps Q) where
   offers-keep : (kind : Kind) (p : Polynomial) → Q p → (ps : List Polynomial) → offers kind p ≡ Ok ps → AllByRecursion Q ps
   offers-keep AtMost p h ps e = all_of-keeps (Ok p ∷ contrary p ∷ []) ((λ q f. let same : p ≡ q = cc in subst Q same h), (λ q f. contrary-keeps p q f h), tt) ps e
   offers-keep Equal p h ps e =
-      all_of-keeps (Ok p ∷ contrary p ∷ turned (Ok p) ∷ Ok p ⊞ whole (pos 1) ∷ [])
+      all_of-keeps (Ok p ∷ contrary p ∷ turned (Ok p) ∷ (Ok p ⊞ whole (pos 1)) ∷ [])
       ((λ q f. let same : p ≡ q = cc in subst Q same h), (λ q f. contrary-keeps p q f h), (λ q f. steps.turns p q f h), (λ q f. steps.adds p q f h), tt) ps e
 
   normal-keeps : (p : Polynomial) → Q p → AllByRecursion Q (option_to_list (normal_polynomial p))

@@ -90,11 +90,8 @@ module _ (depth : ℕ) (body : Transition) (voc : Vocabulary) (is : IsRoomy dept
 -- ---- one formula and then another
 
 module _ (voc : Vocabulary) (a b : Transition) (is : AreInTurn voc a b) where
-  meet : a.to ≡ b.from
+  pub meet : a.to ≡ b.from
   meet = is.first.to_is ∙ sym is.second.from_is
-
-  pub both-meet : a.to ≡ b.from
-  both-meet = meet
 
   abbrev sequence : Transition
   sequence = sequence_of a b
@@ -136,7 +133,7 @@ module _ (voc : Vocabulary) (a b : Transition) (is : AreInTurn voc a b) where
     pub to_is : g.to ≡ voc.columns
     pub fit : IsTransition voc.columns voc.columns g.cases
 
-  sequence-settled : Always IsSettled (settled sequence)
+  pub sequence-settled : Always IsSettled (settled sequence)
   unfolding settled
   sequence-settled =
       always_bind (IsTransition voc.columns voc.columns) IsSettled (settled_cases sequence.cases) (λ cases. Done record { from = a.from; to = b.to; cases = cases })
@@ -152,9 +149,6 @@ module _ (voc : Vocabulary) (a b : Transition) (is : AreInTurn voc a b) where
     from_is = is.vocabulary;
     to_is = is.vocabulary;
   }
-
-  pub sequence-is_settled : Always IsSettled (settled sequence)
-  sequence-is_settled = sequence-settled
 
   small-phased : (g h : Transition) → IsSettled g → IsSmall g h → IsPhased voc.columns h
   small-phased g h k small = record {
@@ -235,7 +229,7 @@ phased-true (suc depth) voc body is canonical =
               wide.0 first _ (halves-sequence body l.by found.first found.second l.halves a b
               (start-is depth found.first voc k.0 ∙ sym (start-is (suc depth) body voc is))
               (h.0.to_is ∙ sym (start-is depth found.second voc k.1))
-              (both-meet voc a b both_are) (phased-fits voc.columns a h.0) (phased-fits voc.columns b m.0) h.1.0 m.1.0 first more long chain)),
+              (meet voc a b both_are) (phased-fits voc.columns a h.0) (phased-fits voc.columns b m.0) h.1.0 m.1.0 first more long chain)),
           wide.1,
         ))
         (in_turn-wider voc a b both_are h.1.1)))

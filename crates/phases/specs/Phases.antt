@@ -94,7 +94,7 @@ halves_if first second false = None
 unfoldable pub halves_of : Transition → Polynomial → Transition → Transition
     → Posing (Option Halves)
 halves_of body q first second = if is_apart body first second
-    then cases_exclude q second.cases >>= λ excluded. Done (halves_if first second excluded)
+    then (cases_exclude q second.cases >>= λ excluded. Done (halves_if first second excluded))
     else Done None
 
 unfoldable pub with_first : Transition → Polynomial → Polynomial → Transition
@@ -108,8 +108,8 @@ halves_by body p (Err e) = Done None
 
 -- by p <= 0: the turns that begin where it is false, and those that begin where it is true. A
 -- split whose contrary leaves 128 bits falls
-unfoldable pub halves : Transition → Polynomial → Posing (Option Halves)
-halves body p = halves_by body p (contrary p)
+unfoldable pub halves_at : Transition → Polynomial → Posing (Option Halves)
+halves_at body p = halves_by body p (contrary p)
 
 abbrev pub or_next : Option Halves → Posing (Option Halves) → Posing (Option Halves)
 or_next None rest = rest
@@ -118,7 +118,7 @@ or_next (Some found) rest = Done (Some found)
 -- the halves of the first split that stands
 abbrev pub first_halves : Transition → List Polynomial → Posing (Option Halves)
 first_halves body [] = Done None
-first_halves body (p ∷ ps) = halves body p >>= λ found. or_next found (first_halves body ps)
+first_halves body (p ∷ ps) = halves_at body p >>= λ found. or_next found (first_halves body ps)
 
 -- a body of one case is not split
 unfoldable pub split : Transition → Posing (Option Halves)

@@ -28,7 +28,7 @@ contrary p = turned (Ok p) ⊞ whole (pos 1)
 -- contrary
 abbrev pub offers : Kind → Polynomial → Result (List Polynomial) TermError
 offers AtMost p = all_of (Ok p ∷ contrary p ∷ [])
-offers Equal p = all_of (Ok p ∷ contrary p ∷ turned (Ok p) ∷ Ok p ⊞ whole (pos 1) ∷ [])
+offers Equal p = all_of (Ok p ∷ contrary p ∷ turned (Ok p) ∷ (Ok p ⊞ whole (pos 1)) ∷ [])
 
 -- the polynomial of a row in normal form; none where the row is constant
 abbrev pub polynomial_in : Result Normal TermError → Option Polynomial

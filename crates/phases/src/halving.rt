@@ -1,4 +1,4 @@
-ghost use Rattle.std.specs.Prelude.{◌≡◌, Ok, Some, IfOk};
+ghost use Rattle.std.specs.Prelude.{◌≡◌, map, Ok, Some, IfOk};
 ghost use Rattle.std.specs.List.{AllByRecursion};
 ghost use Rattle.items.specs.Gives.{Gives};
 ghost use Rattle.linear_terms.specs.TermError.{cause};
@@ -9,7 +9,7 @@ ghost use Rattle.transition_formula.specs.Transition.{IsSolvable};
 ghost use Rattle.posing.specs.Follows.{Follows};
 ghost use Rattle.posing.specs.Logs.{Adds, loss_notes};
 ghost use Rattle.polyhedra.specs.Infeasibility.{is_yes};
-ghost use Rattle.phases.specs.Phases.{body_where, case_excludes, case_excludes_by, case_where, cases_exclude, first_halves, halves, halves_by, halves_if, halves_of, has_cases, is_apart, is_as_long, order_excludes, rows_exclude, split, turns_where, with_first};
+ghost use Rattle.phases.specs.Phases.{body_where, case_excludes, case_excludes_by, case_where, cases_exclude, first_halves, halves_at, halves_by, halves_if, halves_of, has_cases, is_apart, is_as_long, order_excludes, rows_exclude, split, turns_where, with_first};
 ghost use Rattle.phases.specs.Words.{AreExcludable, IsExcludable, IsHalvable, IsOverEntries, IsSplittable};
 
 use crate::splitting::{contrary, inequality, splits};
@@ -60,7 +60,7 @@ fn first_halves<O: Oracle>(
         (first_halves body.now tried.now) }
 {
     for poly in tried {
-        let found = halves(alloc, body, poly, oracle, log)?;
+        let found = halves_at(alloc, body, poly, oracle, log)?;
         if found.is_some() {
             return Ok(found);
         }
@@ -69,8 +69,8 @@ fn first_halves<O: Oracle>(
 }
 
 /// The halves by `poly <= 0`, if it is a split that stands.
-#[tactic(auto, using(posing::proofs::Following::following), unfolding(crate::specs::Phases::halves))]
-fn halves<O: Oracle>(
+#[tactic(auto, using(posing::proofs::Following::following), unfolding(crate::specs::Phases::halves_at))]
+fn halves_at<O: Oracle>(
     alloc: Global,
     body: &Formula,
     poly: &Poly,
@@ -79,7 +79,7 @@ fn halves<O: Oracle>(
 ) -> Result<Option<Halves>, WorkError>
     requires { IsHalvable body.now poly.now }
     ensures { Follows O.asking oracle.old oracle.new log.old log.new result
-        (halves body.now poly.now) }
+        (halves_at body.now poly.now) }
 {
     match contrary(alloc, poly) {
         Ok(opposite) => halves_by(alloc, body, poly, &opposite, oracle, log),
@@ -202,11 +202,18 @@ fn body_where(alloc: Global, body: &Formula, poly: &Poly) -> Result<Formula, All
     requires { IsHalvable body.now poly.now }
     ensures { IfOk result (λ f. f ≡ body_where poly.now body.now) }
 {
-    let mut cases = Items::new(alloc);
-    for case in body.cases() {
-        cases.push(case_where(case, poly)?)?;
-    }
+    let cases = cases_where(alloc, body.cases(), poly)?;
     Ok(Formula::from_cases(body.from(), body.to(), cases))
+}
+
+fn cases_where(alloc: Global, cases: &[Case], poly: &Poly) -> Result<Items<Case>, AllocError>
+    ensures { IfOk result (λ made. made ≡ map (case_where poly.now) cases.now) }
+{
+    let mut made = Items::new(alloc);
+    for case in cases {
+        made.push(case_where(case, poly)?)?;
+    }
+    Ok(made)
 }
 
 fn case_where(case: &Case, poly: &Poly) -> Result<Case, AllocError>

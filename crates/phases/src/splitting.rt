@@ -8,7 +8,7 @@ ghost use Rattle.phases.specs.Splits.{contrary, inequality, normal_polynomial, n
 ghost use Rattle.phases.specs.Words.{is_new, with_split, with_splits};
 
 use items::Items;
-use linear_terms::{Kind, Normal, Poly, Row, TermError, add, normal, scale};
+use linear_terms::{Case, Kind, Normal, Poly, Row, TermError, add, normal, scale};
 use std::alloc::{AllocError, Global};
 use transition_formula::Formula;
 
@@ -22,10 +22,25 @@ pub(crate) fn splits(alloc: Global, body: &Formula) -> Result<Items<Poly>, Alloc
     ensures { IfOk result (λ ps. ps ≡ splits body.now) }
 {
     let mut made = Items::new(alloc);
-    for case in body.cases() {
-        add_splits(alloc, body.from(), case.rows.as_slice(), &mut made)?;
-    }
+    add_all(alloc, body.from(), body.cases(), &mut made)?;
     Ok(made)
+}
+
+/// Adds those of cases.
+fn add_all(
+    alloc: Global,
+    from: u32,
+    cases: &[Case],
+    made: &mut Items<Poly>,
+) -> Result<(), AllocError>
+    ensures { OnOk result
+        (made.new
+        ≡ with_splits made.old (flat_map (λ case. flat_map (splits_of from) case.rows) cases.now)) }
+{
+    for case in cases {
+        add_splits(alloc, from, case.rows.as_slice(), made)?;
+    }
+    Ok(())
 }
 
 /// Adds those of the rows of a case.
@@ -38,11 +53,24 @@ fn add_splits(
     ensures { OnOk result (made.new ≡ with_splits made.old (flat_map (splits_of from) rows.now)) }
 {
     for row in rows {
-        if is_over_entries(from, &row.poly) {
-            add_offers(alloc, row, made)?;
-        }
+        add_row(alloc, from, row, made)?;
     }
     Ok(())
+}
+
+/// Adds those of a row, if it has entry columns alone.
+fn add_row(
+    alloc: Global,
+    from: u32,
+    row: &Row,
+    made: &mut Items<Poly>,
+) -> Result<(), AllocError>
+    ensures { OnOk result (made.new ≡ with_splits made.old (splits_of from row.now)) }
+{
+    if !is_over_entries(from, &row.poly) {
+        return Ok(());
+    }
+    add_offers(alloc, row, made)
 }
 
 fn is_over_entries(from: u32, poly: &Poly) -> bool
@@ -51,11 +79,11 @@ fn is_over_entries(from: u32, poly: &Poly) -> bool
     poly.is_covered(from as usize, 0)
 }
 
-/// Adds those of a row.
+/// Adds what a row offers.
 fn add_offers(alloc: Global, row: &Row, made: &mut Items<Poly>) -> Result<(), AllocError>
     ensures { OnOk result
         (made.new
-        ≡ with_splits made.old (normal_polynomials (offers row.kind.now row.poly.now))) }
+        ≡ with_splits made.old (normal_polynomials (offers row.now.kind row.now.poly))) }
 {
     match offers(alloc, row) {
         Ok(polys) => add_normal(alloc, polys.as_slice(), made),
@@ -78,7 +106,7 @@ fn add_normal(alloc: Global, polys: &[Poly], made: &mut Items<Poly>) -> Result<(
 
 /// An inequality and its contrary, or both halves of an equation and theirs.
 fn offers(alloc: Global, row: &Row) -> Result<Items<Poly>, TermError>
-    ensures { Gives cause (λ ps. ps) result (offers row.kind.now row.poly.now) }
+    ensures { Gives cause (λ ps. ps) result (offers row.now.kind row.now.poly) }
 {
     let mut made = Items::new(alloc);
     made.push(row.poly.clone()?)?;
