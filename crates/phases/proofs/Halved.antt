@@ -156,15 +156,15 @@ contrary-over from p q e over = contrary-keeps (IsOverEntries from) (column-step
 
 -- ---- halves have room for halves of their own
 
-module _ (depth : ℕ) (voc : Vocabulary) (body : Transition) (is : IsRoomy (suc depth) body voc) where
-  pub roomy-splittable : IsSplittable body
-  roomy-splittable = record {
-    fits = is.starred.body_fits;
-    same_ends = is.starred.same_ends;
-    few_columns = is.few_columns;
-    few = each-more (λ (case : Case). case.aux + 64 * suc depth ≤ 1000) (λ (case : Case). case.aux ≤ 1000) (λ case k. omega (arith, k)) body.cases is.room;
-  }
+pub roomy-splittable : (depth : ℕ) (voc : Vocabulary) (body : Transition) → IsRoomy depth body voc → IsSplittable body
+roomy-splittable depth voc body is = record {
+  fits = is.starred.body_fits;
+  same_ends = is.starred.same_ends;
+  few_columns = is.few_columns;
+  few = each-more (λ (case : Case). case.aux + 64 * depth ≤ 1000) (λ (case : Case). case.aux ≤ 1000) (λ case k. omega (arith, k)) body.cases is.room;
+}
 
+module _ (depth : ℕ) (voc : Vocabulary) (body : Transition) (is : IsRoomy (suc depth) body voc) where
   half-roomy : (g : Transition) → IsHalf (64 * depth) 1000 body g → IsRoomy depth g voc
   half-roomy g half = record {
     starred = record {
@@ -181,7 +181,7 @@ module _ (depth : ℕ) (voc : Vocabulary) (body : Transition) (is : IsRoomy (suc
   turns-roomy : (p : Polynomial) → IsOverEntries body.from p → Always (λ g. IsRoomy depth g voc) (turns_where p body)
   turns-roomy p over =
       always_weaker (IsHalf (64 * depth) 1000 body) (λ g. IsRoomy depth g voc) (turns_where p body) half-roomy
-      (turns_where-half (64 * depth) 1000 body p (record { splittable = roomy-splittable; over = over })
+      (turns_where-half (64 * depth) 1000 body p (record { splittable = roomy-splittable (suc depth) voc body is; over = over })
       (each-more (λ (case : Case). case.aux + 64 * suc depth ≤ 1000) (λ (case : Case). case.aux + (body.to + 64 * depth) ≤ 1000)
       (λ case k. let columns = is.few_columns in omega (arith, k, columns)) body.cases is.room))
 

@@ -38,10 +38,10 @@ use Rattle.phases.specs.Words.{IsOverEntries, with_split, with_splits}
 
 -- ---- a property that the steps to an inequality keep
 
-record Steps (Q : Polynomial → Type 0) : Type 0 where
-  turns : (p q : Polynomial) → turned (Ok p) ≡ Ok q → Q p → Q q
-  adds : (p q : Polynomial) → Ok p ⊞ whole (pos 1) ≡ Ok q → Q p → Q q
-  norms : (p q : Polynomial) → normal_polynomial p ≡ Some q → Q p → Q q
+pub record Steps (Q : Polynomial → Type 0) : Type 0 where
+  pub turns : (p q : Polynomial) → turned (Ok p) ≡ Ok q → Q p → Q q
+  pub adds : (p q : Polynomial) → Ok p ⊞ whole (pos 1) ≡ Ok q → Q p → Q q
+  pub norms : (p q : Polynomial) → normal_polynomial p ≡ Some q → Q p → Q q
 
 module _ (Q : Polynomial → Type 0) (steps : Steps Q) where
   pub contrary-keeps : (p q : Polynomial) → contrary p ≡ Ok q → Q p → Q q
@@ -54,10 +54,10 @@ module _ (Q : Polynomial → Type 0) (steps : Steps Q) where
       on_ok (all_of ms) (λ qs. Ok (p ∷ qs)) ps g (λ qs k l. let same : p ∷ qs ≡ ps = cc in subst (AllByRecursion Q) same (h.0 p f, all_of-keeps ms h.1 qs k)))
 
   offers-keep : (kind : Kind) (p : Polynomial) → Q p → (ps : List Polynomial) → offers kind p ≡ Ok ps → AllByRecursion Q ps
-  offers-keep AtMost p h ps e = all_of-keeps (Ok p ∷ contrary p ∷ []) ((λ q f. let same : p ≡ q = cc in subst Q same h), (λ q f. contrary-keeps p q f h), tt) ps e
+  offers-keep AtMost p h ps e = all_of-keeps (Ok p ∷ contrary p ∷ []) ((λ q f. let same : p ≡ q = cc in subst Q same h), ((λ q f. contrary-keeps p q f h), tt)) ps e
   offers-keep Equal p h ps e =
       all_of-keeps (Ok p ∷ contrary p ∷ turned (Ok p) ∷ (Ok p ⊞ whole (pos 1)) ∷ [])
-      ((λ q f. let same : p ≡ q = cc in subst Q same h), (λ q f. contrary-keeps p q f h), (λ q f. steps.turns p q f h), (λ q f. steps.adds p q f h), tt) ps e
+      ((λ q f. let same : p ≡ q = cc in subst Q same h), ((λ q f. contrary-keeps p q f h), ((λ q f. steps.turns p q f h), ((λ q f. steps.adds p q f h), tt)))) ps e
 
   normal-keeps : (p : Polynomial) → Q p → AllByRecursion Q (option_to_list (normal_polynomial p))
   normal-keeps p h = go (normal_polynomial p) refl

@@ -204,23 +204,24 @@ star-true : (depth : ℕ) (body : Transition) (voc : Vocabulary) → IsRoomy dep
 star-true depth body voc is =
     always_both (HoldsOfChains body) IsCanonicalFormula (star_of body voc) (star-holds-of-chains body voc is.starred) (star-canonical body voc (directions-canonical voc is.starred.vocabulary))
 
+-- and small enough to go on with
+abbrev IsBoth : ℕ → Transition → Transition → Type 0
+IsBoth n half g = IsPhased n g × IsTrueOf half g
+
 phased-true : (depth : ℕ) (voc : Vocabulary) (body : Transition) → IsRoomy depth body voc → IsCanonicalFormula body → Always (IsTrueOf body) (phased depth voc body)
 phased-true zero voc body is canonical = star-true zero body voc is
 phased-true (suc depth) voc body is canonical =
     always_bind (λ found. IfFound (AreRoomy depth voc) found × IfFound (AreTrueHalves body) found) (IsTrueOf body) (split body) (phased_by (phased depth voc) voc body)
-    (always_both (IfFound (AreRoomy depth voc)) (IfFound (AreTrueHalves body)) (split body) (split-roomy depth voc body is) (split-true body (roomy-splittable depth voc body is) canonical))
+    (always_both (IfFound (AreRoomy depth voc)) (IfFound (AreTrueHalves body)) (split body) (split-roomy depth voc body is) (split-true body (roomy-splittable (suc depth) voc body is) canonical))
     (λ found k. go found k.0 k.1 (phased-true depth voc))
   where
-    abbrev IsBoth : Transition → Transition → Type 0
-    IsBoth half g = IsPhased voc.columns g × IsTrueOf half g
-
     go : (found : Option Halves) → IfFound (AreRoomy depth voc) found → IfFound (AreTrueHalves body) found
         → ((g : Transition) → IsRoomy depth g voc → IsCanonicalFormula g → Always (IsTrueOf g) (phased depth voc g)) → Always (IsTrueOf body) (phased_by (phased depth voc) voc body found)
     go None k l ih = star-true (suc depth) body voc is
     go (Some found) k l ih =
-        always_bind (IsBoth found.first) (IsTrueOf body) (phased depth voc found.first) (λ a. phased depth voc found.second >>= λ b. in_turn voc a b)
+        always_bind (IsBoth voc.columns found.first) (IsTrueOf body) (phased depth voc found.first) (λ a. phased depth voc found.second >>= λ b. in_turn voc a b)
         (always_both (IsPhased voc.columns) (IsTrueOf found.first) (phased depth voc found.first) (phased-small depth voc found.first k.0) (ih found.first k.0 l.first_canonical)) (λ a h.
-        always_bind (IsBoth found.second) (IsTrueOf body) (phased depth voc found.second) (λ b. in_turn voc a b)
+        always_bind (IsBoth voc.columns found.second) (IsTrueOf body) (phased depth voc found.second) (λ b. in_turn voc a b)
         (always_both (IsPhased voc.columns) (IsTrueOf found.second) (phased depth voc found.second) (phased-small depth voc found.second k.1) (ih found.second k.1 l.second_canonical)) (λ b m.
         let both_are = in_turn-ready (suc depth) voc body a b is h.0 m.0 in
         always_weaker (IsWider voc a b both_are) (IsTrueOf body) (in_turn voc a b)

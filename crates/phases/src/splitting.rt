@@ -1,8 +1,8 @@
 ghost use Rattle.std.specs.Prelude.{◌≡◌, IfOk, OnOk, option_to_list};
-ghost use Rattle.std.specs.List.{flat_map};
+ghost use Rattle.std.specs.List.{flat_map, list_any};
 ghost use Rattle.items.specs.Gives.{Gives};
 ghost use Rattle.linear_terms.specs.TermError.{cause};
-ghost use Rattle.linear_terms.specs.Expressions.{Made};
+ghost use Rattle.linear_terms.specs.Equality.{poly_eq};
 ghost use Rattle.transition_formula.specs.Transition.{every_column, is_below};
 ghost use Rattle.phases.specs.Splits.{contrary, inequality, normal_polynomial, normal_polynomials, offers, splits, splits_of};
 ghost use Rattle.phases.specs.Words.{is_new, with_split, with_splits};
@@ -175,5 +175,11 @@ pub(crate) fn inequality(poly: &Poly) -> Result<Row, AllocError>
 fn is_new(made: &[Poly], poly: &Poly) -> bool
     ensures { result ≡ is_new made.now poly.now }
 {
-    made.len() < MOST_SPLITS && !made.iter().any(|other| poly.same(other))
+    made.len() < MOST_SPLITS && !is_known(made, poly)
+}
+
+fn is_known(made: &[Poly], poly: &Poly) -> bool
+    ensures { result ≡ list_any (poly_eq poly.now) made.now }
+{
+    made.iter().any(|known| *poly == *known)
 }
