@@ -1,0 +1,18 @@
+-- ---- the laws of phases
+pub mod Whole
+-- the halves of a split
+pub mod Halved
+-- turns of one half, and then of the other
+pub mod Chains
+-- no turn of the second half ends in the first
+pub mod Exclusions
+-- turns that begin where an inequality is true
+pub mod BodiesWhere
+-- the inequalities of a body
+pub mod SplitPolynomials
+-- ---- what settled cases keep
+pub mod SettledRoom
+-- rows stay canonical, whatever the answers
+pub mod CanonicalOrder
+pub mod CanonicalStars
+pub mod CanonicalForms

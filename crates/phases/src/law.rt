@@ -1,0 +1,9 @@
+ghost use Rattle.phases.specs.Law.{PhasesHold, PhasesFit};
+
+/// Phases hold of every repetition of their body, whatever true answers are given, and are a
+/// formula over the body's columns with at most 16 cases, each of at most 64 rows and 64
+/// auxiliaries. It does nothing when it runs.
+pub fn law_of_phases()
+    ensures holds { PhasesHold }
+    ensures fits { PhasesFit }
+{}
