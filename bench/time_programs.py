@@ -1,9 +1,9 @@
 #!/usr/bin/env python3
 """Times the built program on the texts of `bench/texts`, and on made texts that grow: chains of procedures with nested loops, one
 loop over more and more variables that branches, loops one behind the other, loops inside each other, recursion over more and more
-globals, and procedures of many locals with loops of many branches. For each text: its lines, the cost of `analyse`, of `certify`
-and of `check` of what that printed, and the number of answers. Where a made text has twice the size of one before it, the growth
-of the three costs is told as an exponent: 1 is linear, 2 quadratic.
+globals, a ring of procedures each of which calls the next one, and procedures of many locals with loops of many branches. For each
+text: its lines, the cost of `analyse`, of `certify` and of `check` of what that printed, and the number of answers. Where a made
+text has twice the size of one before it, the growth of the three costs is told as an exponent: 1 is linear, 2 quadratic.
 
 usage: time_programs.py [--instructions] [--only NAME] PROGRAM
 
@@ -55,6 +55,12 @@ def recursion(count):
     return text + f"int main(void) {{ f{procedures - 1}(__VERIFIER_nondet_int()); assert(g0 >= 0); }}\n"
 
 
+def ring(count):
+    text = "int g;\n" + "".join(f"void f{k}(void);\n" for k in range(1, count))
+    text += "".join(f"void f{k}(void) {{ if (g > 0) {{ g = g - 1; f{k % (count - 1) + 1}(); }} }}\n" for k in range(1, count))
+    return text + "int main(void) { f1(); assert(g <= 0); }\n"
+
+
 def locals_(count):
     text = ""
     for k in range(count):
@@ -71,7 +77,7 @@ def locals_(count):
 
 MADE = [("chain", chain, (1, 2, 4, 8, 16, 32, 64)), ("variables", variables, (2, 4, 8, 12, 16)), ("loops", loops, (5, 10, 20, 40)),
         ("nested", nested, (2, 4, 6, 8, 10)), ("recursion", recursion, (2, 4, 8, 12, 16)),
-        ("locals", locals_, (1, 2, 4))]
+        ("ring", ring, (16, 32, 64, 128, 256)), ("locals", locals_, (1, 2, 4))]
 TEXTS = os.path.join(os.path.dirname(os.path.abspath(__file__)), "texts")
 
 

@@ -47,6 +47,8 @@ int g | ,g# | ; int main(void) {} |  |  | 16 | refused many globals at 1:58
  | void f#(void) {assert(1);assert(1);assert(1);assert(1);assert(1);assert(1);assert(1);assert(1);}  | int main(void) { assert(1); |  | } | 128 | refused many assertions at 1:12582
 int main(void) {~ |   int v#;~ |  |  | }~ | 24 | procedure main~case 1~  $ret = $1~total 0 proved, 0 unproved
 int main(void) {~ |   int v#;~ |  |  | }~ | 25 | refused many slots at 26:7
+int main(void) {} void f(int a, int b, int c, int d, int e, int g, int h, int i) { |  int v#; |  |  | } | 16 | procedure main~case 1~  $ret = $1~procedure f~case 1~total 0 proved, 0 unproved
+int main(void) {} void f(int a, int b, int c, int d, int e, int g, int h, int i) { |  int v#; |  |  | } | 17 | refused many slots at 1:223
 int f(void) { return 1; } int main(void) { return 0 | +f() |  |  | ;} | 24 | total 0 proved, 0 unproved
 int f(void) { return 1; } int main(void) { return 0 | +f() |  |  | ;} | 25 | refused many slots at 1:149
 int main(void) { int x; | x = 1; |  |  | } | 509 | procedure main~case 1~  $ret = $1~total 0 proved, 0 unproved
