@@ -28,7 +28,6 @@ use std::alloc::{AllocError, Global};
 /// What a case of a supremum question comes to, with no more turns a raise than the budget, and
 /// where it ended. It begins where the last one ended, if that was over the same rows, and else at
 /// the frame of the rows.
-#[tactic(auto, using(crate::proofs::OwnColumns::case_columns))]
 pub(crate) fn next_supremum(
     alloc: Global,
     goal: &Goal,
