@@ -14,12 +14,11 @@ use Rattle.report.specs.declared.blocks.Judged.{Judged}
 use Rattle.report.specs.declared.blocks.Report.{Report}
 use Rattle.report.specs.Claims.{ReportCovers}
 use Rattle.analysis.specs.declared.found.Found.{Found}
-use Rattle.analysis.specs.declared.parts.Part.{Part}
 use Rattle.analysis.specs.declared.places.TextPlace.{TextPlace}
 use Rattle.analysis.specs.declared.planning.Planned.{Planned}
 use Rattle.analysis.specs.Analysis.{analysed, blocks_by, ended_by, report_by}
 use Rattle.analysis.specs.Apart.{apart}
-use Rattle.analysis.specs.Claims.{AreTheirPlaces, FitsFound, FitsGroup, FoundIsMet, GroupIsMet, IsLeft}
+use Rattle.analysis.specs.Claims.{AreTheirPlaces, FitsFound, FoundIsMet, IsLeft}
 use Rattle.analysis.specs.Found.{flows_in, found_by, nothing_found, with_group, with_part}
 use Rattle.analysis.specs.Judging.{judged_by}
 use Rattle.analysis.specs.Parts.{part_of}
@@ -27,7 +26,7 @@ use Rattle.analysis.specs.Plan.{IsPlan}
 use Rattle.analysis.proofs.Covering.{always-judged_by}
 use Rattle.analysis.proofs.Ending.{blocks-all, blocks-fit, blocks-met}
 use Rattle.analysis.proofs.Finding.{found-fits, found-has, found-met, left-all, left-next, left-ready, nothing-fits, nothing-left, nothing-met}
-use Rattle.analysis_laws.specs.Laws.{FoundIsWhole, IsWhole, ReportedSummariesHold, ReportsCover, SummariesHold}
+use Rattle.analysis_laws.specs.Laws.{FoundIsWhole, IsFinePart, IsWhole, ReportedSummariesHold, ReportsCover, SummariesHold}
 use Rattle.analysis_laws.proofs.GroupParts.{part-fine, under-any}
 
 -- ---- what is found
@@ -43,13 +42,13 @@ module _ (program : Program) (formed : IsWellFormed program) where
   unfolding with_group
   group-next planned rest found kept =
       let ready = left-ready program found planned rest formed kept.left in
-      under-bind IsPassing (λ (part : Part). FitsGroup program planned.procs part.formulas part.flows × GroupIsMet program planned.procs part.formulas part.flows) (Keeps rest) (part_of program planned found.known)
+      under-bind IsPassing (IsFinePart program planned found.known) (Keeps rest) (part_of program planned found.known)
       (λ part. Done (with_part found planned.procs part))
-      (part-fine program formed planned found.known kept.fits.known kept.met.summaries ready)
+      (part-fine program formed planned found.known kept.fits.known ready)
       (λ part own. record {
-        fits = found-fits program planned.procs found part kept.fits own.0;
-        met = found-met program planned.procs found part kept.met own.1;
-        left = left-next program found (with_part found planned.procs part) planned rest kept.left (λ come has. found-has program planned.procs found part come kept.fits own.0 ready.there has);
+        fits = found-fits program planned.procs found part kept.fits own.fits;
+        met = found-met program planned.procs found part kept.met (own.met kept.met.summaries);
+        left = left-next program found (with_part found planned.procs part) planned rest kept.left (λ come has. found-has program planned.procs found part come kept.fits own.fits ready.there has);
       })
 
   found-all : (plan : List Planned) → IsPlan program plan → AlwaysPassing (IsWhole program) (found_by program plan)

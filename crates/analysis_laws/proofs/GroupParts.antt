@@ -40,11 +40,11 @@ use Rattle.flow_laws.proofs.TrueFlows.{flows-true, summaries-true}
 use Rattle.analysis.specs.declared.planning.GroupKind.{GroupKind}
 use Rattle.analysis.specs.declared.planning.GroupKind.TheVariants.{Plain, Linear, Rounds}
 use Rattle.analysis.specs.declared.planning.Planned.{Planned}
-use Rattle.analysis.specs.declared.parts.Part.{Part}
 use Rattle.analysis.specs.Apart.{apart, apart_from}
 use Rattle.analysis.specs.Claims.{AreFlowsOf, FitFlows, FitsGroup, GroupIsMet, IsLinearIf, IsReadyGroup, KnowAllCallees, KnowsFor}
 use Rattle.analysis.specs.Parts.{part_of, plain_part, recursive_part, summed_by, with_flow, with_plain}
 use Rattle.analysis.proofs.Ready.{ready-tabled, tabled-are, tabled-met}
+use Rattle.analysis_laws.specs.Laws.{IsFinePart, PartsAreMet}
 use Rattle.analysis_laws.proofs.GroupSummaries.{group-known}
 
 -- ---- computations under answers
@@ -149,7 +149,7 @@ module _ (program : Program) (formed : IsWellFormed program) where
 
     -- ---- what is true of each, is so of the group
 
-    module _ (procs : List ℕ) (there : AreThere program procs) (knows : KnowAllCallees program procs known) (met : AreMet program known) where
+    module _ (procs : List ℕ) (there : AreThere program procs) (knows : KnowAllCallees program procs known) where
       -- the procedure at a place of the group
       at-place : (place proc : ℕ) → slice_get procs place ≡ Some proc → (p : Proc) × (slice_get program.procs proc ≡ Some p)
       at-place place proc at = some_at program.procs proc (each-get (λ proc. proc < length program.procs) procs place proc there at)
@@ -175,8 +175,8 @@ module _ (program : Program) (formed : IsWellFormed program) where
         fit = λ place proc p f at is e. (summary-at formulas h place proc p f at is e).fits;
       }
 
-      formulas-met : (formulas : List Transition) → AllZip IsSummaryOf (members_of program procs) formulas → AreMetMembers program procs formulas
-      formulas-met formulas h place proc f at e =
+      formulas-met : AreMet program known → (formulas : List Transition) → AllZip IsSummaryOf (members_of program procs) formulas → AreMetMembers program procs formulas
+      formulas-met met formulas h place proc f at e =
           let p = at-place place proc at in
           (summary-at formulas h place proc p.0 f at p.1 e).met (knows proc p.0 (of-group place proc at) p.1) met
 
@@ -186,53 +186,56 @@ module _ (program : Program) (formed : IsWellFormed program) where
         fit = λ place proc flow at e p is. (flow-at flows h place proc p flow at is e).fits;
       }
 
-      flows-hold : (flows : List Flow) → AllZip IsTrueOf (members_of program procs) flows → AreFlowsOf program procs flows
-      flows-hold flows h place proc flow at e =
+      flows-hold : AreMet program known → (flows : List Flow) → AllZip IsTrueOf (members_of program procs) flows → AreFlowsOf program procs flows
+      flows-hold met flows h place proc flow at e =
           let p = at-place place proc at in
           (flow-at flows h place proc p.0 flow at p.1 e).holds (knows proc p.0 (of-group place proc at) p.1) met
 
   -- ---- one group
 
-  module _ (procs : List ℕ) (within : All (λ proc. proc < length program.procs) procs) (known : List (Option Transition)) (are : AreKnown program known) (met : AreMet program known) where
+  module _ (procs : List ℕ) (within : All (λ proc. proc < length program.procs) procs) (known : List (Option Transition)) (are : AreKnown program known) where
     there : AreThere program procs
     there = recursion_from_All (λ proc. proc < length program.procs) procs within
 
     abbrev IsFine : Summed program known → Type 0
-    IsFine summed = FitsGroup program procs summed.formulas summed.flows × GroupIsMet program procs summed.formulas summed.flows
+    IsFine summed =
+        FitsGroup program procs summed.formulas summed.flows
+        × (AreMet program known → GroupIsMet program procs summed.formulas summed.flows)
 
     plain-fine : KnowAllCallees program procs known → AlwaysPassing IsFine (plain_part program procs known)
     unfolding plain_part
     plain-fine knows =
         under-weaker IsPassing (AreZipped known are (members_of program procs)) IsFine (each (with_plain program known) record { formulas = []; flows = [] } (members_of program procs))
         (λ made h. (
-          record { known = formulas-known known are procs there knows met made.formulas h.0; fit = flows-fit known are procs there knows met made.flows h.1 },
-          record { summaries = formulas-met known are procs there knows met made.formulas h.0; hold = flows-hold known are procs there knows met made.flows h.1 },
+          record { known = formulas-known known are procs there knows made.formulas h.0; fit = flows-fit known are procs there knows made.flows h.1 },
+          λ met. record { summaries = formulas-met known are procs there knows met made.formulas h.0; hold = flows-hold known are procs there knows met made.flows h.1 },
         ))
         (plain-from known are (members_of program procs) (members_of program procs) record { formulas = []; flows = [] } ((λ more h. h), (λ more h. h)))
 
-    recursive-fine : KnowsOthers program procs known → (summaries : Posing (List Transition)) → AlwaysPassing (λ table. AreKnownMembers program procs table × AreMetMembers program procs table) summaries
+    recursive-fine : KnowsOthers program procs known → (summaries : Posing (List Transition)) → AlwaysPassing (λ table. AreKnownMembers program procs table × (AreMet program known → AreMetMembers program procs table)) summaries
         → AlwaysPassing IsFine (recursive_part program procs known summaries)
     unfolding recursive_part
     recursive-fine knows summaries fine =
-        under-bind IsPassing (λ table. AreKnownMembers program procs table × AreMetMembers program procs table) IsFine summaries _ fine (λ table own.
+        under-bind IsPassing (λ table. AreKnownMembers program procs table × (AreMet program known → AreMetMembers program procs table)) IsFine summaries _ fine (λ table own.
         let all = with_table procs table known in
         let all_known = tabled-are program procs known table are own.0 in
         let callees = ready-tabled program procs known table own.0.each are within knows in
-        let all_met = tabled-met program procs known table own.0.each met own.1 in
+        let all_met = λ (met : AreMet program known). tabled-met program procs known table own.0.each met (own.1 met) in
         under-bind IsPassing (AllZip (IsTrueOf all all_known) (members_of program procs)) IsFine (each (with_flow program all) [] (members_of program procs)) (λ flows. Done record { formulas = table; flows = flows })
         (flows-from all all_known (members_of program procs) (members_of program procs) [] (λ more h. h))
         (λ flows h. (
-          record { known = own.0; fit = flows-fit all all_known procs there callees all_met flows h },
-          record { summaries = own.1; hold = flows-hold all all_known procs there callees all_met flows h },
+          record { known = own.0; fit = flows-fit all all_known procs there callees flows h },
+          λ met. record { summaries = own.1 met; hold = flows-hold all all_known procs there callees (all_met met) flows h },
         )))
 
     closed-fine : (linear : Bool) → length procs ≤ length program.procs → KnowsOthers program procs known → (IsTrue linear → IsLinear program procs)
         → AlwaysPassing IsFine (recursive_part program procs known (closed_of linear program procs known))
     closed-fine linear few knows tells =
         recursive-fine knows (closed_of linear program procs known)
-        (under-both IsPassing (AreKnownMembers program procs) (AreMetMembers program procs) (closed_of linear program procs known)
+        (under-both IsPassing (AreKnownMembers program procs) (λ table. AreMet program known → AreMetMembers program procs table) (closed_of linear program procs known)
         (passing-always (AreKnownMembers program procs) (closed_of linear program procs known) (group-known program procs known formed there few are linear))
-        (summaries-met program procs known linear formed within few are met knows tells))
+        (under-all IsPassing (λ (met : AreMet program known) table. AreMetMembers program procs table) (closed_of linear program procs known)
+        (λ met. summaries-met program procs known linear formed within few are met knows tells)))
 
     summed-fine : (kind : GroupKind) → length procs ≤ length program.procs → KnowsFor kind program procs known → IsLinearIf kind program procs → AlwaysPassing IsFine (summed_by kind program procs known)
     unfolding summed_by
@@ -240,12 +243,14 @@ module _ (program : Program) (formed : IsWellFormed program) where
     summed-fine Linear few knows linear = closed-fine true few knows (λ yes. linear)
     summed-fine Rounds few knows linear = closed-fine false few knows (λ yes. absurd (false≢true yes))
 
-  pub part-fine : (planned : Planned) (known : List (Option Transition)) → AreKnown program known → AreMet program known → IsReadyGroup program planned known
-      → AlwaysPassing (λ part. FitsGroup program planned.procs part.formulas part.flows × GroupIsMet program planned.procs part.formulas part.flows) (part_of program planned known)
+  pub part-fine : (planned : Planned) (known : List (Option Transition)) → AreKnown program known → IsReadyGroup program planned known
+      → AlwaysPassing (IsFinePart program planned known) (part_of program planned known)
   unfolding part_of
-  part-fine planned known are met ready =
-      under-bind IsPassing (λ made. IsFine planned.procs ready.there known are met made.0)
-      (λ (part : Part). FitsGroup program planned.procs part.formulas part.flows × GroupIsMet program planned.procs part.formulas part.flows) (apart (summed_by planned.kind program planned.procs known)) _
-      (under-apart IsPassing (IsFine planned.procs ready.there known are met) [] (summed_by planned.kind program planned.procs known)
-      (summed-fine planned.procs ready.there known are met planned.kind ready.few ready.callees ready.linear))
-      (λ made h. h)
+  part-fine planned known are ready =
+      under-bind IsPassing (λ made. IsFine planned.procs ready.there known are made.0) (IsFinePart program planned known) (apart (summed_by planned.kind program planned.procs known)) _
+      (under-apart IsPassing (IsFine planned.procs ready.there known are) [] (summed_by planned.kind program planned.procs known)
+      (summed-fine planned.procs ready.there known are planned.kind ready.few ready.callees ready.linear))
+      (λ made h. record { fits = h.0; met = h.1 })
+
+pub parts_are_met : PartsAreMet
+parts_are_met program planned known formed are ready = part-fine program formed planned known are ready

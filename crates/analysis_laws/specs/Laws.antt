@@ -7,7 +7,8 @@ use Rattle.syntax_tree.specs.WellFormed.{IsWellFormed}
 use Rattle.execution.specs.Execution.{Fails}
 use Rattle.transition_formula.specs.Transition.{Transition}
 use Rattle.flow_graph.specs.FlowGraph.{CheckPlace}
-use Rattle.leaf_cases.specs.Summaries.{SummaryIsMet}
+use Rattle.leaf_cases.specs.Conditions.{AreKnown}
+use Rattle.leaf_cases.specs.Summaries.{AreMet, SummaryIsMet}
 use Rattle.posing.specs.Posing.{AlwaysPassing}
 use Rattle.proc_summary.specs.declared.stop.Flow.{Flow}
 use Rattle.proc_summary.specs.Subject.{own_graph}
@@ -16,12 +17,14 @@ use Rattle.report.specs.declared.blocks.ProcBlock.{ProcBlock}
 use Rattle.report.specs.declared.blocks.Report.{Report}
 use Rattle.report.specs.Claims.{PointsMeetRows, ReportCovers}
 use Rattle.analysis.specs.declared.found.Found.{Found}
+use Rattle.analysis.specs.declared.parts.Part.{Part}
 use Rattle.analysis.specs.declared.places.TextPlace.{TextPlace}
 use Rattle.analysis.specs.declared.planning.Planned.{Planned}
 use Rattle.analysis.specs.Analysis.{analysed}
-use Rattle.analysis.specs.Claims.{AreTheirPlaces, FitsFound, FoundIsMet, HasAll}
+use Rattle.analysis.specs.Claims.{AreTheirPlaces, FitsFound, FitsGroup, FoundIsMet, GroupIsMet, HasAll, IsReadyGroup}
 use Rattle.analysis.specs.Found.{found_by}
 use Rattle.analysis.specs.Judging.{asserted}
+use Rattle.analysis.specs.Parts.{part_of}
 use Rattle.analysis.specs.Plan.{IsPlan}
 
 -- the assertion of this number stands in the graph of a procedure
@@ -48,6 +51,20 @@ UnreachedNeverFail = (program : Program) (number : ℕ) → ¬ StandsInGraph pro
     → ¬ Fails program number
 
 -- ---- every end of the stated analysis
+
+-- it fits its group, and is met where the known formulas are
+pub record IsFinePart (program : Program) (planned : Planned) (known : List (Option Transition))
+    (part : Part) : Type 0 where
+  pub fits : FitsGroup program planned.procs part.formulas part.flows
+  pub met : AreMet program known → GroupIsMet program planned.procs part.formulas part.flows
+
+-- Every end of what is stated to be found of a ready group fits and is met, whatever the answers
+-- are, as long as they are true and pass.
+abbrev pub PartsAreMet : Type 0
+PartsAreMet =
+    (program : Program) (planned : Planned) (known : List (Option Transition)) → IsWellFormed program
+    → AreKnown program known → IsReadyGroup program planned known
+    → AlwaysPassing (IsFinePart program planned known) (part_of program planned known)
 
 -- what is found fits its procedures, each procedure has its summary and its flow, and these are met
 pub record IsWhole (program : Program) (found : Found) : Type 0 where

@@ -1,10 +1,15 @@
 //! Each law is the contract of a function that does nothing.
-ghost use Rattle.analysis_laws.specs.Laws.{FoundIsWhole, ReportedPointsMeetRows, ReportedSummariesHold, ReportsCover, UnreachedNeverFail, UnreachedStandNowhere};
+ghost use Rattle.analysis_laws.specs.Laws.{FoundIsWhole, PartsAreMet, ReportedPointsMeetRows, ReportedSummariesHold, ReportsCover, UnreachedNeverFail, UnreachedStandNowhere};
 
 /// An assertion that is told without a question stands in no graph, and never fails.
 pub fn law_of_unreached()
     ensures nowhere { UnreachedStandNowhere }
     ensures never { UnreachedNeverFail }
+{}
+
+/// Every end of what is stated of a ready group fits and is met.
+pub fn law_of_parts()
+    ensures { PartsAreMet }
 {}
 
 /// Every end of the stated analysis of a well-formed program covers it, with summaries that hold and

@@ -4,4 +4,4 @@
 
 mod laws;
 
-pub use laws::{law_of_reports, law_of_unreached};
+pub use laws::{law_of_parts, law_of_reports, law_of_unreached};

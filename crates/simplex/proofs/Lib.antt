@@ -73,6 +73,7 @@ pub mod Wider
 pub mod WiderCorners
 pub mod WiderCases
 pub mod WiderColumns
+pub mod MergedColumns
 pub mod OwnColumns
 -- A raise: it begins at a corner, its goal grows, and no choice comes twice.
 pub mod Beginnings

@@ -1,12 +1,10 @@
 -- A corner of the rows with another objective as its goal.
 use Rattle.std.proofs.Common.{◌≡◌, ◌≢◌, ℕ, suc, ◌+◌, ◌<◌, ◌≤◌, Bool, true, false, cond, List, [], ◌∷◌, ◌++◌, drop, length, get_or, refl, sym, ap, subst, ◌∙◌, arith, ⊎_elim, Ok, ℤ, pos, ◌≤ℤ◌, ◌<ℤ◌}
-use Rattle.std.specs.Prelude.{Result}
 use Rattle.std.proofs.lemmas.Int.{ints}
 use Rattle.std.proofs.lemmas.Bool.{cases_eq, eq-eqb, ne_eqb, false≢true}
 use Rattle.items.specs.Gives.{◌>>=◌}
 use Rattle.items.proofs.Gives.{on_ok}
 use Rattle.whole_numbers.specs.Divisors.{gcd_of_all}
-use Rattle.whole_numbers.specs.declared.wide.Wide as Step
 use Rattle.linear_terms.specs.declared.col.Col.{Col}
 use Rattle.linear_terms.specs.declared.row.Kind.{Kind}
 use Rattle.linear_terms.specs.declared.row.Kind.TheVariants.{AtMost, Equal}
@@ -26,9 +24,6 @@ use Rattle.simplex.proofs.Framing.{at_front, after_front, long, kinds-length, li
 use Rattle.simplex.proofs.Numbers.{line_without-is, line_without-length}
 use Rattle.simplex.proofs.Objectives.{more_rows}
 use Rattle.simplex.proofs.Swaps.{HasGoal, IsClearedTo, cleared_first, cleared_more, swapped_is}
-
-abbrev line_ok : List ℤ → Result (List ℤ) Step.Wide
-line_ok zs = Ok zs
 
 not_zero : (z : ℤ) → pos 0 <ℤ z → z ≡ pos 0 → ⊥
 not_zero z p e = omega (arith, ints)

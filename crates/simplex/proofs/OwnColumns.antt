@@ -1,6 +1,6 @@
 -- A supremum over the rows' own columns: what the steps of its search hand on.
 use Rattle.std.proofs.Common.{◌≡◌, ◌≢◌, ℕ, zero, suc, ◌+◌, ◌<◌, Bool, true, false, cond, List, [], ◌∷◌, ◌++◌, length, get_or, Result, Ok, Err, refl, sym, ap, subst, ◌∙◌, arith, ℤ, pos, ◌*ℤ◌, ◌<ℤ◌}
-use Rattle.std.specs.Prelude.{int_lt, IfOk, IfErr, IfSome, Option, None, Some}
+use Rattle.std.specs.Prelude.{int_lt, IfOk, IfErr, IfSome, Option}
 use Rattle.std.specs.Map.{keys_of}
 use Rattle.std.specs.Ordering.{eq_by_cmp, is_eq}
 use Rattle.std.specs.declared.cmp.Ordering.TheVariants.{Less}
@@ -117,13 +117,6 @@ module _ (rows : List Row) (p : Polynomial) (cs own : List (List Col)) (a : AreC
       (subst (λ (ds : List (List Col)). HasCorner ds rows p point) is (record { enters = enters; tableau = t; met = met; corner = corner })))
 
 -- ---- what is left
-
-pub stands_left : (own : List (List Col)) (copies rows : List Row) (p : Polynomial) (enters : List Bool) (t : Tableau) → copies ≡ rows → IsMetFor own rows p enters t → StandsAt own copies enters t
-stands_left own copies rows p enters t e met = subst (λ (rs : List Row). StandsAt own rs enters t) (sym e) (record { objective = p; met = met })
-
-pub left_copies : (own : List (List Col)) (copies rows : List Row) (left : Option Stage) → copies ≡ rows → IfSome left (λ s. StandsAt own rows s.enters s.tableau) → IfSome left (λ s. StandsAt own copies s.enters s.tableau)
-left_copies own copies rows None e h = tt
-left_copies own copies rows (Some s) e h = subst (λ (rs : List Row). StandsAt own rs s.enters s.tableau) (sym e) h
 
 pub left_ends : {E : Type 0} (over : Framed) (kinds : List Kind) (cs : List (List Col)) (rows : List Row) (p : Polynomial) (r : Result (Supremum × Option Stage) E) → over ≡ frame_over cs rows p → kinds ≡ kinds_of rows ++ AtMost ∷ []
     → IfOk r (λ x. IfSome x.1 (λ s. IsMet over (length cs) kinds s.enters s.tableau)) → IfOk r (λ x. IfSome x.1 (λ s. StandsAt cs rows s.enters s.tableau))

@@ -1,17 +1,11 @@
--- A case of the same columns and rows: the test of equality, and the frame of its objective.
-use Rattle.std.proofs.Common.{◌≡◌, ℕ, ◌+◌, Bool, true, false, ◌&&◌, List, [], ◌∷◌, ◌++◌, length, refl, sym, ap, subst, ◌∙◌}
+-- The frame of a case with an objective.
+use Rattle.std.proofs.Common.{◌≡◌, ℕ, ◌+◌, List, [], ◌∷◌, ◌++◌, length, refl, sym, ap, subst, ◌∙◌}
 use Rattle.std.specs.Prelude.{IfSome, Option, None, Some}
-use Rattle.std.specs.Cmp.Lexicographic.{pointwise}
-use Rattle.std.specs.Ordering.{eq_by_cmp, is_eq}
-use Rattle.std.specs.declared.cmp.Ordering.{Ordering}
-use Rattle.std.specs.declared.cmp.Ordering.TheVariants.{Less, Equal as Tie, Greater}
-use Rattle.linear_terms.specs.Mono.{mono_cmp}
 use Rattle.linear_terms.specs.declared.col.Col.{Col}
 use Rattle.linear_terms.specs.declared.row.Kind.{Kind}
 use Rattle.linear_terms.specs.declared.row.Kind.TheVariants.{AtMost}
 use Rattle.linear_terms.specs.declared.row.Row.{Row}
 use Rattle.linear_terms.specs.Polynomial.{Polynomial}
-use Rattle.linear_terms.proofs.Order.{mono_tie}
 use Rattle.simplex.specs.Endings.{StandsAt}
 use Rattle.simplex.specs.Exchange.{numbers_of}
 use Rattle.simplex.specs.Raise.{Framed}
@@ -20,27 +14,6 @@ use Rattle.simplex.specs.Search.{IsMet}
 use Rattle.simplex.specs.Suprema.{with_goal, frame_over}
 use Rattle.simplex.specs.declared.gauss.Stage.{Stage}
 use Rattle.simplex.specs.declared.tableau.Tableau.{Tableau}
-
--- ---- equal columns
-
-both : (a b : Bool) → a && b ≡ true → (a ≡ true) × (b ≡ true)
-both true b e = (refl, e)
-both false b e = cc
-
-tie : (o : Ordering) → is_eq o ≡ true → o ≡ Tie
-tie Less e = cc
-tie Tie e = refl
-tie Greater e = cc
-
-pub columns_same : (xs ys : List (List Col)) → pointwise (eq_by_cmp mono_cmp) xs ys ≡ true → xs ≡ ys
-columns_same [] [] e = refl
-columns_same [] (y ∷ ys) e = cc
-columns_same (x ∷ xs) [] e = cc
-columns_same (x ∷ xs) (y ∷ ys) e =
-    let parts = both (eq_by_cmp mono_cmp x y) (pointwise (eq_by_cmp mono_cmp) xs ys) e in
-    let first = mono_tie x y (tie (mono_cmp x y) parts.0) in
-    let others = columns_same xs ys parts.1 in
-    λ i. first i ∷ others i
 
 -- ---- the frame of a case with an objective
 

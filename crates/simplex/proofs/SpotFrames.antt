@@ -13,10 +13,9 @@ use Rattle.farkas_check.specs.Relations.{entry}
 use Rattle.simplex.specs.declared.tableau.Tableau.{Tableau}
 use Rattle.simplex.specs.Exchange.{ArePrimitive, cause, numbers_of, choices_of, IsTableauOf}
 use Rattle.simplex.specs.declared.stop.Stop.{Stop}
-use Rattle.simplex.specs.declared.spots.Spots.{Spots}
 use Rattle.simplex.specs.Frames.{IsWholeTableau}
 use Rattle.simplex.specs.Rows.{units_to}
-use Rattle.simplex.specs.Spots.{entries_to, spot_row, spot_rows, spots_framed, IsSpotTableau, AreSpots, numerators_over}
+use Rattle.simplex.specs.Spots.{entries_to, spot_row, spot_rows, spots_framed, IsSpotTableau, numerators_over}
 use Rattle.simplex.proofs.Corners.{none, single}
 use Rattle.simplex.proofs.Divisors.{one-primitive}
 use Rattle.simplex.proofs.Framing.{at_front, after_front, long, units_to-length, units_to-at, units_from-length, units_from-at}
@@ -131,12 +130,6 @@ numerators-length common (r ∷ rs) made e =
   where
     chain : (n : ℤ) (more : List ℤ) → n ∷ more ≡ made → length more ≡ length rs → length made ≡ length rs + 1
     chain n more e f = let h : length (n ∷ more) ≡ length made = ap length e in omega (arith, h, f)
-
-pub spot-line-length : (count : ℕ) (known : Spots) (line : ℕ) → AreSpots count known → line < length known.tableau.lines → length (get_or known.tableau.lines line []) ≡ count + length known.scales
-spot-line-length count known line s h = s.tableau.tableau.shape.wide line h ∙ ap (λ (n : ℕ). count + n) (s.tableau.many ∙ sym s.scales)
-
-pub spot-line-positive : (count : ℕ) (known : Spots) (line unknown : ℕ) → AreSpots count known → line < length known.tableau.lines → choices_of known.tableau line ≡ unknown → pos 0 <ℤ entry (get_or known.tableau.lines line []) unknown
-spot-line-positive count known line unknown s h e = subst (λ (n : ℕ). pos 0 <ℤ entry (get_or known.tableau.lines line []) n) e (s.tableau.tableau.is.own line h)
 
 pub numerators-count : (r : Result (List ℤ) Stop) (common : ℤ) (rs : List Fraction) (n : ℕ) → Gives cause (λ (made : List ℤ). made) r (numerators_over common rs) → length rs ≡ n → IfOk r (λ numbers. length numbers ≡ n)
 numerators-count (Ok numbers) common rs n g e = numerators-length common rs numbers g ∙ e

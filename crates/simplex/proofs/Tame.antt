@@ -206,9 +206,6 @@ value-fits n cs at x d p above small each sizes poly room fits =
     let many : length p.terms * (n * n) ≤ length cs * (n * n) = mul-le-mul_right (n * n) poly.few in
     value-ratio at x d (n * n) p above each (products_small n x p.terms sizes poly.terms) (product-small n n p.rest d poly.rest small) (omega (arith, many, room)) (omega (arith, small, fits))
 
-abbrev ratio_result : (Polynomial → Result Fraction Step.Wide) → Polynomial → Type 0
-ratio_result value p = HasValue (value p)
-
 pub meets-fit : (value : Polynomial → Result Fraction Step.Wide) (rows : List Row) (w : Step.Wide) → AllByRecursion (λ (row : Row). HasValue (value row.poly)) rows → meets value rows ≡ Err w → ⊥
 meets-fit value [] w h e = cc
 meets-fit value (row ∷ rows) w h e = with_value h.0.0 h.0.1 (λ f. meets-fit value rows w h.1 f)

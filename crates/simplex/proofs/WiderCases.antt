@@ -175,9 +175,6 @@ widened-keep c ds cs n ns = ap (λ (q : Bool). cond q (n ∷ widened ds cs ns) (
 -- what is kept where a column is put in, holds with all columns put in
 module _ (New : List Col → Type 0) (P : List (List Col) → List Fraction → List Fraction → Type 0)
     (step : (front later : List (List Col)) (c : List Col) (xs ys us vs : List Fraction) → New c → length xs ≡ length front → length us ≡ length front → P (front ++ later) (xs ++ ys) (us ++ vs) → P (front ++ c ∷ later) (xs ++ whole (pos 0) ∷ ys) (us ++ whole (pos 0) ∷ vs)) where
-  abbrev Put : List (List Col) → List (List Col) → List Fraction → List Fraction → List Fraction → List Fraction → Type 0
-  Put front cs xs ys us vs = P (front ++ cs) (xs ++ ys) (us ++ vs)
-
   -- the front with one more
   grown : (front cs : List (List Col)) (c : List Col) (xs ys us vs : List Fraction) (x u : Fraction) → P (front ++ c ∷ cs) (xs ++ x ∷ ys) (us ++ u ∷ vs) → P ((front ++ c ∷ []) ++ cs) ((xs ++ x ∷ []) ++ ys) ((us ++ u ∷ []) ++ vs)
   grown front cs c xs ys us vs x u h =

@@ -28,7 +28,7 @@ use Rattle.simplex.proofs.WiderCases.{HasNothing, HasCorner, Part, done, keep, b
 
 -- ---- monomials before others
 
-before-among : (c m : List Col) (cs : List (List Col)) → IsBefore c cs → is_among m cs ≡ true → mono_cmp c m ≡ Less
+pub before-among : (c m : List Col) (cs : List (List Col)) → IsBefore c cs → is_among m cs ≡ true → mono_cmp c m ≡ Less
 before-among c m [] b h = absurd (false≢true h)
 before-among c m (d ∷ cs) b h = go (eq_by_cmp mono_cmp m d) refl h (λ k. before-among c m cs b.1 k)
   where
@@ -36,7 +36,7 @@ before-among c m (d ∷ cs) b h = go (eq_by_cmp mono_cmp m d) refl h (λ k. befo
     go true e k ih = subst (λ x. mono_cmp c x ≡ Less) (sym (same_mono m d e)) b.0
     go false e k ih = ih k
 
-before-trans : (c d : List Col) (ds : List (List Col)) → mono_cmp c d ≡ Less → IsBefore d ds → IsBefore c ds
+pub before-trans : (c d : List Col) (ds : List (List Col)) → mono_cmp c d ≡ Less → IsBefore d ds → IsBefore c ds
 before-trans c d [] h b = tt
 before-trans c d (x ∷ ds) h b = (mono_cmp_total.trans c d x h b.0, before-trans c d ds h b.1)
 
@@ -117,7 +117,7 @@ with_mono-among m (n ∷ ns) cs h a = go (mono_cmp m n) (with_mono-among m ns cs
     go Tie ih = a
     go Greater ih = (a.0, ih)
 
-in_order-among : (ms cs : List (List Col)) → AreAmong ms cs → AreAmong (in_print_order ms) cs
+pub in_order-among : (ms cs : List (List Col)) → AreAmong ms cs → AreAmong (in_print_order ms) cs
 in_order-among [] cs a = tt
 in_order-among (m ∷ ms) cs a = with_mono-among m (in_print_order ms) cs a.0 (in_order-among ms cs a.1)
 

@@ -19,7 +19,6 @@ use Rattle.simplex.specs.Raise.{Framed, sign_of, enters_at, leaves_at}
 use Rattle.simplex.specs.Rows.{kind_at}
 use Rattle.simplex.specs.Search.{IsFlat, IsFixed, IsUnit, IsMet, IsRefuted, CornerAt, IsCornerOf}
 use Rattle.simplex.specs.Suprema.{IsTopped, IsOpened, SlopeAt, IsRayOf, certificate_of, SupremumAt}
-use Rattle.simplex.specs.declared.supremum.Supremum.{Supremum}
 use Rattle.simplex.specs.declared.supremum.Supremum.TheVariants as supremum
 use Rattle.simplex.specs.declared.tableau.Tableau.{Tableau}
 use Rattle.simplex.proofs.Corners.{single}
@@ -331,12 +330,6 @@ module _ (k constants : ℕ) (kinds : List Kind) (over : Framed) (other : ℕ �
                   row = ⊎_elim (λ (at : i ≡ over.rows). let f : over.units + over.rows ≡ j = sym (ap (choices_of t) at ∙ goal_own) ∙ same in let u : over.units ≡ constants + 1 = w.units in absurd (omega (arith, f, u, h))) (λ apart. omega (arith, g, many, apart)) (cases_eq i over.rows)
 
   -- ---- what is found
-
-  abbrev pub put_in : Supremum → Supremum
-  put_in supremum.Empty = supremum.Empty
-  put_in supremum.Pivots = supremum.Pivots
-  put_in (supremum.Bound cert point) = supremum.Bound cert (put k (whole (pos 0)) point)
-  put_in (supremum.Unbounded point ray) = supremum.Unbounded (put k (whole (pos 0)) point) (put k (whole (pos 0)) ray)
 
   all : (t : Tableau) → length kinds ≡ length t.lines → length t.lines ≡ over.rows + 1
   all t e = sym e ∙ w.many

@@ -126,9 +126,6 @@ quotient_is z (negsuc n) q p e = absurd (omega (arith, ints, p))
 
 -- ---- products
 
-abbrev IsProduct : ℤ → ℤ → ℤ → Fraction → Type 0
-IsProduct c x d r = (p : Fraction) × ((ratio_product (whole c) r ≡ Ok p) × IsRatio p (c *ℤ x) d)
-
 pub product-ratio : (c x d : ℤ) (r : Fraction) → pos 0 <ℤ d → IsRatio r x d → unsigned_abs (c *ℤ x) < 2 ^ 127 → unsigned_abs d < 2 ^ 127 → (p : Fraction) × ((ratio_product (whole c) r ≡ Ok p) × IsRatio p (c *ℤ x) d)
 product-ratio c x d r p s h k = (lowest_terms (c *ℤ r.num) (pos 1 *ℤ r.den), (made, record { stands = Stands-product c x d r (lowest_terms (c *ℤ r.num) (pos 1 *ℤ r.den)) s.stands made; lowest = IsLowest-lowest_terms (c *ℤ r.num) (pos 1 *ℤ r.den) (subst (λ z. pos 0 <ℤ z) (sym (one-*ℤ r.den)) s.stands.positive) }))
   where

@@ -18,7 +18,7 @@ use crate::gauss::Stage;
 use crate::search::{Found, searched};
 use crate::supremum::{bound_of, point_and_ray, top_of, with_goal};
 use crate::swap::turned;
-use crate::widening::{first_besides, unit_ray, widened, widened_supremum};
+use crate::widening::{columns_with, first_besides, unit_ray, widened, widened_supremum};
 use crate::{Stop, Supremum, Top};
 use farkas_check::{Goal, case_columns};
 use items::Items;
@@ -28,6 +28,7 @@ use std::alloc::{AllocError, Global};
 /// What a case of a supremum question comes to, with no more turns a raise than the budget, and
 /// where it ended. It begins where the last one ended, if that was over the same rows, and else at
 /// the frame of the rows.
+#[tactic(auto, using(crate::proofs::OwnColumns::case_columns))]
 pub(crate) fn next_supremum(
     alloc: Global,
     goal: &Goal,
@@ -38,15 +39,19 @@ pub(crate) fn next_supremum(
     ensures refusal { IfErr result (IsRefusalIn (goal_frame goal.now) (length goal.now.rows + 1)) }
 {
     let rows = goal.rows.as_slice();
-    let columns = case_columns(alloc, rows, goal.objective.terms())?;
-    supremum_from(
-        alloc,
-        columns.as_slice(),
-        rows,
-        &goal.objective,
-        budget,
-        last,
-    )
+    let objective = &goal.objective;
+    match corner_for(alloc, last, rows, objective)? {
+        Some((own, copies, stage)) => {
+            let columns = columns_with(alloc, own.as_slice(), rows, objective.terms())?;
+            let columns = columns.as_slice();
+            supremum_at(alloc, columns, own, copies, stage, rows, objective, budget)
+        }
+        None => {
+            let own = case_columns(alloc, rows, &[])?;
+            let columns = columns_with(alloc, own.as_slice(), rows, objective.terms())?;
+            supremum_anew(alloc, columns.as_slice(), own, rows, objective, budget)
+        }
+    }
 }
 
 /// The same of rows and an objective over columns, among which are theirs. The search is over the
@@ -69,7 +74,10 @@ pub(crate) fn supremum_from(
         Some((own, copies, stage)) => {
             supremum_at(alloc, columns, own, copies, stage, rows, objective, budget)
         }
-        None => supremum_anew(alloc, columns, rows, objective, budget),
+        None => {
+            let own = case_columns(alloc, rows, &[])?;
+            supremum_anew(alloc, columns, own, rows, objective, budget)
+        }
     }
 }
 
@@ -129,17 +137,18 @@ fn are_rows(own: &[Row], rows: &[Row]) -> bool
 fn supremum_anew(
     alloc: Global,
     columns: &[Mono],
+    own: Items<Mono>,
     rows: &[Row],
     objective: &Poly,
     budget: u128,
 ) -> Result<(Supremum, Option<Ending>), Stop>
-    requires { AreColumnsOf columns.now rows.now objective.now }
+    requires columns { AreColumnsOf columns.now rows.now objective.now }
+    requires own { own ≡ columns_of rows.now [] }
     ensures supremum { IfOk result
         (λ r. IsSupremumOver columns.now rows.now objective.now budget r.0) }
     ensures refusal { IfErr result
         (IsRefusalIn (frame_over columns.now rows.now objective.now) (length rows.now + 1)) }
 {
-    let own = case_columns(alloc, rows, &[])?;
     let (stage, found) = searched_case(alloc, &own, rows, objective, budget)?;
     match found {
         Found::Refuted(_line) => Ok((Supremum::Empty, None)),

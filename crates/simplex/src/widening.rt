@@ -1,9 +1,10 @@
-ghost use Rattle.std.specs.Prelude.{◌≡◌, ◌∷◌, ◌≤◌, drop, length, List, IsTrue, pos, IfOk, MatchOption, if◌then◌else◌};
+ghost use Rattle.std.specs.Prelude.{◌≡◌, [], ◌∷◌, ◌++◌, ◌≤◌, drop, length, List, IsTrue, pos, IfOk, OnOk, MatchOption, if◌then◌else◌};
 ghost use Rattle.std.specs.Map.{keys_of};
 ghost use Rattle.std.specs.Ordering.{eq_by_cmp};
 ghost use Rattle.linear_terms.specs.declared.col.Col.{Col};
 ghost use Rattle.linear_terms.specs.Mono.{mono_cmp};
 ghost use Rattle.linear_terms.specs.Polynomial.{IsCanonical};
+ghost use Rattle.farkas_check.specs.Columns.{columns as columns_of};
 ghost use Rattle.farkas_check.specs.Ratios.{whole};
 ghost use Rattle.farkas_check.proofs.Spreads.{is_among, AreAmong};
 ghost use Rattle.simplex.specs.Raise.{sign_of};
@@ -12,8 +13,68 @@ ghost use Rattle.simplex.specs.Wider.{widened, number_along, unit_ray, widened_s
 use crate::Supremum;
 use farkas_check::Ratio;
 use items::Items;
-use linear_terms::Mono;
+use linear_terms::{Mono, Row};
 use std::alloc::{AllocError, Global};
+use std::cmp::Ordering;
+
+/// The columns of rows and of terms: one merge of the rows' own columns and the terms' monomials.
+pub(crate) fn columns_with(
+    alloc: Global,
+    own: &[Mono],
+    rows: &[Row],
+    terms: &[(Mono, i128)],
+) -> Result<Items<Mono>, AllocError>
+    requires own { own.now ≡ columns_of rows.now [] }
+    requires terms { IsCanonical terms.now }
+    ensures { IfOk result (λ made. made ≡ columns_of rows.now terms.now) }
+{
+    let _rows = rows;
+    let room = own.len().saturating_add(terms.len());
+    let mut made = Items::from_vec(Vec::with_capacity(alloc, room)?);
+    let mut left = own;
+    let mut right = terms;
+    loop {
+        let Some((column, columns)) = left.split_first() else {
+            break;
+        };
+        let Some((term, more)) = right.split_first() else {
+            break;
+        };
+        match column.cmp(&term.0) {
+            Ordering::Less => {
+                made.push(*column)?;
+                left = columns;
+            }
+            Ordering::Equal => {
+                made.push(*column)?;
+                left = columns;
+                right = more;
+            }
+            Ordering::Greater => {
+                made.push(term.0)?;
+                right = more;
+            }
+        }
+    }
+    push_both(&mut made, left, right)?;
+    Ok(made)
+}
+
+fn push_both(
+    made: &mut Items<Mono>,
+    columns: &[Mono],
+    terms: &[(Mono, i128)],
+) -> Result<(), AllocError>
+    ensures { OnOk result (made.new ≡ made.old ++ columns.now ++ keys_of terms.now) }
+{
+    for column in columns {
+        made.push(*column)?;
+    }
+    for (mono, _number) in terms {
+        made.push(*mono)?;
+    }
+    Ok(())
+}
 
 /// The first monomial of the terms that is none of the columns, and whether its number is positive.
 pub(crate) fn first_besides(own: &[Mono], terms: &[(Mono, i128)]) -> Option<(Mono, bool)>

@@ -1,0 +1,8 @@
+//! The law is the contract of a function that does nothing.
+ghost use Rattle.alike_groups.specs.Parts.{AlikePartsAreOne, PlansArePlanned};
+
+/// Alike groups of two plans are of one kind, and what is found of them is one computation.
+pub fn law_of_alike_parts()
+    ensures planned { PlansArePlanned }
+    ensures one { AlikePartsAreOne }
+{}

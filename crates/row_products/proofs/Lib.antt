@@ -1,0 +1,4 @@
+-- ---- rows gathered one by one are the first of all new ones
+pub mod Gathered
+-- ---- whole numbers make products true
+pub mod Truth
