@@ -173,15 +173,16 @@ alike_parts_are_one program other planned kept known other_known here there alik
     let other_procs = there.of.procs in
     let own = subst (λ all. AreAlikeGroups program other group.procs all known other_known) other_procs (subst (λ all. AreAlikeGroups program other all kept.procs known other_known) procs alike) in
     let within = within-both program other group.procs next.procs known other_known own in
-    let recursive : IsTrue group.recursive ↔ IsTrue next.recursive =
-        (λ yes. recursive-within other there.come next there.next (within.0 (within-recursive program here.come group here.next yes)),
-        λ yes. recursive-within program here.come group here.next (within.1 (within-recursive other there.come next there.next yes))) in
+    let recursive : IsTrue group.recursive ↔ IsTrue next.recursive = (
+      λ yes. recursive-within other there.come next there.next (within.0 (within-recursive program here.come group here.next yes)),
+      λ yes. recursive-within program here.come group here.next (within.1 (within-recursive other there.come next there.next yes)),
+    ) in
     let linear = (alike_groups_are_one program other group.procs next.procs known other_known own).0 in
     let kinds = kind-one program other group next recursive linear planned.kind kept.kind here.of.kind there.of.kind in
     let never = λ (e : planned.kind ≡ Plain) (w : CallsWithin program group.procs). plain-kind program group planned.kind here.of.kind e (recursive-within program here.come group here.next w) in (
       kinds,
       ap (λ all. summed_by planned.kind program all known) procs
-      ∙ summed-one program other group.procs next.procs known other_known own planned.kind never
-      ∙ ap (λ kind. summed_by kind other next.procs other_known) kinds
-      ∙ ap (λ all. summed_by kept.kind other all other_known) (sym other_procs),
+          ∙ summed-one program other group.procs next.procs known other_known own planned.kind never
+          ∙ ap (λ kind. summed_by kind other next.procs other_known) kinds
+          ∙ ap (λ all. summed_by kept.kind other all other_known) (sym other_procs),
     )
