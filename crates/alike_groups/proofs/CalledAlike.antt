@@ -28,8 +28,8 @@ module _ (same : ℕ → ℕ → Type 0) where
     statement-called _ _ (alike_checks number other cond) = tt
     statement-called _ _ (alike_ifs cond a b c d h k) = zipped-append same (called a) (called c) (called b) (called d) (code-called a c h) (code-called b d k)
     statement-called _ _ (alike_loops pre begin cond body step turn end first h k l) =
-        zipped-append same (called pre) (called begin) (called body ++ called step) (called turn ++ called end) (code-called pre begin h)
-        (zipped-append same (called body) (called turn) (called step) (called end) (code-called body turn k) (code-called step end l))
+        zipped-append same (called pre ++ called body) (called begin ++ called turn) (called step) (called end)
+        (zipped-append same (called pre) (called begin) (called body) (called turn) (code-called pre begin h) (code-called body turn k)) (code-called step end l)
     statement-called _ _ alike_breaks = tt
     statement-called _ _ alike_continues = tt
     statement-called _ _ alike_returns = tt
@@ -59,9 +59,9 @@ module _ (same next : ℕ → ℕ → Type 0) where
     statement-by_calls _ _ (alike_ifs cond a b c d h k) are =
         alike_ifs cond a b c d (code-by_calls a c h (left-of (called a) (called b) are)) (code-by_calls b d k (right-of (called a) (called b) are))
     statement-by_calls _ _ (alike_loops pre begin cond body step turn end first h k l) are =
-        let inner = right-of (called pre) (called body ++ called step) are in
-        alike_loops pre begin cond body step turn end first (code-by_calls pre begin h (left-of (called pre) (called body ++ called step) are))
-        (code-by_calls body turn k (left-of (called body) (called step) inner)) (code-by_calls step end l (right-of (called body) (called step) inner))
+        let inner = left-of (called pre ++ called body) (called step) are in
+        alike_loops pre begin cond body step turn end first (code-by_calls pre begin h (left-of (called pre) (called body) inner))
+        (code-by_calls body turn k (right-of (called pre) (called body) inner)) (code-by_calls step end l (right-of (called pre ++ called body) (called step) are))
     statement-by_calls _ _ alike_breaks are = alike_breaks
     statement-by_calls _ _ alike_continues are = alike_continues
     statement-by_calls _ _ alike_returns are = alike_returns

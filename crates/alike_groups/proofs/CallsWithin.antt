@@ -1,6 +1,6 @@
 -- A group is recursive exactly where its members call members, and alike groups are recursive
 -- together.
-use Rattle.std.proofs.Common.{◌≡◌, ◌<◌, ◌↔◌, ◌⊎◌, inl, inr, ℕ, List, [], ◌∷◌, ◌++◌, length, Option, None, Some, refl, sym, ap, subst, ◌∙◌}
+use Rattle.std.proofs.Common.{◌≡◌, ◌<◌, ◌↔◌, inl, inr, ℕ, List, [], ◌∷◌, ◌++◌, length, Option, None, Some, refl, sym, ap, subst, ◌∙◌}
 use Rattle.std.specs.Prelude.{IsTrue, slice_get}
 use Rattle.std.specs.List.{AllZip, Contains}
 use Rattle.std.proofs.lemmas.Option.{slice_get-get_or, slice_get_within}
@@ -50,7 +50,7 @@ module _ (program : Program) (come : List ℕ) (group : Group) (next : IsNext pr
       }
 
   pub within-recursive : IsTrue group.recursive → CallsWithin program group.procs
-  within-recursive yes = let round = next.recursive.0 yes in go round.0 round.1
+  within-recursive h = let round = next.recursive.0 h in go round.0 round.1
     where
       go : (path : List ℕ) → CallsOver program next.first path next.first → CallsWithin program group.procs
       go [] calls = within-from next.first ((next.members next.first).1 (next.there, inl refl)) calls

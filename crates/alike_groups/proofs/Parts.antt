@@ -10,7 +10,7 @@ use Rattle.transition_formula.specs.Transition.{Transition}
 use Rattle.posing.specs.Posing.{Posing, Done, ◌>>=◌, each}
 use Rattle.flow_graph.specs.declared.grouping.Group.{Group}
 use Rattle.flow_graph.specs.FlowGraph.{body_of}
-use Rattle.flow_graph.specs.Groups.{AreGroupsAfter, called}
+use Rattle.flow_graph.specs.Groups.{AreGroupsAfter, IsNext, called}
 use Rattle.proc_summary.specs.Alike.{AreAlikeProcs, AreKnownAlike}
 use Rattle.proc_summary.specs.Flow.{flow_from}
 use Rattle.proc_summary.specs.Summary.{summary_from}
@@ -22,29 +22,29 @@ use Rattle.newton_rounds.proofs.Alike.{alike_groups_are_one}
 use Rattle.newton_rounds.proofs.AlikeMembers.{AreMembers, alike-members, alike-subjects}
 use Rattle.newton_rounds.proofs.Called.{placed-at}
 use Rattle.newton_rounds.proofs.MemberTables.{first-member}
-use Rattle.newton_rounds.proofs.Zipped.{zipped-at, zipped-each}
+use Rattle.newton_rounds.proofs.Zipped.{some-one, zipped-at, zipped-each}
 use Rattle.analysis.specs.declared.planning.GroupKind.{GroupKind}
 use Rattle.analysis.specs.declared.planning.GroupKind.TheVariants.{Plain, Linear, Rounds}
 use Rattle.analysis.specs.declared.planning.Planned.{Planned}
 use Rattle.analysis.specs.Parts.{plain_part, recursive_part, summed_by, with_flow, with_plain}
-use Rattle.analysis.specs.Plan.{ArePlannedOf, IsKindOf, IsPlan, IsPlannedOf}
+use Rattle.analysis.specs.Plan.{ArePlannedOf, IsKindOf, IsPlannedOf}
 use Rattle.alike_groups.specs.Parts.{AlikePartsAreOne, IsPlannedIn, PlansArePlanned}
 use Rattle.alike_groups.proofs.CalledAlike.{code-by_calls}
 use Rattle.alike_groups.proofs.CallsWithin.{CallsWithin, recursive-within, within-both, within-recursive}
 
 -- ---- the groups of a plan
 
+none-at : {A : Type 0} (n : ℕ) (x : A) → slice_get [] n ≡ Some x → ⊥
+none-at zero x e = cc
+none-at (suc n) x e = cc
+
 planned-after : (program : Program) (come : List ℕ) (groups : List Group) (plan : List Planned) → AreGroupsAfter program come groups → ArePlannedOf program groups plan
     → (k : ℕ) (planned : Planned) → slice_get plan k ≡ Some planned → IsPlannedIn program planned
-planned-after program come [] [] after are k planned at = absurd (none k at)
-  where
-    none : (n : ℕ) → slice_get [] n ≡ Some planned → ⊥
-    none zero e = cc
-    none (suc n) e = cc
+planned-after program come [] [] after are k planned at = absurd (none-at k planned at)
 planned-after program come [] (p ∷ plan) after are k planned at = absurd are
 planned-after program come (group ∷ groups) [] after are k planned at = absurd are
 planned-after program come (group ∷ groups) (p ∷ plan) after are zero planned at =
-    let same : p ≡ planned = cc in
+    let same : p ≡ planned = some-one {o = Some p} {x = p} {y = planned} refl at in
     record { come = come; group = group; next = after.0; of = subst (λ x. IsPlannedOf program group x) same are.0 }
 planned-after program come (group ∷ groups) (p ∷ plan) after are (suc k) planned at = planned-after program (come ++ group.procs) groups plan after.1 are.1 k planned at
 
@@ -66,6 +66,17 @@ kind-one program other group next recursive linear Rounds Linear h k = absurd (h
 kind-one program other group next recursive linear Rounds Rounds h k = refl
 
 -- ---- one computation
+
+-- in a plain group no member calls a member
+abbrev NoneWithin : GroupKind → Program → List ℕ → Type 0
+NoneWithin Plain program procs = ¬ CallsWithin program procs
+NoneWithin Linear program procs = Unit {0}
+NoneWithin Rounds program procs = Unit {0}
+
+none-within : (program : Program) (come : List ℕ) (group : Group) → IsNext program come group → (kind : GroupKind) → IsKindOf program group kind → NoneWithin kind program group.procs
+none-within program come group next Plain h = λ w. h (recursive-within program come group next w)
+none-within program come group next Linear h = tt
+none-within program come group next Rounds h = tt
 
 module _ (program other : Program) (procs others : List ℕ) (known other_known : List (Option Transition)) (alike : AreAlikeGroups program other procs others known other_known) where
   abbrev Same : ℕ → ℕ → Type 0
@@ -152,18 +163,13 @@ module _ (program other : Program) (procs others : List ℕ) (known other_known 
       Done record { formulas = made.formulas ++ f ∷ []; flows = made.flows ++ flow ∷ [] })
       record { formulas = []; flows = [] } (members_of program procs) (members_of other others) (procs-known procs others alike.members (outside never))
 
-  summed-one : (kind : GroupKind) → (kind ≡ Plain → ¬ CallsWithin program procs) → summed_by kind program procs known ≡ summed_by kind other others other_known
+  summed-one : (kind : GroupKind) → NoneWithin kind program procs → summed_by kind program procs known ≡ summed_by kind other others other_known
   unfolding summed_by
-  summed-one Plain plain = plain-one (plain refl)
-  summed-one Linear plain = recursive-one (closed_of true program procs known) (closed_of true other others other_known) (closed-one true)
-  summed-one Rounds plain = recursive-one (closed_of false program procs known) (closed_of false other others other_known) (closed-one false)
+  summed-one Plain never = plain-one never
+  summed-one Linear never = recursive-one (closed_of true program procs known) (closed_of true other others other_known) (closed-one true)
+  summed-one Rounds never = recursive-one (closed_of false program procs known) (closed_of false other others other_known) (closed-one false)
 
 -- ---- groups of two plans
-
-plain-kind : (program : Program) (group : Group) (kind : GroupKind) → IsKindOf program group kind → kind ≡ Plain → ¬ IsTrue group.recursive
-plain-kind program group Plain h e = h
-plain-kind program group Linear h e = absurd (cc)
-plain-kind program group Rounds h e = absurd (cc)
 
 pub alike_parts_are_one : AlikePartsAreOne
 alike_parts_are_one program other planned kept known other_known here there alike =
@@ -174,12 +180,12 @@ alike_parts_are_one program other planned kept known other_known here there alik
     let own = subst (λ all. AreAlikeGroups program other group.procs all known other_known) other_procs (subst (λ all. AreAlikeGroups program other all kept.procs known other_known) procs alike) in
     let within = within-both program other group.procs next.procs known other_known own in
     let recursive : IsTrue group.recursive ↔ IsTrue next.recursive = (
-      λ yes. recursive-within other there.come next there.next (within.0 (within-recursive program here.come group here.next yes)),
-      λ yes. recursive-within program here.come group here.next (within.1 (within-recursive other there.come next there.next yes)),
+      λ h. recursive-within other there.come next there.next (within.0 (within-recursive program here.come group here.next h)),
+      λ h. recursive-within program here.come group here.next (within.1 (within-recursive other there.come next there.next h)),
     ) in
     let linear = (alike_groups_are_one program other group.procs next.procs known other_known own).0 in
     let kinds = kind-one program other group next recursive linear planned.kind kept.kind here.of.kind there.of.kind in
-    let never = λ (e : planned.kind ≡ Plain) (w : CallsWithin program group.procs). plain-kind program group planned.kind here.of.kind e (recursive-within program here.come group here.next w) in (
+    let never = none-within program here.come group here.next planned.kind here.of.kind in (
       kinds,
       ap (λ all. summed_by planned.kind program all known) procs
           ∙ summed-one program other group.procs next.procs known other_known own planned.kind never
