@@ -111,7 +111,7 @@ case_excludes-true q case is canonical = go (substituted (put_in case.post []) q
     go (Ok r) e =
         always_weaker (HoldsNothing (in_order (case_where r case)).left) (Excludes q case) (left_excludes (in_order (case_where r case)).left)
         (λ b none told before after h there.
-            none told before after (in_order-holds (case_where r case) (rows r e) (excluded-solvable q r case e is).numbered before after (whole r e before after h there)))
+        none told before after (in_order-holds (case_where r case) (rows r e) (excluded-solvable q r case e is).numbered before after (whole r e before after h there)))
         (left-holds_nothing (in_order (case_where r case)).left)
     go (Err x) e = λ told. cc
 

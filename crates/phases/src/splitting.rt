@@ -59,12 +59,7 @@ fn add_splits(
 }
 
 /// Adds those of a row, if it has entry columns alone.
-fn add_row(
-    alloc: Global,
-    from: u32,
-    row: &Row,
-    made: &mut Items<Poly>,
-) -> Result<(), AllocError>
+fn add_row(alloc: Global, from: u32, row: &Row, made: &mut Items<Poly>) -> Result<(), AllocError>
     ensures { OnOk result (made.new ≡ with_splits made.old (splits_of from row.now)) }
 {
     if !is_over_entries(from, &row.poly) {

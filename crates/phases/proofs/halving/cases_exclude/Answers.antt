@@ -1,5 +1,5 @@
 use Rattle.std.proofs.Common.{◌≡◌, ℕ, ◌+◌, ◌<◌, List, ◌∷◌, length, get_or, drop, Bool, true, false, refl, ap, ◌∙◌, sym, subst}
-use Rattle.std.specs.Prelude.{not, if◌then◌else◌}
+use Rattle.std.specs.Prelude.{if◌then◌else◌}
 use Rattle.std.proofs.lemmas.Option.{slice_get_read}
 use Rattle.items.proofs.Each.{each-get}
 use Rattle.std.proofs.lemmas.List.{drop_more}
@@ -20,14 +20,6 @@ after q cases i excluded = if excluded then cases_exclude q (drop (i + 1) cases)
 one_more : (q : Polynomial) (cases : List Case) (i : ℕ) (case : Case) → i < length cases → case ≡ get_or cases i case → cases_exclude q (drop i cases) ≡ case_excludes q case >>= after q cases i
 one_more q cases i case lt is = ap (cases_exclude q) (drop_more cases i case lt ∙ ap (λ r. r ∷ drop (i + 1) cases) (sym is))
 
-not_true : {b : Bool} → not b ≡ true → b ≡ false
-not_true {b = true} e = cc
-not_true {b = false} e = refl
-
-not_false : {b : Bool} → not b ≡ false → b ≡ true
-not_false {b = true} e = refl
-not_false {b = false} e = cc
-
 pub case_excludes-requires : goal.case_excludes-requires
 case_excludes-requires g c =
     each-get (IsExcludable c.args.poly.now) c.args.cases.now c.loop-case.case-index c.case-item.result c.requires
@@ -47,11 +39,11 @@ returns-then-not-branch g c =
     all_left
     (first_left (after c.args.poly.now c.args.cases.now c.loop-case.case-index) c.loop-case.invariant
     (one_more c.args.poly.now c.args.cases.now c.loop-case.case-index c.case-item.result c.loop-case-test.true c.case-item.is) c.in_ok-case_excludes.ensures refl)
-    (in_other_words (sym (ap (after c.args.poly.now c.args.cases.now c.loop-case.case-index) (not_true c.if-not-branch.true))) (at_end refl))
+    (in_other_words (sym (ap (after c.args.poly.now c.args.cases.now c.loop-case.case-index) c.if-not-branch.true)) (at_end refl))
 
 pub loop-case-preserved : goal.loop-case-preserved
 loop-case-preserved g c =
     subst (λ r. Leads g.O.Oracle.asking c.args.oracle.now c.case_excludes.new.oracle c.args.log.now c.case_excludes.new.log (cases_exclude c.args.poly.now c.args.cases.now) r)
-    (ap (after c.args.poly.now c.args.cases.now c.loop-case.case-index) (not_false c.if-not-branch.false))
+    (ap (after c.args.poly.now c.args.cases.now c.loop-case.case-index) c.if-not-branch.false)
     (first_left (after c.args.poly.now c.args.cases.now c.loop-case.case-index) c.loop-case.invariant
     (one_more c.args.poly.now c.args.cases.now c.loop-case.case-index c.case-item.result c.loop-case-test.true c.case-item.is) c.in_ok-case_excludes.ensures refl)

@@ -1,5 +1,5 @@
 use Rattle.std.proofs.Common.{◌≡◌, ◌∙◌, Bool, true, false, Option, None, refl, sym, ap}
-use Rattle.std.specs.Prelude.{not, if◌then◌else◌}
+use Rattle.std.specs.Prelude.{if◌then◌else◌}
 use Rattle.linear_terms.specs.Polynomial.{Polynomial}
 use Rattle.transition_formula.specs.Transition.{Transition}
 use Rattle.posing.specs.Posing.{Done, ◌>>=◌}
@@ -11,11 +11,7 @@ halves-apart : (body first second : Transition) (q : Polynomial) → is_apart bo
 unfolding halves_of
 halves-apart body first second q e = ap (λ b. if b then (cases_exclude q second.cases >>= λ excluded. Done (halves_if first second excluded)) else Done None) (sym e)
 
-not_false : {b : Bool} → not b ≡ false → b ≡ true
-not_false {b = true} e = refl
-not_false {b = false} e = cc
-
 pub returns : goal.returns
 returns g c =
-    in_other_words (halves-apart c.args.body.now c.args.first c.args.second c.args.opposite.now (sym c.is_apart.ensures ∙ not_false c.if-not-is_apart.false))
+    in_other_words (halves-apart c.args.body.now c.args.first c.args.second c.args.opposite.now (sym c.is_apart.ensures ∙ c.if-not-is_apart.false))
     (value_first (λ excluded. Done (halves_if c.args.first c.args.second excluded)) c.in_ok-excluded.ensures (ap (cases_exclude c.args.opposite.now) c.cases.ensures.cases) (at_end c.halves_if.ensures))

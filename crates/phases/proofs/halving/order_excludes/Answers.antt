@@ -9,7 +9,7 @@ use Rattle.phases.specs.Phases.{left_excludes}
 use Rattle.phases.proofs.halving.order_excludes.Goals as goal
 
 pub returns-in_err-whole : goal.returns-in_err-whole
-returns-in_err-whole g c = stops _ _ _ _ _ _ refl c.from_residual-in_err-whole.ensures.1
+returns-in_err-whole g c = stops _ _ _ _ _ _ refl c.from_residual.ensures.1
 
 pub solve_noted-requires : goal.solve_noted-requires
 solve_noted-requires g c = subst IsSolvable (sym c.in_ok-whole.ensures) c.requires
