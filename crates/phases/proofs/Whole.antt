@@ -180,7 +180,7 @@ module _ (voc : Vocabulary) (a b : Transition) (is : AreInTurn voc a b) where
 
 -- ---- phases
 
-in_turn-ready : (depth : ℕ) (voc : Vocabulary) (body a b : Transition) → IsRoomy depth body voc → IsPhased voc.columns a → IsPhased voc.columns b → AreInTurn voc a b
+pub in_turn-ready : (depth : ℕ) (voc : Vocabulary) (body a b : Transition) → IsRoomy depth body voc → IsPhased voc.columns a → IsPhased voc.columns b → AreInTurn voc a b
 in_turn-ready depth voc body a b is h k =
     record { first = h; second = k; vocabulary = is.starred.vocabulary; few_columns = subst (λ n. n ≤ 63) (sym is.starred.same_columns) is.few_columns }
 

@@ -2,7 +2,6 @@ pub use Rattle.items.specs.Gives
 pub use Rattle.posing.specs.Posing
 pub use Rattle.transition_formula.specs.Meaning
 pub use Rattle.polyhedra.specs.Vocabulary
-pub use Rattle.recurrence.specs.Law
 pub use Rattle.recurrence.specs.Star
 -- ---- what must be believed: the words that clauses of public calls cite
 

@@ -5,4 +5,4 @@ use Rattle.phases.proofs.halving.cases_exclude.Given as goal
 
 abbrev pub invariant-loop-case : goal.invariant-loop-case
 invariant-loop-case g l =
-    Leads g.O.Oracle.asking l.initial.oracle l.oracle l.initial.log l.log (cases_exclude l.poly.now l.cases) (cases_exclude l.poly.now (drop l.case-index l.cases))
+    Leads g.O.Oracle.asking l.initial.oracle l.oracle l.initial.log l.log (cases_exclude l.poly l.cases) (cases_exclude l.poly (drop l.case-index l.cases))

@@ -44,7 +44,7 @@ returns-then-is_some g c =
 
 pub loop-poly-preserved : goal.loop-poly-preserved
 loop-poly-preserved g c =
-    subst (λ r. Leads g.O.Oracle.asking c.args.oracle.now c.halves_at-found.new.oracle c.args.log.now c.halves-found.new.log (first_halves c.args.body.now c.args.tried.now) r)
+    subst (λ r. Leads g.O.Oracle.asking c.args.oracle.now c.halves_at.new.oracle c.args.log.now c.halves_at.new.log (first_halves c.args.body.now c.args.tried.now) r)
     (none-goes_on c.in_ok-found.found (first_halves c.args.body.now (drop (c.loop-poly.poly-index + 1) c.args.tried.now)) (sym c.is_some.ensures ∙ c.if-is_some.false))
     (first_left (after c.args.body.now c.args.tried.now c.loop-poly.poly-index) c.loop-poly.invariant
     (one_more c.args.body.now c.args.tried.now c.loop-poly.poly-index c.poly-item.result c.loop-poly-test.true c.poly-item.is) c.in_ok-found.ensures refl)

@@ -1,4 +1,4 @@
 use Rattle.phases.proofs.phasing.+phased.Given as goal
 
 abbrev pub decreases-phased : goal.decreases-phased
-decreases-phased l = l.depth
+decreases-phased g l = l.depth
