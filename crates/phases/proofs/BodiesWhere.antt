@@ -1,9 +1,9 @@
 -- The turns of a body that begin where an inequality is true.
-use Rattle.std.proofs.Common.{◌≡◌, ◌⊎◌, inl, inr, ℕ, zero, suc, ◌+◌, ◌≤◌, ◌<◌, ◌^◌, ℤ, pos, negsuc, Bool, true, false, List, [], ◌∷◌, ◌++◌, length, map, Ok, refl, sym, ap, subst, ◌∙◌, arith, ◌≤ℤ◌}
-use Rattle.std.specs.Prelude.{IsTrue, ◌&&◌, ◌==◌}
+use Rattle.std.proofs.Common.{◌≡◌, ◌⊎◌, inl, inr, ℕ, zero, suc, ◌+◌, ◌≤◌, ◌<◌, ◌^◌, ℤ, pos, negsuc, true, List, [], ◌∷◌, map, Ok, refl, ap, subst, ◌∙◌, arith, ◌≤ℤ◌}
+use Rattle.std.specs.Prelude.{IsTrue}
 use Rattle.std.specs.List.{AllByRecursion, list_all}
 use Rattle.std.proofs.lemmas.Int.{ints}
-use Rattle.std.proofs.lemmas.List.Elements.{All-from_recursion, recursion_from_All}
+use Rattle.std.proofs.lemmas.List.Elements.{All-from_recursion}
 use Rattle.std.proofs.lemmas.List.Folds.{list_all-append}
 use Rattle.items.proofs.Each.{each-append, each-both, each-map, each-more, each_from_test, test_from_each}
 use Rattle.linear_terms.specs.declared.col.Col.{Col}
@@ -16,7 +16,7 @@ use Rattle.linear_terms.specs.Polynomial.{Polynomial, IsCanonical}
 use Rattle.linear_terms.specs.Row.{RowHolds, IsWithin}
 use Rattle.linear_terms.specs.Value.{value_of}
 use Rattle.linear_terms.proofs.Worth.{RowHolds-negation}
-use Rattle.transition_formula.specs.Meaning.{numbers, HoldsCase, HoldsSome, Holds}
+use Rattle.transition_formula.specs.Meaning.{numbers, HoldsSome, Holds}
 use Rattle.transition_formula.specs.Transition.{Transition, every_column, is_below, fits, IsTransition, IsSolvable, AreSolvable}
 use Rattle.transition_formula.proofs.Covered.{both_true, more_columns}
 use Rattle.transition_formula.proofs.Fitted.{fits-solvable}
@@ -28,7 +28,7 @@ use Rattle.polyhedra.specs.Settle.{settled}
 use Rattle.polyhedra.proofs.Settled.{settled-covers}
 use Rattle.phases.specs.Phases.{body_where, case_where, turns_where}
 use Rattle.phases.specs.Splits.{contrary, inequality}
-use Rattle.phases.specs.Words.{IsHalvable, IsOverEntries, IsSplittable}
+use Rattle.phases.specs.Words.{IsHalvable, IsOverEntries}
 use Rattle.phases.proofs.CanonicalForms.{rows-canonical}
 use Rattle.phases.proofs.CanonicalOrder.{IsCanonicalCase, IsCanonicalFormula, IsCanonicalRow}
 

@@ -6,7 +6,7 @@ use Rattle.items.proofs.Each.{each-any, each-append, each-flat_map, each-map, ea
 use Rattle.linear_terms.specs.declared.error.TermError.{TermError}
 use Rattle.linear_terms.specs.declared.row.Row.{Row}
 use Rattle.linear_terms.specs.declared.row.Case.{Case}
-use Rattle.linear_terms.specs.Polynomial.{Polynomial, IsCanonical}
+use Rattle.linear_terms.specs.Polynomial.{Polynomial}
 use Rattle.linear_terms.proofs.Canonical.{IsCanonical-substituted}
 use Rattle.transition_formula.specs.Composition.{after_case, row_of, rows_by, sequence_of, sequence_of_cases}
 use Rattle.transition_formula.specs.Transition.{Transition}

@@ -1,5 +1,5 @@
 -- Cases that exclude an inequality on their posts end where it is false.
-use Rattle.std.proofs.Common.{◌≡◌, ℕ, zero, suc, ℤ, pos, Bool, true, false, List, [], ◌∷◌, ◌++◌, length, map, Option, Some, None, Result, Ok, Err, refl, sym, ap, subst, ◌∙◌, inl, inr, arith, ◌≤ℤ◌}
+use Rattle.std.proofs.Common.{◌≡◌, ℕ, zero, suc, ℤ, pos, Bool, true, false, List, [], ◌∷◌, ◌++◌, length, map, Option, Some, None, Ok, Err, refl, sym, ap, subst, ◌∙◌, inl, inr, arith, ◌≤ℤ◌}
 use Rattle.std.specs.Prelude.{IsTrue, slice_get, unwrap_or, if◌then◌else◌}
 use Rattle.std.specs.List.{AllByRecursion, list_all}
 use Rattle.std.proofs.lemmas.List.Elements.{All-from_recursion}
@@ -7,7 +7,6 @@ use Rattle.std.proofs.lemmas.List.Folds.{list_all-append}
 use Rattle.items.proofs.Each.{each-append}
 use Rattle.linear_terms.specs.declared.col.Col.{Col}
 use Rattle.linear_terms.specs.declared.col.Col.TheVariants.{At, Aux}
-use Rattle.linear_terms.specs.declared.error.TermError.{TermError}
 use Rattle.linear_terms.specs.declared.row.Row.{Row}
 use Rattle.linear_terms.specs.declared.row.Case.{Case}
 use Rattle.linear_terms.specs.Auxiliaries.{is_numbered}
@@ -19,9 +18,9 @@ use Rattle.linear_terms.specs.Row.{RowHolds, AreCanonical}
 use Rattle.linear_terms.specs.Value.{Valuation, value_of}
 use Rattle.linear_terms.proofs.Canonical.{IsCanonical-substituted}
 use Rattle.linear_terms.proofs.Values.{substituted-value}
-use Rattle.transition_formula.specs.Meaning.{numbers, HoldsAt, HoldsCase, HoldsLeft, HoldsSome}
+use Rattle.transition_formula.specs.Meaning.{numbers, HoldsCase, HoldsLeft, HoldsSome}
 use Rattle.transition_formula.specs.Rounds.{in_order}
-use Rattle.transition_formula.specs.Transition.{every_column, every_column_of, is_below, IsSolvable}
+use Rattle.transition_formula.specs.Transition.{every_column, is_below, IsSolvable}
 use Rattle.transition_formula.proofs.Covered.{both, both_true, substituted-carries}
 use Rattle.transition_formula.proofs.Fitting.{test_of_get, true-below}
 use Rattle.transition_formula.proofs.Ordering.{in_order-holds}
@@ -31,7 +30,7 @@ use Rattle.polyhedra.specs.Infeasibility.{assent}
 use Rattle.polyhedra.proofs.Settled.{Excluded, infeasible-excludes}
 use Rattle.phases.specs.Phases.{case_excludes, case_excludes_by, case_where, cases_exclude, left_excludes, rows_exclude}
 use Rattle.phases.specs.Splits.{inequality}
-use Rattle.phases.specs.Words.{AreExcludable, IsExcludable, IsOverEntries}
+use Rattle.phases.specs.Words.{AreExcludable, IsExcludable}
 use Rattle.phases.proofs.BodiesWhere.{IsTrueAt}
 use Rattle.phases.proofs.CanonicalOrder.{IsCanonicalCase, IsCanonicalRow}
 

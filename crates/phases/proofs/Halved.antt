@@ -1,5 +1,5 @@
 -- What the halves of a split are, whatever the answers are, as long as they are true.
-use Rattle.std.proofs.Common.{◌≡◌, ◌⊎◌, inl, inr, ℕ, suc, ◌+◌, ◌*◌, ◌≤◌, ◌<◌, ◌^◌, ℤ, Bool, true, false, List, [], ◌∷◌, length, map, Option, Some, None, Ok, Err, refl, sym, ap, subst, ◌∙◌, arith}
+use Rattle.std.proofs.Common.{◌≡◌, inl, inr, ℕ, suc, ◌+◌, ◌*◌, ◌≤◌, ◌<◌, ◌^◌, ℤ, Bool, true, false, List, [], ◌∷◌, length, map, Option, Some, None, Ok, Err, refl, sym, subst, ◌∙◌, arith}
 use Rattle.std.specs.Prelude.{IsTrue, if◌then◌else◌, nat_lt}
 use Rattle.std.specs.List.{AllByRecursion}
 use Rattle.items.proofs.Each.{each-any, each-both, each-map, each-more, each_from_test}
@@ -8,7 +8,7 @@ use Rattle.linear_terms.specs.declared.row.Case.{Case}
 use Rattle.linear_terms.specs.Expressions.{Made}
 use Rattle.linear_terms.specs.Polynomial.{Polynomial}
 use Rattle.transition_formula.specs.Meaning.{Holds}
-use Rattle.transition_formula.specs.Transition.{Transition, IsTransition, IsSolvable, fits, every_column, is_below}
+use Rattle.transition_formula.specs.Transition.{Transition, IsTransition, fits, is_below}
 use Rattle.transition_formula.proofs.Fitted.{fits-solvable}
 use Rattle.transition_formula.proofs.Fitting.{fitting}
 use Rattle.posing.specs.Posing.{Done, ◌>>=◌, Always}
@@ -16,7 +16,6 @@ use Rattle.posing.proofs.Paths.{always_any, always_bind, always_weaker}
 use Rattle.polyhedra.specs.Settle.{settled, settled_cases}
 use Rattle.polyhedra.specs.Vocabulary.{Vocabulary}
 use Rattle.polyhedra.proofs.Settled.{settled_cases-fit}
-use Rattle.recurrence.specs.Law.{IsStarred}
 use Rattle.recurrence.proofs.Starred.{always_both}
 use Rattle.phases.specs.declared.halving.Halves.{Halves}
 use Rattle.phases.specs.Phases.{body_where, case_where, cases_exclude, first_halves, halves_at, halves_by, halves_if, halves_of, has_cases, is_apart, or_next, split, turns_where, with_first}
@@ -27,7 +26,7 @@ use Rattle.phases.proofs.CanonicalOrder.{IsCanonicalCase, IsCanonicalFormula, se
 use Rattle.phases.proofs.Chains.{AreHalves}
 use Rattle.phases.proofs.Exclusions.{ExcludesAll, cases_exclude-true}
 use Rattle.phases.proofs.SettledRoom.{IsRoomyCase, settled_cases-spare}
-use Rattle.phases.proofs.SplitPolynomials.{IsInForm, Steps, column-steps, contrary-keeps, form-steps, splits-keep}
+use Rattle.phases.proofs.SplitPolynomials.{IsInForm, column-steps, contrary-keeps, form-steps, splits-keep}
 
 -- ---- the turns of a half: between the same columns, with few auxiliaries
 

@@ -12,7 +12,7 @@ use Rattle.transition_formula.specs.Rows.{tidied}
 use Rattle.transition_formula.proofs.FewAuxiliaries.{HasRoom, first-room, solved-room, tidied-room}
 use Rattle.transition_formula.proofs.Numbers.{count_below-most}
 use Rattle.transition_formula.proofs.Rounding.{AllNumbered, first_equation-row}
-use Rattle.posing.specs.Posing.{Done, ◌>>=◌, Always}
+use Rattle.posing.specs.Posing.{Done, Always}
 use Rattle.posing.proofs.Paths.{always_any, always_bind, always_each, always_weaker}
 use Rattle.polyhedra.specs.Infeasibility.{infeasible}
 use Rattle.polyhedra.specs.Settle.{feasible, feasible_by, feasible_left, settled_case, settled_cases, unless, with_settled}

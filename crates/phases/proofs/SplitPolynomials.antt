@@ -1,7 +1,7 @@
 -- What the inequalities keep by which a body may split, and how they are gathered.
 use Rattle.std.proofs.Common.{inl, inr, length-append, ◌≡◌, ℕ, zero, suc, ◌+◌, ◌<◌, ◌≤◌, Bool, true, false, List, [], ◌∷◌, ◌++◌, length, take, drop, get_or, pos, negsuc, Option, Some, None, Result, Ok, Err, refl, sym, ap, subst, ◌∙◌, arith}
 use Rattle.std.specs.Prelude.{IsTrue, ◌&&◌, nat_lt, not, fold, option_to_list, if◌then◌else◌}
-use Rattle.std.specs.List.{AllByRecursion, flat_map, list_all, list_any}
+use Rattle.std.specs.List.{AllByRecursion, flat_map, list_any}
 use Rattle.std.specs.Option.{option_map}
 use Rattle.std.proofs.lemmas.Bool.{cases_lt}
 use Rattle.std.proofs.lemmas.List.{drop_more, length-take-le, take_all, take-append-le}
@@ -19,7 +19,6 @@ use Rattle.linear_terms.specs.declared.row.Row.{Row}
 use Rattle.linear_terms.specs.declared.row.Case.{Case}
 use Rattle.linear_terms.specs.Equality.{poly_eq}
 use Rattle.linear_terms.specs.Expressions.{Made, ◌⊞◌, all_of, turned, whole}
-use Rattle.linear_terms.specs.Operations.{multiple_of, sum_of_polys}
 use Rattle.linear_terms.specs.Polynomial.{Polynomial, IsCanonical, constant_of}
 use Rattle.linear_terms.specs.Row.{normal_form}
 use Rattle.linear_terms.proofs.Canonical.{IsCanonical-multiple_of, IsCanonical-sum_of_polys}

@@ -1,5 +1,5 @@
 -- The laws of phases, whole.
-use Rattle.std.proofs.Common.{◌≡◌, ℕ, zero, suc, ◌+◌, ◌*◌, ◌≤◌, ◌<◌, ◌^◌, ℤ, List, [], ◌∷◌, length, map, Option, Some, None, refl, sym, ap, subst, ◌∙◌, arith}
+use Rattle.std.proofs.Common.{◌≡◌, ℕ, zero, suc, ◌+◌, ◌*◌, ◌≤◌, List, [], ◌∷◌, length, map, Option, Some, None, refl, sym, subst, ◌∙◌, arith}
 use Rattle.std.specs.Prelude.{IsTrue, ◌&&◌, nat_le, nat_lt, option_to_list}
 use Rattle.std.specs.List.{AllByRecursion, list_all}
 use Rattle.std.proofs.lemmas.Bool.{leb-true, le-leb}
@@ -18,7 +18,7 @@ use Rattle.polyhedra.specs.Finish.{finished}
 use Rattle.polyhedra.specs.Laws.{IsBetween, IsSmall}
 use Rattle.polyhedra.specs.Settle.{settled, settled_cases}
 use Rattle.polyhedra.specs.Squash.{fitted}
-use Rattle.polyhedra.specs.Vocabulary.{Vocabulary, IsVocabulary}
+use Rattle.polyhedra.specs.Vocabulary.{Vocabulary}
 use Rattle.polyhedra.proofs.Fitted.{fitted-covers, fitted-small}
 use Rattle.polyhedra.proofs.Settled.{settled-covers, settled_cases-fit}
 use Rattle.recurrence.specs.Law.{IsStar}

@@ -1,4 +1,4 @@
-use Rattle.std.proofs.Common.{◌≡◌, [], List, length, Result, Ok, Err, refl, sym, subst}
+use Rattle.std.proofs.Common.{[], List, length, Result, Ok, Err, refl, sym, subst}
 use Rattle.std.specs.Prelude.{All, IfOk}
 use Rattle.items.specs.Gives.{Gives}
 use Rattle.items.proofs.Gives.{Gives-Ok}

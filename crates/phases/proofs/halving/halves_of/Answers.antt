@@ -1,4 +1,4 @@
-use Rattle.std.proofs.Common.{◌≡◌, ◌∙◌, Bool, true, false, Option, None, refl, sym, ap}
+use Rattle.std.proofs.Common.{◌≡◌, ◌∙◌, true, None, sym, ap}
 use Rattle.std.specs.Prelude.{if◌then◌else◌}
 use Rattle.linear_terms.specs.Polynomial.{Polynomial}
 use Rattle.transition_formula.specs.Transition.{Transition}

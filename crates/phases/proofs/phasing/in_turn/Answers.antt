@@ -1,5 +1,5 @@
-use Rattle.std.proofs.Common.{◌≡◌, ◌++◌, ◌∙◌, refl, sym, ap, subst}
-use Rattle.transition_formula.specs.Composition.{lost_in_sequence, sequence_of}
+use Rattle.std.proofs.Common.{◌++◌, ◌∙◌, sym, ap, subst}
+use Rattle.transition_formula.specs.Composition.{lost_in_sequence}
 use Rattle.transition_formula.specs.Transition.{Transition, AreSolvable}
 use Rattle.posing.specs.Logs.{loss_notes}
 use Rattle.posing.specs.Posing.{Always}

@@ -1,7 +1,6 @@
-use Rattle.std.proofs.Common.{[], sym, ap, ◌∙◌, List}
+use Rattle.std.proofs.Common.{◌∙◌}
 use Rattle.std.specs.List.{flat_map}
 use Rattle.linear_terms.specs.declared.row.Case.{Case}
-use Rattle.linear_terms.specs.Polynomial.{Polynomial}
 use Rattle.phases.specs.Splits.{splits_of}
 use Rattle.phases.specs.Words.{with_splits}
 use Rattle.phases.proofs.SplitPolynomials.{splits-gathered}
