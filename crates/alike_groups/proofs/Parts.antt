@@ -26,7 +26,7 @@ use Rattle.newton_rounds.proofs.Zipped.{some-one, zipped-at, zipped-each}
 use Rattle.analysis.specs.declared.planning.GroupKind.{GroupKind}
 use Rattle.analysis.specs.declared.planning.GroupKind.TheVariants.{Plain, Linear, Rounds}
 use Rattle.analysis.specs.declared.planning.Planned.{Planned}
-use Rattle.analysis.specs.Parts.{plain_part, recursive_part, summed_by, with_flow, with_plain}
+use Rattle.analysis.specs.Parts.{plain_part, recursive_part, summaries_by, with_flow, with_plain}
 use Rattle.analysis.specs.Plan.{ArePlannedOf, IsKindOf, IsPlannedOf}
 use Rattle.alike_groups.specs.Parts.{AlikePartsAreOne, IsPlannedIn, PlansArePlanned}
 use Rattle.alike_groups.proofs.CalledAlike.{code-by_calls}
@@ -163,8 +163,8 @@ module _ (program other : Program) (procs others : List ℕ) (known other_known 
       Done record { formulas = made.formulas ++ f ∷ []; flows = made.flows ++ flow ∷ [] })
       record { formulas = []; flows = [] } (members_of program procs) (members_of other others) (procs-known procs others alike.members (outside never))
 
-  summed-one : (kind : GroupKind) → NoneWithin kind program procs → summed_by kind program procs known ≡ summed_by kind other others other_known
-  unfolding summed_by
+  summed-one : (kind : GroupKind) → NoneWithin kind program procs → summaries_by kind program procs known ≡ summaries_by kind other others other_known
+  unfolding summaries_by
   summed-one Plain never = plain-one never
   summed-one Linear never = recursive-one (closed_of true program procs known) (closed_of true other others other_known) (closed-one true)
   summed-one Rounds never = recursive-one (closed_of false program procs known) (closed_of false other others other_known) (closed-one false)
@@ -187,8 +187,8 @@ alike_parts_are_one program other planned kept known other_known here there alik
     let kinds = kind-one program other group next recursive linear planned.kind kept.kind here.of.kind there.of.kind in
     let never = none-within program here.come group here.next planned.kind here.of.kind in (
       kinds,
-      ap (λ all. summed_by planned.kind program all known) procs
+      ap (λ all. summaries_by planned.kind program all known) procs
           ∙ summed-one program other group.procs next.procs known other_known own planned.kind never
-          ∙ ap (λ kind. summed_by kind other next.procs other_known) kinds
-          ∙ ap (λ all. summed_by kept.kind other all other_known) (sym other_procs),
+          ∙ ap (λ kind. summaries_by kind other next.procs other_known) kinds
+          ∙ ap (λ all. summaries_by kept.kind other all other_known) (sym other_procs),
     )

@@ -6,7 +6,7 @@ use Rattle.flow_graph.specs.declared.grouping.Group.{Group}
 use Rattle.flow_graph.specs.Groups.{IsNext}
 use Rattle.newton_rounds.specs.Alike.{AreAlikeGroups}
 use Rattle.analysis.specs.declared.planning.Planned.{Planned}
-use Rattle.analysis.specs.Parts.{summed_by}
+use Rattle.analysis.specs.Parts.{summaries_by}
 use Rattle.analysis.specs.Plan.{IsPlan, IsPlannedOf}
 
 -- a group of the program, as its plan has it
@@ -30,5 +30,5 @@ AlikePartsAreOne =
     → IsPlannedIn program planned → IsPlannedIn other kept →
     AreAlikeGroups program other planned.procs kept.procs known other_known →
     (planned.kind ≡ kept.kind)
-    × (summed_by planned.kind program planned.procs known
-    ≡ summed_by kept.kind other kept.procs other_known)
+    × (summaries_by planned.kind program planned.procs known
+    ≡ summaries_by kept.kind other kept.procs other_known)

@@ -27,7 +27,7 @@ use Rattle.analysis.specs.Analysis.{analysed, ended_by, report_by}
 use Rattle.analysis.specs.Apart.{apart, apart_from}
 use Rattle.analysis.specs.Found.{found_by, with_group, flows_in}
 use Rattle.analysis.specs.Judging.{Asserted, asserted, judged_by, judged_of, place_in, with_judged}
-use Rattle.analysis.specs.Parts.{part_of, summed_by}
+use Rattle.analysis.specs.Parts.{part_of, summaries_by}
 
 -- no step of it makes notes
 abbrev pub IsQuiet : {A : Type 0} → Posing A → Type 0
@@ -90,7 +90,7 @@ unfolding found_by with_group part_of
 found-quiet program plan =
     quiet-each _ _ plan (λ found planned.
     quiet-bind (part_of program planned found.known) _
-    (quiet-bind (apart (summed_by planned.kind program planned.procs found.known)) _ (quiet-apart_from [] (summed_by planned.kind program planned.procs found.known)) (λ made. tt))
+    (quiet-bind (apart (summaries_by planned.kind program planned.procs found.known)) _ (quiet-apart_from [] (summaries_by planned.kind program planned.procs found.known)) (λ made. tt))
     (λ part. tt))
 
 pub analysed-quiet : (program : Program) (places : List TextPlace) (plan : List Planned) → IsQuiet (analysed program places plan)

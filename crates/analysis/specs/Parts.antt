@@ -18,7 +18,7 @@ use Rattle.analysis.specs.declared.planning.GroupKind.{GroupKind}
 use Rattle.analysis.specs.declared.planning.GroupKind.TheVariants.{Plain, Linear, Rounds}
 use Rattle.analysis.specs.declared.planning.Planned.{Planned}
 use Rattle.analysis.specs.declared.parts.Part.{Part}
-use Rattle.analysis.specs.declared.parts.Summed.{Summed}
+use Rattle.analysis.specs.declared.parts.GroupSummaries.{GroupSummaries}
 use Rattle.analysis.specs.Apart.{apart}
 
 -- ---- summaries and flows
@@ -29,30 +29,30 @@ with_flow program known made p = flow_from (subject_of program p known)
     >>= λ flow. Done (made ++ flow ∷ [])
 
 -- a procedure that does not call itself: its flow, and its summary by that
-unfoldable pub with_plain : Program → List (Option Transition) → Summed → Proc → Posing Summed
+unfoldable pub with_plain : Program → List (Option Transition) → GroupSummaries → Proc → Posing GroupSummaries
 with_plain program known made p =
     flow_from (subject_of program p known) >>= λ flow.
     summary_from (ends_of program p) flow.exit.formula >>= λ f.
     Done record { formulas = made.formulas ++ f ∷ []; flows = made.flows ++ flow ∷ [] }
 
-unfoldable pub plain_part : Program → List ℕ → List (Option Transition) → Posing Summed
+unfoldable pub plain_part : Program → List ℕ → List (Option Transition) → Posing GroupSummaries
 plain_part program procs known =
     each (with_plain program known) record { formulas = []; flows = [] } (members_of program procs)
 
 -- a recursive group: its summaries, and then a flow for each procedure by these
 unfoldable pub recursive_part : Program → List ℕ → List (Option Transition)
-    → Posing (List Transition) → Posing Summed
+    → Posing (List Transition) → Posing GroupSummaries
 recursive_part program procs known summaries =
     summaries >>= λ table.
     each (with_flow program (with_table procs table known)) [] (members_of program procs)
     >>= λ flows.
     Done record { formulas = table; flows = flows }
 
-unfoldable pub summed_by : GroupKind → Program → List ℕ → List (Option Transition) → Posing Summed
-summed_by Plain program procs known = plain_part program procs known
-summed_by Linear program procs known =
+unfoldable pub summaries_by : GroupKind → Program → List ℕ → List (Option Transition) → Posing GroupSummaries
+summaries_by Plain program procs known = plain_part program procs known
+summaries_by Linear program procs known =
     recursive_part program procs known (closed_of true program procs known)
-summed_by Rounds program procs known =
+summaries_by Rounds program procs known =
     recursive_part program procs known (closed_of false program procs known)
 
 -- ---- the group's notes
@@ -63,11 +63,16 @@ abbrev pub note_in : List ℕ → Note → Note
 note_in procs (note.Dropped place row by) = note.Dropped (slice_index_or procs place 0) row by
 note_in procs n = n
 
+-- with notes that tell procedures by their places in the group
+abbrev pub part_with : List ℕ → GroupSummaries → List Note → Part
+part_with procs made notes =
+    record {
+      formulas = made.formulas;
+      flows = made.flows;
+      notes = map (note_in procs) notes;
+    }
+
 unfoldable pub part_of : Program → Planned → List (Option Transition) → Posing Part
 part_of program planned known =
-    apart (summed_by planned.kind program planned.procs known) >>= λ made.
-    Done record {
-      formulas = made.0.formulas;
-      flows = made.0.flows;
-      notes = map (note_in planned.procs) made.1;
-    }
+    apart (summaries_by planned.kind program planned.procs known) >>= λ made.
+    Done (part_with planned.procs made.0 made.1)

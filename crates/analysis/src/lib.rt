@@ -13,7 +13,7 @@ mod standing;
 mod whole;
 
 pub use found::Found;
-pub use parts::{Part, part_of};
+pub use parts::{GroupSummaries, Part, part_of, part_with, summaries_apart};
 pub use places::TextPlace;
 pub use planning::{GroupKind, Planned, plan};
 pub use whole::{analyse, ended_by};

@@ -13,7 +13,7 @@ ghost use Rattle.newton_rounds.specs.Laws.{KnowsOthers};
 ghost use Rattle.newton_rounds.specs.Members.{IsLinear, members_of};
 ghost use Rattle.analysis.specs.Apart.{apart};
 ghost use Rattle.analysis.specs.Claims.{AddsFlow, AddsSummary, AreFlowsOf, FitFlows, FitsGroup, GroupIsMet, IsReadyGroup, KnowAllCallees};
-ghost use Rattle.analysis.specs.Parts.{note_in, part_of, plain_part, recursive_part, summed_by, with_flow, with_plain};
+ghost use Rattle.analysis.specs.Parts.{note_in, part_of, part_with, plain_part, recursive_part, summaries_by, with_flow, with_plain};
 
 use crate::planning::{GroupKind, Planned};
 use farkas_check::Oracle;
@@ -36,11 +36,11 @@ pub struct Part {
     pub notes: Items<Note>,
 }
 
-/// The summaries and the flows.
+/// A summary and a flow for each procedure of a group, in their order.
 #[derive(Debug, Drop)]
-pub(crate) struct Summed {
-    pub(crate) formulas: Items<Formula>,
-    pub(crate) flows: Items<Flow>,
+pub struct GroupSummaries {
+    pub formulas: Items<Formula>,
+    pub flows: Items<Flow>,
 }
 
 /// What is found of a group whose callees outside are known. The log gains the answers, and no
@@ -64,9 +64,22 @@ pub fn part_of<O: Oracle>(
     ensures met { AreMet program.now known.now
         → IfOk result (λ part. GroupIsMet program.now planned.now.procs part.formulas part.flows) }
 {
-    let (summed, notes) = summed_apart(alloc, program, planned, known, oracle, log)?;
-    let notes = notes_in(alloc, planned.procs.as_slice(), notes)?;
-    let Summed { formulas, flows } = summed;
+    let (made, notes) = summaries_apart(alloc, program, planned, known, oracle, log)?;
+    Ok(part_with(alloc, planned.procs.as_slice(), made, notes)?)
+}
+
+/// A part of these summaries and flows, with notes that tell procedures by their places in the
+/// group.
+pub fn part_with(
+    alloc: Global,
+    procs: &[u32],
+    made: GroupSummaries,
+    notes: Items<Note>,
+) -> Result<Part, AllocError>
+    ensures { IfOk result (λ part. part ≡ part_with procs.now made notes) }
+{
+    let notes = notes_in(alloc, procs, notes)?;
+    let GroupSummaries { formulas, flows } = made;
     Ok(Part {
         formulas,
         flows,
@@ -74,20 +87,22 @@ pub fn part_of<O: Oracle>(
     })
 }
 
-/// The summaries and the flows, and the notes of finding these.
-fn summed_apart<O: Oracle>(
+/// The summaries and the flows of a group whose callees outside are known, and the notes of finding
+/// these, in which a procedure is told by its place in the group. The log gains the answers, and no
+/// notes.
+pub fn summaries_apart<O: Oracle>(
     alloc: Global,
     program: &Program,
     planned: &Planned,
     known: &[Option<Formula>],
     oracle: &mut O,
     log: &mut Log,
-) -> Result<(Summed, Items<Note>), WorkError>
+) -> Result<(GroupSummaries, Items<Note>), WorkError>
     requires formed { IsWellFormed program.now }
     requires known { AreKnown program.now known.now }
     requires ready { IsReadyGroup program.now planned.now known.now }
     ensures follows { Follows O.asking oracle.old oracle.new log.old log.new result
-        (apart (summed_by planned.now.kind program.now planned.now.procs known.now)) }
+        (apart (summaries_by planned.now.kind program.now planned.now.procs known.now)) }
     ensures fits { IfOk result
         (λ made. FitsGroup program.now planned.now.procs made.0.formulas made.0.flows) }
     ensures met { AreMet program.now known.now
@@ -95,25 +110,25 @@ fn summed_apart<O: Oracle>(
         (λ made. GroupIsMet program.now planned.now.procs made.0.formulas made.0.flows) }
 {
     let others = mem::replace(&mut log.notes, Items::new(alloc));
-    let result = summed_by(alloc, program, planned, known, oracle, log);
+    let result = summaries_by(alloc, program, planned, known, oracle, log);
     let notes = mem::replace(&mut log.notes, others);
     Ok((result?, notes))
 }
 
-#[tactic(auto, unfolding(crate::specs::Parts::summed_by))]
-fn summed_by<O: Oracle>(
+#[tactic(auto, unfolding(crate::specs::Parts::summaries_by))]
+fn summaries_by<O: Oracle>(
     alloc: Global,
     program: &Program,
     planned: &Planned,
     known: &[Option<Formula>],
     oracle: &mut O,
     log: &mut Log,
-) -> Result<Summed, WorkError>
+) -> Result<GroupSummaries, WorkError>
     requires formed { IsWellFormed program.now }
     requires known { AreKnown program.now known.now }
     requires ready { IsReadyGroup program.now planned.now known.now }
     ensures follows { Follows O.asking oracle.old oracle.new log.old log.new result
-        (summed_by planned.now.kind program.now planned.now.procs known.now) }
+        (summaries_by planned.now.kind program.now planned.now.procs known.now) }
     ensures fits { IfOk result
         (λ summed. FitsGroup program.now planned.now.procs summed.formulas summed.flows) }
     ensures met { AreMet program.now known.now
@@ -137,7 +152,7 @@ fn plain_part<O: Oracle>(
     known: &[Option<Formula>],
     oracle: &mut O,
     log: &mut Log,
-) -> Result<Summed, WorkError>
+) -> Result<GroupSummaries, WorkError>
     requires formed { IsWellFormed program.now }
     requires there { All (λ proc. proc < length program.now.procs) procs.now }
     requires known { AreKnown program.now known.now }
@@ -149,7 +164,7 @@ fn plain_part<O: Oracle>(
     ensures met { AreMet program.now known.now
         → IfOk result (λ summed. GroupIsMet program.now procs.now summed.formulas summed.flows) }
 {
-    let mut made = Summed {
+    let mut made = GroupSummaries {
         formulas: Items::new(alloc),
         flows: Items::new(alloc),
     };
@@ -166,10 +181,10 @@ fn with_plain<O: Oracle>(
     program: &Program,
     proc: u32,
     known: &[Option<Formula>],
-    made: Summed,
+    made: GroupSummaries,
     oracle: &mut O,
     log: &mut Log,
-) -> Result<Summed, WorkError>
+) -> Result<GroupSummaries, WorkError>
     requires formed { IsWellFormed program.now }
     requires procedure { proc < length program.now.procs }
     requires known { AreKnown program.now known.now }
@@ -184,13 +199,13 @@ fn with_plain<O: Oracle>(
 {
     let own = flow(alloc, program, proc, known, oracle, log)?;
     let formula = project(alloc, program, proc, &own, oracle, log)?;
-    let Summed {
+    let GroupSummaries {
         mut formulas,
         mut flows,
     } = made;
     formulas.push(formula)?;
     flows.push(own)?;
-    Ok(Summed { formulas, flows })
+    Ok(GroupSummaries { formulas, flows })
 }
 
 /// A recursive group: its summaries, and then a flow for each procedure by these.
@@ -203,7 +218,7 @@ fn recursive_part<O: Oracle>(
     linear: bool,
     oracle: &mut O,
     log: &mut Log,
-) -> Result<Summed, WorkError>
+) -> Result<GroupSummaries, WorkError>
     requires formed { IsWellFormed program.now }
     requires there { All (λ proc. proc < length program.now.procs) procs.now }
     requires few { length procs.now ≤ length program.now.procs }
@@ -221,7 +236,7 @@ fn recursive_part<O: Oracle>(
     let formulas = close(alloc, program, procs, known, linear, oracle, log)?;
     let all = with_table(alloc, procs, formulas.as_slice(), known)?;
     let flows = flows_by(alloc, program, procs, all.as_slice(), oracle, log)?;
-    Ok(Summed { formulas, flows })
+    Ok(GroupSummaries { formulas, flows })
 }
 
 fn flows_by<O: Oracle>(

@@ -42,7 +42,7 @@ use Rattle.analysis.specs.declared.planning.GroupKind.TheVariants.{Plain, Linear
 use Rattle.analysis.specs.declared.planning.Planned.{Planned}
 use Rattle.analysis.specs.Apart.{apart, apart_from}
 use Rattle.analysis.specs.Claims.{AreFlowsOf, FitFlows, FitsGroup, GroupIsMet, IsLinearIf, IsReadyGroup, KnowAllCallees, KnowsFor}
-use Rattle.analysis.specs.Parts.{part_of, plain_part, recursive_part, summed_by, with_flow, with_plain}
+use Rattle.analysis.specs.Parts.{part_of, plain_part, recursive_part, summaries_by, with_flow, with_plain}
 use Rattle.analysis.proofs.Ready.{ready-tabled, tabled-are, tabled-met}
 use Rattle.analysis_laws.specs.Laws.{IsFinePart, PartsAreMet}
 use Rattle.analysis_laws.proofs.GroupSummaries.{group-known}
@@ -88,8 +88,8 @@ all-behind P all made so_far = subst (AllZip P all) (append-nil made) (so_far []
 abbrev Domain : {A B : Type 0} → (A → B) → Type 0
 Domain {A} {B} f = A
 
-abbrev Summed : Program → List (Option Transition) → Type 0
-Summed program known = Domain (with_plain program known)
+abbrev GroupSummaries : Program → List (Option Transition) → Type 0
+GroupSummaries program known = Domain (with_plain program known)
 
 module _ (program : Program) (formed : IsWellFormed program) where
   -- ---- the procedures of a group, by known formulas
@@ -125,13 +125,13 @@ module _ (program : Program) (formed : IsWellFormed program) where
         under-bind IsPassing (FitsBehind IsTrueOf all ps) (AllZip IsTrueOf all) (with_flow program known made p) (λ next. each (with_flow program known) next ps) (flow-next all ps p made so_far)
         (λ next now. flows-from all ps next now)
 
-    abbrev AreZipped : List Proc → Summed program known → Type 0
+    abbrev AreZipped : List Proc → GroupSummaries program known → Type 0
     AreZipped all made = AllZip IsSummaryOf all made.formulas × AllZip IsTrueOf all made.flows
 
-    abbrev AreBehind : List Proc → List Proc → Summed program known → Type 0
+    abbrev AreBehind : List Proc → List Proc → GroupSummaries program known → Type 0
     AreBehind all rest made = FitsBehind IsSummaryOf all rest made.formulas × FitsBehind IsTrueOf all rest made.flows
 
-    plain-next : (all ps : List Proc) (p : Proc) (made : Summed program known) → AreBehind all (p ∷ ps) made → AlwaysPassing (AreBehind all ps) (with_plain program known made p)
+    plain-next : (all ps : List Proc) (p : Proc) (made : GroupSummaries program known) → AreBehind all (p ∷ ps) made → AlwaysPassing (AreBehind all ps) (with_plain program known made p)
     unfolding with_plain
     plain-next all ps p made so_far =
         under-bind IsPassing (λ flow. IsTrueOf p flow × AlwaysPassing (IsSummaryOf p) (summary_from (ends_of program p) flow.exit.formula)) (AreBehind all ps) (flow_from (subject_of program p known)) _
@@ -141,7 +141,7 @@ module _ (program : Program) (formed : IsWellFormed program) where
         (λ f. Done record { formulas = made.formulas ++ f ∷ []; flows = made.flows ++ flow ∷ [] }) fine.1
         (λ f own. (one-behind IsSummaryOf all p ps made.formulas f so_far.0 own, one-behind IsTrueOf all p ps made.flows flow so_far.1 fine.0)))
 
-    plain-from : (all ps : List Proc) (made : Summed program known) → AreBehind all ps made → AlwaysPassing (AreZipped all) (each (with_plain program known) made ps)
+    plain-from : (all ps : List Proc) (made : GroupSummaries program known) → AreBehind all ps made → AlwaysPassing (AreZipped all) (each (with_plain program known) made ps)
     plain-from all [] made so_far = (all-behind IsSummaryOf all made.formulas so_far.0, all-behind IsTrueOf all made.flows so_far.1)
     plain-from all (p ∷ ps) made so_far =
         under-bind IsPassing (AreBehind all ps) (AreZipped all) (with_plain program known made p) (λ next. each (with_plain program known) next ps) (plain-next all ps p made so_far)
@@ -197,7 +197,7 @@ module _ (program : Program) (formed : IsWellFormed program) where
     there : AreThere program procs
     there = recursion_from_All (λ proc. proc < length program.procs) procs within
 
-    abbrev IsFine : Summed program known → Type 0
+    abbrev IsFine : GroupSummaries program known → Type 0
     IsFine summed =
         FitsGroup program procs summed.formulas summed.flows
         × (AreMet program known → GroupIsMet program procs summed.formulas summed.flows)
@@ -237,8 +237,8 @@ module _ (program : Program) (formed : IsWellFormed program) where
         (under-all IsPassing (λ (met : AreMet program known) table. AreMetMembers program procs table) (closed_of linear program procs known)
         (λ met. summaries-met program procs known linear formed within few are met knows tells)))
 
-    summed-fine : (kind : GroupKind) → length procs ≤ length program.procs → KnowsFor kind program procs known → IsLinearIf kind program procs → AlwaysPassing IsFine (summed_by kind program procs known)
-    unfolding summed_by
+    summed-fine : (kind : GroupKind) → length procs ≤ length program.procs → KnowsFor kind program procs known → IsLinearIf kind program procs → AlwaysPassing IsFine (summaries_by kind program procs known)
+    unfolding summaries_by
     summed-fine Plain few knows linear = plain-fine knows
     summed-fine Linear few knows linear = closed-fine true few knows (λ yes. linear)
     summed-fine Rounds few knows linear = closed-fine false few knows (λ yes. absurd (false≢true yes))
@@ -247,8 +247,8 @@ module _ (program : Program) (formed : IsWellFormed program) where
       → AlwaysPassing (IsFinePart program planned known) (part_of program planned known)
   unfolding part_of
   part-fine planned known are ready =
-      under-bind IsPassing (λ made. IsFine planned.procs ready.there known are made.0) (IsFinePart program planned known) (apart (summed_by planned.kind program planned.procs known)) _
-      (under-apart IsPassing (IsFine planned.procs ready.there known are) [] (summed_by planned.kind program planned.procs known)
+      under-bind IsPassing (λ made. IsFine planned.procs ready.there known are made.0) (IsFinePart program planned known) (apart (summaries_by planned.kind program planned.procs known)) _
+      (under-apart IsPassing (IsFine planned.procs ready.there known are) [] (summaries_by planned.kind program planned.procs known)
       (summed-fine planned.procs ready.there known are planned.kind ready.few ready.callees ready.linear))
       (λ made h. record { fits = h.0; met = h.1 })
 

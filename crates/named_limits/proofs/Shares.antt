@@ -34,7 +34,7 @@ use Rattle.analysis.specs.Analysis.{analysed, blocks_by, ended_by, report_by}
 use Rattle.analysis.specs.Apart.{apart}
 use Rattle.analysis.specs.Found.{flows_in, found_by, nothing_found, with_group, with_part}
 use Rattle.analysis.specs.Judging.{Asserted, asserted, judged_by, judged_of, place_in, unreached, with_judged}
-use Rattle.analysis.specs.Parts.{note_in, part_of, plain_part, recursive_part, summed_by, with_flow, with_plain}
+use Rattle.analysis.specs.Parts.{note_in, part_of, plain_part, recursive_part, summaries_by, with_flow, with_plain}
 use Rattle.analysis.specs.Plan.{IsPlan}
 use Rattle.named_limits.specs.Leading.{LeadsTo}
 use Rattle.named_limits.specs.Limits.{AreSame, count, limit_by, limits_given, limits_told}
@@ -84,8 +84,8 @@ unfolding recursive_part
 recursive-tells program procs known summaries tells =
     tells-bind tells (λ table. tells-then _ (tells-each _ [] _ (λ made p. with_flow-tells program _ made p)))
 
-summed-tells : (kind : GroupKind) (program : Program) (procs : List ℕ) (known : List (Option Transition)) → TellsAll (summed_by kind program procs known)
-unfolding summed_by
+summed-tells : (kind : GroupKind) (program : Program) (procs : List ℕ) (known : List (Option Transition)) → TellsAll (summaries_by kind program procs known)
+unfolding summaries_by
 summed-tells Plain program procs known = plain-tells program procs known
 summed-tells Linear program procs known = recursive-tells program procs known _ (closed-tells true program procs known)
 summed-tells Rounds program procs known = recursive-tells program procs known _ (closed-tells false program procs known)
@@ -107,8 +107,8 @@ part-named : (program : Program) (planned : Planned) (known : List (Option Trans
     → LeadsTo (part_of program planned known) notes share (Done part) → IsPartNamed notes share part
 unfolding part_of
 part-named program planned known notes share part path =
-    let cut = path-cut (apart (summed_by planned.kind program planned.procs known)) _ notes share part path in
-    let own = path-apart [] (summed_by planned.kind program planned.procs known) cut.first cut.share cut.value cut.leads in
+    let cut = path-cut (apart (summaries_by planned.kind program planned.procs known)) _ notes share part path in
+    let own = path-apart [] (summaries_by planned.kind program planned.procs known) cut.first cut.share cut.value cut.leads in
     let end = from-Done _ part cut.more cut.others cut.rest in
     record {
       quiet = none-both cut.notes_are own.quiet end.notes_are;

@@ -9,7 +9,7 @@ use Rattle.proc_summary.specs.Claims.{FlowHolds}
 use Rattle.proc_summary.proofs.Below.{some_at}
 use Rattle.newton_rounds.specs.Members.{members_of}
 use Rattle.newton_rounds.proofs.Membered.{members-next}
-use Rattle.analysis.specs.declared.parts.Summed.{Summed}
+use Rattle.analysis.specs.declared.parts.GroupSummaries.{GroupSummaries}
 use Rattle.analysis.specs.Claims.{EachOf, FitsAt, IsKnownAt}
 use Rattle.analysis.specs.Parts.{plain_part, with_plain}
 use Rattle.analysis.proofs.Puts.{each-next, each-none}
@@ -22,7 +22,7 @@ loop-proc-init g c =
     let formulas = c.new.ensures in
     let flows = c.new-2.ensures in
     let step = with_plain program c.args.known.now in
-    let none : Summed = record { formulas = []; flows = [] } in
+    let none : GroupSummaries = record { formulas = []; flows = [] } in
     let same : none ≡ record { formulas = c.new.result; flows = c.new-2.result } = λ i. record { formulas = sym formulas i; flows = sym flows i } in
     record {
       leads = subst (λ made. Leads g.O.Oracle.asking c.args.oracle.now c.args.oracle.now c.args.log.now c.args.log.now (each step none (members_of program procs)) (each step made (members_of program procs))) same (leads_none _ _ _ _);
