@@ -30,6 +30,7 @@ pub record IsFoundOver {S : Type 0} (O : Asking S) (kept : Option KeptGroups) (p
   pub found : made.found ≡ found_by_kept (length program.procs) plan made.parts
   pub taken : O.left old ≡ with_all (answers_asked marks made.parts) (O.left new)
   pub counted : O.refusals new ≡ O.refusals old
+  pub work : made.work ≡ count_made marks
   pub steps : to ≡ from + count_made marks
 
 -- The parts of the groups before have come, and the answers that the oracle had next led what is

@@ -16,11 +16,13 @@ use std::alloc::Global;
 use std::sync::ledger::Ledger;
 use syntax_tree::Program;
 
-/// What is found of a program's procedures, and the part of each group, to be kept.
+/// What is found of a program's procedures, the part of each group, to be kept, and how many groups
+/// were summed up by asking.
 #[derive(Debug, Drop)]
 pub struct FoundParts {
     pub found: Found,
     pub parts: Items<KeptPart>,
+    pub work: usize,
 }
 
 /// What is found of all groups of a plan, where some groups of another program were kept.
