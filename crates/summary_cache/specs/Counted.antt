@@ -1,14 +1,13 @@
--- How many groups and verdicts there are.
+-- How many groups were summed up and how many there are, and how many verdicts.
 use Rattle.std.specs.Prelude.{ℕ, ◌-◌, length}
 use Rattle.report.specs.declared.blocks.Report.{Report}
 use Rattle.report.specs.Text.{proved_count}
 use Rattle.summary_cache.specs.declared.working.Counts.{Counts}
 
--- every group is summed up
-abbrev pub counts_of : ℕ → Report → Counts
-counts_of groups report =
+abbrev pub counts_of : (work groups : ℕ) → Report → Counts
+counts_of work groups report =
     record {
-      work = groups;
+      work = work;
       groups = groups;
       proved = proved_count report.judged;
       unproved = length report.judged - proved_count report.judged;

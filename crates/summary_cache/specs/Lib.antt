@@ -8,5 +8,6 @@ pub mod Calls
 pub mod Stated
 pub mod Counted
 pub mod Kept
-pub mod Answered
 pub mod Submitted
+pub mod Answered
+pub mod First

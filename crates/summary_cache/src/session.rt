@@ -1,39 +1,44 @@
-ghost use Rattle.std.specs.Prelude.{◌≡◌, ◌≤◌, None, length, IfOk};
-ghost use Rattle.std.specs.Option.{option_copied};
-ghost use Rattle.summary_cache.specs.Accepted.{Accepts};
+ghost use Rattle.std.specs.Prelude.{◌≡◌, ◌≤◌, ◌+◌, None, length, IfOk};
+ghost use Rattle.std.specs.Option.{option_copied, option_map};
+ghost use Rattle.kept_groups.specs.Kept.{Anything};
+ghost use Rattle.summary_cache.specs.First.{ComesFirst};
+ghost use Rattle.summary_cache.specs.Kept.{AreAllowed, analysed_of};
 ghost use Rattle.summary_cache.specs.Limits.{most_bytes};
 ghost use Rattle.summary_cache.specs.Rules.{IsRule};
-ghost use Rattle.summary_cache.specs.Submitted.{Comes, Submits, answers_in, report_in};
+ghost use Rattle.summary_cache.specs.Submitted.{Comes, Submits, answers_in_session, report_in};
 
 use crate::error::SubmitError;
+use crate::last::{Analysed, Last};
 use crate::reading::read;
 use crate::refusal::TextError;
-use crate::working::{Analysed, Counts, analysed_by};
+use crate::working::{Counts, submitted_program};
 use farkas_check::{Answer, Oracle};
 use items::Items;
+use kept_groups::Steps;
 use posing::WorkError;
 use report::Report;
 use std::alloc::{AllocError, Global};
 use std::marker::Model;
-use syntax_tree::Program;
+use std::sync::ledger::Ledger;
 
 /// The rule by which the iterations of loops are summed up, and what is kept of the text that was
 /// accepted last.
-#[derive(Debug, Drop)]
+#[derive(Drop)]
 pub struct Session {
     rule: u32,
-    last: Option<Analysed>,
+    last: Option<Last>,
 }
 
 impl Model for Session {
-    ghost use Rattle.summary_cache.specs.Kept.{Kept};
+    ghost use Rattle.kept_groups.specs.Kept.{Anything};
+    ghost use Rattle.summary_cache.specs.Kept.{AreAllowed, Kept};
     ghost use Rattle.summary_cache.specs.Rules.{IsRule};
 
     ghost Value = { Kept };
 
     ghost view = { λ s. record { rule = s.rule; last = s.last } };
 
-    ghost invariant = { λ s. IsRule s.rule };
+    ghost invariant = { λ s. IsRule s.rule × AreAllowed Anything s.last };
 }
 
 impl Session {
@@ -55,18 +60,23 @@ impl Session {
         Session { rule, last: None }
     }
 
-    /// Reads a text and analyses its program. After an error the session is as it was.
-    pub fn submit<O: Oracle>(
+    /// Reads a text and analyses its program. A group that nothing tells apart from one of the text
+    /// that was accepted last takes over what is kept of that, and asks nothing; each other one is
+    /// one step. After an error the session is as it was.
+    pub fn submit<O: Oracle, L: Ledger>(
         &mut self,
         alloc: Global,
         text: &[u8],
         oracle: &mut O,
+        steps: &mut Steps<L>,
     ) -> Result<Counts, SubmitError>
-        requires short { length text.now ≤ most_bytes }
-        requires first { self.now.last ≡ None }
-        ensures { Submits O.asking oracle.old oracle.new text.now self.old self.new result }
+        requires { length text.now ≤ most_bytes }
+        ensures submits { Submits O.asking oracle.old oracle.new text.now self.old self.new result }
+        ensures ticked { IfOk result (λ counts. steps.new ≡ steps.old + counts.work) }
+        ensures first { self.old.last ≡ None
+            → ComesFirst O.asking self.old.rule oracle.old oracle.new text.now self.new.last result }
     {
-        match analysed_text(alloc, text, self.rule, oracle) {
+        match submitted_text(alloc, text, self.rule, &self.last, oracle, steps) {
             Ok((last, counts)) => {
                 self.last = Some(last);
                 Ok(counts)
@@ -88,54 +98,46 @@ impl Session {
     /// The answers for the last text, in the order of their questions, and none where no text was
     /// accepted.
     pub fn answers(&self, alloc: Global) -> Result<Items<Answer>, AllocError>
-        ensures { IfOk result (λ answers. answers ≡ answers_in self.now) }
+        ensures { IfOk result (λ answers. answers ≡ answers_in_session self.now) }
     {
         match &self.last {
-            Some(last) => last.answers.clone(),
+            Some(last) => last.answers(alloc),
             None => Ok(Items::new(alloc)),
         }
     }
 
-    /// What is kept of the last text, if one was accepted.
-    pub fn into_last(self) -> Option<Analysed>
-        ensures { result ≡ self.last }
+    /// The report and the answers of the last text, if one was accepted.
+    pub fn into_analysed(self, alloc: Global) -> Result<Option<Analysed>, AllocError>
+        ensures { IfOk result (λ made. made ≡ option_map analysed_of self.last) }
     {
-        self.last
+        match self.last {
+            Some(last) => Ok(Some(last.into_analysed(alloc)?)),
+            None => Ok(None),
+        }
     }
 }
 
-/// What comes of a text.
-fn analysed_text<O: Oracle>(
+/// What comes of a text, where this is kept of the one before.
+fn submitted_text<O: Oracle, L: Ledger>(
     alloc: Global,
     text: &[u8],
     rule: u32,
+    before: &Option<Last>,
     oracle: &mut O,
-) -> Result<(Analysed, Counts), SubmitError>
+    steps: &mut Steps<L>,
+) -> Result<(Last, Counts), SubmitError>
     requires short { length text.now ≤ most_bytes }
     requires rule { IsRule rule }
-    ensures { Comes O.asking rule oracle.old oracle.new text.now result }
+    requires kept { AreAllowed Anything before.now }
+    ensures comes { Comes O.asking rule before.now oracle.old oracle.new text.now result }
+    ensures ticked { IfOk result (λ made. steps.new ≡ steps.old + made.1.work) }
 {
-    match read(alloc, text) {
-        Ok(program) => analysed_program(alloc, text, rule, program, oracle),
-        Err(TextError::Refused(refusal)) => Err(SubmitError::Text(refusal)),
-        Err(TextError::Memory) => Err(SubmitError::Memory),
-    }
-}
-
-/// What comes of a text that spells a program.
-fn analysed_program<O: Oracle>(
-    alloc: Global,
-    text: &[u8],
-    rule: u32,
-    program: Program,
-    oracle: &mut O,
-) -> Result<(Analysed, Counts), SubmitError>
-    requires short { length text.now ≤ most_bytes }
-    requires rule { IsRule rule }
-    requires accepted { Accepts text.now program }
-    ensures { Comes O.asking rule oracle.old oracle.new text.now result }
-{
-    match analysed_by(alloc, text, rule, program, oracle) {
+    let program = match read(alloc, text) {
+        Ok(program) => program,
+        Err(TextError::Refused(refusal)) => return Err(SubmitError::Text(refusal)),
+        Err(TextError::Memory) => return Err(SubmitError::Memory),
+    };
+    match submitted_program(alloc, text, rule, program, before, oracle, steps) {
         Ok(made) => Ok(made),
         Err(WorkError::Refused) => Err(SubmitError::Refused),
         Err(WorkError::Memory) => Err(SubmitError::Memory),
