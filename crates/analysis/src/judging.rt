@@ -226,9 +226,7 @@ fn verdict_apart<O: Oracle>(
     ensures refuted { IfOk result (λ made. IsRefuted made.0) }
 {
     let others = mem::replace(&mut log.notes, Items::new(alloc));
-    let result = graph_verdict(
-        alloc, program, proc, graph, check, entry, flow, oracle, log,
-    );
+    let result = graph_verdict(alloc, program, proc, graph, check, entry, flow, oracle, log);
     let notes = mem::replace(&mut log.notes, others);
     Ok((result?, notes))
 }
