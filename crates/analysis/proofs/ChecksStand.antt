@@ -1,14 +1,16 @@
--- Where assertions stand.
---     check-next, checks-end, proc-next     loops over the assertions of a graph, and over procedures
+-- Where assertions stand, and the graphs of procedures.
+--     proc-next, graph-next, procs-end      a loop over procedures
+--     graph-within, graph-is                the graph of a procedure
 --     check-is                              the assertion of a number stands there
 --     check-none                            one that stands nowhere never fails
 use Rattle.std.proofs.Common.{◌≡◌, ℕ, zero, suc, ◌+◌, ◌<◌, ◌≤◌, Bool, true, false, cond, List, [], ◌∷◌, ◌++◌, length, map, drop, get_or, refl, sym, ap, subst, ◌∙◌, append_assoc, append-nil, arith}
 use Rattle.std.specs.Prelude.{◌==◌, None, Some, slice_get}
 use Rattle.std.specs.List.{AllByRecursion, find}
+use Rattle.std.specs.Option.{option_map}
 use Rattle.std.proofs.lemmas.Bool.{false≢true}
 use Rattle.std.proofs.lemmas.Bool.Decides.{Decides-eqb}
-use Rattle.std.proofs.lemmas.List.{drop_all, drop_more}
-use Rattle.std.proofs.lemmas.Option.{get_or_from_slice_get}
+use Rattle.std.proofs.lemmas.List.{drop_all, drop_more, length-map}
+use Rattle.std.proofs.lemmas.Option.{get_or_from_slice_get, same_Some, slice_get-map, slice_get_read, slice_get_within}
 use Rattle.items.proofs.Each.{each-append, each-back, each-front}
 use Rattle.syntax_tree.specs.declared.program.Proc.{Proc}
 use Rattle.syntax_tree.specs.declared.program.Program.{Program}
@@ -16,9 +18,9 @@ use Rattle.syntax_tree.specs.Code.{Check}
 use Rattle.syntax_tree.specs.Value.{State}
 use Rattle.execution.specs.Machine.{Do, Frame, Item}
 use Rattle.execution.specs.Execution.{Fails}
-use Rattle.flow_graph.specs.declared.parts.CheckNode.{CheckNode}
-use Rattle.flow_graph.specs.FlowGraph.{CheckPlace, body_of, flow_of, graph_of}
-use Rattle.flow_graph.specs.Plain.{check_of}
+use Rattle.flow_graph.specs.declared.parts.Graph.{Graph}
+use Rattle.flow_graph.specs.FlowGraph.{CheckPlace, FlowGraph, body_of, flow_of, graph_of}
+use Rattle.flow_graph.specs.Plain.{plain}
 use Rattle.flow_graph.specs.Stack.{Beginning, StandsOver}
 use Rattle.flow_graph.specs.Walks.{Stands, WalksTo}
 use Rattle.flow_graph.proofs.StackChain.{failures_are_in_chains}
@@ -26,24 +28,11 @@ use Rattle.flow_graph.proofs.Theorems.{checks_are_walks}
 use Rattle.proc_summary.specs.Subject.{own_graph}
 use Rattle.context.specs.Claims.{start_of_main}
 use Rattle.analysis.specs.declared.standing.CheckAt.{CheckAt}
-use Rattle.analysis.specs.Claims.{IsCheckOf}
+use Rattle.analysis.specs.declared.standing.Standing.{Standing}
+use Rattle.analysis.specs.Claims.{IsCheckOf, IsStanding}
 use Rattle.analysis.specs.Judging.{check_with, checks_from, checks_of}
 
 -- ---- loops
-
--- one more assertion of a graph
-pub check-next : (proc i : ℕ) (checks : List CheckNode) (check : CheckNode) (made next whole : List CheckAt) → i < length checks → check ≡ get_or checks i check
-    → made ++ checks_from proc i (map check_of (drop i checks)) ≡ whole → next ≡ made ++ record { number = check.number; proc = proc; check = i } ∷ []
-    → next ++ checks_from proc (i + 1) (map check_of (drop (i + 1) checks)) ≡ whole
-check-next proc i checks check made next whole lt is so_far more =
-    let rest = checks_from proc (i + 1) (map check_of (drop (i + 1) checks)) in
-    let split : drop i checks ≡ check ∷ drop (i + 1) checks = drop_more checks i check lt ∙ ap (λ c. c ∷ drop (i + 1) checks) (sym is) in
-    ap (λ l. l ++ rest) more ∙ append_assoc made (record { number = check.number; proc = proc; check = i } ∷ []) rest
-    ∙ ap (λ l. made ++ checks_from proc i (map check_of l)) (sym split) ∙ so_far
-
-pub checks-end : (proc i : ℕ) (checks : List CheckNode) (made whole : List CheckAt) → length checks ≤ i → made ++ checks_from proc i (map check_of (drop i checks)) ≡ whole → made ≡ whole
-checks-end proc i checks made whole end so_far =
-    sym (append-nil made) ∙ ap (λ l. made ++ checks_from proc i (map check_of l)) (sym (drop_all i checks end)) ∙ so_far
 
 -- those of one more procedure
 pub proc-next : (program : Program) (i : ℕ) (p : Proc) (made next whole : List CheckAt) → i < length program.procs → slice_get program.procs i ≡ Some p
@@ -54,6 +43,45 @@ proc-next program i p made next whole lt is so_far more =
     ap (λ l. l ++ rest) more ∙ append_assoc made (checks_from i 0 (graph_of program i).checks) rest
     ∙ (λ j. made ++ (checks_from i 0 (flow_of (body_of (is j))).checks ++ rest))
     ∙ ap (λ l. made ++ checks_of i l) (sym split) ∙ so_far
+
+-- the graph of one more procedure
+pub graph-next : (program : Program) (i : ℕ) (p : Proc) (made next : List Graph) (whole : List FlowGraph) → i < length program.procs → slice_get program.procs i ≡ Some p
+    → map plain made ++ map own_graph (drop i program.procs) ≡ whole → map plain next ≡ map plain made ++ graph_of program i ∷ [] → map plain next ++ map own_graph (drop (i + 1) program.procs) ≡ whole
+graph-next program i p made next whole lt is so_far more =
+    let rest = map own_graph (drop (i + 1) program.procs) in
+    let split : drop i program.procs ≡ p ∷ drop (i + 1) program.procs = drop_more program.procs i p lt ∙ ap (λ x. x ∷ drop (i + 1) program.procs) (get_or_from_slice_get program.procs i p p is) in
+    ap (λ l. l ++ rest) more ∙ append_assoc (map plain made) (graph_of program i ∷ []) rest
+    ∙ (λ j. map plain made ++ flow_of (body_of (is j)) ∷ rest)
+    ∙ ap (λ l. map plain made ++ map own_graph l) (sym split) ∙ so_far
+
+-- those of all
+pub procs-end : (program : Program) (i : ℕ) (standing : Standing) → length program.procs ≤ i → map plain standing.graphs ++ map own_graph (drop i program.procs) ≡ map own_graph program.procs
+    → standing.checks ++ checks_of i (drop i program.procs) ≡ checks_of 0 program.procs → IsStanding program standing
+procs-end program i standing end graphs checks =
+    let none = drop_all i program.procs end in
+    record {
+      graphs = sym (append-nil (map plain standing.graphs)) ∙ ap (λ l. map plain standing.graphs ++ map own_graph l) (sym none) ∙ graphs;
+      checks = sym (append-nil standing.checks) ∙ ap (λ l. standing.checks ++ checks_of i l) (sym none) ∙ checks;
+    }
+
+-- ---- the graph of a procedure
+
+module _ (program : Program) (graphs : List Graph) (same : map plain graphs ≡ map own_graph program.procs) (proc : ℕ) (p : Proc) (is : slice_get program.procs proc ≡ Some p) where
+  pub graph-within : proc < length graphs
+  graph-within =
+      let below = slice_get_within program.procs proc p is in
+      let long = ap length same in
+      let made = length-map graphs plain in
+      let own = length-map program.procs own_graph in
+      omega (arith, below, long, made, own)
+
+  pub graph-is : (graph : Graph) → graph ≡ get_or graphs proc graph → plain graph ≡ graph_of program proc
+  graph-is graph read =
+      let at : slice_get graphs proc ≡ Some graph = slice_get_read graphs (length graphs) proc graph refl graph-within read in
+      let made = slice_get-map plain graphs proc ∙ ap (option_map plain) at in
+      let own = slice_get-map own_graph program.procs proc ∙ ap (option_map own_graph) is in
+      same_Some (plain graph) (own_graph p) (sym made ∙ ap (λ l. slice_get l proc) same ∙ own)
+      ∙ sym (ap (λ o. flow_of (body_of o)) is)
 
 -- ---- the assertion of a number
 

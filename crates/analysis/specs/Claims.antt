@@ -9,6 +9,7 @@ use Rattle.transition_formula.specs.Transition.{Transition}
 use Rattle.flow_graph.specs.declared.grouping.Group.{Group}
 use Rattle.flow_graph.specs.FlowGraph.{CheckPlace}
 use Rattle.flow_graph.specs.Groups.{AreGroupsAfter}
+use Rattle.flow_graph.specs.Plain.{plain}
 use Rattle.leaf_cases.specs.Conditions.{AreKnown, IsKnown}
 use Rattle.leaf_cases.specs.Summaries.{AreMet, SummaryIsMet}
 use Rattle.proc_summary.specs.declared.stop.Flow.{Flow}
@@ -27,6 +28,8 @@ use Rattle.analysis.specs.declared.planning.Planned.{Planned}
 use Rattle.analysis.specs.declared.found.Found.{Found}
 use Rattle.analysis.specs.declared.places.TextPlace.{TextPlace}
 use Rattle.analysis.specs.declared.standing.CheckAt.{CheckAt}
+use Rattle.analysis.specs.declared.standing.Standing.{Standing}
+use Rattle.analysis.specs.Judging.{checks_of}
 use Rattle.analysis.specs.Plan.{ArePlannedOf}
 
 -- ---- what is asked
@@ -159,6 +162,11 @@ pub record IsCheckOf (program : Program) (c : CheckAt) : Type 0 where
   pub at : CheckPlace
   pub at_is : slice_get (own_graph p).checks c.check ≡ Some at
   pub number : at.number ≡ c.number
+
+-- the graph of each procedure, and where the assertions of all of them stand
+pub record IsStanding (program : Program) (standing : Standing) : Type 0 where
+  pub graphs : map plain standing.graphs ≡ map own_graph program.procs
+  pub checks : standing.checks ≡ checks_of 0 program.procs
 
 -- no execution from `main` fails an assertion that is proved
 abbrev pub IsJudged : Program → ℕ → Judged → Type 0

@@ -1,9 +1,10 @@
-ghost use Rattle.std.specs.Prelude.{◌≡◌, ◌<◌, ◌≤◌, ◌+◌, ◌^◌, ◌++◌, Some, length, slice_get, IfOk, OnOk};
+ghost use Rattle.std.specs.Prelude.{◌≡◌, ◌<◌, ◌≤◌, ◌+◌, ◌^◌, ◌++◌, Some, length, map, slice_get, IfOk, OnOk};
 ghost use Rattle.std.specs.List.{range_with_len};
 ghost use Rattle.syntax_tree.specs.WellFormed.{IsWellFormed};
 ghost use Rattle.syntax_tree.specs.declared.program.Proc.{Proc as Procedure};
 ghost use Rattle.execution.specs.Execution.{Fails};
-ghost use Rattle.flow_graph.specs.FlowGraph.{CheckPlace};
+ghost use Rattle.flow_graph.specs.FlowGraph.{CheckPlace, graph_of};
+ghost use Rattle.flow_graph.specs.Plain.{plain};
 ghost use Rattle.posing.specs.Follows.{Follows};
 ghost use Rattle.vocabularies.specs.Ends.{entry_width, named_from};
 ghost use Rattle.proc_summary.specs.declared.stop.Stop.{Stop};
@@ -14,14 +15,15 @@ ghost use Rattle.report.specs.Claims.{IsRefuted};
 ghost use Rattle.context.specs.Claims.{AreEntries, AreFlows, EntriesHold, EntryHolds, FlowsHold, IsEntryIf};
 ghost use Rattle.context.specs.Verdicts.{place_of, shown_of, verdict_of};
 ghost use Rattle.analysis.specs.Apart.{apart};
-ghost use Rattle.analysis.specs.Judging.{asserted, asserted_by, checks_of, column_names, global_names, judged_by, judged_of, place_in, unreached, with_judged};
-ghost use Rattle.analysis.specs.Claims.{AddsJudged, AreJudged, AreRefuted, IsCheckOf, IsJudged};
+ghost use Rattle.analysis.specs.Judging.{asserted, asserted_by, column_names, global_names, judged_by, judged_of, place_in, unreached, with_judged};
+ghost use Rattle.analysis.specs.Claims.{AddsJudged, AreJudged, AreRefuted, IsCheckOf, IsJudged, IsStanding};
 
 use crate::names::{add_names, global_names};
 use crate::places::{TextPlace, place_in};
-use crate::standing::{CheckAt, check_with, checks_of};
-use context::verdict;
+use crate::standing::{CheckAt, Standing, check_with, standing_of};
+use context::graph_verdict;
 use farkas_check::Oracle;
+use flow_graph::Graph;
 use items::Items;
 use posing::{Log, Note, WorkError};
 use proc_summary::Flow;
@@ -50,15 +52,14 @@ pub(crate) fn judged_by<O: Oracle>(
         → IfOk result (AreJudged program.now) }
     ensures refuted { IfOk result AreRefuted }
 {
-    let checks = checks_of(alloc, program)?;
-    let checks = checks.as_slice();
+    let standing = standing_of(alloc, program)?;
     let mut made = Items::new(alloc);
     for n in 0..program.checks.len() as u32 {
         made = with_judged(
             alloc,
             program,
             places,
-            checks,
+            &standing,
             entries,
             flows,
             made,
@@ -76,7 +77,7 @@ fn with_judged<O: Oracle>(
     alloc: Global,
     program: &Program,
     places: &[TextPlace],
-    checks: &[CheckAt],
+    standing: &Standing,
     entries: &[Option<Formula>],
     flows: &[Flow],
     made: Items<Judged>,
@@ -85,7 +86,7 @@ fn with_judged<O: Oracle>(
     log: &mut Log,
 ) -> Result<Items<Judged>, WorkError>
     requires formed { IsWellFormed program.now }
-    requires checks { checks.now ≡ checks_of 0 program.now.procs }
+    requires standing { IsStanding program.now standing.now }
     requires entries { AreEntries program.now entries.now }
     requires flows { AreFlows program.now flows.now }
     requires number { 1 ≤ number }
@@ -94,7 +95,7 @@ fn with_judged<O: Oracle>(
     ensures added { IfOk result (AddsJudged program.now entries.now flows.now made number) }
 {
     let judged = judged_of(
-        alloc, program, places, checks, entries, flows, number, oracle, log,
+        alloc, program, places, standing, entries, flows, number, oracle, log,
     )?;
     let mut all = made;
     all.push(judged)?;
@@ -106,7 +107,7 @@ fn judged_of<O: Oracle>(
     alloc: Global,
     program: &Program,
     places: &[TextPlace],
-    checks: &[CheckAt],
+    standing: &Standing,
     entries: &[Option<Formula>],
     flows: &[Flow],
     number: u32,
@@ -114,7 +115,7 @@ fn judged_of<O: Oracle>(
     log: &mut Log,
 ) -> Result<Judged, WorkError>
     requires formed { IsWellFormed program.now }
-    requires checks { checks.now ≡ checks_of 0 program.now.procs }
+    requires standing { IsStanding program.now standing.now }
     requires entries { AreEntries program.now entries.now }
     requires flows { AreFlows program.now flows.now }
     requires number { 1 ≤ number }
@@ -126,8 +127,11 @@ fn judged_of<O: Oracle>(
     ensures refuted { IfOk result (λ judged. IsRefuted judged.verdict) }
 {
     let at = place_in(places, number);
-    match check_with(number, checks) {
-        Some(check) => judged_at(alloc, program, at, check, entries, flows, oracle, log),
+    let graphs = standing.graphs.as_slice();
+    match check_with(number, standing.checks.as_slice()) {
+        Some(check) => judged_at(
+            alloc, program, at, graphs, check, entries, flows, oracle, log,
+        ),
         None => Ok(unreached(alloc, at)),
     }
 }
@@ -152,6 +156,7 @@ fn judged_at<O: Oracle>(
     alloc: Global,
     program: &Program,
     at: TextPlace,
+    graphs: &[Graph],
     check: CheckAt,
     entries: &[Option<Formula>],
     flows: &[Flow],
@@ -159,6 +164,7 @@ fn judged_at<O: Oracle>(
     log: &mut Log,
 ) -> Result<Judged, WorkError>
     requires formed { IsWellFormed program.now }
+    requires graphs { map plain graphs.now ≡ map own_graph program.now.procs }
     requires check { IsCheckOf program.now check }
     requires entries { AreEntries program.now entries.now }
     requires flows { AreFlows program.now flows.now }
@@ -171,9 +177,12 @@ fn judged_at<O: Oracle>(
     let CheckAt { proc, check, .. } = check;
     let named = named_columns(alloc, program, proc)?;
     let shown = shown_columns(alloc, program, proc)?;
+    let graph = &graphs[proc as usize];
     let entry = &entries[proc as usize];
     let flow = &flows[proc as usize];
-    let (verdict, notes) = verdict_apart(alloc, program, proc, check, entry, flow, oracle, log)?;
+    let (verdict, notes) = verdict_apart(
+        alloc, program, proc, graph, check, entry, flow, oracle, log,
+    )?;
     Ok(Judged {
         at: at.at,
         line: at.line,
@@ -190,6 +199,7 @@ fn verdict_apart<O: Oracle>(
     alloc: Global,
     program: &Program,
     proc: u32,
+    graph: &Graph,
     check: u32,
     entry: &Option<Formula>,
     flow: &Flow,
@@ -198,6 +208,7 @@ fn verdict_apart<O: Oracle>(
 ) -> Result<(Verdict, Items<Note>), WorkError>
     requires formed { IsWellFormed program.now }
     requires procedure { proc < length program.now.procs }
+    requires graph { plain graph.now ≡ graph_of program.now proc }
     requires assertion { check < length flow.now.checks }
     requires flow { (p : Procedure) → slice_get program.now.procs proc ≡ Some p
         → FitsFlow program.now p flow.now }
@@ -215,7 +226,7 @@ fn verdict_apart<O: Oracle>(
     ensures refuted { IfOk result (λ made. IsRefuted made.0) }
 {
     let others = mem::replace(&mut log.notes, Items::new(alloc));
-    let result = verdict(alloc, program, proc, check, entry, flow, oracle, log);
+    let result = graph_verdict(alloc, program, proc, graph, check, entry, flow, oracle, log);
     let notes = mem::replace(&mut log.notes, others);
     Ok((result?, notes))
 }

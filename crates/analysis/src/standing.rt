@@ -1,9 +1,12 @@
-ghost use Rattle.std.specs.Prelude.{◌≡◌, ◌<◌, ◌++◌, [], Some, length, slice_get, IfOk, OnOk};
+ghost use Rattle.std.specs.Prelude.{◌≡◌, ◌<◌, ◌++◌, ◌∷◌, [], length, map, IfOk, OnOk};
 ghost use Rattle.syntax_tree.specs.WellFormed.{IsWellFormed};
 ghost use Rattle.flow_graph.specs.FlowGraph.{graph_of};
-ghost use Rattle.analysis.specs.Judging.{check_with, checks_from, checks_of};
+ghost use Rattle.flow_graph.specs.Plain.{check_of, plain};
+ghost use Rattle.analysis.specs.Claims.{IsStanding};
+ghost use Rattle.analysis.specs.Judging.{check_with, checks_from};
 
-use flow_graph::graph;
+use context::graph_of;
+use flow_graph::{CheckNode, Graph};
 use items::Items;
 use std::alloc::Global;
 use syntax_tree::Program;
@@ -18,38 +21,61 @@ pub(crate) struct CheckAt {
     pub(crate) check: u32,
 }
 
-/// Where the assertions of all procedures stand. The one error is want of memory.
-pub(crate) fn checks_of(alloc: Global, program: &Program) -> Result<Items<CheckAt>, FormulaError>
-    requires { IsWellFormed program.now }
-    ensures { IfOk result (λ checks. checks ≡ checks_of 0 program.now.procs) }
-{
-    let mut checks = Items::new(alloc);
-    for proc in 0..program.procs.len() {
-        add_checks(alloc, program, proc as u32, &mut checks)?;
-    }
-    Ok(checks)
+/// The graph of each procedure, and where the assertions of all of them stand.
+#[derive(Drop)]
+pub(crate) struct Standing {
+    pub(crate) graphs: Items<Graph>,
+    pub(crate) checks: Items<CheckAt>,
 }
 
-/// Adds where those of a procedure stand.
-fn add_checks(
+/// The graphs of a program's procedures, each made once, and their assertions. The one error is
+/// want of memory.
+pub(crate) fn standing_of(alloc: Global, program: &Program) -> Result<Standing, FormulaError>
+    requires { IsWellFormed program.now }
+    ensures { IfOk result (IsStanding program.now) }
+{
+    let mut graphs = Items::new(alloc);
+    let mut checks = Items::new(alloc);
+    for proc in 0..program.procs.len() {
+        add_proc(alloc, program, proc as u32, &mut graphs, &mut checks)?;
+    }
+    Ok(Standing { graphs, checks })
+}
+
+/// Adds the graph of a procedure, and where its assertions stand.
+fn add_proc(
     alloc: Global,
     program: &Program,
     proc: u32,
+    graphs: &mut Items<Graph>,
     checks: &mut Items<CheckAt>,
 ) -> Result<(), FormulaError>
     requires formed { IsWellFormed program.now }
     requires procedure { proc < length program.now.procs }
-    ensures { OnOk result
+    ensures graphs { OnOk result
+        (map plain graphs.new ≡ map plain graphs.old ++ graph_of program.now proc ∷ []) }
+    ensures checks { OnOk result
         (checks.new ≡ checks.old ++ checks_from proc 0 (graph_of program.now proc).checks) }
 {
-    let Ok(graph) = graph(alloc, program, proc) else {
-        return Err(FormulaError::Memory);
-    };
+    let graph = graph_of(alloc, program, proc)?;
+    add_checks(proc, graph.checks.as_slice(), checks)?;
+    graphs.push(graph)?;
+    Ok(())
+}
+
+/// Adds where these assertions of a procedure stand.
+fn add_checks(
+    proc: u32,
+    nodes: &[CheckNode],
+    checks: &mut Items<CheckAt>,
+) -> Result<(), FormulaError>
+    ensures { OnOk result (checks.new ≡ checks.old ++ checks_from proc 0 (map check_of nodes.now)) }
+{
     // No memory has so many assertions.
-    if graph.checks.len() > u32::MAX as usize {
+    if nodes.len() > u32::MAX as usize {
         return Err(FormulaError::Memory);
     }
-    for (check, at) in graph.checks.as_slice().iter().enumerate() {
+    for (check, at) in nodes.iter().enumerate() {
         checks.push(CheckAt {
             number: at.number,
             proc,

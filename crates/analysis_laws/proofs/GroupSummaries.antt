@@ -32,7 +32,7 @@ use Rattle.newton_rounds.proofs.LinearMet.{bases-met}
 use Rattle.newton_rounds.proofs.Rounded.{round-keeps, summaries-fit, summaries-known}
 use Rattle.newton_rounds.proofs.Rowed.{candidates-length, table-summaries}
 use Rattle.newton_rounds.proofs.SidesMet.{IsSideOf, sides-true}
-use Rattle.newton_rounds.proofs.GroupSummaries.{closed-summaries, summaries-length}
+use Rattle.newton_rounds.proofs.Summed.{closed-summaries, summaries-length}
 use Rattle.newton_rounds.proofs.Tabled.{tabled-known}
 
 -- both sides of a call, by the function that reads them

@@ -4,7 +4,8 @@ ghost use Rattle.syntax_tree.specs.Term.{term_of};
 ghost use Rattle.syntax_tree.specs.WellFormed.{IsWellFormed};
 ghost use Rattle.syntax_tree.specs.declared.program.Proc.{Proc as Procedure};
 ghost use Rattle.execution.specs.Execution.{Fails};
-ghost use Rattle.flow_graph.specs.FlowGraph.{CheckPlace};
+ghost use Rattle.flow_graph.specs.FlowGraph.{CheckPlace, graph_of};
+ghost use Rattle.flow_graph.specs.Plain.{plain};
 ghost use Rattle.linear_terms.specs.declared.col.Col.TheVariants.{Aux};
 ghost use Rattle.linear_terms.specs.Polynomial.{column_of};
 ghost use Rattle.transition_formula.specs.Transition.{AreSolvable};
@@ -25,6 +26,7 @@ use crate::judging::judged;
 use crate::place::{Place, place_of};
 use crate::stand::stand_of;
 use farkas_check::Oracle;
+use flow_graph::Graph;
 use items::Items;
 use leaf_cases::falsity;
 use linear_terms::{Case, Col, Poly};
@@ -76,8 +78,50 @@ pub fn verdict<O: Oracle>(
     ensures fits { (p : Procedure) → slice_get program.now.procs proc ≡ Some p
         → IfOk result (FitsVerdict (length (shown_of program.now p))) }
 {
-    let stand = &flow.checks.as_slice()[check as usize].formula;
     let graph = graph_of(alloc, program, proc)?;
+    graph_verdict(
+        alloc, program, proc, &graph, check, entry, flow, oracle, log,
+    )
+}
+
+/// The same by the procedure's graph, which serves all its assertions.
+///
+/// # Errors
+///
+/// Those of `verdict`.
+pub fn graph_verdict<O: Oracle>(
+    alloc: Global,
+    program: &Program,
+    proc: u32,
+    graph: &Graph,
+    check: u32,
+    entry: &Option<Formula>,
+    flow: &Flow,
+    oracle: &mut O,
+    log: &mut Log,
+) -> Result<Verdict, WorkError>
+    requires formed { IsWellFormed program.now }
+    requires procedure { proc < length program.now.procs }
+    requires graph { plain graph.now ≡ graph_of program.now proc }
+    requires assertion { check < length flow.now.checks }
+    requires flow { (p : Procedure) → slice_get program.now.procs proc ≡ Some p
+        → FitsFlow program.now p flow.now }
+    requires entry { (p : Procedure) → slice_get program.now.procs proc ≡ Some p
+        → IsEntryIf (entry_width program.now p) entry.now }
+    ensures follows { (p : Procedure) (at : CheckPlace) (stop : Stop)
+        → slice_get program.now.procs proc ≡ Some p → slice_get (own_graph p).checks check ≡ Some at
+        → slice_get flow.now.checks check ≡ Some stop
+        → Follows O.asking oracle.old oracle.new log.old log.new result
+        (verdict_of (place_of program.now p) at.cond entry.now stop.formula) }
+    ensures sound { (p : Procedure) (at : CheckPlace) → slice_get program.now.procs proc ≡ Some p
+        → slice_get (own_graph p).checks check ≡ Some at → EntryHolds program.now proc entry.now
+        → FlowHolds program.now proc flow.now → result ≡ Ok Proved → Fails program.now at.number
+        → ⊥ }
+    ensures refuted { IfOk result IsRefuted }
+    ensures fits { (p : Procedure) → slice_get program.now.procs proc ≡ Some p
+        → IfOk result (FitsVerdict (length (shown_of program.now p))) }
+{
+    let stand = &flow.checks.as_slice()[check as usize].formula;
     let cond = &graph.checks.as_slice()[check as usize].cond;
     let place = place_of(alloc, program, proc)?;
     verdict_at(alloc, &place, cond, entry, stand, oracle, log)

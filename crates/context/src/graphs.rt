@@ -8,8 +8,12 @@ use std::alloc::Global;
 use syntax_tree::Program;
 use transition_formula::FormulaError;
 
-/// The flow graph of a procedure; its one error is want of memory.
-pub(crate) fn graph_of(alloc: Global, program: &Program, proc: u32) -> Result<Graph, FormulaError>
+/// The flow graph of a procedure.
+///
+/// # Errors
+///
+/// Want of memory alone.
+pub fn graph_of(alloc: Global, program: &Program, proc: u32) -> Result<Graph, FormulaError>
     requires formed { IsWellFormed program.now }
     requires procedure { proc < length program.now.procs }
     ensures { IfOk result (λ g. plain g ≡ graph_of program.now proc) }

@@ -13,7 +13,8 @@ mod nodes;
 mod place;
 mod stand;
 
-pub use assertion::verdict;
+pub use assertion::{graph_verdict, verdict};
 pub use entry_formulas::entries;
+pub use graphs::graph_of;
 pub use judging::judged;
 pub use laws::law_of_assertions;

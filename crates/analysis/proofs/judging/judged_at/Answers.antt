@@ -3,7 +3,15 @@ use Rattle.execution.specs.Execution.{Fails}
 use Rattle.posing.proofs.Steps.{at_end, error_first, in_other_words, value_first}
 use Rattle.analysis.specs.Judging.{judged_of}
 use Rattle.analysis.proofs.Asserting.{stands-at}
+use Rattle.analysis.proofs.ChecksStand.{graph-is, graph-within}
 use Rattle.analysis.proofs.judging.judged_at.Goals as goal
+
+pub bounds-graphs-proc : goal.bounds-graphs-proc
+bounds-graphs-proc g c = graph-within c.args.program.now c.args.graphs.now c.requires.graphs c.args.check.proc c.requires.check.p c.requires.check.is
+
+pub verdict_apart-requires-clause-graph : goal.verdict_apart-requires-clause-graph
+verdict_apart-requires-clause-graph g c =
+    graph-is c.args.program.now c.args.graphs.now c.requires.graphs c.args.check.proc c.requires.check.p c.requires.check.is c.index-graphs-proc.result c.index-graphs-proc.is
 
 pub verdict_apart-requires-clause-assertion : goal.verdict_apart-requires-clause-assertion
 verdict_apart-requires-clause-assertion g c =

@@ -10,8 +10,8 @@ use Rattle.analysis.specs.Judging.{judged_by, with_judged}
 use Rattle.analysis.proofs.Asserting.{judged-next, refuted-next}
 use Rattle.analysis.proofs.judging.judged_by.Goals as goal
 
-pub returns-in_err-checks-clause-follows : goal.returns-in_err-checks-clause-follows
-returns-in_err-checks-clause-follows g c = stops _ _ _ _ _ _ refl c.from_residual.ensures.1
+pub returns-in_err-standing-clause-follows : goal.returns-in_err-standing-clause-follows
+returns-in_err-standing-clause-follows g c = stops _ _ _ _ _ _ refl c.from_residual.ensures.1
 
 pub loop-n-init : goal.loop-n-init
 loop-n-init g c =

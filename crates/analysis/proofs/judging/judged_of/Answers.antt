@@ -1,5 +1,6 @@
-use Rattle.std.proofs.Common.{◌≡◌, ◌∙◌, sym, ap, subst}
+use Rattle.std.proofs.Common.{◌≡◌, ◌∙◌, map, sym, ap, subst}
 use Rattle.std.specs.Prelude.{IfOk, Option, None, Some}
+use Rattle.flow_graph.specs.Plain.{plain}
 use Rattle.posing.proofs.Steps.{at_end, in_other_words}
 use Rattle.analysis.specs.declared.standing.CheckAt.{CheckAt}
 use Rattle.analysis.specs.Claims.{IsJudged}
@@ -7,14 +8,17 @@ use Rattle.analysis.specs.Judging.{asserted_of, check_with, checks_of, judged_of
 use Rattle.analysis.proofs.ChecksStand.{check-is, check-none}
 use Rattle.analysis.proofs.judging.judged_of.Goals as goal
 
+pub judged_at-requires-clause-graphs : goal.judged_at-requires-clause-graphs
+judged_at-requires-clause-graphs g c = ap (map plain) c.as_slice-graphs.ensures ∙ c.requires.standing.graphs
+
 pub judged_at-requires-clause-check : goal.judged_at-requires-clause-check
 judged_at-requires-clause-check g c =
-    let is : Some c.in-Some.check ≡ check_with c.args.number (checks_of 0 c.args.program.now.procs) = c.in-Some.ensures ∙ ap (check_with c.args.number) c.requires.checks in
+    let is : Some c.in-Some.check ≡ check_with c.args.number (checks_of 0 c.args.program.now.procs) = c.in-Some.ensures ∙ ap (check_with c.args.number) (c.as_slice.ensures ∙ c.requires.standing.checks) in
     (check-is c.args.program.now c.args.number c.in-Some.check (sym is)).0
 
 pub returns-in-Some-clause-sound : goal.returns-in-Some-clause-sound
 returns-in-Some-clause-sound g c = λ enter hold.
-    let is : Some c.in-Some.check ≡ check_with c.args.number (checks_of 0 c.args.program.now.procs) = c.in-Some.ensures ∙ ap (check_with c.args.number) c.requires.checks in
+    let is : Some c.in-Some.check ≡ check_with c.args.number (checks_of 0 c.args.program.now.procs) = c.in-Some.ensures ∙ ap (check_with c.args.number) (c.as_slice.ensures ∙ c.requires.standing.checks) in
     subst (λ n. IfOk c.judged_at.result (IsJudged c.args.program.now n)) (check-is c.args.program.now c.args.number c.in-Some.check (sym is)).1 (c.judged_at.ensures.sound enter hold)
 
 abbrev none : Option CheckAt
@@ -23,11 +27,11 @@ none = None
 pub returns-in-None-clause-follows : goal.returns-in-None-clause-follows
 unfolding judged_of
 returns-in-None-clause-follows g c =
-    let is : none ≡ check_with c.args.number (checks_of 0 c.args.program.now.procs) = c.in-None.ensures ∙ ap (check_with c.args.number) c.requires.checks in
+    let is : none ≡ check_with c.args.number (checks_of 0 c.args.program.now.procs) = c.in-None.ensures ∙ ap (check_with c.args.number) (c.as_slice.ensures ∙ c.requires.standing.checks) in
     in_other_words (ap (λ o. judged_of (place_in c.args.places.now c.args.number) (asserted_of c.args.program.now c.args.entries.now c.args.flows.now o)) is)
     (at_end (c.unreached.ensures ∙ ap unreached c.place_in-at.ensures))
 
 pub returns-in-None-clause-sound : goal.returns-in-None-clause-sound
 returns-in-None-clause-sound g c = λ enter hold proved fails.
-    let is : none ≡ check_with c.args.number (checks_of 0 c.args.program.now.procs) = c.in-None.ensures ∙ ap (check_with c.args.number) c.requires.checks in
+    let is : none ≡ check_with c.args.number (checks_of 0 c.args.program.now.procs) = c.in-None.ensures ∙ ap (check_with c.args.number) (c.as_slice.ensures ∙ c.requires.standing.checks) in
     check-none c.args.program.now c.args.number (sym is) fails
