@@ -18,7 +18,7 @@ use Rattle.cra.specs.declared.editing.Submission.{Submission}
 use Rattle.cra.specs.declared.editing.Submission.TheVariants as submission
 use Rattle.cra.specs.declared.reply.Reply.{Reply}
 use Rattle.cra.specs.declared.status.Status.TheVariants.{AllProved, SomeUnproved}
-use Rattle.cra.specs.Edit.{AreSubmissions, IsReplyToEdit, IsSubmission, IsToEdit, KeepsAfter, TellsVersions, told_reply, version_lines, versions_in, versions_reply}
+use Rattle.cra.specs.Edit.{AreSubmissions, IsReplyToEdit, IsSubmission, IsToEdit, KeepsAfter, TellsVersions, report_behind, version_lines, versions_in, versions_reply}
 use Rattle.cra.specs.Input.{IsInput}
 use Rattle.cra.specs.Limits.{most_input}
 use Rattle.cra.specs.Replies.{IsReply, IsReplyToRead, IsReplyToWork}
@@ -60,7 +60,7 @@ record EndsWithReport (text : List ℕ) (reply : Reply) : Type 0 where
   pub answers : List Answer
   pub report : Report
   pub analysed : IsAnalysed text answers report
-  pub is : reply ≡ told_reply lines report
+  pub is : reply ≡ report_behind lines report
 
 kept-ends : (held : Option Last) (text lines : List ℕ) (counts : Counts) (kept : Option Last) (reply : Reply) → KeepsAfter held text counts kept
     → reply ≡ versions_reply lines (Some (submission.Accepted counts)) (report_of kept) → EndsWithReport text reply
@@ -115,7 +115,7 @@ sound-edit words before after reply a answer e =
 pub record EndsTruly (program : Program) (reply : Reply) : Type 0 where
   pub lines : List ℕ
   pub report : Report
-  pub is : reply.text ≡ Reply.text (told_reply lines report)
+  pub is : reply.text ≡ Reply.text (report_behind lines report)
   pub true_text : IsTrueText program (text_of report)
 
 pub true-end : (words : List (List ℕ)) (before after : Option (List ℕ)) (reply : Reply) (asked : IsToEdit words before) → IsReply words before after reply

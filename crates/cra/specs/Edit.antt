@@ -91,21 +91,21 @@ version_lines number (text ∷ texts) (made ∷ more) =
 version_lines number _ _ = []
 
 -- lines, and the report of the last text behind them
-abbrev pub told_reply : List ℕ → Report → Reply
-told_reply lines report = record {
+abbrev pub report_behind : List ℕ → Report → Reply
+report_behind lines report = record {
   status = (report_reply report).status;
   text = lines ++ (report_reply report).text;
 }
 
-abbrev pub refused_reply : List ℕ → Reply
-refused_reply lines = record { status = ended.Refused; text = lines }
+abbrev pub lines_reply : List ℕ → Reply
+lines_reply lines = record { status = ended.Refused; text = lines }
 
 -- by what comes of the last text: where it is accepted, its report is what is kept
 abbrev pub versions_reply : List ℕ → Option Submission → Option Report → Reply
-versions_reply lines (Some (Accepted counts)) (Some report) = told_reply lines report
-versions_reply lines (Some (Accepted counts)) None = refused_reply lines
-versions_reply lines (Some (Refused refusal)) report = refused_reply lines
-versions_reply lines None report = refused_reply lines
+versions_reply lines (Some (Accepted counts)) (Some report) = report_behind lines report
+versions_reply lines (Some (Accepted counts)) None = lines_reply lines
+versions_reply lines (Some (Refused refusal)) report = lines_reply lines
+versions_reply lines None report = lines_reply lines
 
 -- what came of the texts, one after the other in one session, is told so
 pub record TellsVersions (texts : List (List ℕ)) (reply : Reply) : Type 0 where

@@ -3,7 +3,7 @@ ghost use Rattle.std.specs.Option.{option_copied};
 ghost use Rattle.items.specs.Gives.{Gives};
 ghost use Rattle.wire.specs.Errors.{fault};
 ghost use Rattle.summary_cache.specs.Limits.{most_bytes};
-ghost use Rattle.cra.specs.Edit.{IsReplyToEdit, IsSubmission, TellsVersions, refused_reply, told_reply, version_line, versions_in, versions_reply};
+ghost use Rattle.cra.specs.Edit.{IsReplyToEdit, IsSubmission, TellsVersions, lines_reply, report_behind, version_line, versions_in, versions_reply};
 ghost use Rattle.cra.specs.Editing.{AreShort, AreTold, HoldsFound};
 ghost use Rattle.cra.specs.Status.{IsAnswer};
 
@@ -132,8 +132,8 @@ fn versions_told(
 }
 
 /// The answer that tells lines of versions, and the report of the last of them.
-fn told_reply(alloc: Global, lines: Text, report: &Report) -> Result<Reply, AllocError>
-    ensures reply { IfOk result (λ reply. reply ≡ told_reply lines.bytes.items report.now) }
+fn report_behind(alloc: Global, lines: Text, report: &Report) -> Result<Reply, AllocError>
+    ensures reply { IfOk result (λ reply. reply ≡ report_behind lines.bytes.items report.now) }
     ensures status { IfOk result (λ reply. IsAnswer reply.status) }
 {
     let mut lines = lines;
@@ -147,8 +147,8 @@ fn told_reply(alloc: Global, lines: Text, report: &Report) -> Result<Reply, Allo
 }
 
 /// The answer that tells lines of versions, the last of which is refused.
-fn refused_reply(lines: Text) -> Reply
-    ensures reply { result ≡ refused_reply lines.bytes.items }
+fn lines_reply(lines: Text) -> Reply
+    ensures reply { result ≡ lines_reply lines.bytes.items }
     ensures status { IsAnswer result.status }
 {
     let Text { bytes } = lines;
@@ -170,8 +170,8 @@ fn versions_reply(
     ensures status { IfOk result (λ reply. IsAnswer reply.status) }
 {
     match (last, report) {
-        (Some(Submission::Accepted(_counts)), Some(report)) => told_reply(alloc, lines, report),
-        _ => Ok(refused_reply(lines)),
+        (Some(Submission::Accepted(_counts)), Some(report)) => report_behind(alloc, lines, report),
+        _ => Ok(lines_reply(lines)),
     }
 }
 

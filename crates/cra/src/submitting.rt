@@ -28,7 +28,8 @@ fn submit_counting<O: Oracle, L: Ledger>(
     requires name { blank.name ≡ L.name }
     requires parts { blank.parts ≡ L.parts }
     requires some { 0 < blank.parts }
-    ensures submits { Submits O.asking oracle.old oracle.new text.now session.old session.new result }
+    ensures submits { Submits O.asking oracle.old oracle.new text.now session.old session.new
+        result }
     ensures first { session.old.last ≡ None
         → ComesFirst O.asking session.old.rule oracle.old oracle.new text.now session.new.last
         result }
@@ -45,7 +46,8 @@ pub fn submit<O: Oracle>(
     oracle: &mut O,
 ) -> Result<Counts, SubmitError>
     requires short { length text.now ≤ most_bytes }
-    ensures submits { Submits O.asking oracle.old oracle.new text.now session.old session.new result }
+    ensures submits { Submits O.asking oracle.old oracle.new text.now session.old session.new
+        result }
     ensures first { session.old.last ≡ None
         → ComesFirst O.asking session.old.rule oracle.old oracle.new text.now session.new.last
         result }

@@ -383,7 +383,7 @@ fn files(rt: HostRuntime) -> Result<(), Fail> {
 }
 
 /// Each script of a table is answered by `edit` as its row says.
-fn edited(alloc: Global, rt: &impl Abort, table: &str) -> Result<(), Fail> {
+fn check_edits(alloc: Global, rt: &impl Abort, table: &str) -> Result<(), Fail> {
     for row in table.lines() {
         let (status, row) = row.split_once(" | ").ok_or("no row")?;
         let (script, told) = row.split_once(" | ").ok_or("no row")?;
@@ -403,7 +403,7 @@ fn edited(alloc: Global, rt: &impl Abort, table: &str) -> Result<(), Fail> {
 
 #[test]
 fn edits(rt: HostRuntime) -> Result<(), Fail> {
-    edited(rt.alloc(), &rt, tables::EDITS)
+    check_edits(rt.alloc(), &rt, tables::EDITS)
 }
 
 // Rows of outputs that an independent model of the rules gives.

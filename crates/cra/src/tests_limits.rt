@@ -129,7 +129,7 @@ fn deep_json(rt: HostRuntime) -> Result<(), Fail> {
 }
 
 /// A script of so many edits and one more, each of which changes nothing.
-fn script_of(alloc: Global, edits: usize) -> Result<String, Fail> {
+fn empty_edits(alloc: Global, edits: usize) -> Result<String, Fail> {
     let first = "{\"text\":\"int main(void){}\",\"edits\":[";
     let edit = "{\"at\":0,\"remove\":0,\"insert\":\"\"}";
     let piece = format!(in alloc; "{edit},")?;
@@ -141,7 +141,7 @@ fn script_of(alloc: Global, edits: usize) -> Result<String, Fail> {
 fn many_edits(rt: HostRuntime) -> Result<(), Fail> {
     let alloc = rt.alloc();
     let words = ["cra", "edit"];
-    let script = script_of(alloc, 999)?;
+    let script = empty_edits(alloc, 999)?;
     let ended = run_on(alloc, &words, script.as_bytes(), GOOD)?;
     assert_eq!(rt; ended.status, 0);
     assert!(rt;
@@ -149,7 +149,7 @@ fn many_edits(rt: HostRuntime) -> Result<(), Fail> {
             b"version 1000 work 0 of 1 proved 0 unproved 0\nprocedure main\ncase 1\n  $ret = $1\ntotal 0 proved, 0 unproved\n"
         )
     );
-    let script = script_of(alloc, 1000)?;
+    let script = empty_edits(alloc, 1000)?;
     ends(
         alloc,
         &rt,
