@@ -51,7 +51,7 @@ quiet-apart_from before (Done x) = tt
 quiet-apart_from before (Noted notes next) = quiet-apart_from (before ++ notes) next
 quiet-apart_from before (Asked question next) = λ answer. quiet-apart_from before (next answer)
 
-quiet-path : {A : Type 0} (Good : Question → Answer → Type 0) (p q : Posing A) (notes : List Note) (answers : List Answer) → Path Good p notes answers q → IsQuiet p → notes ≡ []
+pub quiet-path : {A : Type 0} (Good : Question → Answer → Type 0) (p q : Posing A) (notes : List Note) (answers : List Answer) → Path Good p notes answers q → IsQuiet p → notes ≡ []
 quiet-path Good _ _ _ _ (here p) h = refl
 quiet-path Good _ _ _ _ (noted first rest answers p q path) h = absurd h
 quiet-path Good _ _ _ _ (asked question answer next notes answers q good path) h = quiet-path Good (next answer) q notes answers path (h answer)
@@ -79,7 +79,7 @@ unfolding judged_by with_judged
 all_judged-quiet program places entries flows =
     quiet-each _ [] _ (λ made number. quiet-bind (judged_of (place_in places number) (asserted program entries flows number)) _ (judged-quiet (place_in places number) (asserted program entries flows number)) (λ judged. tt))
 
-ended-quiet : (program : Program) (places : List TextPlace) (found : Found) → IsQuiet (ended_by program places found)
+pub ended-quiet : (program : Program) (places : List TextPlace) (found : Found) → IsQuiet (ended_by program places found)
 unfolding ended_by report_by
 ended-quiet program places found =
     quiet-bind (apart (entries_from program (flows_in found))) _ (quiet-apart_from [] (entries_from program (flows_in found)))

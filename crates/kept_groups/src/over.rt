@@ -40,7 +40,8 @@ pub fn found_over<O: Oracle, L: Ledger>(
     requires formed { IsWellFormed program.now }
     requires plan { IsPlan program.now plan.now }
     requires kept { AreKeptIf Anything (option_copied kept) }
-    ensures comes { FindsOver O.asking (option_copied kept) program.now plan.now oracle.old oracle.new
+    ensures comes { FindsOver O.asking (option_copied kept.entry) program.now plan.now oracle.old
+        oracle.new
         steps.old steps.new result }
     ensures whole { IfOk result (λ made. IsWhole program.now made.found) }
 {

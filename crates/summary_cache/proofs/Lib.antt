@@ -13,3 +13,5 @@ pub mod Refusals
 pub mod Places
 -- What the stated analysis of a text came to.
 pub mod Statements
+-- The answers of parts, one after another.
+pub mod Joining

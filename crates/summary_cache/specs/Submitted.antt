@@ -51,6 +51,7 @@ pub record IsSubmittedOver {S : Type 0} (O : Asking S) (rule : ℕ) (before : Op
   pub come : AreCome O.allows (groups_of before) last.groups.program
       (found_by_kept (length program.procs) [] []) last.groups.plan last.groups.parts marks
   pub analysed : IsAnalysedBy Anything rule text (answers_for last) last.report
+  pub kept : AreAllowed Anything (Some last)
   pub allowed : AreAllowed O.allows before
       → IsAnalysedBy O.allows rule text (answers_for last) last.report
       × AreAllowed O.allows (Some last)
@@ -96,6 +97,9 @@ pub record IsUnansweredOver {S : Type 0} (O : Asking S) (rule : ℕ) (before : O
   pub question : Question
   pub next : Answer → Posing Report
   pub leads : Path (IsGood Anything) (analysis_of rule text program plan) [] answers
+      (Asked question next)
+  pub allowed : AreAllowed O.allows before
+      → Path (IsGood O.allows) (analysis_of rule text program plan) [] answers
       (Asked question next)
   pub outside : IsOutside O.allows (groups_of before) (with_rule rule program) plan answers asked
   pub taken : O.left old ≡ with_all asked (O.left new)

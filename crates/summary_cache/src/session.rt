@@ -30,11 +30,16 @@ pub struct Session {
 }
 
 impl Model for Session {
+    ghost use Rattle.std.specs.Coded.{codes};
     ghost use Rattle.kept_groups.specs.Kept.{Anything};
+    ghost use Rattle.syntax_tree.specs.contracts.core_expr.Core as expression;
+    ghost use Rattle.syntax_tree.specs.contracts.stmt.Stmt as statement;
     ghost use Rattle.summary_cache.specs.Kept.{AreAllowed, Kept};
     ghost use Rattle.summary_cache.specs.Rules.{IsRule};
 
     ghost Value = { Kept };
+
+    ghost coded = { Prim.hlevel (codes, expression.the_row.coded, statement.the_row.coded) };
 
     ghost view = { λ s. record { rule = s.rule; last = s.last } };
 
