@@ -3,7 +3,8 @@
 failing too. Each run has to end with status 6 and nothing written, or with the status and the bytes of the run in which none
 fails. Counts what came; the status is 1 where a run ended otherwise.
 
-usage: fail_allocations.py PROGRAM                     `analyse` of a text with one loop, `check` of a file of seven answers
+usage: fail_allocations.py PROGRAM                     `analyse` of a text with one loop, `check` of a file of seven answers, `edit` of a
+                                                    text of three procedures, one of which is changed, broken and mended
        fail_allocations.py PROGRAM WORD.. < INPUT      (as PROGRAM cost g)
 
 The allocations are those of the C library that the program calls, counted by a small library that is loaded before it (`cc`).
@@ -54,6 +55,12 @@ SEVEN = b"""int main(void) {
 """
 
 
+THREE = {
+    "text": "int add(int x) { return x + 1; }\nint two(void) { return 2; }\nint main(void) { int y = add(3); assert(y == 4); }\n",
+    "edits": [{"at": 28, "remove": 1, "insert": "2"}, {"at": 28, "remove": 1, "insert": ""}, {"at": 28, "remove": 0, "insert": "1"}],
+}
+
+
 def counting_library(folder):
     """The path of the library that counts, built into a folder."""
     library, source = os.path.join(folder, "counting.so"), os.path.join(folder, "counting.c")
@@ -89,7 +96,7 @@ def main():
     else:
         file = subprocess.run([program, "certify"], input=SEVEN, capture_output=True).stdout
         assert len(json.loads(file)["order"]) == 7, file
-        runs = [(["analyse"], LOOP), (["check"], file)]
+        runs = [(["analyse"], LOOP), (["check"], file), (["edit"], json.dumps(THREE).encode())]
     with tempfile.TemporaryDirectory() as folder:
         library = counting_library(folder)
         right = [failures(library, [program, *words], given) for words, given in runs]

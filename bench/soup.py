@@ -1,6 +1,6 @@
 #!/usr/bin/env python3
 """Runs the built program on hostile inputs: tokens and statements at random, mutated programs, mutated certificate files of both
-versions, inputs of `replay`, words and bytes at random. Each run has to end within ten seconds of the processor with a status and a
+versions, inputs of `replay`, edit scripts, words and bytes at random. Each run has to end within ten seconds of the processor with a status and a
 line of `docs/FORMATS.md`, write nothing to standard error, and give the same again. Counts the statuses, and tells what took
 longest.
 
@@ -14,6 +14,7 @@ import argparse, glob, json, os, random, re, signal, sys, time
 from collections import Counter
 from concurrent.futures import ProcessPoolExecutor
 
+from compare_edits import made as edit_script
 from compare_replay import Maker, made as replay_input
 
 LIMIT = 10  # seconds of the processor; a run that takes six times as long by the clock is ended
@@ -32,15 +33,17 @@ SCALARS = [0, 1, -1, 2, 3, 2 ** 32, 2 ** 63, 2 ** 64, 1.5, 1e300, None, True, ""
 WORDS = "byte comment literal tokens syntax unsupported deep unknown twice arity void place main".split()
 MANY = "procedures parameters globals slots nodes assertions cases".split()
 USAGE = rb"usage: cra analyse \| [^\n]*\n"
+REFUSED = ("refused (%s|many (%s)) at [1-9][0-9]*:[1-9][0-9]*\n" % ("|".join(WORDS), "|".join(MANY))).encode()
 LINES = {
     2: USAGE,
-    3: ("refused (%s|many (%s)) at [1-9][0-9]*:[1-9][0-9]*\n" % ("|".join(WORDS), "|".join(MANY))).encode(),
-    7: rb"input is not JSON\n|input has a wrong shape at [^\n]*\n|version [0-9]+ is not known\n",
+    3: REFUSED,
+    7: rb"input is not JSON\n|input has a wrong shape at [^\n]*\n|version [0-9]+ is not known\n|edit [1-9][0-9]* is out of range\n",
     8: rb"check failed: answer [1-9][0-9]*\n|check failed: [1-9][0-9]* answers left\n|check failed: report differs at byte [0-9]+\n",
     9: rb"input is too long\n|output is too long\n",
     10: rb"no global [A-Za-z_][A-Za-z0-9_]*\n",
 }
 REPORT = rb"procedure (?s:.*)\ntotal [0-9]+ proved, %s unproved\n"
+VERSIONS = rb"(version [0-9]+ (work [0-9]+ of [0-9]+ proved [0-9]+ unproved [0-9]+\n|" + REFUSED + rb"))+"
 FILE = rb'\{"answers":\[[^\n]*\],"order":\[[0-9,]*\],"report":"[^\n]*","text":"[^\n]*","version":2\}\n'
 TRACE = rb"(?s:.*)stopped: (main returned( -?[0-9]+)?|guard|division by zero|no value left|wide -?[0-9]+ . -?[0-9]+|turns spent) after [0-9]+ steps\n"
 FAILED = rb"(?s:.*)stopped: assertion [0-9]+ failed at [0-9]+:[0-9]+ after [0-9]+ steps\n"
@@ -48,12 +51,13 @@ COUNTS = rb"sample [0-9]+: [0-9]+ bytes, [0-9]+ groups, [0-9]+ proved, 0 unprove
 # What a command prints where it does what it is asked for, by its status.
 DONE = {
     "analyse": {0: REPORT % b"0", 1: REPORT % b"[1-9][0-9]*"}, "certify": {0: FILE}, "renew": {0: FILE}, "check": {0: rb"check passed\n"},
+    "edit": {0: VERSIONS + REPORT % b"0", 1: VERSIONS + REPORT % b"[1-9][0-9]*", 3: VERSIONS},
     "replay": {0: TRACE, 1: FAILED}, "cost": {0: rb"procedure (?s:.*)\n"}, "sample": {0: COUNTS},
     "--help": {0: rb"cra: (?s:.*)\n"}, "--version": {0: rb"cra [0-9.]+\n"},
 }
 # The other statuses of each command.
 ELSE = {
-    "analyse": (3, 9), "certify": (3, 9), "check": (3, 7, 8, 9), "renew": (3, 7, 8, 9), "replay": (3, 7, 9), "cost": (3, 9, 10),
+    "analyse": (3, 9), "certify": (3, 9), "check": (3, 7, 8, 9), "edit": (7, 9), "renew": (3, 7, 8, 9), "replay": (3, 7, 9), "cost": (3, 9, 10),
     "sample": (), "--help": (), "--version": (),
 }
 
@@ -240,6 +244,15 @@ def mutated_file(rng, files):
     return mutated_bytes(rng, source) if kind == 1 else source
 
 
+def mutated_script(rng):
+    """An edit script, mostly as it is."""
+    script, kind = edit_script(rng)[0], rng.randrange(8)
+    if kind < 2:
+        script = mutated_value(rng, script)
+    source = json.dumps(script, ensure_ascii=rng.random() < 0.5).encode("utf-8", "replace")
+    return mutated_bytes(rng, source) if kind == 2 else source
+
+
 def random_bytes(rng):
     letters = rng.choice([bytes(range(256)), bytes(range(32, 127)), b"{}[]\":,0123 abcetrunfls\\\"/.-", b"\xc3\xa9\xe2\x82\xac\xf0\x9f\x98\x80 a",
                           b"(){};=+-*/!<>&|, \n0123xyzint"])
@@ -247,8 +260,8 @@ def random_bytes(rng):
 
 
 def random_words(rng):
-    known = ["analyse", "certify", "check", "renew", "replay", "cost", "sample", "--help", "--version", "--", "-h", "g", "1", "3", "250", "251", "03", "+3",
-             "", " ", "é", "x" * 300, "a b", "edit", "facets", "cost=g", "--cost", "-1"]
+    known = ["analyse", "certify", "check", "edit", "renew", "replay", "cost", "sample", "--help", "--version", "--", "-h", "g", "1", "3", "250", "251", "03", "+3",
+             "", " ", "é", "x" * 300, "a b", "edits", "facets", "cost=g", "--cost", "-1"]
     return [rng.choice(known) for _ in range(rng.choice([0, 1, 1, 2, 2, 3, 5]))]
 
 
@@ -257,7 +270,7 @@ def given(seed, number, texts, files):
     rng = random.Random("%d %d" % (seed, number))
     of_text = rng.choice([["analyse"], ["analyse"], ["certify"], ["cost", rng.choice(["g", "h", "x", "main"])]])
     of_file = rng.choice([["check"], ["check"], ["renew"]])
-    kind = rng.randrange(20)
+    kind = rng.randrange(22)
     if kind < 3:
         return "tokens", of_text, soup(rng)
     if kind < 6:
@@ -273,7 +286,9 @@ def given(seed, number, texts, files):
         return "replays", ["replay"], source if rng.random() < 0.5 else mutated_bytes(rng, source)
     if kind < 19:
         return "words", random_words(rng), random_bytes(rng)
-    return "bytes", rng.choice([of_text, of_file, ["replay"]]), random_bytes(rng)
+    if kind < 20:
+        return "bytes", rng.choice([of_text, of_file, ["replay"], ["edit"]]), random_bytes(rng)
+    return "scripts", ["edit"], mutated_script(rng)
 
 
 def fault(runner, words, source, again):

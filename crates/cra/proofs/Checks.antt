@@ -13,10 +13,10 @@ use Rattle.report.specs.declared.blocks.Report.{Report}
 use Rattle.report.specs.Text.{text_of}
 use Rattle.wire.specs.Replays.{IsMissing, Replayed}
 use Rattle.summary_cache.specs.declared.refusal.Refusal.{Refusal}
-use Rattle.summary_cache.specs.declared.working.Analysed.{Analysed}
+use Rattle.summary_cache.specs.declared.last.Analysed.{Analysed}
 use Rattle.summary_cache.specs.Accepted.{IsRefusedBy}
+use Rattle.summary_cache.specs.First.{IsUnanswered}
 use Rattle.summary_cache.specs.Stated.{IsAnalysedBy, analysis_of}
-use Rattle.summary_cache.specs.Submitted.{IsUnanswered}
 use Rattle.cra.specs.declared.reply.Reply.{Reply}
 use Rattle.cra.specs.Check.{IsCheckUnder, failed, finished_reply}
 use Rattle.cra.specs.Within.{refused_reply}

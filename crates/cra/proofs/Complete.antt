@@ -24,7 +24,7 @@ pub whole-input : (limit : ℕ) (all input : List ℕ) → length all ≤ limit 
 unfolding IsInput
 whole-input limit all input short is = is ∙ take_all (limit + 1) all (omega arith)
 
-zero-or-one : (all : Bool) (status : Status) → status ≡ (if all then AllProved else SomeUnproved) → (status ≡ AllProved) ⊎ (status ≡ SomeUnproved)
+pub zero-or-one : (all : Bool) (status : Status) → status ≡ (if all then AllProved else SomeUnproved) → (status ≡ AllProved) ⊎ (status ≡ SomeUnproved)
 zero-or-one true status e = inl e
 zero-or-one false status e = inr e
 

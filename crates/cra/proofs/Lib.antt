@@ -8,6 +8,11 @@ pub mod Sentences
 pub mod Inputs
 pub mod Outputs
 pub mod Replays
+-- The versions of an edited text: their lengths, how they go through a session, and what they say of
+-- executions.
+pub mod Scripts
+pub mod Versions
+pub mod Edits
 -- The bounds on a global's change: what they say of executions, the global of a name, and lists that
 -- are made one by one.
 pub mod Costs

@@ -63,6 +63,10 @@ module _ (name : List ℕ) where
   unfolding clap_on_literals
   check-fits = record { matched = λ _. refl; answered = λ _ _. inl refl; told = λ _ _. refl }
 
+  edit-fits : Fits (name ∷ codes "edit" ∷ [])
+  unfolding clap_on_literals
+  edit-fits = record { matched = λ _. refl; answered = λ _ _. inl refl; told = λ _ _. refl }
+
   renew-fits : Fits (name ∷ codes "renew" ∷ [])
   unfolding clap_on_literals
   renew-fits = record { matched = λ _. refl; answered = λ _ _. inl refl; told = λ _ _. refl }
@@ -238,11 +242,12 @@ module _ (name : List ℕ) where
       by_literal FitsWord (codes "analyse") word _ refl analyse-fits (λ e1.
       by_literal FitsWord (codes "certify") word _ refl certify-fits (λ e2.
       by_literal FitsWord (codes "check") word _ refl check-fits (λ e3.
-      by_literal FitsWord (codes "renew") word _ refl renew-fits (λ e4.
-      by_literal FitsWord (codes "replay") word _ refl replay-fits (λ e5.
-      by_literal FitsWord (codes "--help") word _ refl help-fits (λ e6.
-      by_literal FitsWord (codes "--version") word _ refl version-fits (λ e7.
-      others-fit word (rw (e1, e2, e3, e4, e5, e6, e7) refl))))))))
+      by_literal FitsWord (codes "edit") word _ refl edit-fits (λ e4.
+      by_literal FitsWord (codes "renew") word _ refl renew-fits (λ e5.
+      by_literal FitsWord (codes "replay") word _ refl replay-fits (λ e6.
+      by_literal FitsWord (codes "--help") word _ refl help-fits (λ e7.
+      by_literal FitsWord (codes "--version") word _ refl version-fits (λ e8.
+      others-fit word (rw (e1, e2, e3, e4, e5, e6, e7, e8) refl)))))))))
 
   -- ---- a command and a number
 

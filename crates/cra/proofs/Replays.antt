@@ -16,7 +16,7 @@ use Rattle.wire.specs.Shapes.{Reading, field, member_of, member_path, or_wrong, 
 use Rattle.cra.specs.declared.reply.Reply.{Reply}
 use Rattle.cra.specs.Replay.{IsFollowed, IsTraceOf, trace_reply}
 
-lifted-ok : {A E F : Type 0} (as_fault : E → F) (r : Result A E) (x : A) → lifted as_fault r ≡ Ok x → r ≡ Ok x
+pub lifted-ok : {A E F : Type 0} (as_fault : E → F) (r : Result A E) (x : A) → lifted as_fault r ≡ Ok x → r ≡ Ok x
 lifted-ok as_fault (Ok y) x e = let same : y ≡ x = cc in ap (λ v. Ok v) same
 lifted-ok as_fault (Err d) x e = cc
 
@@ -28,10 +28,10 @@ short-where : (b : Bool) (t u : List ℕ) → nat_le (length t) most_text ≡ b 
 short-where true t u e is = let same : t ≡ u = cc in subst (λ t. length t ≤ most_text) same (leb-true (length t) most_text e)
 short-where false t u e is = absurd (cc is)
 
-source-short : (d : Data) (t : List ℕ) → source d ≡ Ok t → length t ≤ most_text
+pub source-short : (d : Data) (t : List ℕ) → source d ≡ Ok t → length t ≤ most_text
 source-short d t e = on_ok (text d) (λ u. or_wrong (if_short u)) t e (λ u from is. short-where _ u t refl (or_wrong-ok (if_short u) t is))
 
-field-ok : {A : Type 0} (key : List ℕ) (reads : Reading A) (d : Data) (x : A) → field key reads d ≡ Ok x → (value : Data) × (reads value ≡ Ok x)
+pub field-ok : {A : Type 0} (key : List ℕ) (reads : Reading A) (d : Data) (x : A) → field key reads d ≡ Ok x → (value : Data) × (reads value ≡ Ok x)
 field-ok key reads d x e =
     on_ok (member_of key d) (λ value. under (member_path key) (reads value)) x e (λ value from is. (value, lifted-ok _ (reads value) x is))
 

@@ -8,9 +8,11 @@ use Rattle.farkas_check.specs.declared.answer.Answer.{Answer}
 use Rattle.farkas_check.specs.declared.question.Question.{Question}
 use Rattle.farkas_check.specs.Asking.{Asking}
 use Rattle.finder.specs.Found.{IsFound}
-use Rattle.summary_cache.specs.declared.working.Analysed.{Analysed}
+use Rattle.summary_cache.specs.declared.last.Analysed.{Analysed}
+use Rattle.summary_cache.specs.declared.last.Last.{Last}
 use Rattle.summary_cache.specs.declared.working.Counts.{Counts}
-use Rattle.summary_cache.specs.Submitted.{IsWorked, Keeps}
+use Rattle.summary_cache.specs.First.{IsWorked, KeepsFirst}
+use Rattle.summary_cache.specs.Kept.{analysed_of}
 use Rattle.cra.specs.Sample.{IsCounted}
 
 -- the part for one number more, behind those for the first k
@@ -36,8 +38,8 @@ module _ {S : Type 0} (refusals : S → ℕ) (declines : S → Question → Type
   worked-counted old new text last counts h = record { answers = last.answers; report = last.report; analysed = h.analysed; counted = h.counted }
 
   -- a text that is accepted while the finder answers has its counts
-  pub kept-counted : (rule : ℕ) (old new : S) (text : List ℕ) (counts : Counts) (kept : Option Analysed) → rule ≡ 2
-      → Keeps finding rule old new text counts kept → IsCounted text counts
+  pub kept-counted : (rule : ℕ) (old new : S) (text : List ℕ) (counts : Counts) (kept : Option Last) → rule ≡ 2
+      → KeepsFirst finding rule old new text counts kept → IsCounted text counts
   kept-counted rule old new text counts None second h = absurd h
   kept-counted rule old new text counts (Some last) second h =
-      worked-counted old new text last counts (subst (λ r. IsWorked finding r old new text last counts) second h)
+      worked-counted old new text (analysed_of last) counts (subst (λ r. IsWorked finding r old new text (analysed_of last) counts) second h)

@@ -37,6 +37,7 @@ use Rattle.cra.specs.Analyse.{IsReplyToAnalyse, IsToAnalyse}
 use Rattle.cra.specs.Check.{IsCheckOf, IsReplyToCheck, IsShown, IsToCheck, answers_of, compared_reply, finished_reply, posed_reply, rule_of}
 use Rattle.cra.specs.Replay.{IsReplyToReplay, IsToReplay, IsTraceOf}
 use Rattle.cra.specs.Replies.{IsReply, IsReplyToRead, IsReplyToWork}
+use Rattle.cra.specs.Stated.{IsAnalysed}
 use Rattle.cra.specs.Within.{OrWrong}
 use Rattle.cra.specs.Input.{IsInput}
 use Rattle.cra.specs.Limits.{most_file, most_input}
@@ -75,7 +76,7 @@ there [] n lt = absurd (omega (arith, lt))
 there (j ∷ js) zero lt = (j, refl)
 there (j ∷ js) (suc n) lt = there js n (omega (arith, lt))
 
-none-fails : (program : Program) (report : Report) → ReportCovers program report → ClaimsAreMet program report → length report.judged - proved_count report.judged ≡ 0 → NoAssertionFails program
+pub none-fails : (program : Program) (report : Report) → ReportCovers program report → ClaimsAreMet program report → length report.judged - proved_count report.judged ≡ 0 → NoAssertionFails program
 none-fails program report covers met none n lt =
     let long : length report.judged ≡ length program.checks = sym (length-map report.judged (λ (j : Judged). j.at)) ∙ ap length covers.verdicts in
     let at = there report.judged n (omega (arith, lt, long)) in
@@ -87,7 +88,7 @@ all-or-some : (all : Bool) → (if all then AllProved else SomeUnproved) ≡ All
 all-or-some true e = refl
 all-or-some false e = absurd (cc e)
 
-zero-of : (n : ℕ) → (if n == 0 then AllProved else SomeUnproved) ≡ AllProved → n ≡ 0
+pub zero-of : (n : ℕ) → (if n == 0 then AllProved else SomeUnproved) ≡ AllProved → n ≡ 0
 zero-of n e = eqb-true n 0 (all-or-some (n == 0) e)
 
 sound-text : (all : List ℕ) (program : Program) (reply : Reply) → Accepts all program → IsReplyToAnalyse all reply → reply.status ≡ AllProved → NoAssertionFails program
@@ -105,18 +106,24 @@ sound words before after reply a answer e =
     let all = whole-input most_bytes a.input read.input a.short (subst (λ before. IsInput most_bytes before read.input) a.whole read.is_input) in
     sound-text a.input a.program reply a.accepted (subst (λ input. IsReplyToAnalyse input reply) all read.is_reply) e
 
--- a text within the limit that is accepted has a report, which is true of its program
-told-text : (all : List ℕ) (program : Program) (reply : Reply) → length all ≤ most_bytes → Accepts all program → IsReplyToAnalyse all reply → IsTrueText program reply.text
-told-text all program reply short a (inl (long, is)) = absurd (omega (arith, short, long))
-told-text all program reply short a (inr (fits, inl (report, answers, is, told))) =
+-- the text of a report of an accepted text is true of its program
+pub true-report : (all : List ℕ) (program : Program) (answers : List Answer) (report : Report) → Accepts all program → IsAnalysed all answers report
+    → IsTrueText program (text_of report)
+true-report all program answers report a is =
     let same : is.program ≡ program = accepted-once all is.program program is.planned.accepted a in
     record {
       report = report;
-      told = ap (λ (r : Reply). r.text) told;
+      told = refl;
       covers = subst (λ (p : Program). ReportCovers p report) same is.covers;
       met = subst (λ (p : Program). ClaimsAreMet p report) same is.met;
       points = is.points;
     }
+
+-- a text within the limit that is accepted has a report, which is true of its program
+told-text : (all : List ℕ) (program : Program) (reply : Reply) → length all ≤ most_bytes → Accepts all program → IsReplyToAnalyse all reply → IsTrueText program reply.text
+told-text all program reply short a (inl (long, is)) = absurd (omega (arith, short, long))
+told-text all program reply short a (inr (fits, inl (report, answers, is, told))) =
+    subst (IsTrueText program) (sym (ap (λ (r : Reply). r.text) told)) (true-report all program answers report a is)
 told-text all program reply short a (inr (fits, inr (refusal, is, told))) = absurd (not-refused all program refusal a is)
 
 pub true-text : (words : List (List ℕ)) (before after : Option (List ℕ)) (reply : Reply) (asked : IsToAnalyse words before) → IsReply words before after reply → IsTrueText asked.program reply.text

@@ -23,10 +23,12 @@ abbrev pub commands : App
 commands =
     with_subcommand
     (with_subcommand
+    (with_subcommand
     (with_subcommand (with_subcommand (with_subcommand (with_subcommand (with_subcommand top
     (plain (codes "analyse")))
     (plain (codes "certify")))
     (plain (codes "check")))
+    (plain (codes "edit")))
     (with_rule (new_app (codes "sample")) count_rule).top)
     (plain (codes "renew")))
     (plain (codes "replay")))

@@ -11,6 +11,7 @@ pub mod Told
 pub mod Analyse
 pub mod Certify
 pub mod Check
+pub mod Edit
 pub mod Renew
 pub mod Replay
 pub mod Sample
@@ -22,5 +23,6 @@ pub mod Bounded
 pub mod Tame
 -- ---- words of proofs and of private functions
 pub mod Submitted
+pub mod Editing
 pub mod Posts
 pub mod Commands

@@ -5,11 +5,12 @@ use Rattle.std.specs.Io.KnownBytes.{prepend_known}
 use Rattle.summary_cache.specs.Limits.{most_bytes}
 use Rattle.cra.specs.declared.reply.Reply.{Reply}
 use Rattle.cra.specs.declared.words.Work.{Work}
-use Rattle.cra.specs.declared.words.Work.TheVariants.{Analyse, Certify, Check, Sample, Renew, Replay, Cost, Help, Version}
+use Rattle.cra.specs.declared.words.Work.TheVariants.{Analyse, Certify, Check, Edit, Sample, Renew, Replay, Cost, Help, Version}
 use Rattle.cra.specs.Analyse.{IsReplyToAnalyse}
 use Rattle.cra.specs.Certify.{IsReplyToCertify}
 use Rattle.cra.specs.Check.{IsReplyToCheck}
 use Rattle.cra.specs.Cost.{IsReplyToCost}
+use Rattle.cra.specs.Edit.{IsReplyToEdit}
 use Rattle.cra.specs.Input.{IsInput}
 use Rattle.cra.specs.Limits.{most_file, most_input}
 use Rattle.cra.specs.Renew.{IsReplyToRenew}
@@ -38,6 +39,8 @@ IsReplyToWork (Some Analyse) before after reply = IsReplyToRead most_bytes IsRep
 IsReplyToWork (Some Certify) before after reply = IsReplyToRead most_bytes IsReplyToCertify before
     after reply
 IsReplyToWork (Some Check) before after reply = IsReplyToRead most_file IsReplyToCheck before after
+    reply
+IsReplyToWork (Some Edit) before after reply = IsReplyToRead most_input IsReplyToEdit before after
     reply
 IsReplyToWork (Some Renew) before after reply = IsReplyToRead most_file IsReplyToRenew before after
     reply

@@ -54,7 +54,7 @@ pub record IsCounted (text : List ℕ) (counts : Counts) : Type 0 where
   pub answers : List Answer
   pub report : Report
   pub analysed : IsAnalysed text answers report
-  pub counted : counts ≡ counts_of (length analysed.plan) report
+  pub counted : counts ≡ counts_of (length analysed.plan) (length analysed.plan) report
 
 -- what counting comes to: the counts of a text that is accepted, or the reason of its refusal
 abbrev pub IsCountsOf : List ℕ → Result Counts TextError → Type 0

@@ -1,5 +1,5 @@
 -- What the end of a run says, in words of executions alone.
-use Rattle.std.specs.Prelude.{◌≡◌, ℕ, ◌+◌, ◌<◌, List, Option, length}
+use Rattle.std.specs.Prelude.{◌≡◌, ℕ, ◌+◌, ◌<◌, List, ◌++◌, Option, length}
 use Rattle.std.specs.Io.KnownBytes.{append_known}
 use Rattle.execution.specs.Execution.{Fails}
 use Rattle.syntax_tree.specs.declared.program.Program.{Program}
@@ -33,3 +33,8 @@ IsTrueFile file program = IsTrueText program file.report
 abbrev pub TellsTrueText : Program → Option (List ℕ) → Option (List ℕ) → Type 0
 TellsTrueText program before now = (text : List ℕ) × IsTrueText program text
     × (now ≡ append_known before text)
+
+-- what was written ends with a text that is true of the program
+abbrev pub EndsWithTrueText : Program → Option (List ℕ) → Option (List ℕ) → Type 0
+EndsWithTrueText program before now = (lines : List ℕ) × (text : List ℕ) × IsTrueText program text
+    × (now ≡ append_known before (lines ++ text))

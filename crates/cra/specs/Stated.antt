@@ -5,7 +5,7 @@ use Rattle.report.specs.declared.blocks.Report.{Report}
 use Rattle.finder.specs.Found.{IsFound}
 use Rattle.summary_cache.specs.declared.refusal.TextError.{TextError}
 use Rattle.summary_cache.specs.declared.refusal.TextError.TheVariants.{Refused, Memory}
-use Rattle.summary_cache.specs.declared.working.Analysed.{Analysed}
+use Rattle.summary_cache.specs.declared.last.Analysed.{Analysed}
 use Rattle.summary_cache.specs.Accepted.{IsRefusedBy}
 use Rattle.summary_cache.specs.Stated.{IsAnalysedBy}
 

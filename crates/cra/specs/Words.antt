@@ -5,7 +5,7 @@ use Rattle.std.specs.Str.{bytes_eq}
 use Rattle.std.specs.Str.Parse.{digits_value}
 use Rattle.c_lexer.specs.Kinds.{is_word_shape}
 use Rattle.cra.specs.declared.words.Work.{Work}
-use Rattle.cra.specs.declared.words.Work.TheVariants.{Analyse, Certify, Check, Sample, Renew, Replay, Cost, Help, Version}
+use Rattle.cra.specs.declared.words.Work.TheVariants.{Analyse, Certify, Check, Edit, Sample, Renew, Replay, Cost, Help, Version}
 
 -- what one word asks for
 abbrev pub work_named : List ℕ → Option Work
@@ -13,10 +13,11 @@ work_named word =
     if bytes_eq word (codes "analyse") then Some Analyse
     else (if bytes_eq word (codes "certify") then Some Certify
     else (if bytes_eq word (codes "check") then Some Check
+    else (if bytes_eq word (codes "edit") then Some Edit
     else (if bytes_eq word (codes "renew") then Some Renew
     else (if bytes_eq word (codes "replay") then Some Replay
     else (if bytes_eq word (codes "--help") then Some Help
-    else (if bytes_eq word (codes "--version") then Some Version else None))))))
+    else (if bytes_eq word (codes "--version") then Some Version else None)))))))
 
 abbrev pub is_digit : ℕ → Bool
 is_digit code = nat_le 48 code && nat_le code 57
@@ -61,6 +62,7 @@ abbrev pub reads_source : Option Work → Bool
 reads_source (Some Analyse) = true
 reads_source (Some Certify) = true
 reads_source (Some Check) = true
+reads_source (Some Edit) = true
 reads_source (Some (Sample count)) = false
 reads_source (Some Renew) = true
 reads_source (Some Replay) = true

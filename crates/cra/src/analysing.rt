@@ -13,7 +13,7 @@ use std::alloc::{AllocError, Global};
 use summary_cache::{MOST_BYTES, TextError};
 
 /// The answer that tells a report.
-fn report_reply(alloc: Global, report: &Report) -> Result<Reply, AllocError>
+pub(crate) fn report_reply(alloc: Global, report: &Report) -> Result<Reply, AllocError>
     ensures reply { IfOk result (λ reply. reply ≡ report_reply report.now) }
     ensures status { IfOk result (λ reply. IsAnswer reply.status) }
 {

@@ -10,11 +10,12 @@ use std::alloc::{AllocError, Global};
 const HELP: &[u8] = b"\
 cra: a verified analyser of numeric C
 
-usage: cra analyse | certify | check | sample N | renew | replay | cost NAME
+usage: cra analyse | certify | check | edit | sample N | renew | replay | cost NAME
 
   analyse    reads the text of a program, and prints what is proved of it
   certify    reads the text of a program, and prints its report with all that shows it, as JSON
   check      reads a certificate file, and prints whether its answers show its report
+  edit       reads a text with edits as JSON, and prints what comes of each version, and the report of the last
   sample N   makes a text of N procedures with loops, 1 to 250, and prints how many assertions are proved
   renew      reads a certificate file, and where it passes prints one that is made anew
   replay     reads a text with values and turns as JSON, and prints one execution
@@ -47,6 +48,6 @@ pub fn usage_reply(alloc: Global) -> Result<Reply, AllocError>
     line(
         alloc,
         Status::WrongWords,
-        b"usage: cra analyse | certify | check | sample N | renew | replay | cost NAME\n",
+        b"usage: cra analyse | certify | check | edit | sample N | renew | replay | cost NAME\n",
     )
 }

@@ -1,4 +1,5 @@
-/// The most bytes of a text with values and turns, on which an execution is followed.
+/// The most bytes of an edit script, and of a text with values and turns, on which an execution is
+/// followed.
 pub const MOST_INPUT: usize = 8_388_608;
 
 /// The most bytes of a certificate file.

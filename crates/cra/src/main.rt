@@ -13,6 +13,7 @@ mod analysing;
 mod certifying;
 mod checking;
 mod costing;
+mod editing;
 mod help;
 mod input;
 mod laws;

@@ -8,10 +8,11 @@ ghost use Rattle.cra.specs.Bounded.{TellsTrueBounds};
 ghost use Rattle.cra.specs.Certify.{IsToCertify};
 ghost use Rattle.cra.specs.Check.{IsToCheck, IsToCheckCertified};
 ghost use Rattle.cra.specs.Cost.{HasGlobal, HasNoGlobal, IsToCost};
+ghost use Rattle.cra.specs.Edit.{IsToEdit};
 ghost use Rattle.cra.specs.Renew.{IsToRenew, IsToRenewCertified};
 ghost use Rattle.cra.specs.Replay.{IsToReplay};
 ghost use Rattle.cra.specs.Replies.{IsReply, IsReplyToWork};
-ghost use Rattle.cra.specs.Sentences.{AnAssertionFails, IsTrueFile, NoAssertionFails, TellsTrueText};
+ghost use Rattle.cra.specs.Sentences.{AnAssertionFails, EndsWithTrueText, IsTrueFile, NoAssertionFails, TellsTrueText};
 ghost use Rattle.cra.specs.Status.{IsAnswer};
 ghost use Rattle.cra.specs.Tame.{TameTextsHaveNoLimit};
 ghost use Rattle.cra.specs.Words.{reads_source, work_of};
@@ -20,6 +21,7 @@ use crate::analysing::analyse_reply;
 use crate::certifying::certify_reply;
 use crate::checking::check_reply;
 use crate::costing::cost_reply;
+use crate::editing::edit_reply;
 use crate::help::{help_reply, usage_reply, version_reply};
 use crate::input::{InputError, read_input};
 use crate::laws::law_of_tame_texts;
@@ -62,6 +64,10 @@ fn answer_to<R: Source>(
         Some(Work::Check) => {
             let input = read_input(alloc, source, MOST_FILE, PIECE)?;
             Ok(check_reply(alloc, &input)?)
+        }
+        Some(Work::Edit) => {
+            let input = read_input(alloc, source, MOST_INPUT, PIECE)?;
+            Ok(edit_reply(alloc, &input)?)
         }
         Some(Work::Sample(count)) => Ok(sample_reply(alloc, count)?),
         Some(Work::Renew) => {
@@ -115,6 +121,13 @@ pub fn run<R: Source, W: Sink>(
     ensures told { (asked : IsToAnalyse (map string_bytes words.now) (R.left source.old))
         → IsAnswer result
         → TellsTrueText asked.program (W.taken sink.old) (W.taken sink.new) }
+    // Asked for the versions of a text the last of which is accepted, `AllProved` says so of the
+    // program of the last one, and the report of that is written behind the lines of the versions.
+    ensures sound_edit { (asked : IsToEdit (map string_bytes words.now) (R.left source.old))
+        → result ≡ Status.AllProved → NoAssertionFails asked.program }
+    ensures told_edit { (asked : IsToEdit (map string_bytes words.now) (R.left source.old))
+        → IsAnswer result
+        → EndsWithTrueText asked.program (W.taken sink.old) (W.taken sink.new) }
     // `CheckPassed` says that all that the file's report tells is true, whoever made the file.
     ensures sound_check { (asked : IsToCheck (map string_bytes words.now) (R.left source.old))
         → result ≡ Status.CheckPassed → IsTrueFile asked.file.file asked.file.program }
@@ -128,8 +141,8 @@ pub fn run<R: Source, W: Sink>(
     ensures sound_cost { (asked : IsToCost (map string_bytes words.now) (R.left source.old))
         → result ≡ Status.CostsTold
         → TellsTrueBounds asked.program asked.name (W.taken sink.old) (W.taken sink.new) }
-    // The report of an accepted text, which `analyse`, `certify` and `sample` tell, has no limit
-    // where every question that its analysis posed is tame.
+    // The report of an accepted text, which `analyse`, `certify`, `edit` and `sample` tell, has no
+    // limit where every question that its analysis posed is tame.
     ensures tame { TameTextsHaveNoLimit }
 
     // Every status but those of the source, the sink and memory is the answer to the words and to
@@ -149,7 +162,15 @@ pub fn run<R: Source, W: Sink>(
         → (result ≡ Status.AllProved) ⊎ (result ≡ Status.SomeUnproved)
         ⊎ (result ≡ Status.WantOfMemory) }
 
-    // So has its certificate file, which is written where it is within the limit.
+    // So has the last version of a text.
+    ensures complete_edit { IsToEdit (map string_bytes words.now) (R.left source.old)
+        → ¬ Rose (R.faults source.old) (R.faults source.new)
+        → ¬ Rose (W.faults sink.old) (W.faults sink.new)
+        → (result ≡ Status.AllProved) ⊎ (result ≡ Status.SomeUnproved)
+        ⊎ (result ≡ Status.WantOfMemory) }
+
+    // A text that is accepted has its certificate file, which is written where it is within the
+    // limit.
     ensures complete_certify { IsToCertify (map string_bytes words.now) (R.left source.old)
         → ¬ Rose (R.faults source.old) (R.faults source.new)
         → ¬ Rose (W.faults sink.old) (W.faults sink.new)

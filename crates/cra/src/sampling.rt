@@ -1,4 +1,4 @@
-ghost use Rattle.std.specs.Prelude.{◌≡◌, ◌≤◌, ◌++◌, decimal, length, IfOk, OnOk};
+ghost use Rattle.std.specs.Prelude.{◌≡◌, ◌≤◌, ◌++◌, length, IfOk, OnOk};
 ghost use Rattle.std.specs.List.{flat_map, range_with_len};
 ghost use Rattle.summary_cache.specs.Limits.{most_bytes};
 ghost use Rattle.cra.specs.Sample.{IsCountsOf, IsReplyToSample, TellsCounts, call_text, counts_line, counts_reply, procedure_text, sample_text};
@@ -7,22 +7,12 @@ ghost use Rattle.cra.specs.Status.{IsAnswer};
 
 use crate::reply::{Reply, refused_reply, too_long};
 use crate::status::Status;
-use crate::text::Text;
+use crate::submitting::submit;
+use crate::text::{Text, put_between};
 use finder::Finder;
 use items::Items;
 use std::alloc::{AllocError, Global};
 use summary_cache::{Counts, MOST_BYTES, Session, SubmitError, TextError};
-
-/// A number between two texts.
-fn put_between(text: &mut Text, before: &[u8], number: u128, after: &[u8]) -> Result<(), AllocError>
-    ensures { OnOk result
-        (text.new.bytes.items ≡ text.old.bytes.items
-        ++ (before.now ++ decimal number ++ after.now)) }
-{
-    text.put(before)?;
-    text.put_count(number)?;
-    text.put(after)
-}
 
 /// A procedure that counts up to its argument.
 fn put_procedure(text: &mut Text, number: u32) -> Result<(), AllocError>
@@ -132,7 +122,7 @@ fn counts_of(alloc: Global, text: &[u8]) -> Result<Counts, TextError>
 {
     let mut session = Session::new();
     let mut finder = Finder::new(alloc);
-    match session.submit(alloc, text, &mut finder) {
+    match submit(alloc, &mut session, text, &mut finder) {
         Ok(counts) => Ok(counts),
         Err(SubmitError::Text(refusal)) => Err(TextError::Refused(refusal)),
         Err(SubmitError::Refused) => unreachable!(),

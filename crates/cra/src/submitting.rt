@@ -1,21 +1,67 @@
-ghost use Rattle.std.specs.Prelude.{◌≡◌, ◌≢◌, ◌≤◌, length, None, Some};
+ghost use Rattle.std.specs.Prelude.{◌≡◌, ◌≢◌, ◌<◌, ◌≤◌, length, None, Some, IfOk};
+ghost use Rattle.std.specs.Option.{option_map};
+ghost use Rattle.summary_cache.specs.First.{ComesFirst};
+ghost use Rattle.summary_cache.specs.Kept.{analysed_of};
 ghost use Rattle.summary_cache.specs.Limits.{most_bytes};
 ghost use Rattle.summary_cache.specs.Rules.{IsRule};
+ghost use Rattle.summary_cache.specs.Submitted.{Submits};
 ghost use Rattle.cra.specs.Stated.{IsFoundOf};
 ghost use Rattle.cra.specs.Submitted.{IsSubmitted};
 
 use farkas_check::Oracle;
 use finder::Finder;
-use std::alloc::Global;
-use summary_cache::{Analysed, Session, SubmitError, TextError};
+use kept_groups::Steps;
+use std::alloc::{AllocError, Global};
+use std::marker::Brand;
+use std::sync::ledger::{Blank, Ledger};
+use summary_cache::{Analysed, Counts, Session, SubmitError, TextError};
 
-/// What a session keeps of the text that it accepted.
-fn last_of(session: Session) -> Analysed
-    requires { session.last ≢ None }
-    ensures { Some result ≡ session.last }
+/// What comes of a text that is submitted to a session, whose steps a new ledger counts.
+fn submit_counting<O: Oracle, L: Ledger>(
+    alloc: Global,
+    session: &mut Session,
+    text: &[u8],
+    oracle: &mut O,
+    blank: Blank,
+) -> Result<Counts, SubmitError>
+    requires short { length text.now ≤ most_bytes }
+    requires name { blank.name ≡ L.name }
+    requires parts { blank.parts ≡ L.parts }
+    requires some { 0 < blank.parts }
+    ensures submits { Submits O.asking oracle.old oracle.new text.now session.old session.new
+        result }
+    ensures first { session.old.last ≡ None
+        → ComesFirst O.asking session.old.rule oracle.old oracle.new text.now session.new.last
+        result }
 {
-    match session.into_last() {
-        Some(last) => last,
+    let mut steps = Steps::<L>::new(blank);
+    session.submit(alloc, text, oracle, &mut steps)
+}
+
+/// What comes of a text that is submitted to a session. What a ledger counts is not read.
+pub fn submit<O: Oracle>(
+    alloc: Global,
+    session: &mut Session,
+    text: &[u8],
+    oracle: &mut O,
+) -> Result<Counts, SubmitError>
+    requires short { length text.now ≤ most_bytes }
+    ensures submits { Submits O.asking oracle.old oracle.new text.now session.old session.new
+        result }
+    ensures first { session.old.last ≡ None
+        → ComesFirst O.asking session.old.rule oracle.old oracle.new text.now session.new.last
+        result }
+{
+    submit_counting::<O, Brand>(alloc, session, text, oracle, Blank::new(1))
+}
+
+/// What a session keeps of the text that it accepted: its report and its answers.
+fn analysed_of(alloc: Global, session: Session) -> Result<Analysed, AllocError>
+    requires { session.last ≢ None }
+    ensures { IfOk result (λ made. Some made ≡ option_map analysed_of session.last) }
+{
+    match session.into_analysed(alloc)? {
+        Some(made) => Ok(made),
         None => unreachable!(),
     }
 }
@@ -32,8 +78,11 @@ pub fn submitted<O: Oracle>(
     ensures { IsSubmitted O.asking rule oracle.old oracle.new text.now result }
 {
     let mut session = Session::with_rule(rule);
-    match session.submit(alloc, text, oracle) {
-        Ok(_) => Ok(last_of(session)),
+    match submit(alloc, &mut session, text, oracle) {
+        Ok(_counts) => match analysed_of(alloc, session) {
+            Ok(made) => Ok(made),
+            Err(_error) => Err(SubmitError::Memory),
+        },
         Err(error) => Err(error),
     }
 }

@@ -200,6 +200,32 @@ pub(crate) const SHARED_CHANGES: &str = "\
 8 check failed: answer 4 | \"version\":2 | \"version\":1
 ";
 
+/// Edit scripts, each behind its status and before what it is answered with, in which `~` ends a line.
+/// An independent model of the rules gives what comes.
+pub(crate) const EDITS: &str = "\
+1 | {\"text\":\"int add(int x) { return x + 1; }\\nint two(void) { return 2; }\\nint main(void) { int y = add(3); assert(y == 4); }\\n\",\"edits\":[{\"at\":28,\"remove\":1,\"insert\":\"2\"}]} | version 0 work 3 of 3 proved 1 unproved 0~version 1 work 2 of 3 proved 0 unproved 1~procedure add~case 1~  $ret = x + 2~procedure two~case 1~  $ret = 2~procedure main~none~assertion 1 at 3:34 unproved~  y = 5~  point none~total 0 proved, 1 unproved
+0 | {\"text\":\"int main(void){}\",\"edits\":[{\"at\":15,\"remove\":1,\"insert\":\"\"},{\"at\":15,\"remove\":0,\"insert\":\"}\"}]} | version 0 work 1 of 1 proved 0 unproved 0~version 1 refused syntax at 1:16~version 2 work 0 of 1 proved 0 unproved 0~procedure main~case 1~  $ret = $1~total 0 proved, 0 unproved
+3 | {\"text\":\"int main(void){}\",\"edits\":[{\"at\":15,\"remove\":1,\"insert\":\"\"}]} | version 0 work 1 of 1 proved 0 unproved 0~version 1 refused syntax at 1:16
+7 | {\"text\":1} | input has a wrong shape at /text
+7 | {\"text\":\"\",\"edits\":[{\"at\":1,\"remove\":0,\"insert\":\"x\"}]} | edit 1 is out of range
+7 | { | input is not JSON
+7 | [] | input has a wrong shape at 
+7 | {\"text\":\"int main(void){}\"} | input has a wrong shape at /edits
+7 | {\"text\":\"int main(void){}\",\"edits\":{}} | input has a wrong shape at /edits
+0 | {\"text\":\"int main(void){}\",\"edits\":[]} | version 0 work 1 of 1 proved 0 unproved 0~procedure main~case 1~  $ret = $1~total 0 proved, 0 unproved
+3 | {\"edits\":[{\"at\":9,\"remove\":1,\"insert\":\"x\"}],\"text\":\"int main(void){}\",\"more\":1} | version 0 work 1 of 1 proved 0 unproved 0~version 1 refused syntax at 1:10
+7 | {\"text\":\"int main(void){}\",\"edits\":[{\"at\":-1,\"remove\":0,\"insert\":\"\"}]} | input has a wrong shape at /edits/0/at
+7 | {\"text\":\"int main(void){}\",\"edits\":[{\"at\":0,\"remove\":4294967296,\"insert\":\"\"}]} | input has a wrong shape at /edits/0/remove
+7 | {\"text\":\"int main(void){}\",\"edits\":[{\"at\":0,\"insert\":\"\"}]} | input has a wrong shape at /edits/0/remove
+7 | {\"text\":\"int main(void){}\",\"edits\":[{\"at\":0,\"remove\":0,\"insert\":\"x\"},{\"at\":0,\"remove\":1,\"insert\":1}]} | input has a wrong shape at /edits/1/insert
+7 | {\"text\":\"@\",\"edits\":[{\"at\":4294967295,\"remove\":4294967295,\"insert\":\"\"}]} | edit 1 is out of range
+7 | {\"text\":\"/* \\u00e9 */int main(void){}\",\"edits\":[{\"at\":3,\"remove\":0,\"insert\":\"x\"},{\"at\":5,\"remove\":0,\"insert\":\"x\"}]} | edit 2 is out of range
+0 | {\"text\":\"/* \\u00e9 */int main(void){}\",\"edits\":[{\"at\":3,\"remove\":2,\"insert\":\"x\"},{\"at\":3,\"remove\":1,\"insert\":\"\\u20ac\"}]} | version 0 work 1 of 1 proved 0 unproved 0~version 1 work 0 of 1 proved 0 unproved 0~version 2 work 0 of 1 proved 0 unproved 0~procedure main~case 1~  $ret = $1~total 0 proved, 0 unproved
+3 | {\"text\":\"@\",\"edits\":[{\"at\":0,\"remove\":1,\"insert\":\"int main(void) { assert(1); }\"},{\"at\":16,\"remove\":0,\"insert\":\"@\"}]} | version 0 refused byte at 1:1~version 1 work 1 of 1 proved 1 unproved 0~version 2 refused byte at 1:17
+0 | {\"text\":\"int add(int x) { return x + 1; }\\nint two(void) { return 2; }\\nint main(void) { int y = add(3); assert(y == 4); }\\n\",\"edits\":[{\"at\":0,\"remove\":0,\"insert\":\"/* first */\\n\"},{\"at\":12,\"remove\":33,\"insert\":\"\"},{\"at\":12,\"remove\":0,\"insert\":\"int add(int z) { return z + 1; }\\n\"},{\"at\":0,\"remove\":12,\"insert\":\"int g = 1;\\n\"},{\"at\":8,\"remove\":1,\"insert\":\"2\"}]} | version 0 work 3 of 3 proved 1 unproved 0~version 1 work 0 of 3 proved 1 unproved 0~version 2 refused unknown at 3:26~version 3 work 0 of 3 proved 1 unproved 0~version 4 work 3 of 3 proved 1 unproved 0~version 5 work 0 of 3 proved 1 unproved 0~procedure add~case 1~  g' = g~  $ret = z + 1~procedure two~case 1~  g' = g~  $ret = 2~procedure main~case 1~  g' = g~  $ret = $1~assertion 1 at 4:34 proved~total 1 proved, 0 unproved
+0 | {\"text\":\"int add(int x) { return x + 1; }\\nint two(void) { return 2; }\\nint main(void) { int y = add(3); assert(y == 4); }\\n\",\"edits\":[{\"at\":24,\"remove\":5,\"insert\":\"1 + x\"},{\"at\":24,\"remove\":5,\"insert\":\"x - 1\"},{\"at\":24,\"remove\":5,\"insert\":\"x + 1\"}]} | version 0 work 3 of 3 proved 1 unproved 0~version 1 work 1 of 3 proved 1 unproved 0~version 2 work 2 of 3 proved 0 unproved 1~version 3 work 2 of 3 proved 1 unproved 0~procedure add~case 1~  $ret = x + 1~procedure two~case 1~  $ret = 2~procedure main~case 1~  $ret = $1~assertion 1 at 3:34 proved~total 1 proved, 0 unproved
+";
+
 /// Words that ask for nothing.
 pub(crate) const WRONG_WORDS: &str = "\
 cra
@@ -207,6 +233,9 @@ cra analyze
 cra analyse again
 cra analyse --
 cra analyse --help
+cra edit again
+cra edit --
+cra edit --help
 cra replay --help
 cra --help replay
 cra help

@@ -8,7 +8,7 @@ use std::test::Fail;
 use summary_cache::MOST_BYTES;
 
 const USAGE: &[u8] =
-    b"usage: cra analyse | certify | check | sample N | renew | replay | cost NAME\n";
+    b"usage: cra analyse | certify | check | edit | sample N | renew | replay | cost NAME\n";
 
 const TOO_LONG: &[u8] = b"input is too long\n";
 
@@ -382,6 +382,30 @@ fn files(rt: HostRuntime) -> Result<(), Fail> {
     changed(alloc, &rt, tables::SHARED_LOOP_FILE, tables::SHARED_CHANGES)
 }
 
+/// Each script of a table is answered by `edit` as its row says.
+fn check_edits(alloc: Global, rt: &impl Abort, table: &str) -> Result<(), Fail> {
+    for row in table.lines() {
+        let (status, row) = row.split_once(" | ").ok_or("no row")?;
+        let (script, told) = row.split_once(" | ").ok_or("no row")?;
+        let status = status.parse::<u8>().ok().ok_or("no status")?;
+        let told = format!(in alloc; "{told}\n")?.replace(alloc, "~", "\n")?;
+        ends(
+            alloc,
+            rt,
+            &["cra", "edit"],
+            script.as_bytes(),
+            status,
+            told.as_bytes(),
+        )?;
+    }
+    Ok(())
+}
+
+#[test]
+fn edits(rt: HostRuntime) -> Result<(), Fail> {
+    check_edits(rt.alloc(), &rt, tables::EDITS)
+}
+
 // Rows of outputs that an independent model of the rules gives.
 #[test]
 fn replays(rt: HostRuntime) -> Result<(), Fail> {
@@ -505,7 +529,17 @@ fn lengths(rt: HostRuntime) -> Result<(), Fail> {
         b"input is not JSON\n",
     )?;
     let past = vec![in alloc; b' '; MOST_INPUT + 1]?;
-    ends(alloc, &rt, &["cra", "replay"], &past, 9, TOO_LONG)
+    ends(alloc, &rt, &["cra", "replay"], &past, 9, TOO_LONG)?;
+    ends(alloc, &rt, &["cra", "edit"], &past, 9, TOO_LONG)?;
+    let full = vec![in alloc; b' '; MOST_INPUT]?;
+    ends(
+        alloc,
+        &rt,
+        &["cra", "edit"],
+        &full,
+        7,
+        b"input is not JSON\n",
+    )
 }
 
 /// A run over pieces of one byte, where one read or one write fails, ends with a status and so many

@@ -127,3 +127,35 @@ fn deep_json(rt: HostRuntime) -> Result<(), Fail> {
         b"input is not JSON\n",
     )
 }
+
+/// A script of so many edits and one more, each of which changes nothing.
+fn empty_edits(alloc: Global, edits: usize) -> Result<String, Fail> {
+    let first = "{\"text\":\"int main(void){}\",\"edits\":[";
+    let edit = "{\"at\":0,\"remove\":0,\"insert\":\"\"}";
+    let piece = format!(in alloc; "{edit},")?;
+    text_of(alloc, &[first, piece.as_str(), edit, "", "]}"], edits)
+}
+
+// As many edits as a script can have, and one more.
+#[test]
+fn many_edits(rt: HostRuntime) -> Result<(), Fail> {
+    let alloc = rt.alloc();
+    let words = ["cra", "edit"];
+    let script = empty_edits(alloc, 999)?;
+    let ended = run_on(alloc, &words, script.as_bytes(), GOOD)?;
+    assert_eq!(rt; ended.status, 0);
+    assert!(rt;
+        ended.text.as_slice().ends_with(
+            b"version 1000 work 0 of 1 proved 0 unproved 0\nprocedure main\ncase 1\n  $ret = $1\ntotal 0 proved, 0 unproved\n"
+        )
+    );
+    let script = empty_edits(alloc, 1000)?;
+    ends(
+        alloc,
+        &rt,
+        &words,
+        script.as_bytes(),
+        7,
+        b"input has a wrong shape at /edits\n",
+    )
+}

@@ -23,6 +23,22 @@ impl Text {
     }
 }
 
+/// A number between two texts.
+pub(crate) fn put_between(
+    text: &mut Text,
+    before: &[u8],
+    number: u128,
+    after: &[u8],
+) -> Result<(), AllocError>
+    ensures { OnOk result
+        (text.new.bytes.items ≡ text.old.bytes.items
+        ++ (before.now ++ decimal number ++ after.now)) }
+{
+    text.put(before)?;
+    text.put_count(number)?;
+    text.put(after)
+}
+
 /// A text between two others.
 pub(crate) fn between(
     alloc: Global,

@@ -21,6 +21,8 @@ pub enum Work {
     Certify,
     /// Whether a certificate file passes.
     Check,
+    /// What comes of each version of a text that is edited.
+    Edit,
     /// The counts of a made text of so many procedures.
     Sample(u32),
     /// The certificate file of the text of one that passes.
@@ -41,6 +43,7 @@ fn work_named(word: &str) -> Option<Work>
         "analyse" => Some(Work::Analyse),
         "certify" => Some(Work::Certify),
         "check" => Some(Work::Check),
+        "edit" => Some(Work::Edit),
         "renew" => Some(Work::Renew),
         "replay" => Some(Work::Replay),
         "--help" => Some(Work::Help),
@@ -63,6 +66,7 @@ fn command<'a>(alloc: Global) -> Result<Command<'a>, AllocError>
             .subcommand(Command::new(alloc, "analyse"))?
             .subcommand(Command::new(alloc, "certify"))?
             .subcommand(Command::new(alloc, "check"))?
+            .subcommand(Command::new(alloc, "edit"))?
             .subcommand(sample)?
             .subcommand(Command::new(alloc, "renew"))?
             .subcommand(Command::new(alloc, "replay"))?

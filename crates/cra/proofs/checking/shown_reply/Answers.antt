@@ -1,7 +1,7 @@
 use Rattle.std.proofs.Common.{◌≡◌, rules, ◌+◌, ◌-◌, [], codes, subst}
 use Rattle.report.specs.Text.{text_of}
 use Rattle.summary_cache.specs.declared.error.SubmitError.TheVariants.{Refused}
-use Rattle.summary_cache.specs.Submitted.{IsCause, IsUnanswered}
+use Rattle.summary_cache.specs.First.{IsFirstCause, IsUnanswered}
 use Rattle.cra.specs.Check.{IsCheckUnder, failed, finished_reply}
 use Rattle.cra.proofs.Checks.{asking, shown-finished, shown-stuck, where-ok}
 use Rattle.cra.proofs.checking.shown_reply.Goals as goal
@@ -27,7 +27,7 @@ returns-in-Err-Refused-clause-reply c =
     let all = c.left-all.result in
     let left = c.left-in-Err-Refused.result in
     let refused : c.in-Err-Refused.field-0 ≡ Refused = search rules in
-    let unanswered : IsUnanswered asking c.args.rule old new text = subst (IsCause asking c.args.rule old new text) refused c.in-Err-Refused.ensures in
+    let unanswered : IsUnanswered asking c.args.rule old new text = subst (IsFirstCause asking c.args.rule old new text) refused c.in-Err-Refused.ensures in
     where-ok c.stuck_reply.result (λ reply. reply ≡ failed (codes "answer ") (all - left + 1) []) (IsCheckUnder c.args.rule text old.left told)
     (λ reply is. shown-stuck c.args.rule text old new told reply all left unanswered c.left-all.ensures c.left-in-Err-Refused.ensures is)
     c.stuck_reply.ensures.reply

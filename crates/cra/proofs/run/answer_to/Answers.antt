@@ -1,7 +1,7 @@
 use Rattle.std.proofs.Common.{◌≡◌, rules, List, ℕ, Option, Some, subst, sym}
 use Rattle.std.specs.Io.KnownBytes.{prepend_known}
 use Rattle.cra.specs.declared.reply.Reply.{Reply}
-use Rattle.cra.specs.declared.words.Work.TheVariants.{Analyse, Certify, Check, Renew, Replay, Cost}
+use Rattle.cra.specs.declared.words.Work.TheVariants.{Analyse, Certify, Check, Edit, Renew, Replay, Cost}
 use Rattle.cra.specs.Input.{IsInput}
 use Rattle.summary_cache.specs.Limits.{most_bytes}
 use Rattle.cra.specs.Limits.{most_file, most_input}
@@ -9,6 +9,7 @@ use Rattle.cra.specs.Analyse.{IsReplyToAnalyse}
 use Rattle.cra.specs.Certify.{IsReplyToCertify}
 use Rattle.cra.specs.Check.{IsReplyToCheck}
 use Rattle.cra.specs.Cost.{IsReplyToCost}
+use Rattle.cra.specs.Edit.{IsReplyToEdit}
 use Rattle.cra.specs.Renew.{IsReplyToRenew}
 use Rattle.cra.specs.Replay.{IsReplyToReplay}
 use Rattle.cra.specs.Replies.{IsReplyToRead, IsReplyToWork}
@@ -53,6 +54,18 @@ returns-in_ok-check_reply-in-Some-Check-clause-answer g c =
     let asked : c.in-Some-Check.field-0 ≡ Check = search rules in
     subst (λ work. IsReplyToWork work before after reply) (sym c.in-Some-Check.is) (subst (λ work. IsReplyToWork (Some work) before after reply) (sym asked)
     (to-read most_file IsReplyToCheck before after c.deref-in-Some-Check.result.now reply is front c.in_ok-check_reply-in-Some-Check.ensures.reply))
+
+pub returns-in_ok-edit_reply-in-Some-Edit-clause-answer :
+    goal.returns-in_ok-edit_reply-in-Some-Edit-clause-answer
+returns-in_ok-edit_reply-in-Some-Edit-clause-answer g c =
+    let before = g.R.Source.left c.args.source.now in
+    let after = g.R.Source.left c.read_input-in-Some-Edit.new.source in
+    let reply = c.in_ok-edit_reply-in-Some-Edit.field-0 in
+    let is : IsInput most_input before c.deref-in-Some-Edit.result.now = search rules in
+    let front : before ≡ prepend_known c.deref-in-Some-Edit.result.now after = search rules in
+    let asked : c.in-Some-Edit.field-0 ≡ Edit = search rules in
+    subst (λ work. IsReplyToWork work before after reply) (sym c.in-Some-Edit.is) (subst (λ work. IsReplyToWork (Some work) before after reply) (sym asked)
+    (to-read most_input IsReplyToEdit before after c.deref-in-Some-Edit.result.now reply is front c.in_ok-edit_reply-in-Some-Edit.ensures.reply))
 
 pub returns-in_ok-renew_reply-in-Some-Renew-clause-answer :
     goal.returns-in_ok-renew_reply-in-Some-Renew-clause-answer

@@ -1,9 +1,11 @@
-use Rattle.std.proofs.Common.{◌≡◌, ◌⊎◌, inl, inr, rules}
+use Rattle.std.proofs.Common.{◌≡◌, ◌⊎◌, inl, inr, ap, ◌∙◌, rules}
 use Rattle.std.specs.Io.KnownBytes.{append_known}
+use Rattle.report.specs.Text.{text_of}
 use Rattle.cra.specs.declared.status.Status.{Status}
 use Rattle.cra.specs.declared.status.Status.TheVariants.{AllProved, SomeUnproved, NoneFailed, SomeFailed, Certified, CheckFailed, CheckPassed, CostsTold, NoGlobal, TooLong, WantOfMemory}
 use Rattle.cra.proofs.Complete.{complete, complete-certify, complete-replay}
 use Rattle.cra.proofs.Costs.{complete-cost, sound-cost}
+use Rattle.cra.proofs.Edits.{complete-edit, sound-edit, true-end}
 use Rattle.cra.proofs.Passing.{certified-passes, certified-renewed, complete-check, complete-renew}
 use Rattle.cra.proofs.Sentences.{failing, sound, sound-check, true-text}
 use Rattle.cra.proofs.run.run.Goals as goal
@@ -15,6 +17,10 @@ or-memory status (inr some) = inr (inl some)
 -- what was to be analysed has its report
 pub returns-in-Ok-write_all-clause-complete : goal.returns-in-Ok-write_all-clause-complete
 returns-in-Ok-write_all-clause-complete g c to_analyse source sink = or-memory c.in-Ok.reply.status (complete _ _ _ c.in-Ok.reply to_analyse c.in-Ok.ensures.answer)
+
+-- what was to be edited has the report of its last version
+pub returns-in-Ok-write_all-clause-complete_edit : goal.returns-in-Ok-write_all-clause-complete_edit
+returns-in-Ok-write_all-clause-complete_edit g c to_edit source sink = or-memory c.in-Ok.reply.status (complete-edit _ _ _ c.in-Ok.reply to_edit c.in-Ok.ensures.answer)
 
 or-memory-too : (status : Status) → (status ≡ NoneFailed) ⊎ (status ≡ SomeFailed) → (status ≡ NoneFailed) ⊎ (status ≡ SomeFailed) ⊎ (status ≡ WantOfMemory)
 or-memory-too status (inl none) = inl none
@@ -67,6 +73,15 @@ returns-in-Ok-write_all-clause-passes_renew g c to_renew source sink =
 -- what the end says of executions
 pub returns-in-Ok-write_all-clause-sound : goal.returns-in-Ok-write_all-clause-sound
 returns-in-Ok-write_all-clause-sound g c asked is = sound _ _ _ c.in-Ok.reply asked c.in-Ok.ensures.answer is
+
+pub returns-in-Ok-write_all-clause-sound_edit : goal.returns-in-Ok-write_all-clause-sound_edit
+returns-in-Ok-write_all-clause-sound_edit g c asked is = sound-edit _ _ _ c.in-Ok.reply asked c.in-Ok.ensures.answer is
+
+pub returns-in-Ok-write_all-clause-told_edit : goal.returns-in-Ok-write_all-clause-told_edit
+returns-in-Ok-write_all-clause-told_edit g c asked is =
+    let written : g.W.Sink.taken c.write_all.new.sink ≡ append_known (g.W.Sink.taken c.args.sink.now) c.in-Ok.reply.text = search rules in
+    let end = true-end _ _ _ c.in-Ok.reply asked c.in-Ok.ensures.answer in
+    (end.lines, text_of end.report, end.true_text, written ∙ ap (append_known (g.W.Sink.taken c.args.sink.now)) end.is)
 
 pub returns-in-Ok-write_all-clause-sound_check : goal.returns-in-Ok-write_all-clause-sound_check
 returns-in-Ok-write_all-clause-sound_check g c asked is = sound-check _ _ _ c.in-Ok.reply asked c.in-Ok.ensures.answer is

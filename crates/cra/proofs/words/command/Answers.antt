@@ -22,7 +22,8 @@ returns c =
     let first = c.in_ok-subcommand.ensures.shape (search rules) ∙ ap₂ with_subcommand top_is (ap (λ (a : App). a.top) c.new-6.ensures.app) in
     let second = c.in_ok-subcommand-2.ensures.shape (search rules) ∙ ap₂ with_subcommand first (ap (λ (a : App). a.top) c.new-7.ensures.app) in
     let third = c.in_ok-subcommand-3.ensures.shape (search rules) ∙ ap₂ with_subcommand second (ap (λ (a : App). a.top) c.new-8.ensures.app) in
-    let fourth = c.in_ok-subcommand-4.ensures.shape (c.in_ok-sample.ensures.globals ∙ ap₂ (λ one other. one || other) c.new-2.ensures.local sample_global) ∙ ap₂ with_subcommand third (ap (λ (a : App). a.top) sample_is) in
-    let fifth = c.in_ok-subcommand-5.ensures.shape (search rules) ∙ ap₂ with_subcommand fourth (ap (λ (a : App). a.top) c.new-9.ensures.app) in
+    let fourth = c.in_ok-subcommand-4.ensures.shape (search rules) ∙ ap₂ with_subcommand third (ap (λ (a : App). a.top) c.new-9.ensures.app) in
+    let fifth = c.in_ok-subcommand-5.ensures.shape (c.in_ok-sample.ensures.globals ∙ ap₂ (λ one other. one || other) c.new-2.ensures.local sample_global) ∙ ap₂ with_subcommand fourth (ap (λ (a : App). a.top) sample_is) in
     let sixth = c.in_ok-subcommand-6.ensures.shape (search rules) ∙ ap₂ with_subcommand fifth (ap (λ (a : App). a.top) c.new-10.ensures.app) in
-    c.in_ok-subcommand-7.ensures.shape (c.in_ok-cost.ensures.globals ∙ ap₂ (λ one other. one || other) c.new-4.ensures.local name_global) ∙ ap₂ with_subcommand sixth (ap (λ (a : App). a.top) cost_is)
+    let seventh = c.in_ok-subcommand-7.ensures.shape (search rules) ∙ ap₂ with_subcommand sixth (ap (λ (a : App). a.top) c.new-11.ensures.app) in
+    c.in_ok-subcommand-8.ensures.shape (c.in_ok-cost.ensures.globals ∙ ap₂ (λ one other. one || other) c.new-4.ensures.local name_global) ∙ ap₂ with_subcommand seventh (ap (λ (a : App). a.top) cost_is)
