@@ -4,3 +4,14 @@ pub mod Keeping
 pub mod Itself
 -- The parts of all groups.
 pub mod Leading
+-- computations whose notes come with their value
+pub mod Together
+-- ---- how calls end
+pub mod Ended
+pub mod Made
+-- ---- groups that have come
+pub mod SoFar
+-- ---- the search for an alike group
+pub mod Searching
+-- ---- the loop over all groups
+pub mod Going

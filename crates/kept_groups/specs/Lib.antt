@@ -3,3 +3,5 @@
 pub mod Kept
 pub mod Coming
 pub mod Outcomes
+-- ---- words of private clauses
+pub mod OneGroup

@@ -10,7 +10,6 @@ use Rattle.posing.specs.declared.error.WorkError.TheVariants.{Refused, Memory}
 use Rattle.posing.specs.declared.note.Note.{Note}
 use Rattle.posing.specs.Follows.{IsGood, with_all}
 use Rattle.posing.specs.Posing.{Posing, Asked, Path}
-use Rattle.analysis.specs.declared.found.Found.{Found}
 use Rattle.analysis.specs.declared.parts.GroupSummaries.{GroupSummaries}
 use Rattle.analysis.specs.declared.planning.Planned.{Planned}
 use Rattle.analysis.specs.Parts.{summaries_by}

@@ -1,7 +1,7 @@
-ghost use Rattle.std.specs.Prelude.{◌≡◌, ◌+◌};
+ghost use Rattle.std.specs.Prelude.{◌≡◌, ◌+◌, ◌<◌};
 
 use std::marker::Model;
-use std::sync::ledger::{Book, Ledger, Share};
+use std::sync::ledger::{Blank, Book, Ledger, Share};
 
 /// How many groups were summed up by asking. It takes no bytes, and only `tick` changes it.
 #[derive(Drop)]
@@ -21,6 +21,18 @@ impl<L: Ledger> Model for Steps<L> {
 }
 
 impl<L: Ledger> Steps<L> {
+    /// No step yet, in a ledger that is not begun: `Blank::new(1)`, in a function that its caller
+    /// calls with `Brand` for `L` and with the blank's name and parts as those of the ledger.
+    pub fn new(blank: Blank) -> Steps<L>
+        requires name { blank.name ≡ L.name }
+        requires parts { blank.parts ≡ L.parts }
+        requires some { 0 < blank.parts }
+        ensures { result ≡ 0 }
+    {
+        let (book, share) = blank.open::<L>();
+        Steps { book, share }
+    }
+
     /// One step more, which is taken where a group is summed up.
     pub(crate) fn tick(&mut self)
         ensures { self.new ≡ self.old + 1 }

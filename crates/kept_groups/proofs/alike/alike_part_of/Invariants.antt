@@ -1,0 +1,5 @@
+use Rattle.kept_groups.proofs.Searching.{NoneBefore}
+use Rattle.kept_groups.proofs.alike.alike_part_of.Given as goal
+
+abbrev pub invariant-loop-place : goal.invariant-loop-place
+invariant-loop-place l = NoneBefore l.program l.known l.planned l.kept l.place
