@@ -197,9 +197,10 @@ module _ {S : Type 0} (O : Asking S) (rule : ℕ) (before : Option Last) (old no
               free report rest (any-path (ended_by ruled places made.found) (Done report) rest ended.path) met covers points;
           kept = program-kept rule text program ruled plan places is kept Anything are made.parts over.marks made.found any-come over.found;
           allowed = λ allowed. (
-              report-analysed rule text program ruled plan places is kept O.allows allowed made.parts over.marks made.found over.come over.found
-              free report rest ended.path met covers points,
-              program-kept rule text program ruled plan places is kept O.allows allowed made.parts over.marks made.found over.come over.found);
+            report-analysed rule text program ruled plan places is kept O.allows allowed made.parts over.marks made.found over.come over.found
+                free report rest ended.path met covers points,
+            program-kept rule text program ruled plan places is kept O.allows allowed made.parts over.marks made.found over.come over.found,
+          );
           taken = over.taken ∙ ap (with_all (answers_asked over.marks made.parts)) ended.taken ∙ with_all-twice (answers_asked over.marks made.parts) rest (O.left new);
           refused_none = ended.counted ∙ over.counted;
           counted = counted ∙ ap (λ n. counts_of n (length plan) report) over.work;

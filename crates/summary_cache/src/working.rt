@@ -87,8 +87,14 @@ pub(crate) fn submitted_program<O: Oracle, L: Ledger>(
     let plan = plan(alloc, &program)?;
     let places = places_of(alloc, text, program.checks.as_slice())?;
     let kept = groups_of(before);
-    let FoundParts { found, parts, work } =
-        found_over(alloc, &program, plan.as_slice(), kept, oracle, steps)?;
+    let FoundParts { found, parts, work } = found_over(
+        alloc,
+        &program,
+        plan.as_slice(),
+        kept,
+        oracle,
+        steps,
+    )?;
     let mut log = Log::new(alloc);
     let report = ended_by(alloc, &program, places.as_slice(), found, oracle, &mut log)?;
     let counts = counts_of(work, plan.len(), &report);
