@@ -166,7 +166,7 @@ fn versions_reply(
     report: Option<&Report>,
 ) -> Result<Reply, AllocError>
     ensures reply { IfOk result
-        (λ reply. reply ≡ versions_reply lines.bytes.items last (option_copied report)) }
+        (λ reply. reply ≡ versions_reply lines.bytes.items last (option_copied report.entry)) }
     ensures status { IfOk result (λ reply. IsAnswer reply.status) }
 {
     match (last, report) {
