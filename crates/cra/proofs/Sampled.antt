@@ -31,7 +31,7 @@ parts-more f k old before after same more =
 -- ---- counts that a session gives
 
 module _ {S : Type 0} (refusals : S → ℕ) (declines : S → Question → Type 0) (left : S → Option (List Answer)) where
-  abbrev finding : Asking S
+  abbrev pub finding : Asking S
   finding = record { refusals = refusals; declines = declines; allows = IsFound; left = left }
 
   worked-counted : (old new : S) (text : List ℕ) (last : Analysed) (counts : Counts) → IsWorked finding 2 old new text last counts → IsCounted text counts

@@ -1,10 +1,10 @@
 -- The texts of a script are within the limit.
-use Rattle.std.proofs.Common.{◌≡◌, ◌≤◌, ◌+◌, ℕ, Bool, true, false, List, [], ◌∷◌, length, Result, Ok, Err, refl, subst}
+use Rattle.std.proofs.Common.{◌≡◌, ◌≤◌, ◌+◌, ℕ, Bool, true, false, List, [], ◌∷◌, length, Result, Ok, Err, refl, sym, ap, subst}
 use Rattle.std.proofs.lemmas.Bool.{leb-true}
 use Rattle.std.proofs.lemmas.List.Elements.{All-from_recursion}
 use Rattle.std.specs.List.{AllByRecursion}
-use Rattle.std.specs.Prelude.{◌&&◌, codes, nat_le, if◌then◌else◌}
-use Rattle.items.specs.Gives.{◌>>=◌}
+use Rattle.std.specs.Prelude.{◌&&◌, IfOk, codes, nat_le, if◌then◌else◌}
+use Rattle.items.specs.Gives.{◌>>=◌, Gives}
 use Rattle.items.proofs.Gives.{on_ok}
 use Rattle.serde_json.specs.Data.{Data}
 use Rattle.wire.specs.declared.error.WireError.{WireError}
@@ -13,6 +13,7 @@ use Rattle.wire.specs.declared.script.Edit.{Edit}
 use Rattle.wire.specs.declared.script.Script.{Script}
 use Rattle.wire.specs.Edits.{is_inside, text_after, texts_after, texts_of, with_edit}
 use Rattle.wire.specs.Files.{edits, json_of, most_text, script, script_of, shaped, source}
+use Rattle.wire.specs.Errors.{fault}
 use Rattle.wire.specs.Shapes.{field}
 use Rattle.cra.specs.Edit.{versions_in}
 use Rattle.cra.specs.Editing.{AreShort}
@@ -64,3 +65,11 @@ versions-short bytes made e =
     on_ok (script_of bytes) texts_of made e (λ s from is.
     on_ok (json_of bytes) (λ d. shaped (script d)) s from (λ d from_json read.
     record { each = All-from_recursion IsShort made (texts-short s made (script-short d s (lifted-ok Shape (script d) s read)) is) }))
+
+-- what a call gives that reads the versions
+given-short : (bytes : List ℕ) (result : Result (List (List ℕ)) WireError) → Gives fault (λ x. x) result (versions_in bytes) → IfOk result AreShort
+given-short bytes (Ok made) gives = versions-short bytes made gives
+given-short bytes (Err e) gives = tt
+
+pub read-short : (bytes : List ℕ) (s : Script) (result : Result (List (List ℕ)) WireError) → script_of bytes ≡ Ok s → Gives fault (λ x. x) result (texts_of s) → IfOk result AreShort
+read-short bytes s result read gives = given-short bytes result (subst (Gives fault (λ x. x) result) (ap (λ (r : Result Script WireError). r >>= texts_of) (sym read)) gives)
