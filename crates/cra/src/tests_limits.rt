@@ -128,20 +128,15 @@ fn deep_json(rt: HostRuntime) -> Result<(), Fail> {
     )
 }
 
-/// A script of so many edits and one more, each of which changes nothing.
-fn empty_edits(alloc: Global, edits: usize) -> Result<String, Fail> {
-    let first = "{\"text\":\"int main(void){}\",\"edits\":[";
-    let edit = "{\"at\":0,\"remove\":0,\"insert\":\"\"}";
-    let piece = format!(in alloc; "{edit},")?;
-    text_of(alloc, &[first, piece.as_str(), edit, "", "]}"], edits)
-}
-
-// As many edits as a script can have, and one more.
+// As many edits as a script can have, and one more, each of which changes nothing.
 #[test]
 fn many_edits(rt: HostRuntime) -> Result<(), Fail> {
     let alloc = rt.alloc();
     let words = ["cra", "edit"];
-    let script = empty_edits(alloc, 999)?;
+    let first = "{\"text\":\"int main(void){}\",\"edits\":[";
+    let opening = "{\"at\":0,\"remove\":0,\"insert\":\"\"},";
+    let last = "{\"at\":0,\"remove\":0,\"insert\":\"\"}]}";
+    let script = text_of(alloc, &[first, opening, "", "", last], 999)?;
     let ended = run_on(alloc, &words, script.as_bytes(), GOOD)?;
     assert_eq!(rt; ended.status, 0);
     assert!(rt;
@@ -149,7 +144,7 @@ fn many_edits(rt: HostRuntime) -> Result<(), Fail> {
             b"version 1000 work 0 of 1 proved 0 unproved 0\nprocedure main\ncase 1\n  $ret = $1\ntotal 0 proved, 0 unproved\n"
         )
     );
-    let script = empty_edits(alloc, 1000)?;
+    let script = text_of(alloc, &[first, opening, "", "", last], 1_000)?;
     ends(
         alloc,
         &rt,
