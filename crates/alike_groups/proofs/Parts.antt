@@ -16,7 +16,7 @@ use Rattle.proc_summary.specs.Flow.{flow_from}
 use Rattle.proc_summary.specs.Summary.{summary_from}
 use Rattle.proc_summary.proofs.Alike.{alike_procs_are_one}
 use Rattle.newton_rounds.specs.Alike.{AreAlikeCallees, AreAlikeGroups, AreAlikeMembers}
-use Rattle.newton_rounds.specs.Close.{closed_of}
+use Rattle.newton_rounds.specs.Close.{group_closure}
 use Rattle.newton_rounds.specs.Members.{IsLinear, members_of, place_of, with_table}
 use Rattle.newton_rounds.proofs.Alike.{alike_groups_are_one}
 use Rattle.newton_rounds.proofs.AlikeMembers.{AreMembers, alike-members, alike-subjects}
@@ -102,7 +102,7 @@ module _ (program other : Program) (procs others : List ℕ) (known other_known 
   unfolding recursive_part
   recursive-one first other_first same = λ i. same i >>= λ table. flows-one table i >>= λ flows. Done record { formulas = table; flows = flows }
 
-  closed-one : (linear : _) → closed_of linear program procs known ≡ closed_of linear other others other_known
+  closed-one : (linear : _) → group_closure linear program procs known ≡ group_closure linear other others other_known
   closed-one = (alike_groups_are_one program other procs others known other_known alike).1
 
   -- ---- where no member calls a member
@@ -166,8 +166,8 @@ module _ (program other : Program) (procs others : List ℕ) (known other_known 
   summed-one : (kind : GroupKind) → NoneWithin kind program procs → summaries_by kind program procs known ≡ summaries_by kind other others other_known
   unfolding summaries_by
   summed-one Plain never = plain-one never
-  summed-one Linear never = recursive-one (closed_of true program procs known) (closed_of true other others other_known) (closed-one true)
-  summed-one Rounds never = recursive-one (closed_of false program procs known) (closed_of false other others other_known) (closed-one false)
+  summed-one Linear never = recursive-one (group_closure true program procs known) (group_closure true other others other_known) (closed-one true)
+  summed-one Rounds never = recursive-one (group_closure false program procs known) (group_closure false other others other_known) (closed-one false)
 
 -- ---- groups of two plans
 

@@ -11,7 +11,7 @@ use Rattle.syntax_tree.specs.declared.program.Program.{Program}
 use Rattle.transition_formula.specs.Transition.{Transition}
 use Rattle.flow_graph.specs.FlowGraph.{CheckPlace, body_of, flow_of, graph_of}
 use Rattle.proc_summary.specs.declared.stop.Flow.{Flow}
-use Rattle.proc_summary.specs.declared.stop.Stop.{Stop}
+use Rattle.proc_summary.specs.declared.stop.NodeFormula.{NodeFormula}
 use Rattle.proc_summary.specs.Claims.{FitsFlow}
 use Rattle.proc_summary.specs.Subject.{own_graph}
 use Rattle.proc_summary.proofs.Below.{some_at}
@@ -20,20 +20,20 @@ use Rattle.report.specs.declared.blocks.Judged.{Judged}
 use Rattle.report.specs.Claims.{IsRefuted}
 use Rattle.analysis.specs.declared.standing.CheckAt.{CheckAt}
 use Rattle.analysis.specs.Claims.{AreJudged, AreRefuted, IsCheckOf, IsJudged}
-use Rattle.analysis.specs.Judging.{asserted_at, asserted_by, asserted_if, stops_in}
+use Rattle.analysis.specs.Judging.{assertion_at, assertion_by, asserted_if, stops_in}
 use Rattle.analysis.proofs.Puts.{push-get}
 
 module _ (program : Program) (c : CheckAt) (check : IsCheckOf program c) where
   pub check-within : (flow : Flow) → FitsFlow program check.p flow → c.check < length flow.checks
   check-within flow fit =
       let nodes = ap length fit.checks_are in
-      let stops = length-map flow.checks (λ (s : Stop). s.node) in
+      let stops = length-map flow.checks (λ (s : NodeFormula). s.node) in
       let places = length-map (own_graph check.p).checks (λ (at : CheckPlace). at.node) in
       let lt = slice_get_within (own_graph check.p).checks c.check check.at check.at_is in
       omega (arith, nodes, stops, places, lt)
 
-  pub asserted-is : (entries : List (Option Transition)) (flows : List Flow) (entry : Option Transition) (flow : Flow) (stop : Stop) → slice_get entries c.proc ≡ Some entry → slice_get flows c.proc ≡ Some flow
-      → slice_get flow.checks c.check ≡ Some stop → asserted_by program entries flows c ≡ Some (asserted_at program check.p check.at entry stop)
+  pub asserted-is : (entries : List (Option Transition)) (flows : List Flow) (entry : Option Transition) (flow : Flow) (stop : NodeFormula) → slice_get entries c.proc ≡ Some entry → slice_get flows c.proc ≡ Some flow
+      → slice_get flow.checks c.check ≡ Some stop → assertion_by program entries flows c ≡ Some (assertion_at program check.p check.at entry stop)
   asserted-is entries flows entry flow stop is_entry is_flow is_stop =
       let graph_is : slice_get (graph_of program c.proc).checks c.check ≡ Some check.at = ap (λ o. slice_get (flow_of (body_of o)).checks c.check) check.is ∙ check.at_is in
       let stop_is : slice_get (stops_in (slice_get flows c.proc)) c.check ≡ Some stop = ap (λ o. slice_get (stops_in o) c.check) is_flow ∙ is_stop in
@@ -46,9 +46,9 @@ pub record StandsAt (program : Program) (c : CheckAt) (check : IsCheckOf program
   pub flow_is : slice_get flows c.proc ≡ Some flow
   pub fits : FitsFlow program check.p flow
   pub within : c.check < length flow.checks
-  pub stop : Stop
+  pub stop : NodeFormula
   pub stop_is : slice_get flow.checks c.check ≡ Some stop
-  pub asserted : asserted_by program entries flows c ≡ Some (asserted_at program check.p check.at entry stop)
+  pub asserted : assertion_by program entries flows c ≡ Some (assertion_at program check.p check.at entry stop)
 
 pub stands-at : {program : Program} {c : CheckAt} {entries : List (Option Transition)} {flows : List Flow} {entry : Option Transition} {flow : Flow} (check : IsCheckOf program c) →
     AreEntries program entries → AreFlows program flows → entry ≡ get_or entries c.proc entry → flow ≡ get_or flows c.proc flow → StandsAt program c check entries flows entry flow

@@ -20,7 +20,7 @@ use Rattle.report.specs.declared.blocks.ProcBlock.{ProcBlock}
 use Rattle.analysis.specs.declared.places.TextPlace.{TextPlace}
 use Rattle.analysis.specs.Analysis.{block_onto, blocks_by}
 use Rattle.analysis.specs.Apart.{apart}
-use Rattle.analysis.specs.Judging.{Asserted, asserted, judged_by, judged_of, no_place, place_in, with_judged}
+use Rattle.analysis.specs.Judging.{Asserted, numbered_assertion, judgements_on_all, judgement_of, no_place, place_in, with_judged}
 
 -- ---- blocks
 
@@ -40,8 +40,8 @@ blocks-cover program (p ∷ procs) (o ∷ known) (own ∷ notes) long wide all =
 
 -- ---- verdicts
 
-always-judged_of : (at : TextPlace) (a : Option Asserted) → Always (λ (j : Judged). j.at ≡ at.at) (judged_of at a)
-unfolding judged_of
+always-judged_of : (at : TextPlace) (a : Option Asserted) → Always (λ (j : Judged). j.at ≡ at.at) (judgement_of at a)
+unfolding judgement_of
 always-judged_of at None = refl
 always-judged_of at (Some a) =
     always_bind (λ made. Unit {0}) (λ (j : Judged). j.at ≡ at.at) (apart (verdict_of (place_of a.program a.p) a.cond a.entry a.stand)) _
@@ -67,8 +67,8 @@ module _ (program : Program) (places : List TextPlace) (entries : List (Option T
   always-with_judged : (whole rest : List ℕ) (n : ℕ) (made : List Judged) → Covers whole (n ∷ rest) made → Always (Covers whole rest) (with_judged program places entries flows made n)
   unfolding with_judged
   always-with_judged whole rest n made so_far =
-      always_bind (λ (j : Judged). j.at ≡ spot n) (Covers whole rest) (judged_of (place_in places n) (asserted program entries flows n)) _
-      (always-judged_of (place_in places n) (asserted program entries flows n)) (λ judged is. covers-next whole rest made n judged so_far is)
+      always_bind (λ (j : Judged). j.at ≡ spot n) (Covers whole rest) (judgement_of (place_in places n) (numbered_assertion program entries flows n)) _
+      (always-judged_of (place_in places n) (numbered_assertion program entries flows n)) (λ judged is. covers-next whole rest made n judged so_far is)
 
   always-spots : (numbers : List ℕ) → Always (λ made. spots made ≡ map spot numbers) (each (with_judged program places entries flows) [] numbers)
   always-spots numbers =
@@ -107,8 +107,8 @@ places-in_turn places = places-behind [] places
 
 -- a verdict for each assertion, where these are their places
 pub always-judged_by : (program : Program) (places : List TextPlace) (entries : List (Option Transition)) (flows : List Flow) → map (λ (at : TextPlace). at.at) places ≡ program.checks
-    → Always (λ made. map (λ (j : Judged). j.at) made ≡ program.checks) (judged_by program places entries flows)
-unfolding judged_by
+    → Always (λ made. map (λ (j : Judged). j.at) made ≡ program.checks) (judgements_on_all program places entries flows)
+unfolding judgements_on_all
 always-judged_by program places entries flows theirs =
     always_weaker (λ made. map (λ (j : Judged). j.at) made ≡ map (λ n. (place_in places n).at) numbers) (λ made. map (λ (j : Judged). j.at) made ≡ program.checks)
     (each (with_judged program places entries flows) [] numbers) (λ made covers. covers ∙ turn ∙ theirs) (always-spots program places entries flows numbers)

@@ -19,14 +19,14 @@ use Rattle.analysis.specs.declared.found.Found.{Found}
 use Rattle.analysis.specs.declared.parts.Part.{Part}
 use Rattle.analysis.specs.declared.planning.Planned.{Planned}
 use Rattle.analysis.specs.Claims.{FitsAt, FitsFound, FitsGroup, FoundIsMet, GroupIsMet, HasAll, HasFound, IsFoundAt, IsKnownAt, IsLeft, IsReadyGroup}
-use Rattle.analysis.specs.Found.{noted_at, nothing_found, with_part}
+use Rattle.analysis.specs.Found.{with_notes_at, nothing_found, with_part}
 use Rattle.analysis.specs.Plan.{ArePlannedOf, IsPlan}
 use Rattle.analysis.proofs.Grouped.{group-ready}
 use Rattle.analysis.proofs.Puts.{put-come, put-keeps, put-long, put-stays}
 
 -- ---- with a group
 
-noted-long : (procs : List ℕ) (notes : List Note) (all : List (List Note)) → length (noted_at procs notes all) ≡ length all
+noted-long : (procs : List ℕ) (notes : List Note) (all : List (List Note)) → length (with_notes_at procs notes all) ≡ length all
 noted-long [] notes all = refl
 noted-long (first ∷ procs) notes all = length-set all first notes
 

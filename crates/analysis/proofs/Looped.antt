@@ -7,7 +7,7 @@ use Rattle.std.specs.Prelude.{Option, None, Some}
 use Rattle.std.specs.List.{filter_map}
 use Rattle.std.proofs.lemmas.List.{drop_more}
 use Rattle.syntax_tree.specs.declared.program.Column.{Column}
-use Rattle.analysis.specs.Judging.{column_names, named_onto}
+use Rattle.analysis.specs.Judging.{column_names, names_onto}
 
 pub loop-next : {X Y : Type 0} (all : List X → List Y) (one : X → List Y) → ((x : X) (xs : List X) → all (x ∷ xs) ≡ one x ++ all xs) → (xs : List X) (i : ℕ) (x : X) (made next whole : List Y)
     → i < length xs → x ≡ get_or xs i x → made ++ all (drop i xs) ≡ whole → next ≡ made ++ one x → next ++ all (drop (i + 1) xs) ≡ whole
@@ -17,11 +17,11 @@ loop-next all one front xs i x made next whole lt is so_far more =
     ∙ ap (λ l. made ++ l) (sym (front x rest))
     ∙ ap (λ l. made ++ all l) (sym (drop_more xs i x lt ∙ ap (λ y. y ∷ rest) (sym is))) ∙ so_far
 
-onto-front : (name : Option (List ℕ)) (names : List (List ℕ)) → named_onto name names ≡ named_onto name [] ++ names
+onto-front : (name : Option (List ℕ)) (names : List (List ℕ)) → names_onto name names ≡ names_onto name [] ++ names
 onto-front None names = refl
 onto-front (Some name) names = refl
 
-pub names-front : (c : Column) (columns : List Column) → column_names (c ∷ columns) ≡ named_onto c.name [] ++ column_names columns
+pub names-front : (c : Column) (columns : List Column) → column_names (c ∷ columns) ≡ names_onto c.name [] ++ column_names columns
 names-front c columns = onto-front c.name (column_names columns)
 
 -- ---- those that are there

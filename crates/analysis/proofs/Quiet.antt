@@ -23,10 +23,10 @@ use Rattle.context.specs.Verdicts.{place_of, verdict_of}
 use Rattle.analysis.specs.declared.places.TextPlace.{TextPlace}
 use Rattle.analysis.specs.declared.planning.Planned.{Planned}
 use Rattle.analysis.specs.declared.found.Found.{Found}
-use Rattle.analysis.specs.Analysis.{analysed, ended_by, report_by}
+use Rattle.analysis.specs.Analysis.{report_by_plan, report_by_findings, report_by}
 use Rattle.analysis.specs.Apart.{apart, apart_from}
-use Rattle.analysis.specs.Found.{found_by, with_group, flows_in}
-use Rattle.analysis.specs.Judging.{Asserted, asserted, judged_by, judged_of, place_in, with_judged}
+use Rattle.analysis.specs.Found.{findings_by_plan, with_group, flows_in}
+use Rattle.analysis.specs.Judging.{Asserted, numbered_assertion, judgements_on_all, judgement_of, place_in, with_judged}
 use Rattle.analysis.specs.Parts.{part_of, summaries_by}
 
 -- no step of it makes notes
@@ -69,30 +69,30 @@ quiet-kept O old new before after (Err Memory) p h follows = leads-kept O old ne
 
 -- ---- the analysis
 
-judged-quiet : (at : TextPlace) (a : Option Asserted) → IsQuiet (judged_of at a)
-unfolding judged_of
+judged-quiet : (at : TextPlace) (a : Option Asserted) → IsQuiet (judgement_of at a)
+unfolding judgement_of
 judged-quiet at None = tt
 judged-quiet at (Some a) = quiet-bind (apart (verdict_of (place_of a.program a.p) a.cond a.entry a.stand)) _ (quiet-apart_from [] (verdict_of (place_of a.program a.p) a.cond a.entry a.stand)) (λ made. tt)
 
-all_judged-quiet : (program : Program) (places : List TextPlace) (entries : List (Option Transition)) (flows : List Flow) → IsQuiet (judged_by program places entries flows)
-unfolding judged_by with_judged
+all_judged-quiet : (program : Program) (places : List TextPlace) (entries : List (Option Transition)) (flows : List Flow) → IsQuiet (judgements_on_all program places entries flows)
+unfolding judgements_on_all with_judged
 all_judged-quiet program places entries flows =
-    quiet-each _ [] _ (λ made number. quiet-bind (judged_of (place_in places number) (asserted program entries flows number)) _ (judged-quiet (place_in places number) (asserted program entries flows number)) (λ judged. tt))
+    quiet-each _ [] _ (λ made number. quiet-bind (judgement_of (place_in places number) (numbered_assertion program entries flows number)) _ (judged-quiet (place_in places number) (numbered_assertion program entries flows number)) (λ judged. tt))
 
-pub ended-quiet : (program : Program) (places : List TextPlace) (found : Found) → IsQuiet (ended_by program places found)
-unfolding ended_by report_by
+pub ended-quiet : (program : Program) (places : List TextPlace) (found : Found) → IsQuiet (report_by_findings program places found)
+unfolding report_by_findings report_by
 ended-quiet program places found =
     quiet-bind (apart (entries_from program (flows_in found))) _ (quiet-apart_from [] (entries_from program (flows_in found)))
-    (λ entries. quiet-bind (judged_by program places entries.0 (flows_in found)) _ (all_judged-quiet program places entries.0 (flows_in found)) (λ judged. tt))
+    (λ entries. quiet-bind (judgements_on_all program places entries.0 (flows_in found)) _ (all_judged-quiet program places entries.0 (flows_in found)) (λ judged. tt))
 
-found-quiet : (program : Program) (plan : List Planned) → IsQuiet (found_by program plan)
-unfolding found_by with_group part_of
+found-quiet : (program : Program) (plan : List Planned) → IsQuiet (findings_by_plan program plan)
+unfolding findings_by_plan with_group part_of
 found-quiet program plan =
     quiet-each _ _ plan (λ found planned.
     quiet-bind (part_of program planned found.known) _
     (quiet-bind (apart (summaries_by planned.kind program planned.procs found.known)) _ (quiet-apart_from [] (summaries_by planned.kind program planned.procs found.known)) (λ made. tt))
     (λ part. tt))
 
-pub analysed-quiet : (program : Program) (places : List TextPlace) (plan : List Planned) → IsQuiet (analysed program places plan)
-unfolding analysed
-analysed-quiet program places plan = quiet-bind (found_by program plan) _ (found-quiet program plan) (λ found. ended-quiet program places found)
+pub analysed-quiet : (program : Program) (places : List TextPlace) (plan : List Planned) → IsQuiet (report_by_plan program places plan)
+unfolding report_by_plan
+analysed-quiet program places plan = quiet-bind (findings_by_plan program plan) _ (found-quiet program plan) (λ found. ended-quiet program places found)

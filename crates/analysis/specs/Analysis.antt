@@ -12,8 +12,8 @@ use Rattle.analysis.specs.declared.places.TextPlace.{TextPlace}
 use Rattle.analysis.specs.declared.planning.Planned.{Planned}
 use Rattle.analysis.specs.declared.found.Found.{Found}
 use Rattle.analysis.specs.Apart.{apart}
-use Rattle.analysis.specs.Found.{found_by, flows_in}
-use Rattle.analysis.specs.Judging.{column_names, global_names, judged_by}
+use Rattle.analysis.specs.Found.{findings_by_plan, flows_in}
+use Rattle.analysis.specs.Judging.{column_names, global_names, judgements_on_all}
 
 -- ---- the procedures' blocks
 
@@ -44,18 +44,18 @@ blocks_by program _ _ _ = []
 unfoldable pub report_by : Program → List TextPlace → Found → List (Option Transition) → List Note
     → Posing Report
 report_by program places found entries notes =
-    judged_by program places entries (flows_in found) >>= λ judged.
+    judgements_on_all program places entries (flows_in found) >>= λ judged.
     Done record {
       procs = blocks_by program program.procs found.known found.notes;
       notes = notes;
       judged = judged;
     }
 
-unfoldable pub ended_by : Program → List TextPlace → Found → Posing Report
-ended_by program places found =
+unfoldable pub report_by_findings : Program → List TextPlace → Found → Posing Report
+report_by_findings program places found =
     apart (entries_from program (flows_in found)) >>= λ entries.
     report_by program places found entries.0 entries.1
 
 -- by the plan of the program
-unfoldable pub analysed : Program → List TextPlace → List Planned → Posing Report
-analysed program places plan = found_by program plan >>= λ found. ended_by program places found
+unfoldable pub report_by_plan : Program → List TextPlace → List Planned → Posing Report
+report_by_plan program places plan = findings_by_plan program plan >>= λ found. report_by_findings program places found

@@ -17,9 +17,9 @@ put_at (place ∷ places) [] all = all
 put_at (place ∷ places) (x ∷ xs) all = put_at places xs (slice_set all place (Some x))
 
 -- notes stand at the first procedure of their group
-abbrev pub noted_at : List ℕ → List Note → List (List Note) → List (List Note)
-noted_at [] notes all = all
-noted_at (first ∷ procs) notes all = slice_set all first notes
+abbrev pub with_notes_at : List ℕ → List Note → List (List Note) → List (List Note)
+with_notes_at [] notes all = all
+with_notes_at (first ∷ procs) notes all = slice_set all first notes
 
 abbrev pub nothing_found : ℕ → Found
 nothing_found procs = record {
@@ -33,15 +33,15 @@ with_part found procs part =
     record {
       known = put_at procs part.formulas found.known;
       flows = put_at procs part.flows found.flows;
-      notes = noted_at procs part.notes found.notes;
+      notes = with_notes_at procs part.notes found.notes;
     }
 
 unfoldable pub with_group : Program → Found → Planned → Posing Found
 with_group program found planned = part_of program planned found.known
     >>= λ part. Done (with_part found planned.procs part)
 
-unfoldable pub found_by : Program → List Planned → Posing Found
-found_by program plan = each (with_group program) (nothing_found (length program.procs)) plan
+unfoldable pub findings_by_plan : Program → List Planned → Posing Found
+findings_by_plan program plan = each (with_group program) (nothing_found (length program.procs)) plan
 
 -- those that are found, in the order of the text
 abbrev pub flows_in : Found → List Flow

@@ -10,11 +10,11 @@ use Rattle.transition_formula.specs.Transition.{Transition}
 use Rattle.flow_graph.specs.FlowGraph.{CheckPlace, graph_of}
 use Rattle.posing.specs.Posing.{Posing, Done, ◌>>=◌, each}
 use Rattle.proc_summary.specs.declared.stop.Flow.{Flow}
-use Rattle.proc_summary.specs.declared.stop.Stop.{Stop}
+use Rattle.proc_summary.specs.declared.stop.NodeFormula.{NodeFormula}
 use Rattle.proc_summary.specs.Subject.{own_graph}
 use Rattle.report.specs.declared.blocks.Judged.{Judged}
 use Rattle.report.specs.declared.verdict.Verdict.TheVariants.{Proved}
-use Rattle.context.specs.Verdicts.{place_of, shown_of, verdict_of}
+use Rattle.context.specs.Verdicts.{place_of, shown_columns_of, verdict_of}
 use Rattle.analysis.specs.declared.places.TextPlace.{TextPlace}
 use Rattle.analysis.specs.declared.standing.CheckAt.{CheckAt}
 use Rattle.analysis.specs.Apart.{apart}
@@ -24,14 +24,14 @@ use Rattle.analysis.specs.Apart.{apart}
 abbrev pub global_names : Program → List (List ℕ)
 global_names program = map (λ (g : GlobalVar). g.name) program.globals
 
-abbrev pub named_onto : Option (List ℕ) → List (List ℕ) → List (List ℕ)
-named_onto None names = names
-named_onto (Some name) names = name ∷ names
+abbrev pub names_onto : Option (List ℕ) → List (List ℕ) → List (List ℕ)
+names_onto None names = names
+names_onto (Some name) names = name ∷ names
 
 -- the names of the columns that have one
 abbrev pub column_names : List Column → List (List ℕ)
 column_names [] = []
-column_names (c ∷ columns) = named_onto c.name (column_names columns)
+column_names (c ∷ columns) = names_onto c.name (column_names columns)
 
 -- ---- where assertions stand
 
@@ -60,35 +60,35 @@ pub record Asserted : Type 0 where
   pub entry : Option Transition
   pub stand : Option Transition
 
-abbrev pub asserted_at : Program → Proc → CheckPlace → Option Transition → Stop → Asserted
-asserted_at program p check entry stop =
+abbrev pub assertion_at : Program → Proc → CheckPlace → Option Transition → NodeFormula → Asserted
+assertion_at program p check entry stop =
     record { program = program; p = p; cond = check.cond; entry = entry; stand = stop.formula }
 
 abbrev pub asserted_if : Program → Option Proc → Option CheckPlace → Option (Option Transition)
-    → Option Stop → Option Asserted
+    → Option NodeFormula → Option Asserted
 asserted_if program (Some p) (Some check) (Some entry) (Some stop) =
-    Some (asserted_at program p check entry stop)
+    Some (assertion_at program p check entry stop)
 asserted_if program _ _ _ _ = None
 
-abbrev pub stops_in : Option Flow → List Stop
+abbrev pub stops_in : Option Flow → List NodeFormula
 stops_in None = []
 stops_in (Some flow) = flow.checks
 
-abbrev pub asserted_by : Program → List (Option Transition) → List Flow → CheckAt → Option Asserted
-asserted_by program entries flows c =
+abbrev pub assertion_by : Program → List (Option Transition) → List Flow → CheckAt → Option Asserted
+assertion_by program entries flows c =
     asserted_if program (slice_get program.procs c.proc)
     (slice_get (graph_of program c.proc).checks c.check)
     (slice_get entries c.proc) (slice_get (stops_in (slice_get flows c.proc)) c.check)
 
-abbrev pub asserted_of : Program → List (Option Transition) → List Flow → Option CheckAt
+abbrev pub assertion_of : Program → List (Option Transition) → List Flow → Option CheckAt
     → Option Asserted
-asserted_of program entries flows None = None
-asserted_of program entries flows (Some c) = asserted_by program entries flows c
+assertion_of program entries flows None = None
+assertion_of program entries flows (Some c) = assertion_by program entries flows c
 
 -- that of a number
-abbrev pub asserted : Program → List (Option Transition) → List Flow → ℕ → Option Asserted
-asserted program entries flows number =
-    asserted_of program entries flows (check_with number (checks_of 0 program.procs))
+abbrev pub numbered_assertion : Program → List (Option Transition) → List Flow → ℕ → Option Asserted
+numbered_assertion program entries flows number =
+    assertion_of program entries flows (check_with number (checks_of 0 program.procs))
 
 -- ---- verdicts
 
@@ -100,8 +100,8 @@ abbrev pub place_in : List TextPlace → ℕ → TextPlace
 place_in places number = slice_index_or places (number - 1) no_place
 
 -- one that stands in no graph is not come to, and so never fails
-abbrev pub unreached : TextPlace → Judged
-unreached at =
+abbrev pub unreached_judgement : TextPlace → Judged
+unreached_judgement at =
     record {
       at = at.at;
       line = at.line;
@@ -113,16 +113,16 @@ unreached at =
     }
 
 -- the columns that are told are the globals and those that have a name
-unfoldable pub judged_of : TextPlace → Option Asserted → Posing Judged
-judged_of at None = Done (unreached at)
-judged_of at (Some a) =
+unfoldable pub judgement_of : TextPlace → Option Asserted → Posing Judged
+judgement_of at None = Done (unreached_judgement at)
+judgement_of at (Some a) =
     apart (verdict_of (place_of a.program a.p) a.cond a.entry a.stand) >>= λ made.
     Done record {
       at = at.at;
       line = at.line;
       column = at.column;
       named = global_names a.program ++ column_names a.p.columns;
-      shown = shown_of a.program a.p;
+      shown = shown_columns_of a.program a.p;
       verdict = made.0;
       notes = made.1;
     }
@@ -130,11 +130,11 @@ judged_of at (Some a) =
 unfoldable pub with_judged : Program → List TextPlace → List (Option Transition) → List Flow
     → List Judged → ℕ → Posing (List Judged)
 with_judged program places entries flows made number =
-    judged_of (place_in places number) (asserted program entries flows number)
+    judgement_of (place_in places number) (numbered_assertion program entries flows number)
     >>= λ judged. Done (made ++ judged ∷ [])
 
 -- all assertions, in the order of their numbers
-unfoldable pub judged_by : Program → List TextPlace → List (Option Transition) → List Flow
+unfoldable pub judgements_on_all : Program → List TextPlace → List (Option Transition) → List Flow
     → Posing (List Judged)
-judged_by program places entries flows =
+judgements_on_all program places entries flows =
     each (with_judged program places entries flows) [] (range_with_len 1 (length program.checks))

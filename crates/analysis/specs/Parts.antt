@@ -12,7 +12,7 @@ use Rattle.proc_summary.specs.declared.stop.Flow.{Flow}
 use Rattle.proc_summary.specs.Flow.{flow_from}
 use Rattle.proc_summary.specs.Subject.{subject_of}
 use Rattle.proc_summary.specs.Summary.{ends_of, summary_from}
-use Rattle.newton_rounds.specs.Close.{closed_of}
+use Rattle.newton_rounds.specs.Close.{group_closure}
 use Rattle.newton_rounds.specs.Members.{members_of, with_table}
 use Rattle.analysis.specs.declared.planning.GroupKind.{GroupKind}
 use Rattle.analysis.specs.declared.planning.GroupKind.TheVariants.{Plain, Linear, Rounds}
@@ -51,9 +51,9 @@ recursive_part program procs known summaries =
 unfoldable pub summaries_by : GroupKind → Program → List ℕ → List (Option Transition) → Posing GroupSummaries
 summaries_by Plain program procs known = plain_part program procs known
 summaries_by Linear program procs known =
-    recursive_part program procs known (closed_of true program procs known)
+    recursive_part program procs known (group_closure true program procs known)
 summaries_by Rounds program procs known =
-    recursive_part program procs known (closed_of false program procs known)
+    recursive_part program procs known (group_closure false program procs known)
 
 -- ---- the group's notes
 

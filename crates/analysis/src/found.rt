@@ -3,7 +3,7 @@ ghost use Rattle.std.specs.Vec.Iter.{into_iter_items};
 ghost use Rattle.syntax_tree.specs.WellFormed.{IsWellFormed};
 ghost use Rattle.posing.specs.Follows.{Follows};
 ghost use Rattle.analysis.specs.Claims.{FitsFound, FoundIsMet, HasAll, HasFound, IsReadyGroup};
-ghost use Rattle.analysis.specs.Found.{found_by, noted_at, nothing_found, put_at, with_group, with_part};
+ghost use Rattle.analysis.specs.Found.{findings_by_plan, with_notes_at, nothing_found, put_at, with_group, with_part};
 ghost use Rattle.analysis.specs.Plan.{IsPlan};
 
 use crate::parts::{Part, part_of};
@@ -66,7 +66,7 @@ impl Found {
         Found {
             known: put_at(procs, formulas, known),
             flows: put_at(procs, own, flows),
-            notes: noted_at(procs, noted, notes),
+            notes: with_notes_at(procs, noted, notes),
         }
     }
 }
@@ -108,9 +108,9 @@ fn with_at<T: Drop>(all: Vec<T>, place: usize, element: T) -> Vec<T>
 }
 
 /// Notes put at the first of these places.
-fn noted_at(places: &[u32], notes: Items<Note>, all: Items<Items<Note>>) -> Items<Items<Note>>
+fn with_notes_at(places: &[u32], notes: Items<Note>, all: Items<Items<Note>>) -> Items<Items<Note>>
     requires { All (λ place. place < length all) places.now }
-    ensures { result ≡ noted_at places.now notes all }
+    ensures { result ≡ with_notes_at places.now notes all }
 {
     match places {
         [] => all,
@@ -119,8 +119,8 @@ fn noted_at(places: &[u32], notes: Items<Note>, all: Items<Items<Note>>) -> Item
 }
 
 /// What is found of all groups of a plan.
-#[tactic(auto, unfolding(crate::specs::Found::found_by))]
-pub(crate) fn found_by<O: Oracle>(
+#[tactic(auto, unfolding(crate::specs::Found::findings_by_plan))]
+pub(crate) fn findings_by_plan<O: Oracle>(
     alloc: Global,
     program: &Program,
     plan: &[Planned],
@@ -130,7 +130,7 @@ pub(crate) fn found_by<O: Oracle>(
     requires formed { IsWellFormed program.now }
     requires plan { IsPlan program.now plan.now }
     ensures follows { Follows O.asking oracle.old oracle.new log.old log.new result
-        (found_by program.now plan.now) }
+        (findings_by_plan program.now plan.now) }
     ensures fits { IfOk result (FitsFound program.now) }
     ensures all { IfOk result (HasAll program.now) }
     ensures met { IfOk result (FoundIsMet program.now) }

@@ -6,16 +6,16 @@ ghost use Rattle.execution.specs.Execution.{Fails};
 ghost use Rattle.flow_graph.specs.FlowGraph.{CheckPlace, graph_of};
 ghost use Rattle.flow_graph.specs.Plain.{plain};
 ghost use Rattle.posing.specs.Follows.{Follows};
-ghost use Rattle.vocabularies.specs.Ends.{entry_width, named_from};
-ghost use Rattle.proc_summary.specs.declared.stop.Stop.{Stop};
+ghost use Rattle.vocabularies.specs.Ends.{entry_width, named_columns_from};
+ghost use Rattle.proc_summary.specs.declared.stop.NodeFormula.{NodeFormula};
 ghost use Rattle.proc_summary.specs.Claims.{FitsFlow, FlowHolds};
 ghost use Rattle.proc_summary.specs.Subject.{own_graph};
 ghost use Rattle.report.specs.declared.verdict.Verdict.TheVariants.{Proved};
 ghost use Rattle.report.specs.Claims.{IsRefuted};
 ghost use Rattle.context.specs.Claims.{AreEntries, AreFlows, EntriesHold, EntryHolds, FlowsHold, IsEntryIf};
-ghost use Rattle.context.specs.Verdicts.{place_of, shown_of, verdict_of};
+ghost use Rattle.context.specs.Verdicts.{place_of, shown_columns_of, verdict_of};
 ghost use Rattle.analysis.specs.Apart.{apart};
-ghost use Rattle.analysis.specs.Judging.{asserted, asserted_by, column_names, global_names, judged_by, judged_of, place_in, unreached, with_judged};
+ghost use Rattle.analysis.specs.Judging.{numbered_assertion, assertion_by, column_names, global_names, judgements_on_all, judgement_of, place_in, unreached_judgement, with_judged};
 ghost use Rattle.analysis.specs.Claims.{AddsJudged, AreJudged, AreRefuted, IsCheckOf, IsJudged, IsStanding};
 
 use crate::names::{add_names, global_names};
@@ -34,7 +34,7 @@ use syntax_tree::{Column, Name, Program};
 use transition_formula::Formula;
 
 /// A verdict on each assertion, in the order of the text.
-pub(crate) fn judged_by<O: Oracle>(
+pub(crate) fn judgements_on_all<O: Oracle>(
     alloc: Global,
     program: &Program,
     places: &[TextPlace],
@@ -47,7 +47,7 @@ pub(crate) fn judged_by<O: Oracle>(
     requires entries { AreEntries program.now entries.now }
     requires flows { AreFlows program.now flows.now }
     ensures follows { Follows O.asking oracle.old oracle.new log.old log.new result
-        (judged_by program.now places.now entries.now flows.now) }
+        (judgements_on_all program.now places.now entries.now flows.now) }
     ensures sound { EntriesHold program.now entries.now → FlowsHold program.now flows.now
         → IfOk result (AreJudged program.now) }
     ensures refuted { IfOk result AreRefuted }
@@ -94,7 +94,7 @@ fn with_judged<O: Oracle>(
         (with_judged program.now places.now entries.now flows.now made number) }
     ensures added { IfOk result (AddsJudged program.now entries.now flows.now made number) }
 {
-    let judged = judged_of(
+    let judged = judgement_of(
         alloc, program, places, standing, entries, flows, number, oracle, log,
     )?;
     let mut all = made;
@@ -103,7 +103,7 @@ fn with_judged<O: Oracle>(
 }
 
 /// One that stands in no graph is not come to.
-fn judged_of<O: Oracle>(
+fn judgement_of<O: Oracle>(
     alloc: Global,
     program: &Program,
     places: &[TextPlace],
@@ -120,8 +120,8 @@ fn judged_of<O: Oracle>(
     requires flows { AreFlows program.now flows.now }
     requires number { 1 ≤ number }
     ensures follows { Follows O.asking oracle.old oracle.new log.old log.new result
-        (judged_of (place_in places.now number)
-        (asserted program.now entries.now flows.now number)) }
+        (judgement_of (place_in places.now number)
+        (numbered_assertion program.now entries.now flows.now number)) }
     ensures sound { EntriesHold program.now entries.now → FlowsHold program.now flows.now
         → IfOk result (IsJudged program.now number) }
     ensures refuted { IfOk result (λ judged. IsRefuted judged.verdict) }
@@ -129,15 +129,15 @@ fn judged_of<O: Oracle>(
     let at = place_in(places, number);
     let graphs = standing.graphs.as_slice();
     match check_with(number, standing.checks.as_slice()) {
-        Some(check) => judged_at(
+        Some(check) => judgement_at(
             alloc, program, at, graphs, check, entries, flows, oracle, log,
         ),
-        None => Ok(unreached(alloc, at)),
+        None => Ok(unreached_judgement(alloc, at)),
     }
 }
 
-fn unreached(alloc: Global, at: TextPlace) -> Judged
-    ensures { result ≡ unreached at }
+fn unreached_judgement(alloc: Global, at: TextPlace) -> Judged
+    ensures { result ≡ unreached_judgement at }
 {
     Judged {
         at: at.at,
@@ -151,8 +151,8 @@ fn unreached(alloc: Global, at: TextPlace) -> Judged
 }
 
 /// The verdict on one assertion, with the notes of finding it.
-#[tactic(auto, using(posing::proofs::Following::following), unfolding(crate::specs::Judging::judged_of))]
-fn judged_at<O: Oracle>(
+#[tactic(auto, using(posing::proofs::Following::following), unfolding(crate::specs::Judging::judgement_of))]
+fn judgement_at<O: Oracle>(
     alloc: Global,
     program: &Program,
     at: TextPlace,
@@ -169,7 +169,7 @@ fn judged_at<O: Oracle>(
     requires entries { AreEntries program.now entries.now }
     requires flows { AreFlows program.now flows.now }
     ensures follows { Follows O.asking oracle.old oracle.new log.old log.new result
-        (judged_of at (asserted_by program.now entries.now flows.now check)) }
+        (judgement_of at (assertion_by program.now entries.now flows.now check)) }
     ensures sound { EntriesHold program.now entries.now → FlowsHold program.now flows.now
         → IfOk result (IsJudged program.now check.number) }
     ensures refuted { IfOk result (λ judged. IsRefuted judged.verdict) }
@@ -214,7 +214,7 @@ fn verdict_apart<O: Oracle>(
         → FitsFlow program.now p flow.now }
     requires entry { (p : Procedure) → slice_get program.now.procs proc ≡ Some p
         → IsEntryIf (entry_width program.now p) entry.now }
-    ensures follows { (p : Procedure) (at : CheckPlace) (stop : Stop)
+    ensures follows { (p : Procedure) (at : CheckPlace) (stop : NodeFormula)
         → slice_get program.now.procs proc ≡ Some p → slice_get (own_graph p).checks check ≡ Some at
         → slice_get flow.now.checks check ≡ Some stop
         → Follows O.asking oracle.old oracle.new log.old log.new result
@@ -247,7 +247,7 @@ fn shown_columns(alloc: Global, program: &Program, proc: u32) -> Result<Items<u3
     requires formed { IsWellFormed program.now }
     requires procedure { proc < length program.now.procs }
     ensures { (p : Procedure) → slice_get program.now.procs proc ≡ Some p
-        → IfOk result (λ shown. shown ≡ shown_of program.now p) }
+        → IfOk result (λ shown. shown ≡ shown_columns_of program.now p) }
 {
     let globals = program.globals.len() as u32;
     let columns = program.procs.as_slice()[proc as usize].columns.as_slice();
@@ -270,7 +270,7 @@ fn first_numbers(alloc: Global, count: u32) -> Result<Items<u32>, AllocError>
 /// Adds the numbers, from one on, of the columns that have a name.
 fn add_named(first: u32, columns: &[Column], numbers: &mut Items<u32>) -> Result<(), AllocError>
     requires { first + length columns.now < 2 ^ 32 }
-    ensures { OnOk result (numbers.new ≡ numbers.old ++ named_from first columns.now) }
+    ensures { OnOk result (numbers.new ≡ numbers.old ++ named_columns_from first columns.now) }
 {
     let mut number = first;
     for column in columns {

@@ -16,4 +16,4 @@ pub use found::Found;
 pub use parts::{GroupSummaries, Part, part_of, part_with, summaries_apart};
 pub use places::TextPlace;
 pub use planning::{GroupKind, Planned, plan};
-pub use whole::{analyse, ended_by};
+pub use whole::{analyse, report_by_findings};

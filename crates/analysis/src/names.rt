@@ -1,5 +1,5 @@
 ghost use Rattle.std.specs.Prelude.{◌≡◌, ◌++◌, ◌∷◌, [], IfOk, OnOk};
-ghost use Rattle.analysis.specs.Judging.{column_names, global_names, named_onto};
+ghost use Rattle.analysis.specs.Judging.{column_names, global_names, names_onto};
 
 use items::Items;
 use std::alloc::{AllocError, Global};
@@ -27,7 +27,7 @@ pub(crate) fn add_names(columns: &[Column], names: &mut Items<Name>) -> Result<(
 }
 
 fn add_name(name: &Option<Name>, names: &mut Items<Name>) -> Result<(), AllocError>
-    ensures { OnOk result (names.new ≡ names.old ++ named_onto name.now []) }
+    ensures { OnOk result (names.new ≡ names.old ++ names_onto name.now []) }
 {
     if let Some(name) = name {
         push_name(name, names)?;

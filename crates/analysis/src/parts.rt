@@ -8,7 +8,7 @@ ghost use Rattle.leaf_cases.specs.Conditions.{AreKnown};
 ghost use Rattle.leaf_cases.specs.Summaries.{AreMet};
 ghost use Rattle.proc_summary.specs.Claims.{KnowsCallees};
 ghost use Rattle.newton_rounds.specs.Claims.{AreKnownMembers, AreMetMembers};
-ghost use Rattle.newton_rounds.specs.Close.{closed_of};
+ghost use Rattle.newton_rounds.specs.Close.{group_closure};
 ghost use Rattle.newton_rounds.specs.Laws.{KnowsOthers};
 ghost use Rattle.newton_rounds.specs.Members.{IsLinear, members_of};
 ghost use Rattle.analysis.specs.Apart.{apart};
@@ -227,7 +227,7 @@ fn recursive_part<O: Oracle>(
     requires linear { IsTrue linear → IsLinear program.now procs.now }
     ensures follows { Follows O.asking oracle.old oracle.new log.old log.new result
         (recursive_part program.now procs.now known.now
-        (closed_of linear program.now procs.now known.now)) }
+        (group_closure linear program.now procs.now known.now)) }
     ensures fits { IfOk result
         (λ summed. FitsGroup program.now procs.now summed.formulas summed.flows) }
     ensures met { AreMet program.now known.now

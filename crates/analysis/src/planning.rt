@@ -38,12 +38,12 @@ pub fn plan(alloc: Global, program: &Program) -> Result<Items<Planned>, FormulaE
     };
     let mut plan = Items::new(alloc);
     for group in groups.as_slice() {
-        plan.push(planned_of(alloc, program, group)?)?;
+        plan.push(group_plan(alloc, program, group)?)?;
     }
     Ok(plan)
 }
 
-fn planned_of(alloc: Global, program: &Program, group: &Group) -> Result<Planned, FormulaError>
+fn group_plan(alloc: Global, program: &Program, group: &Group) -> Result<Planned, FormulaError>
     requires formed { IsWellFormed program.now }
     requires there { All (λ proc. proc < length program.now.procs) group.now.procs }
     ensures { IfOk result (IsPlannedOf program.now group.now) }

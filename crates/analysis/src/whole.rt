@@ -6,14 +6,14 @@ ghost use Rattle.context.specs.Claims.{AreEntries, AreFlows, EntriesHold, FlowsH
 ghost use Rattle.context.specs.Entries.{entries_from};
 ghost use Rattle.report.specs.Claims.{ClaimsAreMet, PointsMeetRows, ReportCovers};
 ghost use Rattle.analysis.specs.declared.planning.Planned.{Planned as PlannedGroup};
-ghost use Rattle.analysis.specs.Analysis.{analysed, ended_by};
+ghost use Rattle.analysis.specs.Analysis.{report_by_plan, report_by_findings};
 ghost use Rattle.analysis.specs.Apart.{apart};
 ghost use Rattle.analysis.specs.Claims.{AreTheirPlaces, FitsFound, FoundIsMet, HasAll};
 ghost use Rattle.analysis.specs.Plan.{IsPlan};
 
 use crate::blocks::blocks_by;
-use crate::found::{Found, found_by};
-use crate::judging::judged_by;
+use crate::found::{Found, findings_by_plan};
+use crate::judging::judgements_on_all;
 use crate::places::TextPlace;
 use crate::planning::plan;
 use context::entries;
@@ -30,7 +30,7 @@ use transition_formula::Formula;
 /// The report of a program, whose assertions stand at these places of its text. The log gains the
 /// answers that were taken, in the order of their questions, and no notes: these stand in the
 /// report.
-#[tactic(auto, using(posing::proofs::Following::following), unfolding(crate::specs::Analysis::analysed))]
+#[tactic(auto, using(posing::proofs::Following::following), unfolding(crate::specs::Analysis::report_by_plan))]
 pub fn analyse<O: Oracle>(
     alloc: Global,
     program: &Program,
@@ -41,7 +41,7 @@ pub fn analyse<O: Oracle>(
     requires formed { IsWellFormed program.now }
     ensures follows { (plan : List PlannedGroup) → IsPlan program.now plan
         → Follows O.asking oracle.old oracle.new log.old log.new result
-        (analysed program.now places.now plan) }
+        (report_by_plan program.now places.now plan) }
     ensures planned { IfOk result (λ report. (plan : List PlannedGroup) × IsPlan program.now plan) }
     ensures kept { log.new.notes ≡ log.old.notes }
     ensures met { IfOk result (ClaimsAreMet program.now) }
@@ -50,13 +50,13 @@ pub fn analyse<O: Oracle>(
     ensures points { IfOk result PointsMeetRows }
 {
     let plan = plan(alloc, program)?;
-    let found = found_by(alloc, program, plan.as_slice(), oracle, log)?;
-    ended_by(alloc, program, places, found, oracle, log)
+    let found = findings_by_plan(alloc, program, plan.as_slice(), oracle, log)?;
+    report_by_findings(alloc, program, places, found, oracle, log)
 }
 
 /// The same by what is found of all procedures.
-#[tactic(auto, using(posing::proofs::Following::following), unfolding(crate::specs::Analysis::ended_by, crate::specs::Analysis::report_by))]
-pub fn ended_by<O: Oracle>(
+#[tactic(auto, using(posing::proofs::Following::following), unfolding(crate::specs::Analysis::report_by_findings, crate::specs::Analysis::report_by))]
+pub fn report_by_findings<O: Oracle>(
     alloc: Global,
     program: &Program,
     places: &[TextPlace],
@@ -68,7 +68,7 @@ pub fn ended_by<O: Oracle>(
     requires found { FitsFound program.now found }
     requires all { HasAll program.now found }
     ensures follows { Follows O.asking oracle.old oracle.new log.old log.new result
-        (ended_by program.now places.now found) }
+        (report_by_findings program.now places.now found) }
     ensures met { FoundIsMet program.now found → IfOk result (ClaimsAreMet program.now) }
     ensures covers { AreTheirPlaces program.now places.now
         → IfOk result (ReportCovers program.now) }
@@ -82,7 +82,7 @@ pub fn ended_by<O: Oracle>(
     let procs = blocks_by(alloc, program, known.as_slice(), notes.as_slice())?;
     let flows = flows_in(alloc, flows)?;
     let (entries, own) = entries_apart(alloc, program, flows.as_slice(), oracle, log)?;
-    let judged = judged_by(
+    let judged = judgements_on_all(
         alloc,
         program,
         places,

@@ -4,7 +4,7 @@ ghost use Rattle.posing.specs.Follows.{Follows};
 ghost use Rattle.leaf_cases.specs.Conditions.{AreKnown};
 ghost use Rattle.leaf_cases.specs.Summaries.{AreMet};
 ghost use Rattle.newton_rounds.specs.Claims.{AreKnownMembers, AreMetMembers};
-ghost use Rattle.newton_rounds.specs.Close.{closed_of};
+ghost use Rattle.newton_rounds.specs.Close.{group_closure};
 ghost use Rattle.newton_rounds.specs.Laws.{KnowsOthers};
 ghost use Rattle.newton_rounds.specs.Members.{IsLinear};
 
@@ -40,7 +40,7 @@ pub fn close<O: Oracle>(
     requires few { length procs.now ≤ length program.now.procs }
     requires known { AreKnown program.now known.now }
     ensures follows { Follows O.asking oracle.old oracle.new log.old log.new result
-        (closed_of linear program.now procs.now known.now) }
+        (group_closure linear program.now procs.now known.now) }
     ensures known { IfOk result (AreKnownMembers program.now procs.now) }
     ensures met { AreMet program.now known.now → KnowsOthers program.now procs.now known.now
         → (IsTrue linear → IsLinear program.now procs.now)

@@ -4,7 +4,7 @@ ghost use Rattle.posing.specs.Follows.{Follows};
 ghost use Rattle.report.specs.Claims.{ClaimsAreMet, PointsMeetRows, ReportCovers};
 ghost use Rattle.report.specs.Text.{proved_count, text_of};
 ghost use Rattle.analysis.specs.declared.planning.Planned.{Planned as PlannedGroup};
-ghost use Rattle.analysis.specs.Analysis.{analysed};
+ghost use Rattle.analysis.specs.Analysis.{report_by_plan};
 ghost use Rattle.analysis.specs.Claims.{AreTheirPlaces};
 ghost use Rattle.analysis.specs.Plan.{IsPlan};
 
@@ -36,7 +36,7 @@ pub fn analyse<O: Oracle>(
     requires formed { IsWellFormed program.now }
     ensures follows { (plan : List PlannedGroup) → IsPlan program.now plan
         → Follows O.asking oracle.old oracle.new log.old log.new result
-        (analysed program.now places.now plan) }
+        (report_by_plan program.now places.now plan) }
     ensures planned { IfOk result (λ report. (plan : List PlannedGroup) × IsPlan program.now plan) }
     ensures kept { log.new.notes ≡ log.old.notes }
     ensures met { IfOk result (ClaimsAreMet program.now) }
@@ -48,10 +48,10 @@ pub fn analyse<O: Oracle>(
 }
 
 /// How many assertions are not proved.
-pub fn unproved(report: &Report) -> usize
+pub fn unproved_assertions(report: &Report) -> usize
     ensures { result ≡ length report.now.judged - proved_count report.now.judged }
 {
-    report::unproved(report)
+    report::unproved_assertions(report)
 }
 
 /// The text of a report.

@@ -6,7 +6,7 @@ ghost use Rattle.path_expr.specs.Operations.{operations};
 ghost use Rattle.path_expr.specs.Runs.{Runs, error_of};
 ghost use Rattle.path_expr.specs.Walks.{IsGraph};
 ghost use Rattle.posing.specs.Follows.{Follows};
-ghost use Rattle.checked_tree.specs.Evaluation.{evaluated};
+ghost use Rattle.checked_tree.specs.Evaluation.{evaluated_cells};
 ghost use Rattle.checked_tree.specs.Graph.{graph_of};
 ghost use Rattle.checked_tree.specs.Grown.{AreGrown, formulas_of, result_map, trees_of};
 ghost use Rattle.checked_tree.specs.Law.{AreFittedCells, CellsHold, IsEvaluated};
@@ -58,7 +58,7 @@ pub fn evaluate<O: Oracle>(
     requires few_nodes { length nodes.now < 2 ^ 32 }
     ensures follows { Follows O.asking oracle.old oracle.new log.old log.new
         (result_map formulas_of result)
-        (evaluated (graph_of links.now leaves.now nodes.now) source) }
+        (evaluated_cells (graph_of links.now leaves.now nodes.now) source) }
     ensures grown { IfOk result
         (λ cells. AreGrown (graph_of links.now leaves.now nodes.now) source log.old log.new
         (trees_of cells)) }

@@ -6,7 +6,7 @@ ghost use Rattle.flow_graph.specs.FlowGraph.{CheckPlace};
 ghost use Rattle.transition_formula.specs.Transition.{AreSolvable};
 ghost use Rattle.posing.specs.Follows.{Follows};
 ghost use Rattle.vocabularies.specs.Ends.{entry_width};
-ghost use Rattle.proc_summary.specs.declared.stop.Stop.{Stop};
+ghost use Rattle.proc_summary.specs.declared.stop.NodeFormula.{NodeFormula};
 ghost use Rattle.proc_summary.specs.Claims.{FitsFlow, FlowHolds};
 ghost use Rattle.proc_summary.specs.Subject.{own_graph};
 ghost use Rattle.report.specs.declared.verdict.Verdict.TheVariants.{Proved};
@@ -14,7 +14,7 @@ ghost use Rattle.report.specs.Claims.{IsRefuted};
 ghost use Rattle.context.specs.Claims.{AreEntries, AreFlows, EntriesHold, EntryHolds, FitsVerdict, FlowsHold, IsEntryIf};
 ghost use Rattle.context.specs.Entries.{entries_from};
 ghost use Rattle.context.specs.Judging.{IsVerdictOnAll};
-ghost use Rattle.context.specs.Verdicts.{judged_from, place_of, shown_of, verdict_of};
+ghost use Rattle.context.specs.Verdicts.{verdict_on_cases_from, place_of, shown_columns_of, verdict_of};
 
 use farkas_check::Oracle;
 use items::Items;
@@ -62,7 +62,7 @@ pub fn verdict<O: Oracle>(
         → FitsFlow program.now p flow.now }
     requires entry { (p : Procedure) → slice_get program.now.procs proc ≡ Some p
         → IsEntryIf (entry_width program.now p) entry.now }
-    ensures follows { (p : Procedure) (at : CheckPlace) (stop : Stop)
+    ensures follows { (p : Procedure) (at : CheckPlace) (stop : NodeFormula)
         → slice_get program.now.procs proc ≡ Some p → slice_get (own_graph p).checks check ≡ Some at
         → slice_get flow.now.checks check ≡ Some stop
         → Follows O.asking oracle.old oracle.new log.old log.new result
@@ -73,13 +73,13 @@ pub fn verdict<O: Oracle>(
         → ⊥ }
     ensures refuted { IfOk result IsRefuted }
     ensures fits { (p : Procedure) → slice_get program.now.procs proc ≡ Some p
-        → IfOk result (FitsVerdict (length (shown_of program.now p))) }
+        → IfOk result (FitsVerdict (length (shown_columns_of program.now p))) }
 {
     context::verdict(alloc, program, proc, check, entry, flow, oracle, log)
 }
 
 /// The verdict on cases in which an assertion would fail.
-pub fn judged<O: Oracle>(
+pub fn verdict_on_cases<O: Oracle>(
     alloc: Global,
     cases: &[Case],
     oracle: &mut O,
@@ -87,8 +87,8 @@ pub fn judged<O: Oracle>(
 ) -> Result<Verdict, WorkError>
     requires { AreSolvable cases.now }
     ensures follows { Follows O.asking oracle.old oracle.new log.old log.new result
-        (judged_from cases.now) }
+        (verdict_on_cases_from cases.now) }
     ensures known { IfOk result (IsVerdictOnAll cases.now) }
 {
-    context::judged(alloc, cases, oracle, log)
+    context::verdict_on_cases(alloc, cases, oracle, log)
 }

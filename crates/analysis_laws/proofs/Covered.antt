@@ -16,11 +16,11 @@ use Rattle.report.specs.Claims.{ReportCovers}
 use Rattle.analysis.specs.declared.found.Found.{Found}
 use Rattle.analysis.specs.declared.places.TextPlace.{TextPlace}
 use Rattle.analysis.specs.declared.planning.Planned.{Planned}
-use Rattle.analysis.specs.Analysis.{analysed, blocks_by, ended_by, report_by}
+use Rattle.analysis.specs.Analysis.{report_by_plan, blocks_by, report_by_findings, report_by}
 use Rattle.analysis.specs.Apart.{apart}
 use Rattle.analysis.specs.Claims.{AreTheirPlaces, FitsFound, FoundIsMet, IsLeft}
-use Rattle.analysis.specs.Found.{flows_in, found_by, nothing_found, with_group, with_part}
-use Rattle.analysis.specs.Judging.{judged_by}
+use Rattle.analysis.specs.Found.{flows_in, findings_by_plan, nothing_found, with_group, with_part}
+use Rattle.analysis.specs.Judging.{judgements_on_all}
 use Rattle.analysis.specs.Parts.{part_of}
 use Rattle.analysis.specs.Plan.{IsPlan}
 use Rattle.analysis.proofs.Covering.{always-judged_by}
@@ -51,8 +51,8 @@ module _ (program : Program) (formed : IsWellFormed program) where
         left = left-next program found (with_part found planned.procs part) planned rest kept.left (λ come has. found-has program planned.procs found part come kept.fits own.fits ready.there has);
       })
 
-  found-all : (plan : List Planned) → IsPlan program plan → AlwaysPassing (IsWhole program) (found_by program plan)
-  unfolding found_by
+  found-all : (plan : List Planned) → IsPlan program plan → AlwaysPassing (IsWhole program) (findings_by_plan program plan)
+  unfolding findings_by_plan
   found-all plan is =
       under-weaker IsPassing (Keeps []) (IsWhole program) (each (with_group program) (nothing_found (length program.procs)) plan)
       (λ found kept. record { fits = kept.fits; all = left-all program found kept.left; met = kept.met })
@@ -64,17 +64,17 @@ module _ (program : Program) (formed : IsWellFormed program) where
   report-fine : (places : List TextPlace) (found : Found) → IsWhole program found → (entries : List (Option Transition)) (notes : List Note) → AlwaysPassing (SummariesHold program) (report_by program places found entries notes)
   unfolding report_by
   report-fine places found has entries notes =
-      under-bind IsPassing (λ judged. Unit {0}) (SummariesHold program) (judged_by program places entries (flows_in found))
+      under-bind IsPassing (λ judged. Unit {0}) (SummariesHold program) (judgements_on_all program places entries (flows_in found))
       (λ judged. Done record { procs = blocks_by program program.procs found.known found.notes; notes = notes; judged = judged })
-      (under-any IsPassing (judged_by program places entries (flows_in found))) (λ judged any. blocks-met program found has.fits has.all has.met)
+      (under-any IsPassing (judgements_on_all program places entries (flows_in found))) (λ judged any. blocks-met program found has.fits has.all has.met)
 
   report-covers : (places : List TextPlace) → AreTheirPlaces program places → (found : Found) → IsWhole program found → (entries : List (Option Transition)) (notes : List Note)
       → AlwaysPassing (ReportCovers program) (report_by program places found entries notes)
   unfolding report_by
   report-covers places theirs found has entries notes =
-      under-bind IsPassing (λ made. map (λ (j : Judged). j.at) made ≡ program.checks) (ReportCovers program) (judged_by program places entries (flows_in found))
+      under-bind IsPassing (λ made. map (λ (j : Judged). j.at) made ≡ program.checks) (ReportCovers program) (judgements_on_all program places entries (flows_in found))
       (λ judged. Done record { procs = blocks_by program program.procs found.known found.notes; notes = notes; judged = judged })
-      (passing-always (λ made. map (λ (j : Judged). j.at) made ≡ program.checks) (judged_by program places entries (flows_in found)) (always-judged_by program places entries (flows_in found) theirs))
+      (passing-always (λ made. map (λ (j : Judged). j.at) made ≡ program.checks) (judgements_on_all program places entries (flows_in found)) (always-judged_by program places entries (flows_in found) theirs))
       (λ judged at. record {
         blocks = blocks-all program found has.fits has.all;
         verdicts = at;
@@ -83,18 +83,18 @@ module _ (program : Program) (formed : IsWellFormed program) where
 
   -- what every end of it is by any entries, is every end of the whole
   ended-fine : (P : Report → Type 0) (places : List TextPlace) (found : Found) → ((entries : List (Option Transition)) (notes : List Note) → AlwaysPassing P (report_by program places found entries notes))
-      → AlwaysPassing P (ended_by program places found)
-  unfolding ended_by
+      → AlwaysPassing P (report_by_findings program places found)
+  unfolding report_by_findings
   ended-fine P places found fine =
       under-bind IsPassing (λ entries. Unit {0}) P (apart (entries_from program (flows_in found))) (λ entries. report_by program places found entries.0 entries.1)
       (under-any IsPassing (apart (entries_from program (flows_in found)))) (λ entries any. fine entries.0 entries.1)
 
   analysed-fine : (P : Report → Type 0) (places : List TextPlace) (plan : List Planned) → IsPlan program plan
       → ((found : Found) → IsWhole program found → (entries : List (Option Transition)) (notes : List Note) → AlwaysPassing P (report_by program places found entries notes))
-      → AlwaysPassing P (analysed program places plan)
-  unfolding analysed
+      → AlwaysPassing P (report_by_plan program places plan)
+  unfolding report_by_plan
   analysed-fine P places plan is fine =
-      under-bind IsPassing (IsWhole program) P (found_by program plan) (λ found. ended_by program places found) (found-all plan is)
+      under-bind IsPassing (IsWhole program) P (findings_by_plan program plan) (λ found. report_by_findings program places found) (found-all plan is)
       (λ found has. ended-fine P places found (fine found has))
 
 pub found-whole : FoundIsWhole

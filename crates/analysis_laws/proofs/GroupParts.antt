@@ -28,14 +28,14 @@ use Rattle.proc_summary.specs.Subject.{subject_of}
 use Rattle.proc_summary.specs.Summary.{ends_of, summary_from}
 use Rattle.proc_summary.proofs.Below.{some_at}
 use Rattle.newton_rounds.specs.Claims.{AreKnownMembers, AreMetMembers}
-use Rattle.newton_rounds.specs.Close.{closed_of}
+use Rattle.newton_rounds.specs.Close.{group_closure}
 use Rattle.newton_rounds.specs.Laws.{KnowsOthers}
 use Rattle.newton_rounds.specs.Members.{IsLinear, members_of, with_table}
 use Rattle.newton_rounds.proofs.Called.{AreThere, member-at, members-many}
 use Rattle.newton_rounds.proofs.MemberTables.{IsProcedure}
 use Rattle.newton_rounds.proofs.SummariesMet.{summaries-met}
 use Rattle.newton_rounds.proofs.Zipped.{some-one, zipped-at, zipped-length}
-use Rattle.flow_laws.specs.Laws.{IsTrueFlow, IsTrueSummary, summed_from}
+use Rattle.flow_laws.specs.Laws.{IsTrueFlow, IsTrueSummary, summary_by_flow}
 use Rattle.flow_laws.proofs.TrueFlows.{flows-true, summaries-true}
 use Rattle.analysis.specs.declared.planning.GroupKind.{GroupKind}
 use Rattle.analysis.specs.declared.planning.GroupKind.TheVariants.{Plain, Linear, Rounds}
@@ -110,7 +110,7 @@ module _ (program : Program) (formed : IsWellFormed program) where
     summary-true : (p : Proc) → AlwaysPassing (λ flow. AlwaysPassing (IsSummaryOf p) (summary_from (ends_of program p) flow.exit.formula)) (flow_from (subject_of program p known))
     summary-true p =
         under-unbind IsPassing (IsSummaryOf p) (flow_from (subject_of program p known)) (λ flow. summary_from (ends_of program p) flow.exit.formula)
-        (under-all IsPassing (λ (number : IsProcedure program p) f. IsTrueSummary program number.0 p known f) (summed_from program p known)
+        (under-all IsPassing (λ (number : IsProcedure program p) f. IsTrueSummary program number.0 p known f) (summary_by_flow program p known)
         (λ number. summaries-true program number.0 p known formed number.1 are))
 
     flow-next : (all ps : List Proc) (p : Proc) (made : List Flow) → FitsBehind IsTrueOf all (p ∷ ps) made → AlwaysPassing (FitsBehind IsTrueOf all ps) (with_flow program known made p)
@@ -229,12 +229,12 @@ module _ (program : Program) (formed : IsWellFormed program) where
         )))
 
     closed-fine : (linear : Bool) → length procs ≤ length program.procs → KnowsOthers program procs known → (IsTrue linear → IsLinear program procs)
-        → AlwaysPassing IsFine (recursive_part program procs known (closed_of linear program procs known))
+        → AlwaysPassing IsFine (recursive_part program procs known (group_closure linear program procs known))
     closed-fine linear few knows tells =
-        recursive-fine knows (closed_of linear program procs known)
-        (under-both IsPassing (AreKnownMembers program procs) (λ table. AreMet program known → AreMetMembers program procs table) (closed_of linear program procs known)
-        (passing-always (AreKnownMembers program procs) (closed_of linear program procs known) (group-known program procs known formed there few are linear))
-        (under-all IsPassing (λ (met : AreMet program known) table. AreMetMembers program procs table) (closed_of linear program procs known)
+        recursive-fine knows (group_closure linear program procs known)
+        (under-both IsPassing (AreKnownMembers program procs) (λ table. AreMet program known → AreMetMembers program procs table) (group_closure linear program procs known)
+        (passing-always (AreKnownMembers program procs) (group_closure linear program procs known) (group-known program procs known formed there few are linear))
+        (under-all IsPassing (λ (met : AreMet program known) table. AreMetMembers program procs table) (group_closure linear program procs known)
         (λ met. summaries-met program procs known linear formed within few are met knows tells)))
 
     summed-fine : (kind : GroupKind) → length procs ≤ length program.procs → KnowsFor kind program procs known → IsLinearIf kind program procs → AlwaysPassing IsFine (summaries_by kind program procs known)

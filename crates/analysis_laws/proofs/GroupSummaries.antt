@@ -18,7 +18,7 @@ use Rattle.leaf_cases.specs.Conditions.{AreKnown}
 use Rattle.newton_rounds.specs.Between.{AreBases, AreCandidates, AreSummaries, FitTable}
 use Rattle.newton_rounds.specs.Candidates.{kept_candidates, most_rounds, round, table_of}
 use Rattle.newton_rounds.specs.Claims.{AreKnownMembers}
-use Rattle.newton_rounds.specs.Close.{closed_by_rounds, closed_from, closed_of, paired_up, with_candidate}
+use Rattle.newton_rounds.specs.Close.{closure_by_rounds, closure_from, group_closure, pairs_of, with_candidate}
 use Rattle.newton_rounds.specs.Closure.{bases_of, closure_of, ends_of_members, pair_ends, sides_of, stretches_with, with_closed}
 use Rattle.newton_rounds.specs.Members.{GroupCall, calls_from, members_of, with_table}
 use Rattle.newton_rounds.specs.Pairs.{PairEnds}
@@ -113,23 +113,23 @@ module _ (program : Program) (procs : List ℕ) (known : List (Option Transition
       (λ made kept. always_weaker _ (λ next. AreCandidates members next.0) (round program procs known made) (λ next both. both.0)
       (round-keeps program procs known made (candidates-length members made kept ∙ many) kept)) over
 
-  pub rounds-summaries : (bases : List Transition) → AreBases members bases → Always (AreSummaries members) (closed_by_rounds program procs known bases)
-  unfolding closed_by_rounds
+  pub rounds-summaries : (bases : List Transition) → AreBases members bases → Always (AreSummaries members) (closure_by_rounds program procs known bases)
+  unfolding closure_by_rounds
   rounds-summaries bases based =
       always_bind (AreSummaries members) (AreSummaries members) (closure_of program procs known bases []) _ (closure-summaries [] (empty-fits program procs) bases based) (λ first one.
       always_bind (AreSummaries members) (AreSummaries members) (closure_of program procs known bases first) _ (closure-summaries first (summaries-fit program procs there first one) bases based) (λ second two.
-      always_bind (AreCandidates members) (AreSummaries members) (each with_candidate [] (paired_up members second)) _ (candidates-over members second (summaries-length members second two)) (λ candidates over.
+      always_bind (AreCandidates members) (AreSummaries members) (each with_candidate [] (pairs_of members second)) _ (candidates-over members second (summaries-length members second two)) (λ candidates over.
       always_bind (AreCandidates members) (AreSummaries members) (kept_candidates program procs known candidates) (λ kept. Done (table_of members kept)) (kept-are candidates over)
       (λ kept still. table-summaries members kept (all-members program formed procs there few) still))))
 
   -- ---- the stated summaries
 
-  pub group-known : (linear : Bool) → Always (AreKnownMembers program procs) (closed_of linear program procs known)
-  unfolding closed_of
+  pub group-known : (linear : Bool) → Always (AreKnownMembers program procs) (group_closure linear program procs known)
+  unfolding group_closure
   group-known linear =
-      always_bind (AreBases members) (AreKnownMembers program procs) (bases_of program procs known) (λ bases. closed_from linear program procs known bases) bases-are
-      (λ bases based. always_weaker (AreSummaries members) (AreKnownMembers program procs) (closed_from linear program procs known bases) (summaries-known program procs there) (go linear bases based))
+      always_bind (AreBases members) (AreKnownMembers program procs) (bases_of program procs known) (λ bases. closure_from linear program procs known bases) bases-are
+      (λ bases based. always_weaker (AreSummaries members) (AreKnownMembers program procs) (closure_from linear program procs known bases) (summaries-known program procs there) (go linear bases based))
     where
-      go : (b : Bool) (bases : List Transition) → AreBases members bases → Always (AreSummaries members) (closed_from b program procs known bases)
+      go : (b : Bool) (bases : List Transition) → AreBases members bases → Always (AreSummaries members) (closure_from b program procs known bases)
       go true bases based = closure-summaries [] (empty-fits program procs) bases based
       go false bases based = rounds-summaries bases based

@@ -21,18 +21,18 @@ use Rattle.transition_formula.specs.Transition.{Transition}
 use Rattle.proc_summary.specs.declared.stop.Flow.{Flow}
 use Rattle.context.specs.Entries.{entries_from}
 use Rattle.context.specs.Judging.{IsAnswered}
-use Rattle.context.specs.Verdicts.{case_verdict, else_by, failed_from, failing_of, is_limited, is_refuted, judged_from, limits_of, place_of, reached_from, verdict_at, verdict_by, verdict_from, verdict_left, verdict_of, with_verdict}
+use Rattle.context.specs.Verdicts.{case_verdict, else_by, failure_verdict_from, failing_of, is_limited, is_refuted, verdict_on_cases_from, limits_of, place_of, reach_from, verdict_at, verdict_by, verdict_from, verdict_left, verdict_of, with_verdict}
 use Rattle.context.proofs.Answered.{empty-known, no-known}
 use Rattle.report.specs.declared.blocks.Judged.{Judged}
 use Rattle.report.specs.declared.verdict.Verdict.{Verdict}
 use Rattle.report.specs.Claims.{IsRefuted, PointsMeetRows}
 use Rattle.analysis.specs.declared.found.Found.{Found}
 use Rattle.analysis.specs.declared.places.TextPlace.{TextPlace}
-use Rattle.analysis.specs.Analysis.{analysed, blocks_by, ended_by, report_by}
+use Rattle.analysis.specs.Analysis.{report_by_plan, blocks_by, report_by_findings, report_by}
 use Rattle.analysis.specs.Apart.{apart}
 use Rattle.analysis.specs.Claims.{AreRefuted}
-use Rattle.analysis.specs.Found.{flows_in, found_by}
-use Rattle.analysis.specs.Judging.{Asserted, asserted, judged_by, judged_of, place_in, with_judged}
+use Rattle.analysis.specs.Found.{flows_in, findings_by_plan}
+use Rattle.analysis.specs.Judging.{Asserted, numbered_assertion, judgements_on_all, judgement_of, place_in, with_judged}
 use Rattle.analysis.proofs.Asserting.{refuted-next}
 use Rattle.analysis_laws.specs.Laws.{ReportedPointsMeetRows}
 use Rattle.analysis_laws.proofs.GroupParts.{under-any, under-apart}
@@ -87,8 +87,8 @@ next-refuted case rest made h =
     under-bind IsPassing IsRefuted (AllByRecursion IsRefuted) (case_verdict case) (λ verdict. Done (made ++ verdict ∷ [])) (case-refuted case)
     (λ verdict own. each-append IsRefuted made (verdict ∷ []) h (own, tt))
 
-cases-refuted : (cases : List Case) → AlwaysPassing IsRefuted (judged_from cases)
-unfolding judged_from
+cases-refuted : (cases : List Case) → AlwaysPassing IsRefuted (verdict_on_cases_from cases)
+unfolding verdict_on_cases_from
 cases-refuted cases =
     under-bind IsPassing (AllByRecursion IsRefuted) IsRefuted (each with_verdict [] cases) (λ verdicts. Noted (limits_of verdicts) (Done (verdict_from verdicts)))
     (under-each IsPassing (λ rest made. AllByRecursion IsRefuted made) with_verdict [] cases next-refuted tt)
@@ -97,13 +97,13 @@ cases-refuted cases =
 -- ---- assertions
 
 verdict-refuted : (place : _) (cond : Term) (entry stand : Option Transition) → AlwaysPassing IsRefuted (verdict_of place cond entry stand)
-unfolding verdict_of failed_from
+unfolding verdict_of failure_verdict_from
 verdict-refuted place cond entry stand =
-    under-bind IsPassing (λ f. Unit {0}) IsRefuted (reached_from place _ _) (failed_from place cond) (under-any IsPassing (reached_from place _ _))
+    under-bind IsPassing (λ f. Unit {0}) IsRefuted (reach_from place _ _) (failure_verdict_from place cond) (under-any IsPassing (reach_from place _ _))
     (λ f any. cases-refuted (failing_of place cond f).cases)
 
-judged-refuted : (at : TextPlace) (a : Option Asserted) → AlwaysPassing (λ (j : Judged). IsRefuted j.verdict) (judged_of at a)
-unfolding judged_of
+judged-refuted : (at : TextPlace) (a : Option Asserted) → AlwaysPassing (λ (j : Judged). IsRefuted j.verdict) (judgement_of at a)
+unfolding judgement_of
 judged-refuted at None = tt
 judged-refuted at (Some a) =
     under-bind IsPassing (λ made. IsRefuted made.0) (λ (j : Judged). IsRefuted j.verdict) (apart (verdict_of (place_of a.program a.p) a.cond a.entry a.stand)) _
@@ -113,11 +113,11 @@ module _ (program : Program) (places : List TextPlace) where
   with-refuted : (entries : List (Option Transition)) (flows : List Flow) (n : ℕ) (rest : List ℕ) (made : List Judged) → AreRefuted made → AlwaysPassing AreRefuted (with_judged program places entries flows made n)
   unfolding with_judged
   with-refuted entries flows n rest made h =
-      under-bind IsPassing (λ (j : Judged). IsRefuted j.verdict) AreRefuted (judged_of (place_in places n) (asserted program entries flows n)) (λ judged. Done (made ++ judged ∷ []))
-      (judged-refuted (place_in places n) (asserted program entries flows n)) (λ judged own. refuted-next made judged h own)
+      under-bind IsPassing (λ (j : Judged). IsRefuted j.verdict) AreRefuted (judgement_of (place_in places n) (numbered_assertion program entries flows n)) (λ judged. Done (made ++ judged ∷ []))
+      (judged-refuted (place_in places n) (numbered_assertion program entries flows n)) (λ judged own. refuted-next made judged h own)
 
-  all-refuted : (entries : List (Option Transition)) (flows : List Flow) → AlwaysPassing AreRefuted (judged_by program places entries flows)
-  unfolding judged_by
+  all-refuted : (entries : List (Option Transition)) (flows : List Flow) → AlwaysPassing AreRefuted (judgements_on_all program places entries flows)
+  unfolding judgements_on_all
   all-refuted entries flows =
       under-each IsPassing (λ rest made. AreRefuted made) (with_judged program places entries flows) [] (range_with_len 1 (length program.checks)) (with-refuted entries flows)
       (λ n j e. absurd (cc e))
@@ -125,18 +125,18 @@ module _ (program : Program) (places : List TextPlace) where
   report-points : (found : Found) (entries : List (Option Transition)) (notes : List _) → AlwaysPassing PointsMeetRows (report_by program places found entries notes)
   unfolding report_by
   report-points found entries notes =
-      under-bind IsPassing AreRefuted PointsMeetRows (judged_by program places entries (flows_in found))
+      under-bind IsPassing AreRefuted PointsMeetRows (judgements_on_all program places entries (flows_in found))
       (λ judged. Done record { procs = blocks_by program program.procs found.known found.notes; notes = notes; judged = judged })
       (all-refuted entries (flows_in found)) (λ judged h. h)
 
-  ended-points : (found : Found) → AlwaysPassing PointsMeetRows (ended_by program places found)
-  unfolding ended_by
+  ended-points : (found : Found) → AlwaysPassing PointsMeetRows (report_by_findings program places found)
+  unfolding report_by_findings
   ended-points found =
       under-bind IsPassing (λ entries. Unit {0}) PointsMeetRows (apart (entries_from program (flows_in found))) (λ entries. report_by program places found entries.0 entries.1)
       (under-any IsPassing (apart (entries_from program (flows_in found)))) (λ entries any. report-points found entries.0 entries.1)
 
 pub points-meet : ReportedPointsMeetRows
-unfolding analysed
+unfolding report_by_plan
 points-meet program places plan =
-    under-bind IsPassing (λ found. Unit {0}) PointsMeetRows (found_by program plan) (λ found. ended_by program places found) (under-any IsPassing (found_by program plan))
+    under-bind IsPassing (λ found. Unit {0}) PointsMeetRows (findings_by_plan program plan) (λ found. report_by_findings program places found) (under-any IsPassing (findings_by_plan program plan))
     (λ found any. ended-points program places found)

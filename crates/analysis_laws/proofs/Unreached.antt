@@ -15,7 +15,7 @@ use Rattle.proc_summary.specs.declared.stop.Flow.{Flow}
 use Rattle.proc_summary.specs.Subject.{own_graph}
 use Rattle.proc_summary.proofs.Below.{some_at}
 use Rattle.context.specs.Claims.{AreEntries, AreFlows}
-use Rattle.analysis.specs.Judging.{Asserted, asserted, asserted_at, asserted_by, asserted_of, check_with, checks_from, checks_of}
+use Rattle.analysis.specs.Judging.{Asserted, numbered_assertion, assertion_at, assertion_by, assertion_of, check_with, checks_from, checks_of}
 use Rattle.analysis_laws.specs.Laws.{StandsInGraph, UnreachedNeverFail, UnreachedStandNowhere}
 use Rattle.analysis.proofs.Asserting.{asserted-is, check-within}
 use Rattle.analysis.proofs.ChecksStand.{check-is, check-none}
@@ -25,7 +25,7 @@ abbrev Domain : {A B : Type 0} → (A → B) → Type 0
 Domain {A} {B} f = A
 
 abbrev CheckAt : Program → Type 0
-CheckAt program = Domain (asserted_by program [] [])
+CheckAt program = Domain (assertion_by program [] [])
 
 -- ---- what is found of a list
 
@@ -78,7 +78,7 @@ module _ (program : Program) (number : ℕ) where
       false≢true (sym other ∙ (Decides-eqb stands.at.number number).1 stands.number_is)
 
   module _ (entries : List (Option Transition)) (flows : List Flow) (are_entries : AreEntries program entries) (are_flows : AreFlows program flows) where
-    found-asserted : (c : CheckAt program) → check_with number (checks_of 0 program.procs) ≡ Some c → (a : Asserted) × (asserted_by program entries flows c ≡ Some a)
+    found-asserted : (c : CheckAt program) → check_with number (checks_of 0 program.procs) ≡ Some c → (a : Asserted) × (assertion_by program entries flows c ≡ Some a)
     found-asserted c e =
         let check = (check-is program number c e).0 in
         let below = slice_get_within program.procs c.proc check.p check.is in
@@ -88,12 +88,12 @@ module _ (program : Program) (number : ℕ) where
         let flow = some_at flows c.proc (omega (arith, below, flows_long)) in
         let fit = are_flows.fit c.proc check.p flow.0 check.is flow.1 in
         let stop = some_at flow.0.checks c.check (check-within program c check flow.0 fit) in
-        (asserted_at program check.p check.at entry.0 stop.0, asserted-is program c check entries flows entry.0 flow.0 stop.0 entry.1 flow.1 stop.1)
+        (assertion_at program check.p check.at entry.0 stop.0, asserted-is program c check entries flows entry.0 flow.0 stop.0 entry.1 flow.1 stop.1)
 
-    stand : (asserted program entries flows number ≡ None) ↔ (StandsInGraph program number → ⊥)
+    stand : (numbered_assertion program entries flows number ≡ None) ↔ (StandsInGraph program number → ⊥)
     stand = go (check_with number (checks_of 0 program.procs)) refl
       where
-        go : (o : Option (CheckAt program)) → check_with number (checks_of 0 program.procs) ≡ o → (asserted_of program entries flows o ≡ None) ↔ (StandsInGraph program number → ⊥)
+        go : (o : Option (CheckAt program)) → check_with number (checks_of 0 program.procs) ≡ o → (assertion_of program entries flows o ≡ None) ↔ (StandsInGraph program number → ⊥)
         go None e = (λ none. none-stands e, λ nowhere. refl)
         go (Some c) e = (
           λ none stands. let a = found-asserted c e in absurd (cc (sym none ∙ a.1)),

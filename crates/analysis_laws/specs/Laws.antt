@@ -20,10 +20,10 @@ use Rattle.analysis.specs.declared.found.Found.{Found}
 use Rattle.analysis.specs.declared.parts.Part.{Part}
 use Rattle.analysis.specs.declared.places.TextPlace.{TextPlace}
 use Rattle.analysis.specs.declared.planning.Planned.{Planned}
-use Rattle.analysis.specs.Analysis.{analysed}
+use Rattle.analysis.specs.Analysis.{report_by_plan}
 use Rattle.analysis.specs.Claims.{AreTheirPlaces, FitsFound, FitsGroup, FoundIsMet, GroupIsMet, HasAll, IsReadyGroup}
-use Rattle.analysis.specs.Found.{found_by}
-use Rattle.analysis.specs.Judging.{asserted}
+use Rattle.analysis.specs.Found.{findings_by_plan}
+use Rattle.analysis.specs.Judging.{numbered_assertion}
 use Rattle.analysis.specs.Parts.{part_of}
 use Rattle.analysis.specs.Plan.{IsPlan}
 
@@ -43,7 +43,7 @@ abbrev pub UnreachedStandNowhere : Type 0
 UnreachedStandNowhere =
     (program : Program) (entries : List (Option Transition)) (flows : List Flow)
     → AreEntries program entries → AreFlows program flows → (number : ℕ)
-    → (asserted program entries flows number ≡ None) ↔ (¬ StandsInGraph program number)
+    → (numbered_assertion program entries flows number ≡ None) ↔ (¬ StandsInGraph program number)
 
 -- .. and such a one fails in no execution.
 abbrev pub UnreachedNeverFail : Type 0
@@ -76,7 +76,7 @@ pub record IsWhole (program : Program) (found : Found) : Type 0 where
 -- the answers are, as long as they are true and pass.
 abbrev pub FoundIsWhole : Type 0
 FoundIsWhole = (program : Program) (plan : List Planned) → IsWellFormed program
-    → IsPlan program plan → AlwaysPassing (IsWhole program) (found_by program plan)
+    → IsPlan program plan → AlwaysPassing (IsWhole program) (findings_by_plan program plan)
 
 -- Every end of the stated analysis of a well-formed program, by its plan and with the places of its
 -- assertions, is a report that covers the program. So the arms of the definitions for a procedure
@@ -85,7 +85,7 @@ FoundIsWhole = (program : Program) (plan : List Planned) → IsWellFormed progra
 abbrev pub ReportsCover : Type 0
 ReportsCover = (program : Program) (places : List TextPlace) (plan : List Planned)
     → IsWellFormed program → IsPlan program plan → AreTheirPlaces program places
-    → AlwaysPassing (ReportCovers program) (analysed program places plan)
+    → AlwaysPassing (ReportCovers program) (report_by_plan program places plan)
 
 -- the summary of each block holds of every execution of its procedure that returns
 abbrev pub SummariesHold : Program → Report → Type 0
@@ -97,9 +97,9 @@ SummariesHold program report =
 abbrev pub ReportedSummariesHold : Type 0
 ReportedSummariesHold = (program : Program) (places : List TextPlace) (plan : List Planned)
     → IsWellFormed program → IsPlan program plan
-    → AlwaysPassing (SummariesHold program) (analysed program places plan)
+    → AlwaysPassing (SummariesHold program) (report_by_plan program places plan)
 
 -- Each point that any end of the stated analysis tells makes the rows of its case true.
 abbrev pub ReportedPointsMeetRows : Type 0
 ReportedPointsMeetRows = (program : Program) (places : List TextPlace) (plan : List Planned)
-    → AlwaysPassing PointsMeetRows (analysed program places plan)
+    → AlwaysPassing PointsMeetRows (report_by_plan program places plan)

@@ -2,10 +2,10 @@
 use Rattle.std.proofs.Common.{◌≡◌, ℕ, List, length, take, drop, Bool, false, not, None, Some, refl, sym, ap, ◌∙◌, pos}
 use Rattle.std.specs.Prelude.{◌||◌}
 use Rattle.std.proofs.lemmas.List.{take-append-drop, length-take-le}
-use Rattle.c_lexer.specs.declared.kind.Kind.{Kind}
-use Rattle.c_lexer.specs.declared.kind.Kind.TheVariants as kind
+use Rattle.c_lexer.specs.declared.kind.TokenKind.{TokenKind}
+use Rattle.c_lexer.specs.declared.kind.TokenKind.TheVariants as kind
 use Rattle.c_lexer.specs.declared.mark.Mark.{Mark}
-use Rattle.c_lexer.specs.declared.piece.Found.TheVariants.{Space, Word, Number, Sign}
+use Rattle.c_lexer.specs.declared.piece.FoundPiece.TheVariants.{Space, Word, Number, Sign}
 use Rattle.c_lexer.specs.Spellings.{mark_bytes}
 use Rattle.c_lexer.specs.Kinds.{Spells}
 use Rattle.c_lexer.specs.Pieces.{Piece, Blank, BlockComment, LineComment, SkippedLine, Lexeme, IsSpace, Stands, begins_comment}
@@ -28,14 +28,14 @@ front_space fresh line bytes len tells = record {
   told = space_has_no_kind tells.0 tells.2;
 }
 
-lexeme_stands : (fresh : Bool) (bytes : List ℕ) (len : ℕ) (kind : Kind) → IsLexeme bytes len → Spells kind (take len bytes) → Stands fresh bytes (Lexeme kind (take len bytes))
+lexeme_stands : (fresh : Bool) (bytes : List ℕ) (len : ℕ) (kind : TokenKind) → IsLexeme bytes len → Spells kind (take len bytes) → Stands fresh bytes (Lexeme kind (take len bytes))
 lexeme_stands fresh bytes len kind lexeme spells = record {
   rest = drop len bytes;
   whole = sym (take-append-drop len bytes);
   fits = (spells, lexeme.longest, ap (λ text. not (begins_comment text)) (take-append-drop len bytes) ∙ lexeme.open_text);
 }
 
-front_lexeme : (fresh : Bool) (bytes : List ℕ) (len : ℕ) (kind : Kind) → IsLexeme bytes len → Spells kind (take len bytes) → IsFront fresh bytes (record { len = len; fresh = false; kind = Some kind })
+front_lexeme : (fresh : Bool) (bytes : List ℕ) (len : ℕ) (kind : TokenKind) → IsLexeme bytes len → Spells kind (take len bytes) → IsFront fresh bytes (record { len = len; fresh = false; kind = Some kind })
 front_lexeme fresh bytes len kind lexeme spells = record {
   piece = Lexeme kind (take len bytes);
   stands = lexeme_stands fresh bytes len kind lexeme spells;
@@ -44,7 +44,7 @@ front_lexeme fresh bytes len kind lexeme spells = record {
   told = refl;
 }
 
-pub front_word : (fresh : Bool) (bytes : List ℕ) (len : ℕ) (kind : Kind) → Tells fresh bytes (Word len) → Spells kind (take len bytes) → IsFront fresh bytes (record { len = len; fresh = false; kind = Some kind })
+pub front_word : (fresh : Bool) (bytes : List ℕ) (len : ℕ) (kind : TokenKind) → Tells fresh bytes (Word len) → Spells kind (take len bytes) → IsFront fresh bytes (record { len = len; fresh = false; kind = Some kind })
 front_word fresh bytes len kind tells spells = front_lexeme fresh bytes len kind tells.0 spells
 
 pub front_number : (fresh : Bool) (bytes : List ℕ) (len value : ℕ) → Tells fresh bytes (Number len value) → IsFront fresh bytes (record { len = len; fresh = false; kind = Some (kind.Number (pos value)) })

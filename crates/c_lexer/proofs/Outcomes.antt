@@ -5,8 +5,8 @@ use Rattle.std.specs.List.{starts_with}
 use Rattle.std.proofs.Math.Seq.{drop-append_seam}
 use Rattle.std.proofs.lemmas.Bool.{false≢true}
 use Rattle.c_lexer.specs.Limits.{most_tokens}
-use Rattle.c_lexer.specs.declared.kind.Kind.{Kind}
-use Rattle.c_lexer.specs.declared.kind.Kind.TheVariants as kind
+use Rattle.c_lexer.specs.declared.kind.TokenKind.{TokenKind}
+use Rattle.c_lexer.specs.declared.kind.TokenKind.TheVariants as kind
 use Rattle.c_lexer.specs.declared.token.Token.{Token}
 use Rattle.c_lexer.specs.declared.error.LexError.{LexError}
 use Rattle.c_lexer.specs.declared.error.LexError.TheVariants as error
@@ -62,7 +62,7 @@ compare_cuts fresh (p ∷ ps) (q ∷ qs) x y f g e same first second =
     (λ r more stands k. second r more (subst (λ piece. Stands (fresh_behind (fresh_after fresh piece) qs) y r) one.piece stands) (ap (λ r. r ∷ ps) one.piece ∙ ap (λ rs. q ∷ rs) k))
 
 -- a lexeme more is a token more
-count_more : (at place : ℕ) (ps : List Piece) (kind : Kind) (w : List ℕ) (more : List Piece) → length (lexemes_from at ps) < length (lexemes_from place (ps ++ Lexeme kind w ∷ more))
+count_more : (at place : ℕ) (ps : List Piece) (kind : TokenKind) (w : List ℕ) (more : List Piece) → length (lexemes_from at ps) < length (lexemes_from place (ps ++ Lexeme kind w ∷ more))
 count_more at place [] kind w more = omega arith
 count_more at place (Blank byte ∷ ps) kind w more = count_more (at + length (piece_bytes (Blank byte))) (place + length (piece_bytes (Blank byte))) ps kind w more
 count_more at place (BlockComment body ∷ ps) kind w more = count_more (at + length (piece_bytes (BlockComment body))) (place + length (piece_bytes (BlockComment body))) ps kind w more
@@ -95,7 +95,7 @@ no_close fresh bytes q h never s = at q s
     at (Lexeme kind w) s = other_sort 1 4 refl (sort (Lexeme kind w) s)
 
 -- a number that is none of the language spells nothing
-no_number_spells : (kind : Kind) (w : List ℕ) → Spells kind w → is_number_shape w ≡ true → small_number w ≡ None → ⊥
+no_number_spells : (kind : TokenKind) (w : List ℕ) → Spells kind w → is_number_shape w ≡ true → small_number w ≡ None → ⊥
 no_number_spells (kind.Word n) w h shape none = no_number_word w h.1 shape
 no_number_spells (kind.Keyword k) w h shape none = no_number_word w (ap is_word_shape h ∙ keyword_shape k) shape
 no_number_spells (kind.Number z) w h shape none = let e : Some h.0 ≡ None = sym h.2 ∙ none in cc
@@ -126,7 +126,7 @@ no_literal fresh bytes len q lexeme shape none s = at q s
 
 -- where a piece stands, a cut may stop for the number of its tokens alone
 stop_stands : (ps : List Piece) (rest : List ℕ) (e : LexError) (q : Piece) → StopsAt ps rest e → Stands (fresh_behind true ps) rest q
-    → length (lexemes_from 0 ps) ≡ most_tokens × (k : Kind) × (w : List ℕ) × (q ≡ Lexeme k w)
+    → length (lexemes_from 0 ps) ≡ most_tokens × (k : TokenKind) × (w : List ℕ) × (q ≡ Lexeme k w)
 stop_stands ps rest (error.Byte at) q stops s = absurd (no_begin (fresh_behind true ps) rest q stops.2 s)
 stop_stands ps rest (error.Comment at) q stops s = absurd (no_close (fresh_behind true ps) rest q stops.1.0 stops.1.1 s)
 stop_stands ps rest (error.Literal at) q stops s = absurd (no_literal (fresh_behind true ps) rest stops.1.0 q stops.1.1 stops.1.2 stops.1.3 s)

@@ -3,8 +3,8 @@ use Rattle.std.proofs.Common.{◌≡◌, ◌≢◌, ℕ, zero, suc, ◌+◌, ◌
 use Rattle.std.proofs.Math.ListN.{drop_of_length-le}
 use Rattle.std.proofs.Math.Seq.{drop-append_seam}
 use Rattle.c_lexer.specs.Limits.{most_tokens}
-use Rattle.c_lexer.specs.declared.kind.Kind.{Kind}
-use Rattle.c_lexer.specs.declared.kind.Kind.TheVariants as kind
+use Rattle.c_lexer.specs.declared.kind.TokenKind.{TokenKind}
+use Rattle.c_lexer.specs.declared.kind.TokenKind.TheVariants as kind
 use Rattle.c_lexer.specs.declared.token.Token.{Token}
 use Rattle.c_lexer.specs.declared.scan.Cut.{Cut}
 use Rattle.c_lexer.specs.Pieces.{Piece, Blank, BlockComment, LineComment, SkippedLine, Lexeme, Stands, PieceFits, piece_bytes, fresh_after, text_of, Fit}
@@ -102,7 +102,7 @@ tokens_of-space at (LineComment body) e = refl
 tokens_of-space at (SkippedLine blanks body) e = refl
 tokens_of-space at (Lexeme kind spelling) e = cc
 
-tokens_of-lexeme : (at len : ℕ) (kind : Kind) (piece : Piece) → Some kind ≡ kind_in piece → length (piece_bytes piece) ≡ len → tokens_of at piece ≡ record { kind = kind; at = at; len = len } ∷ []
+tokens_of-lexeme : (at len : ℕ) (kind : TokenKind) (piece : Piece) → Some kind ≡ kind_in piece → length (piece_bytes piece) ≡ len → tokens_of at piece ≡ record { kind = kind; at = at; len = len } ∷ []
 tokens_of-lexeme at len kind (Blank byte) e k = cc
 tokens_of-lexeme at len kind (BlockComment body) e k = cc
 tokens_of-lexeme at len kind (LineComment body) e k = cc
@@ -132,7 +132,7 @@ Kept-space text at fresh tokens cut h scanned found none =
           (IsScanned-more text at fresh tokens cut scanned front (subst (λ (ts : List Token). length ts ≤ most_tokens) (sym same) scanned.few));
     }
 
-pub Kept-lexeme : (text : List ℕ) (at : ℕ) (fresh : Bool) (tokens : List Token) (cut : Cut) (kind : Kind) → at ≤ length text → IsScanned text at fresh tokens → IsFront fresh (slice_from text at) cut
+pub Kept-lexeme : (text : List ℕ) (at : ℕ) (fresh : Bool) (tokens : List Token) (cut : Cut) (kind : TokenKind) → at ≤ length text → IsScanned text at fresh tokens → IsFront fresh (slice_from text at) cut
     → cut.kind ≡ Some kind → length tokens ≢ most_tokens → Kept text (at + cut.len) cut.fresh (tokens ++ record { kind = kind; at = at; len = cut.len } ∷ [])
 Kept-lexeme text at fresh tokens cut kind h scanned found some room =
     let front : IsFront fresh (drop at text) cut = subst (λ (bytes : List ℕ). IsFront fresh bytes cut) (take_drop_all text at) found in
@@ -150,8 +150,8 @@ Kept-lexeme text at fresh tokens cut kind h scanned found some room =
 
 -- ---- where a token is made
 
-lexeme_in : (fresh : Bool) (bytes : List ℕ) (kind : Kind) (piece : Piece) → Some kind ≡ kind_in piece → Stands fresh bytes piece
-    → (kind : Kind) × (spelling : List ℕ) × Stands fresh bytes (Lexeme kind spelling)
+lexeme_in : (fresh : Bool) (bytes : List ℕ) (kind : TokenKind) (piece : Piece) → Some kind ≡ kind_in piece → Stands fresh bytes piece
+    → (kind : TokenKind) × (spelling : List ℕ) × Stands fresh bytes (Lexeme kind spelling)
 lexeme_in fresh bytes kind (Blank byte) e stands = cc
 lexeme_in fresh bytes kind (BlockComment body) e stands = cc
 lexeme_in fresh bytes kind (LineComment body) e stands = cc
@@ -179,7 +179,7 @@ TakesMemory-name text at place fresh tokens scanned why = (
   inr (kind.Word why.0, why.0, stands_there text at fresh tokens scanned (Lexeme (kind.Word why.0) why.0) why.1),
 )
 
-pub TakesMemory-lexeme : (text : List ℕ) (at : ℕ) (fresh : Bool) (tokens : List Token) (cut : Cut) (kind : Kind) → IsScanned text at fresh tokens
+pub TakesMemory-lexeme : (text : List ℕ) (at : ℕ) (fresh : Bool) (tokens : List Token) (cut : Cut) (kind : TokenKind) → IsScanned text at fresh tokens
     → IsFront fresh (slice_from text at) cut → cut.kind ≡ Some kind → TakesMemory text
 TakesMemory-lexeme text at fresh tokens cut kind scanned front some = (
   scanned.pieces,
@@ -193,7 +193,7 @@ TakesMemory-end text at fresh tokens scanned past =
     (scanned.pieces, drop at text, scanned_reaches text at fresh tokens scanned, inl (drop_of_length-le text past))
 
 -- one lexeme too many
-pub Stops-full : (text : List ℕ) (at : ℕ) (fresh : Bool) (tokens : List Token) (cut : Cut) (kind : Kind) → IsScanned text at fresh tokens → IsFront fresh (slice_from text at) cut
+pub Stops-full : (text : List ℕ) (at : ℕ) (fresh : Bool) (tokens : List Token) (cut : Cut) (kind : TokenKind) → IsScanned text at fresh tokens → IsFront fresh (slice_from text at) cut
     → cut.kind ≡ Some kind → length tokens ≡ most_tokens → Stops text (error.TooManyTokens at)
 Stops-full text at fresh tokens cut kind scanned front some full =
     let found = lexeme_in _ _ kind front.piece (sym some ∙ front.told) (stands_there text at fresh tokens scanned front.piece front.stands) in

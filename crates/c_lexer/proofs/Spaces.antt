@@ -8,8 +8,8 @@ use Rattle.std.proofs.lemmas.List.Folds.{length-prefix_len}
 use Rattle.c_lexer.specs.Bytes.{is_blank, is_newline, begins_with}
 use Rattle.c_lexer.specs.Pieces.{Blank, BlockComment, LineComment, SkippedLine, EndsComment, NeverEnds, EndsLine, no_newline, Stands}
 use Rattle.c_lexer.specs.Found.{Tells}
-use Rattle.c_lexer.specs.declared.piece.Found.{Found}
-use Rattle.c_lexer.specs.declared.piece.Found.TheVariants.{Space}
+use Rattle.c_lexer.specs.declared.piece.FoundPiece.{FoundPiece}
+use Rattle.c_lexer.specs.declared.piece.FoundPiece.TheVariants.{Space}
 use Rattle.std.proofs.Math.Seq.{drop-append_seam}
 use Rattle.c_lexer.proofs.Found.{and_parts}
 use Rattle.c_lexer.proofs.Lexemes.{true_starts_with}
@@ -168,7 +168,7 @@ no_line_without_word fresh bytes after_mark blanks body e none stands =
     run = ap (prefix_len (λ b. is_blank b && not (is_newline b))) split ∙ prefix_len-all (λ b. is_blank b && not (is_newline b)) blanks 105 _ stands.fits.1 refl
 
 -- whether a skipped line begins at a `#`
-pub skipped_line_is : (fresh : Bool) (bytes after_mark : List ℕ) (found : Option Found) → fresh ≡ true → bytes ≡ 35 ∷ after_mark
+pub skipped_line_is : (fresh : Bool) (bytes after_mark : List ℕ) (found : Option FoundPiece) → fresh ≡ true → bytes ≡ 35 ∷ after_mark
     → MatchOption found ((after : List ℕ) → drop (prefix_len (λ b. is_blank b && not (is_newline b)) after_mark) after_mark ≢ codes "include" ++ after) (λ f. Tells true (35 ∷ after_mark) f)
     → MatchOption found ((blanks body : List ℕ) → ¬ Stands fresh bytes (SkippedLine blanks body)) (Tells fresh bytes)
 skipped_line_is fresh bytes after_mark None f e none = λ blanks body. no_line_without_word fresh bytes after_mark blanks body e none

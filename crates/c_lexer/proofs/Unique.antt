@@ -8,8 +8,8 @@ use Rattle.std.specs.Option.{option_map}
 use Rattle.std.proofs.Math.Seq.{drop-append_seam}
 use Rattle.std.proofs.lemmas.Bool.{false≢true, eqb-true}
 use Rattle.std.proofs.lemmas.Bool.Decides.{nat_tests}
-use Rattle.c_lexer.specs.declared.kind.Kind.{Kind}
-use Rattle.c_lexer.specs.declared.kind.Kind.TheVariants as kind
+use Rattle.c_lexer.specs.declared.kind.TokenKind.{TokenKind}
+use Rattle.c_lexer.specs.declared.kind.TokenKind.TheVariants as kind
 use Rattle.c_lexer.specs.declared.mark.Mark.{Mark}
 use Rattle.c_lexer.specs.Bytes.{is_blank, is_newline, is_word_start, is_number_byte, begins_with}
 use Rattle.c_lexer.specs.Spellings.{mark_bytes}
@@ -93,7 +93,7 @@ number_cases w n false h (Some digits) k e = hexadecimal_is_shaped w digits k
 number_is_shaped : (w : List ℕ) (n : ℕ) → small_number w ≡ Some n → is_number_shape w ≡ true
 number_is_shaped w n e = number_cases w n (is_decimal w) refl (hexadecimal_digits w) refl e
 
-pub Spells-shape : (kind : Kind) (w : List ℕ) → Spells kind w → HasShape w
+pub Spells-shape : (kind : TokenKind) (w : List ℕ) → Spells kind w → HasShape w
 Spells-shape (kind.Word name) w h = inl h.1
 Spells-shape (kind.Keyword k) w h = inl (ap is_word_shape h ∙ keyword_shape k)
 Spells-shape (kind.Number z) w h = inr (inl (number_is_shaped w h.0 h.2))
@@ -113,7 +113,7 @@ no_mark_number [] m h e = false≢true h
 no_mark_number (b ∷ w) m h e = false≢true (sym (mark_bytes-no_digit m b w e) ∙ (and_parts _ _ h).0)
 
 -- bytes spell one kind of token at most
-pub Spells-unique : (a b : Kind) (w : List ℕ) → Spells a w → Spells b w → a ≡ b
+pub Spells-unique : (a b : TokenKind) (w : List ℕ) → Spells a w → Spells b w → a ≡ b
 Spells-unique (kind.Word m) (kind.Word n) w h k = ap kind.Word (h.0 ∙ sym k.0)
 Spells-unique (kind.Word m) (kind.Keyword n) w h k = absurd (h.2 n (sym k))
 Spells-unique (kind.Word m) (kind.Number n) w h k = absurd (no_number_word w h.1 (number_is_shaped w k.0 k.2))
@@ -149,7 +149,7 @@ pub record IsOne (p q : Piece) (x y : List ℕ) : Type 0 where
   pub piece : p ≡ q
   pub rest : x ≡ y
 
-lexemes_same : (k l : Kind) (a b x y : List ℕ) → Spells k a → Spells l b → IsLongest a x → IsLongest b y → a ++ x ≡ b ++ y → IsOne (Lexeme k a) (Lexeme l b) x y
+lexemes_same : (k l : TokenKind) (a b x y : List ℕ) → Spells k a → Spells l b → IsLongest a x → IsLongest b y → a ++ x ≡ b ++ y → IsOne (Lexeme k a) (Lexeme l b) x y
 lexemes_same k l a b x y h g longest_a longest_b e =
     fronts a b x y e
     (λ more some p q. absurd (longest_a more y q some (subst HasShape p (Spells-shape l b g))))

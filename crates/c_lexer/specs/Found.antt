@@ -1,10 +1,10 @@
 -- What the scanner finds at a place.
 use Rattle.std.specs.Prelude.{◌≡◌, ℕ, ◌<◌, ◌≤◌, nat_eq, List, ◌++◌, length, take, drop, Bool, ◌||◌, not, IsTrue, None, Some, codes}
 use Rattle.std.specs.List.{starts_with}
-use Rattle.c_lexer.specs.declared.piece.Found.{Found}
-use Rattle.c_lexer.specs.declared.piece.Found.TheVariants.{Space, Word, Number, Sign}
-use Rattle.c_lexer.specs.declared.piece.Stop.{Stop}
-use Rattle.c_lexer.specs.declared.piece.Stop.TheVariants.{Byte, Comment, Literal}
+use Rattle.c_lexer.specs.declared.piece.FoundPiece.{FoundPiece}
+use Rattle.c_lexer.specs.declared.piece.FoundPiece.TheVariants.{Space, Word, Number, Sign}
+use Rattle.c_lexer.specs.declared.piece.PieceStop.{PieceStop}
+use Rattle.c_lexer.specs.declared.piece.PieceStop.TheVariants.{Byte, Comment, Literal}
 use Rattle.c_lexer.specs.Bytes.{is_blank, begins_with}
 use Rattle.c_lexer.specs.Spellings.{mark_bytes}
 use Rattle.c_lexer.specs.Kinds.{HasShape, is_word_shape, is_number_shape, small_number}
@@ -19,7 +19,7 @@ pub record IsLexeme (bytes : List ℕ) (len : ℕ) : Type 0 where
   pub open_text : IsTrue (not (begins_comment bytes))
 
 -- what is found stands at the front of the bytes
-abbrev pub Tells : Bool → List ℕ → Found → Type 0
+abbrev pub Tells : Bool → List ℕ → FoundPiece → Type 0
 Tells fresh bytes (Space len line) =
     (piece : Piece) × Stands fresh bytes piece × IsSpace piece × (length (piece_bytes piece) ≡ len)
     × (fresh_after fresh piece ≡ fresh || line)
@@ -37,7 +37,7 @@ pub record BeginsNothing (fresh : Bool) (bytes : List ℕ) : Type 0 where
   pub no_line : (blanks body : List ℕ) → ¬ Stands fresh bytes (SkippedLine blanks body)
 
 -- why nothing is found
-abbrev pub Tells_why : Bool → List ℕ → Stop → Type 0
+abbrev pub Tells_why : Bool → List ℕ → PieceStop → Type 0
 Tells_why fresh bytes Byte = BeginsNothing fresh bytes
 Tells_why fresh bytes Comment = IsTrue (starts_with nat_eq bytes (codes "/*"))
     × NeverEnds (drop 2 bytes)

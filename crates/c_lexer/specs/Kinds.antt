@@ -3,8 +3,8 @@ use Rattle.std.specs.Prelude.{◌≡◌, ◌≢◌, ℕ, pos, ◌+◌, ◌-◌, 
 use Rattle.std.specs.List.{list_all}
 use Rattle.std.specs.Option.{option_map}
 use Rattle.std.specs.Char.{is_ascii_digit, is_ascii_hexdigit}
-use Rattle.c_lexer.specs.declared.kind.Kind.{Kind}
-use Rattle.c_lexer.specs.declared.kind.Kind.TheVariants as kind
+use Rattle.c_lexer.specs.declared.kind.TokenKind.{TokenKind}
+use Rattle.c_lexer.specs.declared.kind.TokenKind.TheVariants as kind
 use Rattle.c_lexer.specs.declared.keyword.Keyword.{Keyword}
 use Rattle.c_lexer.specs.declared.mark.Mark.{Mark}
 use Rattle.c_lexer.specs.Bytes.{is_word_start, is_word_byte, is_number_byte}
@@ -70,7 +70,7 @@ small_number w = if_small (number_of w)
 
 -- The bytes spell a token of this kind. A word is no keyword, a number is at most 2 ^ 63 - 1, and
 -- nothing spells the end.
-abbrev pub Spells : Kind → List ℕ → Type 0
+abbrev pub Spells : TokenKind → List ℕ → Type 0
 Spells (kind.Word name) w = (name ≡ w) × IsTrue (is_word_shape w)
     × ((k : Keyword) → keyword_bytes k ≢ w)
 Spells (kind.Keyword k) w = w ≡ keyword_bytes k

@@ -1,7 +1,7 @@
 -- A text is cut into pieces: tokens, and what stands between them (C11 5.1.1.2, 6.4.9, 6.10.2).
 use Rattle.std.specs.Prelude.{◌≡◌, ◌≢◌, ℕ, nat_eq, List, [], ◌∷◌, ◌++◌, take, drop, Bool, false, ◌&&◌, ◌||◌, not, IsTrue, codes}
 use Rattle.std.specs.List.{list_all, list_any, flat_map, starts_with}
-use Rattle.c_lexer.specs.declared.kind.Kind.{Kind}
+use Rattle.c_lexer.specs.declared.kind.TokenKind.{TokenKind}
 use Rattle.c_lexer.specs.Bytes.{is_blank, is_newline, begins_with}
 use Rattle.c_lexer.specs.Kinds.{HasShape, Spells}
 
@@ -10,7 +10,7 @@ pub data Piece : Type 0 where
   BlockComment : (body : List ℕ) → Piece
   LineComment : (body : List ℕ) → Piece
   SkippedLine : (blanks body : List ℕ) → Piece
-  Lexeme : (kind : Kind) (spelling : List ℕ) → Piece
+  Lexeme : (kind : TokenKind) (spelling : List ℕ) → Piece
 
 abbrev pub piece_bytes : Piece → List ℕ
 piece_bytes (Blank byte) = byte ∷ []

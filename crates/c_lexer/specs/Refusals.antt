@@ -2,10 +2,10 @@
 use Rattle.std.specs.Prelude.{◌≡◌, ℕ, ◌<◌, ◌≤◌, List, [], ◌∷◌, ◌++◌, ◌⊎◌, length, Bool, true}
 use Rattle.std.specs.Str.{IsValidUpTo}
 use Rattle.c_lexer.specs.Limits.{most_tokens}
-use Rattle.c_lexer.specs.declared.kind.Kind.{Kind}
+use Rattle.c_lexer.specs.declared.kind.TokenKind.{TokenKind}
 use Rattle.c_lexer.specs.declared.error.LexError.{LexError}
 use Rattle.c_lexer.specs.declared.error.LexError.TheVariants as error
-use Rattle.c_lexer.specs.declared.piece.Stop.TheVariants as stop
+use Rattle.c_lexer.specs.declared.piece.PieceStop.TheVariants as stop
 use Rattle.c_lexer.specs.Pieces.{Piece, Lexeme, text_of, Fit, fresh_after, Stands}
 use Rattle.c_lexer.specs.Tokens.{lexemes_from}
 use Rattle.c_lexer.specs.Found.{Tells_why}
@@ -24,7 +24,7 @@ pub record Reaches (text : List ℕ) (pieces : List Piece) (rest : List ℕ) : T
 -- one lexeme too many stands at the front
 abbrev pub IsOneTooMany : List Piece → List ℕ → Type 0
 IsOneTooMany pieces rest =
-    (length (lexemes_from 0 pieces) ≡ most_tokens) × (kind : Kind) × (spelling : List ℕ)
+    (length (lexemes_from 0 pieces) ≡ most_tokens) × (kind : TokenKind) × (spelling : List ℕ)
     × Stands (fresh_behind true pieces) rest (Lexeme kind spelling)
 
 -- the cut stops at the place behind these pieces, with this error
@@ -47,7 +47,7 @@ Stops text e = (pieces : List Piece) × (rest : List ℕ) × Reaches text pieces
 -- a token is made at the front of these bytes: of a lexeme, or of the end of the text
 abbrev pub MakesToken : Bool → List ℕ → Type 0
 MakesToken fresh rest = (rest ≡ [])
-    ⊎ ((kind : Kind) × (spelling : List ℕ) × Stands fresh rest (Lexeme kind spelling))
+    ⊎ ((kind : TokenKind) × (spelling : List ℕ) × Stands fresh rest (Lexeme kind spelling))
 
 -- Memory is taken for the text: a place is reached where a token is made.
 abbrev pub TakesMemory : List ℕ → Type 0

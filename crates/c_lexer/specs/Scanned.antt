@@ -1,13 +1,13 @@
 -- How far a text is cut, as the scanner goes on.
 use Rattle.std.specs.Prelude.{◌≡◌, ℕ, ◌≤◌, List, ◌++◌, drop, length, Bool, true, Option, None, Some}
 use Rattle.c_lexer.specs.Limits.{most_tokens}
-use Rattle.c_lexer.specs.declared.kind.Kind.{Kind}
-use Rattle.c_lexer.specs.declared.kind.Kind.TheVariants as kind
+use Rattle.c_lexer.specs.declared.kind.TokenKind.{TokenKind}
+use Rattle.c_lexer.specs.declared.kind.TokenKind.TheVariants as kind
 use Rattle.c_lexer.specs.declared.token.Token.{Token}
 use Rattle.c_lexer.specs.declared.error.LexError.{LexError}
 use Rattle.c_lexer.specs.declared.error.LexError.TheVariants as error
-use Rattle.c_lexer.specs.declared.piece.Stop.{Stop}
-use Rattle.c_lexer.specs.declared.piece.Stop.TheVariants as stop
+use Rattle.c_lexer.specs.declared.piece.PieceStop.{PieceStop}
+use Rattle.c_lexer.specs.declared.piece.PieceStop.TheVariants as stop
 use Rattle.c_lexer.specs.declared.scan.Cut.{Cut}
 use Rattle.c_lexer.specs.Pieces.{Piece, Lexeme, Stands, piece_bytes, fresh_after, text_of, Fit}
 use Rattle.c_lexer.specs.Tokens.{lexemes_from}
@@ -15,7 +15,7 @@ use Rattle.c_lexer.specs.Refusals.{fresh_behind}
 use Rattle.c_lexer.specs.Found.{Tells_why}
 
 -- the token that a piece is
-abbrev pub kind_in : Piece → Option Kind
+abbrev pub kind_in : Piece → Option TokenKind
 kind_in (Lexeme kind spelling) = Some kind
 kind_in _ = None
 
@@ -28,7 +28,7 @@ pub record IsFront (fresh : Bool) (bytes : List ℕ) (cut : Cut) : Type 0 where
   pub told : cut.kind ≡ kind_in piece
 
 -- the refusal for which a cut stops at a place
-abbrev pub refusal_at : Stop → ℕ → LexError
+abbrev pub refusal_at : PieceStop → ℕ → LexError
 refusal_at stop.Byte at = error.Byte at
 refusal_at stop.Comment at = error.Comment at
 refusal_at stop.Literal at = error.Literal at

@@ -3,7 +3,7 @@ use syntax_tree::Name;
 
 /// What a token is.
 #[derive(Drop)]
-pub enum Kind {
+pub enum TokenKind {
     Word(Name),
     Keyword(Keyword),
     /// A number, with its value.

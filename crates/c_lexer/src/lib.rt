@@ -16,7 +16,7 @@ mod token;
 
 pub use error::LexError;
 pub use keyword::Keyword;
-pub use kind::Kind;
+pub use kind::TokenKind;
 pub use laws::{refusal_is_one, tokens_are_not_refused, tokens_are_one, tokens_ascend};
 pub use lexing::lex;
 pub use mark::Mark;

@@ -11,7 +11,7 @@ use crate::number::number_value;
 
 /// What stands at a place of a text.
 #[derive(Clone, Copy)]
-pub enum Found {
+pub enum FoundPiece {
     /// A blank, a comment or a skipped line, of so many bytes; whether a newline ended the line in
     /// it.
     Space { len: usize, line: bool },
@@ -23,7 +23,7 @@ pub enum Found {
 
 /// Why nothing of a text stands at a place.
 #[derive(Clone, Copy)]
-pub enum Stop {
+pub enum PieceStop {
     Byte,
     Comment,
     Literal,
@@ -62,34 +62,34 @@ fn behind<'a>(bytes: &'a [u8], front: &[u8]) -> Option<&'a [u8]>
 }
 
 /// The space where a block comment began.
-fn block_comment(body: &[u8]) -> Result<Found, Stop>
+fn block_comment(body: &[u8]) -> Result<FoundPiece, PieceStop>
     ensures found { IfOk result (λ f. (fresh : Bool) (bytes : List ℕ)
         → bytes ≡ codes "/*" ++ body.now → Tells fresh bytes f) }
-    ensures why { IfErr result (λ stop. (stop ≡ Stop.Comment) × NeverEnds body.now) }
+    ensures why { IfErr result (λ stop. (stop ≡ PieceStop.Comment) × NeverEnds body.now) }
 {
     match comment_len(body) {
-        Some(len) => Ok(Found::Space {
+        Some(len) => Ok(FoundPiece::Space {
             len: len + 4,
             line: body[..len].contains(&b'\n'),
         }),
-        None => Err(Stop::Comment),
+        None => Err(PieceStop::Comment),
     }
 }
 
 /// The space where a line comment began.
 #[tactic(auto, using(crate::proofs::Spaces::line_comment_tells))]
-fn line_comment(body: &[u8]) -> Found
+fn line_comment(body: &[u8]) -> FoundPiece
     ensures { (fresh : Bool) (bytes : List ℕ) → bytes ≡ codes "//" ++ body.now
         → Tells fresh bytes result }
 {
-    Found::Space {
+    FoundPiece::Space {
         len: line_len(body) + 2,
         line: false,
     }
 }
 
 /// The space where a line with `#` began, where it is one that is skipped.
-fn skipped_line(after_mark: &[u8]) -> Option<Found>
+fn skipped_line(after_mark: &[u8]) -> Option<FoundPiece>
     ensures { MatchOption result
         ((after : List ℕ) → drop (prefix_len (λ b. is_blank b && not (is_newline b)) after_mark.now)
         after_mark.now ≢ codes "include" ++ after)
@@ -97,27 +97,27 @@ fn skipped_line(after_mark: &[u8]) -> Option<Found>
 {
     let indent = indent_len(after_mark);
     let after = behind(&after_mark[indent..], b"include")?;
-    Some(Found::Space {
+    Some(FoundPiece::Space {
         len: indent + 8 + line_len(after),
         line: false,
     })
 }
 
 /// The number that begins here.
-fn number(bytes: &[u8]) -> Result<Found, Stop>
+fn number(bytes: &[u8]) -> Result<FoundPiece, PieceStop>
     requires { begins_with is_ascii_digit bytes.now ≡ true }
     ensures found { (fresh : Bool) → IfOk result (Tells fresh bytes.now) }
     ensures why { (fresh : Bool) → IfErr result (Tells_why fresh bytes.now) }
 {
     let len = number_len(bytes);
     match number_value(&bytes[..len]) {
-        Some(value) => Ok(Found::Number { len, value }),
-        None => Err(Stop::Literal),
+        Some(value) => Ok(FoundPiece::Number { len, value }),
+        None => Err(PieceStop::Literal),
     }
 }
 
 /// What stands at the front where no comment and no skipped line begins.
-fn token_at(bytes: &[u8], fresh: bool) -> Result<Found, Stop>
+fn token_at(bytes: &[u8], fresh: bool) -> Result<FoundPiece, PieceStop>
     requires some { 0 < length bytes.now }
     requires no_comment { not (begins_comment bytes.now) ≡ true }
     requires no_line { (blanks body : List ℕ) → ¬ Stands fresh bytes.now (SkippedLine blanks body) }
@@ -126,25 +126,25 @@ fn token_at(bytes: &[u8], fresh: bool) -> Result<Found, Stop>
 {
     let first = bytes[0];
     if is_blank(first) {
-        Ok(Found::Space {
+        Ok(FoundPiece::Space {
             len: 1,
             line: first == b'\n',
         })
     } else if is_word_start(first) {
-        Ok(Found::Word(word_len(bytes)))
+        Ok(FoundPiece::Word(word_len(bytes)))
     } else if first.is_ascii_digit() {
         number(bytes)
     } else {
         match mark_at(bytes) {
-            Some(mark) => Ok(Found::Sign(mark)),
-            None => Err(Stop::Byte),
+            Some(mark) => Ok(FoundPiece::Sign(mark)),
+            None => Err(PieceStop::Byte),
         }
     }
 }
 
 /// The skipped line that begins here.
 #[tactic(auto, using(crate::proofs::Spaces::no_line_in_line, crate::proofs::Spaces::no_line_without_mark, crate::proofs::Spaces::no_line_without_word))]
-fn skipped_at(bytes: &[u8], fresh: bool) -> Option<Found>
+fn skipped_line_at(bytes: &[u8], fresh: bool) -> Option<FoundPiece>
     ensures { MatchOption result ((blanks body : List ℕ)
         → ¬ Stands fresh bytes.now (SkippedLine blanks body)) (Tells fresh bytes.now) }
 {
@@ -159,7 +159,7 @@ fn skipped_at(bytes: &[u8], fresh: bool) -> Option<Found>
 
 /// What stands at the front of the bytes; `fresh` tells that no token stands since the last
 /// newline.
-pub fn piece_at(bytes: &[u8], fresh: bool) -> Result<Found, Stop>
+pub fn piece_at(bytes: &[u8], fresh: bool) -> Result<FoundPiece, PieceStop>
     requires { 0 < length bytes.now }
     ensures found { IfOk result (Tells fresh bytes.now) }
     ensures why { IfErr result (Tells_why fresh bytes.now) }
@@ -170,7 +170,7 @@ pub fn piece_at(bytes: &[u8], fresh: bool) -> Result<Found, Stop>
     if let Some(body) = behind(bytes, b"//") {
         return Ok(line_comment(body));
     }
-    match skipped_at(bytes, fresh) {
+    match skipped_line_at(bytes, fresh) {
         Some(found) => Ok(found),
         None => token_at(bytes, fresh),
     }

@@ -5,33 +5,33 @@ ghost use Rattle.c_lexer.specs.Tokens.{IsCut};
 ghost use Rattle.c_lexer.specs.Refusals.{Stops, TakesMemory};
 
 use crate::keyword::keyword_of;
-use crate::piece::{Found, Stop, piece_at};
-use crate::{Kind, LexError, MOST_TOKENS, Token};
+use crate::piece::{FoundPiece, PieceStop, piece_at};
+use crate::{LexError, MOST_TOKENS, Token, TokenKind};
 use items::Items;
 use std::alloc::{AllocError, Global};
 use syntax_tree::Name;
 
 /// The kind of a word: a keyword, or a name.
 #[tactic(auto, using(crate::proofs::Keywords::keyword_found, crate::proofs::Keywords::keyword_missed, crate::proofs::Shapes::word_bytes))]
-fn word_kind(alloc: Global, word: &[u8]) -> Result<Kind, AllocError>
+fn word_kind(alloc: Global, word: &[u8]) -> Result<TokenKind, AllocError>
     requires { is_word_shape word.now ≡ true }
     ensures kind { IfOk result (λ kind. Spells kind word.now) }
-    ensures name { IfErr result (λ _. Spells (Kind.Word word.now) word.now) }
+    ensures name { IfErr result (λ _. Spells (TokenKind.Word word.now) word.now) }
 {
     match keyword_of(word) {
-        Some(keyword) => Ok(Kind::Keyword(keyword)),
+        Some(keyword) => Ok(TokenKind::Keyword(keyword)),
         None => {
             let letters = Items::from_slice(alloc, word)?;
-            Ok(Kind::Word(Name::new(letters).unwrap()))
+            Ok(TokenKind::Word(Name::new(letters).unwrap()))
         }
     }
 }
 
 /// The kind of a number.
-fn number_kind(value: u64) -> Kind
-    ensures { result ≡ Kind.Number (pos value) }
+fn number_kind(value: u64) -> TokenKind
+    ensures { result ≡ TokenKind.Number (pos value) }
 {
-    Kind::Number(i128::from(value))
+    TokenKind::Number(i128::from(value))
 }
 
 /// A piece at the front of a text: how long it is, whether no token stands since the last newline
@@ -40,17 +40,17 @@ fn number_kind(value: u64) -> Kind
 struct Cut {
     len: usize,
     fresh: bool,
-    kind: Option<Kind>,
+    kind: Option<TokenKind>,
 }
 
 /// The refusal for which the cut stops at a place.
-fn refusal_at(stop: Stop, at: u32) -> LexError
+fn refusal_at(stop: PieceStop, at: u32) -> LexError
     ensures { result ≡ refusal_at stop at }
 {
     match stop {
-        Stop::Byte => LexError::Byte(at),
-        Stop::Comment => LexError::Comment(at),
-        Stop::Literal => LexError::Literal(at),
+        PieceStop::Byte => LexError::Byte(at),
+        PieceStop::Comment => LexError::Comment(at),
+        PieceStop::Literal => LexError::Literal(at),
     }
 }
 
@@ -62,12 +62,12 @@ fn cut_at(alloc: Global, bytes: &[u8], fresh: bool, at: u32) -> Result<Cut, LexE
     ensures why { IfErr result (IsWhy fresh bytes.now at) }
 {
     match piece_at(bytes, fresh) {
-        Ok(Found::Space { len, line }) => Ok(Cut {
+        Ok(FoundPiece::Space { len, line }) => Ok(Cut {
             len,
             fresh: fresh || line,
             kind: None,
         }),
-        Ok(Found::Word(len)) => {
+        Ok(FoundPiece::Word(len)) => {
             let kind = word_kind(alloc, &bytes[..len])?;
             Ok(Cut {
                 len,
@@ -75,15 +75,15 @@ fn cut_at(alloc: Global, bytes: &[u8], fresh: bool, at: u32) -> Result<Cut, LexE
                 kind: Some(kind),
             })
         }
-        Ok(Found::Number { len, value }) => Ok(Cut {
+        Ok(FoundPiece::Number { len, value }) => Ok(Cut {
             len,
             fresh: false,
             kind: Some(number_kind(value)),
         }),
-        Ok(Found::Sign(mark)) => Ok(Cut {
+        Ok(FoundPiece::Sign(mark)) => Ok(Cut {
             len: mark.bytes().len(),
             fresh: false,
-            kind: Some(Kind::Mark(mark)),
+            kind: Some(TokenKind::Mark(mark)),
         }),
         Err(stop) => Err(refusal_at(stop, at)),
     }
@@ -120,7 +120,7 @@ pub(crate) fn scan(alloc: Global, bytes: &[u8]) -> Result<Items<Token>, LexError
         fresh = next;
     }
     tokens.push(Token {
-        kind: Kind::End,
+        kind: TokenKind::End,
         at: bytes.len() as u32,
         len: 0,
     })?;

@@ -10,7 +10,7 @@ use Rattle.syntax_tree.specs.declared.op.Sign.{Sign}
 use Rattle.syntax_tree.specs.declared.op.Sign.TheVariants.{Plus, Minus, Not}
 use Rattle.syntax_tree.specs.SourceExpr as source
 use Rattle.syntax_tree.specs.SourceExpr.{SourceExpr, exprs_from}
-use Rattle.c_parser.specs.Descent.{Rest, arguments, begins_with, behind, call, joined, links, marked_by, more_arguments, op_at, operand, operand_by, place_at, refused, signed_by}
+use Rattle.c_parser.specs.Descent.{Rest, arguments, begins_with, behind, call, expression_below, links, mark_operand_by, more_arguments, op_at, operand, operand_by, place_at, refusal_of, signed_operand_by}
 use Rattle.c_parser.specs.Expressions as grammar
 use Rattle.c_parser.specs.Expressions.{Operand, Number, Named, Called, Bracketed, Signed, Expression, Single, Joined, Call, Applied, Arguments, NoArguments, Listed, MoreArguments, NoMore, Another}
 use Rattle.c_parser.specs.Operators.{op_mark, rank, sign_mark}
@@ -36,13 +36,13 @@ OperandReads o = (levels ops total : ℕ) (later spots : List Spot) → spots �
 abbrev pub ReadsAt : Expression → ℕ → Type 0
 ReadsAt e n = (levels ops total : ℕ) (later spots : List Spot) → spots ≡ grammar.expression_spots e ++ later → total ≡ grammar.operators e + ops
     → grammar.binds n e ≡ true → grammar.levels e ≤ levels → EndsAt n later
-    → joined (operand levels) n (state spots total) ≡ Ok (grammar.tree e, state later ops)
+    → expression_below (operand levels) n (state spots total) ≡ Ok (grammar.tree e, state later ops)
 
 -- the loop over the operators of a rank has come to behind the expression
 abbrev pub LinksAt : Expression → ℕ → Type 0
 LinksAt e r = (levels ops total : ℕ) (later spots : List Spot) → spots ≡ grammar.expression_spots e ++ later → total ≡ grammar.operators e + ops
     → grammar.binds (suc r) e ≡ true → grammar.levels e ≤ levels → EndsAt r later
-    → joined (operand levels) (suc r) (state spots total) ≡ links r (joined (operand levels) r) (grammar.place e) (grammar.tree e, state later ops)
+    → expression_below (operand levels) (suc r) (state spots total) ≡ links r (expression_below (operand levels) r) (grammar.place e) (grammar.tree e, state later ops)
 
 EndsAt-less : (m n : ℕ) (later : List Spot) → m ≤ n → EndsAt n later → EndsAt m later
 EndsAt-less m n later h ends = record { no_call = ends.no_call; no_op = λ r less. ends.no_op r (omega arith) }
@@ -50,17 +50,17 @@ EndsAt-less m n later h ends = record { no_call = ends.no_call; no_op = λ r les
 -- an expression with operators of lower ranks alone is the first part of the loop
 first_part : (e : Expression) (r : ℕ) → ReadsAt e r → (levels ops total : ℕ) (later spots : List Spot) → spots ≡ grammar.expression_spots e ++ later
     → total ≡ grammar.operators e + ops → grammar.binds r e ≡ true → grammar.levels e ≤ levels → EndsAt r later
-    → joined (operand levels) (suc r) (state spots total) ≡ links r (joined (operand levels) r) (grammar.place e) (grammar.tree e, state later ops)
+    → expression_below (operand levels) (suc r) (state spots total) ≡ links r (expression_below (operand levels) r) (grammar.place e) (grammar.tree e, state later ops)
 first_part e r reads levels ops total later spots cut count made deep ends =
     joined-suc (operand levels) r (state spots total)
-    ∙ ap (λ came. came >>= links r (joined (operand levels) r) (place_at spots)) (reads levels ops total later spots cut count made deep ends)
-    ∙ ap (λ at. links r (joined (operand levels) r) at (grammar.tree e, state later ops)) (ap place_at cut ∙ expression-place e later)
+    ∙ ap (λ came. came >>= links r (expression_below (operand levels) r) (place_at spots)) (reads levels ops total later spots cut count made deep ends)
+    ∙ ap (λ at. links r (expression_below (operand levels) r) at (grammar.tree e, state later ops)) (ap place_at cut ∙ expression-place e later)
 
 -- where the loop ends behind the expression, the expression is what is read
 last_part : (e : Expression) (r : ℕ) → LinksAt e r → ReadsAt e (suc r)
 last_part e r comes levels ops total later spots cut count made deep ends =
     comes levels ops total later spots cut count made deep (EndsAt-less r (suc r) later (omega arith) ends)
-    ∙ links-done r (joined (operand levels) r) (grammar.place e) (grammar.tree e, state later ops) (ends.no_op r (omega arith))
+    ∙ links-done r (expression_below (operand levels) r) (grammar.place e) (grammar.tree e, state later ops) (ends.no_op r (omega arith))
 
 single_reads : (o : Operand) → OperandReads o → (n : ℕ) → ReadsAt (Single o) n
 single_reads o reads zero levels ops total later spots cut count made deep ends =
@@ -96,7 +96,7 @@ own_links left at op right comes reads levels ops total later spots cut count ma
       no_call = op-opens_nothing at op (grammar.expression_spots right ++ later);
       no_op = λ r less. op_at-below r at op (grammar.expression_spots right ++ later) less;
     })
-    ∙ links-more (rank op) (joined (operand levels) (rank op)) (grammar.place left) (grammar.tree left, state behind (suc (grammar.operators right + ops))) op
+    ∙ links-more (rank op) (expression_below (operand levels) (rank op)) (grammar.place left) (grammar.tree left, state behind (suc (grammar.operators right + ops))) op
     (grammar.tree (Joined left at op right), state later ops) (op_at-own at op (grammar.expression_spots right ++ later))
     (ap (λ came. came >>= λ read. Ok (source.Binary (grammar.place left) op (grammar.tree left) read.0, read.1))
     (reads levels ops (grammar.operators right + ops) later (grammar.expression_spots right ++ later) refl refl parts.2 (omega arith) ends))
@@ -148,12 +148,12 @@ argument_list-trees (Listed first more) = ap (source.Then (grammar.tree first)) 
 abbrev pub MoreRead : MoreArguments → Type 0
 MoreRead more = (levels ops total closed : ℕ) (later spots : List Spot) (front : List SourceExpr) → spots ≡ grammar.more_spots more ++ mark closed marks.CloseRound ∷ later
     → total ≡ grammar.more_operators more + ops → grammar.more_bind more ≡ true → grammar.more_levels more ≤ levels
-    → more_arguments (joined (operand levels) 6) (front, state spots total) ≡ Ok (front ++ more_list more, state (mark closed marks.CloseRound ∷ later) ops)
+    → more_arguments (expression_below (operand levels) 6) (front, state spots total) ≡ Ok (front ++ more_list more, state (mark closed marks.CloseRound ∷ later) ops)
 
 abbrev pub ArgumentsRead : Arguments → Type 0
 ArgumentsRead args = (levels ops total closed : ℕ) (later spots : List Spot) → spots ≡ grammar.argument_spots args ++ mark closed marks.CloseRound ∷ later
     → total ≡ grammar.argument_operators args + ops → grammar.arguments_bind args ≡ true → grammar.argument_levels args ≤ levels
-    → arguments (joined (operand levels) 6) (state spots total) ≡ Ok (argument_list args, state (mark closed marks.CloseRound ∷ later) ops)
+    → arguments (expression_below (operand levels) 6) (state spots total) ≡ Ok (argument_list args, state (mark closed marks.CloseRound ∷ later) ops)
 
 more-ends : (more : MoreArguments) (closed : ℕ) (later : List Spot) → EndsAt 6 (grammar.more_spots more ++ mark closed marks.CloseRound ∷ later)
 more-ends NoMore closed later = record { no_call = refl; no_op = λ r less. refl }
@@ -161,7 +161,7 @@ more-ends (Another comma next more) closed later = record { no_call = refl; no_o
 
 no_more_read : MoreRead NoMore
 no_more_read levels ops total closed later spots front cut count made deep =
-    arguments-done (joined (operand levels) 6) (front, state spots total) (ap (begins_with marks.Comma) cut)
+    arguments-done (expression_below (operand levels) 6) (front, state spots total) (ap (begins_with marks.Comma) cut)
     ∙ (let same : total ≡ ops = omega arith in λ i. Ok (sym (append-nil front) i, state (cut i) (same i)))
 
 another_read : (comma : ℕ) (next : Expression) (more : MoreArguments) → ReadsAt next 6 → MoreRead more → MoreRead (Another comma next more)
@@ -170,8 +170,8 @@ another_read comma next more reads go_on levels ops total closed later spots fro
     let behind : List Spot = grammar.more_spots more ++ mark closed marks.CloseRound ∷ later in
     let whole : spots ≡ mark comma marks.Comma ∷ (grammar.expression_spots next ++ behind) =
     cut ∙ ap (λ rest. mark comma marks.Comma ∷ rest) (append_assoc (grammar.expression_spots next) (grammar.more_spots more) (mark closed marks.CloseRound ∷ later)) in
-    (λ i. more_arguments (joined (operand levels) 6) (front, state (whole i) total))
-    ∙ arguments-more (joined (operand levels) 6) (front, state (mark comma marks.Comma ∷ (grammar.expression_spots next ++ behind)) total)
+    (λ i. more_arguments (expression_below (operand levels) 6) (front, state (whole i) total))
+    ∙ arguments-more (expression_below (operand levels) 6) (front, state (mark comma marks.Comma ∷ (grammar.expression_spots next ++ behind)) total)
     (grammar.tree next, state behind (grammar.more_operators more + ops)) refl
     (reads levels (grammar.more_operators more + ops) total behind (grammar.expression_spots next ++ behind) refl (omega arith) parts.0 (omega arith) (more-ends more closed later))
     (simp length-append (omega arith))
@@ -181,7 +181,7 @@ another_read comma next more reads go_on levels ops total closed later spots fro
 no_arguments_read : ArgumentsRead NoArguments
 no_arguments_read levels ops total closed later spots cut count made deep =
     let same : total ≡ ops = omega arith in
-    λ i. arguments (joined (operand levels) 6) (state (cut i) (same i))
+    λ i. arguments (expression_below (operand levels) 6) (state (cut i) (same i))
 
 listed_read : (first : Expression) (more : MoreArguments) → ReadsAt first 6 → MoreRead more → ArgumentsRead (Listed first more)
 listed_read first more reads go_on levels ops total closed later spots cut count made deep =
@@ -189,7 +189,7 @@ listed_read first more reads go_on levels ops total closed later spots cut count
     let behind : List Spot = grammar.more_spots more ++ mark closed marks.CloseRound ∷ later in
     let whole : spots ≡ grammar.expression_spots first ++ behind = cut ∙ append_assoc (grammar.expression_spots first) (grammar.more_spots more) (mark closed marks.CloseRound ∷ later) in
     left_out (begins_with marks.CloseRound spots) _ _ (ap (begins_with marks.CloseRound) whole ∙ expression-opens first behind)
-    ∙ ap (λ came. came >>= λ read. more_arguments (joined (operand levels) 6) (read.0 ∷ [], read.1))
+    ∙ ap (λ came. came >>= λ read. more_arguments (expression_below (operand levels) 6) (read.0 ∷ [], read.1))
     (reads levels (grammar.more_operators more + ops) total behind spots whole (omega arith) parts.0 (omega arith) (more-ends more closed later))
     ∙ go_on levels ops (grammar.more_operators more + ops) closed later behind (grammar.tree first ∷ []) refl refl parts.1 (omega arith)
 
@@ -220,7 +220,7 @@ applied_reads at name opened args closed reads (suc level) ops total later spots
 
 -- the first token of an operand decides
 begun : (levels total : ℕ) (spots : List Spot) (spot : Spot) (rest : List Spot) → spots ≡ spot ∷ rest
-    → operand levels (state spots total) ≡ operand_by operand levels spot.kind spot.at (refused (spot ∷ rest)) (state rest total)
+    → operand levels (state spots total) ≡ operand_by operand levels spot.kind spot.at (refusal_of (spot ∷ rest)) (state rest total)
 begun levels total spots spot rest cut = ap (λ s. operand levels (state s total)) cut ∙ operand_at levels (state (spot ∷ rest) total)
 
 number_reads : (at : ℕ) (value : ℤ) → OperandReads (Number at value)
@@ -259,8 +259,8 @@ signed_reads at sign inner reads (suc level) ops total later spots cut count mad
     ∙ by_sign sign
     ∙ ap (λ came. came >>= λ read. Ok (source.Unary at sign read.0, read.1)) (reads level ops total later (grammar.operand_spots inner ++ later) refl count made (omega arith) ends)
   where
-    by_sign : (sign : Sign) → marked_by operand (suc level) at (sign_mark sign) (refused (mark at (sign_mark sign) ∷ (grammar.operand_spots inner ++ later))) (state (grammar.operand_spots inner ++ later) total)
-        ≡ signed_by operand (suc level) at sign (state (grammar.operand_spots inner ++ later) total)
+    by_sign : (sign : Sign) → mark_operand_by operand (suc level) at (sign_mark sign) (refusal_of (mark at (sign_mark sign) ∷ (grammar.operand_spots inner ++ later))) (state (grammar.operand_spots inner ++ later) total)
+        ≡ signed_operand_by operand (suc level) at sign (state (grammar.operand_spots inner ++ later) total)
     by_sign Plus = refl
     by_sign Minus = refl
     by_sign Not = refl

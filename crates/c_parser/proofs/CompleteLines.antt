@@ -11,7 +11,7 @@ use Rattle.c_parser.specs.Lines as grammar
 use Rattle.c_parser.specs.Lines.{Variable, Bare, Initialised, Variables, Last, Also, Local, Declared, Simple, Assigned, Changed, CountedAfter, CountedBefore, Acted, Init, InitLocal, InitSimple, Line, Block, Empty, Plain, If, IfElse, While, DoWhile, For, Break, Continue, Return, Lines, NoLines, ThenLocal, ThenLine}
 use Rattle.c_parser.specs.Operators.{Compound, PlusEqual, MinusEqual, StarEqual, SlashEqual, PercentEqual, Count, Up, Down, count_mark}
 use Rattle.c_parser.specs.Spots.{Spot, mark, keyword, word}
-use Rattle.c_parser.specs.Statements.{begins_with_keyword, condition, entries, for_condition, for_step, init, keyword_at, line_read, local, otherwise, returned, simple, simple_line, variable, variables}
+use Rattle.c_parser.specs.Statements.{begins_with_keyword, condition, entries, for_condition, for_step, init, keyword_at, line_read, local, otherwise, return_value, simple, simple_line, variable, variables}
 use Rattle.c_parser.proofs.Complete.{EndsAt, call_name, call_reads, call_tail, expression_reads}
 use Rattle.c_parser.proofs.FirstTokens.{both, expression-no_semi}
 use Rattle.c_parser.proofs.Repeats.{left_out}
@@ -183,7 +183,7 @@ step_reads (Some s) closed most lv later made deep few =
     ∙ bind_ok _ (simple_reads s most lv (mark closed marks.CloseRound ∷ later) made deep few (round-ends closed later)) refl
 
 value_reads : (value : Option Expression) (semi most lv : ℕ) (later : List Spot) → grammar.if_binds value ≡ true → grammar.if_levels value ≤ lv → grammar.if_operators value ≤ most
-    → returned most lv (grammar.if_expression value ++ mark semi marks.Semi ∷ later) ≡ Ok (grammar.if_tree value, mark semi marks.Semi ∷ later)
+    → return_value most lv (grammar.if_expression value ++ mark semi marks.Semi ∷ later) ≡ Ok (grammar.if_tree value, mark semi marks.Semi ∷ later)
 value_reads None semi most lv later made deep few = refl
 value_reads (Some e) semi most lv later made deep few =
     left_out (begins_with marks.Semi (expression_spots e ++ mark semi marks.Semi ∷ later)) _ _ (expression-no_semi e _)

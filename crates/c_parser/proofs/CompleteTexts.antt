@@ -13,7 +13,7 @@ use Rattle.c_parser.specs.Lines.{Lines, lines_spots, lines_are_made, lines_level
 use Rattle.c_parser.specs.SourceItem.{SourceItem, Parameter, Proto, Body}
 use Rattle.c_parser.specs.Spots.{Spot, mark, keyword, word, number, end}
 use Rattle.c_parser.specs.Statements.{Word, begins_with_keyword}
-use Rattle.c_parser.specs.Texts.{Head, Signature, Slots, at_end, behind_name, behind_signature, behind_type, body, declaration, more_slots, name_at, next_shared, procedure, shared, shared_list, signature, slot, slot_list, text, typed}
+use Rattle.c_parser.specs.Texts.{Head, Signature, Slots, at_end, behind_name, behind_signature, behind_type, body, declaration, more_slots, name_at, next_shared, procedure, global_item, shared_list, signature, slot, slot_list, text, typed_declaration}
 use Rattle.c_parser.proofs.CompleteLines.{bind_ok, entries_read}
 use Rattle.c_parser.proofs.FirstTokens.{both}
 use Rattle.c_parser.proofs.Repeats.{chosen, left_out}
@@ -27,7 +27,7 @@ shared_word (Positive at name assign digits value) later = record { at = at; nam
 shared_word (Negative at name assign minus digits value) later =
     record { at = at; name = name; rest = mark assign marks.Assign ∷ mark minus marks.Minus ∷ number digits (pos value) ∷ later }
 
-shared_reads : (g : Shared) (later : List Spot) → begins_with marks.Assign later ≡ false → shared (shared_word g later) ≡ Ok (grammar.shared_item g, later)
+shared_reads : (g : Shared) (later : List Spot) → begins_with marks.Assign later ≡ false → global_item (shared_word g later) ≡ Ok (grammar.shared_item g, later)
 shared_reads (Zero at name) later ends = bind_ok _ (left_out (begins_with marks.Assign later) _ _ ends) refl
 shared_reads (Positive at name assign digits value) later ends = refl
 shared_reads (Negative at name assign minus digits value) later ends = refl
@@ -165,12 +165,12 @@ procedure_reads outside returns at name params closed most lv after came e = bin
 
 -- behind the type, a name and its bracket
 named_reads : (most lv : ℕ) (outside : Bool) (returned : Returned) (at : ℕ) (name : List ℕ) (opened : ℕ) (rest : List Spot)
-    → typed most lv outside (grammar.returned_spots returned ++ word at name ∷ mark opened marks.OpenRound ∷ rest) ≡ procedure most lv (head_of outside (grammar.returns returned) at name) rest
+    → typed_declaration most lv outside (grammar.returned_spots returned ++ word at name ∷ mark opened marks.OpenRound ∷ rest) ≡ procedure most lv (head_of outside (grammar.returns returned) at name) rest
 named_reads most lv outside (Number type) at name opened rest = refl
 named_reads most lv outside (Nothing type) at name opened rest = refl
 
 outside_reads : (most lv : ℕ) (outside : Option ℕ) (returned : Returned) (rest : List Spot) → (came : Result (List SourceItem × List Spot) ParseError)
-    → ((flag : Bool) → typed most lv flag (grammar.returned_spots returned ++ rest) ≡ came)
+    → ((flag : Bool) → typed_declaration most lv flag (grammar.returned_spots returned ++ rest) ≡ came)
     → declaration most lv (grammar.outside_spots outside ++ (grammar.returned_spots returned ++ rest)) ≡ came
 outside_reads most lv None (Number type) rest came e = e false
 outside_reads most lv None (Nothing type) rest came e = e false
@@ -222,7 +222,7 @@ procedure_declared returned at name opened params closed begins ls ends most lv 
     (chosen (nat_eq (length (grammar.named_parameters params)) (count_parameters params)) _ _ (parameters-count params parts.0)
     ∙ body_reads begins ls ends most lv false (grammar.returns returned) at name (grammar.named_parameters params) later parts.1 deep few)
   where
-    no_extern : (r : Returned) (rest : List Spot) → declaration most lv (grammar.returned_spots r ++ rest) ≡ typed most lv false (grammar.returned_spots r ++ rest)
+    no_extern : (r : Returned) (rest : List Spot) → declaration most lv (grammar.returned_spots r ++ rest) ≡ typed_declaration most lv false (grammar.returned_spots r ++ rest)
     no_extern (Number type) rest = refl
     no_extern (Nothing type) rest = refl
 

@@ -5,7 +5,7 @@ use Rattle.std.specs.Prelude.{Err, if◌then◌else◌}
 use Rattle.items.specs.Gives.{◌>>=◌}
 use Rattle.c_lexer.specs.declared.token.Token.{Token}
 use Rattle.c_parser.specs.declared.error.ParseError.TheVariants as error
-use Rattle.c_parser.specs.Descent.{Rest, Reader, joined, links, operand, operand_by, operand_in, place_at, refused, rest_of}
+use Rattle.c_parser.specs.Descent.{Rest, Reader, expression_below, links, operand, operand_by, operand_in, place_at, refusal_of, rest_of}
 use Rattle.c_parser.specs.Profile.{is_outside}
 use Rattle.c_parser.specs.Spots.{Spot, spots_of}
 
@@ -14,18 +14,18 @@ unfolding operand
 operand_at zero rest = refl
 operand_at (suc levels) rest = refl
 
-pub joined-none : (reader : Reader) (ranks : ℕ) (rest : Rest) → ranks ≡ 0 → joined reader ranks rest ≡ reader rest
-unfolding joined
+pub joined-none : (reader : Reader) (ranks : ℕ) (rest : Rest) → ranks ≡ 0 → expression_below reader ranks rest ≡ reader rest
+unfolding expression_below
 joined-none reader zero rest e = refl
 joined-none reader (suc r) rest e = absurd (omega arith)
 
-pub joined-suc : (reader : Reader) (r : ℕ) (rest : Rest) → joined reader (suc r) rest ≡ joined reader r rest >>= links r (joined reader r) (place_at rest.spots)
-unfolding joined
+pub joined-suc : (reader : Reader) (r : ℕ) (rest : Rest) → expression_below reader (suc r) rest ≡ expression_below reader r rest >>= links r (expression_below reader r) (place_at rest.spots)
+unfolding expression_below
 joined-suc reader r rest = refl
 
 pub joined-some : (reader : Reader) (ranks : ℕ) (rest : Rest) → ranks ≢ 0 →
-    joined reader ranks rest ≡ joined reader (ranks - 1) rest >>= links (ranks - 1) (joined reader (ranks - 1)) (place_at rest.spots)
-unfolding joined
+    expression_below reader ranks rest ≡ expression_below reader (ranks - 1) rest >>= links (ranks - 1) (expression_below reader (ranks - 1)) (place_at rest.spots)
+unfolding expression_below
 joined-some reader zero rest e = absurd (e refl)
 joined-some reader (suc r) rest e = let same : suc r - 1 ≡ r = omega arith in rw same refl
 
@@ -40,18 +40,18 @@ behind_first token tokens = let same : suc (length tokens) - 1 ≡ length tokens
 
 pub operand-some : (levels : ℕ) (tokens : List Token) (operators : ℕ) (token : Token) → 1 ≤ length tokens → token ≡ get_or tokens 0 token
     → operand levels (rest_of tokens operators)
-    ≡ operand_by operand levels token.kind token.at (refused (spots_of tokens)) (rest_of (take (length tokens - 1) (drop 1 tokens)) operators)
+    ≡ operand_by operand levels token.kind token.at (refusal_of (spots_of tokens)) (rest_of (take (length tokens - 1) (drop 1 tokens)) operators)
 operand-some levels [] operators token h e = absurd (omega arith)
 operand-some levels (first ∷ tokens) operators token h e =
     operand_at levels (rest_of (first ∷ tokens) operators)
-    ∙ ap (λ rest. operand_by operand levels first.kind first.at (refused (spots_of (first ∷ tokens))) (rest_of rest operators)) (sym (behind_first first tokens))
-    ∙ ap (λ (shown : Token). operand_by operand levels shown.kind shown.at (refused (spots_of (first ∷ tokens))) (rest_of (take (length (first ∷ tokens) - 1) (drop 1 (first ∷ tokens))) operators)) (sym e)
+    ∙ ap (λ rest. operand_by operand levels first.kind first.at (refusal_of (spots_of (first ∷ tokens))) (rest_of rest operators)) (sym (behind_first first tokens))
+    ∙ ap (λ (shown : Token). operand_by operand levels shown.kind shown.at (refusal_of (spots_of (first ∷ tokens))) (rest_of (take (length (first ∷ tokens) - 1) (drop 1 (first ∷ tokens))) operators)) (sym e)
 
 by_test : (b : Bool) (at : ℕ) → (if b then error.Unsupported at else error.Syntax at) ≢ error.Memory
 by_test true at e = cc
 by_test false at e = cc
 
 -- a refusal is no want of memory
-pub refused-exact : (spots : List Spot) → refused spots ≢ error.Memory
+pub refused-exact : (spots : List Spot) → refusal_of spots ≢ error.Memory
 refused-exact [] = λ e. cc
 refused-exact (spot ∷ spots) = by_test (is_outside spot.kind) spot.at

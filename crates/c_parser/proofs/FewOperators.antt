@@ -15,7 +15,7 @@ use Rattle.syntax_tree.specs.SourceLine as line
 use Rattle.syntax_tree.specs.SourceLine.{SourceLine, SourceLines, lines_from}
 use Rattle.syntax_tree.specs.SourceOperators.{all_source_operators, has_fewer, if_fewer, items_have_fewer, line_has_fewer, lines_have_fewer, source_operators}
 use Rattle.c_parser.specs.Declarations.{Declaration, Globals, Prototype, Procedure, Shared, Zero, Positive, Negative, SharedList, LastShared, AlsoShared, shared_item, declaration_items, declaration_spots, parameters_spots, returned_spots, shared_list_items, text_items, text_spots}
-use Rattle.c_parser.specs.Expressions.{Operand, Number, Named, Called, Bracketed, Signed, Expression, Single, Joined, Call, Applied, Arguments, NoArguments, Listed, MoreArguments, NoMore, Another, operand_spots, expression_spots, call_spots, argument_spots, more_spots, placed, operand_tree, tree, call_tree, argument_trees, more_trees}
+use Rattle.c_parser.specs.Expressions.{Operand, Number, Named, Called, Bracketed, Signed, Expression, Single, Joined, Call, Applied, Arguments, NoArguments, Listed, MoreArguments, NoMore, Another, operand_spots, expression_spots, call_spots, argument_spots, more_spots, with_place, operand_tree, tree, call_tree, argument_trees, more_trees}
 use Rattle.c_parser.specs.Laws.{ReadingsAreShort}
 use Rattle.c_parser.specs.Lines.{Variable, Bare, Initialised, Variables, Last, Also, Local, Declared, Simple, Assigned, Changed, CountedAfter, CountedBefore, Acted, Init, InitLocal, InitSimple, Line, Block, Empty, Plain, If, IfElse, While, DoWhile, For, Break, Continue, Return, Lines, NoLines, ThenLocal, ThenLine, bracketed_spots, cond_or_one, if_expression, if_simple, if_simple_lines, if_tree, init_lines, init_spots, line_lines, line_spots, lines_lines, lines_spots, local_lines, local_spots, simple_line, simple_spots, variable_line, variable_spots, variables_lines, variables_spots}
 use Rattle.c_parser.specs.Operators.{op_mark, compound_op, count_op}
@@ -26,7 +26,7 @@ use Rattle.c_parser.proofs.FirstTokens.{both}
 
 -- ---- expressions
 
-placed-operators : (at : ℕ) (e : SourceExpr) → source_operators (placed at e) ≡ source_operators e
+placed-operators : (at : ℕ) (e : SourceExpr) → source_operators (with_place at e) ≡ source_operators e
 placed-operators at (source.Lit place value) = refl
 placed-operators at (source.Var place name) = refl
 placed-operators at (source.Call place name args) = refl

@@ -8,7 +8,7 @@ use Rattle.syntax_tree.specs.declared.op.Op.TheVariants.{Add, Sub, Mul, Div, Rem
 use Rattle.syntax_tree.specs.declared.op.Sign.{Sign}
 use Rattle.syntax_tree.specs.declared.op.Sign.TheVariants.{Plus, Minus, Not}
 use Rattle.c_parser.specs.declared.error.ParseError.TheVariants as error
-use Rattle.c_parser.specs.Descent.{begins_with, of_rank, op_at, op_of, place_at, refused, sign_of}
+use Rattle.c_parser.specs.Descent.{begins_with, of_rank, op_at, op_of, place_at, refusal_of, sign_of}
 use Rattle.c_parser.specs.Expressions.{Operand, Number, Named, Called, Bracketed, Signed, Expression, Single, Joined, Applied, operand_spots, expression_spots, operand_place, place}
 use Rattle.c_parser.specs.Operators.{op_mark, rank, sign_mark}
 use Rattle.c_parser.specs.Profile.{is_outside}
@@ -81,7 +81,7 @@ sign_of-sign_mark Minus = refl
 sign_of-sign_mark Not = refl
 
 -- a refusal is no want of memory
-pub refused_no_memory : (spots : List Spot) → refused spots ≡ error.Memory → ⊥
+pub refused_no_memory : (spots : List Spot) → refusal_of spots ≡ error.Memory → ⊥
 refused_no_memory [] e = cc
 refused_no_memory (spot ∷ rest) e = by (is_outside spot.kind) e
   where

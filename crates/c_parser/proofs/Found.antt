@@ -5,8 +5,8 @@ use Rattle.std.proofs.lemmas.Bool.{eqb-true}
 use denote.Enum.Bare.{same_true}
 use Rattle.items.proofs.Gives.{on_ok}
 use Rattle.c_lexer.specs.contracts.mark.Mark.{the_type}
-use Rattle.c_lexer.specs.declared.kind.Kind.{Kind}
-use Rattle.c_lexer.specs.declared.kind.Kind.TheVariants as kind
+use Rattle.c_lexer.specs.declared.kind.TokenKind.{TokenKind}
+use Rattle.c_lexer.specs.declared.kind.TokenKind.TheVariants as kind
 use Rattle.c_lexer.specs.declared.mark.Mark.{Mark}
 use Rattle.c_lexer.specs.declared.mark.Mark.TheVariants as marks
 use Rattle.syntax_tree.specs.declared.op.Op.{Op}
@@ -25,7 +25,7 @@ ok_one x y e = cc
 
 -- ---- single tokens
 
-pub is_mark-kind : (m : Mark) (k : Kind) → is_mark m k ≡ true → k ≡ kind.Mark m
+pub is_mark-kind : (m : Mark) (k : TokenKind) → is_mark m k ≡ true → k ≡ kind.Mark m
 is_mark-kind m (kind.Mark found) e = ap kind.Mark (same_true the_type tt found m e)
 is_mark-kind m (kind.Word name) e = cc
 is_mark-kind m (kind.Keyword k) e = cc
@@ -81,7 +81,7 @@ of_rank-rank r (Some other) found e = by_test (nat_eq (rank other) r) refl e
     by_test true t e = let same : other ≡ found = cc in (e, ap rank (sym same) ∙ eqb-true (rank other) r t)
     by_test false t e = cc
 
-op_in-kind : (r : ℕ) (k : Kind) (found : Op) → op_in r k ≡ Some found → (k ≡ kind.Mark (op_mark found)) × (rank found ≡ r)
+op_in-kind : (r : ℕ) (k : TokenKind) (found : Op) → op_in r k ≡ Some found → (k ≡ kind.Mark (op_mark found)) × (rank found ≡ r)
 op_in-kind r (kind.Mark m) found e = let parts = of_rank-rank r (op_of m) found e in (ap kind.Mark (op_of-mark m found parts.0), parts.1)
 op_in-kind r (kind.Word name) found e = cc
 op_in-kind r (kind.Keyword k) found e = cc

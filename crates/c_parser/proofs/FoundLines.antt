@@ -7,11 +7,11 @@ use Rattle.c_lexer.specs.declared.mark.Mark.TheVariants as marks
 use Rattle.syntax_tree.specs.SourceLine as line
 use Rattle.syntax_tree.specs.SourceLine.{SourceLine, SourceLines, lines_from}
 use Rattle.c_parser.specs.declared.error.ParseError.{ParseError}
-use Rattle.c_parser.specs.Descent.{begins_with, deeper, past, place_at, refused, tail}
+use Rattle.c_parser.specs.Descent.{begins_with, deeper, past, place_at, refusal_of, tail}
 use Rattle.c_parser.specs.Lines as grammar
 use Rattle.c_parser.specs.Lines.{Local, Declared, Simple, Init, Line, Block, Empty, Plain, If, IfElse, While, DoWhile, For, Break, Continue, Return, Lines, NoLines, ThenLocal, ThenLine}
 use Rattle.c_parser.specs.Spots.{Spot, mark, keyword}
-use Rattle.c_parser.specs.Statements.{begins_with_keyword, block, block_by, condition, do_by, entries, entry, for_by, for_condition, for_step, if_by, init, keyword_at, keyword_by, keyword_or, line_in, line_read, lines_left, local, one_entry, otherwise, past_keyword, return_by, returned, single_by, stands_open, while_by}
+use Rattle.c_parser.specs.Statements.{begins_with_keyword, block, block_by, condition, do_by, entries, entry, for_by, for_condition, for_step, if_by, init, keyword_at, keyword_by, keyword_or, line_in, line_read, lines_left, local, one_entry, otherwise, past_keyword, return_by, return_value, single_by, stands_open, while_by}
 use Rattle.c_parser.proofs.FirstTokens.{both}
 use Rattle.c_parser.proofs.Found.{deeper-level, ok_one, past-mark}
 use Rattle.c_parser.proofs.Lines.{line_at}
@@ -330,7 +330,7 @@ for_found most lv at rest read deeper_found e =
 return_found : (most lv at : ℕ) (rest : List Spot) (read : List SourceLine × List Spot) → return_by most lv at rest ≡ Ok read
     → LineFound most lv (keyword at keywords.Return ∷ rest) read
 return_found most lv at rest read e =
-    let s = steps (returned most lv rest) _ read e in
+    let s = steps (return_value most lv rest) _ read e in
     let has = value_found most lv rest s.0 s.1 in
     let t = steps (past marks.Semi s.0.1) _ read s.2 in
     let semi = past-mark marks.Semi s.0.1 t.0 t.1 in
@@ -379,7 +379,7 @@ keyword_or_found most lv None spots read deeper_found is e =
     let has = simple_line_found most lv spots read e in
     record { line = Plain has.simple has.semi; spells = has.spells; made = has.made; deep = has.deep; few = has.few; stands_for = has.stands_for; closed = λ hangs. cc }
 keyword_or_found most lv (Some k) spots read deeper_found is e =
-    subst (λ s. LineFound most lv s read) (sym (keyword_at-keyword spots k is)) (keyword_found most lv (place_at spots) k (tail spots) (refused spots) read deeper_found e)
+    subst (λ s. LineFound most lv s read) (sym (keyword_at-keyword spots k is)) (keyword_found most lv (place_at spots) k (tail spots) (refusal_of spots) read deeper_found e)
 
 line_in_found : (most lv : ℕ) (spots : List Spot) (read : List SourceLine × List Spot) → Deeper most lv → line_in most (line_read most) lv spots ≡ Ok read
     → LineFound most lv spots read

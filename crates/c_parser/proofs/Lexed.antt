@@ -1,14 +1,14 @@
 -- The tokens of a text are in the form that the parser asks for.
 use Rattle.std.proofs.Common.{◌≡◌, ℕ, ◌+◌, Bool, true, false, List, [], ◌∷◌, ◌++◌, length, refl, ap, ◌∙◌}
-use Rattle.c_lexer.specs.declared.kind.Kind.{Kind}
-use Rattle.c_lexer.specs.declared.kind.Kind.TheVariants as kind
+use Rattle.c_lexer.specs.declared.kind.TokenKind.{TokenKind}
+use Rattle.c_lexer.specs.declared.kind.TokenKind.TheVariants as kind
 use Rattle.c_lexer.specs.Kinds.{Spells}
 use Rattle.c_lexer.specs.Pieces.{Piece, Blank, BlockComment, LineComment, SkippedLine, Lexeme, Fit, piece_bytes}
 use Rattle.c_lexer.specs.Tokens.{end_at, lexemes_from}
 use Rattle.c_parser.specs.Laws.{LexedEndsOnce}
 use Rattle.c_parser.specs.Spots.{Spot, ends_once, is_end, spots_of}
 
-no_end : (k : Kind) (spelling : List ℕ) → Spells k spelling → is_end k ≡ false
+no_end : (k : TokenKind) (spelling : List ℕ) → Spells k spelling → is_end k ≡ false
 no_end (kind.Word name) spelling spells = refl
 no_end (kind.Keyword k) spelling spells = refl
 no_end (kind.Number value) spelling spells = refl

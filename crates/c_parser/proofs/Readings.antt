@@ -2,14 +2,14 @@
 use Rattle.std.proofs.Common.{◌≡◌, ℕ, ◌≤◌, Bool, true, false, List, [], ◌∷◌, ◌++◌, refl, sym, ap, ◌∙◌, arith}
 use Rattle.std.specs.Prelude.{Result, Ok, not, max}
 use Rattle.items.specs.Gives.{FailsBy}
-use Rattle.c_lexer.specs.declared.kind.Kind.{Kind}
-use Rattle.c_lexer.specs.declared.kind.Kind.TheVariants as kind
+use Rattle.c_lexer.specs.declared.kind.TokenKind.{TokenKind}
+use Rattle.c_lexer.specs.declared.kind.TokenKind.TheVariants as kind
 use Rattle.c_lexer.specs.declared.token.Token.{Token}
 use Rattle.c_parser.specs.declared.error.ParseError.{ParseError}
 use Rattle.c_parser.specs.declared.error.ParseError.TheVariants as error
 use Rattle.c_parser.specs.Limits.{most_levels, most_binary_operators}
 use Rattle.c_parser.specs.Declarations.{Declaration, text_spots, text_levels, text_operators}
-use Rattle.c_parser.specs.Descent.{told}
+use Rattle.c_parser.specs.Descent.{exact_error}
 use Rattle.c_parser.specs.Reads.{IsReading, ReadsWithinLimits}
 use Rattle.c_parser.specs.Laws.{ReadingIsOne}
 use Rattle.c_parser.specs.SourceItem.{SourceItem}
@@ -28,7 +28,7 @@ end-last [] (next ∷ rest) at e = cc
 end-last (spot ∷ []) rest at e = end-last [] rest at (both (not (is_end spot.kind)) (ends_once (end at ∷ rest)) e).1
 end-last (spot ∷ next ∷ front) rest at e = end-last (next ∷ front) rest at (both (not (is_end spot.kind)) (ends_once (next ∷ (front ++ end at ∷ rest))) e).1
 
-is_end-kind : (k : Kind) → is_end k ≡ true → k ≡ kind.End
+is_end-kind : (k : TokenKind) → is_end k ≡ true → k ≡ kind.End
 is_end-kind kind.End e = refl
 is_end-kind (kind.Word name) e = cc
 is_end-kind (kind.Keyword k) e = cc
@@ -69,7 +69,7 @@ pub within_is_read : (tokens : List Token) (items : List SourceItem) → ReadsWi
 within_is_read tokens items reads = reading_is_read tokens items reads.0 most_binary_operators most_levels reads.1 reads.2.shallow reads.2.short
 
 -- where a tree is stated, no error is told but want of memory
-pub no_other_error : {A : Type 0} (e : ParseError) (stated : Result A ParseError) (x : A) → stated ≡ Ok x → FailsBy (told e) stated → e ≡ error.Memory
+pub no_other_error : {A : Type 0} (e : ParseError) (stated : Result A ParseError) (x : A) → stated ≡ Ok x → FailsBy (exact_error e) stated → e ≡ error.Memory
 no_other_error (error.Syntax at) stated x is fails = cc
 no_other_error (error.Unsupported at) stated x is fails = cc
 no_other_error (error.Deep at) stated x is fails = cc

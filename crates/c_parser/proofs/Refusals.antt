@@ -6,7 +6,7 @@ use Rattle.c_lexer.specs.declared.token.Token.{Token}
 use Rattle.c_parser.specs.declared.error.ParseError.{ParseError}
 use Rattle.c_parser.specs.declared.error.ParseError.TheVariants as error
 use Rattle.c_parser.specs.Declarations.{Declaration, text_levels, text_operators}
-use Rattle.c_parser.specs.Descent.{refused, told}
+use Rattle.c_parser.specs.Descent.{refusal_of, exact_error}
 use Rattle.c_parser.specs.Laws.{ReadingIsNotRefused, RefusalIsOne, TokensAreReadOrRefused}
 use Rattle.c_parser.specs.Limits.{most_levels, most_binary_operators}
 use Rattle.c_parser.specs.Reads.{ReadsWithinLimits}
@@ -92,14 +92,14 @@ module _ (most lv : ℕ) (spots : List Spot) (e : ParseError) (front : List Spot
   by_outcome (Came v is) =
       absurd (not_both (text most lv ([], front ++ look ∷ rest)) (v.0, look ∷ rest) e (sym (plainly (front ++ look ∷ rest)) ∙ is 0 rest) there)
   by_outcome (Refused is) =
-      refused_so (refused (look ∷ [])) (is 0)
+      refused_so (refusal_of (look ∷ [])) (is 0)
       (inr (
         (λ begins.
             let ds = begins.0 in
             let more = text_levels ds + text_operators ds in
             let levels = limit-sum more lv in
             let operators = limit-sum more most in
-            none_begins (limit more most) (limit more lv) front look (refused (look ∷ [])) (is more) ds begins.1 (omega (arith, levels)) (omega (arith, operators))),
+            none_begins (limit more most) (limit more lv) front look (refusal_of (look ∷ [])) (is more) ds begins.1 (omega (arith, levels)) (omega (arith, operators))),
         refl,
       ))
   by_outcome (TooDeep is tail fin) =
@@ -131,7 +131,7 @@ error_is_refused tokens e once failed =
     )
 
 -- an error is what is stated, but for want of memory
-pub error_stated : {A : Type 0} (e : ParseError) (stated : Result A ParseError) → FailsBy (told e) stated → e ≢ error.Memory → stated ≡ Err e
+pub error_stated : {A : Type 0} (e : ParseError) (stated : Result A ParseError) → FailsBy (exact_error e) stated → e ≢ error.Memory → stated ≡ Err e
 error_stated (error.Syntax at) stated fails other = fails
 error_stated (error.Unsupported at) stated fails other = fails
 error_stated (error.Deep at) stated fails other = fails

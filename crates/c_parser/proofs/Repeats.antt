@@ -7,7 +7,7 @@ use Rattle.items.specs.Gives.{◌>>=◌, FailsBy}
 use Rattle.items.proofs.Gives.{FailsBy-bind, on_ok}
 use Rattle.c_parser.specs.declared.error.ParseError.{ParseError}
 use Rattle.c_parser.specs.declared.error.ParseError.TheVariants as error
-use Rattle.c_parser.specs.Repeat.{go_on, repeated, repeat}
+use Rattle.c_parser.specs.Repeat.{go_on, repetition, repeat}
 
 pub chosen : {A : Type 0} (b : Bool) (x y : A) → b ≡ true → (if b then x else y) ≡ x
 chosen true x y e = refl
@@ -42,16 +42,16 @@ module _ {S : Type 0} (size : S → ℕ) (test : S → Bool) (step : S → Resul
   by_test again other state true same = by_step again other (size state) (step state) same
   by_test again other state false same = refl
 
-  repeated-enough : (m n : ℕ) (state : S) → size state < m → size state < n → repeated size test step m state ≡ repeated size test step n state
+  repeated-enough : (m n : ℕ) (state : S) → size state < m → size state < n → repetition size test step m state ≡ repetition size test step n state
   repeated-enough zero n state h k = absurd (omega arith)
   repeated-enough (suc m) zero state h k = absurd (omega arith)
   repeated-enough (suc m) (suc n) state h k =
-      by_test (repeated size test step m) (repeated size test step n) state (test state) (λ after less. repeated-enough m n after (omega arith) (omega arith))
+      by_test (repetition size test step m) (repetition size test step n) state (test state) (λ after less. repeated-enough m n after (omega arith) (omega arith))
 
   pub repeat-step : (state : S) → repeat size test step state ≡ (if test state then (step state >>= go_on size (size state) (repeat size test step)) else Ok state)
   unfolding repeat
   repeat-step state =
-      by_test (repeated size test step (size state)) (repeat size test step) state (test state)
+      by_test (repetition size test step (size state)) (repeat size test step) state (test state)
       (λ after less. repeated-enough (size state) (suc (size after)) after less (omega arith))
 
   pub repeat-done : (state : S) → test state ≡ false → repeat size test step state ≡ Ok state
@@ -71,12 +71,12 @@ module _ {S : Type 0} (size : S → ℕ) (test : S → Bool) (step : S → Resul
       subst (FailsBy cause) (sym (repeat-once state e)) (FailsBy-bind cause (step state) (go_on size (size state) (repeat size test step)) fails)
 
   -- the steps end where the test fails
-  repeated-ends : (times : ℕ) (state after : S) → repeated size test step times state ≡ Ok after → test after ≡ false
+  repeated-ends : (times : ℕ) (state after : S) → repetition size test step times state ≡ Ok after → test after ≡ false
   repeated-ends zero state after e = cc
   repeated-ends (suc times) state after e =
-      by_choice (test state) (step state >>= go_on size (size state) (repeated size test step times)) (Ok state) after e
-      (λ taken came. on_ok (step state) (go_on size (size state) (repeated size test step times)) after came
-      (λ next made goes. by_choice (nat_lt (size next) (size state)) (repeated size test step times next) (Err (error.Syntax 0)) after goes
+      by_choice (test state) (step state >>= go_on size (size state) (repetition size test step times)) (Ok state) after e
+      (λ taken came. on_ok (step state) (go_on size (size state) (repetition size test step times)) after came
+      (λ next made goes. by_choice (nat_lt (size next) (size state)) (repetition size test step times next) (Err (error.Syntax 0)) after goes
       (λ less again. repeated-ends times next after again) (λ more none. absurd (cc))))
       (λ ended came. let same : state ≡ after = cc in subst (λ s. test s ≡ false) same ended)
 
@@ -86,12 +86,12 @@ module _ {S : Type 0} (size : S → ℕ) (test : S → Bool) (step : S → Resul
 
   -- what each step keeps holds of what the steps come to
   module _ (P : S → Type 0) (keeps : (state after : S) → test state ≡ true → step state ≡ Ok after → P state → P after) where
-    repeated-keeps : (times : ℕ) (state after : S) → P state → repeated size test step times state ≡ Ok after → P after
+    repeated-keeps : (times : ℕ) (state after : S) → P state → repetition size test step times state ≡ Ok after → P after
     repeated-keeps zero state after holds e = cc
     repeated-keeps (suc times) state after holds e =
-        by_choice (test state) (step state >>= go_on size (size state) (repeated size test step times)) (Ok state) after e
-        (λ taken came. on_ok (step state) (go_on size (size state) (repeated size test step times)) after came
-        (λ next made goes. by_choice (nat_lt (size next) (size state)) (repeated size test step times next) (Err (error.Syntax 0)) after goes
+        by_choice (test state) (step state >>= go_on size (size state) (repetition size test step times)) (Ok state) after e
+        (λ taken came. on_ok (step state) (go_on size (size state) (repetition size test step times)) after came
+        (λ next made goes. by_choice (nat_lt (size next) (size state)) (repetition size test step times next) (Err (error.Syntax 0)) after goes
         (λ less again. repeated-keeps times next after (keeps state next taken made holds) again) (λ more none. absurd (cc))))
         (λ ended came. let same : state ≡ after = cc in subst P same holds)
 

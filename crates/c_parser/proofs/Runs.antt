@@ -6,7 +6,7 @@ use Rattle.items.specs.Gives.{◌>>=◌}
 use Rattle.c_lexer.specs.declared.mark.Mark.{Mark}
 use Rattle.c_parser.specs.declared.error.ParseError.{ParseError}
 use Rattle.c_parser.specs.declared.error.ParseError.TheVariants as error
-use Rattle.c_parser.specs.Descent.{deeper, is_mark, refused}
+use Rattle.c_parser.specs.Descent.{deeper, is_mark, refusal_of}
 use Rattle.c_parser.specs.Repeat.{go_on, repeat}
 use Rattle.c_parser.specs.Spots.{Spot, ends_once, is_end, mark}
 use Rattle.c_parser.proofs.CompleteLines.{bind_ok}
@@ -42,7 +42,7 @@ Finishes sh F g (s ∷ front) = (tail : List Spot) × ((later : List Spot) → F
 -- limit
 pub data Outcome {V : Type 0} (sh : Shape V) (F : List Spot → Type 0) (f : ℕ → List Spot → Result V ParseError) (front : List Spot) (look : Spot) : Type 0 where
   Came : (v : V) → ((more : ℕ) (x : List Spot) → f more (front ++ look ∷ x) ≡ Ok (sh.set (sh.up more v) (look ∷ x))) → Outcome sh F f front look
-  Refused : ((more : ℕ) (x : List Spot) → f more (front ++ look ∷ x) ≡ Err (refused (look ∷ []))) → Outcome sh F f front look
+  Refused : ((more : ℕ) (x : List Spot) → f more (front ++ look ∷ x) ≡ Err (refusal_of (look ∷ []))) → Outcome sh F f front look
   TooDeep : ((x : List Spot) → f 0 (front ++ look ∷ x) ≡ Err (error.Deep look.at))
       → (tail : List Spot) → ((later : List Spot) → F later → Finished sh (f 1 (front ++ look ∷ (tail ++ later))) later) → Outcome sh F f front look
 
@@ -97,7 +97,7 @@ module _ {V : Type 0} (sh : Shape V) (F : List Spot → Type 0) (f : ℕ → Lis
   front-finishes (s ∷ front) tail is = (tail, is)
 
   -- the first token is refused
-  pub run-refuses : (s : Spot) (x : List Spot) → ((more : ℕ) (y : List Spot) → f more (s ∷ y) ≡ Err (refused (s ∷ []))) → Run sh F f (s ∷ x)
+  pub run-refuses : (s : Spot) (x : List Spot) → ((more : ℕ) (y : List Spot) → f more (s ∷ y) ≡ Err (refusal_of (s ∷ []))) → Run sh F f (s ∷ x)
   run-refuses s x is = record { front = []; look = s; rest = x; cut = refl; finish = tt; outcome = Refused is }
 
   -- nothing is read
@@ -403,7 +403,7 @@ module _ {V : Type 0} (sh : Shape V) (F : List Spot → Type 0) (f : ℕ → Lis
 
   -- a mark that has to stand first, and nothing more
   module _ (m : Mark) (w : ℕ → V) (found : (more at : ℕ) (y : List Spot) → f more (mark at m ∷ y) ≡ Ok (sh.set (sh.up more (w at)) y))
-      (missing : (more : ℕ) (s : Spot) (y : List Spot) → is_mark m s.kind ≡ false → f more (s ∷ y) ≡ Err (refused (s ∷ []))) where
+      (missing : (more : ℕ) (s : Spot) (y : List Spot) → is_mark m s.kind ≡ false → f more (s ∷ y) ≡ Err (refusal_of (s ∷ []))) where
     pub run-past : (spots : List Spot) → ends_once spots ≡ true → Run sh F f spots
     run-past [] e = cc
     run-past (s ∷ x) e = by_test (is_mark m s.kind) refl

@@ -4,8 +4,8 @@ use Rattle.std.specs.Prelude.{pos, not, None, Some, Result, Ok}
 use Rattle.items.specs.Gives.{◌>>=◌}
 use Rattle.c_lexer.specs.declared.keyword.Keyword.{Keyword}
 use Rattle.c_lexer.specs.declared.keyword.Keyword.TheVariants as keywords
-use Rattle.c_lexer.specs.declared.kind.Kind.{Kind}
-use Rattle.c_lexer.specs.declared.kind.Kind.TheVariants as kind
+use Rattle.c_lexer.specs.declared.kind.TokenKind.{TokenKind}
+use Rattle.c_lexer.specs.declared.kind.TokenKind.TheVariants as kind
 use Rattle.c_lexer.specs.declared.mark.Mark.{Mark}
 use Rattle.c_lexer.specs.declared.mark.Mark.TheVariants as marks
 use Rattle.syntax_tree.specs.SourceExpr.{SourceExpr}
@@ -17,7 +17,7 @@ use Rattle.c_parser.specs.Expressions.{Number, Single}
 use Rattle.c_parser.specs.Lines as grammar
 use Rattle.c_parser.specs.Lines.{Line, Block, Empty, If, While, DoWhile, For, InitSimple, NoLines}
 use Rattle.c_parser.specs.Spots.{Spot, ends_once, mark, keyword}
-use Rattle.c_parser.specs.Statements.{begins_with_keyword, block, condition, entries, entry, for_condition, for_step, init, is_keyword, line_read, lines_left, local, one_entry, otherwise, past_keyword, returned, simple_line, stands_open}
+use Rattle.c_parser.specs.Statements.{begins_with_keyword, block, condition, entries, entry, for_condition, for_step, init, is_keyword, line_read, lines_left, local, one_entry, otherwise, past_keyword, return_value, simple_line, stands_open}
 use Rattle.c_parser.proofs.CompleteLines.{line-begins, line_reads}
 use Rattle.c_parser.proofs.Found.{begins_with-mark, ok_one}
 use Rattle.c_parser.proofs.FoundLines.{lines_found}
@@ -260,9 +260,9 @@ module _ (most lv : ℕ) (smaller : SmallerLines most lv) where
       single-run at keywords.Continue (line.Continue at) x e (λ more y. line-other (limit more most) (limit more lv) (keyword at keywords.Continue ∷ y) (Some keywords.Continue) refl refl refl)
   keyword-run at keywords.Return x e =
       run-skips lines_shape NoElse reading
-      (λ more y. returned (limit more most) (limit more lv) y >>= λ value. past marks.Semi value.1 >>= λ after. Ok (line.Return at value.0 ∷ [], after)) (keyword at keywords.Return) x refl
+      (λ more y. return_value (limit more most) (limit more lv) y >>= λ value. past marks.Semi value.1 >>= λ after. Ok (line.Return at value.0 ∷ [], after)) (keyword at keywords.Return) x refl
       (λ more y. line-other (limit more most) (limit more lv) (keyword at keywords.Return ∷ y) (Some keywords.Return) refl refl refl)
-      (behaves-next returned_shape lines_shape (StartsWith marks.Semi) NoElse (λ more y. returned (limit more most) (limit more lv) y)
+      (behaves-next returned_shape lines_shape (StartsWith marks.Semi) NoElse (λ more y. return_value (limit more most) (limit more lv) y)
       (λ more value. past marks.Semi value.1 >>= λ after. Ok (line.Return at value.0 ∷ [], after)) _ (λ more x. refl) (λ more v. refl) {p = []} {q = mark 0 marks.Semi ∷ []}
       (λ later ok. refl) (returned-behaves most lv)
       (λ value. mark-behaves lines_shape NoElse _ marks.Semi (λ semi. (line.Return at value.0 ∷ [], [])) (λ more at y. refl)
@@ -270,7 +270,7 @@ module _ (most lv : ℕ) (smaller : SmallerLines most lv) where
   keyword-run at k x e =
       run-refuses lines_shape NoElse reading (keyword at k) x (λ more y. line-other (limit more most) (limit more lv) (keyword at k ∷ y) (Some k) refl refl refl)
 
-  kind-run : (at : ℕ) (k : Kind) (x : List Spot) → ends_once (record { at = at; kind = k } ∷ x) ≡ true → Run lines_shape NoElse reading (record { at = at; kind = k } ∷ x)
+  kind-run : (at : ℕ) (k : TokenKind) (x : List Spot) → ends_once (record { at = at; kind = k } ∷ x) ≡ true → Run lines_shape NoElse reading (record { at = at; kind = k } ∷ x)
   kind-run at (kind.Mark m) x e = marked-run at m x e
   kind-run at (kind.Keyword k) x e = keyword-run at k x e
   kind-run at (kind.Word name) x e =

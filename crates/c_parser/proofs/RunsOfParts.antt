@@ -4,8 +4,8 @@ use Rattle.std.specs.Prelude.{pos, Option, None, Some, Ok, Err, if◌then◌else
 use Rattle.items.specs.Gives.{◌>>=◌}
 use Rattle.c_lexer.specs.declared.keyword.Keyword.{Keyword}
 use Rattle.c_lexer.specs.declared.keyword.Keyword.TheVariants as keywords
-use Rattle.c_lexer.specs.declared.kind.Kind.{Kind}
-use Rattle.c_lexer.specs.declared.kind.Kind.TheVariants as kind
+use Rattle.c_lexer.specs.declared.kind.TokenKind.{TokenKind}
+use Rattle.c_lexer.specs.declared.kind.TokenKind.TheVariants as kind
 use Rattle.c_lexer.specs.declared.mark.Mark.{Mark}
 use Rattle.c_lexer.specs.declared.mark.Mark.TheVariants as marks
 use Rattle.syntax_tree.specs.declared.op.Op.{Op}
@@ -14,11 +14,11 @@ use Rattle.syntax_tree.specs.SourceExpr as source
 use Rattle.syntax_tree.specs.SourceExpr.{SourceExpr}
 use Rattle.syntax_tree.specs.SourceLine as line
 use Rattle.syntax_tree.specs.SourceLine.{SourceLine, lines_from}
-use Rattle.c_parser.specs.Descent.{begins_with, call_by, is_mark, operand, past, place_at, refused, tail, whole, whole_call}
+use Rattle.c_parser.specs.Descent.{begins_with, call_by, is_mark, operand, past, place_at, refusal_of, tail, whole, whole_call}
 use Rattle.c_parser.specs.Lines as grammar
 use Rattle.c_parser.specs.Lines.{Line, Block, Empty, If, While, DoWhile, For, InitSimple, NoLines}
 use Rattle.c_parser.specs.Spots.{Spot, ends_once, is_end, mark, keyword, word}
-use Rattle.c_parser.specs.Statements.{Word, acted, assigned, behind_name, begins_with_keyword, comma_stands, compound_at, compound_in, compound_or, condition, count_at, count_in, counted, counted_or, changed, for_condition, for_step, init, initialised, is_keyword, lines_left, local, one_variable, past_keyword, returned, simple, simple_line, variable, variables, word_at}
+use Rattle.c_parser.specs.Statements.{Word, call_statement, assignment_line, behind_name, begins_with_keyword, comma_stands, compound_at, compound_in, compound_or, condition, count_at, count_in, increment, counted_or, compound_assignment, for_condition, for_step, init, initialisation, is_keyword, lines_left, local, one_variable, past_keyword, return_value, simple, simple_line, variable, variables, word_at}
 use Rattle.c_parser.proofs.Found.{begins_with-mark, ok_one}
 use Rattle.c_parser.proofs.Repeats.{chosen, left_out}
 use Rattle.c_parser.proofs.Runs.{Behaves, Run, Shape, bind_err, run-chooses, nothing-behaves, run-same, run-looser, loop-run, loop-short, behaves-map, run-map, mark-no_end, behaves-next, mark-behaves, limit, run-refuses, run-skips, run-stays}
@@ -58,7 +58,7 @@ past-behaves m found = mark-behaves spots_shape Any (λ more x. past m x) m (λ 
 pub keyword-no_end : (k : Keyword) (s : Spot) → is_keyword k s.kind ≡ true → is_end s.kind ≡ false
 keyword-no_end k s is = by_kind s.kind is
   where
-    by_kind : (found : Kind) → is_keyword k found ≡ true → is_end found ≡ false
+    by_kind : (found : TokenKind) → is_keyword k found ≡ true → is_end found ≡ false
     by_kind (kind.Keyword found) is = refl
     by_kind (kind.Mark m) is = refl
     by_kind (kind.Word name) is = refl
@@ -76,7 +76,7 @@ past_keyword-behaves k found = record { shortest = λ more later ok. ([], found 
     by_first [] e = cc
     by_first (s ∷ x) e = by_test s x e (is_keyword k s.kind) refl
 
-word-run : (F : List Spot → Type 0) (at : ℕ) (k : Kind) (x : List Spot) → ends_once (record { at = at; kind = k } ∷ x) ≡ true → Run word_shape F (λ more x. word_at x) (record { at = at; kind = k } ∷ x)
+word-run : (F : List Spot → Type 0) (at : ℕ) (k : TokenKind) (x : List Spot) → ends_once (record { at = at; kind = k } ∷ x) ≡ true → Run word_shape F (λ more x. word_at x) (record { at = at; kind = k } ∷ x)
 word-run F at (kind.Word name) x e =
     run-skips word_shape F (λ more x. word_at x) (λ more y. Ok (record { at = at; name = name; rest = y })) (word at name) x refl (λ more y. refl) (nothing-behaves word_shape F (record { at = at; name = name; rest = [] })) e
 word-run F at (kind.Mark m) x e = run-refuses word_shape F (λ more x. word_at x) (record { at = at; kind = kind.Mark m }) x (λ more y. refl)
@@ -97,14 +97,14 @@ stop-no_assign = by_stop (λ later. begins_with marks.Assign later ≡ false) (�
 pub stop-no_comma : (later : List Spot) → Stop later → begins_with marks.Comma later ≡ false
 stop-no_comma = by_stop (λ later. begins_with marks.Comma later ≡ false) (λ at x. refl) (λ at x. refl)
 
-compound_no_end : (k : Kind) (found : Op) → compound_in k ≡ Some found → is_end k ≡ false
+compound_no_end : (k : TokenKind) (found : Op) → compound_in k ≡ Some found → is_end k ≡ false
 compound_no_end (kind.Mark m) found is = refl
 compound_no_end (kind.Word name) found is = refl
 compound_no_end (kind.Keyword k) found is = refl
 compound_no_end (kind.Number value) found is = refl
 compound_no_end kind.End found is = cc
 
-count_no_end : (k : Kind) (found : Op) → count_in k ≡ Some found → is_end k ≡ false
+count_no_end : (k : TokenKind) (found : Op) → count_in k ≡ Some found → is_end k ≡ false
 count_no_end (kind.Mark m) found is = refl
 count_no_end (kind.Word name) found is = refl
 count_no_end (kind.Keyword k) found is = refl
@@ -121,7 +121,7 @@ module _ (most lv : ℕ) where
       (λ more y. refl) (λ value y. refl) (λ more value y. refl) (whole-run most lv)
 
   module _ (at : ℕ) (name : List ℕ) where
-    acted-run : (s : Spot) (x : List Spot) → is_mark marks.OpenRound s.kind ≡ true → ends_once (s ∷ x) ≡ true → Run line_shape Stop (λ more x. acted (limit more most) (limit more lv) at name x) (s ∷ x)
+    acted-run : (s : Spot) (x : List Spot) → is_mark marks.OpenRound s.kind ≡ true → ends_once (s ∷ x) ≡ true → Run line_shape Stop (λ more x. call_statement (limit more most) (limit more lv) at name x) (s ∷ x)
     acted-run s x is e =
         run-map value_shape line_shape Stop (λ more x. whole_call (limit more most) (limit more lv) at name x) (λ read. (line.Act read.0, read.1)) _
         (λ more y. refl) (λ read y. refl) (λ more read y. refl) (s ∷ x) e
@@ -131,27 +131,27 @@ module _ (most lv : ℕ) where
     counted-run : (s : Spot) (x : List Spot) (o : Option Op) → count_in s.kind ≡ o → ends_once (s ∷ x) ≡ true
         → Run line_shape Stop (λ more x. counted_or (count_at x) (limit more most) (limit more lv) at name x) (s ∷ x)
     counted-run s x (Some found) is e =
-        run-skips line_shape Stop _ (λ more y. Ok (counted at name found, y)) s x (count_no_end s.kind found is)
-        (λ more y. ap (λ o. counted_or o (limit more most) (limit more lv) at name (s ∷ y)) is) (nothing-behaves line_shape Stop (counted at name found, [])) e
+        run-skips line_shape Stop _ (λ more y. Ok (increment at name found, y)) s x (count_no_end s.kind found is)
+        (λ more y. ap (λ o. counted_or o (limit more most) (limit more lv) at name (s ∷ y)) is) (nothing-behaves line_shape Stop (increment at name found, [])) e
     counted-run s x None is e =
-        run-same line_shape Stop _ (λ more x. if begins_with marks.OpenRound x then acted (limit more most) (limit more lv) at name x else Err (refused x)) s x
+        run-same line_shape Stop _ (λ more x. if begins_with marks.OpenRound x then call_statement (limit more most) (limit more lv) at name x else Err (refusal_of x)) s x
         (λ more y. ap (λ o. counted_or o (limit more most) (limit more lv) at name (s ∷ y)) is)
-        (run-chooses line_shape Stop _ (λ more x. acted (limit more most) (limit more lv) at name x) (λ more x. Err (refused x)) (λ s. is_mark marks.OpenRound s.kind) (λ more s y. refl)
-        (λ s x is e. acted-run s x is e) (λ s x is e. run-refuses line_shape Stop (λ more x. Err (refused x)) s x (λ more y. refl)) (s ∷ x) e)
+        (run-chooses line_shape Stop _ (λ more x. call_statement (limit more most) (limit more lv) at name x) (λ more x. Err (refusal_of x)) (λ s. is_mark marks.OpenRound s.kind) (λ more s y. refl)
+        (λ s x is e. acted-run s x is e) (λ s x is e. run-refuses line_shape Stop (λ more x. Err (refusal_of x)) s x (λ more y. refl)) (s ∷ x) e)
 
     compound-run : (s : Spot) (x : List Spot) (o : Option Op) → compound_in s.kind ≡ o → ends_once (s ∷ x) ≡ true
         → Run line_shape Stop (λ more x. compound_or (compound_at x) (limit more most) (limit more lv) at name x) (s ∷ x)
     compound-run s x (Some found) is e =
-        run-skips line_shape Stop _ (λ more y. whole (limit more most) (limit more lv) y >>= λ value. Ok (changed at name found value.0, value.1)) s x (compound_no_end s.kind found is)
-        (λ more y. ap (λ o. compound_or o (limit more most) (limit more lv) at name (s ∷ y)) is) (value_behind (changed at name found)) e
+        run-skips line_shape Stop _ (λ more y. whole (limit more most) (limit more lv) y >>= λ value. Ok (compound_assignment at name found value.0, value.1)) s x (compound_no_end s.kind found is)
+        (λ more y. ap (λ o. compound_or o (limit more most) (limit more lv) at name (s ∷ y)) is) (value_behind (compound_assignment at name found)) e
     compound-run s x None is e =
         run-same line_shape Stop _ (λ more x. counted_or (count_at x) (limit more most) (limit more lv) at name x) s x
         (λ more y. ap (λ o. compound_or o (limit more most) (limit more lv) at name (s ∷ y)) is) (counted-run s x (count_in s.kind) refl e)
 
     behind_name-behaves : Behaves line_shape Stop (mark 0 marks.PlusPlus ∷ []) (λ more x. behind_name (limit more most) (limit more lv) at name x)
     behind_name-behaves = record {
-      shortest = λ more later ok. ((counted at name op.Add, []), refl);
-      runs = run-chooses line_shape Stop _ (λ more x. assigned (limit more most) (limit more lv) at name x)
+      shortest = λ more later ok. ((increment at name op.Add, []), refl);
+      runs = run-chooses line_shape Stop _ (λ more x. assignment_line (limit more most) (limit more lv) at name x)
           (λ more x. compound_or (compound_at x) (limit more most) (limit more lv) at name x) (λ s. is_mark marks.Assign s.kind) (λ more s y. refl)
           (λ s x is e. run-skips line_shape Stop _ (λ more y. whole (limit more most) (limit more lv) y >>= λ value. Ok (line.Assign name at value.0, value.1)) s x (mark-no_end marks.Assign s is)
           (λ more y. refl) (value_behind (λ value. line.Assign name at value)) e)
@@ -159,18 +159,18 @@ module _ (most lv : ℕ) where
     }
 
   count_before-run : (at : ℕ) (m : Mark) (found : Op) (x : List Spot) → ends_once (mark at m ∷ x) ≡ true
-      → ((more : ℕ) (y : List Spot) → simple (limit more most) (limit more lv) (mark at m ∷ y) ≡ word_at y >>= λ word. Ok (counted word.at word.name found, word.rest))
+      → ((more : ℕ) (y : List Spot) → simple (limit more most) (limit more lv) (mark at m ∷ y) ≡ word_at y >>= λ word. Ok (increment word.at word.name found, word.rest))
       → Run line_shape Stop (λ more x. simple (limit more most) (limit more lv) x) (mark at m ∷ x)
   count_before-run at m found x e same =
-      run-skips line_shape Stop _ (λ more y. word_at y >>= λ word. Ok (counted word.at word.name found, word.rest)) (mark at m) x refl same
-      (behaves-map word_shape line_shape Stop (λ more y. word_at y) (λ word. (counted word.at word.name found, word.rest)) _ (λ more y. refl) (λ word y. refl) (λ more word y. refl) (word-behaves Stop)) e
+      run-skips line_shape Stop _ (λ more y. word_at y >>= λ word. Ok (increment word.at word.name found, word.rest)) (mark at m) x refl same
+      (behaves-map word_shape line_shape Stop (λ more y. word_at y) (λ word. (increment word.at word.name found, word.rest)) _ (λ more y. refl) (λ word y. refl) (λ more word y. refl) (word-behaves Stop)) e
 
   simple_mark-run : (at : ℕ) (m : Mark) (x : List Spot) → ends_once (mark at m ∷ x) ≡ true → Run line_shape Stop (λ more x. simple (limit more most) (limit more lv) x) (mark at m ∷ x)
   simple_mark-run at marks.PlusPlus x e = count_before-run at marks.PlusPlus op.Add x e (λ more y. refl)
   simple_mark-run at marks.MinusMinus x e = count_before-run at marks.MinusMinus op.Sub x e (λ more y. refl)
   simple_mark-run at m x e = run-refuses line_shape Stop _ (mark at m) x (λ more y. refl)
 
-  simple-run : (at : ℕ) (k : Kind) (x : List Spot) → ends_once (record { at = at; kind = k } ∷ x) ≡ true
+  simple-run : (at : ℕ) (k : TokenKind) (x : List Spot) → ends_once (record { at = at; kind = k } ∷ x) ≡ true
       → Run line_shape Stop (λ more x. simple (limit more most) (limit more lv) x) (record { at = at; kind = k } ∷ x)
   simple-run at (kind.Word name) x e =
       run-skips line_shape Stop _ (λ more y. behind_name (limit more most) (limit more lv) at name y) (word at name) x refl (λ more y. refl) (behind_name-behaves at name) e
@@ -180,7 +180,7 @@ module _ (most lv : ℕ) where
   simple-run at kind.End x e = run-refuses line_shape Stop _ (record { at = at; kind = kind.End }) x (λ more y. refl)
 
   simple-behaves : Behaves line_shape Stop (word 0 [] ∷ mark 0 marks.PlusPlus ∷ []) (λ more x. simple (limit more most) (limit more lv) x)
-  simple-behaves = record { shortest = λ more later ok. ((counted 0 [] op.Add, []), refl); runs = λ spots e. by_first spots e }
+  simple-behaves = record { shortest = λ more later ok. ((increment 0 [] op.Add, []), refl); runs = λ spots e. by_first spots e }
     where
       by_first : (spots : List Spot) → ends_once spots ≡ true → Run line_shape Stop (λ more x. simple (limit more most) (limit more lv) x) spots
       by_first [] e = cc
@@ -196,10 +196,10 @@ module _ (most lv : ℕ) where
   -- ---- locals
 
   value_or_none : (w : Word) → Behaves line_shape Stop []
-      (λ more x. if begins_with marks.Assign x then initialised (limit more most) (limit more lv) w.at w.name x else Ok (line.Local w.name w.at None, x))
+      (λ more x. if begins_with marks.Assign x then initialisation (limit more most) (limit more lv) w.at w.name x else Ok (line.Local w.name w.at None, x))
   value_or_none w = record {
     shortest = λ more later ok. ((line.Local w.name w.at None, []), left_out (begins_with marks.Assign later) _ _ (stop-no_assign later ok));
-    runs = run-chooses line_shape Stop _ (λ more x. initialised (limit more most) (limit more lv) w.at w.name x) (λ more x. Ok (line.Local w.name w.at None, x))
+    runs = run-chooses line_shape Stop _ (λ more x. initialisation (limit more most) (limit more lv) w.at w.name x) (λ more x. Ok (line.Local w.name w.at None, x))
         (λ s. is_mark marks.Assign s.kind) (λ more s y. refl)
         (λ s x is e. run-skips line_shape Stop _ (λ more y. whole (limit more most) (limit more lv) y >>= λ value. Ok (line.Local w.name w.at (Some value.0), value.1)) s x (mark-no_end marks.Assign s is)
         (λ more y. refl) (value_behind (λ value. line.Local w.name w.at (Some value))) e)
@@ -209,7 +209,7 @@ module _ (most lv : ℕ) where
   variable-behaves : Behaves line_shape Stop (word 0 [] ∷ []) (λ more x. variable (limit more most) (limit more lv) x)
   variable-behaves =
       behaves-next word_shape line_shape Any Stop (λ more x. word_at x)
-      (λ more w. if begins_with marks.Assign w.rest then initialised (limit more most) (limit more lv) w.at w.name w.rest else Ok (line.Local w.name w.at None, w.rest))
+      (λ more w. if begins_with marks.Assign w.rest then initialisation (limit more most) (limit more lv) w.at w.name w.rest else Ok (line.Local w.name w.at None, w.rest))
       _ (λ more x. refl) (λ more v. refl) {p = word 0 [] ∷ []} {q = []} (λ later ok. tt) (word-behaves Any) value_or_none
 
   variable-less : (more : ℕ) (v after : List SourceLine × List Spot) → comma_stands v ≡ true → one_variable (limit more most) (limit more lv) v ≡ Ok after → lines_left after < lines_left v
@@ -288,7 +288,7 @@ module _ (most lv : ℕ) where
         (λ more y. refl) (λ read y. refl) (λ more read y. refl) (s ∷ x) e (run-looser line_shape round-stops (simple-behaves.runs (s ∷ x) e)));
   }
 
-  pub returned-behaves : Behaves returned_shape (StartsWith marks.Semi) [] (λ more x. returned (limit more most) (limit more lv) x)
+  pub returned-behaves : Behaves returned_shape (StartsWith marks.Semi) [] (λ more x. return_value (limit more most) (limit more lv) x)
   returned-behaves = record {
     shortest = λ more later ok. ((None, []), chosen (begins_with marks.Semi later) _ _ ok);
     runs = run-chooses returned_shape (StartsWith marks.Semi) _ (λ more x. Ok (None, x)) (λ more x. whole (limit more most) (limit more lv) x >>= λ value. Ok (Some value.0, value.1))

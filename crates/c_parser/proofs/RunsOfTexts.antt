@@ -4,18 +4,18 @@ use Rattle.std.specs.Prelude.{pos, negsuc, neg_ℤ, not, ◌&&◌, None, Some, R
 use Rattle.items.specs.Gives.{◌>>=◌}
 use Rattle.c_lexer.specs.declared.keyword.Keyword.{Keyword}
 use Rattle.c_lexer.specs.declared.keyword.Keyword.TheVariants as keywords
-use Rattle.c_lexer.specs.declared.kind.Kind.{Kind}
-use Rattle.c_lexer.specs.declared.kind.Kind.TheVariants as kind
+use Rattle.c_lexer.specs.declared.kind.TokenKind.{TokenKind}
+use Rattle.c_lexer.specs.declared.kind.TokenKind.TheVariants as kind
 use Rattle.c_lexer.specs.declared.mark.Mark.TheVariants as marks
 use Rattle.syntax_tree.specs.SourceLine.{lines_from}
 use Rattle.c_parser.specs.declared.error.ParseError.{ParseError}
 use Rattle.c_parser.specs.Declarations as grammar
-use Rattle.c_parser.specs.Descent.{begins_with, is_mark, past, refused, tail}
+use Rattle.c_parser.specs.Descent.{begins_with, is_mark, past, refusal_of, tail}
 use Rattle.c_parser.specs.Lines.{NoLines}
 use Rattle.c_parser.specs.SourceItem.{SourceItem, Global, Proto, Body, Parameter}
 use Rattle.c_parser.specs.Spots.{Spot, ends_once, is_end, mark, keyword, number, word}
 use Rattle.c_parser.specs.Statements.{Word, begins_with_keyword, block, is_keyword, line_read, past_keyword, word_at}
-use Rattle.c_parser.specs.Texts.{Head, Signature, Slots, at_end, behind_name, behind_signature, behind_type, behind_word, body, body_or, comma_stands, constant, declaration, globals, goes_on, initial, items_left, may_have_body, more_slots, name_at, negative_at, next_shared, no_slots, number_at, one_declaration, one_shared, one_slot, procedure, shared, shared_list, signature, signature_of, slot, slot_list, slots_go_on, slots_left, text, typed}
+use Rattle.c_parser.specs.Texts.{Head, Signature, Slots, at_end, behind_name, behind_signature, behind_type, behind_word, body, body_or, comma_stands, constant, declaration, globals, goes_on, initial, items_left, may_have_body, more_slots, name_at, negative_at, next_shared, no_slots, number_at, one_declaration, one_shared, one_slot, procedure, global_item, shared_list, signature, signature_of, slot, slot_list, slots_go_on, slots_left, text, typed_declaration}
 use Rattle.c_parser.proofs.CompleteLines.{bind_ok, entries_read}
 use Rattle.c_parser.proofs.CompleteTexts.{declaration-begins}
 use Rattle.c_parser.proofs.Found.{begins_with-mark, ok_one}
@@ -38,7 +38,7 @@ items_shape = pair_shape (List SourceItem)
 
 -- ---- globals
 
-number_kind-run : (F : List Spot → Type 0) (at : ℕ) (k : Kind) (x : List Spot) → ends_once (record { at = at; kind = k } ∷ x) ≡ true
+number_kind-run : (F : List Spot → Type 0) (at : ℕ) (k : TokenKind) (x : List Spot) → ends_once (record { at = at; kind = k } ∷ x) ≡ true
     → Run number_shape F (λ more x. number_at x) (record { at = at; kind = k } ∷ x)
 number_kind-run F at (kind.Number value) x e = run-skips number_shape F (λ more x. number_at x) (λ more y. Ok (value, y)) (number at value) x refl (λ more y. refl) (nothing-behaves number_shape F (value, [])) e
 number_kind-run F at (kind.Mark m) x e = run-refuses number_shape F (λ more x. number_at x) (record { at = at; kind = kind.Mark m }) x (λ more y. refl)
@@ -46,7 +46,7 @@ number_kind-run F at (kind.Keyword k) x e = run-refuses number_shape F (λ more 
 number_kind-run F at (kind.Word name) x e = run-refuses number_shape F (λ more x. number_at x) (record { at = at; kind = kind.Word name }) x (λ more y. refl)
 number_kind-run F at kind.End x e = run-refuses number_shape F (λ more x. number_at x) (record { at = at; kind = kind.End }) x (λ more y. refl)
 
-negative_kind-run : (F : List Spot → Type 0) (at : ℕ) (k : Kind) (x : List Spot) → ends_once (record { at = at; kind = k } ∷ x) ≡ true
+negative_kind-run : (F : List Spot → Type 0) (at : ℕ) (k : TokenKind) (x : List Spot) → ends_once (record { at = at; kind = k } ∷ x) ≡ true
     → Run number_shape F (λ more x. negative_at x) (record { at = at; kind = k } ∷ x)
 negative_kind-run F at (kind.Number (pos n)) x e =
     run-skips number_shape F (λ more x. negative_at x) (λ more y. Ok (neg_ℤ (pos n), y)) (number at (pos n)) x refl (λ more y. refl) (nothing-behaves number_shape F (neg_ℤ (pos n), [])) e
@@ -82,18 +82,18 @@ initial-behaves = record {
 abbrev pub word_with : Word → List Spot → Word
 word_with w x = record { at = w.at; name = w.name; rest = x }
 
-shared-behaves : (w : Word) → Behaves item_shape Stop [] (λ more x. shared (word_with w x))
+shared-behaves : (w : Word) → Behaves item_shape Stop [] (λ more x. global_item (word_with w x))
 shared-behaves w = behaves-map number_shape item_shape Stop (λ more x. initial x) (λ read. (Global w.name w.at read.0, read.1)) _ (λ more y. refl) (λ v y. refl) (λ more v y. refl) initial-behaves
 
 next_shared-behaves : Behaves item_shape Stop (word 0 [] ∷ []) (λ more x. next_shared x)
 next_shared-behaves =
-    behaves-next word_shape item_shape Any Stop (λ more x. word_at x) (λ more w. shared w) _ (λ more x. refl) (λ more v. refl) {p = word 0 [] ∷ []} {q = []} (λ later ok. tt) (word-behaves Any) shared-behaves
+    behaves-next word_shape item_shape Any Stop (λ more x. word_at x) (λ more w. global_item w) _ (λ more x. refl) (λ more v. refl) {p = word 0 [] ∷ []} {q = []} (λ later ok. tt) (word-behaves Any) shared-behaves
 
 one_shared-less : (v after : List SourceItem × List Spot) → comma_stands v ≡ true → one_shared v ≡ Ok after → items_left after < items_left v
 one_shared-less v after test made =
     let comma = begins_with-mark marks.Comma v.1 test in
     let s = steps (next_shared (tail v.1)) (λ next. Ok (v.0 ++ next.0 ∷ [], next.1)) after made in
-    let t = steps (word_at (tail v.1)) shared s.0 s.1 in
+    let t = steps (word_at (tail v.1)) global_item s.0 s.1 in
     let other = shared_found t.0 s.0 t.2 in
     let whole : length v.1 ≡ suc (length (tail v.1)) = ap length comma.1 in
     let named : length (tail v.1) ≡ length (word t.0.at t.0.name ∷ t.0.rest) = ap length (word_at-word (tail v.1) t.0 t.1) in
@@ -117,7 +117,7 @@ shared_list-behaves front = record {
 
 globals-behaves : (F : List Spot → Type 0) (w : Word) → Behaves items_shape F (mark 0 marks.Semi ∷ []) (λ more x. globals (word_with w x))
 globals-behaves F w =
-    behaves-next item_shape items_shape Stop F (λ more x. shared (word_with w x))
+    behaves-next item_shape items_shape Stop F (λ more x. global_item (word_with w x))
     (λ more first. shared_list (first.0 ∷ [], first.1) >>= λ all. past marks.Semi all.1 >>= λ after. Ok (all.0, after))
     _ (λ more x. refl) (λ more v. refl) {p = []} {q = mark 0 marks.Semi ∷ []} (λ later ok. inl (0, later, refl)) (shared-behaves w)
     (λ first. behaves-next items_shape items_shape Stop F (λ more x. shared_list (first.0 ∷ [], x))
@@ -135,7 +135,7 @@ signature_shape = record { set = λ v x. record { told = v.told; count = v.count
 abbrev pub slot_made : ℕ → List Parameter → List Spot → Slots
 slot_made count named rest = record { count = count + 1; named = named ++ name_at rest; rest = behind_name (name_at rest) rest }
 
-name-run : (count : ℕ) (named : List Parameter) (at : ℕ) (k : Kind) (x : List Spot) → ends_once (record { at = at; kind = k } ∷ x) ≡ true
+name-run : (count : ℕ) (named : List Parameter) (at : ℕ) (k : TokenKind) (x : List Spot) → ends_once (record { at = at; kind = k } ∷ x) ≡ true
     → Run slots_shape Stop (λ more x. Ok (slot_made count named x)) (record { at = at; kind = k } ∷ x)
 name-run count named at (kind.Word name) x e =
     run-skips slots_shape Stop _ (λ more y. Ok (record { count = count + 1; named = named ++ record { name = name; at = at } ∷ []; rest = y })) (word at name) x refl (λ more y. refl)
@@ -238,15 +238,15 @@ module _ (F : List Spot → Type 0) (most lv : ℕ) where
   body_or-run : (head : Head) (read : Signature) (s : Spot) (x : List Spot) → ends_once (s ∷ x) ≡ true → (made : Bool) → may_have_body head read ≡ made
       → Run items_shape F (λ more x. body_or (limit more most) (limit more lv) head read x) (s ∷ x)
   body_or-run head read s x e true may =
-      run-chooses items_shape F _ (λ more x. body (limit more most) (limit more lv) head read.named x) (λ more x. Err (refused x)) (λ s. is_mark marks.OpenBrace s.kind)
-      (λ more s y. ap (λ b. if b then body (limit more most) (limit more lv) head read.named (s ∷ y) else Err (refused (s ∷ y))) (with_true (is_mark marks.OpenBrace s.kind) (may_have_body head read) may))
-      (λ s x is e. body-run head read.named s x is e) (λ s x is e. run-refuses items_shape F (λ more x. Err (refused x)) s x (λ more y. refl)) (s ∷ x) e
+      run-chooses items_shape F _ (λ more x. body (limit more most) (limit more lv) head read.named x) (λ more x. Err (refusal_of x)) (λ s. is_mark marks.OpenBrace s.kind)
+      (λ more s y. ap (λ b. if b then body (limit more most) (limit more lv) head read.named (s ∷ y) else Err (refusal_of (s ∷ y))) (with_true (is_mark marks.OpenBrace s.kind) (may_have_body head read) may))
+      (λ s x is e. body-run head read.named s x is e) (λ s x is e. run-refuses items_shape F (λ more x. Err (refusal_of x)) s x (λ more y. refl)) (s ∷ x) e
     where
       with_true : (a b : Bool) → b ≡ true → a && b ≡ a
       with_true true b is = is
       with_true false b is = refl
   body_or-run head read s x e false may =
-      run-refuses items_shape F _ s x (λ more y. ap (λ b. if b then body (limit more most) (limit more lv) head read.named (s ∷ y) else Err (refused (s ∷ y))) (with_false (is_mark marks.OpenBrace s.kind) (may_have_body head read) may))
+      run-refuses items_shape F _ s x (λ more y. ap (λ b. if b then body (limit more most) (limit more lv) head read.named (s ∷ y) else Err (refusal_of (s ∷ y))) (with_false (is_mark marks.OpenBrace s.kind) (may_have_body head read) may))
     where
       with_false : (a b : Bool) → b ≡ false → a && b ≡ false
       with_false true b is = is
@@ -274,10 +274,10 @@ module _ (F : List Spot → Type 0) (most lv : ℕ) where
   -- ---- the text
 
   globals_or-run : (outside returns : Bool) (w : Word) (s : Spot) (x : List Spot) → ends_once (s ∷ x) ≡ true
-      → Run items_shape F (λ more x. if returns && not outside then globals (word_with w x) else Err (refused x)) (s ∷ x)
+      → Run items_shape F (λ more x. if returns && not outside then globals (word_with w x) else Err (refusal_of x)) (s ∷ x)
   globals_or-run false true w s x e = (globals-behaves F w).runs (s ∷ x) e
-  globals_or-run true true w s x e = run-refuses items_shape F (λ more x. Err (refused x)) s x (λ more y. refl)
-  globals_or-run outside false w s x e = run-refuses items_shape F (λ more x. Err (refused x)) s x (λ more y. refl)
+  globals_or-run true true w s x e = run-refuses items_shape F (λ more x. Err (refusal_of x)) s x (λ more y. refl)
+  globals_or-run outside false w s x e = run-refuses items_shape F (λ more x. Err (refusal_of x)) s x (λ more y. refl)
 
   behind_word-behaves : (outside returns : Bool) (w : Word)
       → Behaves items_shape F (mark 0 marks.OpenRound ∷ mark 0 marks.CloseRound ∷ mark 0 marks.Semi ∷ []) (λ more x. behind_word (limit more most) (limit more lv) outside returns (word_with w x))
@@ -285,7 +285,7 @@ module _ (F : List Spot → Type 0) (most lv : ℕ) where
       let head : Head = record { outside = outside; returns = returns; at = w.at; name = w.name } in
       record {
         shortest = λ more later ok. ((Proto w.name w.at returns None ∷ [], []), refl);
-        runs = run-chooses items_shape F _ (λ more x. procedure (limit more most) (limit more lv) head (tail x)) (λ more x. if returns && not outside then globals (word_with w x) else Err (refused x))
+        runs = run-chooses items_shape F _ (λ more x. procedure (limit more most) (limit more lv) head (tail x)) (λ more x. if returns && not outside then globals (word_with w x) else Err (refusal_of x))
             (λ s. is_mark marks.OpenRound s.kind) (λ more s y. refl)
             (λ s x is e. run-skips items_shape F _ (λ more y. procedure (limit more most) (limit more lv) head y) s x (mark-no_end marks.OpenRound s is) (λ more y. refl) (procedure-behaves head) e)
             (λ s x is e. globals_or-run outside returns w s x e);
@@ -298,21 +298,21 @@ module _ (F : List Spot → Type 0) (most lv : ℕ) where
       {p = word 0 [] ∷ []} {q = mark 0 marks.OpenRound ∷ mark 0 marks.CloseRound ∷ mark 0 marks.Semi ∷ []} (λ later ok. tt) (word-behaves Any) (λ w. behind_word-behaves outside returns w)
 
   typed-behaves : (outside : Bool)
-      → Behaves items_shape F (keyword 0 keywords.Int ∷ word 0 [] ∷ mark 0 marks.OpenRound ∷ mark 0 marks.CloseRound ∷ mark 0 marks.Semi ∷ []) (λ more x. typed (limit more most) (limit more lv) outside x)
+      → Behaves items_shape F (keyword 0 keywords.Int ∷ word 0 [] ∷ mark 0 marks.OpenRound ∷ mark 0 marks.CloseRound ∷ mark 0 marks.Semi ∷ []) (λ more x. typed_declaration (limit more most) (limit more lv) outside x)
   typed-behaves outside = record {
     shortest = λ more later ok. ((Proto [] 0 true None ∷ [], []), refl);
     runs = run-chooses items_shape F _ (λ more x. behind_type (limit more most) (limit more lv) outside true (tail x))
-        (λ more x. if begins_with_keyword keywords.Void x then behind_type (limit more most) (limit more lv) outside false (tail x) else Err (refused x)) (λ s. is_keyword keywords.Int s.kind) (λ more s y. refl)
+        (λ more x. if begins_with_keyword keywords.Void x then behind_type (limit more most) (limit more lv) outside false (tail x) else Err (refusal_of x)) (λ s. is_keyword keywords.Int s.kind) (λ more s y. refl)
         (λ s x is e. run-skips items_shape F _ (λ more y. behind_type (limit more most) (limit more lv) outside true y) s x (keyword-no_end keywords.Int s is) (λ more y. refl) (behind_type-behaves outside true) e)
-        (λ s x is e. run-chooses items_shape F _ (λ more x. behind_type (limit more most) (limit more lv) outside false (tail x)) (λ more x. Err (refused x)) (λ s. is_keyword keywords.Void s.kind) (λ more s y. refl)
+        (λ s x is e. run-chooses items_shape F _ (λ more x. behind_type (limit more most) (limit more lv) outside false (tail x)) (λ more x. Err (refusal_of x)) (λ s. is_keyword keywords.Void s.kind) (λ more s y. refl)
         (λ s x is e. run-skips items_shape F _ (λ more y. behind_type (limit more most) (limit more lv) outside false y) s x (keyword-no_end keywords.Void s is) (λ more y. refl) (behind_type-behaves outside false) e)
-        (λ s x is e. run-refuses items_shape F (λ more x. Err (refused x)) s x (λ more y. refl)) (s ∷ x) e);
+        (λ s x is e. run-refuses items_shape F (λ more x. Err (refusal_of x)) s x (λ more y. refl)) (s ∷ x) e);
   }
 
   declaration-run : (s : Spot) (x : List Spot) → ends_once (s ∷ x) ≡ true → Run items_shape F (λ more x. declaration (limit more most) (limit more lv) x) (s ∷ x)
   declaration-run s x e =
-      run-chooses items_shape F _ (λ more x. typed (limit more most) (limit more lv) true (tail x)) (λ more x. typed (limit more most) (limit more lv) false x) (λ s. is_keyword keywords.Extern s.kind) (λ more s y. refl)
-      (λ s x is e. run-skips items_shape F _ (λ more y. typed (limit more most) (limit more lv) true y) s x (keyword-no_end keywords.Extern s is) (λ more y. refl) (typed-behaves true) e)
+      run-chooses items_shape F _ (λ more x. typed_declaration (limit more most) (limit more lv) true (tail x)) (λ more x. typed_declaration (limit more most) (limit more lv) false x) (λ s. is_keyword keywords.Extern s.kind) (λ more s y. refl)
+      (λ s x is e. run-skips items_shape F _ (λ more y. typed_declaration (limit more most) (limit more lv) true y) s x (keyword-no_end keywords.Extern s is) (λ more y. refl) (typed-behaves true) e)
       (λ s x is e. (typed-behaves false).runs (s ∷ x) e) (s ∷ x) e
 
 abbrev pub AtEnd : List Spot → Type 0

@@ -7,8 +7,8 @@ use denote.Enum.Bare.{sameb, same_true}
 use Rattle.items.specs.Gives.{◌>>=◌}
 use Rattle.items.proofs.Gives.{on_ok}
 use Rattle.c_lexer.specs.contracts.mark.Mark.{the_type}
-use Rattle.c_lexer.specs.declared.kind.Kind.{Kind}
-use Rattle.c_lexer.specs.declared.kind.Kind.TheVariants as kind
+use Rattle.c_lexer.specs.declared.kind.TokenKind.{TokenKind}
+use Rattle.c_lexer.specs.declared.kind.TokenKind.TheVariants as kind
 use Rattle.c_lexer.specs.declared.mark.Mark.{Mark}
 use Rattle.c_lexer.specs.declared.mark.Mark.TheVariants as marks
 use Rattle.syntax_tree.specs.declared.op.Op.{Op}
@@ -16,7 +16,7 @@ use Rattle.syntax_tree.specs.declared.op.Sign.{Sign}
 use Rattle.syntax_tree.specs.SourceExpr as source
 use Rattle.syntax_tree.specs.SourceExpr.{SourceExpr, exprs_from}
 use Rattle.c_parser.specs.declared.error.ParseError.{ParseError}
-use Rattle.c_parser.specs.Descent.{Rest, argument, arguments, begins_with, behind, bracketed_by, call_by, deeper, goes_on, has_comma, joined, left_of, left_of_list, link, link_if, links, marked_by, more_arguments, named_by, op_at, operand, operand_by, operand_in, place_at, refused, sign_of, signed_by, signed_if, spend, tail, with_spots}
+use Rattle.c_parser.specs.Descent.{Rest, argument, arguments, begins_with, behind, bracketed_expression_by, call_by, deeper, goes_on, has_comma, expression_below, rest_length, rest_length_of_list, link, link_if, links, mark_operand_by, more_arguments, reference_by, op_at, operand, operand_by, operand_in, place_at, refusal_of, sign_of, signed_operand_by, signed_if, spend, tail, with_spots}
 use Rattle.c_parser.specs.Expressions as grammar
 use Rattle.c_parser.specs.Expressions.{Operand, Number, Named, Called, Bracketed, Signed, Expression, Single, Joined, Call, Applied, Arguments, NoArguments, Listed, MoreArguments, NoMore, Another}
 use Rattle.c_parser.specs.Operators.{op_mark, rank, sign_mark}
@@ -130,13 +130,13 @@ record ListedFound (levels : ℕ) (rest : Rest) (read : List SourceExpr × Rest)
 
 module _ (levels : ℕ) (found : OperandsFound levels) where
   -- one link more keeps what is found
-  link_found : (r at : ℕ) (rest : Rest) → ((other : Rest) (read : SourceExpr × Rest) → joined (operand levels) r other ≡ Ok read → ExpressionFound r levels other read)
-      → (op : Op) (left next : SourceExpr × Rest) → op_at r left.1.spots ≡ Some op → link (joined (operand levels) r) at op left ≡ Ok next
+  link_found : (r at : ℕ) (rest : Rest) → ((other : Rest) (read : SourceExpr × Rest) → expression_below (operand levels) r other ≡ Ok read → ExpressionFound r levels other read)
+      → (op : Op) (left next : SourceExpr × Rest) → op_at r left.1.spots ≡ Some op → link (expression_below (operand levels) r) at op left ≡ Ok next
       → at ≡ place_at rest.spots → ExpressionFound (suc r) levels rest left → ExpressionFound (suc r) levels rest next
   link_found r at rest operands op left next first made from has =
       let mark_found = op_at-mark r left.1.spots op first in
-      on_ok (spend left.1) (λ rest. joined (operand levels) r rest >>= λ right. Ok (source.Binary at op left.0 right.0, right.1)) next made
-      (λ after spent reads. on_ok (joined (operand levels) r after) (λ right. Ok (source.Binary at op left.0 right.0, right.1)) next reads
+      on_ok (spend left.1) (λ rest. expression_below (operand levels) r rest >>= λ right. Ok (source.Binary at op left.0 right.0, right.1)) next made
+      (λ after spent reads. on_ok (expression_below (operand levels) r after) (λ right. Ok (source.Binary at op left.0 right.0, right.1)) next reads
       (λ right came ended.
       let less = one_less-rest left.1.spots left.1.operators after spent in
       let other = operands after right came in
@@ -169,28 +169,28 @@ module _ (levels : ℕ) (found : OperandsFound levels) where
     stands_for = has.stands_for;
   }
 
-  by_op : (r : ℕ) (rest : Rest) → ((other : Rest) (read : SourceExpr × Rest) → joined (operand levels) r other ≡ Ok read → ExpressionFound r levels other read)
+  by_op : (r : ℕ) (rest : Rest) → ((other : Rest) (read : SourceExpr × Rest) → expression_below (operand levels) r other ≡ Ok read → ExpressionFound r levels other read)
       → (left next : SourceExpr × Rest) (o : Option Op) → op_at r left.1.spots ≡ o → is_some o ≡ true
-      → link_if (joined (operand levels) r) (place_at rest.spots) o left ≡ Ok next → ExpressionFound (suc r) levels rest left → ExpressionFound (suc r) levels rest next
+      → link_if (expression_below (operand levels) r) (place_at rest.spots) o left ≡ Ok next → ExpressionFound (suc r) levels rest left → ExpressionFound (suc r) levels rest next
   by_op r rest operands left next None is test made has = cc
   by_op r rest operands left next (Some op) is test made has = link_found r (place_at rest.spots) rest operands op left next is made refl has
 
-  joined_found : (n : ℕ) (rest : Rest) (read : SourceExpr × Rest) → joined (operand levels) n rest ≡ Ok read → ExpressionFound n levels rest read
+  joined_found : (n : ℕ) (rest : Rest) (read : SourceExpr × Rest) → expression_below (operand levels) n rest ≡ Ok read → ExpressionFound n levels rest read
   joined_found zero rest read e =
       let has = found rest read (sym (joined-none (operand levels) 0 rest refl) ∙ e) in
       record { expression = Single has.operand; spells = has.spells; counts = has.counts; made = has.made; deep = has.deep; stands_for = has.stands_for }
   joined_found (suc r) rest read e =
-      on_ok (joined (operand levels) r rest) (links r (joined (operand levels) r) (place_at rest.spots)) read (sym (joined-suc (operand levels) r rest) ∙ e)
-      (λ first came goes. repeat-keeps left_of (goes_on r) (λ left. link_if (joined (operand levels) r) (place_at rest.spots) (op_at r left.1.spots) left)
+      on_ok (expression_below (operand levels) r rest) (links r (expression_below (operand levels) r) (place_at rest.spots)) read (sym (joined-suc (operand levels) r rest) ∙ e)
+      (λ first came goes. repeat-keeps rest_length (goes_on r) (λ left. link_if (expression_below (operand levels) r) (place_at rest.spots) (op_at r left.1.spots) left)
       (ExpressionFound (suc r) levels rest)
       (λ left next test made has. by_op r rest (joined_found r) left next (op_at r left.1.spots) refl test made has)
       first read (weaker r rest first (joined_found r rest first came)) goes)
 
-  one_more : (rest : Rest) (read next : List SourceExpr × Rest) → has_comma read ≡ true → argument (joined (operand levels) 6) read ≡ Ok next
+  one_more : (rest : Rest) (read next : List SourceExpr × Rest) → has_comma read ≡ true → argument (expression_below (operand levels) 6) read ≡ Ok next
       → ListedFound levels rest read → ListedFound levels rest next
   one_more rest read next test made has =
       let comma = begins_with-mark marks.Comma read.1.spots test in
-      on_ok (joined (operand levels) 6 (with_spots read.1 (tail read.1.spots))) (λ arg. Ok (read.0 ++ arg.0 ∷ [], arg.1)) next made
+      on_ok (expression_below (operand levels) 6 (with_spots read.1 (tail read.1.spots))) (λ arg. Ok (read.0 ++ arg.0 ∷ [], arg.1)) next made
       (λ arg came ended.
       let other = joined_found 6 (with_spots read.1 (tail read.1.spots)) arg came in
       let cut : rest.spots ≡ grammar.expression_spots has.first ++ (grammar.more_spots (add has.more comma.0 other.expression) ++ arg.1.spots) =
@@ -223,16 +223,16 @@ module _ (levels : ℕ) (found : OperandsFound levels) where
     stands_for = has.stands_for;
   }
 
-  arguments_found : (rest : Rest) (read : List SourceExpr × Rest) → arguments (joined (operand levels) 6) rest ≡ Ok read → ArgumentsFound levels rest read
+  arguments_found : (rest : Rest) (read : List SourceExpr × Rest) → arguments (expression_below (operand levels) 6) rest ≡ Ok read → ArgumentsFound levels rest read
   arguments_found rest read e =
-      by_choice (begins_with marks.CloseRound rest.spots) (Ok ([], rest)) (joined (operand levels) 6 rest >>= λ first. more_arguments (joined (operand levels) 6) (first.0 ∷ [], first.1)) read e
+      by_choice (begins_with marks.CloseRound rest.spots) (Ok ([], rest)) (expression_below (operand levels) 6 rest >>= λ first. more_arguments (expression_below (operand levels) 6) (first.0 ∷ [], first.1)) read e
       (λ closes came. subst (ArgumentsFound levels rest) (ok_one _ _ came)
       (record { args = NoArguments; spells = refl; counts = omega arith; made = refl; deep = omega arith; stands_for = refl }))
-      (λ opens came. on_ok (joined (operand levels) 6 rest) (λ first. more_arguments (joined (operand levels) 6) (first.0 ∷ [], first.1)) read came
+      (λ opens came. on_ok (expression_below (operand levels) 6 rest) (λ first. more_arguments (expression_below (operand levels) 6) (first.0 ∷ [], first.1)) read came
       (λ first made goes.
       let has = joined_found 6 rest first made in
       listed_found rest read
-      (repeat-keeps left_of_list has_comma (argument (joined (operand levels) 6)) (ListedFound levels rest) (one_more rest) (first.0 ∷ [], first.1) read
+      (repeat-keeps rest_length_of_list has_comma (argument (expression_below (operand levels) 6)) (ListedFound levels rest) (one_more rest) (first.0 ∷ [], first.1) read
       (record {
         first = has.expression;
         more = NoMore;
@@ -253,10 +253,10 @@ Deeper levels = (level : ℕ) → levels ≡ suc level → OperandsFound level
 pub call_found : (levels at : ℕ) (name : List ℕ) (rest : Rest) (read : SourceExpr × Rest) → Deeper levels → call_by operand levels at name rest ≡ Ok read → CallFound levels at name rest read
 call_found levels at name rest read deeper_found e =
     on_ok (deeper levels (place_at rest.spots))
-    (λ level. behind marks.OpenRound rest >>= λ inside. arguments (joined (operand level) 6) inside >>= λ args. behind marks.CloseRound args.1 >>= λ after. Ok (source.Call at name (exprs_from args.0), after)) read e
+    (λ level. behind marks.OpenRound rest >>= λ inside. arguments (expression_below (operand level) 6) inside >>= λ args. behind marks.CloseRound args.1 >>= λ after. Ok (source.Call at name (exprs_from args.0), after)) read e
     (λ level went e1. on_ok (behind marks.OpenRound rest)
-    (λ inside. arguments (joined (operand level) 6) inside >>= λ args. behind marks.CloseRound args.1 >>= λ after. Ok (source.Call at name (exprs_from args.0), after)) read e1
-    (λ inside opens e2. on_ok (arguments (joined (operand level) 6) inside)
+    (λ inside. arguments (expression_below (operand level) 6) inside >>= λ args. behind marks.CloseRound args.1 >>= λ after. Ok (source.Call at name (exprs_from args.0), after)) read e1
+    (λ inside opens e2. on_ok (arguments (expression_below (operand level) 6) inside)
     (λ args. behind marks.CloseRound args.1 >>= λ after. Ok (source.Call at name (exprs_from args.0), after)) read e2
     (λ args came e3. on_ok (behind marks.CloseRound args.1) (λ after. Ok (source.Call at name (exprs_from args.0), after)) read e3
     (λ after closes ended.
@@ -280,11 +280,11 @@ call_found levels at name rest read deeper_found e =
       stands_for = ap (λ list. source.Call at name (exprs_from list)) has.stands_for ∙ ap (source.Call at name) (argument_list-trees has.args);
     })))))
 
-bracketed_found : (levels at : ℕ) (rest : Rest) (read : SourceExpr × Rest) → Deeper levels → bracketed_by operand levels at rest ≡ Ok read
+bracketed_found : (levels at : ℕ) (rest : Rest) (read : SourceExpr × Rest) → Deeper levels → bracketed_expression_by operand levels at rest ≡ Ok read
     → OperandFound levels (state (mark at marks.OpenRound ∷ rest.spots) rest.operators) read
 bracketed_found levels at rest read deeper_found e =
-    on_ok (deeper levels at) (λ level. joined (operand level) 6 rest >>= λ inner. behind marks.CloseRound inner.1 >>= λ after. Ok (grammar.placed at inner.0, after)) read e
-    (λ level went e1. on_ok (joined (operand level) 6 rest) (λ inner. behind marks.CloseRound inner.1 >>= λ after. Ok (grammar.placed at inner.0, after)) read e1
+    on_ok (deeper levels at) (λ level. expression_below (operand level) 6 rest >>= λ inner. behind marks.CloseRound inner.1 >>= λ after. Ok (grammar.placed at inner.0, after)) read e
+    (λ level went e1. on_ok (expression_below (operand level) 6 rest) (λ inner. behind marks.CloseRound inner.1 >>= λ after. Ok (grammar.placed at inner.0, after)) read e1
     (λ inner came e2. on_ok (behind marks.CloseRound inner.1) (λ after. Ok (grammar.placed at inner.0, after)) read e2
     (λ after closes ended.
     let less = deeper-level levels at level went in
@@ -304,7 +304,7 @@ bracketed_found levels at rest read deeper_found e =
       stands_for = ap (grammar.placed at) has.stands_for;
     }))))
 
-signed_found : (levels at : ℕ) (found : Sign) (rest : Rest) (read : SourceExpr × Rest) → Deeper levels → signed_by operand levels at found rest ≡ Ok read
+signed_found : (levels at : ℕ) (found : Sign) (rest : Rest) (read : SourceExpr × Rest) → Deeper levels → signed_operand_by operand levels at found rest ≡ Ok read
     → OperandFound levels (state (mark at (sign_mark found) ∷ rest.spots) rest.operators) read
 signed_found levels at found rest read deeper_found e =
     on_ok (deeper levels at) (λ level. operand level rest >>= λ inner. Ok (source.Unary at found inner.0, inner.1)) read e
@@ -322,7 +322,7 @@ signed_found levels at found rest read deeper_found e =
       stands_for = ap (source.Unary at found) has.stands_for;
     })))
 
-named_found : (levels at : ℕ) (name : List ℕ) (rest : Rest) (read : SourceExpr × Rest) → Deeper levels → named_by operand levels at name rest ≡ Ok read
+named_found : (levels at : ℕ) (name : List ℕ) (rest : Rest) (read : SourceExpr × Rest) → Deeper levels → reference_by operand levels at name rest ≡ Ok read
     → OperandFound levels (state (word at name ∷ rest.spots) rest.operators) read
 named_found levels at name rest read deeper_found e =
     by_choice (begins_with marks.OpenRound rest.spots) (call_by operand levels at name rest) (Ok (source.Var at name, rest)) read e
@@ -345,15 +345,15 @@ signed_if_found levels at m None refusal rest read deeper_found is e = absurd (c
 signed_if_found levels at m (Some found) refusal rest read deeper_found is e =
     subst (λ (shown : Mark). OperandFound levels (state (mark at shown ∷ rest.spots) rest.operators) read) (sym (sign_of-mark m found is)) (signed_found levels at found rest read deeper_found e)
 
-marked_found : (levels at : ℕ) (m : Mark) (refusal : ParseError) (rest : Rest) (read : SourceExpr × Rest) → Deeper levels → marked_by operand levels at m refusal rest ≡ Ok read
+marked_found : (levels at : ℕ) (m : Mark) (refusal : ParseError) (rest : Rest) (read : SourceExpr × Rest) → Deeper levels → mark_operand_by operand levels at m refusal rest ≡ Ok read
     → OperandFound levels (state (mark at m ∷ rest.spots) rest.operators) read
 marked_found levels at m refusal rest read deeper_found e =
-    by_choice (sameb the_type m marks.OpenRound) (bracketed_by operand levels at rest) (signed_if operand levels at (sign_of m) refusal rest) read e
+    by_choice (sameb the_type m marks.OpenRound) (bracketed_expression_by operand levels at rest) (signed_if operand levels at (sign_of m) refusal rest) read e
     (λ opens came. subst (λ (shown : Mark). OperandFound levels (state (mark at shown ∷ rest.spots) rest.operators) read) (sym (same_true the_type tt m marks.OpenRound opens))
     (bracketed_found levels at rest read deeper_found came))
     (λ other came. signed_if_found levels at m (sign_of m) refusal rest read deeper_found refl came)
 
-operand_by_found : (levels : ℕ) (k : Kind) (at : ℕ) (refusal : ParseError) (rest : Rest) (read : SourceExpr × Rest) → Deeper levels → operand_by operand levels k at refusal rest ≡ Ok read
+operand_by_found : (levels : ℕ) (k : TokenKind) (at : ℕ) (refusal : ParseError) (rest : Rest) (read : SourceExpr × Rest) → Deeper levels → operand_by operand levels k at refusal rest ≡ Ok read
     → OperandFound levels (state (record { at = at; kind = k } ∷ rest.spots) rest.operators) read
 operand_by_found levels (kind.Number value) at refusal rest read deeper_found e =
     subst (OperandFound levels (state (number at value ∷ rest.spots) rest.operators)) (ok_one _ _ e)
@@ -367,7 +367,7 @@ operand_in_found : (levels : ℕ) (spots : List Spot) (operators : ℕ) (read : 
     → OperandFound levels (state spots operators) read
 operand_in_found levels [] operators read deeper_found e = absurd (cc)
 operand_in_found levels (spot ∷ spots) operators read deeper_found e =
-    operand_by_found levels spot.kind spot.at (refused (spot ∷ spots)) (state spots operators) read deeper_found e
+    operand_by_found levels spot.kind spot.at (refusal_of (spot ∷ spots)) (state spots operators) read deeper_found e
 
 pub operands_found : (levels : ℕ) → OperandsFound levels
 operands_found zero rest read e = operand_in_found zero rest.spots rest.operators read (λ level less. absurd (omega arith)) (sym (operand_at zero rest) ∙ e)
@@ -375,5 +375,5 @@ operands_found (suc levels) rest read e =
     operand_in_found (suc levels) rest.spots rest.operators read
     (λ level less. let same : levels ≡ level = omega arith in subst OperandsFound same (operands_found levels)) (sym (operand_at (suc levels) rest) ∙ e)
 
-pub expression_found : (levels n : ℕ) (rest : Rest) (read : SourceExpr × Rest) → joined (operand levels) n rest ≡ Ok read → ExpressionFound n levels rest read
+pub expression_found : (levels n : ℕ) (rest : Rest) (read : SourceExpr × Rest) → expression_below (operand levels) n rest ≡ Ok read → ExpressionFound n levels rest read
 expression_found levels n rest read e = joined_found levels (operands_found levels) n rest read e

@@ -6,8 +6,8 @@ use Rattle.items.specs.Gives.{◌>>=◌}
 use Rattle.c_lexer.specs.contracts.keyword.Keyword.{the_type}
 use Rattle.c_lexer.specs.declared.keyword.Keyword.{Keyword}
 use Rattle.c_lexer.specs.declared.keyword.Keyword.TheVariants as keywords
-use Rattle.c_lexer.specs.declared.kind.Kind.{Kind}
-use Rattle.c_lexer.specs.declared.kind.Kind.TheVariants as kind
+use Rattle.c_lexer.specs.declared.kind.TokenKind.{TokenKind}
+use Rattle.c_lexer.specs.declared.kind.TokenKind.TheVariants as kind
 use Rattle.c_lexer.specs.declared.mark.Mark.{Mark}
 use Rattle.c_lexer.specs.declared.mark.Mark.TheVariants as marks
 use Rattle.syntax_tree.specs.declared.op.Op.{Op}
@@ -17,13 +17,13 @@ use Rattle.syntax_tree.specs.SourceExpr.{SourceExpr}
 use Rattle.syntax_tree.specs.SourceLine as line
 use Rattle.syntax_tree.specs.SourceLine.{SourceLine, SourceLines, lines_from}
 use Rattle.c_parser.specs.declared.error.ParseError.{ParseError}
-use Rattle.c_parser.specs.Descent.{begins_with, call, expression, past, place_at, refused, tail, whole, whole_call}
+use Rattle.c_parser.specs.Descent.{begins_with, call, expression, past, place_at, refusal_of, tail, whole, whole_call}
 use Rattle.c_parser.specs.Expressions.{Expression, Applied, expression_spots, binds, tree, levels, operators}
 use Rattle.c_parser.specs.Lines as grammar
 use Rattle.c_parser.specs.Lines.{Variable, Bare, Initialised, Variables, Last, Also, Local, Declared, Simple, Assigned, Changed, CountedAfter, CountedBefore, Acted, Init, InitLocal, InitSimple, Line, Block, Empty, Plain, If, IfElse, While, DoWhile, For, Break, Continue, Return, Lines, NoLines, ThenLocal, ThenLine}
 use Rattle.c_parser.specs.Operators.{Compound, PlusEqual, MinusEqual, StarEqual, SlashEqual, PercentEqual, Count, Up, Down, compound_mark, compound_op, count_mark, count_op}
 use Rattle.c_parser.specs.Spots.{Spot, mark, keyword, word}
-use Rattle.c_parser.specs.Statements.{Word, acted, assigned, begins_with_keyword, behind_name, comma_stands, compound_at, compound_in, compound_of, compound_or, condition, count_at, count_in, count_of, counted, counted_before, counted_or, changed, for_condition, for_step, init, initialised, is_keyword, keyword_at, keyword_in, lines_left, local, one_variable, past_keyword, returned, simple, simple_by, simple_line, variable, variables, word_at, word_by}
+use Rattle.c_parser.specs.Statements.{Word, call_statement, assignment_line, begins_with_keyword, behind_name, comma_stands, compound_at, compound_in, compound_of, compound_or, condition, count_at, count_in, count_of, increment, increment_before, counted_or, compound_assignment, for_condition, for_step, init, initialisation, is_keyword, keyword_at, keyword_in, lines_left, local, one_variable, past_keyword, return_value, simple, simple_by, simple_line, variable, variables, word_at, word_by}
 use Rattle.c_parser.proofs.FirstTokens.{both}
 use Rattle.c_parser.proofs.Found.{is_mark-kind, ok_one, past-mark}
 use Rattle.c_parser.proofs.Repeats.{by_choice, repeat-keeps}
@@ -55,7 +55,7 @@ pub begins_at : (m : Mark) (spots : List Spot) → begins_with m spots ≡ true 
 begins_at m [] e = cc
 begins_at m (spot ∷ spots) e = let same = is_mark-kind m spot.kind e in λ i. record { at = spot.at; kind = same i } ∷ spots
 
-is_keyword-kind : (k : Keyword) (found : Kind) → is_keyword k found ≡ true → found ≡ kind.Keyword k
+is_keyword-kind : (k : Keyword) (found : TokenKind) → is_keyword k found ≡ true → found ≡ kind.Keyword k
 is_keyword-kind k (kind.Keyword found) e = ap kind.Keyword (same_true the_type tt found k e)
 is_keyword-kind k (kind.Word name) e = cc
 is_keyword-kind k (kind.Mark m) e = cc
@@ -68,11 +68,11 @@ begins_at_keyword k (spot ∷ spots) e = let same = is_keyword-kind k spot.kind 
 
 pub past_keyword-keyword : (k : Keyword) (spots after : List Spot) → past_keyword k spots ≡ Ok after → (at : ℕ) × (spots ≡ keyword at k ∷ after)
 past_keyword-keyword k spots after e =
-    by_choice (begins_with_keyword k spots) (Ok (tail spots)) (Err (refused spots)) after e
+    by_choice (begins_with_keyword k spots) (Ok (tail spots)) (Err (refusal_of spots)) after e
     (λ found came. (place_at spots, begins_at_keyword k spots found ∙ ap (λ rest. keyword (place_at spots) k ∷ rest) (ok_one _ _ came)))
     (λ missing came. absurd (cc))
 
-keyword_in-kind : (found : Kind) (k : Keyword) → keyword_in found ≡ Some k → found ≡ kind.Keyword k
+keyword_in-kind : (found : TokenKind) (k : Keyword) → keyword_in found ≡ Some k → found ≡ kind.Keyword k
 keyword_in-kind (kind.Keyword found) k e = let same : found ≡ k = cc in ap kind.Keyword same
 keyword_in-kind (kind.Word name) k e = cc
 keyword_in-kind (kind.Mark m) k e = cc
@@ -83,7 +83,7 @@ pub keyword_at-keyword : (spots : List Spot) (k : Keyword) → keyword_at spots 
 keyword_at-keyword [] k e = cc
 keyword_at-keyword (spot ∷ spots) k e = let same = keyword_in-kind spot.kind k e in λ i. record { at = spot.at; kind = same i } ∷ spots
 
-word_by-word : (k : Kind) (at : ℕ) (rest : List Spot) (refusal : ParseError) (w : Word) → word_by k at rest refusal ≡ Ok w
+word_by-word : (k : TokenKind) (at : ℕ) (rest : List Spot) (refusal : ParseError) (w : Word) → word_by k at rest refusal ≡ Ok w
     → (let first : Spot = record { at = at; kind = k } in first ∷ rest) ≡ word w.at w.name ∷ w.rest
 word_by-word (kind.Word name) at rest refusal w e = ap (λ (v : Word). word v.at v.name ∷ v.rest) (ok_one _ _ e)
 word_by-word (kind.Keyword k) at rest refusal w e = cc
@@ -93,7 +93,7 @@ word_by-word kind.End at rest refusal w e = cc
 
 pub word_at-word : (spots : List Spot) (w : Word) → word_at spots ≡ Ok w → spots ≡ word w.at w.name ∷ w.rest
 word_at-word [] w e = cc
-word_at-word (spot ∷ spots) w e = word_by-word spot.kind spot.at spots (refused (spot ∷ spots)) w e
+word_at-word (spot ∷ spots) w e = word_by-word spot.kind spot.at spots (refusal_of (spot ∷ spots)) w e
 
 compound_of-mark : (m : Mark) (found : Op) → compound_of m ≡ Some found → (c : Compound) × (m ≡ compound_mark c) × (found ≡ compound_op c)
 compound_of-mark marks.PlusAssign found e = (PlusEqual, refl, (let same : op.Add ≡ found = cc in sym same))
@@ -103,7 +103,7 @@ compound_of-mark marks.SlashAssign found e = (SlashEqual, refl, (let same : op.D
 compound_of-mark marks.PercentAssign found e = (PercentEqual, refl, (let same : op.Rem ≡ found = cc in sym same))
 compound_of-mark _ found e = absurd (cc)
 
-compound_in-kind : (k : Kind) (found : Op) → compound_in k ≡ Some found → (c : Compound) × (k ≡ kind.Mark (compound_mark c)) × (found ≡ compound_op c)
+compound_in-kind : (k : TokenKind) (found : Op) → compound_in k ≡ Some found → (c : Compound) × (k ≡ kind.Mark (compound_mark c)) × (found ≡ compound_op c)
 compound_in-kind (kind.Mark m) found e = let has = compound_of-mark m found e in (has.0, ap kind.Mark has.1, has.2)
 compound_in-kind (kind.Word name) found e = absurd (cc)
 compound_in-kind (kind.Keyword k) found e = absurd (cc)
@@ -122,7 +122,7 @@ count_of-mark marks.PlusPlus found e = (Up, refl, (let same : op.Add ≡ found =
 count_of-mark marks.MinusMinus found e = (Down, refl, (let same : op.Sub ≡ found = cc in sym same))
 count_of-mark _ found e = absurd (cc)
 
-count_in-kind : (k : Kind) (found : Op) → count_in k ≡ Some found → (c : Count) × (k ≡ kind.Mark (count_mark c)) × (found ≡ count_op c)
+count_in-kind : (k : TokenKind) (found : Op) → count_in k ≡ Some found → (c : Count) × (k ≡ kind.Mark (count_mark c)) × (found ≡ count_op c)
 count_in-kind (kind.Mark m) found e = let has = count_of-mark m found e in (has.0, ap kind.Mark has.1, has.2)
 count_in-kind (kind.Word name) found e = absurd (cc)
 count_in-kind (kind.Keyword k) found e = absurd (cc)
@@ -147,7 +147,7 @@ pub record SimpleFound (most lv : ℕ) (spots : List Spot) (read : SourceLine ×
   pub stands_for : read.0 ≡ grammar.simple_line simple
 
 assigned_found : (most lv at : ℕ) (name : List ℕ) (spots : List Spot) (read : SourceLine × List Spot) → begins_with marks.Assign spots ≡ true
-    → assigned most lv at name spots ≡ Ok read → SimpleFound most lv (word at name ∷ spots) read
+    → assignment_line most lv at name spots ≡ Ok read → SimpleFound most lv (word at name ∷ spots) read
 assigned_found most lv at name spots read first e =
     let s = steps (whole most lv (tail spots)) _ read e in
     let has = whole_found most lv (tail spots) s.0 s.1 in
@@ -161,7 +161,7 @@ assigned_found most lv at name spots read first e =
       stands_for = ap (line.Assign name at) has.stands_for;
     })
 
-acted_found : (most lv at : ℕ) (name : List ℕ) (spots : List Spot) (read : SourceLine × List Spot) → acted most lv at name spots ≡ Ok read
+acted_found : (most lv at : ℕ) (name : List ℕ) (spots : List Spot) (read : SourceLine × List Spot) → call_statement most lv at name spots ≡ Ok read
     → SimpleFound most lv (word at name ∷ spots) read
 acted_found most lv at name spots read e =
     let s = steps (whole_call most lv at name spots) _ read e in
@@ -181,7 +181,7 @@ acted_found most lv at name spots read e =
 counted_or_found : (most lv at : ℕ) (name : List ℕ) (spots : List Spot) (o : Option Op) (read : SourceLine × List Spot) → count_at spots ≡ o
     → counted_or o most lv at name spots ≡ Ok read → SimpleFound most lv (word at name ∷ spots) read
 counted_or_found most lv at name spots None read is e =
-    by_choice (begins_with marks.OpenRound spots) (acted most lv at name spots) (Err (refused spots)) read e
+    by_choice (begins_with marks.OpenRound spots) (call_statement most lv at name spots) (Err (refusal_of spots)) read e
     (λ opens came. acted_found most lv at name spots read came) (λ other came. absurd (cc))
 counted_or_found most lv at name spots (Some found) read is e =
     let first = count_at-mark spots found is in
@@ -192,7 +192,7 @@ counted_or_found most lv at name spots (Some found) read is e =
       made = refl;
       deep = omega arith;
       few = omega arith;
-      stands_for = ap (counted at name) first.2;
+      stands_for = ap (increment at name) first.2;
     })
 
 compound_or_found : (most lv at : ℕ) (name : List ℕ) (spots : List Spot) (o : Option Op) (read : SourceLine × List Spot) → compound_at spots ≡ o
@@ -209,17 +209,17 @@ compound_or_found most lv at name spots (Some found) read is e =
       made = has.made;
       deep = has.deep;
       few = has.few;
-      stands_for = λ i. changed at name (first.2 i) (has.stands_for i);
+      stands_for = λ i. compound_assignment at name (first.2 i) (has.stands_for i);
     })
 
 behind_name_found : (most lv at : ℕ) (name : List ℕ) (spots : List Spot) (read : SourceLine × List Spot) → behind_name most lv at name spots ≡ Ok read
     → SimpleFound most lv (word at name ∷ spots) read
 behind_name_found most lv at name spots read e =
-    by_choice (begins_with marks.Assign spots) (assigned most lv at name spots) (compound_or (compound_at spots) most lv at name spots) read e
+    by_choice (begins_with marks.Assign spots) (assignment_line most lv at name spots) (compound_or (compound_at spots) most lv at name spots) read e
     (λ first came. assigned_found most lv at name spots read first came) (λ other came. compound_or_found most lv at name spots (compound_at spots) read refl came)
 
 counted_before_found : (most lv at : ℕ) (m : Mark) (o : Option Op) (rest : List Spot) (refusal : ParseError) (read : SourceLine × List Spot) → count_of m ≡ o
-    → counted_before o rest refusal ≡ Ok read → SimpleFound most lv (mark at m ∷ rest) read
+    → increment_before o rest refusal ≡ Ok read → SimpleFound most lv (mark at m ∷ rest) read
 counted_before_found most lv at m None rest refusal read is e = absurd (cc)
 counted_before_found most lv at m (Some found) rest refusal read is e =
     let first = count_of-mark m found is in
@@ -231,10 +231,10 @@ counted_before_found most lv at m (Some found) rest refusal read is e =
       made = refl;
       deep = omega arith;
       few = omega arith;
-      stands_for = ap (counted s.0.at s.0.name) first.2;
+      stands_for = ap (increment s.0.at s.0.name) first.2;
     })
 
-simple_by_found : (most lv : ℕ) (k : Kind) (at : ℕ) (rest : List Spot) (refusal : ParseError) (read : SourceLine × List Spot) → simple_by most lv k at rest refusal ≡ Ok read
+simple_by_found : (most lv : ℕ) (k : TokenKind) (at : ℕ) (rest : List Spot) (refusal : ParseError) (read : SourceLine × List Spot) → simple_by most lv k at rest refusal ≡ Ok read
     → SimpleFound most lv (record { at = at; kind = k } ∷ rest) read
 simple_by_found most lv (kind.Word name) at rest refusal read e = behind_name_found most lv at name rest read e
 simple_by_found most lv (kind.Mark m) at rest refusal read e = counted_before_found most lv at m (count_of m) rest refusal read refl e
@@ -244,7 +244,7 @@ simple_by_found most lv kind.End at rest refusal read e = absurd (cc)
 
 pub simple_found : (most lv : ℕ) (spots : List Spot) (read : SourceLine × List Spot) → simple most lv spots ≡ Ok read → SimpleFound most lv spots read
 simple_found most lv [] read e = absurd (cc)
-simple_found most lv (spot ∷ rest) read e = simple_by_found most lv spot.kind spot.at rest (refused (spot ∷ rest)) read e
+simple_found most lv (spot ∷ rest) read e = simple_by_found most lv spot.kind spot.at rest (refusal_of (spot ∷ rest)) read e
 
 pub record LineSimpleFound (most lv : ℕ) (spots : List Spot) (read : List SourceLine × List Spot) : Type 0 where
   pub simple : Simple
@@ -287,7 +287,7 @@ variable_found most lv spots read e =
     let s = steps (word_at spots) _ read e in
     let w = s.0 in
     let first = word_at-word spots w s.1 in
-    by_choice (begins_with marks.Assign w.rest) (initialised most lv w.at w.name w.rest) (Ok (line.Local w.name w.at None, w.rest)) read s.2
+    by_choice (begins_with marks.Assign w.rest) (initialisation most lv w.at w.name w.rest) (Ok (line.Local w.name w.at None, w.rest)) read s.2
     (λ assigns came.
     let t = steps (whole most lv (tail w.rest)) _ read came in
     let has = whole_found most lv (tail w.rest) t.0 t.1 in
@@ -512,7 +512,7 @@ pub record ValueFound (most lv : ℕ) (spots : List Spot) (read : Option SourceE
   pub few : grammar.if_operators value ≤ most
   pub stands_for : read.0 ≡ grammar.if_tree value
 
-pub value_found : (most lv : ℕ) (spots : List Spot) (read : Option SourceExpr × List Spot) → returned most lv spots ≡ Ok read → ValueFound most lv spots read
+pub value_found : (most lv : ℕ) (spots : List Spot) (read : Option SourceExpr × List Spot) → return_value most lv spots ≡ Ok read → ValueFound most lv spots read
 value_found most lv spots read e =
     by_choice (begins_with marks.Semi spots) (Ok (None, spots)) (whole most lv spots >>= λ value. Ok (Some value.0, value.1)) read e
     (λ missing came. subst (ValueFound most lv spots) (ok_one _ _ came)

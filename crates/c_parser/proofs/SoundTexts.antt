@@ -4,19 +4,19 @@ use Rattle.std.specs.Prelude.{pos, negsuc, nat_eq, Option, None, Some, is_some, 
 use Rattle.std.proofs.lemmas.Bool.{eqb-true}
 use Rattle.items.specs.Gives.{◌>>=◌}
 use Rattle.c_lexer.specs.declared.keyword.Keyword.TheVariants as keywords
-use Rattle.c_lexer.specs.declared.kind.Kind.{Kind}
-use Rattle.c_lexer.specs.declared.kind.Kind.TheVariants as kind
+use Rattle.c_lexer.specs.declared.kind.TokenKind.{TokenKind}
+use Rattle.c_lexer.specs.declared.kind.TokenKind.TheVariants as kind
 use Rattle.c_lexer.specs.declared.mark.Mark.TheVariants as marks
 use Rattle.syntax_tree.specs.SourceLine.{lines_from}
 use Rattle.c_parser.specs.declared.error.ParseError.{ParseError}
 use Rattle.c_parser.specs.Declarations as grammar
 use Rattle.c_parser.specs.Declarations.{Shared, Zero, Positive, Negative, SharedList, LastShared, AlsoShared, Returned, Number, Nothing, Slot, Unnamed, Named, LastSlot, AlsoSlot, Parameters, NotTold, NoParameters, Listed, Declaration, Globals, Prototype, Procedure}
-use Rattle.c_parser.specs.Descent.{begins_with, deeper, past, place_at, refused, tail}
+use Rattle.c_parser.specs.Descent.{begins_with, deeper, past, place_at, refusal_of, tail}
 use Rattle.c_parser.specs.Lines.{Lines, lines_spots, lines_are_made, lines_levels, lines_operators, lines_lines}
 use Rattle.c_parser.specs.SourceItem.{SourceItem, Global, Parameter, Proto, Body}
 use Rattle.c_parser.specs.Spots.{Spot, mark, keyword, word, number}
 use Rattle.c_parser.specs.Statements.{Word, begins_with_keyword, block, line_read, past_keyword, word_at}
-use Rattle.c_parser.specs.Texts.{Head, Signature, Slots, behind_name, behind_type, body, body_or, comma_stands, constant, declaration, globals, goes_on, initial, items_left, may_have_body, more_slots, name_at, negative_at, next_shared, no_slots, number_at, number_by, one_declaration, one_shared, one_slot, opposite, procedure, shared, shared_list, signature, signature_of, slot, slot_list, slots_go_on, slots_left, text, typed}
+use Rattle.c_parser.specs.Texts.{Head, Signature, Slots, behind_name, behind_type, body, body_or, comma_stands, constant, declaration, globals, goes_on, initial, items_left, may_have_body, more_slots, name_at, negative_at, next_shared, no_slots, number_at, number_by, one_declaration, one_shared, one_slot, opposite, procedure, global_item, shared_list, signature, signature_of, slot, slot_list, slots_go_on, slots_left, text, typed_declaration}
 use Rattle.c_parser.proofs.CompleteTexts.{count_parameters, head_of}
 use Rattle.c_parser.proofs.FirstTokens.{both}
 use Rattle.c_parser.proofs.Found.{deeper-level, ok_one, past-mark}
@@ -26,7 +26,7 @@ use Rattle.c_parser.proofs.SoundLines.{begins_at, begins_at_keyword, past_keywor
 
 -- ---- globals
 
-number_by-number : (k : Kind) (at : ℕ) (rest : List Spot) (refusal : ParseError) (read : ℤ × List Spot) → number_by k rest refusal ≡ Ok read
+number_by-number : (k : TokenKind) (at : ℕ) (rest : List Spot) (refusal : ParseError) (read : ℤ × List Spot) → number_by k rest refusal ≡ Ok read
     → (let first : Spot = record { at = at; kind = k } in first ∷ rest) ≡ number at read.0 ∷ read.1
 number_by-number (kind.Number value) at rest refusal read e = ap (λ (r : ℤ × List Spot). number at r.0 ∷ r.1) (ok_one _ _ e)
 number_by-number (kind.Word name) at rest refusal read e = cc
@@ -36,12 +36,12 @@ number_by-number kind.End at rest refusal read e = cc
 
 number_at-number : (spots : List Spot) (read : ℤ × List Spot) → number_at spots ≡ Ok read → spots ≡ number (place_at spots) read.0 ∷ read.1
 number_at-number [] read e = cc
-number_at-number (spot ∷ rest) read e = number_by-number spot.kind spot.at rest (refused (spot ∷ rest)) read e
+number_at-number (spot ∷ rest) read e = number_by-number spot.kind spot.at rest (refusal_of (spot ∷ rest)) read e
 
 pub record SharedFound (at : ℕ) (name : List ℕ) (rest : List Spot) (read : SourceItem × List Spot) : Type 0 where
   pub shared : Shared
-  pub spells : word at name ∷ rest ≡ grammar.shared_spots shared ++ read.1
-  pub stands_for : read.0 ≡ grammar.shared_item shared
+  pub spells : word at name ∷ rest ≡ grammar.shared_spots global_item ++ read.1
+  pub stands_for : read.0 ≡ grammar.shared_item global_item
 
 negative_found : (at : ℕ) (name : List ℕ) (rest : List Spot) (assign minus digits : ℕ) (z : ℤ) (after : List Spot) (refusal : ParseError) (read : ℤ × List Spot)
     → opposite z after refusal ≡ Ok read → rest ≡ mark assign marks.Assign ∷ mark minus marks.Minus ∷ number digits z ∷ after
@@ -55,7 +55,7 @@ negative_found at name rest assign minus digits (pos n) after refusal read e cut
     }
 negative_found at name rest assign minus digits (negsuc n) after refusal read e cut = absurd (cc)
 
-pub shared_found : (w : Word) (read : SourceItem × List Spot) → shared w ≡ Ok read → SharedFound w.at w.name w.rest read
+pub shared_found : (w : Word) (read : SourceItem × List Spot) → global_item w ≡ Ok read → SharedFound w.at w.name w.rest read
 shared_found w read e =
     let s = steps (initial w.rest) _ read e in
     subst (SharedFound w.at w.name w.rest) (ok_one _ _ s.2)
@@ -67,7 +67,7 @@ shared_found w read e =
     let signed = begins_at marks.Minus (tail w.rest) minus in
     let t = steps (number_at (tail (tail w.rest))) _ s.0 told in
     let digits = number_at-number (tail (tail w.rest)) t.0 t.1 in
-    negative_found w.at w.name w.rest (place_at w.rest) (place_at (tail w.rest)) (place_at (tail (tail w.rest))) t.0.0 t.0.1 (refused (tail (tail w.rest))) s.0 t.2
+    negative_found w.at w.name w.rest (place_at w.rest) (place_at (tail w.rest)) (place_at (tail (tail w.rest))) t.0.0 t.0.1 (refusal_of (tail (tail w.rest))) s.0 t.2
     (assign ∙ ap (λ r. mark (place_at w.rest) marks.Assign ∷ r) (signed ∙ ap (λ r. mark (place_at (tail w.rest)) marks.Minus ∷ r) digits)))
     (λ plain told.
     let digits = number_at-number (tail w.rest) s.0 told in
@@ -130,7 +130,7 @@ record GlobalsFound (at : ℕ) (name : List ℕ) (rest : List Spot) (read : List
 
 globals_found : (w : Word) (read : List SourceItem × List Spot) → globals w ≡ Ok read → GlobalsFound w.at w.name w.rest read
 globals_found w read e =
-    let s = steps (shared w) _ read e in
+    let s = steps (global_item w) _ read e in
     let first = shared_found w s.0 s.1 in
     let t = steps (shared_list (s.0.0 ∷ [], s.0.1)) _ read s.2 in
     let has = repeat-keeps items_left comma_stands one_shared (SharedListFound (word w.at w.name ∷ w.rest)) (one_more (word w.at w.name ∷ w.rest)) (s.0.0 ∷ [], s.0.1) t.0
@@ -156,7 +156,7 @@ pub record SlotFound (count : ℕ) (named : List Parameter) (spots : List Spot) 
 abbrev slot_made : ℕ → List Parameter → List Spot → Slots
 slot_made count named rest = record { count = count + 1; named = named ++ name_at rest; rest = behind_name (name_at rest) rest }
 
-slot_by_kind : (k : Kind) (at type count : ℕ) (named : List Parameter) (rest : List Spot)
+slot_by_kind : (k : TokenKind) (at type count : ℕ) (named : List Parameter) (rest : List Spot)
     → SlotFound count named (keyword type keywords.Int ∷ record { at = at; kind = k } ∷ rest) (slot_made count named (record { at = at; kind = k } ∷ rest))
 slot_by_kind (kind.Word name) at type count named rest = record { slot = Named type at name; spells = refl; counts = refl; stands_for = refl }
 slot_by_kind (kind.Keyword k) at type count named rest = record { slot = Unnamed type; spells = refl; counts = refl; stands_for = refl }
@@ -339,7 +339,7 @@ procedure_found most lv head spots read e =
           ∙ sym (append_assoc (grammar.parameters_spots sig.params) (mark closed.0 marks.CloseRound ∷ mark (place_at t.0) marks.Semi ∷ []) (tail t.0));
       stands_for = ap (λ told. Proto head.name head.at head.returns told ∷ []) sig.tells;
     })))
-    (λ goes came. by_choice (begins_with marks.OpenBrace t.0 && may_have_body head s.0) (body most lv head s.0.named t.0) (Err (refused t.0)) read came
+    (λ goes came. by_choice (begins_with marks.OpenBrace t.0 && may_have_body head s.0) (body most lv head s.0.named t.0) (Err (refusal_of t.0)) read came
     (λ may told.
     let parts = both (begins_with marks.OpenBrace t.0) (may_have_body head s.0) may in
     inr (body_found most lv head s.0 spots t.0 closed.0 read sig closed.1 parts.0 parts.1 told))
@@ -413,29 +413,29 @@ behind_type_found most lv outside returned spots read e =
     let head = head_of (is_some outside) (grammar.returns returned) w.at w.name in
     subst (λ r. DeclarationFound most lv (grammar.outside_spots outside ++ (grammar.returned_spots returned ++ r)) read) (sym first)
     (by_choice (begins_with marks.OpenRound w.rest) (procedure most lv head (tail w.rest))
-    (if grammar.returns returned && not (is_some outside) then globals w else Err (refused w.rest)) read s.2
+    (if grammar.returns returned && not (is_some outside) then globals w else Err (refusal_of w.rest)) read s.2
     (λ opens came.
     subst (λ r. DeclarationFound most lv (grammar.outside_spots outside ++ (grammar.returned_spots returned ++ word w.at w.name ∷ r)) read) (sym (begins_at marks.OpenRound w.rest opens))
     (⊎_elim (λ has. proto_declared most lv outside returned w.at w.name (place_at w.rest) (tail w.rest) read has)
     (λ has. body_declared most lv outside returned w.at w.name (place_at w.rest) (tail w.rest) read has)
     (procedure_found most lv head (tail w.rest) read came)))
-    (λ other came. by_choice (grammar.returns returned && not (is_some outside)) (globals w) (Err (refused w.rest)) read came
+    (λ other came. by_choice (grammar.returns returned && not (is_some outside)) (globals w) (Err (refusal_of w.rest)) read came
     (λ may told. globals_declared most lv outside returned w.at w.name w.rest read may (globals_found w read told)) (λ never told. absurd (cc))))
 
-typed_found : (most lv : ℕ) (outside : Option ℕ) (spots : List Spot) (read : List SourceItem × List Spot) → typed most lv (is_some outside) spots ≡ Ok read
+typed_found : (most lv : ℕ) (outside : Option ℕ) (spots : List Spot) (read : List SourceItem × List Spot) → typed_declaration most lv (is_some outside) spots ≡ Ok read
     → DeclarationFound most lv (grammar.outside_spots outside ++ spots) read
 typed_found most lv outside spots read e =
     by_choice (begins_with_keyword keywords.Int spots) (behind_type most lv (is_some outside) true (tail spots))
-    (if begins_with_keyword keywords.Void spots then behind_type most lv (is_some outside) false (tail spots) else Err (refused spots)) read e
+    (if begins_with_keyword keywords.Void spots then behind_type most lv (is_some outside) false (tail spots) else Err (refusal_of spots)) read e
     (λ int came. subst (λ r. DeclarationFound most lv (grammar.outside_spots outside ++ r) read) (sym (begins_at_keyword keywords.Int spots int))
     (behind_type_found most lv outside (Number (place_at spots)) (tail spots) read came))
-    (λ other came. by_choice (begins_with_keyword keywords.Void spots) (behind_type most lv (is_some outside) false (tail spots)) (Err (refused spots)) read came
+    (λ other came. by_choice (begins_with_keyword keywords.Void spots) (behind_type most lv (is_some outside) false (tail spots)) (Err (refusal_of spots)) read came
     (λ void told. subst (λ r. DeclarationFound most lv (grammar.outside_spots outside ++ r) read) (sym (begins_at_keyword keywords.Void spots void))
     (behind_type_found most lv outside (Nothing (place_at spots)) (tail spots) read told)) (λ never told. absurd (cc)))
 
 pub declaration_found : (most lv : ℕ) (spots : List Spot) (read : List SourceItem × List Spot) → declaration most lv spots ≡ Ok read → DeclarationFound most lv spots read
 declaration_found most lv spots read e =
-    by_choice (begins_with_keyword keywords.Extern spots) (typed most lv true (tail spots)) (typed most lv false spots) read e
+    by_choice (begins_with_keyword keywords.Extern spots) (typed_declaration most lv true (tail spots)) (typed_declaration most lv false spots) read e
     (λ outside came. subst (λ r. DeclarationFound most lv r read) (sym (begins_at_keyword keywords.Extern spots outside)) (typed_found most lv (Some (place_at spots)) (tail spots) read came))
     (λ inside came. typed_found most lv None spots read came)
 

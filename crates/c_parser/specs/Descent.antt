@@ -1,8 +1,8 @@
 -- How the parser goes through the tokens: for each of its functions, what it comes to.
 use Rattle.std.specs.Prelude.{ℕ, zero, suc, nat_eq, Bool, false, Option, None, Some, is_some, Result, Ok, Err, List, [], ◌∷◌, ◌++◌, length, if◌then◌else◌}
 use Rattle.items.specs.Gives.{◌>>=◌}
-use Rattle.c_lexer.specs.declared.kind.Kind.{Kind}
-use Rattle.c_lexer.specs.declared.kind.Kind.TheVariants as kind
+use Rattle.c_lexer.specs.declared.kind.TokenKind.{TokenKind}
+use Rattle.c_lexer.specs.declared.kind.TokenKind.TheVariants as kind
 use Rattle.c_lexer.specs.declared.mark.Mark.{Mark}
 use Rattle.c_lexer.specs.declared.mark.Mark.TheVariants as marks
 use Rattle.c_lexer.specs.contracts.mark.Mark.{the_type}
@@ -15,7 +15,7 @@ use Rattle.syntax_tree.specs.SourceExpr as source
 use Rattle.syntax_tree.specs.SourceExpr.{SourceExpr, exprs_from}
 use Rattle.c_parser.specs.declared.error.ParseError.{ParseError}
 use Rattle.c_parser.specs.declared.error.ParseError.TheVariants as error
-use Rattle.c_parser.specs.Expressions.{placed}
+use Rattle.c_parser.specs.Expressions.{with_place}
 use Rattle.c_parser.specs.Operators.{rank}
 use Rattle.c_parser.specs.Profile.{is_outside}
 use Rattle.c_parser.specs.Repeat.{repeat}
@@ -23,15 +23,15 @@ use Rattle.c_lexer.specs.declared.token.Token.{Token}
 use Rattle.c_parser.specs.Spots.{Spot, spots_of}
 
 -- an error is exact but for want of memory
-abbrev pub told : ParseError → Option ParseError
-told (error.Syntax at) = Some (error.Syntax at)
-told (error.Unsupported at) = Some (error.Unsupported at)
-told (error.Deep at) = Some (error.Deep at)
-told error.Memory = None
+abbrev pub exact_error : ParseError → Option ParseError
+exact_error (error.Syntax at) = Some (error.Syntax at)
+exact_error (error.Unsupported at) = Some (error.Unsupported at)
+exact_error (error.Deep at) = Some (error.Deep at)
+exact_error error.Memory = None
 
 -- ---- single tokens
 
-abbrev pub is_mark : Mark → Kind → Bool
+abbrev pub is_mark : Mark → TokenKind → Bool
 is_mark m (kind.Mark found) = sameb the_type found m
 is_mark m _ = false
 
@@ -41,9 +41,9 @@ begins_with m [] = false
 begins_with m (spot ∷ _) = is_mark m spot.kind
 
 -- the refusal of the first token
-abbrev pub refused : List Spot → ParseError
-refused [] = error.Syntax 0
-refused (spot ∷ _) = if is_outside spot.kind then error.Unsupported spot.at
+abbrev pub refusal_of : List Spot → ParseError
+refusal_of [] = error.Syntax 0
+refusal_of (spot ∷ _) = if is_outside spot.kind then error.Unsupported spot.at
     else error.Syntax spot.at
 
 -- the place of the first token
@@ -57,7 +57,7 @@ tail (_ ∷ spots) = spots
 
 -- the tokens behind a mark that has to stand first
 abbrev pub past : Mark → List Spot → Result (List Spot) ParseError
-past m spots = if begins_with m spots then Ok (tail spots) else Err (refused spots)
+past m spots = if begins_with m spots then Ok (tail spots) else Err (refusal_of spots)
 
 abbrev pub sign_of : Mark → Option Sign
 sign_of marks.Plus = Some sign.Plus
@@ -85,7 +85,7 @@ abbrev pub of_rank : ℕ → Option Op → Option Op
 of_rank r None = None
 of_rank r (Some found) = if nat_eq (rank found) r then Some found else None
 
-abbrev pub op_in : ℕ → Kind → Option Op
+abbrev pub op_in : ℕ → TokenKind → Option Op
 op_in r (kind.Mark m) = of_rank r (op_of m)
 op_in r _ = None
 
@@ -135,8 +135,8 @@ abbrev pub link_if : Reader → ℕ → Option Op → SourceExpr × Rest
 link_if operand at None left = Ok left
 link_if operand at (Some found) left = link operand at found left
 
-abbrev pub left_of : SourceExpr × Rest → ℕ
-left_of left = length left.1.spots
+abbrev pub rest_length : SourceExpr × Rest → ℕ
+rest_length left = length left.1.spots
 
 abbrev pub goes_on : ℕ → SourceExpr × Rest → Bool
 goes_on r left = is_some (op_at r left.1.spots)
@@ -144,12 +144,12 @@ goes_on r left = is_some (op_at r left.1.spots)
 -- operators of this rank, from left to right
 abbrev pub links : ℕ → Reader → ℕ → SourceExpr × Rest → Result (SourceExpr × Rest) ParseError
 links r operand at left =
-    repeat left_of (goes_on r) (λ read. link_if operand at (op_at r read.1.spots) read) left
+    repeat rest_length (goes_on r) (λ read. link_if operand at (op_at r read.1.spots) read) left
 
 -- an expression with operators of ranks below this one
-unfoldable pub joined : Reader → ℕ → Reader
-joined operand zero rest = operand rest
-joined operand (suc r) rest = joined operand r rest >>= links r (joined operand r)
+unfoldable pub expression_below : Reader → ℕ → Reader
+expression_below operand zero rest = operand rest
+expression_below operand (suc r) rest = expression_below operand r rest >>= links r (expression_below operand r)
     (place_at rest.spots)
 
 -- one argument more, behind a comma
@@ -157,15 +157,15 @@ abbrev pub argument : Reader → List SourceExpr × Rest → Result (List Source
 argument reader read = reader (with_spots read.1 (tail read.1.spots))
     >>= λ next. Ok (read.0 ++ next.0 ∷ [], next.1)
 
-abbrev pub left_of_list : List SourceExpr × Rest → ℕ
-left_of_list read = length read.1.spots
+abbrev pub rest_length_of_list : List SourceExpr × Rest → ℕ
+rest_length_of_list read = length read.1.spots
 
 abbrev pub has_comma : List SourceExpr × Rest → Bool
 has_comma read = begins_with marks.Comma read.1.spots
 
 abbrev pub more_arguments : Reader → List SourceExpr × Rest
     → Result (List SourceExpr × Rest) ParseError
-more_arguments reader read = repeat left_of_list has_comma (argument reader) read
+more_arguments reader read = repeat rest_length_of_list has_comma (argument reader) read
 
 abbrev pub arguments : Reader → Rest → Result (List SourceExpr × Rest) ParseError
 arguments reader rest =
@@ -177,46 +177,46 @@ arguments reader rest =
 abbrev pub call_by : (ℕ → Reader) → ℕ → ℕ → List ℕ → Rest → Result (SourceExpr × Rest) ParseError
 call_by operand levels at name rest =
     deeper levels (place_at rest.spots) >>= λ level. behind marks.OpenRound rest >>= λ inside.
-    arguments (joined (operand level) 6) inside >>= λ args. behind marks.CloseRound args.1
+    arguments (expression_below (operand level) 6) inside >>= λ args. behind marks.CloseRound args.1
     >>= λ after.
     Ok (source.Call at name (exprs_from args.0), after)
 
-abbrev pub named_by : (ℕ → Reader) → ℕ → ℕ → List ℕ → Rest → Result (SourceExpr × Rest) ParseError
-named_by operand levels at name rest =
+abbrev pub reference_by : (ℕ → Reader) → ℕ → ℕ → List ℕ → Rest → Result (SourceExpr × Rest) ParseError
+reference_by operand levels at name rest =
     if begins_with marks.OpenRound rest.spots then call_by operand levels at name rest
     else Ok (source.Var at name, rest)
 
 -- an expression in brackets, whose bracket stands at `at` in front of the rest
-abbrev pub bracketed_by : (ℕ → Reader) → ℕ → ℕ → Rest → Result (SourceExpr × Rest) ParseError
-bracketed_by operand levels at rest =
-    deeper levels at >>= λ level. joined (operand level) 6 rest >>= λ inner. behind marks.CloseRound
+abbrev pub bracketed_expression_by : (ℕ → Reader) → ℕ → ℕ → Rest → Result (SourceExpr × Rest) ParseError
+bracketed_expression_by operand levels at rest =
+    deeper levels at >>= λ level. expression_below (operand level) 6 rest >>= λ inner. behind marks.CloseRound
     inner.1 >>= λ after.
-    Ok (placed at inner.0, after)
+    Ok (with_place at inner.0, after)
 
 -- what stands behind a sign at `at`
-abbrev pub signed_by : (ℕ → Reader) → ℕ → ℕ → Sign → Rest → Result (SourceExpr × Rest) ParseError
-signed_by operand levels at found rest =
+abbrev pub signed_operand_by : (ℕ → Reader) → ℕ → ℕ → Sign → Rest → Result (SourceExpr × Rest) ParseError
+signed_operand_by operand levels at found rest =
     deeper levels at >>= λ level. operand level rest
     >>= λ inner. Ok (source.Unary at found inner.0, inner.1)
 
 abbrev pub signed_if : (ℕ → Reader) → ℕ → ℕ → Option Sign → ParseError → Rest
     → Result (SourceExpr × Rest) ParseError
 signed_if operand levels at None refusal rest = Err refusal
-signed_if operand levels at (Some found) refusal rest = signed_by operand levels at found rest
+signed_if operand levels at (Some found) refusal rest = signed_operand_by operand levels at found rest
 
 -- what begins with a mark at `at`, which has this refusal where nothing begins with it
-abbrev pub marked_by : (ℕ → Reader) → ℕ → ℕ → Mark → ParseError → Rest
+abbrev pub mark_operand_by : (ℕ → Reader) → ℕ → ℕ → Mark → ParseError → Rest
     → Result (SourceExpr × Rest) ParseError
-marked_by operand levels at m refusal rest =
+mark_operand_by operand levels at m refusal rest =
     if sameb the_type m marks.OpenRound
-    then bracketed_by operand levels at rest
+    then bracketed_expression_by operand levels at rest
     else signed_if operand levels at (sign_of m) refusal rest
 
-abbrev pub operand_by : (ℕ → Reader) → ℕ → Kind → ℕ → ParseError → Rest
+abbrev pub operand_by : (ℕ → Reader) → ℕ → TokenKind → ℕ → ParseError → Rest
     → Result (SourceExpr × Rest) ParseError
 operand_by operand levels (kind.Number value) at refusal rest = Ok (source.Lit at value, rest)
-operand_by operand levels (kind.Word name) at refusal rest = named_by operand levels at name rest
-operand_by operand levels (kind.Mark m) at refusal rest = marked_by operand levels at m refusal rest
+operand_by operand levels (kind.Word name) at refusal rest = reference_by operand levels at name rest
+operand_by operand levels (kind.Mark m) at refusal rest = mark_operand_by operand levels at m refusal rest
 operand_by operand levels (kind.Keyword k) at refusal rest = Err refusal
 operand_by operand levels kind.End at refusal rest = Err refusal
 
@@ -224,7 +224,7 @@ operand_by operand levels kind.End at refusal rest = Err refusal
 abbrev pub operand_in : (ℕ → Reader) → ℕ → List Spot → ℕ → Result (SourceExpr × Rest) ParseError
 operand_in operand levels [] operators = Err (error.Syntax 0)
 operand_in operand levels (spot ∷ spots) operators =
-    operand_by operand levels spot.kind spot.at (refused (spot ∷ spots)) (record {
+    operand_by operand levels spot.kind spot.at (refusal_of (spot ∷ spots)) (record {
       spots = spots;
       operators = operators;
     })
@@ -236,7 +236,7 @@ operand (suc levels) rest = operand_in (λ _. operand levels) (suc levels) rest.
 
 -- an expression, with so many levels left
 abbrev pub expression : ℕ → Reader
-expression levels = joined (operand levels) 6
+expression levels = expression_below (operand levels) 6
 
 abbrev pub call : ℕ → ℕ → List ℕ → Rest → Result (SourceExpr × Rest) ParseError
 call levels at name rest = call_by operand levels at name rest

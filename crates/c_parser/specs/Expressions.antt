@@ -113,17 +113,17 @@ place (Joined left at op right) = place left
 
 -- an expression with operators has the place of the bracket round it; a name, a call or a number
 -- keeps its own
-abbrev pub placed : ℕ → SourceExpr → SourceExpr
-placed at (source.Unary _ sign inner) = source.Unary at sign inner
-placed at (source.Binary _ op left right) = source.Binary at op left right
-placed at e = e
+abbrev pub with_place : ℕ → SourceExpr → SourceExpr
+with_place at (source.Unary _ sign inner) = source.Unary at sign inner
+with_place at (source.Binary _ op left right) = source.Binary at op left right
+with_place at e = e
 
 abbrev mutual
   pub operand_tree : Operand → SourceExpr
   operand_tree (Number at value) = source.Lit at value
   operand_tree (Named at name) = source.Var at name
   operand_tree (Called call) = call_tree call
-  operand_tree (Bracketed opened inner closed) = placed opened (tree inner)
+  operand_tree (Bracketed opened inner closed) = with_place opened (tree inner)
   operand_tree (Signed at sign inner) = source.Unary at sign (operand_tree inner)
 
   pub tree : Expression → SourceExpr

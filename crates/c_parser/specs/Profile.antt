@@ -2,8 +2,8 @@
 use Rattle.std.specs.Prelude.{Bool, true, false, not}
 use Rattle.c_lexer.specs.declared.keyword.Keyword.{Keyword}
 use Rattle.c_lexer.specs.declared.keyword.Keyword.TheVariants as keywords
-use Rattle.c_lexer.specs.declared.kind.Kind.{Kind}
-use Rattle.c_lexer.specs.declared.kind.Kind.TheVariants as kind
+use Rattle.c_lexer.specs.declared.kind.TokenKind.{TokenKind}
+use Rattle.c_lexer.specs.declared.kind.TokenKind.TheVariants as kind
 use Rattle.c_lexer.specs.declared.mark.Mark.{Mark}
 use Rattle.c_lexer.specs.declared.mark.Mark.TheVariants as marks
 
@@ -44,7 +44,7 @@ keyword_is_inside keywords.Return = true
 keyword_is_inside keywords.Extern = true
 keyword_is_inside _ = false
 
-abbrev pub is_outside : Kind → Bool
+abbrev pub is_outside : TokenKind → Bool
 is_outside (kind.Word name) = false
 is_outside (kind.Keyword k) = not (keyword_is_inside k)
 is_outside (kind.Number value) = false

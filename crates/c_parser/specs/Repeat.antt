@@ -8,13 +8,13 @@ abbrev pub go_on : {S : Type 0} → (S → ℕ) → ℕ → (S → Result S Pars
 go_on size bound again state = if nat_lt (size state) bound then again state else Err (Syntax 0)
 
 -- at most so many steps
-abbrev pub repeated : {S : Type 0} → (S → ℕ) → (S → Bool) → (S → Result S ParseError) → ℕ → S
+abbrev pub repetition : {S : Type 0} → (S → ℕ) → (S → Bool) → (S → Result S ParseError) → ℕ → S
     → Result S ParseError
-repeated size test step zero state = Err (Syntax 0)
-repeated size test step (suc times) state =
-    if test state then (step state >>= go_on size (size state) (repeated size test step times))
+repetition size test step zero state = Err (Syntax 0)
+repetition size test step (suc times) state =
+    if test state then (step state >>= go_on size (size state) (repetition size test step times))
     else Ok state
 
 unfoldable pub repeat : {S : Type 0} → (S → ℕ) → (S → Bool) → (S → Result S ParseError) → S
     → Result S ParseError
-repeat size test step state = repeated size test step (suc (size state)) state
+repeat size test step state = repetition size test step (suc (size state)) state

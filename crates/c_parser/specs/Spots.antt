@@ -1,15 +1,15 @@
 -- Tokens as the grammar sees them: what each is and where it stands.
 use Rattle.std.specs.Prelude.{ℕ, ℤ, Bool, true, false, not, ◌&&◌, List, [], ◌∷◌, map}
 use Rattle.c_lexer.specs.declared.keyword.Keyword.{Keyword}
-use Rattle.c_lexer.specs.declared.kind.Kind.{Kind}
-use Rattle.c_lexer.specs.declared.kind.Kind.TheVariants as kind
+use Rattle.c_lexer.specs.declared.kind.TokenKind.{TokenKind}
+use Rattle.c_lexer.specs.declared.kind.TokenKind.TheVariants as kind
 use Rattle.c_lexer.specs.declared.mark.Mark.{Mark}
 use Rattle.c_lexer.specs.declared.token.Token.{Token}
 
 -- a token and its place; the grammar does not ask how long it is
 pub record Spot : Type 0 where
   pub at : ℕ
-  pub kind : Kind
+  pub kind : TokenKind
 
 abbrev pub spot_of : Token → Spot
 spot_of token = record { at = token.at; kind = token.kind }
@@ -33,7 +33,7 @@ number at value = record { at = at; kind = kind.Number value }
 abbrev pub end : ℕ → Spot
 end at = record { at = at; kind = kind.End }
 
-abbrev pub is_end : Kind → Bool
+abbrev pub is_end : TokenKind → Bool
 is_end kind.End = true
 is_end _ = false
 

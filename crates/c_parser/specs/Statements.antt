@@ -5,8 +5,8 @@ use denote.Enum.Bare.{sameb}
 use Rattle.c_lexer.specs.contracts.keyword.Keyword.{the_type}
 use Rattle.c_lexer.specs.declared.keyword.Keyword.{Keyword}
 use Rattle.c_lexer.specs.declared.keyword.Keyword.TheVariants as keywords
-use Rattle.c_lexer.specs.declared.kind.Kind.{Kind}
-use Rattle.c_lexer.specs.declared.kind.Kind.TheVariants as kind
+use Rattle.c_lexer.specs.declared.kind.TokenKind.{TokenKind}
+use Rattle.c_lexer.specs.declared.kind.TokenKind.TheVariants as kind
 use Rattle.c_lexer.specs.declared.mark.Mark.{Mark}
 use Rattle.c_lexer.specs.declared.mark.Mark.TheVariants as marks
 use Rattle.syntax_tree.specs.declared.op.Op.{Op}
@@ -17,13 +17,13 @@ use Rattle.syntax_tree.specs.SourceLine as line
 use Rattle.syntax_tree.specs.SourceLine.{SourceLine, lines_from}
 use Rattle.c_parser.specs.declared.error.ParseError.{ParseError}
 use Rattle.c_parser.specs.declared.error.ParseError.TheVariants as error
-use Rattle.c_parser.specs.Descent.{begins_with, deeper, past, place_at, refused, tail, whole, whole_call}
+use Rattle.c_parser.specs.Descent.{begins_with, deeper, past, place_at, refusal_of, tail, whole, whole_call}
 use Rattle.c_parser.specs.Repeat.{repeat}
 use Rattle.c_parser.specs.Spots.{Spot}
 
 -- ---- single tokens
 
-abbrev pub is_keyword : Keyword → Kind → Bool
+abbrev pub is_keyword : Keyword → TokenKind → Bool
 is_keyword k (kind.Keyword found) = sameb the_type found k
 is_keyword k _ = false
 
@@ -32,7 +32,7 @@ abbrev pub begins_with_keyword : Keyword → List Spot → Bool
 begins_with_keyword k [] = false
 begins_with_keyword k (spot ∷ _) = is_keyword k spot.kind
 
-abbrev pub keyword_in : Kind → Option Keyword
+abbrev pub keyword_in : TokenKind → Option Keyword
 keyword_in (kind.Keyword k) = Some k
 keyword_in _ = None
 
@@ -42,7 +42,7 @@ keyword_at [] = None
 keyword_at (spot ∷ _) = keyword_in spot.kind
 
 abbrev pub past_keyword : Keyword → List Spot → Result (List Spot) ParseError
-past_keyword k spots = if begins_with_keyword k spots then Ok (tail spots) else Err (refused spots)
+past_keyword k spots = if begins_with_keyword k spots then Ok (tail spots) else Err (refusal_of spots)
 
 -- a name, where it stands, and what is left behind it
 pub record Word : Type 0 where
@@ -50,13 +50,13 @@ pub record Word : Type 0 where
   pub name : List ℕ
   pub rest : List Spot
 
-abbrev pub word_by : Kind → ℕ → List Spot → ParseError → Result Word ParseError
+abbrev pub word_by : TokenKind → ℕ → List Spot → ParseError → Result Word ParseError
 word_by (kind.Word name) at rest refusal = Ok (record { at = at; name = name; rest = rest })
 word_by _ at rest refusal = Err refusal
 
 abbrev pub word_at : List Spot → Result Word ParseError
 word_at [] = Err (error.Syntax 0)
-word_at (spot ∷ rest) = word_by spot.kind spot.at rest (refused (spot ∷ rest))
+word_at (spot ∷ rest) = word_by spot.kind spot.at rest (refusal_of (spot ∷ rest))
 
 abbrev pub compound_of : Mark → Option Op
 compound_of marks.PlusAssign = Some op.Add
@@ -71,7 +71,7 @@ count_of marks.PlusPlus = Some op.Add
 count_of marks.MinusMinus = Some op.Sub
 count_of _ = None
 
-abbrev pub compound_in : Kind → Option Op
+abbrev pub compound_in : TokenKind → Option Op
 compound_in (kind.Mark m) = compound_of m
 compound_in _ = None
 
@@ -79,7 +79,7 @@ abbrev pub compound_at : List Spot → Option Op
 compound_at [] = None
 compound_at (spot ∷ _) = compound_in spot.kind
 
-abbrev pub count_in : Kind → Option Op
+abbrev pub count_in : TokenKind → Option Op
 count_in (kind.Mark m) = count_of m
 count_in _ = None
 
@@ -89,51 +89,51 @@ count_at (spot ∷ _) = count_in spot.kind
 
 -- ---- assignments, counts and calls
 
-abbrev pub changed : ℕ → List ℕ → Op → SourceExpr → SourceLine
-changed at name found value =
+abbrev pub compound_assignment : ℕ → List ℕ → Op → SourceExpr → SourceLine
+compound_assignment at name found value =
     line.Assign name at (source.Binary at found (source.Var at name) value)
 
-abbrev pub counted : ℕ → List ℕ → Op → SourceLine
-counted at name found = changed at name found (source.Lit at (pos 1))
+abbrev pub increment : ℕ → List ℕ → Op → SourceLine
+increment at name found = compound_assignment at name found (source.Lit at (pos 1))
 
 abbrev pub LineRead : Type 0
 LineRead = Result (SourceLine × List Spot) ParseError
 
 -- `= e`, behind a name
-abbrev pub assigned : ℕ → ℕ → ℕ → List ℕ → List Spot → LineRead
-assigned most levels at name spots = whole most levels (tail spots)
+abbrev pub assignment_line : ℕ → ℕ → ℕ → List ℕ → List Spot → LineRead
+assignment_line most levels at name spots = whole most levels (tail spots)
     >>= λ value. Ok (line.Assign name at value.0, value.1)
 
-abbrev pub acted : ℕ → ℕ → ℕ → List ℕ → List Spot → LineRead
-acted most levels at name spots = whole_call most levels at name spots
+abbrev pub call_statement : ℕ → ℕ → ℕ → List ℕ → List Spot → LineRead
+call_statement most levels at name spots = whole_call most levels at name spots
     >>= λ read. Ok (line.Act read.0, read.1)
 
 abbrev pub counted_or : Option Op → ℕ → ℕ → ℕ → List ℕ → List Spot → LineRead
 counted_or None most levels at name spots =
-    if begins_with marks.OpenRound spots then acted most levels at name spots
-    else Err (refused spots)
-counted_or (Some found) most levels at name spots = Ok (counted at name found, tail spots)
+    if begins_with marks.OpenRound spots then call_statement most levels at name spots
+    else Err (refusal_of spots)
+counted_or (Some found) most levels at name spots = Ok (increment at name found, tail spots)
 
 abbrev pub compound_or : Option Op → ℕ → ℕ → ℕ → List ℕ → List Spot → LineRead
 compound_or None most levels at name spots = counted_or (count_at spots) most levels at name spots
 compound_or (Some found) most levels at name spots = whole most levels (tail spots)
-    >>= λ value. Ok (changed at name found value.0, value.1)
+    >>= λ value. Ok (compound_assignment at name found value.0, value.1)
 
 -- what goes on behind a name
 abbrev pub behind_name : ℕ → ℕ → ℕ → List ℕ → List Spot → LineRead
 behind_name most levels at name spots =
-    if begins_with marks.Assign spots then assigned most levels at name spots
+    if begins_with marks.Assign spots then assignment_line most levels at name spots
     else compound_or (compound_at spots) most levels at name spots
 
 -- a count in front of its name
-abbrev pub counted_before : Option Op → List Spot → ParseError → LineRead
-counted_before None spots refusal = Err refusal
-counted_before (Some found) spots refusal =
-    word_at spots >>= λ word. Ok (counted word.at word.name found, word.rest)
+abbrev pub increment_before : Option Op → List Spot → ParseError → LineRead
+increment_before None spots refusal = Err refusal
+increment_before (Some found) spots refusal =
+    word_at spots >>= λ word. Ok (increment word.at word.name found, word.rest)
 
-abbrev pub simple_by : ℕ → ℕ → Kind → ℕ → List Spot → ParseError → LineRead
+abbrev pub simple_by : ℕ → ℕ → TokenKind → ℕ → List Spot → ParseError → LineRead
 simple_by most levels (kind.Word name) at rest refusal = behind_name most levels at name rest
-simple_by most levels (kind.Mark m) at rest refusal = counted_before (count_of m) rest refusal
+simple_by most levels (kind.Mark m) at rest refusal = increment_before (count_of m) rest refusal
 simple_by most levels (kind.Keyword k) at rest refusal = Err refusal
 simple_by most levels (kind.Number value) at rest refusal = Err refusal
 simple_by most levels kind.End at rest refusal = Err refusal
@@ -141,18 +141,18 @@ simple_by most levels kind.End at rest refusal = Err refusal
 abbrev pub simple : ℕ → ℕ → List Spot → LineRead
 simple most levels [] = Err (error.Syntax 0)
 simple most levels (spot ∷ rest) = simple_by most levels spot.kind spot.at rest
-    (refused (spot ∷ rest))
+    (refusal_of (spot ∷ rest))
 
 -- ---- locals
 
-abbrev pub initialised : ℕ → ℕ → ℕ → List ℕ → List Spot → LineRead
-initialised most levels at name spots = whole most levels (tail spots)
+abbrev pub initialisation : ℕ → ℕ → ℕ → List ℕ → List Spot → LineRead
+initialisation most levels at name spots = whole most levels (tail spots)
     >>= λ value. Ok (line.Local name at (Some value.0), value.1)
 
 abbrev pub variable : ℕ → ℕ → List Spot → LineRead
 variable most levels spots =
     word_at spots >>= λ word.
-    if begins_with marks.Assign word.rest then initialised most levels word.at word.name word.rest
+    if begins_with marks.Assign word.rest then initialisation most levels word.at word.name word.rest
     else Ok (line.Local word.name word.at None, word.rest)
 
 abbrev pub LinesRead : Type 0
@@ -273,12 +273,12 @@ for_by most reader levels at rest =
       body.1,
     )
 
-abbrev pub returned : ℕ → ℕ → List Spot → Result (Option SourceExpr × List Spot) ParseError
-returned most levels spots = if begins_with marks.Semi spots then Ok (None, spots)
+abbrev pub return_value : ℕ → ℕ → List Spot → Result (Option SourceExpr × List Spot) ParseError
+return_value most levels spots = if begins_with marks.Semi spots then Ok (None, spots)
     else (whole most levels spots >>= λ value. Ok (Some value.0, value.1))
 
 abbrev pub return_by : ℕ → ℕ → ℕ → List Spot → LinesRead
-return_by most levels at rest = returned most levels rest >>= λ value. past marks.Semi value.1
+return_by most levels at rest = return_value most levels rest >>= λ value. past marks.Semi value.1
     >>= λ after. Ok (line.Return at value.0 ∷ [], after)
 
 abbrev pub single_by : SourceLine → List Spot → LinesRead
@@ -297,7 +297,7 @@ keyword_by most reader levels _ at rest refusal = Err refusal
 abbrev pub keyword_or : ℕ → (ℕ → LineReader) → ℕ → Option Keyword → List Spot → LinesRead
 keyword_or most reader levels None spots = simple_line most levels spots
 keyword_or most reader levels (Some k) spots = keyword_by most reader levels k (place_at spots)
-    (tail spots) (refused spots)
+    (tail spots) (refusal_of spots)
 
 -- a line, whose parts are read with fewer levels
 abbrev pub line_in : ℕ → (ℕ → LineReader) → ℕ → List Spot → LinesRead

@@ -3,13 +3,13 @@
 use Rattle.std.specs.Prelude.{ℕ, ℤ, pos, negsuc, neg_ℤ, ◌+◌, nat_eq, Bool, true, false, not, ◌&&◌, Option, None, Some, Result, Ok, Err, List, [], ◌∷◌, ◌++◌, length, if◌then◌else◌}
 use Rattle.items.specs.Gives.{◌>>=◌}
 use Rattle.c_lexer.specs.declared.keyword.Keyword.TheVariants as keywords
-use Rattle.c_lexer.specs.declared.kind.Kind.{Kind}
-use Rattle.c_lexer.specs.declared.kind.Kind.TheVariants as kind
+use Rattle.c_lexer.specs.declared.kind.TokenKind.{TokenKind}
+use Rattle.c_lexer.specs.declared.kind.TokenKind.TheVariants as kind
 use Rattle.c_lexer.specs.declared.mark.Mark.TheVariants as marks
 use Rattle.syntax_tree.specs.SourceLine.{lines_from}
 use Rattle.c_parser.specs.declared.error.ParseError.{ParseError}
 use Rattle.c_parser.specs.declared.error.ParseError.TheVariants as error
-use Rattle.c_parser.specs.Descent.{begins_with, deeper, past, place_at, refused, tail}
+use Rattle.c_parser.specs.Descent.{begins_with, deeper, past, place_at, refusal_of, tail}
 use Rattle.c_parser.specs.Repeat.{repeat}
 use Rattle.c_parser.specs.SourceItem.{SourceItem, Global, Proto, Body, Parameter}
 use Rattle.c_parser.specs.Spots.{Spot, is_end}
@@ -20,13 +20,13 @@ use Rattle.c_parser.specs.Statements.{Word, begins_with_keyword, block, line_rea
 abbrev pub NumberRead : Type 0
 NumberRead = Result (ℤ × List Spot) ParseError
 
-abbrev pub number_by : Kind → List Spot → ParseError → NumberRead
+abbrev pub number_by : TokenKind → List Spot → ParseError → NumberRead
 number_by (kind.Number value) rest refusal = Ok (value, rest)
 number_by _ rest refusal = Err refusal
 
 abbrev pub number_at : List Spot → NumberRead
 number_at [] = Err (error.Syntax 0)
-number_at (spot ∷ rest) = number_by spot.kind rest (refused (spot ∷ rest))
+number_at (spot ∷ rest) = number_by spot.kind rest (refusal_of (spot ∷ rest))
 
 -- the number behind a minus, which has no sign of its own
 abbrev pub opposite : ℤ → List Spot → ParseError → NumberRead
@@ -34,7 +34,7 @@ opposite (pos n) rest refusal = Ok (neg_ℤ (pos n), rest)
 opposite (negsuc n) rest refusal = Err refusal
 
 abbrev pub negative_at : List Spot → NumberRead
-negative_at spots = number_at spots >>= λ read. opposite read.0 read.1 (refused spots)
+negative_at spots = number_at spots >>= λ read. opposite read.0 read.1 (refusal_of spots)
 
 abbrev pub constant : List Spot → NumberRead
 constant spots = if begins_with marks.Minus spots then negative_at (tail spots) else number_at spots
@@ -43,8 +43,8 @@ constant spots = if begins_with marks.Minus spots then negative_at (tail spots) 
 abbrev pub initial : List Spot → NumberRead
 initial spots = if begins_with marks.Assign spots then constant (tail spots) else Ok (pos 0, spots)
 
-abbrev pub shared : Word → Result (SourceItem × List Spot) ParseError
-shared word = initial word.rest >>= λ read. Ok (Global word.name word.at read.0, read.1)
+abbrev pub global_item : Word → Result (SourceItem × List Spot) ParseError
+global_item word = initial word.rest >>= λ read. Ok (Global word.name word.at read.0, read.1)
 
 abbrev pub ItemsRead : Type 0
 ItemsRead = Result (List SourceItem × List Spot) ParseError
@@ -56,7 +56,7 @@ abbrev pub comma_stands : List SourceItem × List Spot → Bool
 comma_stands read = begins_with marks.Comma read.1
 
 abbrev pub next_shared : List Spot → Result (SourceItem × List Spot) ParseError
-next_shared spots = word_at spots >>= λ word. shared word
+next_shared spots = word_at spots >>= λ word. global_item word
 
 abbrev pub one_shared : List SourceItem × List Spot → ItemsRead
 one_shared read = next_shared (tail read.1) >>= λ next. Ok (read.0 ++ next.0 ∷ [], next.1)
@@ -66,7 +66,7 @@ shared_list read = repeat items_left comma_stands one_shared read
 
 abbrev pub globals : Word → ItemsRead
 globals word =
-    shared word >>= λ first. shared_list (first.0 ∷ [], first.1) >>= λ all. past marks.Semi all.1
+    global_item word >>= λ first. shared_list (first.0 ∷ [], first.1) >>= λ all. past marks.Semi all.1
     >>= λ after. Ok (all.0, after)
 
 -- ---- parameters
@@ -77,14 +77,14 @@ pub record Slots : Type 0 where
   pub named : List Parameter
   pub rest : List Spot
 
-abbrev pub named_by : Kind → ℕ → List Parameter
-named_by (kind.Word name) at = record { name = name; at = at } ∷ []
-named_by _ at = []
+abbrev pub parameter_by : TokenKind → ℕ → List Parameter
+parameter_by (kind.Word name) at = record { name = name; at = at } ∷ []
+parameter_by _ at = []
 
 -- the name that stands first, where one does
 abbrev pub name_at : List Spot → List Parameter
 name_at [] = []
-name_at (spot ∷ _) = named_by spot.kind spot.at
+name_at (spot ∷ _) = parameter_by spot.kind spot.at
 
 abbrev pub behind_name : List Parameter → List Spot → List Spot
 behind_name [] spots = spots
@@ -168,7 +168,7 @@ may_have_body head signature = not head.outside && nat_eq (length signature.name
 abbrev pub body_or : ℕ → ℕ → Head → Signature → List Spot → ItemsRead
 body_or most levels head signature spots =
     if begins_with marks.OpenBrace spots && may_have_body head signature
-    then body most levels head signature.named spots else Err (refused spots)
+    then body most levels head signature.named spots else Err (refusal_of spots)
 
 abbrev pub behind_signature : ℕ → ℕ → Head → Signature → List Spot → ItemsRead
 behind_signature most levels head signature spots =
@@ -194,22 +194,22 @@ behind_word most levels outside returns word =
       at = word.at;
       name = word.name;
     }) (tail word.rest)
-    else (if returns && not outside then globals word else Err (refused word.rest))
+    else (if returns && not outside then globals word else Err (refusal_of word.rest))
 
 abbrev pub behind_type : ℕ → ℕ → Bool → Bool → List Spot → ItemsRead
 behind_type most levels outside returns spots = word_at spots >>= λ word. behind_word most levels
     outside returns word
 
-abbrev pub typed : ℕ → ℕ → Bool → List Spot → ItemsRead
-typed most levels outside spots =
+abbrev pub typed_declaration : ℕ → ℕ → Bool → List Spot → ItemsRead
+typed_declaration most levels outside spots =
     if begins_with_keyword keywords.Int spots then behind_type most levels outside true (tail spots)
     else (if begins_with_keyword keywords.Void spots
-    then behind_type most levels outside false (tail spots) else Err (refused spots))
+    then behind_type most levels outside false (tail spots) else Err (refusal_of spots))
 
 abbrev pub declaration : ℕ → ℕ → List Spot → ItemsRead
 declaration most levels spots =
-    if begins_with_keyword keywords.Extern spots then typed most levels true (tail spots)
-    else typed most levels false spots
+    if begins_with_keyword keywords.Extern spots then typed_declaration most levels true (tail spots)
+    else typed_declaration most levels false spots
 
 abbrev pub at_end : List Spot → Bool
 at_end [] = false

@@ -1,13 +1,13 @@
 ghost use Rattle.std.specs.Prelude.{◌≡◌};
 ghost use Rattle.c_parser.specs.Spots.{ends_once, is_end, spots_of};
 
-use c_lexer::{Kind, Token};
+use c_lexer::{Token, TokenKind};
 
-fn is_end(kind: &Kind) -> bool
+fn is_end(kind: &TokenKind) -> bool
     ensures { result ≡ is_end kind.now }
 {
     match kind {
-        Kind::End => true,
+        TokenKind::End => true,
         _ => false,
     }
 }

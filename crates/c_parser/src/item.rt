@@ -1,19 +1,19 @@
 ghost use Rattle.std.specs.Prelude.{◌≡◌, ◌≢◌, ◌<◌, ◌≤◌, [], ◌∷◌, ◌++◌, Ok, IfErr, IfOk, OnOk, length, map};
 ghost use Rattle.items.specs.Gives.{Gives};
-ghost use Rattle.c_parser.specs.Descent.{told};
+ghost use Rattle.c_parser.specs.Descent.{exact_error};
 ghost use Rattle.c_parser.specs.SourceItem.{parameter_of, source_item_of};
 ghost use Rattle.c_parser.specs.Spots.{spots_of};
-ghost use Rattle.c_parser.specs.Texts.{at_end, behind_signature, behind_type, behind_word, body, constant, declaration, globals, initial, more_slots, negative_at, next_shared, number_at, procedure, shared, shared_list, signature, slot, slot_list, text, typed};
+ghost use Rattle.c_parser.specs.Texts.{at_end, behind_signature, behind_type, behind_word, body, constant, declaration, globals, initial, more_slots, negative_at, next_shared, number_at, procedure, global_item, shared_list, signature, slot, slot_list, text, typed_declaration};
 ghost use Rattle.c_parser.specs.Limits.{most_binary_operators};
 
 use crate::ParseError;
-use crate::expression::copied;
+use crate::expression::name_copy;
 use crate::line::block;
 use crate::rest::{deeper, tail};
 use crate::tokens::{
-    Word, begins_with, begins_with_keyword, past, past_keyword, place_at, refused, word_at,
+    Word, begins_with, begins_with_keyword, past, past_keyword, place_at, refusal_of, word_at,
 };
-use c_lexer::{Keyword, Kind, Mark, Token};
+use c_lexer::{Keyword, Mark, Token, TokenKind};
 use items::Items;
 use std::alloc::Global;
 use syntax_tree::{Item, Name, Param};
@@ -21,7 +21,7 @@ use syntax_tree::{Item, Name, Param};
 /// The number that has to stand first.
 #[tactic(auto, using(crate::proofs::FirstTokens::refused_no_memory))]
 fn number_at(tokens: &[Token]) -> Result<(i128, &[Token]), ParseError>
-    ensures exact { Gives told (λ x. (x.0, spots_of x.1.now)) result
+    ensures exact { Gives exact_error (λ x. (x.0, spots_of x.1.now)) result
         (number_at (spots_of tokens.now)) }
     ensures shorter { IfOk result (λ x. length x.1.now < length tokens.now) }
     ensures memory { IfErr result (λ e. e ≢ ParseError.Memory) }
@@ -29,8 +29,8 @@ fn number_at(tokens: &[Token]) -> Result<(i128, &[Token]), ParseError>
     match tokens {
         [] => Err(ParseError::Syntax(0)),
         [token, rest @ ..] => match &token.kind {
-            Kind::Number(value) => Ok((*value, rest)),
-            _ => Err(refused(tokens)),
+            TokenKind::Number(value) => Ok((*value, rest)),
+            _ => Err(refusal_of(tokens)),
         },
     }
 }
@@ -38,14 +38,14 @@ fn number_at(tokens: &[Token]) -> Result<(i128, &[Token]), ParseError>
 /// The opposite of the number that has to stand first, which has no sign of its own.
 #[tactic(auto, using(crate::proofs::FirstTokens::refused_no_memory))]
 fn negative_at(tokens: &[Token]) -> Result<(i128, &[Token]), ParseError>
-    ensures exact { Gives told (λ x. (x.0, spots_of x.1.now)) result
+    ensures exact { Gives exact_error (λ x. (x.0, spots_of x.1.now)) result
         (negative_at (spots_of tokens.now)) }
     ensures shorter { IfOk result (λ x. length x.1.now < length tokens.now) }
     ensures memory { IfErr result (λ e. e ≢ ParseError.Memory) }
 {
     let (value, after) = number_at(tokens)?;
     if value < 0 {
-        Err(refused(tokens))
+        Err(refusal_of(tokens))
     } else {
         Ok((-value, after))
     }
@@ -53,7 +53,7 @@ fn negative_at(tokens: &[Token]) -> Result<(i128, &[Token]), ParseError>
 
 /// A number, with a minus or without.
 fn constant(tokens: &[Token]) -> Result<(i128, &[Token]), ParseError>
-    ensures exact { Gives told (λ x. (x.0, spots_of x.1.now)) result
+    ensures exact { Gives exact_error (λ x. (x.0, spots_of x.1.now)) result
         (constant (spots_of tokens.now)) }
     ensures within { IfOk result (λ x. length x.1.now ≤ length tokens.now) }
     ensures memory { IfErr result (λ e. e ≢ ParseError.Memory) }
@@ -67,7 +67,7 @@ fn constant(tokens: &[Token]) -> Result<(i128, &[Token]), ParseError>
 
 /// The number that a global begins with: 0 where none is told.
 fn initial(tokens: &[Token]) -> Result<(i128, &[Token]), ParseError>
-    ensures exact { Gives told (λ x. (x.0, spots_of x.1.now)) result
+    ensures exact { Gives exact_error (λ x. (x.0, spots_of x.1.now)) result
         (initial (spots_of tokens.now)) }
     ensures within { IfOk result (λ x. length x.1.now ≤ length tokens.now) }
     ensures memory { IfErr result (λ e. e ≢ ParseError.Memory) }
@@ -80,26 +80,26 @@ fn initial(tokens: &[Token]) -> Result<(i128, &[Token]), ParseError>
 }
 
 /// A global, whose name is read.
-fn shared(word: Word) -> Result<(Item, &[Token]), ParseError>
-    ensures exact { Gives told (λ x. (source_item_of x.0, spots_of x.1.now)) result
-        (shared (record
+fn global_item(word: Word) -> Result<(Item, &[Token]), ParseError>
+    ensures exact { Gives exact_error (λ x. (source_item_of x.0, spots_of x.1.now)) result
+        (global_item (record
         { at = word.entry.at; name = word.entry.name.now; rest = spots_of word.entry.rest.now })) }
     ensures within { IfOk result (λ x. length x.1.now ≤ length word.entry.rest.now) }
 {
     let (init, after) = initial(word.rest)?;
-    let name = copied(word.name)?;
+    let name = name_copy(word.name)?;
     let at = word.at;
     Ok((Item::Global { name, at, init }, after))
 }
 
 /// A global.
 fn next_shared(tokens: &[Token]) -> Result<(Item, &[Token]), ParseError>
-    ensures exact { Gives told (λ x. (source_item_of x.0, spots_of x.1.now)) result
+    ensures exact { Gives exact_error (λ x. (source_item_of x.0, spots_of x.1.now)) result
         (next_shared (spots_of tokens.now)) }
     ensures shorter { IfOk result (λ x. length x.1.now < length tokens.now) }
 {
     let word = word_at(tokens)?;
-    shared(word)
+    global_item(word)
 }
 
 /// The globals that go on behind these, each with its comma in front.
@@ -107,7 +107,7 @@ fn shared_list<'a>(
     first: Items<Item>,
     tokens: &'a [Token],
 ) -> Result<(Items<Item>, &'a [Token]), ParseError>
-    ensures exact { Gives told (λ x. (map source_item_of x.0, spots_of x.1.now)) result
+    ensures exact { Gives exact_error (λ x. (map source_item_of x.0, spots_of x.1.now)) result
         (shared_list (map source_item_of first, spots_of tokens.now)) }
     ensures within { IfOk result (λ x. length x.1.now ≤ length tokens.now) }
 {
@@ -123,7 +123,7 @@ fn shared_list<'a>(
 
 /// The list of one declaration.
 fn single(alloc: Global, item: Item) -> Result<Items<Item>, ParseError>
-    ensures { Gives told (λ x. map source_item_of x) result (Ok (source_item_of item ∷ [])) }
+    ensures { Gives exact_error (λ x. map source_item_of x) result (Ok (source_item_of item ∷ [])) }
 {
     let mut items = Items::new(alloc);
     items.push(item)?;
@@ -132,12 +132,12 @@ fn single(alloc: Global, item: Item) -> Result<Items<Item>, ParseError>
 
 /// Globals, of which the first name is read, and their semicolon.
 fn globals<'a>(alloc: Global, word: Word<'a>) -> Result<(Items<Item>, &'a [Token]), ParseError>
-    ensures exact { Gives told (λ x. (map source_item_of x.0, spots_of x.1.now)) result
+    ensures exact { Gives exact_error (λ x. (map source_item_of x.0, spots_of x.1.now)) result
         (globals (record
         { at = word.entry.at; name = word.entry.name.now; rest = spots_of word.entry.rest.now })) }
     ensures shorter { IfOk result (λ x. length x.1.now < length word.entry.rest.now) }
 {
-    let (first, after) = shared(word)?;
+    let (first, after) = global_item(word)?;
     let (items, after) = shared_list(single(alloc, first)?, after)?;
     let after = past(after, Mark::Semi)?;
     Ok((items, after))
@@ -157,14 +157,14 @@ fn push_parameter(named: &mut Items<Param>, name: &Name, at: u32) -> Result<(), 
     ensures memory { IfErr result (λ e. e ≡ ParseError.Memory) }
     ensures ok { OnOk result (named.new ≡ named.old ++ record { name = name.now; at = at } ∷ []) }
 {
-    let name = copied(name)?;
+    let name = name_copy(name)?;
     named.push(Param { name, at })?;
     Ok(())
 }
 
 /// One parameter more. A number of parameters past 32 bits is want of memory.
 fn slot<'a>(slots: Slots<'a>, tokens: &'a [Token]) -> Result<Slots<'a>, ParseError>
-    ensures exact { Gives told
+    ensures exact { Gives exact_error
         (λ x. record {
           count = x.count;
           named = map parameter_of x.named;
@@ -188,7 +188,7 @@ fn slot<'a>(slots: Slots<'a>, tokens: &'a [Token]) -> Result<Slots<'a>, ParseErr
     let count = count.checked_add(1).ok_or(ParseError::Memory)?;
     match rest {
         [token, behind @ ..] => match &token.kind {
-            Kind::Word(name) => {
+            TokenKind::Word(name) => {
                 push_parameter(&mut named, name, token.at)?;
                 Ok(Slots {
                     count,
@@ -204,7 +204,7 @@ fn slot<'a>(slots: Slots<'a>, tokens: &'a [Token]) -> Result<Slots<'a>, ParseErr
 
 /// The parameters that go on behind these, each with its comma in front.
 fn more_slots(first: Slots) -> Result<Slots, ParseError>
-    ensures exact { Gives told
+    ensures exact { Gives exact_error
         (λ x. record {
           count = x.count;
           named = map parameter_of x.named;
@@ -229,7 +229,7 @@ fn more_slots(first: Slots) -> Result<Slots, ParseError>
 
 /// Parameters with commas between them.
 fn slot_list(alloc: Global, tokens: &[Token]) -> Result<Slots, ParseError>
-    ensures exact { Gives told
+    ensures exact { Gives exact_error
         (λ x. record {
           count = x.count;
           named = map parameter_of x.named;
@@ -259,7 +259,7 @@ struct Signature<'a> {
 
 /// The parameters in the brackets of a procedure.
 fn signature_at(alloc: Global, tokens: &[Token]) -> Result<Signature, ParseError>
-    ensures exact { Gives told
+    ensures exact { Gives exact_error
         (λ x. record {
           told = x.told;
           count = x.count;
@@ -312,7 +312,7 @@ fn body<'a>(
     tokens: &'a [Token],
 ) -> Result<(Items<Item>, &'a [Token]), ParseError>
     requires { 0 < length tokens.now }
-    ensures exact { Gives told (λ x. (map source_item_of x.0, spots_of x.1.now)) result
+    ensures exact { Gives exact_error (λ x. (map source_item_of x.0, spots_of x.1.now)) result
         (body most_binary_operators levels
         (record { outside = head.outside; returns = head.returns; at = head.at; name = head.name })
         (map parameter_of params) (spots_of tokens.now)) }
@@ -345,7 +345,7 @@ fn behind_signature<'a>(
     signature: Signature,
     tokens: &'a [Token],
 ) -> Result<(Items<Item>, &'a [Token]), ParseError>
-    ensures exact { Gives told (λ x. (map source_item_of x.0, spots_of x.1.now)) result
+    ensures exact { Gives exact_error (λ x. (map source_item_of x.0, spots_of x.1.now)) result
         (behind_signature most_binary_operators levels
         (record { outside = head.outside; returns = head.returns; at = head.at; name = head.name })
         (record {
@@ -382,7 +382,7 @@ fn behind_signature<'a>(
     if begins_with(tokens, Mark::OpenBrace) && !head.outside && named.len() == count as usize {
         body(alloc, levels, head, named, tokens)
     } else {
-        Err(refused(tokens))
+        Err(refusal_of(tokens))
     }
 }
 
@@ -393,7 +393,7 @@ fn procedure(
     head: Head,
     tokens: &[Token],
 ) -> Result<(Items<Item>, &[Token]), ParseError>
-    ensures exact { Gives told (λ x. (map source_item_of x.0, spots_of x.1.now)) result
+    ensures exact { Gives exact_error (λ x. (map source_item_of x.0, spots_of x.1.now)) result
         (procedure most_binary_operators levels
         (record { outside = head.outside; returns = head.returns; at = head.at; name = head.name })
         (spots_of tokens.now)) }
@@ -412,7 +412,7 @@ fn behind_word<'a>(
     returns: bool,
     word: Word<'a>,
 ) -> Result<(Items<Item>, &'a [Token]), ParseError>
-    ensures exact { Gives told (λ x. (map source_item_of x.0, spots_of x.1.now)) result
+    ensures exact { Gives exact_error (λ x. (map source_item_of x.0, spots_of x.1.now)) result
         (behind_word most_binary_operators levels outside returns
         (record {
           at = word.entry.at;
@@ -427,14 +427,14 @@ fn behind_word<'a>(
             outside,
             returns,
             at: word.at,
-            name: copied(word.name)?,
+            name: name_copy(word.name)?,
         };
         return procedure(alloc, levels, head, tail(word.rest));
     }
     if returns && !outside {
         globals(alloc, word)
     } else {
-        Err(refused(word.rest))
+        Err(refusal_of(word.rest))
     }
 }
 
@@ -446,7 +446,7 @@ fn behind_type(
     returns: bool,
     tokens: &[Token],
 ) -> Result<(Items<Item>, &[Token]), ParseError>
-    ensures exact { Gives told (λ x. (map source_item_of x.0, spots_of x.1.now)) result
+    ensures exact { Gives exact_error (λ x. (map source_item_of x.0, spots_of x.1.now)) result
         (behind_type most_binary_operators levels outside returns (spots_of tokens.now)) }
     ensures shorter { IfOk result (λ x. length x.1.now < length tokens.now) }
 {
@@ -455,14 +455,14 @@ fn behind_type(
 }
 
 /// A declaration, behind its `extern` where it has one.
-fn typed(
+fn typed_declaration(
     alloc: Global,
     levels: usize,
     outside: bool,
     tokens: &[Token],
 ) -> Result<(Items<Item>, &[Token]), ParseError>
-    ensures exact { Gives told (λ x. (map source_item_of x.0, spots_of x.1.now)) result
-        (typed most_binary_operators levels outside (spots_of tokens.now)) }
+    ensures exact { Gives exact_error (λ x. (map source_item_of x.0, spots_of x.1.now)) result
+        (typed_declaration most_binary_operators levels outside (spots_of tokens.now)) }
     ensures shorter { IfOk result (λ x. length x.1.now < length tokens.now) }
 {
     if begins_with_keyword(tokens, Keyword::Int) {
@@ -471,7 +471,7 @@ fn typed(
     if begins_with_keyword(tokens, Keyword::Void) {
         behind_type(alloc, levels, outside, false, tail(tokens))
     } else {
-        Err(refused(tokens))
+        Err(refusal_of(tokens))
     }
 }
 
@@ -481,14 +481,14 @@ fn declaration(
     levels: usize,
     tokens: &[Token],
 ) -> Result<(Items<Item>, &[Token]), ParseError>
-    ensures exact { Gives told (λ x. (map source_item_of x.0, spots_of x.1.now)) result
+    ensures exact { Gives exact_error (λ x. (map source_item_of x.0, spots_of x.1.now)) result
         (declaration most_binary_operators levels (spots_of tokens.now)) }
     ensures shorter { IfOk result (λ x. length x.1.now < length tokens.now) }
 {
     if begins_with_keyword(tokens, Keyword::Extern) {
-        typed(alloc, levels, true, tail(tokens))
+        typed_declaration(alloc, levels, true, tail(tokens))
     } else {
-        typed(alloc, levels, false, tokens)
+        typed_declaration(alloc, levels, false, tokens)
     }
 }
 
@@ -497,7 +497,7 @@ fn at_end(tokens: &[Token]) -> bool
 {
     match tokens {
         [token, ..] => match token.kind {
-            Kind::End => true,
+            TokenKind::End => true,
             _ => false,
         },
         [] => false,
@@ -510,7 +510,7 @@ pub(crate) fn text(
     levels: usize,
     tokens: &[Token],
 ) -> Result<(Items<Item>, &[Token]), ParseError>
-    ensures { Gives told (λ x. (map source_item_of x.0, spots_of x.1.now)) result
+    ensures { Gives exact_error (λ x. (map source_item_of x.0, spots_of x.1.now)) result
         (text most_binary_operators levels ([], spots_of tokens.now)) }
 {
     let mut items = Items::new(alloc);

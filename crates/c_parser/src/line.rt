@@ -5,10 +5,10 @@ ghost use Rattle.std.specs.Option.{option_map};
 ghost use Rattle.items.specs.Gives.{Gives};
 ghost use Rattle.syntax_tree.specs.SourceExpr.{source_expr_of};
 ghost use Rattle.syntax_tree.specs.SourceLine.{Loop, lines_from, source_line_of};
-ghost use Rattle.c_parser.specs.Descent.{place_at, refused, tail, told};
+ghost use Rattle.c_parser.specs.Descent.{place_at, refusal_of, tail, exact_error};
 ghost use Rattle.c_parser.specs.Spots.{spots_of};
 ghost use Rattle.c_parser.specs.Parts.{for_begin, for_end, for_parts};
-ghost use Rattle.c_parser.specs.Statements.{block, block_by, condition, do_by, entries, entry, for_condition, for_step, if_by, init, keyword_by, line_read, otherwise, return_by, returned, simple_line, single_by, while_by};
+ghost use Rattle.c_parser.specs.Statements.{block, block_by, condition, do_by, entries, entry, for_condition, for_step, if_by, init, keyword_by, line_read, otherwise, return_by, return_value, simple_line, single_by, while_by};
 ghost use Rattle.c_parser.specs.Limits.{most_binary_operators};
 
 use crate::ParseError;
@@ -16,7 +16,7 @@ use crate::expression::whole;
 use crate::rest::{deeper, tail};
 use crate::simple::{local, simple, single};
 use crate::tokens::{
-    begins_with, begins_with_keyword, keyword_at, past, past_keyword, place_at, refused,
+    begins_with, begins_with_keyword, keyword_at, past, past_keyword, place_at, refusal_of,
 };
 use c_lexer::{Keyword, Mark, Token};
 use items::Items;
@@ -30,7 +30,7 @@ fn line(
     levels: usize,
     tokens: &[Token],
 ) -> Result<(Items<Line>, &[Token]), ParseError>
-    ensures exact { Gives told (λ x. (map source_line_of x.0, spots_of x.1.now)) result
+    ensures exact { Gives exact_error (λ x. (map source_line_of x.0, spots_of x.1.now)) result
         (line_read most_binary_operators levels (spots_of tokens.now)) }
     ensures shorter { IfOk result (λ x. length x.1.now < length tokens.now) }
 {
@@ -55,10 +55,10 @@ fn keyword_line(
     tokens: &[Token],
 ) -> Result<(Items<Line>, &[Token]), ParseError>
     requires { 0 < length tokens.now }
-    ensures exact { Gives told (λ x. (map source_line_of x.0, spots_of x.1.now)) result
+    ensures exact { Gives exact_error (λ x. (map source_line_of x.0, spots_of x.1.now)) result
         (keyword_by most_binary_operators (line_read most_binary_operators) levels keyword
         (place_at (spots_of tokens.now)) (tail (spots_of tokens.now))
-        (refused (spots_of tokens.now))) }
+        (refusal_of (spots_of tokens.now))) }
     ensures shorter { IfOk result (λ x. length x.1.now < length tokens.now) }
 {
     let at = place_at(tokens);
@@ -71,7 +71,7 @@ fn keyword_line(
         Keyword::Break => single_line(alloc, Line::Break(at), rest),
         Keyword::Continue => single_line(alloc, Line::Continue(at), rest),
         Keyword::Return => return_line(alloc, levels, at, rest),
-        _ => Err(refused(tokens)),
+        _ => Err(refusal_of(tokens)),
     }
 }
 
@@ -83,7 +83,7 @@ fn block_line(
     at: u32,
     tokens: &[Token],
 ) -> Result<(Items<Line>, &[Token]), ParseError>
-    ensures exact { Gives told (λ x. (map source_line_of x.0, spots_of x.1.now)) result
+    ensures exact { Gives exact_error (λ x. (map source_line_of x.0, spots_of x.1.now)) result
         (block_by most_binary_operators (line_read most_binary_operators) levels at
         (spots_of tokens.now)) }
     ensures shorter { IfOk result (λ x. length x.1.now < length tokens.now) }
@@ -101,7 +101,7 @@ pub(crate) fn block(
     level: usize,
     tokens: &[Token],
 ) -> Result<(Items<Line>, u32, &[Token]), ParseError>
-    ensures exact { Gives told (λ x. (map source_line_of x.0, x.1, spots_of x.2.now)) result
+    ensures exact { Gives exact_error (λ x. (map source_line_of x.0, x.1, spots_of x.2.now)) result
         (block most_binary_operators (line_read most_binary_operators level) level
         (spots_of tokens.now)) }
     ensures shorter { IfOk result (λ x. length x.2.now < length tokens.now) }
@@ -118,7 +118,7 @@ fn entries(
     level: usize,
     tokens: &[Token],
 ) -> Result<(Items<Line>, &[Token]), ParseError>
-    ensures exact { Gives told (λ x. (map source_line_of x.0, spots_of x.1.now)) result
+    ensures exact { Gives exact_error (λ x. (map source_line_of x.0, spots_of x.1.now)) result
         (entries most_binary_operators (line_read most_binary_operators level) level
         ([], spots_of tokens.now)) }
     ensures within { IfOk result (λ x. length x.1.now ≤ length tokens.now) }
@@ -140,7 +140,7 @@ fn entry(
     level: usize,
     tokens: &[Token],
 ) -> Result<(Items<Line>, &[Token]), ParseError>
-    ensures exact { Gives told (λ x. (map source_line_of x.0, spots_of x.1.now)) result
+    ensures exact { Gives exact_error (λ x. (map source_line_of x.0, spots_of x.1.now)) result
         (entry most_binary_operators (line_read most_binary_operators level) level
         (spots_of tokens.now)) }
     ensures shorter { IfOk result (λ x. length x.1.now < length tokens.now) }
@@ -160,7 +160,7 @@ fn if_line(
     at: u32,
     tokens: &[Token],
 ) -> Result<(Items<Line>, &[Token]), ParseError>
-    ensures exact { Gives told (λ x. (map source_line_of x.0, spots_of x.1.now)) result
+    ensures exact { Gives exact_error (λ x. (map source_line_of x.0, spots_of x.1.now)) result
         (if_by most_binary_operators (line_read most_binary_operators) levels at
         (spots_of tokens.now)) }
     ensures shorter { IfOk result (λ x. length x.1.now < length tokens.now) }
@@ -179,7 +179,7 @@ fn otherwise(
     level: usize,
     tokens: &[Token],
 ) -> Result<(Items<Line>, &[Token]), ParseError>
-    ensures exact { Gives told (λ x. (map source_line_of x.0, spots_of x.1.now)) result
+    ensures exact { Gives exact_error (λ x. (map source_line_of x.0, spots_of x.1.now)) result
         (otherwise (line_read most_binary_operators level) (spots_of tokens.now)) }
     ensures within { IfOk result (λ x. length x.1.now ≤ length tokens.now) }
 {
@@ -199,7 +199,7 @@ fn loop_line(
     body: Items<Line>,
     first: bool,
 ) -> Result<Items<Line>, ParseError>
-    ensures { Gives told (λ x. map source_line_of x) result
+    ensures { Gives exact_error (λ x. map source_line_of x) result
         (Ok (Loop (lines_from (map source_line_of init)) (source_expr_of cond)
         (lines_from (map source_line_of step)) (lines_from (map source_line_of body)) first ∷ [])) }
 {
@@ -221,7 +221,7 @@ fn while_line(
     at: u32,
     tokens: &[Token],
 ) -> Result<(Items<Line>, &[Token]), ParseError>
-    ensures exact { Gives told (λ x. (map source_line_of x.0, spots_of x.1.now)) result
+    ensures exact { Gives exact_error (λ x. (map source_line_of x.0, spots_of x.1.now)) result
         (while_by most_binary_operators (line_read most_binary_operators) levels at
         (spots_of tokens.now)) }
     ensures shorter { IfOk result (λ x. length x.1.now < length tokens.now) }
@@ -242,7 +242,7 @@ fn do_line(
     at: u32,
     tokens: &[Token],
 ) -> Result<(Items<Line>, &[Token]), ParseError>
-    ensures exact { Gives told (λ x. (map source_line_of x.0, spots_of x.1.now)) result
+    ensures exact { Gives exact_error (λ x. (map source_line_of x.0, spots_of x.1.now)) result
         (do_by most_binary_operators (line_read most_binary_operators) levels at
         (spots_of tokens.now)) }
     ensures shorter { IfOk result (λ x. length x.1.now < length tokens.now) }
@@ -265,7 +265,7 @@ fn for_line(
     at: u32,
     tokens: &[Token],
 ) -> Result<(Items<Line>, &[Token]), ParseError>
-    ensures exact { Gives told (λ x. (map source_line_of x.0, spots_of x.1.now)) result
+    ensures exact { Gives exact_error (λ x. (map source_line_of x.0, spots_of x.1.now)) result
         (for_parts most_binary_operators (line_read most_binary_operators) levels at
         (spots_of tokens.now)) }
     ensures shorter { IfOk result (λ x. length x.1.now < length tokens.now) }
@@ -284,7 +284,7 @@ fn for_begin(
     level: usize,
     tokens: &[Token],
 ) -> Result<(Items<Line>, &[Token]), ParseError>
-    ensures exact { Gives told (λ x. (map source_line_of x.0, spots_of x.1.now)) result
+    ensures exact { Gives exact_error (λ x. (map source_line_of x.0, spots_of x.1.now)) result
         (for_begin most_binary_operators level (spots_of tokens.now)) }
     ensures shorter { IfOk result (λ x. length x.1.now < length tokens.now) }
 {
@@ -298,7 +298,7 @@ fn for_end(
     level: usize,
     tokens: &[Token],
 ) -> Result<(Items<Line>, &[Token]), ParseError>
-    ensures exact { Gives told (λ x. (map source_line_of x.0, spots_of x.1.now)) result
+    ensures exact { Gives exact_error (λ x. (map source_line_of x.0, spots_of x.1.now)) result
         (for_end most_binary_operators level (spots_of tokens.now)) }
     ensures shorter { IfOk result (λ x. length x.1.now < length tokens.now) }
 {
@@ -314,7 +314,7 @@ fn init(
     level: usize,
     tokens: &[Token],
 ) -> Result<(Items<Line>, &[Token]), ParseError>
-    ensures exact { Gives told (λ x. (map source_line_of x.0, spots_of x.1.now)) result
+    ensures exact { Gives exact_error (λ x. (map source_line_of x.0, spots_of x.1.now)) result
         (init most_binary_operators level (spots_of tokens.now)) }
     ensures within { IfOk result (λ x. length x.1.now ≤ length tokens.now) }
 {
@@ -334,7 +334,7 @@ fn for_condition(
     level: usize,
     tokens: &[Token],
 ) -> Result<(Expr, &[Token]), ParseError>
-    ensures exact { Gives told (λ x. (source_expr_of x.0, spots_of x.1.now)) result
+    ensures exact { Gives exact_error (λ x. (source_expr_of x.0, spots_of x.1.now)) result
         (for_condition most_binary_operators level (spots_of tokens.now)) }
     ensures within { IfOk result (λ x. length x.1.now ≤ length tokens.now) }
 {
@@ -351,7 +351,7 @@ fn for_step(
     level: usize,
     tokens: &[Token],
 ) -> Result<(Items<Line>, &[Token]), ParseError>
-    ensures exact { Gives told (λ x. (map source_line_of x.0, spots_of x.1.now)) result
+    ensures exact { Gives exact_error (λ x. (map source_line_of x.0, spots_of x.1.now)) result
         (for_step most_binary_operators level (spots_of tokens.now)) }
     ensures within { IfOk result (λ x. length x.1.now ≤ length tokens.now) }
 {
@@ -364,7 +364,7 @@ fn for_step(
 
 /// An expression in brackets.
 fn condition(alloc: Global, level: usize, tokens: &[Token]) -> Result<(Expr, &[Token]), ParseError>
-    ensures exact { Gives told (λ x. (source_expr_of x.0, spots_of x.1.now)) result
+    ensures exact { Gives exact_error (λ x. (source_expr_of x.0, spots_of x.1.now)) result
         (condition most_binary_operators level (spots_of tokens.now)) }
     ensures shorter { IfOk result (λ x. length x.1.now < length tokens.now) }
 {
@@ -380,7 +380,7 @@ fn simple_line(
     levels: usize,
     tokens: &[Token],
 ) -> Result<(Items<Line>, &[Token]), ParseError>
-    ensures exact { Gives told (λ x. (map source_line_of x.0, spots_of x.1.now)) result
+    ensures exact { Gives exact_error (λ x. (map source_line_of x.0, spots_of x.1.now)) result
         (simple_line most_binary_operators levels (spots_of tokens.now)) }
     ensures shorter { IfOk result (λ x. length x.1.now < length tokens.now) }
 {
@@ -396,7 +396,7 @@ fn single_line(
     line: Line,
     tokens: &[Token],
 ) -> Result<(Items<Line>, &[Token]), ParseError>
-    ensures exact { Gives told (λ x. (map source_line_of x.0, spots_of x.1.now)) result
+    ensures exact { Gives exact_error (λ x. (map source_line_of x.0, spots_of x.1.now)) result
         (single_by (source_line_of line) (spots_of tokens.now)) }
     ensures shorter { IfOk result (λ x. length x.1.now < length tokens.now) }
 {
@@ -406,13 +406,13 @@ fn single_line(
 }
 
 /// The value of a `return`, where there is one.
-fn returned(
+fn return_value(
     alloc: Global,
     levels: usize,
     tokens: &[Token],
 ) -> Result<(Option<Expr>, &[Token]), ParseError>
-    ensures exact { Gives told (λ x. (option_map source_expr_of x.0, spots_of x.1.now)) result
-        (returned most_binary_operators levels (spots_of tokens.now)) }
+    ensures exact { Gives exact_error (λ x. (option_map source_expr_of x.0, spots_of x.1.now)) result
+        (return_value most_binary_operators levels (spots_of tokens.now)) }
     ensures within { IfOk result (λ x. length x.1.now ≤ length tokens.now) }
 {
     if begins_with(tokens, Mark::Semi) {
@@ -429,11 +429,11 @@ fn return_line(
     at: u32,
     tokens: &[Token],
 ) -> Result<(Items<Line>, &[Token]), ParseError>
-    ensures exact { Gives told (λ x. (map source_line_of x.0, spots_of x.1.now)) result
+    ensures exact { Gives exact_error (λ x. (map source_line_of x.0, spots_of x.1.now)) result
         (return_by most_binary_operators levels at (spots_of tokens.now)) }
     ensures shorter { IfOk result (λ x. length x.1.now < length tokens.now) }
 {
-    let (value, after) = returned(alloc, levels, tokens)?;
+    let (value, after) = return_value(alloc, levels, tokens)?;
     let lines = single(alloc, Line::Return { at, value })?;
     let after = past(after, Mark::Semi)?;
     Ok((lines, after))

@@ -1,6 +1,6 @@
 ghost use Rattle.std.specs.Prelude.{◌≡◌, ◌≢◌, ◌<◌, ◌≤◌, IfOk, IfErr, length, drop};
 ghost use Rattle.items.specs.Gives.{Gives};
-ghost use Rattle.c_parser.specs.Descent.{told, behind, deeper, rest_of, spend, tail};
+ghost use Rattle.c_parser.specs.Descent.{exact_error, behind, deeper, rest_of, spend, tail};
 ghost use Rattle.c_parser.specs.Spots.{spots_of};
 
 use crate::ParseError;
@@ -28,7 +28,7 @@ pub(crate) fn tail(tokens: &[Token]) -> &[Token]
 
 /// What is left behind a mark that has to stand first.
 pub(crate) fn behind(rest: Rest, mark: Mark) -> Result<Rest, ParseError>
-    ensures exact { Gives told (λ x. rest_of x.tokens.now x.operators) result
+    ensures exact { Gives exact_error (λ x. rest_of x.tokens.now x.operators) result
         (behind mark (rest_of rest.entry.tokens.now rest.entry.operators)) }
     ensures shorter { IfOk result (λ x. length x.tokens.now < length rest.entry.tokens.now) }
     ensures memory { IfErr result (λ e. e ≢ ParseError.Memory) }
@@ -42,7 +42,7 @@ pub(crate) fn behind(rest: Rest, mark: Mark) -> Result<Rest, ParseError>
 
 /// One level less, for what begins at a place.
 pub(crate) fn deeper(levels: usize, at: u32) -> Result<usize, ParseError>
-    ensures exact { Gives told (λ level. level) result (deeper levels at) }
+    ensures exact { Gives exact_error (λ level. level) result (deeper levels at) }
     ensures less { IfOk result (λ level. level < levels) }
     ensures memory { IfErr result (λ e. e ≢ ParseError.Memory) }
 {
@@ -55,7 +55,7 @@ pub(crate) fn deeper(levels: usize, at: u32) -> Result<usize, ParseError>
 
 /// One operator less, behind the operator that stands first.
 pub(crate) fn spend(rest: Rest) -> Result<Rest, ParseError>
-    ensures exact { Gives told (λ x. rest_of x.tokens.now x.operators) result
+    ensures exact { Gives exact_error (λ x. rest_of x.tokens.now x.operators) result
         (spend (rest_of rest.entry.tokens.now rest.entry.operators)) }
     ensures within { IfOk result (λ x. length x.tokens.now ≤ length rest.entry.tokens.now) }
     ensures memory { IfErr result (λ e. e ≢ ParseError.Memory) }

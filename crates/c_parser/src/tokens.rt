@@ -1,13 +1,13 @@
 ghost use Rattle.std.specs.Prelude.{◌≡◌, ◌≢◌, ◌<◌, IfErr, IfOk, IfSome, length, true};
 ghost use Rattle.items.specs.Gives.{Gives};
-ghost use Rattle.c_parser.specs.Descent.{told, is_mark, begins_with, refused, place_at, past, sign_of, op_of, op_at};
+ghost use Rattle.c_parser.specs.Descent.{exact_error, is_mark, begins_with, refusal_of, place_at, past, sign_of, op_of, op_at};
 ghost use Rattle.c_parser.specs.Profile.{mark_is_outside, keyword_is_inside, is_outside};
 ghost use Rattle.c_parser.specs.Spots.{spots_of};
 ghost use Rattle.c_parser.specs.Statements.{begins_with_keyword, compound_at, compound_of, count_at, count_of, is_keyword, keyword_at, past_keyword, word_at};
 
 use crate::ParseError;
 use crate::rank::rank;
-use c_lexer::{Keyword, Kind, Mark, Token};
+use c_lexer::{Keyword, Mark, Token, TokenKind};
 use syntax_tree::{Name, Op, Sign};
 
 /// Whether a mark stands first.
@@ -21,11 +21,11 @@ pub(crate) fn begins_with(tokens: &[Token], mark: Mark) -> bool
     }
 }
 
-fn is_mark(kind: &Kind, mark: Mark) -> bool
+fn is_mark(kind: &TokenKind, mark: Mark) -> bool
     ensures { result ≡ is_mark mark kind.now }
 {
     match kind {
-        Kind::Mark(found) => *found == mark,
+        TokenKind::Mark(found) => *found == mark,
         _ => false,
     }
 }
@@ -77,21 +77,21 @@ fn keyword_is_inside(keyword: Keyword) -> bool
     }
 }
 
-fn is_outside(kind: &Kind) -> bool
+fn is_outside(kind: &TokenKind) -> bool
     ensures { result ≡ is_outside kind.now }
 {
     match kind {
-        Kind::Mark(mark) => mark_is_outside(*mark),
-        Kind::Keyword(keyword) => !keyword_is_inside(*keyword),
-        Kind::Word(_) => false,
-        Kind::Number(_) => false,
-        Kind::End => false,
+        TokenKind::Mark(mark) => mark_is_outside(*mark),
+        TokenKind::Keyword(keyword) => !keyword_is_inside(*keyword),
+        TokenKind::Word(_) => false,
+        TokenKind::Number(_) => false,
+        TokenKind::End => false,
     }
 }
 
 /// The refusal of the first token.
-pub(crate) fn refused(tokens: &[Token]) -> ParseError
-    ensures { result ≡ refused (spots_of tokens.now) }
+pub(crate) fn refusal_of(tokens: &[Token]) -> ParseError
+    ensures { result ≡ refusal_of (spots_of tokens.now) }
 {
     match tokens {
         [token, ..] => {
@@ -118,14 +118,14 @@ pub(crate) fn place_at(tokens: &[Token]) -> u32
 /// The tokens behind a mark that has to stand first.
 #[tactic(auto, using(crate::proofs::FirstTokens::refused_no_memory))]
 pub(crate) fn past(tokens: &[Token], mark: Mark) -> Result<&[Token], ParseError>
-    ensures exact { Gives told (λ rest. spots_of rest.now) result
+    ensures exact { Gives exact_error (λ rest. spots_of rest.now) result
         (past mark (spots_of tokens.now)) }
     ensures shorter { IfOk result (λ rest. length rest.now < length tokens.now) }
     ensures memory { IfErr result (λ e. e ≢ ParseError.Memory) }
 {
     match tokens {
         [token, rest @ ..] if is_mark(&token.kind, mark) => Ok(rest),
-        _ => Err(refused(tokens)),
+        _ => Err(refusal_of(tokens)),
     }
 }
 
@@ -169,7 +169,7 @@ pub(crate) fn op_at(tokens: &[Token], of: usize) -> Option<Op>
 {
     match tokens {
         [token, ..] => match token.kind {
-            Kind::Mark(mark) => match op_of(mark) {
+            TokenKind::Mark(mark) => match op_of(mark) {
                 Some(op) if rank(op) == of => Some(op),
                 _ => None,
             },
@@ -179,11 +179,11 @@ pub(crate) fn op_at(tokens: &[Token], of: usize) -> Option<Op>
     }
 }
 
-fn is_keyword(kind: &Kind, keyword: Keyword) -> bool
+fn is_keyword(kind: &TokenKind, keyword: Keyword) -> bool
     ensures { result ≡ is_keyword keyword kind.now }
 {
     match kind {
-        Kind::Keyword(found) => *found == keyword,
+        TokenKind::Keyword(found) => *found == keyword,
         _ => false,
     }
 }
@@ -206,7 +206,7 @@ pub(crate) fn keyword_at(tokens: &[Token]) -> Option<Keyword>
 {
     match tokens {
         [token, ..] => match token.kind {
-            Kind::Keyword(keyword) => Some(keyword),
+            TokenKind::Keyword(keyword) => Some(keyword),
             _ => None,
         },
         [] => None,
@@ -216,14 +216,14 @@ pub(crate) fn keyword_at(tokens: &[Token]) -> Option<Keyword>
 /// The tokens behind a keyword that has to stand first.
 #[tactic(auto, using(crate::proofs::FirstTokens::refused_no_memory))]
 pub(crate) fn past_keyword(tokens: &[Token], keyword: Keyword) -> Result<&[Token], ParseError>
-    ensures exact { Gives told (λ rest. spots_of rest.now) result
+    ensures exact { Gives exact_error (λ rest. spots_of rest.now) result
         (past_keyword keyword (spots_of tokens.now)) }
     ensures shorter { IfOk result (λ rest. length rest.now < length tokens.now) }
     ensures memory { IfErr result (λ e. e ≢ ParseError.Memory) }
 {
     match tokens {
         [token, rest @ ..] if is_keyword(&token.kind, keyword) => Ok(rest),
-        _ => Err(refused(tokens)),
+        _ => Err(refusal_of(tokens)),
     }
 }
 
@@ -238,7 +238,7 @@ pub(crate) struct Word<'a> {
 /// The name that has to stand first.
 #[tactic(auto, using(crate::proofs::FirstTokens::refused_no_memory))]
 pub(crate) fn word_at(tokens: &[Token]) -> Result<Word, ParseError>
-    ensures exact { Gives told
+    ensures exact { Gives exact_error
         (λ word. record { at = word.at; name = word.name.now; rest = spots_of word.rest.now })
         result (word_at (spots_of tokens.now)) }
     ensures shorter { IfOk result (λ word. length word.rest.now < length tokens.now) }
@@ -247,12 +247,12 @@ pub(crate) fn word_at(tokens: &[Token]) -> Result<Word, ParseError>
     match tokens {
         [] => Err(ParseError::Syntax(0)),
         [token, rest @ ..] => match &token.kind {
-            Kind::Word(name) => Ok(Word {
+            TokenKind::Word(name) => Ok(Word {
                 at: token.at,
                 name,
                 rest,
             }),
-            _ => Err(refused(tokens)),
+            _ => Err(refusal_of(tokens)),
         },
     }
 }
@@ -289,7 +289,7 @@ pub(crate) fn compound_at(tokens: &[Token]) -> Option<Op>
 {
     match tokens {
         [token, ..] => match token.kind {
-            Kind::Mark(mark) => compound_of(mark),
+            TokenKind::Mark(mark) => compound_of(mark),
             _ => None,
         },
         [] => None,
@@ -303,7 +303,7 @@ pub(crate) fn count_at(tokens: &[Token]) -> Option<Op>
 {
     match tokens {
         [token, ..] => match token.kind {
-            Kind::Mark(mark) => count_of(mark),
+            TokenKind::Mark(mark) => count_of(mark),
             _ => None,
         },
         [] => None,

@@ -3,7 +3,7 @@ use Rattle.std.proofs.Common.{◌≡◌, ℕ, ℤ, List, [], ◌∷◌, ◌++◌
 use Rattle.std.specs.List.{AllByRecursion, concat}
 use Rattle.std.proofs.lemmas.List.Elements.{recursion_from_All}
 use Rattle.path_expr.specs.PathExpr.{PathExpr, Edge, Seq, Join, Star, InLanguage}
-use Rattle.transition_formula.specs.Composition.{sequence_of, joined}
+use Rattle.transition_formula.specs.Composition.{sequence_of, union_of}
 use Rattle.transition_formula.specs.Meaning.{Holds, Covers, IsChain, last_of, HoldsOfChains}
 use Rattle.transition_formula.specs.Transition.{Transition}
 use Rattle.transition_formula.proofs.Meanings.{sequence-holds, joined-left, joined-right}
@@ -42,10 +42,10 @@ module _ (g : Graph) where
 
   module _ (p q : PathExpr) (a b : Transition) (starts : start_of g p ≡ start_of g q) (first : IsBetweenEnds (start_vocabulary g p) (end_vocabulary g p) a)
       (second : IsBetweenEnds (start_vocabulary g p) (end_vocabulary g p) b) (along_first : HoldsAlong g p a) (along_second : HoldsAlong g q b) where
-    pub join-along : (f : Transition) → Covers f (joined a b) → HoldsAlong g (Join p q) f
+    pub join-along : (f : Transition) → Covers f (union_of a b) → HoldsAlong g (Join p q) f
     join-along f covers word before after is long run = covers before after (by_side is)
       where
-        by_side : InLanguage p word ⊎ InLanguage q word → Holds (joined a b) before after
+        by_side : InLanguage p word ⊎ InLanguage q word → Holds (union_of a b) before after
         by_side (inl h) = joined-left a b before after (along_first word before after h long run)
         by_side (inr h) =
             joined-right a b before after (same_from (start_vocabulary g p) (end_vocabulary g p) a b first second)

@@ -13,7 +13,7 @@ use Rattle.linear_terms.specs.declared.row.Case.{Case}
 use Rattle.linear_terms.specs.Polynomial.{Polynomial, IsCanonical}
 use Rattle.linear_terms.specs.Value.{value_of}
 use Rattle.linear_terms.proofs.Canonical.{IsCanonical-substituted}
-use Rattle.transition_formula.specs.Composition.{Operation, identity_of, joined, row_of, rows_by, sequence_of_cases, sequence_of, after_case}
+use Rattle.transition_formula.specs.Composition.{Operation, identity_of, union_of, row_of, rows_by, sequence_of_cases, sequence_of, after_case}
 use Rattle.transition_formula.specs.Meaning.{Holds, HoldsSome, numbers, Covers}
 use Rattle.transition_formula.specs.Transition.{Transition, IsTransition, IsFitted, IsSolvable, AreSolvable, AreFew, fits}
 use Rattle.transition_formula.proofs.Covered.{both, both_true, lost, each_from_test, test_from_each}
@@ -22,10 +22,10 @@ use Rattle.transition_formula.proofs.Few.{all_few}
 use Rattle.transition_formula.proofs.Fitting.{below-true, fitting, joined-fits, sequence_of-fits}
 use Rattle.posing.specs.Posing.{Done, ◌>>=◌, Always}
 use Rattle.posing.proofs.Paths.{always_bind, always_weaker, always_any}
-use Rattle.polyhedra.specs.Finish.{finished}
+use Rattle.polyhedra.specs.Finish.{finish_of_case}
 use Rattle.polyhedra.specs.Laws.{HaveCanonicalRows, IsBetween, IsSmall}
-use Rattle.polyhedra.specs.Settle.{settled, settled_cases}
-use Rattle.polyhedra.specs.Squash.{fitted}
+use Rattle.polyhedra.specs.Settle.{settled_formula, settled_cases}
+use Rattle.polyhedra.specs.Squash.{fitted_formula}
 use Rattle.polyhedra.specs.Vocabulary.{Vocabulary}
 use Rattle.polyhedra.proofs.Fitted.{fitted-covers, fitted-small}
 use Rattle.polyhedra.proofs.Settled.{settled-covers, settled_cases-fit}
@@ -39,8 +39,8 @@ use Rattle.checked_tree.specs.Law.{IsFrom, IsEnd, IsBetweenEnds}
 -- ---- settled and fitted
 
 module _ (from to : Vocabulary) (start : IsEnd from) (end : IsEnd to) where
-  pub settled-from : (f : Transition) → IsFrom from to f → Always (IsFrom from to) (settled f)
-  unfolding settled
+  pub settled-from : (f : Transition) → IsFrom from to f → Always (IsFrom from to) (settled_formula f)
+  unfolding settled_formula
   settled-from f is =
       always_bind (IsTransition f.from f.to) (IsFrom from to) (settled_cases f.cases) (λ cases. Done record { from = f.from; to = f.to; cases = cases })
       (settled_cases-fit f.from f.to f.cases is.fits) (λ cases fit. record { from_is = is.from_is; to_is = is.to_is; fits = fit })
@@ -56,9 +56,9 @@ module _ (from to : Vocabulary) (start : IsEnd from) (end : IsEnd to) where
     to_is = end.is;
   }
 
-  pub fitted-between : (f : Transition) → IsFrom from to f → Always (IsBetweenEnds from to) (fitted f from to)
+  pub fitted-between : (f : Transition) → IsFrom from to f → Always (IsBetweenEnds from to) (fitted_formula f from to)
   fitted-between f is =
-      always_weaker (IsSmall f) (IsBetweenEnds from to) (fitted f from to)
+      always_weaker (IsSmall f) (IsBetweenEnds from to) (fitted_formula f from to)
       (λ g small. record {
         between = record {
           from_is = small.from ∙ is.from_is;
@@ -68,20 +68,20 @@ module _ (from to : Vocabulary) (start : IsEnd from) (end : IsEnd to) where
         fitted = small.fitted;
       }) (fitted-small f from to (between f is))
 
-  pub fitted-covered : (f : Transition) → IsFrom from to f → Always (λ g. Covers g f) (fitted f from to)
+  pub fitted-covered : (f : Transition) → IsFrom from to f → Always (λ g. Covers g f) (fitted_formula f from to)
   fitted-covered f is = fitted-covers f from to (between f is)
 
   pub settled_and_fitted-between : (f : Transition) → IsFrom from to f → Always (IsBetweenEnds from to) (settled_and_fitted f from to)
   unfolding settled_and_fitted
   settled_and_fitted-between f is =
-      always_bind (IsFrom from to) (IsBetweenEnds from to) (settled f) (λ g. fitted g from to) (settled-from f is) (λ g k. fitted-between g k)
+      always_bind (IsFrom from to) (IsBetweenEnds from to) (settled_formula f) (λ g. fitted_formula g from to) (settled-from f is) (λ g k. fitted-between g k)
 
   pub settled_and_fitted-covers : (f : Transition) → IsFrom from to f → HaveCanonicalRows f.cases → AreSolvable f.cases → Always (λ g. Covers g f) (settled_and_fitted f from to)
   unfolding settled_and_fitted
   settled_and_fitted-covers f is canonical solvable =
-      always_bind (λ g. IsFrom from to g × Covers g f) (λ g. Covers g f) (settled f) (λ g. fitted g from to)
-      (always_both (IsFrom from to) (λ g. Covers g f) (settled f) (settled-from f is) (settled-covers f canonical solvable))
-      (λ g k. always_weaker (λ h. Covers h g) (λ h. Covers h f) (fitted g from to) (λ h covers before after held. covers before after (k.1 before after held)) (fitted-covered g k.0))
+      always_bind (λ g. IsFrom from to g × Covers g f) (λ g. Covers g f) (settled_formula f) (λ g. fitted_formula g from to)
+      (always_both (IsFrom from to) (λ g. Covers g f) (settled_formula f) (settled-from f is) (settled-covers f canonical solvable))
+      (λ g k. always_weaker (λ h. Covers h g) (λ h. Covers h f) (fitted_formula g from to) (λ h covers before after held. covers before after (k.1 before after held)) (fitted-covered g k.0))
 
 -- ---- cases of a fitted formula
 
@@ -173,7 +173,7 @@ module _ (from to : Vocabulary) (a b : Transition) (first : IsBetweenEnds from t
   same_to : a.to ≡ b.to
   same_to = first.between.to_is ∙ sym second.between.to_is
 
-  pub joined-from : IsFrom from to (joined a b)
+  pub joined-from : IsFrom from to (union_of a b)
   joined-from = record {
     from_is = first.between.from_is;
     to_is = first.between.to_is;
@@ -209,8 +209,8 @@ module _ (voc : Vocabulary) (end : IsEnd voc) (a : Transition) (body : IsBetween
       by_cases : (cases : List Case) → Always StaysAt (star_by a voc cases)
       by_cases [] = (refl, refl)
       by_cases (case ∷ cases) =
-          always_bind (λ (left : Option Case). Unit {0}) StaysAt (turns a voc >>= finished) (λ left. Done (joined (identity_of a.from) record { from = a.from; to = a.to; cases = option_to_list left }))
-          (always_any (λ left. Unit {0}) (turns a voc >>= finished) (λ left. tt)) (λ left any. (refl, refl))
+          always_bind (λ (left : Option Case). Unit {0}) StaysAt (turns a voc >>= finish_of_case) (λ left. Done (union_of (identity_of a.from) record { from = a.from; to = a.to; cases = option_to_list left }))
+          (always_any (λ left. Unit {0}) (turns a voc >>= finish_of_case) (λ left. tt)) (λ left any. (refl, refl))
 
   star-fitted : (g : Transition) → IsStar a.to g → IsFitted g.cases
   star-fitted g is =

@@ -9,7 +9,7 @@ use Rattle.posing.specs.Posing.{Done, Always}
 use Rattle.posing.proofs.Paths.{always_bind}
 use Rattle.polyhedra.proofs.Tabled.{first_got}
 use Rattle.checked_tree.specs.Graph.{Graph, vocabulary_at}
-use Rattle.checked_tree.specs.Evaluation.{Made, cell_at, cells_of, evaluation, evaluated}
+use Rattle.checked_tree.specs.Evaluation.{Made, cell_at, cells_of, evaluation, evaluated_cells}
 use Rattle.checked_tree.specs.Law.{IsEvaluated, FitsCell, AreFittedCells}
 use Rattle.checked_tree.proofs.Whole.{evaluation-fits}
 
@@ -27,8 +27,8 @@ module _ (g : Graph) (source : ℕ) where
       let lt : node < length g.nodes = subst (λ n. node < n) (cells-one_each made) (slice_get_within (cells_of g source made) node cell found) in
       subst (P node) (cell-same (cell_at g source made node) cell (sym (first_got (cell_at g source made) (length g.nodes) node lt) ∙ found)) (all node lt)
 
-  pub cells-fit : IsEvaluated g source → Always (AreFittedCells g source) (evaluated g source)
-  unfolding evaluated
+  pub cells-fit : IsEvaluated g source → Always (AreFittedCells g source) (evaluated_cells g source)
+  unfolding evaluated_cells
   cells-fit is =
       always_bind (λ made. (node : ℕ) → node < length g.nodes → FitsCell (vocabulary_at g source) (vocabulary_at g node) (cell_at g source made node)) (AreFittedCells g source)
       (evaluation g source) (λ made. Done (cells_of g source made)) (evaluation-fits g source is)

@@ -19,13 +19,13 @@ use Rattle.polyhedra.specs.Laws.{HaveCanonicalRows}
 use Rattle.polyhedra.specs.Vocabulary.{Vocabulary}
 use Rattle.recurrence.specs.Law.{IsStarred}
 use Rattle.transition_formula.specs.Transition.{Transition}
-use Rattle.checked_tree.specs.declared.mark.Mark.{Mark}
+use Rattle.checked_tree.specs.declared.mark.LogMark.{LogMark}
 use Rattle.checked_tree.specs.Law.{IsBetweenEnds}
 use Rattle.checked_tree.specs.Operands.{AreInSequence, AreEither}
 use Rattle.checked_tree.specs.Tree.{Own, Tree, own_of, formula_of}
 use Rattle.checked_tree.specs.Checked.{IsMade, IsChecked}
 use Rattle.checked_tree.specs.Grown.{result_map}
-use Rattle.checked_tree.specs.Growing.{gained, own_with, IsNew}
+use Rattle.checked_tree.specs.Growing.{log_gain, own_with, IsNew}
 use Rattle.checked_tree.proofs.Between.{starred}
 use Rattle.checked_tree.proofs.Trees.{tree-ends, trees-fit}
 
@@ -44,7 +44,7 @@ module _ {S A : Type 0} {O : Asking S} {old new : S} {before after : Log} {p : P
   answers-within = no-shorter before.answers after.answers follows.comes.answers follows.comes.logged
 
   -- the log gained notes and answers that lead the computation to its value
-  pub gained-keeps : Keeps Passes p value (gained (length before.notes) (length before.answers) after).notes (gained (length before.notes) (length before.answers) after).answers
+  pub gained-keeps : Keeps Passes p value (log_gain (length before.notes) (length before.answers) after).notes (log_gain (length before.notes) (length before.answers) after).answers
   gained-keeps =
       let notes = gained-more before.notes after.notes follows.comes.notes follows.comes.noted in
       let answers = gained-more before.answers after.answers follows.comes.answers follows.comes.logged in
@@ -110,18 +110,18 @@ as_value {O = O} {old = old} {new = new} {before = before} {after = after} {p = 
 -- ---- a step that keeps what its operation gained
 
 -- how many notes and answers a log has
-abbrev mark_of : Log → Mark
+abbrev mark_of : Log → LogMark
 mark_of log = record { notes = length log.notes; answers = length log.answers }
 
-module _ {S : Type 0} {O : Asking S} {old new : S} {before after : Log} {p : Posing Transition} {value : Transition} (follows : Follows O old new before after (Ok value) p) (mark : Mark) (is : mark ≡ mark_of before) where
+module _ {S : Type 0} {O : Asking S} {old new : S} {before after : Log} {p : Posing Transition} {value : Transition} (follows : Follows O old new before after (Ok value) p) (mark : LogMark) (is : mark ≡ mark_of before) where
   pub made-by : (from to : Vocabulary) → HaveCanonicalRows value.cases → IsMade (own_with from to value mark after) p
   made-by from to canonical =
       subst (λ m. IsMade (own_with from to value m after) p) (sym is) (record { kept = gained-keeps follows; canonical = canonical })
 
   pub new-by : (t : Tree) (from to : Vocabulary) → own_of t ≡ own_with from to value mark after → IsChecked t → IsNew before after t
   new-by t from to own checked =
-      let log : (own_of t).log ≡ gained (length before.notes) (length before.answers) after =
-      ap (λ (o : Own). o.log) own ∙ ap (λ (m : Mark). gained m.notes m.answers after) is in
+      let log : (own_of t).log ≡ log_gain (length before.notes) (length before.answers) after =
+      ap (λ (o : Own). o.log) own ∙ ap (λ (m : LogMark). log_gain m.notes m.answers after) is in
       record {
         checked = checked;
         noted = gained-notes follows ∙ ap (λ (l : Log). before.notes ++ l.notes) (sym log);

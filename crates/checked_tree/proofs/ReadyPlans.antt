@@ -12,10 +12,10 @@ use Rattle.checked_tree.specs.declared.growth.Growth.{Growth}
 use Rattle.checked_tree.specs.declared.key.Key.{Key}
 use Rattle.checked_tree.specs.declared.step.TreeStep.{TreeStep}
 use Rattle.checked_tree.specs.Graph.{graph_of}
-use Rattle.checked_tree.specs.Evaluation.{evaluated}
+use Rattle.checked_tree.specs.Evaluation.{evaluated_cells}
 use Rattle.checked_tree.specs.Law.{IsEvaluated, HaveCanonicalLeaves}
 use Rattle.checked_tree.specs.Plan.{IsPlanned}
-use Rattle.checked_tree.specs.ByNumber.{evaluated_by}
+use Rattle.checked_tree.specs.ByNumber.{evaluated_cells_by}
 use Rattle.checked_tree.specs.Grown.{trees_of, AreGrown}
 use Rattle.checked_tree.specs.Growing.{bare_growth, tree_cell, AreGrowing, AreGrownCells, IsPlantable}
 use Rattle.checked_tree.proofs.Growing.{growing-first}
@@ -50,10 +50,10 @@ module _ {links : List Link} {leaves : List Transition} {nodes shared : List Voc
   plan-growing log = growing-first (graph_of links leaves shared) source keys log order cells ready.plantable ready.planned
 
   -- both evaluations are one
-  pub plan-evaluated : evaluated_by (graph_of links leaves shared) keys order cells ≡ evaluated (graph_of links leaves nodes) source
+  pub plan-evaluated : evaluated_cells_by (graph_of links leaves shared) keys order cells ≡ evaluated_cells (graph_of links leaves nodes) source
   plan-evaluated =
       sym (plans-evaluate (graph_of links leaves shared) source keys order cells ready.plantable.evaluated ready.plantable.distinct ready.planned)
-      ∙ ap (λ ns. evaluated (graph_of links leaves ns) source) ready.same
+      ∙ ap (λ ns. evaluated_cells (graph_of links leaves ns) source) ready.same
 
   module _ {start log : Log} {growths : List Growth} (all : AreGrowing (graph_of links leaves shared) source keys start log growths []) where
     pub plan-cells : AreGrownCells growths cells

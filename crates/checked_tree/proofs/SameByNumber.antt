@@ -19,11 +19,11 @@ use Rattle.recurrence.specs.Star.{star_of}
 use Rattle.checked_tree.specs.declared.key.Key.{Key}
 use Rattle.checked_tree.specs.declared.key.Key.TheVariants as key
 use Rattle.checked_tree.specs.Graph.{Graph, start_of, end_of, vocabulary_at}
-use Rattle.checked_tree.specs.Evaluation.{Made, formula_at, sequence_formula, join_formula, own, with_entry, with_made, evaluation, cell_of, cell_at, cells_of, evaluated, paths_of}
+use Rattle.checked_tree.specs.Evaluation.{Made, formula_at, sequence_formula, join_formula, own, with_entry, with_made, evaluation, cell_of, cell_at, cells_of, evaluated_cells, paths_of}
 use Rattle.checked_tree.specs.Law.{IsEvaluated}
 use Rattle.checked_tree.specs.Ready.{IsAmong, IsReady, AreReady}
 use Rattle.checked_tree.specs.Plan.{IsPathOf, ArePathsOf, AreDistinct, IsCellOf, IsPlanned}
-use Rattle.checked_tree.specs.ByNumber.{Entry, Entries, blank, entry_at, key_at, formula_by, entry_of, with_number, entries_of, cell_by, evaluated_by, PlansEvaluate}
+use Rattle.checked_tree.specs.ByNumber.{Entry, Entries, blank, entry_at, key_at, formula_by, entry_of, with_number, entries_of, cell_by, evaluated_cells_by, PlansEvaluate}
 use Rattle.checked_tree.specs.UnderWay.{entry_for, Agrees}
 use Rattle.checked_tree.proofs.Entries.{paths-entry, known-more}
 use Rattle.checked_tree.proofs.Numbered.{key_eq}
@@ -295,8 +295,8 @@ module _ (g : Graph) (source : ℕ) (keys : List Key) (distinct : AreDistinct ke
       by_cell known.One e = ap (cell_of made) e
       by_cell (known.Item n) h = by_path path n (items node lt) h
 
-  pub same-evaluation : evaluated g source ≡ evaluated_by g keys order cells
-  unfolding evaluated evaluation evaluated_by entries_of
+  pub same-evaluation : evaluated_cells g source ≡ evaluated_cells_by g keys order cells
+  unfolding evaluated_cells evaluation evaluated_cells_by entries_of
   same-evaluation =
       same-rest g keys distinct (List (Cell Transition)) (λ made. Done (cells_of g source made)) (λ entries. Done (map (cell_by entries) cells))
       (operations (length g.nodes) g.links source) order [] (replicate (length keys) blank)

@@ -7,7 +7,7 @@ use Rattle.std.proofs.lemmas.Bool.{cases_lt, cond_both, and_parts, ltb-true}
 use Rattle.std.proofs.lemmas.Option.{slice_get_within}
 use Rattle.path_expr.specs.declared.link.Link.{Link}
 use Rattle.path_expr.specs.PathExpr.{PathExpr, Zero, Edge, seq_of, join_of, star_of}
-use Rattle.path_expr.specs.Elimination.{place_of, Table, links_between, joined, first_table, eliminated, table_after, last_table, arrivals, ways, way_at, path_at}
+use Rattle.path_expr.specs.Elimination.{place_of, Table, links_between, path_through, first_table, after_elimination, table_after, last_table, arrivals, ways, way_at, path_at}
 use Rattle.path_expr.specs.Holds.{node_at}
 use Rattle.path_expr.specs.Operations.{seq_operation, join_operation, star_operation, below, join_operations, first_row_operations, cell_operations, row_operations, place_operations, eliminations, arrival_operations, arrivals_operations, way_operations, operations}
 use Rattle.path_expr.specs.Walks.{IsGraph}
@@ -85,10 +85,10 @@ module _ (g : Graph) (source : ℕ) (here : IsGraph (length g.nodes) g.links) (s
       )
 
   joins-give : (i j : ℕ) (numbers : List ℕ) (path : PathExpr) (done : List PathExpr) → IsPlain g path → Stands g done path (at i) (at j) →
-      ((k : ℕ) → Among k numbers → Stands g done (Edge k) (at i) (at j)) → Gives g done (join_operations path numbers) (λ d. Stands g d (joined path numbers) (at i) (at j))
+      ((k : ℕ) → Among k numbers → Stands g done (Edge k) (at i) (at j)) → Gives g done (join_operations path numbers) (λ d. Stands g d (path_through path numbers) (at i) (at j))
   joins-give i j [] path done plain h edges = gives-none g done (λ d. Stands g d path (at i) (at j)) h
   joins-give i j (k ∷ numbers) path done plain h edges =
-      gives-then g done (join_operation path (Edge k)) (join_operations (join_of path (Edge k)) numbers) (λ d. Stands g d (join_of path (Edge k)) (at i) (at j)) (λ d. Stands g d (joined (join_of path (Edge k)) numbers) (at i) (at j))
+      gives-then g done (join_operation path (Edge k)) (join_operations (join_of path (Edge k)) numbers) (λ d. Stands g d (join_of path (Edge k)) (at i) (at j)) (λ d. Stands g d (path_through (join_of path (Edge k)) numbers) (at i) (at j))
       (join-gives g done path (Edge k) (at i) (at j) plain tt h (edges k (inl refl)))
       (λ next. joins-give i j numbers (join_of path (Edge k)) (done ++ join_operation path (Edge k)) (plain-join g path (Edge k) plain tt) next
       (λ m among. stands-more g done (join_operation path (Edge k)) (Edge m) (at i) (at j) (edges m (inr among))))
@@ -107,7 +107,7 @@ module _ (g : Graph) (source : ℕ) (here : IsGraph (length g.nodes) g.links) (s
   cells-kept cells d more h i j = cell-kept cells i j d more (h i j)
 
   abbrev begun : Table
-  begun i j = joined Zero (links_between source 0 g.links i j)
+  begun i j = path_through Zero (links_between source 0 g.links i j)
 
   first_row-gives : (i : ℕ) (done : List PathExpr) → HaveEdges done → Gives g done (first_row_operations nodes g.links source i) (λ d. HaveEdges d × ((j : ℕ) → j < nodes → Cell begun i j d))
   unfolding first_row_operations
@@ -116,7 +116,7 @@ module _ (g : Graph) (source : ℕ) (here : IsGraph (length g.nodes) g.links) (s
       (λ j d lt edges earlier. joins-give i j (links_between source 0 g.links i j) Zero d tt tt (λ k among. edge-at d i j k edges among)) done h
 
   begun-outside : (i j : ℕ) → (nodes ≤ i) ⊎ (nodes ≤ j) → (d : List PathExpr) → Cell begun i j d
-  begun-outside i j past d = subst (λ ks. Stands g d (joined Zero ks) (at i) (at j)) (sym (links_between-outside nodes g.links source here some i j past)) tt
+  begun-outside i j past d = subst (λ ks. Stands g d (path_through Zero ks) (at i) (at j)) (sym (links_between-outside nodes g.links source here some i j past)) tt
 
   first-gives : (done : List PathExpr) → HaveEdges done → Gives g done (below (first_row_operations nodes g.links source) nodes) (Cells (first_table g.links source))
   unfolding first_table
@@ -189,17 +189,17 @@ module _ (g : Graph) (source : ℕ) (here : IsGraph (length g.nodes) g.links) (s
 
     -- the table with the place eliminated, and turns at it
     abbrev Eliminated : List PathExpr → Type 0
-    Eliminated d = Cells (eliminated n cells) d × Stands g d star (at n) (at n)
+    Eliminated d = Cells (after_elimination n cells) d × Stands g d star (at n) (at n)
 
-    eliminated-stands : (d : List PathExpr) → HasStar d → ((i : ℕ) → i < n → SweptRow i d) → Cells (eliminated n cells) d
-    unfolding eliminated
+    eliminated-stands : (d : List PathExpr) → HasStar d → ((i : ℕ) → i < n → SweptRow i d) → Cells (after_elimination n cells) d
+    unfolding after_elimination
     eliminated-stands d h rows i j =
         cond_both (ltb i n && ltb j n) (swept i j) (cells i j) (λ p. Stands g d p (at i) (at j))
         (λ e. let parts = and_parts (ltb i n) (ltb j n) e in rows i (ltb-true i n parts.0) j (ltb-true j n parts.1))
         (λ e. h.0 i j)
 
-    eliminated-plain : ArePlain (eliminated n cells)
-    unfolding eliminated
+    eliminated-plain : ArePlain (after_elimination n cells)
+    unfolding after_elimination
     eliminated-plain i j =
         cond_both (ltb i n && ltb j n) (swept i j) (cells i j) (IsPlain g)
         (λ e. plain-join g (cells i j) (seq_of (turned i) (cells n j)) (plain i j) (plain-seq_right g (turned i) (cells n j) (plain n j)))
@@ -223,7 +223,7 @@ module _ (g : Graph) (source : ℕ) (here : IsGraph (length g.nodes) g.links) (s
   table : ℕ → Table
   table count = table_after nodes g.links source count
 
-  joined-plain : (numbers : List ℕ) (path : PathExpr) → IsPlain g path → IsPlain g (joined path numbers)
+  joined-plain : (numbers : List ℕ) (path : PathExpr) → IsPlain g path → IsPlain g (path_through path numbers)
   joined-plain [] path h = h
   joined-plain (k ∷ numbers) path h = joined-plain numbers (join_of path (Edge k)) (plain-join g path (Edge k) h tt)
 

@@ -14,7 +14,7 @@ use Rattle.polyhedra.specs.Laws.{HaveCanonicalRows}
 use Rattle.polyhedra.specs.Vocabulary.{Vocabulary}
 use Rattle.recurrence.specs.Star.{star_of}
 use Rattle.recurrence.proofs.Whole.{star-holds-of-chains}
-use Rattle.transition_formula.specs.Composition.{sequence_of, joined}
+use Rattle.transition_formula.specs.Composition.{sequence_of, union_of}
 use Rattle.transition_formula.specs.Meaning.{Holds, Covers, IsChain, last_of, HoldsOfChains}
 use Rattle.transition_formula.specs.Transition.{Transition}
 use Rattle.transition_formula.proofs.Meanings.{sequence-holds, joined-left, joined-right}
@@ -98,20 +98,20 @@ module _ (a b own : Own) (step : IsJoinStep a b own) (start : IsEnd own.from) (e
       subst (λ v. IsBetweenEnds v own.to b.formula) (sym (step.from_is ∙ step.starts))
       (subst (λ v. IsBetweenEnds b.from v b.formula) (sym (step.to_is ∙ step.ends)) other)
 
-  join-from : IsFrom own.from own.to (joined a.formula b.formula)
+  join-from : IsFrom own.from own.to (union_of a.formula b.formula)
   join-from = joined-from own.from own.to a.formula b.formula join-left join-right
 
   pub join-fits : IsBetweenEnds own.from own.to own.formula
   unfolding join_formula
   join-fits =
       kept-always (join_formula a.formula b.formula own.from own.to) own.formula own.log.notes own.log.answers (IsBetweenEnds own.from own.to) step.made.kept
-      (fitted-between own.from own.to start end (joined a.formula b.formula) join-from)
+      (fitted-between own.from own.to start end (union_of a.formula b.formula) join-from)
 
-  pub join-covers : Covers own.formula (joined a.formula b.formula)
+  pub join-covers : Covers own.formula (union_of a.formula b.formula)
   unfolding join_formula
   join-covers =
-      kept-always (join_formula a.formula b.formula own.from own.to) own.formula own.log.notes own.log.answers (λ f. Covers f (joined a.formula b.formula)) step.made.kept
-      (fitted-covered own.from own.to start end (joined a.formula b.formula) join-from)
+      kept-always (join_formula a.formula b.formula own.from own.to) own.formula own.log.notes own.log.answers (λ f. Covers f (union_of a.formula b.formula)) step.made.kept
+      (fitted-covered own.from own.to start end (union_of a.formula b.formula) join-from)
 
 module _ (a own : Own) (step : IsStarStep a own) (start : IsEnd own.from) (one : IsBetweenEnds a.from a.to a.formula) where
   pub star-turn : IsBetweenEnds own.from own.from a.formula

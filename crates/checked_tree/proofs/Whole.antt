@@ -12,13 +12,13 @@ use Rattle.path_expr.specs.Walks.{IsWalk}
 use Rattle.path_expr.proofs.WayWalks.{language_is_walks}
 use Rattle.linear_terms.specs.declared.row.Case.{Case}
 use Rattle.linear_terms.specs.Row.{AreCanonical}
-use Rattle.transition_formula.specs.Composition.{sequence_of, joined}
+use Rattle.transition_formula.specs.Composition.{sequence_of, union_of}
 use Rattle.transition_formula.specs.Meaning.{Covers, HoldsOfChains}
 use Rattle.transition_formula.specs.Transition.{Transition}
 use Rattle.posing.specs.Posing.{Posing, Done, Noted, Asked, Always}
 use Rattle.posing.proofs.Paths.{always_bind, always_weaker, always_each}
 use Rattle.polyhedra.specs.Laws.{HaveCanonicalRows}
-use Rattle.polyhedra.specs.Squash.{fitted}
+use Rattle.polyhedra.specs.Squash.{fitted_formula}
 use Rattle.recurrence.specs.Star.{star_of}
 use Rattle.recurrence.proofs.Starred.{always_both}
 use Rattle.recurrence.proofs.Whole.{star-holds-of-chains}
@@ -93,9 +93,9 @@ module _ (g : Graph) (source : ℕ) (is : IsEvaluated g source) where
         let second = known b ready.1 in
         let fa = formula_at made a in
         let fb = formula_at made b in
-        always_weaker (IsBetweenEnds (start_vocabulary g a) (end_vocabulary g a)) (IsKnown g (Join a b)) (fitted (joined fa fb) (start_vocabulary g a) (end_vocabulary g a))
+        always_weaker (IsBetweenEnds (start_vocabulary g a) (end_vocabulary g a)) (IsKnown g (Join a b)) (fitted_formula (union_of fa fb) (start_vocabulary g a) (end_vocabulary g a))
         (λ f h. record { starts = first.starts; ends = first.ends; start_within = first.start_within; end_within = first.end_within; formula = h })
-        (fitted-between (start_vocabulary g a) (end_vocabulary g a) first.starts first.ends (joined fa fb)
+        (fitted-between (start_vocabulary g a) (end_vocabulary g a) first.starts first.ends (union_of fa fb)
         (joined-from (start_vocabulary g a) (end_vocabulary g a) fa fb first.formula
         (moved_both (start_of g a) (end_of g a) (start_of g b) (end_of g b) fb ready.2 ready.3 second.formula)))
     own-known (Star a) ready =
@@ -141,9 +141,9 @@ module _ (g : Graph) (source : ℕ) (is : IsEvaluated g source) where
           let fa = formula_at made a in
           let fb = formula_at made b in
           let other = moved_both (start_of g a) (end_of g a) (start_of g b) (end_of g b) fb ready.2 ready.3 second.formula in
-          always_weaker (λ f. Covers f (joined fa fb)) (HoldsAlong g (Join a b)) (fitted (joined fa fb) (start_vocabulary g a) (end_vocabulary g a))
+          always_weaker (λ f. Covers f (union_of fa fb)) (HoldsAlong g (Join a b)) (fitted_formula (union_of fa fb) (start_vocabulary g a) (end_vocabulary g a))
           (λ f covers. join-along g a b fa fb ready.2 first.formula other (along a ready.0) (along b ready.1) f covers)
-          (fitted-covered (start_vocabulary g a) (end_vocabulary g a) first.starts first.ends (joined fa fb) (joined-from (start_vocabulary g a) (end_vocabulary g a) fa fb first.formula other))
+          (fitted-covered (start_vocabulary g a) (end_vocabulary g a) first.starts first.ends (union_of fa fb) (joined-from (start_vocabulary g a) (end_vocabulary g a) fa fb first.formula other))
       own-along (Star a) ready =
           let turn = known a ready.0 in
           let fa = formula_at made a in

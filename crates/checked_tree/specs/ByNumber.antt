@@ -11,7 +11,7 @@ use Rattle.recurrence.specs.Star.{star_of}
 use Rattle.checked_tree.specs.declared.key.Key.{Key}
 use Rattle.checked_tree.specs.declared.key.Key.TheVariants as key
 use Rattle.checked_tree.specs.Graph.{Graph, nothing, link_at, leaf_at, vocabulary_at}
-use Rattle.checked_tree.specs.Evaluation.{leaf_formula, sequence_formula, join_formula, evaluated}
+use Rattle.checked_tree.specs.Evaluation.{leaf_formula, sequence_formula, join_formula, evaluated_cells}
 use Rattle.checked_tree.specs.Law.{IsEvaluated}
 use Rattle.checked_tree.specs.Plan.{AreDistinct, IsPlanned}
 
@@ -91,9 +91,9 @@ cell_by entries known.Zero = known.Zero
 cell_by entries known.One = known.One
 cell_by entries (known.Item n) = known.Item (entry_at entries n).formula
 
-unfoldable pub evaluated_by : Graph → List Key → List ℕ → List (Cell ℕ)
+unfoldable pub evaluated_cells_by : Graph → List Key → List ℕ → List (Cell ℕ)
     → Posing (List (Cell Transition))
-evaluated_by g keys order cells = entries_of g keys order
+evaluated_cells_by g keys order cells = entries_of g keys order
     >>= λ entries. Done (map (cell_by entries) cells)
 
 -- it is the evaluation of the graph: the same questions and notes in the same order, and the same
@@ -103,4 +103,4 @@ PlansEvaluate =
     (g : Graph) (source : ℕ) (keys : List Key) (order : List ℕ) (cells : List (Cell ℕ)) →
     IsEvaluated g source → AreDistinct keys
     → IsPlanned (length g.nodes) g.links source keys order cells
-    → evaluated g source ≡ evaluated_by g keys order cells
+    → evaluated_cells g source ≡ evaluated_cells_by g keys order cells

@@ -7,12 +7,12 @@ use Rattle.path_expr.specs.Elimination.{path_at}
 use Rattle.path_expr.specs.Operations.{operations}
 use Rattle.path_expr.specs.declared.cell.Cell.{Cell}
 use Rattle.path_expr.specs.declared.cell.Cell.TheVariants as known
-use Rattle.transition_formula.specs.Composition.{joined, sequence_of, lost_in_sequence}
+use Rattle.transition_formula.specs.Composition.{union_of, sequence_of, losses_in_sequence}
 use Rattle.transition_formula.specs.Transition.{Transition}
 use Rattle.posing.specs.Logs.{loss_notes}
 use Rattle.posing.specs.Posing.{Posing, Done, Noted, ◌>>=◌, each}
-use Rattle.polyhedra.specs.Settle.{settled}
-use Rattle.polyhedra.specs.Squash.{fitted}
+use Rattle.polyhedra.specs.Settle.{settled_formula}
+use Rattle.polyhedra.specs.Squash.{fitted_formula}
 use Rattle.polyhedra.specs.Vocabulary.{Vocabulary}
 use Rattle.recurrence.specs.Star.{star_of}
 use Rattle.checked_tree.specs.Graph.{Graph, nothing, leaf_at, start_vocabulary, end_vocabulary, same_path}
@@ -38,7 +38,7 @@ formula_at made path = latest path nothing made
 -- ---- one operation
 
 unfoldable pub settled_and_fitted : Transition → Vocabulary → Vocabulary → Posing Transition
-settled_and_fitted f from to = settled f >>= λ g. fitted g from to
+settled_and_fitted f from to = settled_formula f >>= λ g. fitted_formula g from to
 
 -- a leaf is settled, then fitted
 unfoldable pub leaf_formula : Transition → Vocabulary → Vocabulary → Posing Transition
@@ -48,12 +48,12 @@ leaf_formula leaf from to = settled_and_fitted leaf from to
 unfoldable pub sequence_formula : Transition → Transition → Vocabulary → Vocabulary
     → Posing Transition
 sequence_formula first second from to =
-    Noted (loss_notes (lost_in_sequence first second))
+    Noted (loss_notes (losses_in_sequence first second))
     (settled_and_fitted (sequence_of first second) from to)
 
 -- a join is fitted
 unfoldable pub join_formula : Transition → Transition → Vocabulary → Vocabulary → Posing Transition
-join_formula left right from to = fitted (joined left right) from to
+join_formula left right from to = fitted_formula (union_of left right) from to
 
 -- the formula of an operation, from those of its operands: a leaf's, a sequence's, a join's, or
 -- star at its node's vocabulary
@@ -95,5 +95,5 @@ cell_at g source made node = cell_of made (path_at (length g.nodes) g.links sour
 abbrev pub cells_of : Graph → ℕ → Made → List (Cell Transition)
 cells_of g source made = map (cell_at g source made) (range_with_len 0 (length g.nodes))
 
-unfoldable pub evaluated : Graph → ℕ → Posing (List (Cell Transition))
-evaluated g source = evaluation g source >>= λ made. Done (cells_of g source made)
+unfoldable pub evaluated_cells : Graph → ℕ → Posing (List (Cell Transition))
+evaluated_cells g source = evaluation g source >>= λ made. Done (cells_of g source made)

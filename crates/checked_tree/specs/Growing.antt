@@ -12,7 +12,7 @@ use Rattle.transition_formula.specs.Transition.{Transition}
 use Rattle.polyhedra.specs.Laws.{HaveCanonicalRows}
 use Rattle.checked_tree.specs.declared.growth.Growth.{Growth}
 use Rattle.polyhedra.specs.Vocabulary.{Vocabulary}
-use Rattle.checked_tree.specs.declared.mark.Mark.{Mark}
+use Rattle.checked_tree.specs.declared.mark.LogMark.{LogMark}
 use Rattle.checked_tree.specs.declared.key.Key.{Key}
 use Rattle.checked_tree.specs.declared.key.Key.TheVariants as key
 use Rattle.checked_tree.specs.Graph.{Graph, bare, nothing, link_at, leaf_at, vocabulary_at, start_of, end_of, start_vocabulary, end_vocabulary}
@@ -28,13 +28,13 @@ use Rattle.checked_tree.specs.Grown.{AreBuilt}
 -- ---- one step
 
 -- what a log has behind so many notes and answers
-abbrev pub gained : ℕ → ℕ → Log → Log
-gained notes answers log = log_of (drop notes log.notes) (drop answers log.answers)
+abbrev pub log_gain : ℕ → ℕ → Log → Log
+log_gain notes answers log = log_of (drop notes log.notes) (drop answers log.answers)
 
 -- the step's part of a tree between two vocabularies, which keeps what the log has behind a mark
-abbrev pub own_with : Vocabulary → Vocabulary → Transition → Mark → Log → Own
+abbrev pub own_with : Vocabulary → Vocabulary → Transition → LogMark → Log → Own
 own_with from to formula mark log =
-    record { from = from; to = to; formula = formula; log = gained mark.notes mark.answers log }
+    record { from = from; to = to; formula = formula; log = log_gain mark.notes mark.answers log }
 
 -- a checked tree, whose last step kept what the log gained
 pub record IsNew (before after : Log) (t : Tree) : Type 0 where

@@ -10,7 +10,7 @@ ghost use Rattle.checked_tree.specs.Checked.{IsChecked, IsLeafStep, IsSeqStep, I
 ghost use Rattle.checked_tree.specs.Grown.{result_map};
 ghost use Rattle.checked_tree.specs.Growing.{IsNew, own_with};
 
-use crate::mark::Mark;
+use crate::mark::LogMark;
 use crate::operations::{either, leaf, sequence};
 use crate::step::{Node, TreeStep};
 use crate::table::see_cases;
@@ -111,7 +111,7 @@ impl Checked {
         ensures to_is { IfOk result (λ tree. (own_of (tree_of tree)).to ≡ to.now.value) }
         ensures new { IfOk result (λ tree. IsNew log.old log.new (tree_of tree)) }
     {
-        let mark = Mark::of(log);
+        let mark = LogMark::of(log);
         let formula = leaf(alloc, given, from, to, oracle, log)?;
         see_cases(formula.cases());
         let tree = Checked::of_leaf(alloc, number, given, from, to, formula, mark, log)?;
@@ -125,7 +125,7 @@ impl Checked {
         from: &Rc<Vocabulary>,
         to: &Rc<Vocabulary>,
         formula: Formula,
-        mark: Mark,
+        mark: LogMark,
         log: &Log,
     ) -> Result<Checked, AllocError>
         requires step { IsLeafStep given.now
@@ -166,7 +166,7 @@ impl Checked {
             (own_of (tree_of tree))) }
         ensures new { IfOk result (λ tree. IsNew log.old log.new (tree_of tree)) }
     {
-        let mark = Mark::of(log);
+        let mark = LogMark::of(log);
         let formula = Checked::sequence_of(alloc, first, second, oracle, log)?;
         let tree = Checked::of_seq(alloc, first, second, formula, mark, log)?;
         Ok(tree)
@@ -200,7 +200,7 @@ impl Checked {
         first: &Checked,
         second: &Checked,
         formula: Formula,
-        mark: Mark,
+        mark: LogMark,
         log: &Log,
     ) -> Result<Checked, AllocError>
         requires step { IsSeqStep (own_of (tree_of first.now)) (own_of (tree_of second.now))
@@ -244,7 +244,7 @@ impl Checked {
             (own_of (tree_of tree))) }
         ensures new { IfOk result (λ tree. IsNew log.old log.new (tree_of tree)) }
     {
-        let mark = Mark::of(log);
+        let mark = LogMark::of(log);
         let formula = Checked::either_of(alloc, left, right, oracle, log)?;
         let tree = Checked::of_join(alloc, left, right, formula, mark, log)?;
         Ok(tree)
@@ -279,7 +279,7 @@ impl Checked {
         left: &Checked,
         right: &Checked,
         formula: Formula,
-        mark: Mark,
+        mark: LogMark,
         log: &Log,
     ) -> Result<Checked, AllocError>
         requires step { IsJoinStep (own_of (tree_of left.now)) (own_of (tree_of right.now))
@@ -319,7 +319,7 @@ impl Checked {
             (λ tree. tree_of tree ≡ Star (tree_of turn.now) (own_of (tree_of tree))) }
         ensures new { IfOk result (λ tree. IsNew log.old log.new (tree_of tree)) }
     {
-        let mark = Mark::of(log);
+        let mark = LogMark::of(log);
         let formula = Checked::turns_of(alloc, turn, oracle, log)?;
         let tree = Checked::of_star(alloc, turn, formula, mark, log)?;
         Ok(tree)
@@ -348,7 +348,7 @@ impl Checked {
         alloc: Global,
         turn: &Checked,
         formula: Formula,
-        mark: Mark,
+        mark: LogMark,
         log: &Log,
     ) -> Result<Checked, AllocError>
         requires step { IsStarStep (own_of (tree_of turn.now))

@@ -3,9 +3,9 @@ ghost use Rattle.std.specs.Rc.{rc_value};
 ghost use Rattle.posing.specs.Follows.{Follows};
 ghost use Rattle.posing.specs.Posing.{each};
 ghost use Rattle.checked_tree.specs.Graph.{graph_of};
-ghost use Rattle.checked_tree.specs.Evaluation.{evaluated};
+ghost use Rattle.checked_tree.specs.Evaluation.{evaluated_cells};
 ghost use Rattle.checked_tree.specs.Law.{IsEvaluated, AreFittedCells, CellsHold};
-ghost use Rattle.checked_tree.specs.ByNumber.{with_number, entries_of, evaluated_by};
+ghost use Rattle.checked_tree.specs.ByNumber.{with_number, entries_of, evaluated_cells_by};
 ghost use Rattle.checked_tree.specs.Grown.{result_map, trees_of, formulas_of, AreGrown};
 ghost use Rattle.checked_tree.specs.Growing.{bare_growth, entries_in, tree_cell, AreUnderWay, AreGrownCells, KeepsGrowing};
 
@@ -13,8 +13,8 @@ use crate::checked::Checked;
 use crate::growth::Growth;
 use crate::key::Key;
 use crate::making::with_number;
-use crate::plan::planned;
-use crate::table::{bare_growths, cells_by, formulas_of, see_leaves, shared};
+use crate::plan::elimination_plan;
+use crate::table::{bare_growths, cells_by, formulas_of, see_leaves, shared_vocabularies};
 use farkas_check::Oracle;
 use items::Items;
 use path_expr::{Cell, Link};
@@ -46,7 +46,7 @@ pub fn evaluate_formulas<O: Oracle>(
     requires few_links { length links.now < 2 ^ 32 }
     requires few_nodes { length nodes.now < 2 ^ 32 }
     ensures follows { Follows O.asking oracle.old oracle.new log.old log.new result
-        (evaluated (graph_of links.now leaves.now nodes.now) source) }
+        (evaluated_cells (graph_of links.now leaves.now nodes.now) source) }
     ensures holds { IfOk result (CellsHold (graph_of links.now leaves.now nodes.now) source) }
     ensures fits { IfOk result (AreFittedCells (graph_of links.now leaves.now nodes.now) source) }
 {
@@ -73,7 +73,7 @@ pub fn evaluate<O: Oracle>(
     requires few_nodes { length nodes.now < 2 ^ 32 }
     ensures follows { Follows O.asking oracle.old oracle.new log.old log.new
         (result_map formulas_of result)
-        (evaluated (graph_of links.now leaves.now nodes.now) source) }
+        (evaluated_cells (graph_of links.now leaves.now nodes.now) source) }
     ensures grown { IfOk result
         (λ cells. AreGrown (graph_of links.now leaves.now nodes.now) source log.old log.new
         (trees_of cells)) }
@@ -84,9 +84,9 @@ pub fn evaluate<O: Oracle>(
         (formulas_of cells)) }
 {
     see_leaves(leaves);
-    let shared = shared(alloc, nodes)?;
+    let shared = shared_vocabularies(alloc, nodes)?;
     let count = count_of(nodes);
-    let (plan, cells) = planned(alloc, count, links, source)?;
+    let (plan, cells) = elimination_plan(alloc, count, links, source)?;
     let nodes = shared.as_slice();
     let keys = plan.keys.as_slice();
     let order = plan.order.as_slice();

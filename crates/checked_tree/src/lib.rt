@@ -19,6 +19,6 @@ pub use evaluating::{evaluate, evaluate_formulas};
 pub use key::Key;
 pub use law::{law_of_evaluation, law_of_plans, law_of_trees};
 pub use operations::{either, leaf, sequence};
-pub use plan::{Plan, planned};
+pub use plan::{EliminationPlan, elimination_plan};
 pub use step::{Node, TreeStep};
 pub use table::formulas_of;

@@ -1,5 +1,5 @@
 ghost use Rattle.std.specs.Prelude.{◌≡◌, ◌≤◌, length, IfOk};
-ghost use Rattle.checked_tree.specs.Growing.{gained};
+ghost use Rattle.checked_tree.specs.Growing.{log_gain};
 
 use farkas_check::Answer;
 use items::Items;
@@ -8,17 +8,17 @@ use std::alloc::{AllocError, Global};
 
 /// How many notes and answers a log had.
 #[derive(Clone, Copy, Debug)]
-pub(crate) struct Mark {
+pub(crate) struct LogMark {
     pub notes: usize,
     pub answers: usize,
 }
 
-impl Mark {
-    pub(crate) fn of(log: &Log) -> Mark
+impl LogMark {
+    pub(crate) fn of(log: &Log) -> LogMark
         ensures { result
             ≡ record { notes = length log.now.notes; answers = length log.now.answers } }
     {
-        Mark {
+        LogMark {
             notes: log.notes.len(),
             answers: log.answers.len(),
         }
@@ -28,7 +28,7 @@ impl Mark {
     pub(crate) fn since(self, alloc: Global, log: &Log) -> Result<Log, AllocError>
         requires notes { self.notes ≤ length log.now.notes }
         requires answers { self.answers ≤ length log.now.answers }
-        ensures { IfOk result (λ own. own ≡ gained self.notes self.answers log.now) }
+        ensures { IfOk result (λ own. own ≡ log_gain self.notes self.answers log.now) }
     {
         let notes = notes_copy(alloc, &log.notes.as_slice()[self.notes..])?;
         let answers = answers_copy(alloc, &log.answers.as_slice()[self.answers..])?;

@@ -11,12 +11,12 @@ use std::alloc::{AllocError, Global};
 /// The operations that evaluate a graph: the key of each path once, and the numbers of the paths in
 /// the order of making.
 #[derive(Drop)]
-pub struct Plan {
+pub struct EliminationPlan {
     pub keys: IndexSet<Key>,
     pub order: Items<usize>,
 }
 
-impl Plan {
+impl EliminationPlan {
     /// Notes an operation and gives its path's number. Where memory is wanting, nothing changes.
     fn note(&mut self, key: Key) -> Result<usize, AllocError>
         ensures noted { IfOk result
@@ -37,7 +37,7 @@ impl Plan {
     }
 }
 
-impl Algebra for Plan {
+impl Algebra for EliminationPlan {
     ghost use Rattle.std.specs.Prelude.{◌≡◌, true};
     ghost use Rattle.checked_tree.specs.Plan.{IsPathOf, ArePathsOf};
 
@@ -81,19 +81,19 @@ impl Algebra for Plan {
 }
 
 /// The operations of the stated elimination, and at each node's place its cell.
-pub fn planned(
+pub fn elimination_plan(
     alloc: Global,
     nodes: u32,
     links: &[Link],
     source: u32,
-) -> Result<(Plan, Vec<Cell<usize>>), AllocError>
+) -> Result<(EliminationPlan, Vec<Cell<usize>>), AllocError>
     requires count { length links.now < 2 ^ 32 }
     requires graph { IsGraph nodes links.now }
     requires source { source < nodes }
     ensures { IfOk result
         (λ made. IsPlanned nodes links.now source made.0.keys.keys made.0.order made.1.items) }
 {
-    let mut plan = Plan {
+    let mut plan = EliminationPlan {
         keys: IndexSet::new(alloc),
         order: Items::new(alloc),
     };

@@ -37,7 +37,7 @@ pub(crate) fn see_leaves(leaves: &[Formula])
 }
 
 /// The vocabularies, each kept once for all steps.
-pub(crate) fn shared(
+pub(crate) fn shared_vocabularies(
     alloc: Global,
     nodes: &[Vocabulary],
 ) -> Result<Items<Rc<Vocabulary>>, AllocError>

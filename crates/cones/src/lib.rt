@@ -15,6 +15,6 @@ pub use point::Point;
 pub use projecting::{Cleared, clearing, lowest, projection};
 pub use searching::{extremes, opposite};
 pub use split::{flat, pivots, rest_basis};
-pub use stop::Stop;
+pub use stop::ConeStop;
 pub use tangents::{difference, directions, facets};
 pub use vectors::{are_at_most, combination, dot};

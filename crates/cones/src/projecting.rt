@@ -4,7 +4,7 @@ ghost use Rattle.cones.specs.Cones.{along_sign, projection, clearing, clearing_w
 ghost use Rattle.cones.specs.Refusal.{LeavesBits, IsRefusal};
 ghost use Rattle.cones.specs.Vectors.{dot, combination, lowest};
 
-use crate::Stop;
+use crate::ConeStop;
 use crate::stop::step_product;
 use crate::vectors::{combination, dot};
 use items::Items;
@@ -85,7 +85,7 @@ pub fn projection(
     line: &[i128],
     pivot: &[i128],
     v: &[i128],
-) -> Result<Items<i128>, Stop>
+) -> Result<Items<i128>, ConeStop>
     requires { length pivot.now ≡ length v.now }
     ensures value { IfOk result (λ made. made ≡ projection line.now pivot.now v.now) }
     ensures refusal { IfErr result IsRefusal }
@@ -99,7 +99,7 @@ pub fn projection(
 }
 
 /// The last vector on which the line is not 0 is given up, and those before it are moved along it.
-pub fn clearing(alloc: Global, line: &[i128], basis: &[Items<i128>]) -> Result<Cleared, Stop>
+pub fn clearing(alloc: Global, line: &[i128], basis: &[Items<i128>]) -> Result<Cleared, ConeStop>
     requires wide { AreWide (length line.now) basis.now }
     ensures value { IfOk result (λ c. c ≡ clearing line.now basis.now) }
     ensures refusal { IfErr result IsRefusal }
@@ -117,7 +117,7 @@ fn clearing_with(
     v: &[i128],
     vs: &[Items<i128>],
     behind: Cleared,
-) -> Result<Cleared, Stop>
+) -> Result<Cleared, ConeStop>
     requires own { length v.now ≡ length line.now }
     requires behind { IsWide (length line.now) behind }
     ensures value { IfOk result (λ c. c ≡ clearing_with line.now v.now vs.now behind) }
@@ -139,7 +139,7 @@ fn first_clearing(
     line: &[i128],
     v: &[i128],
     vs: &[Items<i128>],
-) -> Result<Cleared, Stop>
+) -> Result<Cleared, ConeStop>
     ensures value { IfOk result (λ c. c ≡ clearing_with line.now v.now vs.now Kept) }
     ensures refusal { IfErr result IsRefusal }
 {

@@ -3,7 +3,7 @@ ghost use Rattle.cones.specs.Cones.{ends, at_end, extremes_at_zero, extremes, Ar
 ghost use Rattle.cones.specs.Refusal.{LeavesBits, IsRefusal};
 ghost use Rattle.cones.specs.Vectors.{opposite};
 
-use crate::Stop;
+use crate::ConeStop;
 use crate::projecting::{Cleared, clearing};
 use crate::stop::step_product;
 use crate::vectors::are_at_most;
@@ -19,7 +19,7 @@ pub fn extremes(
     rest: &[Items<i128>],
     basis: &[Items<i128>],
     count: usize,
-) -> Result<Items<Items<i128>>, Stop>
+) -> Result<Items<Items<i128>>, ConeStop>
     requires rest { AreWide count rest.now }
     requires basis { AreWide count basis.now }
     ensures value { IfOk result (λ found. found ≡ extremes lines.now rest.now basis.now) }
@@ -49,7 +49,7 @@ fn at_end(
     alloc: Global,
     lines: &[Items<i128>],
     basis: &[Items<i128>],
-) -> Result<Items<Items<i128>>, Stop>
+) -> Result<Items<Items<i128>>, ConeStop>
     ensures value { IfOk result (λ found. found ≡ at_end lines.now basis.now) }
     ensures refusal { IfErr result IsRefusal }
 {
@@ -60,7 +60,7 @@ fn at_end(
 }
 
 /// The vector or its opposite, where it lies in the cone.
-fn ends(alloc: Global, lines: &[Items<i128>], w: &[i128]) -> Result<Items<Items<i128>>, Stop>
+fn ends(alloc: Global, lines: &[Items<i128>], w: &[i128]) -> Result<Items<Items<i128>>, ConeStop>
     ensures value { IfOk result (λ found. found ≡ ends lines.now w.now) }
     ensures refusal { IfErr result IsRefusal }
 {
@@ -86,7 +86,7 @@ fn alone(alloc: Global, vector: Items<i128>) -> Result<Items<Items<i128>>, Alloc
 }
 
 /// Each number with its sign turned.
-pub fn opposite(alloc: Global, numbers: &[i128]) -> Result<Items<i128>, Stop>
+pub fn opposite(alloc: Global, numbers: &[i128]) -> Result<Items<i128>, ConeStop>
     ensures value { IfOk result (λ made. made ≡ opposite numbers.now) }
     ensures refusal { IfErr result IsRefusal }
 {

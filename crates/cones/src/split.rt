@@ -4,7 +4,7 @@ ghost use Rattle.cones.specs.Cones.{clearing, AreWide};
 ghost use Rattle.cones.specs.Refusal.{LeavesBits, IsRefusal};
 ghost use Rattle.cones.specs.Split.{zeros, units, remainder, clearing_by_all, flat, is_zero_on, is_pivot, pivots, rest_basis};
 
-use crate::Stop;
+use crate::ConeStop;
 use crate::projecting::{Cleared, clearing};
 use crate::vectors::dot;
 use items::Items;
@@ -14,7 +14,11 @@ use whole_numbers::Wide;
 /// The vectors of so many numbers on which all lines are 0: what is left of the units where each
 /// line is made 0, one after another.
 #[tactic(auto, using(crate::proofs::Units::widths))]
-pub fn flat(alloc: Global, lines: &[Items<i128>], count: usize) -> Result<Items<Items<i128>>, Stop>
+pub fn flat(
+    alloc: Global,
+    lines: &[Items<i128>],
+    count: usize,
+) -> Result<Items<Items<i128>>, ConeStop>
     requires { AreWide count lines.now }
     ensures value { IfOk result (λ vectors. vectors ≡ flat lines.now count) }
     ensures refusal { IfErr result IsRefusal }
@@ -29,7 +33,7 @@ pub fn rest_basis(
     alloc: Global,
     vectors: &[Items<i128>],
     count: usize,
-) -> Result<Items<Items<i128>>, Stop>
+) -> Result<Items<Items<i128>>, ConeStop>
     ensures value { IfOk result (λ basis. basis ≡ rest_basis vectors.now count) }
     ensures refusal { IfErr result IsRefusal }
 {
@@ -45,7 +49,7 @@ fn clearing_by_all(
     lines: &[Items<i128>],
     basis: Items<Items<i128>>,
     count: usize,
-) -> Result<Items<Items<i128>>, Stop>
+) -> Result<Items<Items<i128>>, ConeStop>
     requires lines { AreWide count lines.now }
     requires basis { AreWide count basis }
     ensures value { IfOk result (λ left. left ≡ clearing_by_all lines.now basis) }
@@ -63,7 +67,7 @@ fn remainder(
     alloc: Global,
     line: &[i128],
     basis: Items<Items<i128>>,
-) -> Result<Items<Items<i128>>, Stop>
+) -> Result<Items<Items<i128>>, ConeStop>
     requires { AreWide (length line.now) basis }
     ensures value { IfOk result (λ left. left ≡ remainder basis (clearing line.now basis)) }
     ensures refusal { IfErr result IsRefusal }
@@ -114,7 +118,7 @@ pub fn pivots(
     alloc: Global,
     lines: &[Items<i128>],
     vectors: &[Items<i128>],
-) -> Result<Items<Items<i128>>, Stop>
+) -> Result<Items<Items<i128>>, ConeStop>
     ensures value { IfOk result (λ found. found ≡ pivots lines.now vectors.now) }
     ensures refusal { IfErr result IsRefusal }
 {
@@ -148,7 +152,7 @@ fn pivot(
     v: &[i128],
     before: &[Items<i128>],
     behind: &[Items<i128>],
-) -> Result<Option<Items<i128>>, Stop>
+) -> Result<Option<Items<i128>>, ConeStop>
     ensures value { IfOk result
         (λ found. found ≡ find (is_pivot v.now before.now behind.now) lines.now) }
     ensures refusal { IfErr result IsRefusal }

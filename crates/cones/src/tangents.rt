@@ -9,7 +9,7 @@ ghost use Rattle.cones.specs.Tangents.{difference, direction, directions, facets
 use crate::projecting::{copies_of, lowest};
 use crate::searching::{extremes, opposite_number};
 use crate::vectors::combination;
-use crate::{Point, Stop};
+use crate::{ConeStop, Point};
 use items::Items;
 use std::alloc::{AllocError, Global};
 use std::collections::BTreeSet;
@@ -22,7 +22,7 @@ pub fn facets(
     points: &[Point],
     rays: &[Items<i128>],
     count: usize,
-) -> Result<Items<Items<i128>>, Stop>
+) -> Result<Items<Items<i128>>, ConeStop>
     requires basis { AreWide count basis.now }
     requires points { ArePoints count points.now }
     requires rays { AreWide count rays.now }
@@ -46,7 +46,7 @@ fn facets_at(
     rays: &[Items<i128>],
     point: &Point,
     count: usize,
-) -> Result<Items<Items<i128>>, Stop>
+) -> Result<Items<Items<i128>>, ConeStop>
     requires basis { AreWide count basis.now }
     requires points { ArePoints count points.now }
     requires rays { AreWide count rays.now }
@@ -65,7 +65,7 @@ pub fn directions(
     rays: &[Items<i128>],
     point: &Point,
     count: usize,
-) -> Result<Items<Items<i128>>, Stop>
+) -> Result<Items<Items<i128>>, ConeStop>
     requires points { ArePoints count points.now }
     requires point { length point.now.numbers ≡ count }
     ensures value { IfOk result (λ made. made ≡ directions points.now rays.now point.now) }
@@ -83,7 +83,7 @@ fn directions_to(
     points: &[Point],
     point: &Point,
     count: usize,
-) -> Result<Items<Items<i128>>, Stop>
+) -> Result<Items<Items<i128>>, ConeStop>
     requires points { ArePoints count points.now }
     requires point { length point.now.numbers ≡ count }
     ensures value { IfOk result (λ made. made ≡ map (direction point.now) points.now) }
@@ -96,7 +96,7 @@ fn directions_to(
     Ok(made)
 }
 
-fn direction(alloc: Global, p: &Point, q: &Point) -> Result<Items<i128>, Stop>
+fn direction(alloc: Global, p: &Point, q: &Point) -> Result<Items<i128>, ConeStop>
     requires { length p.now.numbers ≡ length q.now.numbers }
     ensures value { IfOk result (λ made. made ≡ direction p.now q.now) }
     ensures refusal { IfErr result IsRefusal }
@@ -106,7 +106,7 @@ fn direction(alloc: Global, p: &Point, q: &Point) -> Result<Items<i128>, Stop>
 }
 
 /// From one point to another, times both denominators.
-pub fn difference(alloc: Global, p: &Point, q: &Point) -> Result<Items<i128>, Stop>
+pub fn difference(alloc: Global, p: &Point, q: &Point) -> Result<Items<i128>, ConeStop>
     requires { length p.now.numbers ≡ length q.now.numbers }
     ensures value { IfOk result (λ made. made ≡ difference p.now q.now) }
     ensures refusal { IfErr result IsRefusal }

@@ -3,7 +3,7 @@ ghost use Rattle.cones.specs.Cones.{are_at_most};
 ghost use Rattle.cones.specs.Refusal.{LeavesBits, IsRefusal};
 ghost use Rattle.cones.specs.Vectors.{dot, combination};
 
-use crate::Stop;
+use crate::ConeStop;
 use crate::stop::{step_product, step_sum};
 use items::Items;
 use std::alloc::Global;
@@ -41,7 +41,7 @@ pub fn combination(
     first: &[i128],
     b: &i128,
     second: &[i128],
-) -> Result<Items<i128>, Stop>
+) -> Result<Items<i128>, ConeStop>
     requires { length second.now ≡ length first.now }
     ensures value { IfOk result (λ v. v ≡ combination a.now first.now b.now second.now) }
     ensures refusal { IfErr result IsRefusal }

@@ -16,7 +16,7 @@ use Rattle.flow_graph.specs.FlowGraph.{Arc, FlowGraph, body_of, flow_of, graph_o
 use Rattle.flow_graph.specs.Plain.{arc_of, plain, statement_of_act}
 use Rattle.leaf_cases.proofs.Graphs.{EdgeFits}
 use Rattle.proc_summary.specs.declared.stop.Flow.{Flow}
-use Rattle.proc_summary.specs.declared.stop.Stop.{Stop}
+use Rattle.proc_summary.specs.declared.stop.NodeFormula.{NodeFormula}
 use Rattle.proc_summary.specs.Claims.{FitsFlow}
 use Rattle.proc_summary.specs.Subject.{call_node, call_nodes, own_graph}
 use Rattle.context.specs.Entries.{calling_by, callings_in}
@@ -80,4 +80,4 @@ module _ (program : Program) (number : ℕ) (p : Proc) (is : slice_get program.p
       (subst (AllByRecursion (λ (way : Arc). EdgeFits program (width_of program p) way.act)) (sym arcs-are) (arcs-fit program formed number p is)))
 
   pub as-many : (flow : Flow) → FitsFlow program p flow → length (callings_on g.edges) ≡ length flow.calls
-  as-many flow fit = ap length callings-are ∙ as-many-nodes (own_graph p).arcs ∙ sym (ap length fit.calls_are) ∙ length-map flow.calls (λ (s : Stop). s.node)
+  as-many flow fit = ap length callings-are ∙ as-many-nodes (own_graph p).arcs ∙ sym (ap length fit.calls_are) ∙ length-map flow.calls (λ (s : NodeFormula). s.node)

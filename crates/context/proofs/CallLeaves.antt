@@ -12,9 +12,9 @@ use Rattle.syntax_tree.specs.declared.core_expr.Core.{Core}
 use Rattle.syntax_tree.specs.Term.{Term, term_of}
 use Rattle.execution.specs.Step.{values_of}
 use Rattle.transition_formula.specs.declared.loss.Loss.{Loss}
-use Rattle.transition_formula.specs.Composition.{lost_in_sequence}
+use Rattle.transition_formula.specs.Composition.{losses_in_sequence}
 use Rattle.transition_formula.specs.Hiding.{hidden, hidden_case, hiding}
-use Rattle.transition_formula.specs.Loss.{answered}
+use Rattle.transition_formula.specs.Loss.{answer_of}
 use Rattle.transition_formula.specs.Meaning.{Holds}
 use Rattle.transition_formula.specs.Transition.{AreFew, AreSolvable, IsTransition, Transition, fits}
 use Rattle.transition_formula.proofs.Fitting.{fitting, sequence_of-fits}
@@ -28,7 +28,7 @@ use Rattle.checked_tree.proofs.Between.{some-length}
 use Rattle.proc_summary.specs.Claims.{FitsIf, HoldsIf, IsBetweenStates}
 use Rattle.context.specs.declared.stand.Widths.{Widths}
 use Rattle.context.specs.Ends.{HasFew}
-use Rattle.context.specs.Entries.{call_leaf, handing_of, stand_of, told_of}
+use Rattle.context.specs.Entries.{call_leaf, handing_of, stand_of, stand_from_entry}
 use Rattle.context.specs.Made.{AreArguments, AreWidths}
 use Rattle.context.proofs.Few.{few-below, few-pairs, few-solvable, fitted-few, sequence-few}
 
@@ -47,7 +47,7 @@ hidden-few : (n : ℕ) (f : Transition) → f.from ≤ 63 → f.to ≤ 63 → Is
 hidden-few n f from to fit few =
     All-from_recursion (λ (case : Case). case.aux ≤ 190) (map (hidden_case n f.from) f.cases)
     (each-map (λ (case : Case). (case.aux ≤ 64) × (length case.post ≡ f.to)) (λ (case : Case). case.aux ≤ 190) (hidden_case n f.from)
-    (λ case h. let lost = count_by-le-length (λ p. is_none (answered (hiding n f.from case p))) case.post in let one = h.0 in let long = h.1 in omega (arith, lost, one, long, from, to)) f.cases
+    (λ case h. let lost = count_by-le-length (λ p. is_none (answer_of (hiding n f.from case p))) case.post in let one = h.0 in let long = h.1 in omega (arith, lost, one, long, from, to)) f.cases
     (each-both (λ (case : Case). case.aux ≤ 64) (λ (case : Case). length case.post ≡ f.to) f.cases (recursion_from_All (λ (case : Case). case.aux ≤ 64) f.cases few)
     (each_from_test (fits f.from f.to) (λ (case : Case). length case.post ≡ f.to) (λ case h. (fitting f.from f.to case h).length_is) f.cases fit)))
 
@@ -58,10 +58,10 @@ module _ (w : Widths) (wide : AreWidths w) (stand : Option Transition) (fit : Fi
   told-within : w.entry ≤ (stand_of w.columns stand).from
   told-within = let le = wide.entry in let from = stands.from in omega (arith, le, from)
 
-  told-fits : IsTransition (told_of w stand).from (told_of w stand).to (told_of w stand).cases
+  told-fits : IsTransition (stand_from_entry w stand).from (stand_from_entry w stand).to (stand_from_entry w stand).cases
   told-fits = hidden-fits w.entry (stand_of w.columns stand).from (stand_of w.columns stand).to (stand_of w.columns stand).cases told-within stands.fits
 
-  told-few : HasFew 190 (told_of w stand)
+  told-few : HasFew 190 (stand_from_entry w stand)
   told-few =
       let few = wide.few in
       let from = stands.from in
@@ -92,18 +92,18 @@ module _ (w : Widths) (wide : AreWidths w) (stand : Option Transition) (fit : Fi
         few-below (2 ^ 31 - 1) (handing_of w args)
         (subst (λ n. All (λ (case : Case). case.aux < n) (handing_of w args).cases) same (entering_few w.columns w.globals args (handing_of w args) are.below are.operators refl))
 
-    pub meets : (told_of w stand).to ≡ (handing_of w args).from
+    pub meets : (stand_from_entry w stand).to ≡ (handing_of w args).from
     meets = stands.to
 
-    pub pairs-few : AreFew (told_of w stand) (handing_of w args)
+    pub pairs-few : AreFew (stand_from_entry w stand) (handing_of w args)
     pairs-few =
         let few = wide.few in
         let globals = wide.globals in
         let count = are.few in
-        few-pairs 190 (2 ^ 31 - 1) (told_of w stand) (handing_of w args) told-few handing-few (omega (arith, few, globals, count))
+        few-pairs 190 (2 ^ 31 - 1) (stand_from_entry w stand) (handing_of w args) told-few handing-few (omega (arith, few, globals, count))
 
     pub leaf-fits : IsTransition w.entry (w.globals + length args) (call_leaf w stand args).cases
-    leaf-fits = sequence_of-fits (told_of w stand) (handing_of w args) meets told-fits handing-fits
+    leaf-fits = sequence_of-fits (stand_from_entry w stand) (handing_of w args) meets told-fits handing-fits
 
     pub leaf-solvable : AreSolvable (call_leaf w stand args).cases
     leaf-solvable =
@@ -111,7 +111,7 @@ module _ (w : Widths) (wide : AreWidths w) (stand : Option Transition) (fit : Fi
         let globals = wide.globals in
         let count = are.few in
         few-solvable (190 + (2 ^ 31 - 1) + (w.globals + length args)) (call_leaf w stand args) leaf-fits
-        (sequence-few 190 (2 ^ 31 - 1) (told_of w stand) (handing_of w args) handing-fits told-few handing-few) (omega (arith, few, globals, count))
+        (sequence-few 190 (2 ^ 31 - 1) (stand_from_entry w stand) (handing_of w args) handing-fits told-few handing-few) (omega (arith, few, globals, count))
 
     -- from the first columns of a state that leads to the call, to the globals and the values of
     -- the arguments
@@ -120,7 +120,7 @@ module _ (w : Widths) (wide : AreWidths w) (stand : Option Transition) (fit : Fi
     leaf-holds before final values h values_are =
         let holds = stand-holds w.columns stand before final h in
         let long : length final ≡ w.columns = some-length (stand_of w.columns stand).from (stand_of w.columns stand).to (stand_of w.columns stand).cases stands.fits before final holds.some ∙ stands.to in
-        sequence-holds (told_of w stand) (handing_of w args) meets told-fits handing-fits (take w.entry before) final (take w.globals final ++ values)
+        sequence-holds (stand_from_entry w stand) (handing_of w args) meets told-fits handing-fits (take w.entry before) final (take w.globals final ++ values)
         (hidden-holds w.entry (stand_of w.columns stand) told-within stands.fits before final holds)
         (entering_holds w.columns w.globals args wide.globals are.below final values long values_are)
 
@@ -134,5 +134,5 @@ pub losses-join : (old first second third a b d : List Loss) → first ≡ old +
 losses-join old first second third a b d e f h =
     h ∙ ap (λ l. l ++ d) (f ∙ ap (λ l. l ++ b) e) ∙ append_assoc (old ++ a) b d ∙ append_assoc old a (b ++ d)
 
-pub sequence-losses : (old : List Loss) (a b c d : Transition) → a ≡ c → b ≡ d → old ++ lost_in_sequence a b ≡ old ++ lost_in_sequence c d
-sequence-losses old a b c d e f = λ i. old ++ lost_in_sequence (e i) (f i)
+pub sequence-losses : (old : List Loss) (a b c d : Transition) → a ≡ c → b ≡ d → old ++ losses_in_sequence a b ≡ old ++ losses_in_sequence c d
+sequence-losses old a b c d e f = λ i. old ++ losses_in_sequence (e i) (f i)

@@ -17,7 +17,7 @@ use Rattle.flow_graph.specs.declared.parts.Graph.{Graph}
 use Rattle.flow_graph.specs.FlowGraph.{CheckPlace, FlowGraph, body_of, flow_of, graph_of}
 use Rattle.flow_graph.specs.Plain.{check_of, plain}
 use Rattle.proc_summary.specs.declared.stop.Flow.{Flow}
-use Rattle.proc_summary.specs.declared.stop.Stop.{Stop}
+use Rattle.proc_summary.specs.declared.stop.NodeFormula.{NodeFormula}
 use Rattle.proc_summary.specs.Claims.{FitsFlow, FitsIf, FitsStop}
 use Rattle.proc_summary.specs.Subject.{own_graph}
 use Rattle.context.specs.Ends.{IsCondition}
@@ -38,7 +38,7 @@ module _ (program : Program) (proc : ℕ) (p : Proc) (is : slice_get program.pro
   pub check-within : (flow : Flow) (check : ℕ) → FitsFlow program p flow → check < length flow.checks → check < length g.checks
   check-within flow check fit lt =
       let nodes = ap length fit.checks_are in
-      let stops = length-map flow.checks (λ (s : Stop). s.node) in
+      let stops = length-map flow.checks (λ (s : NodeFormula). s.node) in
       let places = length-map (own_graph p).checks (λ (c : CheckPlace). c.node) in
       let own = ap length (sym checks-are) ∙ length-map g.checks check_of in
       omega (arith, nodes, stops, places, own, lt)
@@ -53,5 +53,5 @@ module _ (program : Program) (proc : ℕ) (p : Proc) (is : slice_get program.pro
   pub cond-is : (check : ℕ) (x : CheckNode) (place : CheckPlace) → slice_get g.checks check ≡ Some x → slice_get (own_graph p).checks check ≡ Some place → term_of x.cond ≡ place.cond
   cond-is check x place at there = ap (λ (c : CheckPlace). c.cond) (some-one (slice_get (own_graph p).checks check) (check_of x) place (check-there check x at) there)
 
-pub stand-fits : (program : Program) (p : Proc) (flow : Flow) (check : ℕ) (stop : Stop) → FitsFlow program p flow → slice_get flow.checks check ≡ Some stop → FitsIf (width_of program p) stop.formula
+pub stand-fits : (program : Program) (p : Proc) (flow : Flow) (check : ℕ) (stop : NodeFormula) → FitsFlow program p flow → slice_get flow.checks check ≡ Some stop → FitsIf (width_of program p) stop.formula
 stand-fits program p flow check stop fit at = each-get (FitsStop (width_of program p)) flow.checks check stop (recursion_from_All (FitsStop (width_of program p)) flow.checks fit.checks) at

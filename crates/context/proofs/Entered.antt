@@ -42,11 +42,11 @@ use Rattle.leaf_cases.proofs.Made.{constant-value}
 use Rattle.vocabularies.specs.Ends.{entry_of, entry_width, start_of}
 use Rattle.posing.specs.Posing.{Always, Done}
 use Rattle.posing.proofs.Paths.{always_any, always_bind}
-use Rattle.checked_tree.specs.Evaluation.{Made, cell_at, cell_of, cells_of, evaluated, evaluation}
+use Rattle.checked_tree.specs.Evaluation.{Made, cell_at, cell_of, cells_of, evaluated_cells, evaluation}
 use Rattle.checked_tree.specs.Graph.{Graph, graph_of, leaf_at, nothing, vocabulary_at}
 use Rattle.checked_tree.specs.Law.{AreFittedCells, CellsHold, FitsCell, HoldsCell, IsEvaluated, IsRun}
 use Rattle.proc_summary.specs.declared.stop.Flow.{Flow}
-use Rattle.proc_summary.specs.declared.stop.Stop.{Stop}
+use Rattle.proc_summary.specs.declared.stop.NodeFormula.{NodeFormula}
 use Rattle.proc_summary.specs.Claims.{FitsFlow, FitsStop, HoldsIf, StopHolds}
 use Rattle.proc_summary.specs.Flow.{formula_at, formula_of}
 use Rattle.proc_summary.specs.Subject.{own_graph}
@@ -150,8 +150,8 @@ module _ (program : Program) (flows : List Flow) (formed : IsWellFormed program)
       let flow_there = got flows under.proc (omega (arith, as_many, within)) in
       let flow : Flow = flow_there.0 in
       let fits : FitsFlow program p flow = fit.fit under.proc p flow is_p flow_there.1 in
-      let stop_there = found-mapped (λ (s : Stop). s.node) flow.calls place.place arc.from (ap (λ l. slice_get l place.place) fits.calls_are ∙ place.node_is) in
-      let stop : Stop = stop_there.0 in
+      let stop_there = found-mapped (λ (s : NodeFormula). s.node) flow.calls place.place arc.from (ap (λ l. slice_get l place.place) fits.calls_are ∙ place.node_is) in
+      let stop : NodeFormula = stop_there.0 in
       let stop_fits : FitsStop (width_of program p) stop = each-get (FitsStop (width_of program p)) flow.calls place.place stop (recursion_from_All (FitsStop (width_of program p)) flow.calls fits.calls) stop_there.1 in
       let told : StopHolds program under.proc stop = each-get (StopHolds program under.proc) flow.calls place.place stop (recursion_from_All (StopHolds program under.proc) flow.calls (hold under.proc flow flow_there.1).calls) stop_there.1 in
       let Says : ℕ → Type 0 = λ node. (globals args last : State) (way : WalksTo program under.proc globals args node last) → HoldsIf stop.formula (globals ++ (args ++ way.others)) last in
@@ -288,8 +288,8 @@ cells-never graph is made node some e =
     let walk = (language_is_walks (length graph.nodes) graph.links 0 there.0 is.graph is.source_is (omega (arith, same, within)) []).0 (subst (λ p. InLanguage p []) (sym path) refl) in
     omega (arith, walk, same, some)
 
-pub evaluated-never : (graph : Graph) → IsEvaluated graph 0 → Always NeverOne (evaluated graph 0)
-unfolding evaluated
+pub evaluated-never : (graph : Graph) → IsEvaluated graph 0 → Always NeverOne (evaluated_cells graph 0)
+unfolding evaluated_cells
 evaluated-never graph is =
     always_bind (λ made. Unit {0}) NeverOne (evaluation graph 0) (λ made. Done (cells_of graph 0 made)) (always_any (λ made. Unit {0}) (evaluation graph 0) (λ made. tt)) (λ made h. cells-never graph is made)
 
@@ -327,5 +327,5 @@ module _ (program : Program) (flows : List Flow) (formed : IsWellFormed program)
     pub made-hold : CellsHold (graph_by edges nodes) 0 cells → FlowsHold program flows → EntriesHold program entries
     made-hold holds hold = subst (EntriesHold program) (sym entries_are) (entries-hold program flows formed cells fitted-own are hold (subst (λ h. CellsHold h 0 cells) graph-made holds))
 
-  pub made-never : Always NeverOne (evaluated (graph_by edges nodes) 0)
+  pub made-never : Always NeverOne (evaluated_cells (graph_by edges nodes) 0)
   made-never = evaluated-never (graph_by edges nodes) made-evaluated

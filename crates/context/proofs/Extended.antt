@@ -18,7 +18,7 @@ use Rattle.transition_formula.proofs.Fitting.{Fitting, fitting, from_fitting, be
 use Rattle.transition_formula.proofs.Meanings.{both_aux, first_aux, lost_aux}
 use Rattle.transition_formula.proofs.Values.{column-value, rows-agree, posts-agree}
 use Rattle.context.specs.Ends.{HasFew}
-use Rattle.context.specs.Verdicts.{extended, extended_case}
+use Rattle.context.specs.Verdicts.{extended_formula, extended_case}
 
 pub length-range : (a n : ℕ) → length (range_with_len a n) ≡ n
 length-range a zero = refl
@@ -84,19 +84,19 @@ some-holds from to (case ∷ cases) h before begun others (inl k) =
 some-holds from to (case ∷ cases) h before begun others (inr k) =
     let parts = both (fits from to case) (list_all (fits from to) cases) h in inr (some-holds from to cases parts.1 before begun others k)
 
-pub extended-fits : (columns : ℕ) (f : Transition) → f.to ≤ columns → IsTransition f.from f.to f.cases → IsTransition f.from columns (extended columns f).cases
+pub extended-fits : (columns : ℕ) (f : Transition) → f.to ≤ columns → IsTransition f.from f.to f.cases → IsTransition f.from columns (extended_formula columns f).cases
 extended-fits columns f le h =
     let all : f.to + (columns - f.to) ≡ columns = omega arith in
-    subst (λ n. IsTransition f.from n (extended columns f).cases) all (cases-fit f.from f.to (columns - f.to) f.cases h)
+    subst (λ n. IsTransition f.from n (extended_formula columns f).cases) all (cases-fit f.from f.to (columns - f.to) f.cases h)
 
-pub extended-holds : (columns : ℕ) (f : Transition) → IsTransition f.from f.to f.cases → (before begun others : List ℤ) → length others ≡ columns - f.to → Holds f before begun → Holds (extended columns f) before (begun ++ others)
+pub extended-holds : (columns : ℕ) (f : Transition) → IsTransition f.from f.to f.cases → (before begun others : List ℤ) → length others ≡ columns - f.to → Holds f before begun → Holds (extended_formula columns f) before (begun ++ others)
 extended-holds columns f h before begun others long holds =
     record {
       enters = holds.enters;
       some = subst (λ n. HoldsSome (map (extended_case n) f.cases) before (begun ++ others)) long (some-holds f.from f.to f.cases h before begun others holds.some);
     }
 
-pub extended-few : (columns : ℕ) (f : Transition) → columns ≤ 63 → HasFew 64 f → HasFew 127 (extended columns f)
+pub extended-few : (columns : ℕ) (f : Transition) → columns ≤ 63 → HasFew 64 f → HasFew 127 (extended_formula columns f)
 extended-few columns f narrow few =
     All-from_recursion (λ (case : Case). case.aux ≤ 127) (map (extended_case (columns - f.to)) f.cases)
     (each-map (λ (case : Case). case.aux ≤ 64) (λ (case : Case). case.aux ≤ 127) (extended_case (columns - f.to)) (λ case le. omega (arith, le, narrow)) f.cases (recursion_from_All (λ (case : Case). case.aux ≤ 64) f.cases few))

@@ -12,7 +12,7 @@ use Rattle.syntax_tree.specs.declared.program.Proc.{Proc}
 use Rattle.syntax_tree.specs.declared.program.Program.{Program}
 use Rattle.vocabularies.specs.Ends.{entry_of}
 use Rattle.proc_summary.specs.declared.stop.Flow.{Flow}
-use Rattle.proc_summary.specs.declared.stop.Stop.{Stop}
+use Rattle.proc_summary.specs.declared.stop.NodeFormula.{NodeFormula}
 use Rattle.proc_summary.specs.Subject.{own_graph}
 use Rattle.context.specs.declared.edges.Edges.{Edges}
 use Rattle.context.specs.declared.stand.Widths.{Widths}
@@ -38,24 +38,24 @@ with_ways-none made = λ i. record { links = append-nil made.links i; leaves = a
 -- ---- the calls of one procedure
 
 module _ (main number : ℕ) (w : Widths) where
-  ways-both : (first second : List Calling) (stops : List Stop) → length first ≤ length stops → call_ways main number w (first ++ second) stops ≡ call_ways main number w first stops ++ call_ways main number w second (drop (length first) stops)
+  ways-both : (first second : List Calling) (stops : List NodeFormula) → length first ≤ length stops → call_ways main number w (first ++ second) stops ≡ call_ways main number w first stops ++ call_ways main number w second (drop (length first) stops)
   ways-both [] second stops le = refl
   ways-both (calling ∷ first) second [] le = absurd (omega (arith, le))
   ways-both (calling ∷ first) second (stop ∷ stops) le = ap (λ l. call_way main number w calling stop ∷ l) (ways-both first second stops (omega (arith, le)))
 
-  drop-none : (n k : ℕ) → (let xs : List Stop = [] in drop n xs ≡ drop k xs)
+  drop-none : (n k : ℕ) → (let xs : List NodeFormula = [] in drop n xs ≡ drop k xs)
   drop-none zero zero = refl
   drop-none zero (suc k) = refl
   drop-none (suc n) zero = refl
   drop-none (suc n) (suc k) = refl
 
-  drop-both : (xs : List Stop) (m n : ℕ) → drop n (drop m xs) ≡ drop (m + n) xs
+  drop-both : (xs : List NodeFormula) (m n : ℕ) → drop n (drop m xs) ≡ drop (m + n) xs
   drop-both xs zero n = let e : 0 + n ≡ n = omega arith in ap (λ k. drop k xs) (sym e)
   drop-both [] (suc m) n = drop-none n (suc m + n)
   drop-both (x ∷ xs) (suc m) n = let e : suc m + n ≡ suc (m + n) = omega arith in drop-both xs m n ∙ ap (λ k. drop k (x ∷ xs)) (sym e)
 
   -- one more edge
-  pub edge-next : (edges : List Edge) (i : ℕ) (edge : Edge) (stops : List Stop) (place next : ℕ) (made more whole : Edges) → i < length edges → edge ≡ get_or edges i edge
+  pub edge-next : (edges : List Edge) (i : ℕ) (edge : Edge) (stops : List NodeFormula) (place next : ℕ) (made more whole : Edges) → i < length edges → edge ≡ get_or edges i edge
       → with_ways made (call_ways main number w (callings_on (drop i edges)) (drop place stops)) ≡ whole → place + length (callings_on (drop i edges)) ≡ length stops
       → more ≡ with_ways made (call_ways main number w (calling_by (statement_of_act edge.act)) (drop place stops)) → next ≡ place + length (calling_by (statement_of_act edge.act))
       → (with_ways more (call_ways main number w (callings_on (drop (i + 1) edges)) (drop next stops)) ≡ whole) × (next + length (callings_on (drop (i + 1) edges)) ≡ length stops)
@@ -74,7 +74,7 @@ module _ (main number : ℕ) (w : Widths) where
         omega (arith, counts, left, moved),
       )
 
-  pub edge-there : (edges : List Edge) (i : ℕ) (edge : Edge) (stops : List Stop) (place : ℕ) → i < length edges → edge ≡ get_or edges i edge → place + length (callings_on (drop i edges)) ≡ length stops
+  pub edge-there : (edges : List Edge) (i : ℕ) (edge : Edge) (stops : List NodeFormula) (place : ℕ) → i < length edges → edge ≡ get_or edges i edge → place + length (callings_on (drop i edges)) ≡ length stops
       → place + length (calling_by (statement_of_act edge.act)) ≤ length stops
   edge-there edges i edge stops place lt is left =
       let own : List Calling = calling_by (statement_of_act edge.act) in
@@ -82,7 +82,7 @@ module _ (main number : ℕ) (w : Widths) where
       let counts = ap length (ap callings_on (at_index edges i edge lt is)) ∙ length-append own rest in omega (arith, counts, left)
 
   -- all edges
-  pub edges-end : (edges : List Edge) (i : ℕ) (stops : List Stop) (place : ℕ) (made whole : Edges) → length edges ≤ i → with_ways made (call_ways main number w (callings_on (drop i edges)) (drop place stops)) ≡ whole → made ≡ whole
+  pub edges-end : (edges : List Edge) (i : ℕ) (stops : List NodeFormula) (place : ℕ) (made whole : Edges) → length edges ≤ i → with_ways made (call_ways main number w (callings_on (drop i edges)) (drop place stops)) ≡ whole → made ≡ whole
   edges-end edges i stops place made whole le so_far =
       sym (with_ways-none made) ∙ ap (λ l. with_ways made (call_ways main number w (callings_on l) (drop place stops))) (sym (drop_all i edges le)) ∙ so_far
 

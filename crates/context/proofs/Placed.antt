@@ -10,9 +10,9 @@ use Rattle.syntax_tree.specs.declared.program.Column.{Column}
 use Rattle.syntax_tree.specs.declared.program.Proc.{Proc}
 use Rattle.syntax_tree.specs.declared.program.Program.{Program}
 use Rattle.syntax_tree.specs.WellFormed.{IsProcFit, IsWellFormed, has_name, width_of}
-use Rattle.vocabularies.specs.Ends.{full_of, named_from, named_if, start_of}
+use Rattle.vocabularies.specs.Ends.{full_of, named_columns_from, named_if, start_of}
 use Rattle.context.specs.Ends.{IsPlace}
-use Rattle.context.specs.Verdicts.{place_of, shown_of}
+use Rattle.context.specs.Verdicts.{place_of, shown_columns_of}
 use Rattle.context.proofs.Extended.{length-range}
 
 pub got : {A : Type 0} (xs : List A) (k : ℕ) → k < length xs → (x : A) × (slice_get xs k ≡ Some x)
@@ -29,23 +29,23 @@ take-front xs x =
 abbrev last_of : Program → Proc → ℕ
 last_of program p = length program.globals + length p.columns
 
-named-is : (program : Program) (p : Proc) → (full_of program p).named ≡ shown_of program p ++ last_of program p ∷ []
+named-is : (program : Program) (p : Proc) → (full_of program p).named ≡ shown_columns_of program p ++ last_of program p ∷ []
 unfolding full_of
-named-is program p = sym (append_assoc (range_with_len 0 (length program.globals)) (named_from (length program.globals) p.columns) (last_of program p ∷ []))
+named-is program p = sym (append_assoc (range_with_len 0 (length program.globals)) (named_columns_from (length program.globals) p.columns) (last_of program p ∷ []))
 
 pub named-some : (program : Program) (p : Proc) → 0 < length (full_of program p).named
 named-some program p =
     let e = ap length (named-is program p) in
-    let f = length-append (shown_of program p) (last_of program p ∷ []) in omega (arith, e, f)
+    let f = length-append (shown_columns_of program p) (last_of program p ∷ []) in omega (arith, e, f)
 
-pub shown-is : (program : Program) (p : Proc) → take (length (full_of program p).named - 1) (full_of program p).named ≡ shown_of program p
-shown-is program p = ap (λ l. take (length l - 1) l) (named-is program p) ∙ take-front (shown_of program p) (last_of program p)
+pub shown-is : (program : Program) (p : Proc) → take (length (full_of program p).named - 1) (full_of program p).named ≡ shown_columns_of program p
+shown-is program p = ap (λ l. take (length l - 1) l) (named-is program p) ∙ take-front (shown_columns_of program p) (last_of program p)
 
-named-short : (number : ℕ) (columns : List Column) → length (named_from number columns) ≤ length columns
+named-short : (number : ℕ) (columns : List Column) → length (named_columns_from number columns) ≤ length columns
 named-short number [] = omega arith
 named-short number (column ∷ columns) = go (has_name column) (named-short (number + 1) columns)
   where
-    go : (b : Bool) → length (named_from (number + 1) columns) ≤ length columns → length (named_if b number (named_from (number + 1) columns)) ≤ suc (length columns)
+    go : (b : Bool) → length (named_columns_from (number + 1) columns) ≤ length columns → length (named_if b number (named_columns_from (number + 1) columns)) ≤ suc (length columns)
     go true h = omega (arith, h)
     go false h = omega (arith, h)
 
@@ -65,7 +65,7 @@ place-is program p formed fit start full =
     let wide = full-columns program p in
     let none = start-columns program in
     let short = named-short (length program.globals) p.columns in
-    let long = length-append (range_with_len 0 (length program.globals)) (named_from (length program.globals) p.columns) in
+    let long = length-append (range_with_len 0 (length program.globals)) (named_columns_from (length program.globals) p.columns) in
     let range = length-range 0 (length program.globals) in
     record {
       entry = omega (arith, params);
@@ -74,9 +74,9 @@ place-is program p formed fit start full =
       start = record { is = start; few = omega (arith, none) };
       full = record { is = full; few = omega (arith, wide, globals, slots) };
       shown =
-          All-from_recursion (λ column. column < width_of program p) (shown_of program p)
-          (each-front (λ column. column < width_of program p) (shown_of program p) (last_of program p ∷ [])
-          (subst (λ n. AllByRecursion (λ column. column < n) (shown_of program p ++ last_of program p ∷ [])) wide
+          All-from_recursion (λ column. column < width_of program p) (shown_columns_of program p)
+          (each-front (λ column. column < width_of program p) (shown_columns_of program p) (last_of program p ∷ [])
+          (subst (λ n. AllByRecursion (λ column. column < n) (shown_columns_of program p ++ last_of program p ∷ [])) wide
           (subst (AllByRecursion (λ column. column < (full_of program p).columns)) (named-is program p) full.named)));
       few = omega (arith, long, range, short, globals, slots);
     }

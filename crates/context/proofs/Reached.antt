@@ -18,12 +18,12 @@ use Rattle.posing.specs.declared.error.WorkError.{WorkError}
 use Rattle.proc_summary.specs.Claims.{HoldsIf, IsBetweenStates}
 use Rattle.report.specs.declared.verdict.Verdict.{Verdict}
 use Rattle.report.specs.declared.verdict.Verdict.TheVariants.{Proved}
-use Rattle.context.specs.declared.place.Place.{Place}
+use Rattle.context.specs.declared.place.AssertionPlace.{AssertionPlace}
 use Rattle.context.specs.Claims.{IsEntry, IsEntryIf}
 use Rattle.context.specs.Ends.{HasFew, HoldsAfter, HoldsBegun, HoldsFailing, IsFromStart, IsPlace, NoneFails, NoneFailsAt}
 use Rattle.context.specs.Entries.{stand_of}
 use Rattle.context.specs.Judging.{IsDead, IsVerdictOnAll}
-use Rattle.context.specs.Verdicts.{begun_of, extended, falsity_of}
+use Rattle.context.specs.Verdicts.{entry_from_start, extended_formula, falsity_of}
 use Rattle.context.proofs.Extended.{extended-fits, extended-few, extended-holds}
 use Rattle.context.proofs.Few.{few-below, few-pairs, few-solvable, fitted-few, posts-few, sequence-few}
 
@@ -36,24 +36,24 @@ if_ok-more P Q (Err e) more h = tt
 pub entry-few : (columns : ℕ) (f : Transition) → IsEntry columns f → HasFew 64 f
 entry-few columns f is = fitted-few f is.fitted
 
-none-few : (n columns : ℕ) → HasFew n (extended columns (record { from = 0; to = columns; cases = [] }))
+none-few : (n columns : ℕ) → HasFew n (extended_formula columns (record { from = 0; to = columns; cases = [] }))
 none-few n columns = All-from_recursion (λ (case : Case). case.aux ≤ n) [] tt
 
-pub begun-fits : (place : Place) (entry : Option Transition) → IsPlace place → IsEntryIf place.entry entry → IsFromStart place.columns (begun_of place entry)
+pub begun-fits : (place : AssertionPlace) (entry : Option Transition) → IsPlace place → IsEntryIf place.entry entry → IsFromStart place.columns (entry_from_start place entry)
 begun-fits place None at is = record { from = refl; to = refl; fits = refl }
 begun-fits place (Some f) at is =
     let le = at.entry in
     let to = is.to in
     record { from = is.from; to = refl; fits = extended-fits place.columns f (omega (arith, le, to)) is.fits }
 
-pub begun-few : (place : Place) (entry : Option Transition) → IsPlace place → IsEntryIf place.entry entry → HasFew 127 (begun_of place entry)
+pub begun-few : (place : AssertionPlace) (entry : Option Transition) → IsPlace place → IsEntryIf place.entry entry → HasFew 127 (entry_from_start place entry)
 begun-few place None at is = All-from_recursion (λ (case : Case). case.aux ≤ 127) [] tt
 begun-few place (Some f) at is =
     let few = at.full.few in
     let same = at.full_columns in
     extended-few place.columns f (omega (arith, few, same)) (entry-few place.entry f is)
 
-pub begun-holds : (place : Place) (entry : Option Transition) → IsPlace place → IsEntryIf place.entry entry → HoldsBegun place.columns entry (begun_of place entry)
+pub begun-holds : (place : AssertionPlace) (entry : Option Transition) → IsPlace place → IsEntryIf place.entry entry → HoldsBegun place.columns entry (entry_from_start place entry)
 begun-holds place None at is begun others h long = absurd h
 begun-holds place (Some f) at is begun others h long =
     let ends : length begun ≡ f.to = some-length f.from f.to f.cases is.fits [] begun h.some in
@@ -61,24 +61,24 @@ begun-holds place (Some f) at is begun others h long =
     extended-holds place.columns f is.fits [] begun others (omega (arith, ends, sum, long)) h
 
 -- for the code: what is asked of an entry, and what it makes of it
-pub record IsBegun (place : Place) (entry : Option Transition) (f : Transition) : Type 0 where
+pub record IsBegun (place : AssertionPlace) (entry : Option Transition) (f : Transition) : Type 0 where
   pub fits : IsFromStart place.columns f
   pub few : HasFew 127 f
   pub holds : HoldsBegun place.columns entry f
 
-pub begun-known : (place : Place) (entry : Option Transition) (f : Transition) → IsPlace place → IsEntryIf place.entry entry → f ≡ begun_of place entry → IsBegun place entry f
+pub begun-known : (place : AssertionPlace) (entry : Option Transition) (f : Transition) → IsPlace place → IsEntryIf place.entry entry → f ≡ entry_from_start place entry → IsBegun place entry f
 begun-known place entry f at is e = record {
   fits = subst (IsFromStart place.columns) (sym e) (begun-fits place entry at is);
   few = subst (HasFew 127) (sym e) (begun-few place entry at is);
   holds = subst (HoldsBegun place.columns entry) (sym e) (begun-holds place entry at is);
 }
 
-pub record IsExtendable (place : Place) (f : Transition) : Type 0 where
+pub record IsExtendable (place : AssertionPlace) (f : Transition) : Type 0 where
   pub more : f.to ≤ place.columns
   pub few : HasFew 64 f
   pub narrow : place.columns ≤ 63
 
-pub extendable : (place : Place) (entry : Option Transition) (f : Transition) → IsPlace place → IsEntryIf place.entry entry → entry ≡ Some f → IsExtendable place f
+pub extendable : (place : AssertionPlace) (entry : Option Transition) (f : Transition) → IsPlace place → IsEntryIf place.entry entry → entry ≡ Some f → IsExtendable place f
 extendable place entry f at is e =
     let own : IsEntry place.entry f = subst (IsEntryIf place.entry) e is in
     let le = at.entry in
@@ -92,14 +92,14 @@ extendable place entry f at is e =
 pub sequence-meets : (columns : ℕ) (begun stand : Transition) → IsFromStart columns begun → IsBetweenStates columns stand → begun.to ≡ stand.from
 sequence-meets columns begun stand h k = h.to ∙ sym k.from
 
-pub sequence-pairs : (place : Place) (begun stand : Transition) → IsPlace place → HasFew 127 begun → IsBetweenStates place.columns stand → AreFew begun stand
+pub sequence-pairs : (place : AssertionPlace) (begun stand : Transition) → IsPlace place → HasFew 127 begun → IsBetweenStates place.columns stand → AreFew begun stand
 sequence-pairs place begun stand at few k =
     let narrow = at.full.few in
     let same = at.full_columns in
     let to = k.to in
     few-pairs 127 64 begun stand few (fitted-few stand k.fitted) (omega (arith, narrow, same, to))
 
-pub sequence-from : (place : Place) (begun stand f : Transition) → IsPlace place → IsFromStart place.columns begun → IsBetweenStates place.columns stand → f ≡ sequence_of begun stand → IsFrom place.start place.full f
+pub sequence-from : (place : AssertionPlace) (begun stand f : Transition) → IsPlace place → IsFromStart place.columns begun → IsBetweenStates place.columns stand → f ≡ sequence_of begun stand → IsFrom place.start place.full f
 sequence-from place begun stand f at h k e =
     subst (IsFrom place.start place.full) (sym e)
     (record {
@@ -108,7 +108,7 @@ sequence-from place begun stand f at h k e =
       fits = sequence_of-fits begun stand (sequence-meets place.columns begun stand h k) h.fits k.fits;
     })
 
-pub sequence-solvable : (place : Place) (begun stand f : Transition) → IsPlace place → IsFromStart place.columns begun → HasFew 127 begun → IsBetweenStates place.columns stand → f ≡ sequence_of begun stand → AreSolvable f.cases
+pub sequence-solvable : (place : AssertionPlace) (begun stand f : Transition) → IsPlace place → IsFromStart place.columns begun → HasFew 127 begun → IsBetweenStates place.columns stand → f ≡ sequence_of begun stand → AreSolvable f.cases
 sequence-solvable place begun stand f at h few k e =
     let narrow = at.full.few in
     let same = at.full_columns in
@@ -117,7 +117,7 @@ sequence-solvable place begun stand f at h few k e =
     subst (λ (g : Transition). AreSolvable g.cases) (sym e)
     (few-solvable (127 + 64 + stand.to) (sequence_of begun stand) from.fits (sequence-few 127 64 begun stand k.fits few (fitted-few stand k.fitted)) (omega (arith, narrow, same, to)))
 
-pub small-from : (place : Place) (f g : Transition) → IsPlace place → IsFrom place.start place.full f → IsSmall f g → IsFromStart place.columns g
+pub small-from : (place : AssertionPlace) (f g : Transition) → IsPlace place → IsFrom place.start place.full f → IsSmall f g → IsFromStart place.columns g
 small-from place f g at from small =
     record {
       from = small.from ∙ from.from_is ∙ at.start_columns;
@@ -142,13 +142,13 @@ stand-holds : (columns : ℕ) (stand : Option Transition) (before after : List �
 stand-holds columns None before after h = absurd h
 stand-holds columns (Some f) before after h = h
 
-pub none-fails : (place : Place) (cond : Term) (entry stand : Option Transition) (begun led f : Transition) → HoldsBegun place.columns entry begun → led ≡ stand_of place.columns stand → HoldsAfter begun led f → NoneFailsAt cond f → NoneFails place cond entry stand
+pub none-fails : (place : AssertionPlace) (cond : Term) (entry stand : Option Transition) (begun led f : Transition) → HoldsBegun place.columns entry begun → led ≡ stand_of place.columns stand → HoldsAfter begun led f → NoneFailsAt cond f → NoneFails place cond entry stand
 none-fails place cond entry stand begun led f enters is after none start others final h long k false =
     none final (after (start ++ others) final (enters start others h long) (subst (λ g. Holds g (start ++ others) final) (sym is) (stand-holds place.columns stand (start ++ others) final k))) false
 
 -- ---- the formula of where the condition is false, as the code makes it
 
-module _ (place : Place) (cond : Term) (f falsity : Transition) (at : IsPlace place) (h : IsFromStart place.columns f) (few : HasFew 64 f) (is : falsity ≡ falsity_of place.columns cond) where
+module _ (place : AssertionPlace) (cond : Term) (f falsity : Transition) (at : IsPlace place) (h : IsFromStart place.columns f) (few : HasFew 64 f) (is : falsity ≡ falsity_of place.columns cond) where
   falsity-to : falsity.to ≡ place.columns
   falsity-to = ap (λ (g : Transition). g.to) is
 

@@ -21,7 +21,7 @@ use Rattle.flow_graph.proofs.StackChain.{failures_are_in_chains}
 use Rattle.flow_graph.proofs.Theorems.{checks_are_walks}
 use Rattle.transition_formula.specs.Transition.{Transition}
 use Rattle.proc_summary.specs.declared.stop.Flow.{Flow}
-use Rattle.proc_summary.specs.declared.stop.Stop.{Stop}
+use Rattle.proc_summary.specs.declared.stop.NodeFormula.{NodeFormula}
 use Rattle.proc_summary.specs.Claims.{FitsFlow, FlowHolds, HoldsIf, StopHolds, nodes_of}
 use Rattle.proc_summary.specs.Subject.{check_nodes, own_graph}
 use Rattle.context.specs.Claims.{EntryHolds, start_of_main}
@@ -33,7 +33,7 @@ pub stands-top : (program : Program) (bottom top : Beginning) (globals : State) 
 stands-top program bottom top globals items frame [] h = h.2
 stands-top program bottom top globals items frame (caller ∷ below) h = h.1
 
-pub never-fails : (program : Program) (proc check : ℕ) (p : Proc) (at : CheckPlace) (flow : Flow) (stop : Stop) (entry : Option Transition) → IsWellFormed program → slice_get program.procs proc ≡ Some p → slice_get (own_graph p).checks check ≡ Some at
+pub never-fails : (program : Program) (proc check : ℕ) (p : Proc) (at : CheckPlace) (flow : Flow) (stop : NodeFormula) (entry : Option Transition) → IsWellFormed program → slice_get program.procs proc ≡ Some p → slice_get (own_graph p).checks check ≡ Some at
     → slice_get flow.checks check ≡ Some stop → FitsFlow program p flow → EntryHolds program proc entry → FlowHolds program proc flow → NoneFails (place_of program p) at.cond entry stop.formula → Fails program at.number → ⊥
 never-fails program proc check p at flow stop entry formed is_p is_at is_stop fit enters holds none fails =
     let found = failures_are_in_chains program at.number fails in
@@ -51,7 +51,7 @@ never-fails program proc check p at flow stop entry formed is_p is_at is_stop fi
     let same_p : w.callee ≡ p = some-one (slice_get program.procs proc) w.callee p (sym (ap (slice_get program.procs) one.0) ∙ w.is) is_p in
     let moved : slice_get (flow_of (code_of w.callee.body)).checks k ≡ slice_get (own_graph p).checks check = λ i. slice_get (flow_of (code_of (Proc.body (same_p i)))).checks (one.1 i) in
     let same_at : place ≡ at = some-one (slice_get (own_graph p).checks check) place at (sym moved ∙ is_place) is_at in
-    let node_s : slice_get (nodes_of flow.checks) check ≡ Some stop.node = slice_get-map (λ (s : Stop). s.node) flow.checks check ∙ ap (option_map (λ (s : Stop). s.node)) is_stop in
+    let node_s : slice_get (nodes_of flow.checks) check ≡ Some stop.node = slice_get-map (λ (s : NodeFormula). s.node) flow.checks check ∙ ap (option_map (λ (s : NodeFormula). s.node)) is_stop in
     let node_c : slice_get (check_nodes (own_graph p).checks) check ≡ Some at.node = slice_get-map (λ (c : CheckPlace). c.node) (own_graph p).checks check ∙ ap (option_map (λ (c : CheckPlace). c.node)) is_at in
     let same_node : stop.node ≡ at.node = some-one (slice_get (check_nodes (own_graph p).checks) check) stop.node at.node (sym (ap (λ l. slice_get l check) fit.checks_are) ∙ node_s) node_c in
     let told : StopHolds program proc stop = each-get (StopHolds program proc) flow.checks check stop (recursion_from_All (StopHolds program proc) flow.checks holds.checks) is_stop in

@@ -7,7 +7,7 @@ use Rattle.syntax_tree.specs.Code.{Statement, Set, Any, Call, Guard, Check, If, 
 use Rattle.syntax_tree.specs.Term.{Term}
 use Rattle.flow_graph.specs.FlowGraph.{Arc}
 use Rattle.proc_summary.specs.declared.stop.Flow.{Flow}
-use Rattle.proc_summary.specs.declared.stop.Stop.{Stop}
+use Rattle.proc_summary.specs.declared.stop.NodeFormula.{NodeFormula}
 use Rattle.proc_summary.specs.Subject.{call_node, call_nodes, own_graph}
 use Rattle.context.specs.declared.stand.Widths.{Widths}
 use Rattle.context.specs.Entries.{Calling, Way, call_way, call_ways, calling_by, callings_in, ways_from, widths_of}
@@ -70,7 +70,7 @@ call-place (first ∷ arcs) (suc k) way callee args into is act =
 
 -- ---- its ways
 
-pub way-found : (main number : ℕ) (w : Widths) (callings : List Calling) (stops : List Stop) (j : ℕ) (calling : Calling) (stop : Stop) → slice_get callings j ≡ Some calling → slice_get stops j ≡ Some stop
+pub way-found : (main number : ℕ) (w : Widths) (callings : List Calling) (stops : List NodeFormula) (j : ℕ) (calling : Calling) (stop : NodeFormula) → slice_get callings j ≡ Some calling → slice_get stops j ≡ Some stop
     → slice_get (call_ways main number w callings stops) j ≡ Some (call_way main number w calling stop)
 way-found main number w [] stops j calling stop e f = absurd (cc)
 way-found main number w (c ∷ callings) [] j calling stop e f = absurd (cc)

@@ -21,7 +21,7 @@ use Rattle.flow_graph.specs.FlowGraph.{Arc, body_of, flow_of}
 use Rattle.leaf_cases.proofs.Graphs.{EdgeFits, act-fits}
 use Rattle.vocabularies.specs.Ends.{entry_of, entry_width, start_of}
 use Rattle.proc_summary.specs.declared.stop.Flow.{Flow}
-use Rattle.proc_summary.specs.declared.stop.Stop.{Stop}
+use Rattle.proc_summary.specs.declared.stop.NodeFormula.{NodeFormula}
 use Rattle.proc_summary.specs.Claims.{FitsFlow, FitsStop}
 use Rattle.proc_summary.specs.Subject.{own_graph}
 use Rattle.proc_summary.proofs.Graphs.{few-arcs}
@@ -91,7 +91,7 @@ module _ (program : Program) (formed : IsWellFormed program) where
       (λ way fit. calling-fits program (width_of program p) way.act formed fit) (own_graph p).arcs (arcs-fit number p is)
 
   module _ (m : Proc) (is_main : slice_get program.procs program.main ≡ Some m) (no_params : m.params ≡ 0) where
-    call-way-fits : (number : ℕ) (p : Proc) → slice_get program.procs number ≡ Some p → (calling : Calling) (stop : Stop) → IsCalling program (width_of program p) calling → FitsStop (width_of program p) stop
+    call-way-fits : (number : ℕ) (p : Proc) → slice_get program.procs number ≡ Some p → (calling : Calling) (stop : NodeFormula) → IsCalling program (width_of program p) calling → FitsStop (width_of program p) stop
         → IsWay program (call_way program.main number (widths_of program p) calling stop)
     call-way-fits number p is calling stop call fit =
         let w : Widths = widths_of program p in
@@ -111,7 +111,7 @@ module _ (program : Program) (formed : IsWellFormed program) where
           solvable = leaf-solvable w wide stop.formula fit calling.args call.args;
         }
 
-    call-ways-fit : (number : ℕ) (p : Proc) → slice_get program.procs number ≡ Some p → (callings : List Calling) (stops : List Stop) → AllByRecursion (IsCalling program (width_of program p)) callings
+    call-ways-fit : (number : ℕ) (p : Proc) → slice_get program.procs number ≡ Some p → (callings : List Calling) (stops : List NodeFormula) → AllByRecursion (IsCalling program (width_of program p)) callings
         → AllByRecursion (FitsStop (width_of program p)) stops → AreWays program (call_ways program.main number (widths_of program p) callings stops)
     call-ways-fit number p is [] stops h k = tt
     call-ways-fit number p is (calling ∷ callings) [] h k = tt
@@ -186,7 +186,7 @@ callings-few (way ∷ arcs) =
     at-most-one Continue = omega arith
     at-most-one Return = omega arith
 
-call-ways-few : (main number : ℕ) (w : Widths) (callings : List Calling) (stops : List Stop) → length (call_ways main number w callings stops) ≤ length callings
+call-ways-few : (main number : ℕ) (w : Widths) (callings : List Calling) (stops : List NodeFormula) → length (call_ways main number w callings stops) ≤ length callings
 call-ways-few main number w [] stops = omega arith
 call-ways-few main number w (calling ∷ callings) [] = omega arith
 call-ways-few main number w (calling ∷ callings) (stop ∷ stops) = let rest = call-ways-few main number w callings stops in omega (arith, rest)

@@ -8,11 +8,11 @@ use Rattle.transition_formula.specs.Meaning.{Holds}
 use Rattle.transition_formula.specs.Posts.{numbers_at}
 use Rattle.transition_formula.specs.Transition.{Transition, IsTransition}
 use Rattle.proc_summary.specs.Claims.{HoldsIf}
-use Rattle.context.specs.declared.place.Place.{Place}
+use Rattle.context.specs.declared.place.AssertionPlace.{AssertionPlace}
 
 -- the vocabularies have these columns, at most 63, and the columns that are told are among them, at
 -- most 63 too
-pub record IsPlace (place : Place) : Type 0 where
+pub record IsPlace (place : AssertionPlace) : Type 0 where
   pub entry : place.entry ≤ place.columns
   pub start_columns : place.start.columns ≡ 0
   pub full_columns : place.full.columns ≡ place.columns
@@ -53,7 +53,7 @@ HoldsFailing shown cond f g = (final : List ℤ) → Holds f [] final → IsFals
     → Holds g [] (numbers_at shown final)
 
 -- no state that begins with what the entry holds of leads to one in which the condition is false
-abbrev pub NoneFails : Place → Term → Option Transition → Option Transition → Type 0
+abbrev pub NoneFails : AssertionPlace → Term → Option Transition → Option Transition → Type 0
 NoneFails place cond entry stand =
     (begun others final : List ℤ) → HoldsIf entry [] begun
     → length (begun ++ others) ≡ place.columns →

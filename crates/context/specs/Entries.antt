@@ -14,18 +14,18 @@ use Rattle.syntax_tree.specs.Code.{Call, Statement}
 use Rattle.syntax_tree.specs.Term.{Term}
 use Rattle.syntax_tree.specs.WellFormed.{width_of}
 use Rattle.transition_formula.specs.declared.loss.Loss.{Loss}
-use Rattle.transition_formula.specs.Composition.{sequence_of, lost_in_sequence}
-use Rattle.transition_formula.specs.Hiding.{hidden, lost_in_hiding}
+use Rattle.transition_formula.specs.Composition.{sequence_of, losses_in_sequence}
+use Rattle.transition_formula.specs.Hiding.{hidden, losses_in_hiding}
 use Rattle.transition_formula.specs.Transition.{Transition}
 use Rattle.flow_graph.specs.FlowGraph.{Arc}
 use Rattle.leaf_cases.specs.Edges.{arguments_of, entering, nothing_of}
 use Rattle.vocabularies.specs.Ends.{entry_of, entry_width, start_of}
 use Rattle.posing.specs.Logs.{loss_notes}
 use Rattle.posing.specs.Posing.{Posing, Done, Noted, ◌>>=◌}
-use Rattle.checked_tree.specs.Evaluation.{evaluated}
+use Rattle.checked_tree.specs.Evaluation.{evaluated_cells}
 use Rattle.checked_tree.specs.Graph.{Graph, graph_of}
 use Rattle.proc_summary.specs.declared.stop.Flow.{Flow}
-use Rattle.proc_summary.specs.declared.stop.Stop.{Stop}
+use Rattle.proc_summary.specs.declared.stop.NodeFormula.{NodeFormula}
 use Rattle.proc_summary.specs.Flow.{formula_at}
 use Rattle.proc_summary.specs.Subject.{own_graph}
 use Rattle.context.specs.declared.stand.Widths.{Widths}
@@ -111,8 +111,8 @@ stand_of columns None = nothing_of columns
 stand_of columns (Some f) = f
 
 -- from the entry to there, with the entry's other columns as auxiliaries
-abbrev pub told_of : Widths → Option Transition → Transition
-told_of w stand = hidden w.entry (stand_of w.columns stand)
+abbrev pub stand_from_entry : Widths → Option Transition → Transition
+stand_from_entry w stand = hidden w.entry (stand_of w.columns stand)
 
 -- to the globals and the arguments
 abbrev pub handing_of : Widths → List Term → Transition
@@ -120,23 +120,23 @@ handing_of w args = entering w.columns w.globals (length args) (arguments_of arg
 
 -- the one and then the other lead to the callee's entry
 abbrev pub call_leaf : Widths → Option Transition → List Term → Transition
-call_leaf w stand args = sequence_of (told_of w stand) (handing_of w args)
+call_leaf w stand args = sequence_of (stand_from_entry w stand) (handing_of w args)
 
-abbrev pub lost_in_call : Widths → Option Transition → List Term → List Loss
-lost_in_call w stand args =
-    lost_in_hiding w.entry (stand_of w.columns stand)
-    ++ ((arguments_of args).lost ++ lost_in_sequence (told_of w stand) (handing_of w args))
+abbrev pub losses_in_call : Widths → Option Transition → List Term → List Loss
+losses_in_call w stand args =
+    losses_in_hiding w.entry (stand_of w.columns stand)
+    ++ ((arguments_of args).lost ++ losses_in_sequence (stand_from_entry w stand) (handing_of w args))
 
-abbrev pub call_way : (main number : ℕ) → Widths → Calling → Stop → Way
+abbrev pub call_way : (main number : ℕ) → Widths → Calling → NodeFormula → Way
 call_way main number w calling stop =
     record {
       link = record { from = node_of main number; to = node_of main calling.callee };
       leaf = call_leaf w stop.formula calling.args;
-      lost = lost_in_call w stop.formula calling.args;
+      lost = losses_in_call w stop.formula calling.args;
     }
 
 -- the calls of a procedure in the order of its edges, each with where it stands
-abbrev pub call_ways : (main number : ℕ) → Widths → List Calling → List Stop → List Way
+abbrev pub call_ways : (main number : ℕ) → Widths → List Calling → List NodeFormula → List Way
 call_ways main number w (calling ∷ callings) (stop ∷ stops) =
     call_way main number w calling stop ∷ call_ways main number w callings stops
 call_ways main number w _ _ = []
@@ -158,8 +158,8 @@ entry_graph program flows =
     graph_of (map (λ way. way.link) (ways_of program flows))
     (map (λ way. way.leaf) (ways_of program flows)) (nodes_of program)
 
-abbrev pub lost_on_ways : Program → List Flow → List Loss
-lost_on_ways program flows = flat_map (λ way. way.lost) (ways_of program flows)
+abbrev pub losses_on_ways : Program → List Flow → List Loss
+losses_on_ways program flows = flat_map (λ way. way.lost) (ways_of program flows)
 
 -- the entry of each procedure in the order of the text; none where no way leads to it
 abbrev pub entries_in : Program → List (Cell Transition) → List (Option Transition)
@@ -170,5 +170,5 @@ entries_in program cells =
 -- what was lost in making the leaves is noted before the first question
 unfoldable pub entries_from : Program → List Flow → Posing (List (Option Transition))
 entries_from program flows =
-    Noted (loss_notes (lost_on_ways program flows))
-    (evaluated (entry_graph program flows) 0 >>= λ cells. Done (entries_in program cells))
+    Noted (loss_notes (losses_on_ways program flows))
+    (evaluated_cells (entry_graph program flows) 0 >>= λ cells. Done (entries_in program cells))

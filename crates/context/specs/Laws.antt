@@ -7,7 +7,7 @@ use Rattle.execution.specs.Execution.{Fails}
 use Rattle.flow_graph.specs.FlowGraph.{CheckPlace}
 use Rattle.transition_formula.specs.Transition.{Transition}
 use Rattle.proc_summary.specs.declared.stop.Flow.{Flow}
-use Rattle.proc_summary.specs.declared.stop.Stop.{Stop}
+use Rattle.proc_summary.specs.declared.stop.NodeFormula.{NodeFormula}
 use Rattle.proc_summary.specs.Claims.{FitsFlow, FlowHolds}
 use Rattle.proc_summary.specs.Subject.{own_graph}
 use Rattle.context.specs.Claims.{EntryHolds}
@@ -18,7 +18,7 @@ use Rattle.context.specs.Verdicts.{place_of}
 -- condition of an assertion false, no execution of the program fails it.
 abbrev pub AssertionsHold : Type 0
 AssertionsHold =
-    (program : Program) (proc check : ℕ) (p : Proc) (at : CheckPlace) (flow : Flow) (stop : Stop)
+    (program : Program) (proc check : ℕ) (p : Proc) (at : CheckPlace) (flow : Flow) (stop : NodeFormula)
     (entry : Option Transition) →
     IsWellFormed program → slice_get program.procs proc ≡ Some p
     → slice_get (own_graph p).checks check ≡ Some at →

@@ -14,13 +14,13 @@ use Rattle.syntax_tree.specs.declared.program.Program.{Program}
 use Rattle.syntax_tree.specs.Term.{Term}
 use Rattle.syntax_tree.specs.WellFormed.{width_of}
 use Rattle.transition_formula.specs.declared.loss.Loss.{Loss}
-use Rattle.transition_formula.specs.Composition.{sequence_of, lost_in_sequence}
+use Rattle.transition_formula.specs.Composition.{sequence_of, losses_in_sequence}
 use Rattle.transition_formula.specs.Posts.{with_posts}
 use Rattle.transition_formula.specs.Rounds.{in_order}
 use Rattle.transition_formula.specs.Transition.{Transition}
 use Rattle.leaf_cases.specs.Expression.{lists_of}
 use Rattle.leaf_cases.specs.Guard.{guard_of}
-use Rattle.vocabularies.specs.Ends.{entry_width, full_of, named_from, start_of}
+use Rattle.vocabularies.specs.Ends.{entry_width, full_of, named_columns_from, start_of}
 use Rattle.posing.specs.declared.note.Note.{Note}
 use Rattle.posing.specs.declared.note.Note.TheVariants as note
 use Rattle.posing.specs.Logs.{loss_notes}
@@ -28,25 +28,25 @@ use Rattle.posing.specs.Posing.{Posing, Done, Noted, answer_to, ◌>>=◌, each}
 use Rattle.checked_tree.specs.Evaluation.{settled_and_fitted}
 use Rattle.report.specs.declared.verdict.Verdict.{Verdict}
 use Rattle.report.specs.declared.verdict.Verdict.TheVariants.{Proved, Unproved, UnprovedLimit}
-use Rattle.context.specs.declared.place.Place.{Place}
+use Rattle.context.specs.declared.place.AssertionPlace.{AssertionPlace}
 use Rattle.context.specs.Entries.{stand_of}
 
 -- ---- where it stands
 
 -- how many columns the procedure's entry and its states have, the vocabularies of the start and of
 -- its states, and the columns that are told: those that have a name in the text
-abbrev pub shown_of : Program → Proc → List ℕ
-shown_of program p =
-    range_with_len 0 (length program.globals) ++ named_from (length program.globals) p.columns
+abbrev pub shown_columns_of : Program → Proc → List ℕ
+shown_columns_of program p =
+    range_with_len 0 (length program.globals) ++ named_columns_from (length program.globals) p.columns
 
-abbrev pub place_of : Program → Proc → Place
+abbrev pub place_of : Program → Proc → AssertionPlace
 place_of program p =
     record {
       entry = entry_width program p;
       columns = width_of program p;
       start = start_of program;
       full = full_of program p;
-      shown = shown_of program p;
+      shown = shown_columns_of program p;
     }
 
 -- ---- from the start to there
@@ -66,18 +66,18 @@ extended_case more case =
     }
 
 -- the formula with as many posts as that
-abbrev pub extended : ℕ → Transition → Transition
-extended columns f =
+abbrev pub extended_formula : ℕ → Transition → Transition
+extended_formula columns f =
     record { from = f.from; to = columns; cases = map (extended_case (columns - f.to)) f.cases }
 
 -- from the start to the procedure's entry, all of whose columns have numbers
-abbrev pub begun_of : Place → Option Transition → Transition
-begun_of place entry = extended place.columns (entry_or_none place.entry entry)
+abbrev pub entry_from_start : AssertionPlace → Option Transition → Transition
+entry_from_start place entry = extended_formula place.columns (entry_or_none place.entry entry)
 
 -- and then on to where the assertion stands, settled and fitted
-unfoldable pub reached_from : Place → Transition → Transition → Posing Transition
-reached_from place begun stand =
-    Noted (loss_notes (lost_in_sequence begun stand))
+unfoldable pub reach_from : AssertionPlace → Transition → Transition → Posing Transition
+reach_from place begun stand =
+    Noted (loss_notes (losses_in_sequence begun stand))
     (settled_and_fitted (sequence_of begun stand) place.start place.full)
 
 -- ---- where the condition is false
@@ -86,12 +86,12 @@ abbrev pub falsity_of : ℕ → Term → Transition
 falsity_of columns cond = guard_of columns (lists_of cond).falsity.cases
 
 -- the formula composed with the falsity of the condition, with the posts of named columns alone
-abbrev pub failing_of : Place → Term → Transition → Transition
+abbrev pub failing_of : AssertionPlace → Term → Transition → Transition
 failing_of place cond f = with_posts place.shown (sequence_of f (falsity_of place.columns cond))
 
-abbrev pub lost_in_failing : Place → Term → Transition → List Loss
-lost_in_failing place cond f =
-    (lists_of cond).falsity.lost ++ lost_in_sequence f (falsity_of place.columns cond)
+abbrev pub losses_in_failing : AssertionPlace → Term → Transition → List Loss
+losses_in_failing place cond f =
+    (lists_of cond).falsity.lost ++ losses_in_sequence f (falsity_of place.columns cond)
 
 -- ---- one case
 
@@ -153,19 +153,19 @@ limits_of verdicts =
     drop (if list_any is_refuted verdicts then 0 else 1) (filter_map limit_of verdicts)
 
 -- all cases are asked about, whatever is found of the first ones; limits are noted last
-unfoldable pub judged_from : List Case → Posing Verdict
-judged_from cases =
+unfoldable pub verdict_on_cases_from : List Case → Posing Verdict
+verdict_on_cases_from cases =
     each with_verdict [] cases >>= λ verdicts. Noted (limits_of verdicts)
     (Done (verdict_from verdicts))
 
 -- ---- the assertion
 
-unfoldable pub failed_from : Place → Term → Transition → Posing Verdict
-failed_from place cond f =
-    Noted (loss_notes (lost_in_failing place cond f)) (judged_from (failing_of place cond f).cases)
+unfoldable pub failure_verdict_from : AssertionPlace → Term → Transition → Posing Verdict
+failure_verdict_from place cond f =
+    Noted (loss_notes (losses_in_failing place cond f)) (verdict_on_cases_from (failing_of place cond f).cases)
 
 -- by its condition, the entry of its procedure, and the formula of where it stands
-unfoldable pub verdict_of : Place → Term → Option Transition → Option Transition → Posing Verdict
+unfoldable pub verdict_of : AssertionPlace → Term → Option Transition → Option Transition → Posing Verdict
 verdict_of place cond entry stand =
-    reached_from place (begun_of place entry) (stand_of place.columns stand)
-    >>= failed_from place cond
+    reach_from place (entry_from_start place entry) (stand_of place.columns stand)
+    >>= failure_verdict_from place cond

@@ -12,18 +12,18 @@ ghost use Rattle.transition_formula.specs.Transition.{AreSolvable};
 ghost use Rattle.posing.specs.Follows.{Follows};
 ghost use Rattle.posing.specs.Logs.{Adds, loss_notes};
 ghost use Rattle.vocabularies.specs.Ends.{entry_width};
-ghost use Rattle.proc_summary.specs.declared.stop.Stop.{Stop};
+ghost use Rattle.proc_summary.specs.declared.stop.NodeFormula.{NodeFormula};
 ghost use Rattle.proc_summary.specs.Claims.{FitsFlow, FitsIf, FlowHolds, IsBetweenStates};
 ghost use Rattle.proc_summary.specs.Subject.{own_graph};
 ghost use Rattle.report.specs.declared.verdict.Verdict.TheVariants.{Proved};
 ghost use Rattle.report.specs.Claims.{IsRefuted};
 ghost use Rattle.context.specs.Claims.{EntryHolds, FitsVerdict, IsEntryIf};
 ghost use Rattle.context.specs.Ends.{HasFew, HoldsAfter, HoldsBegun, HoldsFailing, IsCondition, IsFromStart, IsPlace, NoneFails, NoneFailsAt};
-ghost use Rattle.context.specs.Verdicts.{begun_of, extended, extended_case, failed_from, failing_of, lost_in_failing, place_of, reached_from, shown_of, verdict_of};
+ghost use Rattle.context.specs.Verdicts.{entry_from_start, extended_formula, extended_case, failure_verdict_from, failing_of, losses_in_failing, place_of, reach_from, shown_columns_of, verdict_of};
 
 use crate::graphs::graph_of;
-use crate::judging::judged;
-use crate::place::{Place, place_of};
+use crate::judging::verdict_on_cases;
+use crate::place::{AssertionPlace, place_of};
 use crate::stand::stand_of;
 use farkas_check::Oracle;
 use flow_graph::Graph;
@@ -65,7 +65,7 @@ pub fn verdict<O: Oracle>(
         → FitsFlow program.now p flow.now }
     requires entry { (p : Procedure) → slice_get program.now.procs proc ≡ Some p
         → IsEntryIf (entry_width program.now p) entry.now }
-    ensures follows { (p : Procedure) (at : CheckPlace) (stop : Stop)
+    ensures follows { (p : Procedure) (at : CheckPlace) (stop : NodeFormula)
         → slice_get program.now.procs proc ≡ Some p → slice_get (own_graph p).checks check ≡ Some at
         → slice_get flow.now.checks check ≡ Some stop
         → Follows O.asking oracle.old oracle.new log.old log.new result
@@ -76,7 +76,7 @@ pub fn verdict<O: Oracle>(
         → ⊥ }
     ensures refuted { IfOk result IsRefuted }
     ensures fits { (p : Procedure) → slice_get program.now.procs proc ≡ Some p
-        → IfOk result (FitsVerdict (length (shown_of program.now p))) }
+        → IfOk result (FitsVerdict (length (shown_columns_of program.now p))) }
 {
     let graph = graph_of(alloc, program, proc)?;
     graph_verdict(
@@ -108,7 +108,7 @@ pub fn graph_verdict<O: Oracle>(
         → FitsFlow program.now p flow.now }
     requires entry { (p : Procedure) → slice_get program.now.procs proc ≡ Some p
         → IsEntryIf (entry_width program.now p) entry.now }
-    ensures follows { (p : Procedure) (at : CheckPlace) (stop : Stop)
+    ensures follows { (p : Procedure) (at : CheckPlace) (stop : NodeFormula)
         → slice_get program.now.procs proc ≡ Some p → slice_get (own_graph p).checks check ≡ Some at
         → slice_get flow.now.checks check ≡ Some stop
         → Follows O.asking oracle.old oracle.new log.old log.new result
@@ -119,7 +119,7 @@ pub fn graph_verdict<O: Oracle>(
         → ⊥ }
     ensures refuted { IfOk result IsRefuted }
     ensures fits { (p : Procedure) → slice_get program.now.procs proc ≡ Some p
-        → IfOk result (FitsVerdict (length (shown_of program.now p))) }
+        → IfOk result (FitsVerdict (length (shown_columns_of program.now p))) }
 {
     let stand = &flow.checks.as_slice()[check as usize].formula;
     let cond = &graph.checks.as_slice()[check as usize].cond;
@@ -131,7 +131,7 @@ pub fn graph_verdict<O: Oracle>(
 #[tactic(auto, using(posing::proofs::Following::following), unfolding(crate::specs::Verdicts::verdict_of))]
 fn verdict_at<O: Oracle>(
     alloc: Global,
-    place: &Place,
+    place: &AssertionPlace,
     cond: &Core,
     entry: &Option<Formula>,
     stand: &Option<Formula>,
@@ -149,24 +149,28 @@ fn verdict_at<O: Oracle>(
     ensures refuted { IfOk result IsRefuted }
     ensures fits { IfOk result (FitsVerdict (length place.now.shown)) }
 {
-    let begun = begun_of(alloc, place, entry)?;
+    let begun = entry_from_start(alloc, place, entry)?;
     let stand = stand_of(alloc, place.columns, stand)?;
-    let f = reached(alloc, place, &begun, &stand, oracle, log)?;
-    failed(alloc, place, cond, &f, oracle, log)
+    let f = reach_formula(alloc, place, &begun, &stand, oracle, log)?;
+    failure_verdict(alloc, place, cond, &f, oracle, log)
 }
 
 /// From the start to the procedure's entry, with any numbers in the other columns.
-fn begun_of(alloc: Global, place: &Place, entry: &Option<Formula>) -> Result<Formula, FormulaError>
+fn entry_from_start(
+    alloc: Global,
+    place: &AssertionPlace,
+    entry: &Option<Formula>,
+) -> Result<Formula, FormulaError>
     requires place { IsPlace place.now }
     requires entry { IsEntryIf place.now.entry entry.now }
-    ensures exact { IfOk result (λ f. f ≡ begun_of place.now entry.now) }
+    ensures exact { IfOk result (λ f. f ≡ entry_from_start place.now entry.now) }
     ensures fits { IfOk result (IsFromStart place.now.columns) }
     ensures few { IfOk result (HasFew 127) }
     ensures holds { IfOk result (HoldsBegun place.now.columns entry.now) }
 {
     match entry {
         Some(f) => {
-            let made = extended(alloc, place.columns, f)?;
+            let made = extended_formula(alloc, place.columns, f)?;
             Ok(made)
         }
         None => Ok(Formula::from_cases(0, place.columns, Items::new(alloc))),
@@ -174,11 +178,11 @@ fn begun_of(alloc: Global, place: &Place, entry: &Option<Formula>) -> Result<For
 }
 
 /// The formula with as many posts as that, of which the further ones may be any numbers.
-fn extended(alloc: Global, columns: u32, f: &Formula) -> Result<Formula, FormulaError>
+fn extended_formula(alloc: Global, columns: u32, f: &Formula) -> Result<Formula, FormulaError>
     requires more { f.now.to ≤ columns }
     requires few { HasFew 64 f.now }
     requires narrow { columns ≤ 63 }
-    ensures { IfOk result (λ g. g ≡ extended columns f.now) }
+    ensures { IfOk result (λ g. g ≡ extended_formula columns f.now) }
 {
     let more = columns - f.to();
     let cases = extended_cases(alloc, more, f.cases())?;
@@ -235,10 +239,10 @@ fn auxiliary(alloc: Global, number: u32) -> Result<Poly, FormulaError>
 }
 
 /// One formula and then the other, settled and fitted; losses are noted before the first question.
-#[tactic(auto, using(posing::proofs::Following::following), unfolding(crate::specs::Verdicts::reached_from, checked_tree::specs::Evaluation::settled_and_fitted))]
-fn reached<O: Oracle>(
+#[tactic(auto, using(posing::proofs::Following::following), unfolding(crate::specs::Verdicts::reach_from, checked_tree::specs::Evaluation::settled_and_fitted))]
+fn reach_formula<O: Oracle>(
     alloc: Global,
-    place: &Place,
+    place: &AssertionPlace,
     begun: &Formula,
     stand: &Formula,
     oracle: &mut O,
@@ -249,7 +253,7 @@ fn reached<O: Oracle>(
     requires few { HasFew 127 begun.now }
     requires stand { IsBetweenStates place.now.columns stand.now }
     ensures follows { Follows O.asking oracle.old oracle.new log.old log.new result
-        (reached_from place.now begun.now stand.now) }
+        (reach_from place.now begun.now stand.now) }
     ensures fits { IfOk result (IsFromStart place.now.columns) }
     ensures few { IfOk result (HasFew 64) }
     ensures holds { IfOk result (HoldsAfter begun.now stand.now) }
@@ -262,10 +266,10 @@ fn reached<O: Oracle>(
 }
 
 /// The verdict on the cases in which the condition is false.
-#[tactic(auto, using(posing::proofs::Following::following), unfolding(crate::specs::Verdicts::failed_from))]
-fn failed<O: Oracle>(
+#[tactic(auto, using(posing::proofs::Following::following), unfolding(crate::specs::Verdicts::failure_verdict_from))]
+fn failure_verdict<O: Oracle>(
     alloc: Global,
-    place: &Place,
+    place: &AssertionPlace,
     cond: &Core,
     f: &Formula,
     oracle: &mut O,
@@ -276,20 +280,20 @@ fn failed<O: Oracle>(
     requires formula { IsFromStart place.now.columns f.now }
     requires few { HasFew 64 f.now }
     ensures follows { Follows O.asking oracle.old oracle.new log.old log.new result
-        (failed_from place.now (term_of cond.now) f.now) }
+        (failure_verdict_from place.now (term_of cond.now) f.now) }
     ensures sound { result ≡ Ok Proved → NoneFailsAt (term_of cond.now) f.now }
     ensures refuted { IfOk result IsRefuted }
     ensures fits { IfOk result (FitsVerdict (length place.now.shown)) }
 {
     let failing = failing(alloc, place, cond, f, log)?;
-    judged(alloc, failing.cases(), oracle, log)
+    verdict_on_cases(alloc, failing.cases(), oracle, log)
 }
 
 /// The formula where the condition is false, with the posts of the columns that are told; what is
 /// lost is noted.
 fn failing(
     alloc: Global,
-    place: &Place,
+    place: &AssertionPlace,
     cond: &Core,
     f: &Formula,
     log: &mut Log,
@@ -298,7 +302,7 @@ fn failing(
     requires cond { IsCondition place.now.columns (term_of cond.now) }
     requires formula { IsFromStart place.now.columns f.now }
     requires few { HasFew 64 f.now }
-    ensures noted { Adds (loss_notes (lost_in_failing place.now (term_of cond.now) f.now)) log.old
+    ensures noted { Adds (loss_notes (losses_in_failing place.now (term_of cond.now) f.now)) log.old
         log.new result }
     ensures exact { IfOk result (λ g. g ≡ failing_of place.now (term_of cond.now) f.now) }
     ensures solvable { IfOk result (λ g. AreSolvable g.cases) }

@@ -14,7 +14,7 @@ use crate::graphs::graph_of;
 use crate::stand::{Widths, call_leaf, widths_of};
 use flow_graph::{Act, Edge};
 use path_expr::Link;
-use proc_summary::{Flow, Stop};
+use proc_summary::{Flow, NodeFormula};
 use std::alloc::Global;
 use syntax_tree::{Core, Program};
 use transition_formula::FormulaError;
@@ -62,7 +62,7 @@ impl Caller {
         self,
         alloc: Global,
         edges: &[Edge],
-        stops: &[Stop],
+        stops: &[NodeFormula],
         made: Edges,
     ) -> Result<Edges, FormulaError>
         requires caller { IsCaller self }
@@ -90,7 +90,7 @@ impl Caller {
         self,
         alloc: Global,
         edge: &Edge,
-        stops: &[Stop],
+        stops: &[NodeFormula],
         place: usize,
         made: Edges,
     ) -> Result<(Edges, usize), FormulaError>
@@ -123,7 +123,7 @@ impl Caller {
         alloc: Global,
         callee: u32,
         args: &[Core],
-        stop: &Stop,
+        stop: &NodeFormula,
         made: Edges,
     ) -> Result<Edges, FormulaError>
         requires caller { IsCaller self }

@@ -6,7 +6,7 @@ ghost use Rattle.transition_formula.specs.Transition.{IsSolvable, AreSolvable};
 ghost use Rattle.posing.specs.Follows.{Follows};
 ghost use Rattle.posing.specs.Posing.{each};
 ghost use Rattle.posing.specs.Logs.{Adds, loss_notes};
-ghost use Rattle.context.specs.Verdicts.{case_verdict, is_refuted, judged_from, limit_of, limits_of, verdict_at, verdict_by, verdict_from, with_verdict};
+ghost use Rattle.context.specs.Verdicts.{case_verdict, is_refuted, verdict_on_cases_from, limit_of, limits_of, verdict_at, verdict_by, verdict_from, with_verdict};
 ghost use Rattle.context.specs.Judging.{AddsVerdict, AreVerdictsOn, IsAnswered, IsLeftOf, IsVerdictOn, IsVerdictOnAll, stronger};
 
 use farkas_check::{Answer, Oracle, Question};
@@ -26,8 +26,8 @@ use transition_formula::{FormulaError, Solved, solve};
 /// # Errors
 ///
 /// What putting a case in order, a question or its answer comes to, or want of memory.
-#[tactic(auto, using(posing::proofs::Following::following), unfolding(crate::specs::Verdicts::judged_from))]
-pub fn judged<O: Oracle>(
+#[tactic(auto, using(posing::proofs::Following::following), unfolding(crate::specs::Verdicts::verdict_on_cases_from))]
+pub fn verdict_on_cases<O: Oracle>(
     alloc: Global,
     cases: &[Case],
     oracle: &mut O,
@@ -35,7 +35,7 @@ pub fn judged<O: Oracle>(
 ) -> Result<Verdict, WorkError>
     requires { AreSolvable cases.now }
     ensures follows { Follows O.asking oracle.old oracle.new log.old log.new result
-        (judged_from cases.now) }
+        (verdict_on_cases_from cases.now) }
     ensures known { IfOk result (IsVerdictOnAll cases.now) }
 {
     let verdicts = verdicts_on(alloc, cases, oracle, log)?;

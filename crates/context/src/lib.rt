@@ -16,5 +16,5 @@ mod stand;
 pub use assertion::{graph_verdict, verdict};
 pub use entry_formulas::entries;
 pub use graphs::graph_of;
-pub use judging::judged;
+pub use judging::verdict_on_cases;
 pub use laws::law_of_assertions;

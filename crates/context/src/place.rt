@@ -3,7 +3,7 @@ ghost use Rattle.syntax_tree.specs.WellFormed.{IsWellFormed};
 ghost use Rattle.syntax_tree.specs.declared.program.Proc.{Proc as Procedure};
 ghost use Rattle.vocabularies.specs.Ends.{entry_width};
 ghost use Rattle.context.specs.Ends.{IsPlace};
-ghost use Rattle.context.specs.Verdicts.{place_of, shown_of};
+ghost use Rattle.context.specs.Verdicts.{place_of, shown_columns_of};
 
 use items::Items;
 use polyhedra::Vocabulary;
@@ -14,7 +14,7 @@ use vocabularies::{full, start};
 /// Where an assertion stands: how many columns its procedure's entry and its states have, the
 /// vocabularies of the program's start and of these states, and the columns that are told.
 #[derive(Debug, Drop)]
-pub(crate) struct Place {
+pub(crate) struct AssertionPlace {
     pub(crate) entry: u32,
     pub(crate) columns: u32,
     pub(crate) start: Vocabulary,
@@ -22,7 +22,11 @@ pub(crate) struct Place {
     pub(crate) shown: Items<u32>,
 }
 
-pub(crate) fn place_of(alloc: Global, program: &Program, proc: u32) -> Result<Place, AllocError>
+pub(crate) fn place_of(
+    alloc: Global,
+    program: &Program,
+    proc: u32,
+) -> Result<AssertionPlace, AllocError>
     requires formed { IsWellFormed program.now }
     requires procedure { proc < length program.now.procs }
     ensures exact { (p : Procedure) → slice_get program.now.procs proc ≡ Some p
@@ -31,11 +35,11 @@ pub(crate) fn place_of(alloc: Global, program: &Program, proc: u32) -> Result<Pl
 {
     let start = start(alloc, program)?;
     let full = full(alloc, program, proc)?;
-    let shown = shown_in(alloc, &full)?;
+    let shown = shown_columns(alloc, &full)?;
     let _ = start.columns();
     let columns = full.columns();
     let entry = entry_width(program, proc);
-    Ok(Place {
+    Ok(AssertionPlace {
         entry,
         columns,
         start,
@@ -45,11 +49,11 @@ pub(crate) fn place_of(alloc: Global, program: &Program, proc: u32) -> Result<Pl
 }
 
 /// All named columns but the returned value, which is the last.
-fn shown_in(alloc: Global, full: &Vocabulary) -> Result<Items<u32>, AllocError>
+fn shown_columns(alloc: Global, full: &Vocabulary) -> Result<Items<u32>, AllocError>
     requires { 0 < length full.now.named }
     ensures { IfOk result (λ shown. shown ≡ take (length full.now.named - 1) full.now.named) }
 {
-    let named = full.named();
+    let named = full.named_columns();
     Items::from_slice(alloc, &named[..named.len() - 1])
 }
 

@@ -3,7 +3,7 @@ ghost use Rattle.syntax_tree.specs.Term.{term_of};
 ghost use Rattle.syntax_tree.specs.WellFormed.{IsWellFormed};
 ghost use Rattle.syntax_tree.specs.declared.program.Proc.{Proc as Procedure};
 ghost use Rattle.proc_summary.specs.Claims.{FitsIf, IsBetweenStates};
-ghost use Rattle.context.specs.Entries.{call_leaf, lost_in_call, stand_of, widths_of};
+ghost use Rattle.context.specs.Entries.{call_leaf, losses_in_call, stand_of, widths_of};
 ghost use Rattle.context.specs.Made.{AreArguments, AreWidths};
 
 use items::Items;
@@ -68,7 +68,7 @@ pub(crate) fn call_leaf(
     requires arguments { AreArguments widths.columns (map term_of args.now) }
     ensures exact { IfOk result (λ f. f ≡ call_leaf widths stand.now (map term_of args.now)) }
     ensures noted { OnOk result
-        (losses.new ≡ losses.old ++ lost_in_call widths stand.now (map term_of args.now)) }
+        (losses.new ≡ losses.old ++ losses_in_call widths stand.now (map term_of args.now)) }
 {
     let stand = stand_of(alloc, widths.columns, stand)?;
     let told = hidden(alloc, &stand, widths.entry, losses)?;

@@ -35,7 +35,7 @@ use Rattle.cost_bounds.specs.declared.cost.Cost.TheVariants as cost
 use Rattle.cost_bounds.specs.declared.kept.Kept.{Kept}
 use Rattle.cost_bounds.specs.Changes.{post_at, change_of, is_over_entry}
 use Rattle.cost_bounds.specs.Questions.{cost_rows, entry_rows, first_question}
-use Rattle.cost_bounds.specs.Small.{yes_of, kept_of, left_by, yes_to, trial, is_of, row_trial, without_row, without_rows, entry_trial, without_entry, without_entries, least_kept}
+use Rattle.cost_bounds.specs.Small.{yes_of, kept_part, fewer_rows, yes_to, trial, is_of, row_trial, without_row, without_rows, entry_trial, without_entry, without_entries, least_kept}
 use Rattle.farkas_check.specs.Multiples.{lowest_multipliers}
 use Rattle.cost_bounds.specs.Costs.{scale_in, bound_of, limit_of, bound_by, kept_bound, by_answer, cost_asked, cost_by_last, cost_of_change, cost_by, case_cost}
 use Rattle.cost_bounds.specs.Says.{change_between, entry_value, IsMet, IsMetByCase, IsWide, IsAsked, IsExact, IsBound, IsUnbounded, IsLimited, unanswered, change_wide, question_wide, bound_wide, Says}
@@ -79,7 +79,7 @@ module _ (allows : Question → Answer → Type 0) (case : Case) (number : ℕ) 
   unfolding trial yes_to ◌>>=◌
   trial-keeps last kept rows entries known weaker entries_too = λ a good. go a good
     where
-      go : (a : Answer) → IsGood allows (Infeasible (cost_rows rows entries last)) a → IsKept last (left_by kept rows entries (yes_of a))
+      go : (a : Answer) → IsGood allows (Infeasible (cost_rows rows entries last)) a → IsKept last (fewer_rows kept rows entries (yes_of a))
       go (answer.Yes by) good = record { passes = good.passes; weaker = weaker; entries_too = entries_too }
       go (answer.No point) good = known
       go (answer.Bound at certs place point) good = known
@@ -222,8 +222,8 @@ module _ (allows : Question → Answer → Type 0) (case : Case) (number : ℕ) 
       where
         go : (a : Answer) → IsGood allows (first_question case.rows change last) a → AlwaysUnder (IsGood allows) IsSound (by_answer change.rest last case.rows (entry_rows case.rows change) a)
         go (answer.Yes by) good =
-            under-bind (IsGood allows) (IsKept last) IsSound (least_kept last (kept_of case.rows (entry_rows case.rows change) by)) (λ kept. Done (kept_bound change.rest last kept))
-            (least_kept-keeps last (kept_of case.rows (entry_rows case.rows change) by) (record { passes = good.passes; weaker = λ at h. h; entries_too = entry_rows-are case.rows change }))
+            under-bind (IsGood allows) (IsKept last) IsSound (least_kept last (kept_part case.rows (entry_rows case.rows change) by)) (λ kept. Done (kept_bound change.rest last kept))
+            (least_kept-keeps last (kept_part case.rows (entry_rows case.rows change) by) (record { passes = good.passes; weaker = λ at h. h; entries_too = entry_rows-are case.rows change }))
             (λ kept known. bound-sound by good kept known)
         go (answer.No point) good = unbounded-sound point good
         go (answer.Limit l) good = limit-sound l (unanswered change last l asked good)

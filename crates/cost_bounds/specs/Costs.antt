@@ -21,7 +21,7 @@ use Rattle.farkas_check.specs.Multiples.{lowest_multipliers}
 use Rattle.cost_bounds.specs.declared.kept.Kept.{Kept}
 use Rattle.cost_bounds.specs.Changes.{change_of, is_over_entry}
 use Rattle.cost_bounds.specs.Questions.{cost_rows, entry_rows, first_question}
-use Rattle.cost_bounds.specs.Small.{kept_of, least_kept}
+use Rattle.cost_bounds.specs.Small.{kept_part, least_kept}
 
 -- ---- multipliers
 
@@ -83,7 +83,7 @@ kept_bound rest last kept = bound_by kept.rows kept.entries last (lowest_multipl
 
 -- by the answer to the first question; no other kind of answer passes its test
 abbrev pub by_answer : ℤ → Row → List Row → List Row → Answer → Posing Cost
-by_answer rest last rows entries (answer.Yes by) = least_kept last (kept_of rows entries by)
+by_answer rest last rows entries (answer.Yes by) = least_kept last (kept_part rows entries by)
     >>= λ kept. Done (kept_bound rest last kept)
 by_answer rest last rows entries (answer.No point) = Done (cost.Unbounded point)
 by_answer rest last rows entries (answer.Limit l) = Done (cost.Limit l)

@@ -23,13 +23,13 @@ yes_of (answer.Unbounded case point ray) = None
 yes_of (answer.Basis relations spots free) = None
 yes_of (answer.Limit limit) = None
 
-abbrev pub kept_of : List Row → List Row → List ℤ → Kept
-kept_of rows entries by = record { rows = rows; entries = entries; by = by }
+abbrev pub kept_part : List Row → List Row → List ℤ → Kept
+kept_part rows entries by = record { rows = rows; entries = entries; by = by }
 
 -- fewer rows, where the question of these was answered yes
-abbrev pub left_by : Kept → List Row → List Row → Option (List ℤ) → Kept
-left_by kept rows entries None = kept
-left_by kept rows entries (Some by) = kept_of rows entries by
+abbrev pub fewer_rows : Kept → List Row → List Row → Option (List ℤ) → Kept
+fewer_rows kept rows entries None = kept
+fewer_rows kept rows entries (Some by) = kept_part rows entries by
 
 unfoldable pub yes_to : Question → Posing (Option (List ℤ))
 yes_to question = answer_to question >>= λ answer. Done (yes_of answer)
@@ -37,7 +37,7 @@ yes_to question = answer_to question >>= λ answer. Done (yes_of answer)
 -- fewer rows are tried
 unfoldable pub trial : Row → Kept → List Row → List Row → Posing Kept
 trial last kept rows entries = yes_to (Infeasible (cost_rows rows entries last))
-    >>= λ by. Done (left_by kept rows entries by)
+    >>= λ by. Done (fewer_rows kept rows entries by)
 
 abbrev pub is_of : Kind → Kind → Bool
 is_of AtMost AtMost = true

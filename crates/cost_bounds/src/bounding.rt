@@ -12,7 +12,7 @@ ghost use Rattle.posing.specs.Posing.{answer_to};
 ghost use Rattle.cost_bounds.specs.Changes.{change_of};
 ghost use Rattle.cost_bounds.specs.Questions.{cost_rows};
 ghost use Rattle.cost_bounds.specs.Costs.{bound_by, kept_bound, by_answer, cost_asked, cost_by, cost_by_last, cost_of_change, case_cost};
-ghost use Rattle.cost_bounds.specs.Small.{kept_of};
+ghost use Rattle.cost_bounds.specs.Small.{kept_part};
 ghost use Rattle.cost_bounds.specs.Says.{IsMetByCase, Says};
 
 use crate::Cost;
@@ -226,13 +226,13 @@ fn cost_by_yes<O: Oracle>(
     ensures { Follows O.asking oracle.old oracle.new log.old log.new result
         (by_answer change.now.rest last rows.now entries (Yes by)) }
 {
-    let kept = kept_of(rows, entries, by)?;
+    let kept = kept_part(rows, entries, by)?;
     let least = least_kept(alloc, kept, &last, oracle, log)?;
     Ok(kept_bound(alloc, change, last, least)?)
 }
 
-fn kept_of(rows: &Items<Row>, entries: Items<Row>, by: Items<i128>) -> Result<Kept, AllocError>
-    ensures { IfOk result (λ kept. kept ≡ kept_of rows.now entries by) }
+fn kept_part(rows: &Items<Row>, entries: Items<Row>, by: Items<i128>) -> Result<Kept, AllocError>
+    ensures { IfOk result (λ kept. kept ≡ kept_part rows.now entries by) }
 {
     let rows = copy_of(rows)?;
     Ok(Kept { rows, entries, by })

@@ -3,7 +3,7 @@ ghost use Rattle.std.specs.List.{remove};
 ghost use Rattle.farkas_check.specs.declared.question.Question.TheVariants.{Infeasible};
 ghost use Rattle.posing.specs.Follows.{Follows};
 ghost use Rattle.cost_bounds.specs.Questions.{cost_rows};
-ghost use Rattle.cost_bounds.specs.Small.{yes_to, is_of, left_by, least_kept, trial, without_entries, without_entry, without_row, without_rows, yes_of};
+ghost use Rattle.cost_bounds.specs.Small.{yes_to, is_of, fewer_rows, least_kept, trial, without_entries, without_entry, without_row, without_rows, yes_of};
 
 use crate::kept::Kept;
 use crate::questions::{bares_of, copy_of, question_of};
@@ -120,7 +120,7 @@ fn question_without_row(
 
 fn less_row(kept: Kept, place: usize, by: Option<Items<i128>>) -> Kept
     requires { place < length kept.rows }
-    ensures { result ≡ left_by kept (remove kept.rows place) kept.entries by }
+    ensures { result ≡ fewer_rows kept (remove kept.rows place) kept.entries by }
 {
     match by {
         None => kept,
@@ -206,7 +206,7 @@ fn question_without_entry(
 
 fn less_entry(kept: Kept, place: usize, by: Option<Items<i128>>) -> Kept
     requires { place < length kept.entries }
-    ensures { result ≡ left_by kept kept.rows (remove kept.entries place) by }
+    ensures { result ≡ fewer_rows kept kept.rows (remove kept.entries place) by }
 {
     match by {
         None => kept,

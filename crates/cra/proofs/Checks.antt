@@ -18,7 +18,7 @@ use Rattle.summary_cache.specs.Accepted.{IsRefusedBy}
 use Rattle.summary_cache.specs.First.{IsUnanswered}
 use Rattle.summary_cache.specs.Stated.{IsAnalysedBy, analysis_of}
 use Rattle.cra.specs.declared.reply.Reply.{Reply}
-use Rattle.cra.specs.Check.{IsCheckUnder, failed, finished_reply}
+use Rattle.cra.specs.Check.{IsCheckUnder, failed_reply, finished_reply}
 use Rattle.cra.specs.Within.{refused_reply}
 
 -- how a replay says of itself what it answers
@@ -56,7 +56,7 @@ module _ (rule : ℕ) (text : List ℕ) (old new : Replayed) (told : List ℕ) (
 
   -- it came to a question whose answer is missing or does not pass
   pub shown-stuck : (all left : ℕ) → IsUnanswered asking rule old new text → all ≡ length old.left → left ≡ length new.left
-      → reply ≡ failed (codes "answer ") (all - left + 1) [] → IsCheckUnder rule text old.left told reply
+      → reply ≡ failed_reply (codes "answer ") (all - left + 1) [] → IsCheckUnder rule text old.left told reply
   shown-stuck all left u counted_all counted is =
       let at = u.declined in
       let analysis = analysis_of rule text u.program u.plan in
@@ -73,7 +73,7 @@ module _ (rule : ℕ) (text : List ℕ) (old new : Replayed) (told : List ℕ) (
           };
           met = tt;
         },
-        is ∙ ap (λ n. failed (codes "answer ") (n - left + 1) []) counted_all ∙ ap (λ n. failed (codes "answer ") (length old.left - n + 1) []) counted,
+        is ∙ ap (λ n. failed_reply (codes "answer ") (n - left + 1) []) counted_all ∙ ap (λ n. failed_reply (codes "answer ") (length old.left - n + 1) []) counted,
       )
 
   pub shown-refused : (refusal : Refusal) → IsRefusedBy text refusal → reply ≡ refused_reply text refusal → IsCheckUnder rule text old.left told reply

@@ -25,7 +25,7 @@ use Rattle.cra.specs.declared.reply.Reply.{Reply}
 use Rattle.cra.specs.declared.status.Status.{Status}
 use Rattle.cra.specs.declared.status.Status.TheVariants.{Certified, CheckFailed, CheckPassed, TooLong}
 use Rattle.cra.specs.Certify.{IsCertified, TellsFile, file_text, output_too_long}
-use Rattle.cra.specs.Check.{IsCheckOf, IsReplyToCheck, IsShown, IsToCheck, IsToCheckCertified, answers_in, answers_of, compared_reply, failed, passed, posed_reply, rule_of}
+use Rattle.cra.specs.Check.{IsCheckOf, IsReplyToCheck, IsShown, IsToCheck, IsToCheckCertified, answers_in, answers_of, compared_reply, failed_reply, passed_reply, posed_reply, rule_of}
 use Rattle.cra.specs.Renew.{IsRenewed, IsRenewedBy, IsReplyToRenew, IsToRenew, IsToRenewCertified}
 use Rattle.cra.specs.Replies.{IsReply, IsReplyToRead, IsReplyToWork}
 use Rattle.cra.specs.Within.{OrRefused, OrWrong}
@@ -36,7 +36,7 @@ use Rattle.cra.proofs.Complete.{certified-text, whole-input}
 
 -- ---- a file whose text is accepted
 
-compared-or-not : (same : Bool) (other : Reply) → other.status ≡ CheckFailed → (Reply.status (if same then passed else other) ≡ CheckPassed) ⊎ (Reply.status (if same then passed else other) ≡ CheckFailed)
+compared-or-not : (same : Bool) (other : Reply) → other.status ≡ CheckFailed → (Reply.status (if same then passed_reply else other) ≡ CheckPassed) ⊎ (Reply.status (if same then passed_reply else other) ≡ CheckFailed)
 compared-or-not true other is = inl refl
 compared-or-not false other is = inr is
 
@@ -113,12 +113,12 @@ shown-report text answers report posed a shown =
     sym p.comes ∙ ap (λ q. run (analysis_of 2 text q p.plan) answers) program ∙ ap (λ plan. run (analysis_of 2 text a.program plan) answers) plan
     ∙ ap (run (analysis_of 2 text a.program a.plan)) (sym (append-nil answers)) ∙ ends IsFound 2 text answers [] report a
 
-same-report : (told made : List ℕ) → told ≡ made → compared_reply made told ≡ passed
+same-report : (told made : List ℕ) → told ≡ made → compared_reply made told ≡ passed_reply
 same-report told made e =
     let same = (bytes_eq-Decides made made).1 refl in
-    subst (λ told. compared_reply made told ≡ passed) (sym e) (ap (λ same. if same then passed else failed (codes "report differs at byte ") (common_prefix_len nat_eq made made) []) same)
+    subst (λ told. compared_reply made told ≡ passed_reply) (sym e) (ap (λ same. if same then passed_reply else failed_reply (codes "report differs at byte ") (common_prefix_len nat_eq made made) []) same)
 
-file-passes : (text : List ℕ) (file : Certificate) (reply : Reply) → IsCertified text file → IsCheckOf file reply → reply ≡ passed
+file-passes : (text : List ℕ) (file : Certificate) (reply : Reply) → IsCertified text file → IsCheckOf file reply → reply ≡ passed_reply
 file-passes text file reply c (inl (posed, is, e)) =
     let f = c.is_file in
     let answers : answers_of file ≡ c.answers = ap (λ version. answers_in version file.answers file.order) f.version ∙ f.shared.answers_are in
@@ -130,7 +130,7 @@ file-passes text file reply c (inr (refusal, is, e)) =
     absurd (not-refused text c.analysed.program refusal c.analysed.planned.accepted (subst (λ text. IsRefusedBy text refusal) c.is_file.text_is is))
 
 printed-passes : NewlineIsReadOver → (text : List ℕ) (file : Certificate) (reply : Reply) → IsCertified text file → nat_lt (length (file_text file)) most_file ≡ true
-    → IsReplyToCheck (file_text file ++ codes "\n") reply → reply ≡ passed
+    → IsReplyToCheck (file_text file ++ codes "\n") reply → reply ≡ passed_reply
 printed-passes over text file reply c fits (inl (long, is)) =
     let below = ltb-true (length (file_text file)) most_file fits in
     let more = length-append (file_text file) (codes "\n") in
@@ -144,7 +144,7 @@ told-file : (within : Bool) (file : List ℕ) (printed : Reply) → printed ≡ 
 told-file true file printed e is = (refl, ap (λ (r : Reply). r.text) e)
 told-file false file printed e is = let other = sym is ∙ ap (λ (r : Reply). r.status) e in cc
 
-output-passes : NewlineIsReadOver → (text : List ℕ) (printed reply : Reply) → OrRefused text (TellsFile text) printed → printed.status ≡ Certified → IsReplyToCheck printed.text reply → reply ≡ passed
+output-passes : NewlineIsReadOver → (text : List ℕ) (printed reply : Reply) → OrRefused text (TellsFile text) printed → printed.status ≡ Certified → IsReplyToCheck printed.text reply → reply ≡ passed_reply
 output-passes over text printed reply (inl (file, c, e)) is answer =
     let told = told-file (nat_lt (length (file_text file)) most_file) (file_text file) printed e is in
     printed-passes over text file reply c told.0 (subst (λ bytes. IsReplyToCheck bytes reply) told.1 answer)

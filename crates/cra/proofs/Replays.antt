@@ -3,20 +3,20 @@
 use Rattle.std.proofs.Common.{◌≡◌, ◌≤◌, ℕ, ℤ, Bool, true, false, List, length, Option, Some, Result, Ok, Err, codes, refl, subst, ap, ◌∙◌, inl}
 use Rattle.std.proofs.lemmas.Bool.{leb-true}
 use Rattle.std.specs.Prelude.{None, IfOk, nat_le, if◌then◌else◌}
-use Rattle.items.specs.Gives.{◌>>=◌, lifted}
+use Rattle.items.specs.Gives.{◌>>=◌, err_map}
 use Rattle.items.proofs.Gives.{on_ok}
 use Rattle.serde_json.specs.Data.{Data}
 use Rattle.syntax_tree.specs.declared.program.Program.{Program}
 use Rattle.replay.specs.declared.trace.Trace.{Trace}
 use Rattle.wire.specs.declared.error.WireError.TheVariants.{Shape}
 use Rattle.wire.specs.declared.input.Input.{Input}
-use Rattle.wire.specs.Files.{if_short, json_of, most_text, shaped, source}
+use Rattle.wire.specs.Files.{if_short, json_of, most_text, with_shape_error, source}
 use Rattle.wire.specs.Inputs.{input, input_of, turns, values}
 use Rattle.wire.specs.Shapes.{Reading, field, member_of, member_path, or_wrong, text, under}
 use Rattle.cra.specs.declared.reply.Reply.{Reply}
 use Rattle.cra.specs.Replay.{IsFollowed, IsTraceOf, trace_reply}
 
-pub lifted-ok : {A E F : Type 0} (as_fault : E → F) (r : Result A E) (x : A) → lifted as_fault r ≡ Ok x → r ≡ Ok x
+pub lifted-ok : {A E F : Type 0} (as_fault : E → F) (r : Result A E) (x : A) → err_map as_fault r ≡ Ok x → r ≡ Ok x
 lifted-ok as_fault (Ok y) x e = let same : y ≡ x = cc in ap (λ v. Ok v) same
 lifted-ok as_fault (Err d) x e = cc
 
@@ -48,7 +48,7 @@ input-short d i e =
     subst (λ i. length i.text ≤ most_text) same (source-short place.0 t place.1))))
 
 pub short_input : (bytes : List ℕ) (i : Input) → input_of bytes ≡ Ok i → length i.text ≤ most_text
-short_input bytes i e = on_ok (json_of bytes) (λ d. shaped (input d)) i e (λ d from is. input-short d i (lifted-ok Shape (input d) i is))
+short_input bytes i e = on_ok (json_of bytes) (λ d. with_shape_error (input d)) i e (λ d from is. input-short d i (lifted-ok Shape (input d) i is))
 
 -- ---- answers
 

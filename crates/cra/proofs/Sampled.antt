@@ -12,7 +12,7 @@ use Rattle.summary_cache.specs.declared.last.Analysed.{Analysed}
 use Rattle.summary_cache.specs.declared.last.Last.{Last}
 use Rattle.summary_cache.specs.declared.working.Counts.{Counts}
 use Rattle.summary_cache.specs.First.{IsWorked, KeepsFirst}
-use Rattle.summary_cache.specs.Kept.{analysed_of}
+use Rattle.summary_cache.specs.Kept.{last_analysis}
 use Rattle.cra.specs.Sample.{IsCounted}
 
 -- the part for one number more, behind those for the first k
@@ -42,4 +42,4 @@ module _ {S : Type 0} (refusals : S → ℕ) (declines : S → Question → Type
       → KeepsFirst finding rule old new text counts kept → IsCounted text counts
   kept-counted rule old new text counts None second h = absurd h
   kept-counted rule old new text counts (Some last) second h =
-      worked-counted old new text (analysed_of last) counts (subst (λ r. IsWorked finding r old new text (analysed_of last) counts) second h)
+      worked-counted old new text (last_analysis last) counts (subst (λ r. IsWorked finding r old new text (last_analysis last) counts) second h)

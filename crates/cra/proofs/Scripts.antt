@@ -12,7 +12,7 @@ use Rattle.wire.specs.declared.error.WireError.TheVariants.{Edit as Impossible, 
 use Rattle.wire.specs.declared.script.Edit.{Edit}
 use Rattle.wire.specs.declared.script.Script.{Script}
 use Rattle.wire.specs.Edits.{is_inside, text_after, texts_after, texts_of, with_edit}
-use Rattle.wire.specs.Files.{edits, json_of, most_text, script, script_of, shaped, source}
+use Rattle.wire.specs.Files.{edits, json_of, most_text, script, script_of, with_shape_error, source}
 use Rattle.wire.specs.Errors.{fault}
 use Rattle.wire.specs.Shapes.{field}
 use Rattle.cra.specs.Edit.{versions_in}
@@ -63,7 +63,7 @@ texts-short s made short e =
 pub versions-short : (bytes : List ℕ) (made : List (List ℕ)) → versions_in bytes ≡ Ok made → AreShort made
 versions-short bytes made e =
     on_ok (script_of bytes) texts_of made e (λ s from is.
-    on_ok (json_of bytes) (λ d. shaped (script d)) s from (λ d from_json read.
+    on_ok (json_of bytes) (λ d. with_shape_error (script d)) s from (λ d from_json read.
     record { each = All-from_recursion IsShort made (texts-short s made (script-short d s (lifted-ok Shape (script d) s read)) is) }))
 
 -- what a call gives that reads the versions

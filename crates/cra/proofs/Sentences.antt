@@ -14,8 +14,8 @@ use Rattle.farkas_check.specs.declared.answer.Answer.{Answer}
 use Rattle.posing.specs.Posing.{Posed, Finished, Stuck}
 use Rattle.execution.specs.Execution.{Fails}
 use Rattle.syntax_tree.specs.declared.program.Program.{Program}
-use Rattle.replay.specs.declared.trace.Stop.{Stop}
-use Rattle.replay.specs.declared.trace.Stop.TheVariants as stop
+use Rattle.replay.specs.declared.trace.TraceStop.{TraceStop}
+use Rattle.replay.specs.declared.trace.TraceStop.TheVariants as stop
 use Rattle.replay.specs.TraceText.{is_failed}
 use Rattle.report.specs.declared.blocks.Judged.{Judged}
 use Rattle.report.specs.declared.blocks.Report.{Report}
@@ -176,7 +176,7 @@ sound-check words before after reply to answer e =
 
 -- ---- one execution on given values
 
-failed-stop : (s : Stop) → (if is_failed s then SomeFailed else NoneFailed) ≡ SomeFailed → (number : ℕ) × (s ≡ stop.Failed number)
+failed-stop : (s : TraceStop) → (if is_failed s then SomeFailed else NoneFailed) ≡ SomeFailed → (number : ℕ) × (s ≡ stop.Failed number)
 failed-stop (stop.Failed number) e = (number, refl)
 failed-stop (stop.Done value) e = absurd (cc e)
 failed-stop stop.Guard e = absurd (cc e)

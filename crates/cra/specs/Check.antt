@@ -5,7 +5,7 @@ use Rattle.std.specs.Str.{bytes_eq}
 use Rattle.farkas_check.specs.declared.answer.Answer.{Answer}
 use Rattle.syntax_tree.specs.declared.program.Program.{Program}
 use Rattle.posing.specs.Posing.{Posed, Finished, Stuck}
-use Rattle.posing.specs.Replay.{stopped_at}
+use Rattle.posing.specs.Replay.{stop_number}
 use Rattle.report.specs.declared.blocks.Report.{Report}
 use Rattle.report.specs.Claims.{ClaimsAreMet, PointsMeetRows, ReportCovers}
 use Rattle.report.specs.Text.{text_of}
@@ -52,12 +52,12 @@ pub record IsShown (rule : ℕ) (text : List ℕ) (answers : List Answer)
   pub is_posed : IsPosed rule text program answers posed
   pub met : IsMetBy program posed
 
-abbrev pub passed : Reply
-passed = record { status = ended.CheckPassed; text = codes "check passed\n" }
+abbrev pub passed_reply : Reply
+passed_reply = record { status = ended.CheckPassed; text = codes "check passed\n" }
 
 -- why it does not pass, by a number
-abbrev pub failed : List ℕ → ℕ → List ℕ → Reply
-failed before number after = record {
+abbrev pub failed_reply : List ℕ → ℕ → List ℕ → Reply
+failed_reply before number after = record {
   status = ended.CheckFailed;
   text = codes "check failed: " ++ before ++ decimal number ++ after ++ codes "\n";
 }
@@ -65,19 +65,19 @@ failed before number after = record {
 -- a report that was made, against the one that is told: they are one, or differ behind the bytes
 -- that both begin with
 abbrev pub compared_reply : List ℕ → List ℕ → Reply
-compared_reply made told = if bytes_eq made told then passed
-    else failed (codes "report differs at byte ") (common_prefix_len nat_eq made told) []
+compared_reply made told = if bytes_eq made told then passed_reply
+    else failed_reply (codes "report differs at byte ") (common_prefix_len nat_eq made told) []
 
 -- a report was made, and so many answers are left
 abbrev pub finished_reply : List ℕ → List ℕ → ℕ → Reply
 finished_reply made told left = if left == 0 then compared_reply made told
-    else failed [] left (codes " answers left")
+    else failed_reply [] left (codes " answers left")
 
 -- An answer is missing or does not pass, answers are left, or the report differs; else the file
 -- passes.
 abbrev pub posed_reply : List Answer → List ℕ → Posed Report → Reply
 posed_reply answers told (Stuck question left) =
-    failed (codes "answer ") (stopped_at answers left + 1) []
+    failed_reply (codes "answer ") (stop_number answers left + 1) []
 posed_reply answers told (Finished report notes left) =
     finished_reply (text_of report) told (length left)
 

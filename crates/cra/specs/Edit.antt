@@ -6,7 +6,7 @@ use Rattle.items.specs.Gives.{◌>>=◌}
 use Rattle.syntax_tree.specs.declared.program.Program.{Program}
 use Rattle.report.specs.declared.blocks.Report.{Report}
 use Rattle.kept_groups.specs.Coming.{AreCome, count_made}
-use Rattle.kept_groups.specs.Kept.{found_by_kept}
+use Rattle.kept_groups.specs.Kept.{findings_by_kept}
 use Rattle.finder.specs.Found.{IsFound}
 use Rattle.wire.specs.declared.error.WireError.{WireError}
 use Rattle.wire.specs.Edits.{texts_of}
@@ -50,7 +50,7 @@ pub record IsAnalysedAfter (before : Option Last) (text : List ℕ) (last : Last
   pub is : last.groups.program ≡ with_rule 2 program
   pub marks : List Bool
   pub come : AreCome IsFound (groups_of before) last.groups.program
-      (found_by_kept (length program.procs) [] []) last.groups.plan last.groups.parts marks
+      (findings_by_kept (length program.procs) [] []) last.groups.plan last.groups.parts marks
   pub analysed : IsAnalysed text (answers_for last) last.report
   pub counted : counts ≡ counts_of (count_made marks) (length last.groups.plan) last.report
 

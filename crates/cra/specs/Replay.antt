@@ -2,12 +2,12 @@
 use Rattle.std.specs.Prelude.{◌≡◌, ℕ, ◌≤◌, List, length, Option, Some, Ok, if◌then◌else◌}
 use Rattle.syntax_tree.specs.declared.program.Program.{Program}
 use Rattle.execution.specs.Execution.{Fails}
-use Rattle.replay.specs.declared.printing.Place.{Place}
-use Rattle.replay.specs.declared.trace.Stop.{Stop}
-use Rattle.replay.specs.declared.trace.Stop.TheVariants.{Failed}
+use Rattle.replay.specs.declared.printing.LineColumn.{LineColumn}
+use Rattle.replay.specs.declared.trace.TraceStop.{TraceStop}
+use Rattle.replay.specs.declared.trace.TraceStop.TheVariants.{Failed}
 use Rattle.replay.specs.declared.trace.Trace.{Trace}
 use Rattle.replay.specs.Chosen.{IsTrace}
-use Rattle.replay.specs.TraceText.{failed_at, is_failed, trace_text}
+use Rattle.replay.specs.TraceText.{failure_place, is_failed, trace_text}
 use Rattle.wire.specs.declared.input.Input.{Input}
 use Rattle.wire.specs.Inputs.{input_of}
 use Rattle.summary_cache.specs.Accepted.{Accepts}
@@ -27,18 +27,18 @@ pub record IsFollowed (input : Input) (program : Program) (trace : Trace) : Type
   pub traced : IsTrace program input.values input.turns trace
   pub fails : (number : ℕ) → trace.stop ≡ Failed number → Fails program number
 
-abbrev pub status_of : Stop → Status
+abbrev pub status_of : TraceStop → Status
 status_of stop = if is_failed stop then ended.SomeFailed else ended.NoneFailed
 
 -- the line and the column of a byte of a text
-abbrev pub place_of : List ℕ → ℕ → Place
+abbrev pub place_of : List ℕ → ℕ → LineColumn
 place_of text at = record { line = line_at text at; column = column_at text at }
 
 -- the text of a trace; the status tells whether it ends at a failed assertion
 abbrev pub trace_reply : List ℕ → Program → Trace → Reply
 trace_reply text program trace = record {
   status = status_of trace.stop;
-  text = trace_text program (place_of text (failed_at program trace.stop)) trace;
+  text = trace_text program (place_of text (failure_place program trace.stop)) trace;
 }
 
 -- the text is accepted, and this tells the trace of its program

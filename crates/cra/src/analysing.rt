@@ -6,9 +6,9 @@ ghost use Rattle.cra.specs.Within.{OrRefused};
 
 use crate::reply::{Reply, refused_reply, too_long};
 use crate::status::Status;
-use crate::submitting::found;
+use crate::submitting::analysis_by_finder;
 use items::Items;
-use report::{Report, print, unproved};
+use report::{Report, print, unproved_assertions};
 use std::alloc::{AllocError, Global};
 use summary_cache::{MOST_BYTES, TextError};
 
@@ -18,7 +18,7 @@ pub(crate) fn report_reply(alloc: Global, report: &Report) -> Result<Reply, Allo
     ensures status { IfOk result (λ reply. IsAnswer reply.status) }
 {
     let text = print(alloc, report)?;
-    let all_proved = unproved(report) == 0;
+    let all_proved = unproved_assertions(report) == 0;
     Ok(Reply {
         status: if all_proved {
             Status::AllProved
@@ -35,7 +35,7 @@ fn text_reply(alloc: Global, text: &[u8]) -> Result<Reply, AllocError>
     ensures reply { IfOk result (OrRefused text.now (TellsReport text.now)) }
     ensures status { IfOk result (λ reply. IsAnswer reply.status) }
 {
-    match found(alloc, text) {
+    match analysis_by_finder(alloc, text) {
         Ok(last) => report_reply(alloc, &last.report),
         Err(TextError::Refused(refusal)) => refused_reply(alloc, text, refusal),
         Err(TextError::Memory) => Err(AllocError),

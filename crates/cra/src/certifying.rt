@@ -9,7 +9,7 @@ ghost use Rattle.cra.specs.Status.{IsAnswer};
 use crate::limits::MOST_FILE;
 use crate::reply::{Reply, line, refused_reply, too_long};
 use crate::status::Status;
-use crate::submitting::found;
+use crate::submitting::analysis_by_finder;
 use crate::text::between;
 use farkas_check::Answer;
 use items::Items;
@@ -17,15 +17,15 @@ use report::{Report, print};
 use std::alloc::{AllocError, Global};
 use std::str;
 use summary_cache::{Analysed, MOST_BYTES, TextError};
-use wire::{Certificate, Text, Version, share, write_certificate};
+use wire::{Certificate, FileText, Version, share, write_certificate};
 
 /// Bytes that are UTF-8 as a text.
-fn text_of(alloc: Global, bytes: &[u8]) -> Result<Text, AllocError>
+fn text_of(alloc: Global, bytes: &[u8]) -> Result<FileText, AllocError>
     requires { IsUtf8 bytes.now }
     ensures { IfOk result (λ text. text ≡ bytes.now) }
 {
     match str::from_utf8(bytes) {
-        Ok(text) => Ok(Text::from_string(String::from_str(alloc, text)?)),
+        Ok(text) => Ok(FileText::from_string(String::from_str(alloc, text)?)),
         Err(_) => unreachable!(),
     }
 }
@@ -87,7 +87,7 @@ pub fn certificate_reply(alloc: Global, text: &[u8]) -> Result<Reply, AllocError
     ensures reply { IfOk result (OrRefused text.now (TellsFile text.now)) }
     ensures status { IfOk result (λ reply. IsAnswer reply.status) }
 {
-    match found(alloc, text) {
+    match analysis_by_finder(alloc, text) {
         Ok(last) => reply_to_analysed(alloc, text, last),
         Err(TextError::Refused(refusal)) => refused_reply(alloc, text, refusal),
         Err(TextError::Memory) => Err(AllocError),

@@ -4,28 +4,33 @@ ghost use Rattle.report.specs.Text.{text_of};
 ghost use Rattle.wire.specs.Written.{IsOrder, IsWritable};
 ghost use Rattle.summary_cache.specs.Limits.{most_bytes};
 ghost use Rattle.summary_cache.specs.Rules.{IsRule};
-ghost use Rattle.cra.specs.Check.{IsCheckOf, IsCheckUnder, IsReplyToCheck, answers_in, compared_reply, failed, finished_reply, rule_of};
+ghost use Rattle.cra.specs.Check.{IsCheckOf, IsCheckUnder, IsReplyToCheck, answers_in, compared_reply, failed_reply, finished_reply, rule_of};
 ghost use Rattle.cra.specs.Status.{IsAnswer};
 
 use crate::limits::MOST_FILE;
 use crate::replaying::wrong_input;
 use crate::reply::{Reply, line, refused_reply, too_long};
 use crate::status::Status;
-use crate::submitting::submitted;
-use crate::text::Text;
+use crate::submitting::analysis_by_oracle;
+use crate::text::ReplyText;
 use farkas_check::Answer;
 use items::Items;
 use report::{Report, print};
 use std::alloc::{AllocError, Global};
 use summary_cache::SubmitError;
-use wire::{Certificate, Replay, Version, WireError, read_certificate};
+use wire::{Certificate, ListedAnswers, Version, WireError, read_certificate};
 
 /// The answer to a file that does not pass.
-fn failed(alloc: Global, before: &[u8], number: u128, after: &[u8]) -> Result<Reply, AllocError>
-    ensures reply { IfOk result (λ reply. reply ≡ failed before.now number after.now) }
+fn failed_reply(
+    alloc: Global,
+    before: &[u8],
+    number: u128,
+    after: &[u8],
+) -> Result<Reply, AllocError>
+    ensures reply { IfOk result (λ reply. reply ≡ failed_reply before.now number after.now) }
     ensures status { IfOk result (λ reply. IsAnswer reply.status) }
 {
-    let mut text = Text {
+    let mut text = ReplyText {
         bytes: Vec::new(alloc),
     };
     text.put(b"check failed: ")?;
@@ -33,7 +38,7 @@ fn failed(alloc: Global, before: &[u8], number: u128, after: &[u8]) -> Result<Re
     text.put_count(number)?;
     text.put(after)?;
     text.put(b"\n")?;
-    let Text { bytes } = text;
+    let ReplyText { bytes } = text;
     Ok(Reply {
         status: Status::CheckFailed,
         text: Items::from_vec(bytes),
@@ -73,7 +78,7 @@ fn compared_reply(alloc: Global, made: &[u8], told: &[u8]) -> Result<Reply, Allo
     if made == told {
         return line(alloc, Status::CheckPassed, b"check passed\n");
     }
-    failed(
+    failed_reply(
         alloc,
         b"report differs at byte ",
         common_len(made, told) as u128,
@@ -95,17 +100,17 @@ fn finished_reply(
         let made = print(alloc, made)?;
         return compared_reply(alloc, &made, told);
     }
-    failed(alloc, b"", left as u128, b" answers left")
+    failed_reply(alloc, b"", left as u128, b" answers left")
 }
 
 /// The answer where the analysis came to a question without an answer that passes: so many are left
 /// of all.
 fn stuck_reply(alloc: Global, all: usize, left: usize) -> Result<Reply, AllocError>
-    ensures reply { IfOk result (λ reply. reply ≡ failed (codes "answer ") (all - left + 1) []) }
+    ensures reply { IfOk result (λ reply. reply ≡ failed_reply (codes "answer ") (all - left + 1) []) }
     ensures status { IfOk result (λ reply. IsAnswer reply.status) }
 {
     let number = all.saturating_sub(left) as u128 + 1;
-    failed(alloc, b"answer ", number, b"")
+    failed_reply(alloc, b"answer ", number, b"")
 }
 
 /// The answer by what the analysis of a text comes to under a rule and the answers of a replay.
@@ -113,7 +118,7 @@ fn shown_reply(
     alloc: Global,
     text: &[u8],
     rule: u32,
-    replay: Replay,
+    replay: ListedAnswers,
     told: &[u8],
 ) -> Result<Reply, AllocError>
     requires short { length text.now ≤ most_bytes }
@@ -122,11 +127,11 @@ fn shown_reply(
     ensures status { IfOk result (λ reply. IsAnswer reply.status) }
 {
     let mut replay = replay;
-    let all = replay.left();
-    match submitted(alloc, text, rule, &mut replay) {
-        Ok(last) => finished_reply(alloc, &last.report, told, replay.left()),
+    let all = replay.left_count();
+    match analysis_by_oracle(alloc, text, rule, &mut replay) {
+        Ok(last) => finished_reply(alloc, &last.report, told, replay.left_count()),
         Err(SubmitError::Text(refusal)) => refused_reply(alloc, text, refusal),
-        Err(SubmitError::Refused) => stuck_reply(alloc, all, replay.left()),
+        Err(SubmitError::Refused) => stuck_reply(alloc, all, replay.left_count()),
         Err(SubmitError::Memory) => Err(AllocError),
     }
 }
@@ -144,13 +149,13 @@ fn rule_of(version: Version) -> u32
 
 /// The replay of the answers of a file of a version, in the order of the questions that they are
 /// for.
-fn replay_of(version: Version, answers: Items<Answer>, order: Items<usize>) -> Replay
+fn replay_of(version: Version, answers: Items<Answer>, order: Items<usize>) -> ListedAnswers
     requires { IsOrder version (length answers) order }
     ensures { result.left ≡ answers_in version answers order }
 {
     match version {
-        Version::First => Replay::new(answers),
-        Version::Second => Replay::shared(answers, order),
+        Version::First => ListedAnswers::new(answers),
+        Version::Second => ListedAnswers::with_order(answers, order),
     }
 }
 

@@ -12,8 +12,8 @@ ghost use Rattle.cra.specs.Within.{OrRefused};
 
 use crate::reply::{Reply, refused_reply, too_long};
 use crate::status::Status;
-use crate::submitting::found;
-use crate::text::{Text, between};
+use crate::submitting::analysis_by_finder;
+use crate::text::{ReplyText, between};
 use cost_bounds::{Cost, bound};
 use finder::Finder;
 use items::Items;
@@ -81,7 +81,7 @@ fn proc_costs(
 /// A procedure and its costs, behind a text.
 fn put_proc_costs(
     alloc: Global,
-    text: &mut Text,
+    text: &mut ReplyText,
     block: &ProcBlock,
     costs: &[Cost],
 ) -> Result<(), AllocError>
@@ -100,13 +100,13 @@ fn costs_text(
 ) -> Result<Vec<u8>, AllocError>
     ensures { IfOk result (λ text. text.items ≡ costs_text blocks.now costs.now) }
 {
-    let mut text = Text {
+    let mut text = ReplyText {
         bytes: Vec::new(alloc),
     };
     for (block, made) in blocks.iter().zip(costs) {
         put_proc_costs(alloc, &mut text, block, made.as_slice())?;
     }
-    let Text { bytes } = text;
+    let ReplyText { bytes } = text;
     Ok(bytes)
 }
 
@@ -183,7 +183,7 @@ fn global_reply(alloc: Global, name: &[u8], text: &[u8], number: u32) -> Result<
     ensures reply { IfOk result (OrRefused text.now (TellsCosts name.now text.now)) }
     ensures status { IfOk result (λ reply. IsAnswer reply.status) }
 {
-    match found(alloc, text) {
+    match analysis_by_finder(alloc, text) {
         Ok(last) => report_reply(alloc, last.report.procs.as_slice(), number),
         Err(TextError::Refused(refusal)) => refused_reply(alloc, text, refusal),
         Err(TextError::Memory) => Err(AllocError),

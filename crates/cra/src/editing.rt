@@ -14,7 +14,7 @@ use crate::replaying::wrong_input;
 use crate::reply::{Reply, too_long};
 use crate::status::Status;
 use crate::submitting::submit;
-use crate::text::{Text, put_between};
+use crate::text::{ReplyText, put_between};
 use finder::Finder;
 use items::Items;
 use report::Report;
@@ -30,7 +30,7 @@ pub enum Submission {
 }
 
 /// The texts of a script, the first and the text after each edit.
-fn versions_in(alloc: Global, input: &[u8]) -> Result<Items<wire::Text>, WireError>
+fn versions_in(alloc: Global, input: &[u8]) -> Result<Items<wire::FileText>, WireError>
     ensures exact { Gives fault (λ x. x) result (versions_in input.now) }
     ensures short { IfOk result AreShort }
 {
@@ -60,7 +60,7 @@ fn submission_of(
 }
 
 /// The line of a version that is accepted, behind other lines.
-fn put_counts(lines: &mut Text, number: usize, counts: Counts) -> Result<(), AllocError>
+fn put_counts(lines: &mut ReplyText, number: usize, counts: Counts) -> Result<(), AllocError>
     ensures { OnOk result (lines.new.bytes.items
         ≡ lines.old.bytes.items ++ version_line number [] (Submission.Accepted counts)) }
 {
@@ -74,7 +74,7 @@ fn put_counts(lines: &mut Text, number: usize, counts: Counts) -> Result<(), All
 /// The line of a version that is refused, behind other lines.
 fn put_refusal(
     alloc: Global,
-    lines: &mut Text,
+    lines: &mut ReplyText,
     number: usize,
     text: &[u8],
     refusal: Refusal,
@@ -91,7 +91,7 @@ fn put_refusal(
 /// The line of a version, behind other lines.
 fn put_line(
     alloc: Global,
-    lines: &mut Text,
+    lines: &mut ReplyText,
     number: usize,
     text: &[u8],
     made: Submission,
@@ -110,15 +110,15 @@ fn put_line(
 fn versions_told(
     alloc: Global,
     session: &mut Session,
-    texts: &[wire::Text],
-) -> Result<(Text, Option<Submission>), AllocError>
+    texts: &[wire::FileText],
+) -> Result<(ReplyText, Option<Submission>), AllocError>
     requires short { AreShort texts.now }
     requires fresh { session.old ≡ record { rule = 2; last = None } }
     ensures { IfOk result
         (λ told. AreTold texts.now told.0.bytes.items told.1 session.new.last) }
 {
     let mut finder = Finder::new(alloc);
-    let mut lines = Text {
+    let mut lines = ReplyText {
         bytes: Vec::new(alloc),
     };
     let mut last = None;
@@ -132,14 +132,14 @@ fn versions_told(
 }
 
 /// The answer that tells lines of versions, and the report of the last of them.
-fn report_behind(alloc: Global, lines: Text, report: &Report) -> Result<Reply, AllocError>
+fn report_behind(alloc: Global, lines: ReplyText, report: &Report) -> Result<Reply, AllocError>
     ensures reply { IfOk result (λ reply. reply ≡ report_behind lines.bytes.items report.now) }
     ensures status { IfOk result (λ reply. IsAnswer reply.status) }
 {
     let mut lines = lines;
     let told = report_reply(alloc, report)?;
     lines.put(&told.text)?;
-    let Text { bytes } = lines;
+    let ReplyText { bytes } = lines;
     Ok(Reply {
         status: told.status,
         text: Items::from_vec(bytes),
@@ -147,11 +147,11 @@ fn report_behind(alloc: Global, lines: Text, report: &Report) -> Result<Reply, A
 }
 
 /// The answer that tells lines of versions, the last of which is refused.
-fn lines_reply(lines: Text) -> Reply
+fn lines_reply(lines: ReplyText) -> Reply
     ensures reply { result ≡ lines_reply lines.bytes.items }
     ensures status { IsAnswer result.status }
 {
-    let Text { bytes } = lines;
+    let ReplyText { bytes } = lines;
     Reply {
         status: Status::Refused,
         text: Items::from_vec(bytes),
@@ -161,7 +161,7 @@ fn lines_reply(lines: Text) -> Reply
 /// The answer that tells lines of versions, by what comes of the last of them.
 fn versions_reply(
     alloc: Global,
-    lines: Text,
+    lines: ReplyText,
     last: Option<Submission>,
     report: Option<&Report>,
 ) -> Result<Reply, AllocError>
@@ -176,7 +176,7 @@ fn versions_reply(
 }
 
 /// The answer to the texts of a script.
-fn reply_to_versions(alloc: Global, texts: &[wire::Text]) -> Result<Reply, AllocError>
+fn reply_to_versions(alloc: Global, texts: &[wire::FileText]) -> Result<Reply, AllocError>
     requires { AreShort texts.now }
     ensures reply { IfOk result (TellsVersions texts.now) }
     ensures status { IfOk result (λ reply. IsAnswer reply.status) }

@@ -2,7 +2,7 @@ ghost use Rattle.std.specs.Prelude.{◌≡◌, ◌≤◌, IfOk, length};
 ghost use Rattle.summary_cache.specs.Limits.{most_bytes};
 ghost use Rattle.cra.specs.Refused.{lexing_line, limited_word, parsing_line, refusal_line, refusal_text, typing_line};
 
-use crate::text::Text;
+use crate::text::ReplyText;
 use c_lexer::LexError;
 use c_parser::ParseError;
 use std::alloc::{AllocError, Global};
@@ -82,7 +82,7 @@ pub fn refusal_text(alloc: Global, text: &[u8], refusal: Refusal) -> Result<Vec<
     ensures { IfOk result (λ line. line.items ≡ refusal_text text.now (refusal_line refusal)) }
 {
     let (word, at) = refusal_line(refusal);
-    let mut line = Text {
+    let mut line = ReplyText {
         bytes: Vec::new(alloc),
     };
     line.put(b"refused ")?;
@@ -92,6 +92,6 @@ pub fn refusal_text(alloc: Global, text: &[u8], refusal: Refusal) -> Result<Vec<
     line.put(b":")?;
     line.put_count(column_at(text, at) as u128)?;
     line.put(b"\n")?;
-    let Text { bytes } = line;
+    let ReplyText { bytes } = line;
     Ok(bytes)
 }

@@ -14,7 +14,7 @@ use std::alloc::{AllocError, Global};
 use wire::{Certificate, WireError, read_certificate};
 
 /// The answer by that of the check.
-fn renewed(alloc: Global, text: &[u8], checked: Reply) -> Result<Reply, AllocError>
+fn renewed_reply(alloc: Global, text: &[u8], checked: Reply) -> Result<Reply, AllocError>
     requires short { length text.now ≤ most_bytes }
     requires answer { IsAnswer checked.status }
     ensures reply { IfOk result (IsRenewedBy text.now checked) }
@@ -34,7 +34,7 @@ fn reply_to_old(alloc: Global, file: Certificate) -> Result<Reply, AllocError>
 {
     let text = file.text.clone()?;
     let checked = reply_to_checked(alloc, file)?;
-    renewed(alloc, text.as_str().as_bytes(), checked)
+    renewed_reply(alloc, text.as_str().as_bytes(), checked)
 }
 
 /// The answer to bytes of which, as a certificate file, one that is made anew is asked for.

@@ -11,7 +11,9 @@ use crate::status::Status;
 use crate::text::between;
 use items::Items;
 use itoa::Buffer;
-use replay::{Place, Stop, Trace, failed_at, failed_stop_fails, follow, is_failed, print};
+use replay::{
+    LineColumn, Trace, TraceStop, failed_stop_fails, failure_place, follow, is_failed, print,
+};
 use std::alloc::{AllocError, Global};
 use summary_cache::{TextError, accepted_is_well_formed, column_at, line_at, read};
 use syntax_tree::Program;
@@ -49,18 +51,18 @@ pub fn wrong_input(alloc: Global, error: &WireError) -> Result<Reply, AllocError
 }
 
 /// The line and the column of a byte of a text.
-fn place_of(text: &[u8], at: u32) -> Place
+fn place_of(text: &[u8], at: u32) -> LineColumn
     requires { length text.now ≤ most_bytes }
     ensures { result ≡ place_of text.now at }
 {
-    Place {
+    LineColumn {
         line: line_at(text, at),
         column: column_at(text, at),
     }
 }
 
 /// Whether an assertion failed.
-fn status_of(stop: Stop) -> Status
+fn status_of(stop: TraceStop) -> Status
     ensures status { result ≡ status_of stop }
     ensures answer { IsAnswer result }
 {
@@ -82,7 +84,7 @@ fn trace_reply(
     ensures reply { IfOk result (λ reply. reply ≡ trace_reply text.now program.now trace.now) }
     ensures status { IfOk result (λ reply. IsAnswer reply.status) }
 {
-    let place = place_of(text, failed_at(program, trace.stop));
+    let place = place_of(text, failure_place(program, trace.stop));
     let text = print(alloc, program, place, trace)?;
     Ok(Reply {
         status: status_of(trace.stop),

@@ -8,14 +8,14 @@ ghost use Rattle.cra.specs.Status.{IsAnswer};
 use crate::reply::{Reply, refused_reply, too_long};
 use crate::status::Status;
 use crate::submitting::submit;
-use crate::text::{Text, put_between};
+use crate::text::{ReplyText, put_between};
 use finder::Finder;
 use items::Items;
 use std::alloc::{AllocError, Global};
 use summary_cache::{Counts, MOST_BYTES, Session, SubmitError, TextError};
 
 /// A procedure that counts up to its argument.
-fn put_procedure(text: &mut Text, number: u32) -> Result<(), AllocError>
+fn put_procedure(text: &mut ReplyText, number: u32) -> Result<(), AllocError>
     ensures { OnOk result (text.new.bytes.items ≡ text.old.bytes.items ++ procedure_text number) }
 {
     put_between(
@@ -27,7 +27,7 @@ fn put_procedure(text: &mut Text, number: u32) -> Result<(), AllocError>
 }
 
 /// A call of such a procedure.
-fn put_call(text: &mut Text, number: u32) -> Result<(), AllocError>
+fn put_call(text: &mut ReplyText, number: u32) -> Result<(), AllocError>
     ensures { OnOk result (text.new.bytes.items ≡ text.old.bytes.items ++ call_text number) }
 {
     put_between(text, b"  p", number as u128, b"(")?;
@@ -35,7 +35,7 @@ fn put_call(text: &mut Text, number: u32) -> Result<(), AllocError>
 }
 
 /// The procedures of a made text.
-fn put_procedures(text: &mut Text, count: u32) -> Result<(), AllocError>
+fn put_procedures(text: &mut ReplyText, count: u32) -> Result<(), AllocError>
     ensures { OnOk result
         (text.new.bytes.items ≡ text.old.bytes.items ++ flat_map procedure_text
         (range_with_len 1 count)) }
@@ -47,7 +47,7 @@ fn put_procedures(text: &mut Text, count: u32) -> Result<(), AllocError>
 }
 
 /// The calls of a made text.
-fn put_calls(text: &mut Text, count: u32) -> Result<(), AllocError>
+fn put_calls(text: &mut ReplyText, count: u32) -> Result<(), AllocError>
     ensures { OnOk result
         (text.new.bytes.items ≡ text.old.bytes.items ++ flat_map call_text
         (range_with_len 1 count)) }
@@ -62,14 +62,14 @@ fn put_calls(text: &mut Text, count: u32) -> Result<(), AllocError>
 fn sample_text(alloc: Global, count: u32) -> Result<Vec<u8>, AllocError>
     ensures { IfOk result (λ text. text.items ≡ sample_text count) }
 {
-    let mut text = Text {
+    let mut text = ReplyText {
         bytes: Vec::new(alloc),
     };
     put_procedures(&mut text, count)?;
     text.put(b"int main(void) {\n")?;
     put_calls(&mut text, count)?;
     text.put(b"}\n")?;
-    let Text { bytes } = text;
+    let ReplyText { bytes } = text;
     Ok(bytes)
 }
 
@@ -82,7 +82,7 @@ fn counts_line(
 ) -> Result<Vec<u8>, AllocError>
     ensures { IfOk result (λ line. line.items ≡ counts_line count bytes counts) }
 {
-    let mut text = Text {
+    let mut text = ReplyText {
         bytes: Vec::new(alloc),
     };
     put_between(&mut text, b"sample ", count as u128, b": ")?;
@@ -90,7 +90,7 @@ fn counts_line(
     put_between(&mut text, b"", counts.groups as u128, b" groups, ")?;
     put_between(&mut text, b"", counts.proved as u128, b" proved, ")?;
     put_between(&mut text, b"", counts.unproved as u128, b" unproved\n")?;
-    let Text { bytes } = text;
+    let ReplyText { bytes } = text;
     Ok(bytes)
 }
 

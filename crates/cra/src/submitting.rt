@@ -1,7 +1,7 @@
 ghost use Rattle.std.specs.Prelude.{◌≡◌, ◌≢◌, ◌<◌, ◌≤◌, length, None, Some, IfOk};
 ghost use Rattle.std.specs.Option.{option_map};
 ghost use Rattle.summary_cache.specs.First.{ComesFirst};
-ghost use Rattle.summary_cache.specs.Kept.{analysed_of};
+ghost use Rattle.summary_cache.specs.Kept.{last_analysis};
 ghost use Rattle.summary_cache.specs.Limits.{most_bytes};
 ghost use Rattle.summary_cache.specs.Rules.{IsRule};
 ghost use Rattle.summary_cache.specs.Submitted.{Submits};
@@ -56,9 +56,9 @@ pub fn submit<O: Oracle>(
 }
 
 /// What a session keeps of the text that it accepted: its report and its answers.
-fn analysed_of(alloc: Global, session: Session) -> Result<Analysed, AllocError>
+fn last_analysis(alloc: Global, session: Session) -> Result<Analysed, AllocError>
     requires { session.last ≢ None }
-    ensures { IfOk result (λ made. Some made ≡ option_map analysed_of session.last) }
+    ensures { IfOk result (λ made. Some made ≡ option_map last_analysis session.last) }
 {
     match session.into_analysed(alloc)? {
         Some(made) => Ok(made),
@@ -67,7 +67,7 @@ fn analysed_of(alloc: Global, session: Session) -> Result<Analysed, AllocError>
 }
 
 /// What comes of a text under a rule, where an oracle answers.
-pub fn submitted<O: Oracle>(
+pub fn analysis_by_oracle<O: Oracle>(
     alloc: Global,
     text: &[u8],
     rule: u32,
@@ -79,7 +79,7 @@ pub fn submitted<O: Oracle>(
 {
     let mut session = Session::with_rule(rule);
     match submit(alloc, &mut session, text, oracle) {
-        Ok(_counts) => match analysed_of(alloc, session) {
+        Ok(_counts) => match last_analysis(alloc, session) {
             Ok(made) => Ok(made),
             Err(_error) => Err(SubmitError::Memory),
         },
@@ -88,12 +88,12 @@ pub fn submitted<O: Oracle>(
 }
 
 /// What comes of a text where the finder answers, which refuses no question.
-pub fn found(alloc: Global, text: &[u8]) -> Result<Analysed, TextError>
+pub fn analysis_by_finder(alloc: Global, text: &[u8]) -> Result<Analysed, TextError>
     requires { length text.now ≤ most_bytes }
     ensures { IsFoundOf text.now result }
 {
     let mut finder = Finder::new(alloc);
-    match submitted(alloc, text, 2, &mut finder) {
+    match analysis_by_oracle(alloc, text, 2, &mut finder) {
         Ok(last) => Ok(last),
         Err(SubmitError::Text(refusal)) => Err(TextError::Refused(refusal)),
         Err(SubmitError::Refused) => unreachable!(),

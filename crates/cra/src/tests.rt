@@ -295,7 +295,7 @@ pub(crate) fn ends(
 }
 
 /// What is certified of a text passes, and is renewed as it is.
-fn certified(alloc: Global, rt: &impl Abort, input: &[u8]) -> Result<(), Fail> {
+fn check_certificate(alloc: Global, rt: &impl Abort, input: &[u8]) -> Result<(), Fail> {
     let file = run_on(alloc, &["cra", "certify"], input, GOOD)?.text;
     ends(alloc, rt, &["cra", "check"], &file, 0, b"check passed\n")?;
     ends(alloc, rt, &["cra", "renew"], &file, 0, &file)
@@ -323,14 +323,14 @@ fn reports(rt: HostRuntime) -> Result<(), Fail> {
     ];
     for (input, status, text) in cases {
         ends(alloc, &rt, &["cra", "analyse"], input, status, text)?;
-        certified(alloc, &rt, input)?;
+        check_certificate(alloc, &rt, input)?;
     }
     Ok(())
 }
 
 /// Each input of a table is answered by `check` with this status and the line that stands before
 /// it.
-fn checked(alloc: Global, rt: &impl Abort, status: u8, table: &str) -> Result<(), Fail> {
+fn check_table(alloc: Global, rt: &impl Abort, status: u8, table: &str) -> Result<(), Fail> {
     for row in table.lines() {
         let (line, file) = row.split_once(" | ").ok_or("no row")?;
         let line = format!(in alloc; "{line}\n")?;
@@ -347,7 +347,7 @@ fn checked(alloc: Global, rt: &impl Abort, status: u8, table: &str) -> Result<()
 }
 
 /// A file with each change of a table is answered by `check` as the row says.
-fn changed(alloc: Global, rt: &impl Abort, file: &str, table: &str) -> Result<(), Fail> {
+fn check_changes(alloc: Global, rt: &impl Abort, file: &str, table: &str) -> Result<(), Fail> {
     for row in table.lines() {
         let (answer, change) = row.split_once(" | ").ok_or("no row")?;
         let (status, line) = answer.split_once(' ').ok_or("no row")?;
@@ -374,12 +374,12 @@ fn files(rt: HostRuntime) -> Result<(), Fail> {
     for (input, file) in CERTIFICATES {
         ends(alloc, &rt, &["cra", "certify"], input, 0, file)?;
     }
-    checked(alloc, &rt, 0, tables::CHECK_PASSED)?;
-    checked(alloc, &rt, 8, tables::CHECK_FAILED)?;
-    checked(alloc, &rt, 7, tables::CHECKED_WRONG)?;
-    checked(alloc, &rt, 3, tables::CHECKED_TEXT_REFUSED)?;
-    changed(alloc, &rt, tables::LOOP_FILE, tables::CHANGES)?;
-    changed(alloc, &rt, tables::SHARED_LOOP_FILE, tables::SHARED_CHANGES)
+    check_table(alloc, &rt, 0, tables::CHECK_PASSED)?;
+    check_table(alloc, &rt, 8, tables::CHECK_FAILED)?;
+    check_table(alloc, &rt, 7, tables::CHECKED_WRONG)?;
+    check_table(alloc, &rt, 3, tables::CHECKED_TEXT_REFUSED)?;
+    check_changes(alloc, &rt, tables::LOOP_FILE, tables::CHANGES)?;
+    check_changes(alloc, &rt, tables::SHARED_LOOP_FILE, tables::SHARED_CHANGES)
 }
 
 /// Each script of a table is answered by `edit` as its row says.
@@ -433,7 +433,7 @@ fn costs(rt: HostRuntime) -> Result<(), Fail> {
 }
 
 /// The text is refused with this line.
-fn refused(alloc: Global, rt: &impl Abort, input: &[u8], line: &[u8]) -> Result<(), Fail> {
+fn check_refusal(alloc: Global, rt: &impl Abort, input: &[u8], line: &[u8]) -> Result<(), Fail> {
     ends(alloc, rt, &["cra", "analyse"], input, 3, line)
 }
 
@@ -442,7 +442,7 @@ fn check(alloc: Global, rt: &impl Abort, table: &str) -> Result<(), Fail> {
     for row in table.lines() {
         let (line, text) = row.split_once(": ").ok_or("no row")?;
         let line = format!(in alloc; "{line}\n")?;
-        refused(alloc, rt, text.as_bytes(), line.as_bytes())?;
+        check_refusal(alloc, rt, text.as_bytes(), line.as_bytes())?;
     }
     Ok(())
 }
@@ -469,7 +469,7 @@ fn refused_texts(rt: HostRuntime) -> Result<(), Fail> {
         ),
     ];
     for (text, line) in others {
-        refused(alloc, &rt, text, line)?;
+        check_refusal(alloc, &rt, text, line)?;
     }
     Ok(())
 }
@@ -484,7 +484,7 @@ fn wrong_words(alloc: Global, rt: &impl Abort, table: &str) -> Result<(), Fail> 
 }
 
 /// The words of each line of a table are answered with the line below it, and no input is read.
-fn sampled(alloc: Global, rt: &impl Abort, table: &str) -> Result<(), Fail> {
+fn check_samples(alloc: Global, rt: &impl Abort, table: &str) -> Result<(), Fail> {
     let lines = table.lines().collect::<Vec<&str>>(alloc)?;
     for row in lines.chunks(2) {
         let [line, told] = row else {
@@ -502,7 +502,7 @@ fn words(rt: HostRuntime) -> Result<(), Fail> {
     let alloc = rt.alloc();
     ends(alloc, &rt, &[], PLAIN, 2, USAGE)?;
     wrong_words(alloc, &rt, tables::WRONG_WORDS)?;
-    sampled(alloc, &rt, tables::SAMPLES)?;
+    check_samples(alloc, &rt, tables::SAMPLES)?;
     ends(alloc, &rt, &["cra", "--version"], b"", 0, b"cra 0.1.0\n")?;
     let help = run_on(alloc, &["cra", "--help"], b"", GOOD)?;
     assert!(rt;
@@ -517,7 +517,7 @@ fn words(rt: HostRuntime) -> Result<(), Fail> {
 fn lengths(rt: HostRuntime) -> Result<(), Fail> {
     let alloc = rt.alloc();
     let full = vec![in alloc; b' '; MOST_BYTES]?;
-    refused(alloc, &rt, &full, b"refused main at 1:1048577\n")?;
+    check_refusal(alloc, &rt, &full, b"refused main at 1:1048577\n")?;
     let past = vec![in alloc; b' '; MOST_BYTES + 1]?;
     ends(alloc, &rt, &["cra", "analyse"], &past, 9, TOO_LONG)?;
     ends(

@@ -87,7 +87,7 @@ fn text_of(alloc: Global, parts: &[&str], times: usize) -> Result<String, Fail> 
 }
 
 /// The text of a row is answered as the row says.
-fn answered(alloc: Global, rt: &impl Abort, row: &str) -> Result<(), Fail> {
+fn check_answer(alloc: Global, rt: &impl Abort, row: &str) -> Result<(), Fail> {
     let fields = row.split(" | ").collect::<Vec<&str>>(alloc)?;
     let [parts @ .., times, told] = fields.as_slice() else {
         return Err("no row".into());
@@ -108,7 +108,7 @@ fn answered(alloc: Global, rt: &impl Abort, row: &str) -> Result<(), Fail> {
 #[test]
 fn limits(rt: HostRuntime) -> Result<(), Fail> {
     for row in LIMITS.lines() {
-        answered(rt.alloc(), &rt, row)?;
+        check_answer(rt.alloc(), &rt, row)?;
     }
     Ok(())
 }

@@ -5,11 +5,11 @@ use std::alloc::{AllocError, Global};
 
 /// A text that is being made.
 #[derive(Debug, Drop)]
-pub(crate) struct Text {
+pub(crate) struct ReplyText {
     pub(crate) bytes: Vec<u8>,
 }
 
-impl Text {
+impl ReplyText {
     pub(crate) fn put(&mut self, bytes: &[u8]) -> Result<(), AllocError>
         ensures { OnOk result (self.new.bytes.items ≡ self.old.bytes.items ++ bytes.now) }
     {
@@ -25,7 +25,7 @@ impl Text {
 
 /// A number between two texts.
 pub(crate) fn put_between(
-    text: &mut Text,
+    text: &mut ReplyText,
     before: &[u8],
     number: u128,
     after: &[u8],
@@ -48,12 +48,12 @@ pub(crate) fn between(
 ) -> Result<Vec<u8>, AllocError>
     ensures { IfOk result (λ whole. whole.items ≡ before.now ++ text.now ++ after.now) }
 {
-    let mut whole = Text {
+    let mut whole = ReplyText {
         bytes: Vec::new(alloc),
     };
     whole.put(before)?;
     whole.put(text)?;
     whole.put(after)?;
-    let Text { bytes } = whole;
+    let ReplyText { bytes } = whole;
     Ok(bytes)
 }

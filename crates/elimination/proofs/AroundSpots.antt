@@ -43,7 +43,7 @@ use Rattle.simplex.proofs.Tame.{few_terms, ratio_each, numbered_small, IsSmallPo
 use Rattle.simplex.proofs.Widths.{IsRatio}
 use Rattle.elimination.specs.declared.inner.Inner.{Inner}
 use Rattle.elimination.specs.Around.{around_value, HasValue, IsSmallOver, AreAround}
-use Rattle.elimination.specs.Moves.{IsSmallInner, moved, moved_from, spot_at, spots_to}
+use Rattle.elimination.specs.Moves.{IsSmallInner, moved_number, numbers_moved_from, spot_at, spots_to}
 use Rattle.elimination.specs.Probes.{read_at, value_in, IsDeepIn, IsInner}
 use Rattle.elimination.proofs.Narrowness.{coefficient-small}
 
@@ -52,22 +52,22 @@ use Rattle.elimination.proofs.Narrowness.{coefficient-small}
 -- the numerators, over four times the denominator
 abbrev numerators_from : ℕ → ℕ → List ℤ → List ℤ
 numerators_from place j [] = []
-numerators_from place j (z ∷ zs) = moved place j z ∷ numerators_from place (j + 1) zs
+numerators_from place j (z ∷ zs) = moved_number place j z ∷ numerators_from place (j + 1) zs
 
 numerators-length : (place j : ℕ) (zs : List ℤ) → length (numerators_from place j zs) ≡ length zs
 numerators-length place j [] = refl
 numerators-length place j (z ∷ zs) = let e : length (numerators_from place (j + 1) zs) ≡ length zs = numerators-length place (j + 1) zs in omega (arith, e)
 
-moved-length : (over : ℤ) (place j : ℕ) (zs : List ℤ) → length (moved_from over place j zs) ≡ length zs
+moved-length : (over : ℤ) (place j : ℕ) (zs : List ℤ) → length (numbers_moved_from over place j zs) ≡ length zs
 moved-length over place j [] = refl
-moved-length over place j (z ∷ zs) = let e : length (moved_from over place (j + 1) zs) ≡ length zs = moved-length over place (j + 1) zs in omega (arith, e)
+moved-length over place j (z ∷ zs) = let e : length (numbers_moved_from over place (j + 1) zs) ≡ length zs = moved-length over place (j + 1) zs in omega (arith, e)
 
-moved-at : (over : ℤ) (place j : ℕ) (zs : List ℤ) (i : ℕ) (d : Fraction) → i < length zs → get_or (moved_from over place j zs) i d ≡ lowest_terms (entry (numerators_from place j zs) i) (pos 4 *ℤ over)
+moved-at : (over : ℤ) (place j : ℕ) (zs : List ℤ) (i : ℕ) (d : Fraction) → i < length zs → get_or (numbers_moved_from over place j zs) i d ≡ lowest_terms (entry (numerators_from place j zs) i) (pos 4 *ℤ over)
 moved-at over place j [] i d h = absurd (omega (arith, h))
 moved-at over place j (z ∷ zs) zero d h = refl
 moved-at over place j (z ∷ zs) (suc i) d h = moved-at over place (j + 1) zs i d (omega (arith, h))
 
-moved-small : (place j : ℕ) (z : ℤ) → unsigned_abs z ≤ 20 ^ 5 → unsigned_abs (moved place j z) ≤ 1099511627776
+moved-small : (place j : ℕ) (z : ℤ) → unsigned_abs z ≤ 20 ^ 5 → unsigned_abs (moved_number place j z) ≤ 1099511627776
 moved-small place j z h = go (place == j + 1)
   where
     go : (b : Bool) → unsigned_abs (pos 4 *ℤ z +ℤ cond b (pos 1) (pos 0)) ≤ 1099511627776
@@ -176,7 +176,7 @@ record IsWorth (cs : List (List Col)) (at : List Fraction) (p : Polynomial) (num
 module _ (cs : List (List Col)) (rows : List Row) (inner : Inner) (few : length cs ≤ 3) (ordered : IsOrdered cs) (i : IsInner cs rows inner) (place : ℕ) (within : place ≤ length cs) where
   -- the numbers of the spot, and what they stand for, over a denominator
   abbrev at : List Fraction
-  at = moved_from inner.over place 0 inner.numbers
+  at = numbers_moved_from inner.over place 0 inner.numbers
 
   abbrev x : List Col → ℤ
   x = numbered cs (λ j. entry (numerators_from place 0 inner.numbers) j)

@@ -24,7 +24,7 @@ use Rattle.elimination.specs.declared.inner.Inner.{Inner}
 use Rattle.elimination.specs.declared.kernel.Kernel.{Kernel}
 use Rattle.elimination.specs.declared.probes.Probe.{Probe}
 use Rattle.elimination.specs.Around.{IsSmallOver, AreAround, weight_at}
-use Rattle.elimination.specs.BasisParts.{IsBasisAsked, AreTied, AreGroups, IsGroupAt, IsSmallDual, AreSmallWeights, AreWeightsAt, dual_multiples, listed}
+use Rattle.elimination.specs.BasisParts.{IsBasisAsked, AreTied, AreGroups, IsGroupAt, IsSmallDual, AreSmallWeights, AreWeightsAt, dual_multiples, values_below}
 use Rattle.elimination.specs.Narrow.{IsSmallChange}
 use Rattle.elimination.specs.Probes.{IsInner, IsProbe, IsNullLine, IsDual, IsKernel}
 use Rattle.elimination.proofs.AroundWeights.{weights_read}
@@ -82,7 +82,7 @@ group_at-is cs own cases probes inners n d inner group same e around = record {
 
 -- ---- weights
 
-listed-entries : (n : ℕ) (f : ℕ → ℤ) (made : List ℤ) → length made ≡ n → ((i : ℕ) → i < n → entry made i ≡ f i) → made ≡ listed n f
+listed-entries : (n : ℕ) (f : ℕ → ℤ) (made : List ℤ) → length made ≡ n → ((i : ℕ) → i < n → entry made i ≡ f i) → made ≡ values_below n f
 listed-entries zero f [] e h = refl
 listed-entries zero f (z ∷ zs) e h = absurd (omega (arith, e))
 listed-entries (suc n) f [] e h = absurd (omega (arith, e))

@@ -13,7 +13,7 @@ use Rattle.simplex.specs.Relations.{IsRelationWith}
 use Rattle.elimination.specs.declared.inner.Inner.{Inner}
 use Rattle.elimination.specs.declared.probes.Probe.{Probe}
 use Rattle.elimination.specs.Around.{weight_at}
-use Rattle.elimination.specs.BasisParts.{zero_tie, AreTied, AreGroups, IsGroupAt, listed, multiples_over, AreWeightsAt}
+use Rattle.elimination.specs.BasisParts.{zero_tie, AreTied, AreGroups, IsGroupAt, values_below, multiples_over, AreWeightsAt}
 
 -- ---- elements at places
 
@@ -108,7 +108,7 @@ pub record AreMultiplesSoFar (columns : ℕ) (over : ℤ) (dual : List ℤ) (pro
 pub multiples-begin : (columns : ℕ) (over : ℤ) (dual : List ℤ) (probes : List Probe) (inners : List Inner) → AreMultiplesSoFar columns over dual probes inners 0 []
 multiples-begin columns over dual probes inners = record { all = refl }
 
-listed-map : {A B : Type 0} (f : A → B) (n : ℕ) (g : ℕ → A) → map f (listed n g) ≡ listed n (λ i. f (g i))
+listed-map : {A B : Type 0} (f : A → B) (n : ℕ) (g : ℕ → A) → map f (values_below n g) ≡ values_below n (λ i. f (g i))
 listed-map f zero g = refl
 listed-map f (suc n) g = ap (λ xs. f (g zero) ∷ xs) (listed-map f n (λ i. g (suc i)))
 
@@ -122,7 +122,7 @@ multiples-more columns over dual probes inners n made next group taken h many lo
         others : List Fraction
         others = multiples_over columns over (drop (n + 1) dual) (drop (n + 1) probes) (drop (n + 1) inners)
 
-        own : group ≡ listed (suc columns) (λ j. lowest_terms (entry dual n *ℤ weight_at columns i.item p.item.place j) over)
+        own : group ≡ values_below (suc columns) (λ j. lowest_terms (entry dual n *ℤ weight_at columns i.item p.item.place j) over)
         own = f ∙ ap (map (λ w. lowest_terms (entry dual n *ℤ w) over)) (at.are p.item i.item p.is i.is) ∙ listed-map (λ w. lowest_terms (entry dual n *ℤ w) over) (suc columns) (weight_at columns i.item p.item.place)
 
         opened : multiples_over columns over (drop n dual) (drop n probes) (drop n inners) ≡ group ++ others

@@ -19,7 +19,7 @@ use Rattle.simplex.proofs.Certificates.{sum_below-first}
 use Rattle.simplex.proofs.Small.{product-small}
 use Rattle.simplex.proofs.Widths.{IsRatio}
 use Rattle.elimination.specs.Around.{IsSmallOver, HasValue}
-use Rattle.elimination.specs.BasisParts.{listed}
+use Rattle.elimination.specs.BasisParts.{values_below}
 use Rattle.elimination.proofs.FreeSums.{HasRatio, IsRatio-lowest, product-of_ratios, sum-of_ratios, side_by, IsSmallSide, side-ratio, side-size}
 
 -- ---- what stands at an unknown, spot by spot
@@ -59,7 +59,7 @@ pub record Reaches (value : Spot → Result Fraction Step.Wide) (total : Fractio
 pub group-reaches : (value : Spot → Result Fraction Step.Wide) (den over : ℤ) (num weight : ℕ → ℤ) (b : ℕ) (x : ℤ) (total : Fraction) (spots rest : List Spot) (more : List Fraction)
     → pos 0 <ℤ den → pos 0 <ℤ over → unsigned_abs den ≤ 12800000 → unsigned_abs over ≤ 481890304 → ((i : ℕ) → unsigned_abs (weight i) ≤ 481890304 * 67108864) → HasNumerators value den num spots
     → IsRatio total x (den *ℤ over) → unsigned_abs x ≤ b → b + length spots * (268435456 * (481890304 * 67108864)) < 2 ^ 127
-    → Reaches value total spots rest (listed (length spots) (λ i. lowest_terms (weight i) over)) more (x +ℤ sum_below (length spots) (λ i. num i *ℤ weight i)) (den *ℤ over)
+    → Reaches value total spots rest (values_below (length spots) (λ i. lowest_terms (weight i) over)) more (x +ℤ sum_below (length spots) (λ i. num i *ℤ weight i)) (den *ℤ over)
 group-reaches value den over num weight b x total [] rest more p q hd ho hw h s hx room = record { next = total; same = refl; ratio = subst (λ z. IsRatio total z (den *ℤ over)) (plain x) s }
   where
     plain : (z : ℤ) → z ≡ z +ℤ pos 0
@@ -84,7 +84,7 @@ group-reaches value den over num weight b x total (spot ∷ spots) rest more p q
     bottom = let most : unsigned_abs (den *ℤ over) ≤ 12800000 * 481890304 = product-small 12800000 481890304 den over hd ho in omega (arith, most)
 
     own : List Fraction
-    own = listed (length spots) (λ i. lowest_terms (weight (suc i)) over)
+    own = values_below (length spots) (λ i. lowest_terms (weight (suc i)) over)
 
     group : (a c e : ℤ) → a +ℤ c +ℤ e ≡ a +ℤ (c +ℤ e)
     group a c e = omega (arith, ints)
@@ -93,8 +93,8 @@ group-reaches value den over num weight b x total (spot ∷ spots) rest more p q
     whole = group x (num zero *ℤ weight zero) (sum_below (length spots) (λ i. num (suc i) *ℤ weight (suc i))) ∙ ap (λ z. x +ℤ z) (sym (sum_below-first (length spots) (λ i. num i *ℤ weight i)))
 
     with_part : HasRatio (ratio_product h.0.0.value (lowest_terms (weight zero) over)) (num zero *ℤ weight zero) (den *ℤ over)
-        → ((next : Fraction) → IsRatio next (x +ℤ num zero *ℤ weight zero) (den *ℤ over) → Reaches value next spots rest (listed (length spots) (λ i. lowest_terms (weight (suc i)) over)) more (x +ℤ num zero *ℤ weight zero +ℤ sum_below (length spots) (λ i. num (suc i) *ℤ weight (suc i))) (den *ℤ over))
-        → Reaches value total (spot ∷ spots) rest (lowest_terms (weight zero) over ∷ listed (length spots) (λ i. lowest_terms (weight (suc i)) over)) more (x +ℤ sum_below (suc (length spots)) (λ i. num i *ℤ weight i)) (den *ℤ over)
+        → ((next : Fraction) → IsRatio next (x +ℤ num zero *ℤ weight zero) (den *ℤ over) → Reaches value next spots rest (values_below (length spots) (λ i. lowest_terms (weight (suc i)) over)) more (x +ℤ num zero *ℤ weight zero +ℤ sum_below (length spots) (λ i. num (suc i) *ℤ weight (suc i))) (den *ℤ over))
+        → Reaches value total (spot ∷ spots) rest (lowest_terms (weight zero) over ∷ values_below (length spots) (λ i. lowest_terms (weight (suc i)) over)) more (x +ℤ sum_below (suc (length spots)) (λ i. num i *ℤ weight i)) (den *ℤ over)
     with_part part again = with_sum (sum-of_ratios b (268435456 * (481890304 * 67108864)) x (num zero *ℤ weight zero) (den *ℤ over) total part.value (*ℤ-positive den over p q) bottom s part.ratio hx part_size (omega (arith, room, opened)))
       where
         with_sum : HasRatio (ratio_sum total part.value) (x +ℤ num zero *ℤ weight zero) (den *ℤ over) → Reaches value total (spot ∷ spots) rest (lowest_terms (weight zero) over ∷ own) more (x +ℤ sum_below (suc (length spots)) (λ i. num i *ℤ weight i)) (den *ℤ over)

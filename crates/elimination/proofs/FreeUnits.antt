@@ -20,7 +20,7 @@ use Rattle.farkas_check.specs.Frames.{line_of, sum_below}
 use Rattle.farkas_check.specs.Parts.{and_then}
 use Rattle.farkas_check.specs.Ratios.{Fraction, whole, lowest_terms}
 use Rattle.farkas_check.specs.Relations.{Side, sides, entry, free_places}
-use Rattle.farkas_check.specs.Stratum.{all_of, terms_of, rows_of, spots_from, spot_side, is_exactly, unit_at, tested_at, tested_unit, tested_free}
+use Rattle.farkas_check.specs.Stratum.{all_of, terms_of, rows_of, spots_from, spot_side, is_exactly, unit_at, unit_test_at, tested_unit, tested_free}
 use Rattle.simplex.proofs.Certificates.{sum_below-first}
 use Rattle.simplex.proofs.Small.{product-small, product_of-fits}
 use Rattle.simplex.proofs.Sums.{sum_below-same}
@@ -28,7 +28,7 @@ use Rattle.simplex.proofs.Widths.{IsRatio, IsShare, shared, factor_small, IsRati
 use Rattle.elimination.specs.declared.inner.Inner.{Inner}
 use Rattle.elimination.specs.declared.probes.Probe.{Probe}
 use Rattle.elimination.specs.Around.{AreAround, around_value, weight_at, WeightsRead}
-use Rattle.elimination.specs.BasisParts.{AreInners, AreGroups, listed, multiples_over, dual_multiples}
+use Rattle.elimination.specs.BasisParts.{AreInners, AreGroups, values_below, multiples_over, dual_multiples}
 use Rattle.elimination.specs.Probes.{read_at, one_at, side_at, probe_at, IsDual, IsProbe, IsInner}
 use Rattle.elimination.proofs.FreeGroups.{group-numerators, Reaches, group-reaches}
 use Rattle.elimination.proofs.FreePlaces.{free-same, all_of-places, all_of-pairs}
@@ -111,7 +111,7 @@ group-read cs inner place count number ss unknown law e h many small =
 probe-reaches : (cs : List (List Col)) (cases : List Change) (lower : List Polynomial) (unknown : ℕ) (over number x : ℤ) (total : Fraction) (probe : Probe) (inner : Inner) (group rest : List Spot) (more : List Fraction)
     → AreReading cs → AreSmallSides cs cases lower → pos 0 <ℤ over → unsigned_abs over ≤ 481890304 → unsigned_abs number ≤ 481890304 → probe.place ≤ length cs → IsInner cs (rows_of cases probe.case) inner → AreAround cs cases probe.case inner group
     → IsRatio total x over → unsigned_abs x ≤ 2 ^ 40
-    → Reaches (λ spot. spot_side cs cases lower spot unknown) total group rest (listed (suc (length cs)) (λ i. lowest_terms (number *ℤ weight_at (length cs) inner probe.place i) over)) more (x +ℤ number *ℤ probe_at cs cases lower probe unknown) over
+    → Reaches (λ spot. spot_side cs cases lower spot unknown) total group rest (values_below (suc (length cs)) (λ i. lowest_terms (number *ℤ weight_at (length cs) inner probe.place i) over)) more (x +ℤ number *ℤ probe_at cs cases lower probe unknown) over
 probe-reaches cs cases lower unknown over number x total probe inner group rest more law sides_small p ho hn place i around s hx =
     turn
     (group-reaches (λ spot. spot_side cs cases lower spot unknown) den over (λ j. side_by (around_value cs inner j) (pos 4 *ℤ inner.over) (sides (terms_of cases probe.case) lower) unknown) (λ j. number *ℤ weight_at (length cs) inner probe.place j)
@@ -140,12 +140,12 @@ probe-reaches cs cases lower unknown over number x total probe inner group rest 
         ap (λ z. den *ℤ x +ℤ z) (group-read cs inner probe.place (length group) number (sides (terms_of cases probe.case) lower) unknown law i.each place around.each (sides_small.small probe.case))
         ∙ sym (*ℤ-+ℤ den x (number *ℤ probe_at cs cases lower probe unknown))
 
-    turn : Reaches (λ spot. spot_side cs cases lower spot unknown) total group rest (listed (length group) (λ j. lowest_terms (number *ℤ weight_at (length cs) inner probe.place j) over)) more
+    turn : Reaches (λ spot. spot_side cs cases lower spot unknown) total group rest (values_below (length group) (λ j. lowest_terms (number *ℤ weight_at (length cs) inner probe.place j) over)) more
         (den *ℤ x +ℤ sum_below (length group) (λ j. side_by (around_value cs inner j) (pos 4 *ℤ inner.over) (sides (terms_of cases probe.case) lower) unknown *ℤ (number *ℤ weight_at (length cs) inner probe.place j))) (den *ℤ over)
-        → Reaches (λ spot. spot_side cs cases lower spot unknown) total group rest (listed (suc (length cs)) (λ j. lowest_terms (number *ℤ weight_at (length cs) inner probe.place j) over)) more (x +ℤ number *ℤ probe_at cs cases lower probe unknown) over
+        → Reaches (λ spot. spot_side cs cases lower spot unknown) total group rest (values_below (suc (length cs)) (λ j. lowest_terms (number *ℤ weight_at (length cs) inner probe.place j) over)) more (x +ℤ number *ℤ probe_at cs cases lower probe unknown) over
     turn r = record {
       next = r.next;
-      same = subst (λ (n : ℕ). spots_from (λ spot. spot_side cs cases lower spot unknown) total (group ++ rest) (listed n (λ j. lowest_terms (number *ℤ weight_at (length cs) inner probe.place j) over) ++ more) ≡ spots_from (λ spot. spot_side cs cases lower spot unknown) r.next rest more) many r.same;
+      same = subst (λ (n : ℕ). spots_from (λ spot. spot_side cs cases lower spot unknown) total (group ++ rest) (values_below n (λ j. lowest_terms (number *ℤ weight_at (length cs) inner probe.place j) over) ++ more) ≡ spots_from (λ spot. spot_side cs cases lower spot unknown) r.next rest more) many r.same;
       ratio = IsRatio-unscaled r.next (x +ℤ number *ℤ probe_at cs cases lower probe unknown) over den above (subst (λ z. IsRatio r.next z (den *ℤ over)) whole_sum r.ratio);
     }
 
@@ -192,7 +192,7 @@ groups-reach cs cases lower unknown over b x total (probe ∷ probes) (inner ∷
     all : x +ℤ number *ℤ probe_at cs cases lower probe unknown +ℤ added ≡ x +ℤ sum_below (suc (length probes)) (λ j. entry (number ∷ numbers) j *ℤ probe_at cs cases lower (get_or (probe ∷ probes) j (record { case = 0; place = 0 })) unknown)
     all = group x (number *ℤ probe_at cs cases lower probe unknown) added ∙ ap (λ z. x +ℤ z) (sym (sum_below-first (length probes) (λ j. entry (number ∷ numbers) j *ℤ probe_at cs cases lower (get_or (probe ∷ probes) j (record { case = 0; place = 0 })) unknown)))
 
-    turn : Reaches (λ spot. spot_side cs cases lower spot unknown) total g.0 g.1.0 (listed (suc (length cs)) (λ i. lowest_terms (number *ℤ weight_at (length cs) inner probe.place i) over)) (multiples_over (length cs) over numbers probes inners) (x +ℤ number *ℤ probe_at cs cases lower probe unknown) over
+    turn : Reaches (λ spot. spot_side cs cases lower spot unknown) total g.0 g.1.0 (values_below (suc (length cs)) (λ i. lowest_terms (number *ℤ weight_at (length cs) inner probe.place i) over)) (multiples_over (length cs) over numbers probes inners) (x +ℤ number *ℤ probe_at cs cases lower probe unknown) over
         → ((next : Fraction) → IsRatio next (x +ℤ number *ℤ probe_at cs cases lower probe unknown) over → HasRatio (spots_from (λ spot. spot_side cs cases lower spot unknown) next g.1.0 (multiples_over (length cs) over numbers probes inners)) (x +ℤ number *ℤ probe_at cs cases lower probe unknown +ℤ added) over)
         → HasRatio (spots_from (λ spot. spot_side cs cases lower spot unknown) total spots (multiples_over (length cs) over (number ∷ numbers) (probe ∷ probes) (inner ∷ inners)))
         (x +ℤ sum_below (suc (length probes)) (λ j. entry (number ∷ numbers) j *ℤ probe_at cs cases lower (get_or (probe ∷ probes) j (record { case = 0; place = 0 })) unknown)) over
@@ -246,7 +246,7 @@ unit-exact total over own p ho s = exact (cond own (pos 1) (pos 0)) (few own) (s
             let size : unsigned_abs (unit *ℤ total.den) ≤ 1 * 481890304 = product-small 1 481890304 unit total.den small (omega (arith, den, ho)) in
             omega (arith, size)
 
-listed-length : (n : ℕ) (f : ℕ → Fraction) → length (listed n f) ≡ n
+listed-length : (n : ℕ) (f : ℕ → Fraction) → length (values_below n f) ≡ n
 listed-length zero f = refl
 listed-length (suc n) f = ap (λ (k : ℕ). suc k) (listed-length n (λ i. f (suc i)))
 
@@ -256,11 +256,11 @@ multiples-length cs cases over [] inners numbers spots long g = ap length (sym g
 multiples-length cs cases over (probe ∷ probes) [] numbers spots long g = absurd g
 multiples-length cs cases over (probe ∷ probes) (inner ∷ inners) [] spots long g = absurd (omega (arith, long))
 multiples-length cs cases over (probe ∷ probes) (inner ∷ inners) (number ∷ numbers) spots long g =
-    let first : length (listed (suc (length cs)) (λ i. lowest_terms (number *ℤ weight_at (length cs) inner probe.place i) over)) ≡ suc (length cs) = listed-length (suc (length cs)) (λ i. lowest_terms (number *ℤ weight_at (length cs) inner probe.place i) over) in
+    let first : length (values_below (suc (length cs)) (λ i. lowest_terms (number *ℤ weight_at (length cs) inner probe.place i) over)) ≡ suc (length cs) = listed-length (suc (length cs)) (λ i. lowest_terms (number *ℤ weight_at (length cs) inner probe.place i) over) in
     let others : length (multiples_over (length cs) over numbers probes inners) ≡ length g.1.0 = multiples-length cs cases over probes inners numbers g.1.0 (omega (arith, long)) g.1.1.1.1 in
     let each : length g.0 ≡ length cs + 1 = g.1.1.1.0.each in
-    length-append (listed (suc (length cs)) (λ i. lowest_terms (number *ℤ weight_at (length cs) inner probe.place i) over)) (multiples_over (length cs) over numbers probes inners)
-    ∙ sums (length (listed (suc (length cs)) (λ i. lowest_terms (number *ℤ weight_at (length cs) inner probe.place i) over))) (length (multiples_over (length cs) over numbers probes inners)) (length g.0) (length g.1.0) (omega (arith, first, each)) others
+    length-append (values_below (suc (length cs)) (λ i. lowest_terms (number *ℤ weight_at (length cs) inner probe.place i) over)) (multiples_over (length cs) over numbers probes inners)
+    ∙ sums (length (values_below (suc (length cs)) (λ i. lowest_terms (number *ℤ weight_at (length cs) inner probe.place i) over))) (length (multiples_over (length cs) over numbers probes inners)) (length g.0) (length g.1.0) (omega (arith, first, each)) others
     ∙ sym (length-append g.0 g.1.0) ∙ ap length (sym g.1.1.0)
   where
     sums : (a b c d : ℕ) → a ≡ c → b ≡ d → a + b ≡ c + d
@@ -279,8 +279,8 @@ dual-tested : (cs : List (List Col)) (cases : List Change) (lower : List Polynom
     → own < length (free_places lines count) → IsDual cs cases lower probes (free_places lines count) own v
     → tested_unit (spot_side cs cases lower) spots (free_places lines count) (get_or (free_places lines count) own 0) (dual_multiples (length cs) probes inners v) ≡ Ok true
 dual-tested cs cases lower lines count probes inners spots own v k here d =
-    ap (λ (b : Bool). and_then (bool_ok b) (all_of (tested_at (spot_side cs cases lower) spots (get_or others own 0) by) others)) (eq-eqb (length by) (length spots) (multiples-length cs cases over probes inners v spots long k.groups))
-    ∙ all_of-places (tested_at (spot_side cs cases lower) spots (get_or others own 0) by) others (λ i h. at i h (reach i))
+    ap (λ (b : Bool). and_then (bool_ok b) (all_of (unit_test_at (spot_side cs cases lower) spots (get_or others own 0) by) others)) (eq-eqb (length by) (length spots) (multiples-length cs cases over probes inners v spots long k.groups))
+    ∙ all_of-places (unit_test_at (spot_side cs cases lower) spots (get_or others own 0) by) others (λ i h. at i h (reach i))
   where
     others : List ℕ
     others = free_places lines count
@@ -312,7 +312,7 @@ dual-tested cs cases lower lines count probes inners spots own v k here d =
     at : (i : ℕ) → i < length (free_places lines count)
         → HasRatio (spots_from (λ spot. spot_side cs cases lower spot (get_or (free_places lines count) i 0)) (whole (pos 0)) spots (dual_multiples (length cs) probes inners v))
         (pos 0 +ℤ sum_below (length probes) (λ j. entry v j *ℤ probe_at cs cases lower (get_or probes j (record { case = 0; place = 0 })) (get_or (free_places lines count) i 0))) (entry v (length probes))
-        → tested_at (spot_side cs cases lower) spots (get_or (free_places lines count) own 0) (dual_multiples (length cs) probes inners v) (get_or (free_places lines count) i 0) ≡ Ok true
+        → unit_test_at (spot_side cs cases lower) spots (get_or (free_places lines count) own 0) (dual_multiples (length cs) probes inners v) (get_or (free_places lines count) i 0) ≡ Ok true
     at i h r =
         ap (λ (q : Result Fraction Step.Wide). q >>= λ total. is_exactly total (unit_at (get_or others own 0) (get_or others i 0))) r.is
         ∙ ap (λ (b : Bool). is_exactly r.value (cond b (pos 1) (pos 0))) (free-same lines count i own h here)

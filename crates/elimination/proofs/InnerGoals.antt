@@ -24,7 +24,7 @@ use Rattle.farkas_check.specs.Tested.{goal_columns}
 use Rattle.simplex.specs.Refusal.{IsRefusalIn}
 use Rattle.simplex.specs.Rows.{kinds_of}
 use Rattle.simplex.specs.Suprema.{with_goal, goal_frame, IsSupremumOf}
-use Rattle.simplex.specs.declared.stop.Stop.TheVariants as stop
+use Rattle.simplex.specs.declared.stop.SearchStop.TheVariants as stop
 use Rattle.simplex.specs.declared.supremum.Supremum.{Supremum}
 use Rattle.simplex.specs.declared.supremum.Supremum.TheVariants as supremum
 use Rattle.simplex.proofs.CalmGoals.{goal_small}

@@ -12,13 +12,13 @@ use Rattle.std.proofs.lemmas.Int.{ints}
 use Rattle.std.proofs.lemmas.Bool.{cases_eq, eq-eqb, ne_eqb, false≢true}
 use Rattle.std.proofs.lemmas.Bool.Decides.{Decides-int_eq}
 use Rattle.std.proofs.Math.IntN.{zero-*ℤ}
-use Rattle.items.specs.Gives.{◌>>=◌, lifted, Gives}
+use Rattle.items.specs.Gives.{◌>>=◌, err_map, Gives}
 use Rattle.whole_numbers.proofs.Ring.{one-*ℤ}
 use Rattle.linear_terms.specs.declared.col.Col.{Col}
 use Rattle.linear_terms.specs.declared.col.Col.TheVariants.{At}
 use Rattle.linear_terms.specs.declared.error.TermError.{TermError}
 use Rattle.linear_terms.specs.Mono.{mono_cmp}
-use Rattle.linear_terms.specs.Operations.{kept, put, put_all, multiple_of, sum_of_polys}
+use Rattle.linear_terms.specs.Operations.{with_term, put, put_all, multiple_of, sum_of_polys}
 use Rattle.linear_terms.specs.Polynomial.{Terms, Polynomial, column_of}
 use Rattle.linear_terms.specs.TermError.{cause, wide, plus, times}
 use Rattle.farkas_check.specs.Columns.{columns, monos_of, with_mono, in_print_order}
@@ -35,7 +35,7 @@ use Rattle.elimination.proofs.ColumnCounts.{fewer_columns}
 
 -- ---- one column more
 
-kept-at : (x : List Col → ℤ) (m : List Col) (c : ℤ) (ts : Terms) → terms_at x (kept m c ts) ≡ c *ℤ x m +ℤ terms_at x ts
+kept-at : (x : List Col → ℤ) (m : List Col) (c : ℤ) (ts : Terms) → terms_at x (with_term m c ts) ≡ c *ℤ x m +ℤ terms_at x ts
 kept-at x m c ts = go (int_eq c (pos 0)) refl
   where
     go : (b : Bool) → int_eq c (pos 0) ≡ b → terms_at x (cond b ts ((m, c) ∷ ts)) ≡ c *ℤ x m +ℤ terms_at x ts
@@ -49,16 +49,16 @@ kept-at x m c ts = go (int_eq c (pos 0)) refl
 before_later : (p j : ℕ) → p < j → mono_cmp (At p ∷ []) (At j ∷ []) ≡ Less
 before_later p j h = ap (λ (o : Ordering). ordering_then o Same) (sym (nat_cmp_is p j Less h))
 
-put-first : (place : ℕ) (n : ℤ) (ts : Terms) → StandsBehind place ts → put (At place ∷ []) n ts ≡ Ok (kept (At place ∷ []) n ts)
+put-first : (place : ℕ) (n : ℤ) (ts : Terms) → StandsBehind place ts → put (At place ∷ []) n ts ≡ Ok (with_term (At place ∷ []) n ts)
 put-first place n [] h = refl
 put-first place n (t ∷ ts) h =
-    ap (λ (o : Ordering). match_ordering o (terms_ok (kept (At place ∷ []) n (t ∷ ts))) (plus t.1 n >>= λ s. terms_ok (kept t.0 s ts)) (put (At place ∷ []) n ts >>= λ made. terms_ok (t ∷ made)))
+    ap (λ (o : Ordering). match_ordering o (terms_ok (with_term (At place ∷ []) n (t ∷ ts))) (plus t.1 n >>= λ s. terms_ok (with_term t.0 s ts)) (put (At place ∷ []) n ts >>= λ made. terms_ok (t ∷ made)))
     (ap (mono_cmp (At place ∷ [])) h.1.1 ∙ before_later place h.0 h.1.0)
   where
     terms_ok : Terms → Result Terms TermError
     terms_ok us = Ok us
 
-put_all-first : (place : ℕ) (n : ℤ) (ts : Terms) → StandsBehind place ts → put_all ts (kept (At place ∷ []) n []) ≡ Ok (kept (At place ∷ []) n ts)
+put_all-first : (place : ℕ) (n : ℤ) (ts : Terms) → StandsBehind place ts → put_all ts (with_term (At place ∷ []) n []) ≡ Ok (with_term (At place ∷ []) n ts)
 put_all-first place n ts h = go (int_eq n (pos 0)) refl
   where
     terms_ok : Terms → Result Terms TermError
@@ -69,19 +69,19 @@ put_all-first place n ts h = go (int_eq n (pos 0)) refl
     go false e = ap (λ (r : Result Terms TermError). r >>= λ made. terms_ok made) (put-first place n ts h) ∙ ap (λ (b : Bool). terms_ok (cond b ts ((At place ∷ [], n) ∷ ts))) e
 
 times_one : (n : ℤ) → unsigned_abs n ≤ 4 → times (pos 1) n ≡ Ok n
-times_one n h = ap (λ r. lifted wide r) (product_of-fits (pos 1) n (subst (λ z. unsigned_abs z < 2 ^ 127) (sym (one-*ℤ n)) (omega (arith, h)))) ∙ ap (λ z. number_ok z) (one-*ℤ n)
+times_one n h = ap (λ r. err_map wide r) (product_of-fits (pos 1) n (subst (λ z. unsigned_abs z < 2 ^ 127) (sym (one-*ℤ n)) (omega (arith, h)))) ∙ ap (λ z. number_ok z) (one-*ℤ n)
   where
     number_ok : ℤ → Result ℤ TermError
     number_ok z = Ok z
 
 times_nothing : (n : ℤ) → times (pos 0) n ≡ Ok (pos 0)
-times_nothing n = ap (λ r. lifted wide r) (product_of-fits (pos 0) n (subst (λ z. unsigned_abs z < 2 ^ 127) (sym (zero-*ℤ n)) (omega arith))) ∙ ap (λ z. number_ok z) (zero-*ℤ n)
+times_nothing n = ap (λ r. err_map wide r) (product_of-fits (pos 0) n (subst (λ z. unsigned_abs z < 2 ^ 127) (sym (zero-*ℤ n)) (omega arith))) ∙ ap (λ z. number_ok z) (zero-*ℤ n)
   where
     number_ok : ℤ → Result ℤ TermError
     number_ok z = Ok z
 
 plus_nothing : (n : ℤ) → unsigned_abs n ≤ 4 → plus n (pos 0) ≡ Ok n
-plus_nothing n h = ap (λ r. lifted wide r) (sum_of-fits n (pos 0) (subst (λ z. unsigned_abs z < 2 ^ 127) (sym (right n)) (omega (arith, h)))) ∙ ap (λ z. number_ok z) (right n)
+plus_nothing n h = ap (λ r. err_map wide r) (sum_of-fits n (pos 0) (subst (λ z. unsigned_abs z < 2 ^ 127) (sym (right n)) (omega (arith, h)))) ∙ ap (λ z. number_ok z) (right n)
   where
     right : (z : ℤ) → z +ℤ pos 0 ≡ z
     right z = omega (arith, ints)
@@ -91,15 +91,15 @@ plus_nothing n h = ap (λ r. lifted wide r) (sum_of-fits n (pos 0) (subst (λ z.
 
 -- a number times a column
 abbrev pub term_of : ℕ → ℤ → Polynomial
-term_of place n = record { terms = kept (At place ∷ []) n []; rest = pos 0 }
+term_of place n = record { terms = with_term (At place ∷ []) n []; rest = pos 0 }
 
 abbrev poly_ok : Polynomial → Result Polynomial TermError
 poly_ok p = Ok p
 
 pub term_made : (place : ℕ) (n : ℤ) → unsigned_abs n ≤ 4 → multiple_of (column_of (At place)) n ≡ Ok (term_of place n)
 term_made place n h =
-    ap (λ (r : Result ℤ TermError). (r >>= λ c. terms_ok (kept (At place ∷ []) c [])) >>= λ ts. times (pos 0) n >>= λ z. poly_ok (record { terms = ts; rest = z })) (times_one n h)
-    ∙ ap (λ (r : Result ℤ TermError). r >>= λ z. poly_ok (record { terms = kept (At place ∷ []) n []; rest = z })) (times_nothing n)
+    ap (λ (r : Result ℤ TermError). (r >>= λ c. terms_ok (with_term (At place ∷ []) c [])) >>= λ ts. times (pos 0) n >>= λ z. poly_ok (record { terms = ts; rest = z })) (times_one n h)
+    ∙ ap (λ (r : Result ℤ TermError). r >>= λ z. poly_ok (record { terms = with_term (At place ∷ []) n []; rest = z })) (times_nothing n)
   where
     terms_ok : Terms → Result Terms TermError
     terms_ok us = Ok us
@@ -107,7 +107,7 @@ term_made place n h =
 pub column_added : (place : ℕ) (n : ℤ) (behind : Polynomial) → StandsBehind place behind.terms → unsigned_abs behind.rest ≤ 4 → sum_of_polys behind (term_of place n) ≡ Ok (with_column place n behind)
 column_added place n behind h small =
     ap (λ (r : Result Terms TermError). r >>= λ ts. plus behind.rest (pos 0) >>= λ z. poly_ok (record { terms = ts; rest = z })) (put_all-first place n behind.terms h)
-    ∙ ap (λ (r : Result ℤ TermError). r >>= λ z. poly_ok (record { terms = kept (At place ∷ []) n behind.terms; rest = z })) (plus_nothing behind.rest small)
+    ∙ ap (λ (r : Result ℤ TermError). r >>= λ z. poly_ok (record { terms = with_term (At place ∷ []) n behind.terms; rest = z })) (plus_nothing behind.rest small)
 
 pub column_answer : (place : ℕ) (n : ℤ) (behind column term : Polynomial) (r : Result Polynomial TermError) → poly_ok (column_of (At place)) ≡ Ok column → multiple_of column n ≡ Ok term
     → unsigned_abs n ≤ 4 → unsigned_abs behind.rest ≤ 4 → StandsBehind place behind.terms → Gives cause (λ p. p) r (sum_of_polys behind term) → Gives cause (λ p. p) r (poly_ok (with_column place n behind))
@@ -172,7 +172,7 @@ made-behind place line p e = let same : poly_from (place + 1) line ≡ p = cc in
 
 -- ---- its value at a point
 
-pub kept-value : (x : List Col → ℤ) (m : List Col) (c : ℤ) (ts : Terms) → terms_at x (kept m c ts) ≡ c *ℤ x m +ℤ terms_at x ts
+pub kept-value : (x : List Col → ℤ) (m : List Col) (c : ℤ) (ts : Terms) → terms_at x (with_term m c ts) ≡ c *ℤ x m +ℤ terms_at x ts
 kept-value x m c ts = go (int_eq c (pos 0)) refl
   where
     go : (b : Bool) → int_eq c (pos 0) ≡ b → terms_at x (cond b ts ((m, c) ∷ ts)) ≡ c *ℤ x m +ℤ terms_at x ts

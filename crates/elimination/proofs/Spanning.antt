@@ -14,7 +14,7 @@ use Rattle.elimination.specs.declared.vectors.Vector.{Vector}
 use Rattle.elimination.specs.declared.spaces.Space.{Space}
 use Rattle.elimination.specs.declared.spaces.Space.TheVariants.{Origin}
 use Rattle.elimination.specs.Echelon.{number_in, IsSpanned, Zero, Own, Sum, IsReducedOf, AreSmallRatios, width}
-use Rattle.elimination.specs.Spaces.{coordinate, cleared, ArePositive, IsIn, Extends, IsSum, IsClearing, IsOver, IsRowIn, IsSpanOf, IsSpaceOf, HasWidth, IsBasisOf}
+use Rattle.elimination.specs.Spaces.{coordinate, cleared_row, ArePositive, IsIn, Extends, IsSum, IsClearing, IsOver, IsRowIn, IsSpanOf, IsSpaceOf, HasWidth, IsBasisOf}
 use Rattle.elimination.proofs.Extensions.{one_some, zero_of_product, zero_in, sum_in}
 use Rattle.elimination.proofs.Magnitudes.{past_third}
 
@@ -74,7 +74,7 @@ coordinates numbers past (suc (suc (suc j))) = past (suc (suc (suc j))) (omega a
 abbrev denominator : List Fraction → ℤ
 denominator row = (number_in row 0).den *ℤ (number_in row 1).den *ℤ (number_in row 2).den
 
-cleared_over : (row : List Fraction) → length row ≤ 3 → (j : ℕ) → coordinate (cleared row) j *ℤ (number_in row j).den ≡ denominator row *ℤ (number_in row j).num
+cleared_over : (row : List Fraction) → length row ≤ 3 → (j : ℕ) → coordinate (cleared_row row) j *ℤ (number_in row j).den ≡ denominator row *ℤ (number_in row j).num
 cleared_over row few zero = plain (number_in row 0).num (number_in row 0).den (number_in row 1).den (number_in row 2).den
   where
     plain : (n a b c : ℤ) → n *ℤ (b *ℤ c) *ℤ a ≡ a *ℤ b *ℤ c *ℤ n
@@ -125,8 +125,8 @@ pub row_in : (space : Space) (line : List Fraction) (v : Vector) (q : ℤ) → l
 row_in space line v q few positive over h = record {
   few = few;
   positive = positive;
-  inside = multiple_in space v (cleared line) (denominator line) q over.apart
-      (λ j. sym (multiples (denominator line) q (number_in line j).num (number_in line j).den (coordinate v j) (coordinate (cleared line) j) (positive.at j) (over.same j) (cleared_over line few j))) h;
+  inside = multiple_in space v (cleared_row line) (denominator line) q over.apart
+      (λ j. sym (multiples (denominator line) q (number_in line j).num (number_in line j).den (coordinate v j) (coordinate (cleared_row line) j) (positive.at j) (over.same j) (cleared_over line few j))) h;
 }
 
 -- ---- what rows of a space span lies in it
@@ -136,12 +136,12 @@ spanned_in space rows within _ (Zero numbers e) = zero_in space (first_three num
 spanned_in space rows within _ (Own place row numbers here multiple) = own (each-get (IsRowIn space) rows place row within here)
   where
     own : IsRowIn space row → IsIn space (first_three numbers)
-    own r = multiple_in space (cleared row) (first_three numbers) multiple.times (denominator row) (denominator_some row r.positive) at r.inside
+    own r = multiple_in space (cleared_row row) (first_three numbers) multiple.times (denominator row) (denominator_some row r.positive) at r.inside
       where
-        at_place : (j : ℕ) → denominator row *ℤ numbers j ≡ multiple.times *ℤ coordinate (cleared row) j
-        at_place j = multiples (denominator row) multiple.times (number_in row j).num (number_in row j).den (numbers j) (coordinate (cleared row) j) (r.positive.at j) (multiple.same j) (cleared_over row r.few j)
+        at_place : (j : ℕ) → denominator row *ℤ numbers j ≡ multiple.times *ℤ coordinate (cleared_row row) j
+        at_place j = multiples (denominator row) multiple.times (number_in row j).num (number_in row j).den (numbers j) (coordinate (cleared_row row) j) (r.positive.at j) (multiple.same j) (cleared_over row r.few j)
 
-        at : (j : ℕ) → denominator row *ℤ coordinate (first_three numbers) j ≡ multiple.times *ℤ coordinate (cleared row) j
+        at : (j : ℕ) → denominator row *ℤ coordinate (first_three numbers) j ≡ multiple.times *ℤ coordinate (cleared_row row) j
         at zero = at_place 0
         at (suc zero) = at_place 1
         at (suc (suc zero)) = at_place 2
@@ -160,20 +160,20 @@ sum_places space v w s (suc zero) = one_time (s.times *ℤ w.y) s.part.y (s.by *
 sum_places space v w s (suc (suc zero)) = one_time (s.times *ℤ w.z) s.part.z (s.by *ℤ v.z) s.z
 sum_places space v w s (suc (suc (suc j))) = times_zero s.times ∙ rw (times_zero s.by) refl
 
-one_more : (rows : List (List Fraction)) (row : List Fraction) (before after : Space) → IsSpanOf rows before → length row ≤ 3 → ArePositive row → Extends before (cleared row) after → IsSpanOf (rows ++ row ∷ []) after
+one_more : (rows : List (List Fraction)) (row : List Fraction) (before after : Space) → IsSpanOf rows before → length row ≤ 3 → ArePositive row → Extends before (cleared_row row) after → IsSpanOf (rows ++ row ∷ []) after
 one_more rows row before after span few positive x = record {
   within =
-      each-append (IsRowIn after) rows (row ∷ []) (each-more (IsRowIn before) (IsRowIn after) (λ r h. record { few = h.few; positive = h.positive; inside = x.kept (cleared r) h.inside }) rows span.within)
+      each-append (IsRowIn after) rows (row ∷ []) (each-more (IsRowIn before) (IsRowIn after) (λ r h. record { few = h.few; positive = h.positive; inside = x.kept (cleared_row r) h.inside }) rows span.within)
       (record { few = few; positive = positive; inside = x.own }, tt);
   spanned = λ w h. made w (x.made w h);
 }
   where
-    made : (w : Vector) → IsSum before (cleared row) w → IsSpanned (rows ++ row ∷ []) (coordinate w)
+    made : (w : Vector) → IsSum before (cleared_row row) w → IsSpanned (rows ++ row ∷ []) (coordinate w)
     made w s =
-        Sum (coordinate s.part) (coordinate (cleared row)) (coordinate w) (pos 1) s.by s.times
+        Sum (coordinate s.part) (coordinate (cleared_row row)) (coordinate w) (pos 1) s.by s.times
         (spanned-more rows (row ∷ []) (coordinate s.part) (span.spanned s.part s.within))
-        (Own (length rows) row (coordinate (cleared row)) (slice_get-last rows row) (record { times = denominator row; same = cleared_over row few }))
-        s.apart (sum_places before (cleared row) w s)
+        (Own (length rows) row (coordinate (cleared_row row)) (slice_get-last rows row) (record { times = denominator row; same = cleared_over row few }))
+        s.apart (sum_places before (cleared_row row) w s)
 
 -- ---- for the code
 

@@ -19,7 +19,7 @@ use Rattle.farkas_check.specs.Stratum.{terms_of}
 use Rattle.simplex.proofs.Corners.{none}
 use Rattle.simplex.proofs.Exchanges.{times_zero}
 use Rattle.simplex.proofs.Sums.{sum_below-same}
-use Rattle.elimination.specs.declared.kernel.Stage.{Stage}
+use Rattle.elimination.specs.declared.kernel.ProbeStage.{ProbeStage}
 use Rattle.elimination.specs.declared.probes.Probe.{Probe}
 use Rattle.elimination.specs.Probes.{side_at, difference_at, probe_at, IsRegular, IsNullLine, IsNothing, IsDual, IsKernel}
 use Rattle.elimination.specs.Stages.{IsSmallKernel, IsRisingFrom, unknowns_from, free_from, probe_number, spread, chosen_value, VanishesAtAll, IsApart, AreChosenNumbers, IsOwnRelation, IsStage, AreDuals}
@@ -122,7 +122,7 @@ terms-listed (c ∷ cases) (suc case) = terms-listed cases case
 
 -- ---- stages
 
-module _ (cs : List (List Col)) (cases : List Change) (lower : List Polynomial) (u : ℕ) (stage : Stage) (here : u < unknown_count cases lower) (s : IsStage cs cases lower (suc u) stage) (v : List ℤ) (o : IsOwnRelation cs cases lower stage.probes stage.free u v) where
+module _ (cs : List (List Col)) (cases : List Change) (lower : List Polynomial) (u : ℕ) (stage : ProbeStage) (here : u < unknown_count cases lower) (s : IsStage cs cases lower (suc u) stage) (v : List ℤ) (o : IsOwnRelation cs cases lower stage.probes stage.free u v) where
   left : unknown_count cases lower - u ≡ suc (unknown_count cases lower - suc u)
   left = omega (arith, here)
 
@@ -228,12 +228,12 @@ unknowns-all n = unknowns-listed 0 n ∙ same (places n)
     same [] = refl
     same (x ∷ xs) = let e : 0 + x ≡ x = omega arith in ap (λ (w : ℕ). w ∷ map (λ place. 0 + place) xs) e ∙ ap (λ (ys : List ℕ). x ∷ ys) (same xs)
 
-pub stage-last_free : (cs : List (List Col)) (cases : List Change) (lower : List Polynomial) (stage : Stage) → IsStage cs cases lower 0 stage → stage.free ≡ free_places stage.relations (unknown_count cases lower)
+pub stage-last_free : (cs : List (List Col)) (cases : List Change) (lower : List Polynomial) (stage : ProbeStage) → IsStage cs cases lower 0 stage → stage.free ≡ free_places stage.relations (unknown_count cases lower)
 stage-last_free cs cases lower stage s =
     let e : unknown_count cases lower - 0 ≡ unknown_count cases lower = omega arith in
     s.free ∙ ap (free_from stage.relations 0) e ∙ ap (filter (λ place. not (list_any (λ p. p == place) (map pivot stage.relations)))) (unknowns-all (unknown_count cases lower))
 
-pub kernel_of : (cs : List (List Col)) (cases : List Change) (lower : List Polynomial) (stage : Stage) (duals : List (List ℤ)) → IsStage cs cases lower 0 stage → AreDuals cs cases lower stage.probes stage.free (length stage.free) duals
+pub kernel_of : (cs : List (List Col)) (cases : List Change) (lower : List Polynomial) (stage : ProbeStage) (duals : List (List ℤ)) → IsStage cs cases lower 0 stage → AreDuals cs cases lower stage.probes stage.free (length stage.free) duals
     → IsKernel cs cases lower (record { relations = stage.relations; probes = stage.probes; duals = duals })
 kernel_of cs cases lower stage duals s d = record {
   reduced = s.reduced;
@@ -254,7 +254,7 @@ stage-begin cs cases lower start relations free probes e f g h =
     (subst (λ (us : List ℕ). IsStage cs cases lower (unknown_count cases lower) (record { relations = []; free = us; probes = probes })) (sym g)
     (subst (λ (ps : List Probe). IsStage cs cases lower (unknown_count cases lower) (record { relations = []; free = []; probes = ps })) (sym h) (stage-first cs cases lower))))
 
-module _ (cs : List (List Col)) (cases : List Change) (lower : List Polynomial) (u : ℕ) (stage : Stage) (here : u < unknown_count cases lower) (s : IsStage cs cases lower (u + 1) stage) (v : List ℤ) (o : IsOwnRelation cs cases lower stage.probes stage.free u v) (next : Stage) where
+module _ (cs : List (List Col)) (cases : List Change) (lower : List Polynomial) (u : ℕ) (stage : ProbeStage) (here : u < unknown_count cases lower) (s : IsStage cs cases lower (u + 1) stage) (v : List ℤ) (o : IsOwnRelation cs cases lower stage.probes stage.free u v) (next : ProbeStage) where
   at_suc : IsStage cs cases lower (suc u) stage
   at_suc = let e : u + 1 ≡ suc u = omega arith in subst (λ (n : ℕ). IsStage cs cases lower n stage) e s
 

@@ -23,7 +23,7 @@ use Rattle.farkas_check.specs.declared.stratum.Tie.{Tie}
 use Rattle.farkas_check.specs.Multiples.{is_multiplier, are_multipliers, Form, sum_from, number_at, constant_in, sums_at, constant_sum, sum_of_multiples, same_form}
 use Rattle.farkas_check.specs.Parts.{and_then}
 use Rattle.farkas_check.specs.Relations.{Side, Term, Lower, One, sides, numbers_of, difference, with_side, with_sides, coefficient_at, rest_of, difference_numbers, difference_form}
-use Rattle.farkas_check.specs.Stratum.{all_of, multiples_of, multiple_of, scaled_up, scaled_down, tested_half, tested_multiple, tested_tie, tested_relation}
+use Rattle.farkas_check.specs.Stratum.{all_of, multiples_of, multiple_of, scale_times, minus_scale_times, tested_half, tested_multiple, tested_tie, tested_relation}
 use Rattle.farkas_check.proofs.Differences.{one_if, with_sides-value}
 use Rattle.farkas_check.proofs.Farkas.{bool_ok, numbers_ok, form_ok, form_of}
 use Rattle.simplex.specs.Relations.{IsRelationWith}
@@ -224,9 +224,9 @@ half-passes scaled cs rows form e f =
 tie-passes : (cs : List (List Col)) (lower : List Polynomial) (numbers : List ℤ) (case : Change) → AreWithin 481890304 numbers → length numbers < 2 ^ 61 → AllByRecursion (IsSmallSide cs) (sides case.terms lower) → IsNothing cs lower numbers case
     → tested_tie cs lower numbers case (zero_tie case) ≡ Ok true
 tie-passes cs lower numbers case h few k nothing =
-    and_then-passes (tested_half scaled_up cs case.rows (difference_form numbers (sides case.terms lower) cs) (pos 1) (no_multipliers case.rows)) (tested_half scaled_down cs case.rows (difference_form numbers (sides case.terms lower) cs) (pos 1) (no_multipliers case.rows))
-    (half-passes scaled_up cs case.rows (difference_form numbers (sides case.terms lower) cs) refl form)
-    (half-passes scaled_down cs case.rows (difference_form numbers (sides case.terms lower) cs) refl form)
+    and_then-passes (tested_half scale_times cs case.rows (difference_form numbers (sides case.terms lower) cs) (pos 1) (no_multipliers case.rows)) (tested_half minus_scale_times cs case.rows (difference_form numbers (sides case.terms lower) cs) (pos 1) (no_multipliers case.rows))
+    (half-passes scale_times cs case.rows (difference_form numbers (sides case.terms lower) cs) refl form)
+    (half-passes minus_scale_times cs case.rows (difference_form numbers (sides case.terms lower) cs) refl form)
   where
     form : difference_form numbers (sides case.terms lower) cs ≡ Ok (form_of (zeros cs) (pos 0))
     form = form-nothing cs numbers (sides case.terms lower) h few k nothing

@@ -92,22 +92,22 @@ abbrev pub AreSmallWeights : List ℤ → Type 0
 AreSmallWeights weights = All (λ z. unsigned_abs z ≤ 67108864) weights
 
 -- f 0, .., f (n - 1)
-abbrev pub listed : {A : Type 0} → ℕ → (ℕ → A) → List A
-listed zero f = []
-listed (suc n) f = f zero ∷ listed n (λ i. f (suc i))
+abbrev pub values_below : {A : Type 0} → ℕ → (ℕ → A) → List A
+values_below zero f = []
+values_below (suc n) f = f zero ∷ values_below n (λ i. f (suc i))
 
 -- what the place of the probe at a place takes of the spots around the inner point there
 pub record AreWeightsAt (columns : ℕ) (probes : List Probe) (inners : List Inner) (place : ℕ)
     (weights : List ℤ) : Type 0 where
   pub are : (probe : Probe) (inner : Inner) → slice_get probes place ≡ Some probe
       → slice_get inners place ≡ Some inner
-      → weights ≡ listed (suc columns) (weight_at columns inner probe.place)
+      → weights ≡ values_below (suc columns) (weight_at columns inner probe.place)
 
 -- a number times what the place of a probe takes of the spots around an inner point, over another
 -- number
 abbrev pub group_multiples : ℕ → ℤ → ℤ → Probe → Inner → List Fraction
 group_multiples columns over number probe inner =
-    listed (suc columns) (λ i. lowest_terms (number *ℤ weight_at columns inner probe.place i) over)
+    values_below (suc columns) (λ i. lowest_terms (number *ℤ weight_at columns inner probe.place i) over)
 
 -- the same for numbers and probes, one after another
 abbrev pub multiples_over : ℕ → ℤ → List ℤ → List Probe → List Inner → List Fraction

@@ -8,7 +8,7 @@ use Rattle.linear_terms.specs.declared.col.Col.{Col}
 use Rattle.linear_terms.specs.declared.col.Col.TheVariants.{At}
 use Rattle.linear_terms.specs.declared.row.Kind.TheVariants.{Equal}
 use Rattle.linear_terms.specs.declared.row.Row.{Row}
-use Rattle.linear_terms.specs.Operations.{kept}
+use Rattle.linear_terms.specs.Operations.{with_term}
 use Rattle.linear_terms.specs.Polynomial.{Terms, Polynomial, constant_of}
 use Rattle.farkas_check.specs.Frames.{sum_below}
 use Rattle.farkas_check.specs.Points.{ratio_at}
@@ -29,7 +29,7 @@ pub record AreRegularLines (lines : List (List ℤ)) : Type 0 where
 
 -- a polynomial with one more entry column, in front
 abbrev pub with_column : ℕ → ℤ → Polynomial → Polynomial
-with_column place number p = record { terms = kept (At place ∷ []) number p.terms; rest = p.rest }
+with_column place number p = record { terms = with_term (At place ∷ []) number p.terms; rest = p.rest }
 
 -- the polynomial of numbers at the entry columns from a place on; the last number is the constant
 abbrev pub poly_from : ℕ → List ℤ → Polynomial

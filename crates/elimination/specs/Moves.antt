@@ -14,18 +14,18 @@ pub record IsSmallInner (inner : Inner) : Type 0 where
   pub small : AllByRecursion (λ z. unsigned_abs z ≤ 20 ^ 5) inner.numbers
 
 -- four times the number of the j-th column, and one more in the spot that is moved along it
-abbrev pub moved : ℕ → ℕ → ℤ → ℤ
-moved place j number = pos 4 *ℤ number +ℤ (if place == j + 1 then pos 1 else pos 0)
+abbrev pub moved_number : ℕ → ℕ → ℤ → ℤ
+moved_number place j number = pos 4 *ℤ number +ℤ (if place == j + 1 then pos 1 else pos 0)
 
 -- the numbers of a spot over four times the denominator, from the j-th column on
-abbrev pub moved_from : ℤ → ℕ → ℕ → List ℤ → List Fraction
-moved_from over place j [] = []
-moved_from over place j (z ∷ zs) = lowest_terms (moved place j z) (pos 4 *ℤ over) ∷ moved_from over
+abbrev pub numbers_moved_from : ℤ → ℕ → ℕ → List ℤ → List Fraction
+numbers_moved_from over place j [] = []
+numbers_moved_from over place j (z ∷ zs) = lowest_terms (moved_number place j z) (pos 4 *ℤ over) ∷ numbers_moved_from over
     place (j + 1) zs
 
 -- the spot at a place
 abbrev pub spot_at : ℕ → Inner → ℕ → Spot
-spot_at case inner place = record { case = case; at = moved_from inner.over place 0 inner.numbers }
+spot_at case inner place = record { case = case; at = numbers_moved_from inner.over place 0 inner.numbers }
 
 -- the first so many spots
 abbrev pub spots_to : ℕ → Inner → ℕ → List Spot

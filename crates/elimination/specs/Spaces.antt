@@ -47,8 +47,8 @@ cleared_number row place i k =
     (number_in row place).num *ℤ ((number_in row i).den *ℤ (number_in row k).den)
 
 -- a row times its three denominators
-abbrev pub cleared : List Fraction → Vector
-cleared row = record {
+abbrev pub cleared_row : List Fraction → Vector
+cleared_row row = record {
   x = cleared_number row 0 1 2;
   y = cleared_number row 1 0 2;
   z = cleared_number row 2 0 1;
@@ -59,7 +59,7 @@ pub record ArePositive (row : List Fraction) : Type 0 where
 
 -- what clearing a small row gives
 pub record IsClearing (row : List Fraction) (v : Vector) : Type 0 where
-  pub value : v ≡ cleared row
+  pub value : v ≡ cleared_row row
   pub positive : ArePositive row
   pub small : IsUpTo (2 ^ 18) v
 
@@ -112,7 +112,7 @@ pub record Extends (before : Space) (v : Vector) (after : Space) : Type 0 where
 pub record IsRowIn (space : Space) (row : List Fraction) : Type 0 where
   pub few : length row ≤ 3
   pub positive : ArePositive row
-  pub inside : IsIn space (cleared row)
+  pub inside : IsIn space (cleared_row row)
 
 -- the rows span the space
 pub record IsSpanOf (rows : List (List Fraction)) (space : Space) : Type 0 where

@@ -10,7 +10,7 @@ use Rattle.farkas_check.specs.Calm.{at_chosen}
 use Rattle.farkas_check.specs.Frames.{sum_below}
 use Rattle.farkas_check.specs.Relations.{unknown_count, pivot, places, entry, is_reduced, have_equally_many, term_count}
 use Rattle.farkas_check.specs.Sizes.{HasNumbersUpTo}
-use Rattle.elimination.specs.declared.kernel.Stage.{Stage}
+use Rattle.elimination.specs.declared.kernel.ProbeStage.{ProbeStage}
 use Rattle.elimination.specs.declared.probes.Probe.{Probe}
 use Rattle.elimination.specs.Probes.{probe_at, IsRegular, IsNullLine, IsProbe, IsDual}
 
@@ -130,7 +130,7 @@ free_from relations start n =
 -- All unknowns from one on are taken: each is the pivot of a relation, or one of those that have
 -- probes. These stand in rising order, so the one that was taken last comes first.
 pub record IsStage (cs : List (List Col)) (cases : List Change) (lower : List Polynomial)
-    (start : ℕ) (stage : Stage) : Type 0 where
+    (start : ℕ) (stage : ProbeStage) : Type 0 where
   pub reduced : IsTrue (is_reduced stage.relations)
   pub lines : AllByRecursion (IsNullLine cs cases lower) stage.relations
   pub behind : AllByRecursion (λ line. start ≤ pivot line) stage.relations

@@ -5,7 +5,7 @@ ghost use Rattle.farkas_check.specs.Relations.{entry};
 ghost use Rattle.farkas_check.specs.Stratum.{rows_of};
 ghost use Rattle.farkas_check.proofs.Walks.{IsOrdered};
 ghost use Rattle.elimination.specs.Around.{IsSmallOver, AreAround, sum_of_all, constant_weight, column_weight, weight_at};
-ghost use Rattle.elimination.specs.Moves.{IsSmallInner, moved, moved_from, spot_at, spots_to, weights_to};
+ghost use Rattle.elimination.specs.Moves.{IsSmallInner, moved_number, numbers_moved_from, spot_at, spots_to, weights_to};
 ghost use Rattle.elimination.specs.Probes.{IsInner};
 
 use crate::inner::Inner;
@@ -73,7 +73,7 @@ fn moved_numbers(
     requires positive { pos 0 <ℤ over.now }
     requires over_small { unsigned_abs over.now ≤ 20 ^ 5 }
     requires small { AllByRecursion (λ z. unsigned_abs z ≤ 20 ^ 5) numbers.now }
-    ensures { IfOk result (λ made. made ≡ moved_from over.now place 0 numbers.now) }
+    ensures { IfOk result (λ made. made ≡ numbers_moved_from over.now place 0 numbers.now) }
 {
     let mut made = Items::new(alloc);
     for (j, number) in numbers.iter().enumerate() {
@@ -88,9 +88,9 @@ fn moved_ratio(number: &i128, over: &i128, j: usize, place: usize) -> Ratio
     requires positive { pos 0 <ℤ over.now }
     requires over_small { unsigned_abs over.now ≤ 20 ^ 5 }
     requires small { unsigned_abs number.now ≤ 20 ^ 5 }
-    ensures { result ≡ lowest_terms (moved place j number.now) (pos 4 *ℤ over.now) }
+    ensures { result ≡ lowest_terms (moved_number place j number.now) (pos 4 *ℤ over.now) }
 {
-    Ratio::lowest(moved(number, j, place), four_times(over))
+    Ratio::lowest(moved_number(number, j, place), four_times(over))
 }
 
 /// Four times a number.
@@ -102,10 +102,10 @@ fn four_times(number: &i128) -> i128
 }
 
 /// Four times the number of the j-th column, and one more in the spot that is moved along it.
-fn moved(number: &i128, j: usize, place: usize) -> i128
+fn moved_number(number: &i128, j: usize, place: usize) -> i128
     requires few { j ≤ 3 }
     requires small { unsigned_abs number.now ≤ 20 ^ 5 }
-    ensures { result ≡ moved place j number.now }
+    ensures { result ≡ moved_number place j number.now }
 {
     if place == j + 1 {
         return 4 * number + 1;

@@ -11,7 +11,7 @@ use crate::points::entry_values;
 use farkas_check::{Goal, Ratio, canonical_rows, case_columns};
 use items::Items;
 use linear_terms::{Kind, Poly, Row};
-use simplex::{Stop, Supremum, supremum_of};
+use simplex::{SearchStop, Supremum, supremum_of};
 use std::alloc::{AllocError, Global};
 
 /// Small whole numbers that make each line negative, or nothing where there are none.
@@ -86,8 +86,8 @@ fn corner_of(
     let _lines = lines;
     match supremum_of(alloc, goal, i128::MAX as u128) {
         Ok(found) => Ok(point_of(found)),
-        Err(Stop::Wide(_step)) => Ok(None),
-        Err(Stop::Memory) => Err(AllocError),
+        Err(SearchStop::Wide(_step)) => Ok(None),
+        Err(SearchStop::Memory) => Err(AllocError),
     }
 }
 
@@ -130,7 +130,7 @@ fn over_common(alloc: Global, ratios: &[Ratio]) -> Result<Items<i128>, AllocErro
 {
     match least_numerators(alloc, ratios) {
         Ok(numbers) => Ok(numbers),
-        Err(Stop::Memory) => Err(AllocError),
-        Err(Stop::Wide(_step)) => unreachable!(),
+        Err(SearchStop::Memory) => Err(AllocError),
+        Err(SearchStop::Wide(_step)) => unreachable!(),
     }
 }

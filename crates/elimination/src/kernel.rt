@@ -25,7 +25,7 @@ pub(crate) struct Kernel {
 /// Where the search for relations stands: what it found, the unknowns that are no pivot so far, and
 /// as many probes.
 #[derive(Drop)]
-pub(crate) struct Stage {
+pub(crate) struct ProbeStage {
     relations: Items<Items<i128>>,
     free: Items<usize>,
     probes: Items<Probe>,
@@ -60,7 +60,7 @@ fn kernel_of_cases(
     Ok(kernel_with(stage, duals))
 }
 
-fn kernel_with(stage: Stage, duals: Items<Items<i128>>) -> Kernel
+fn kernel_with(stage: ProbeStage, duals: Items<Items<i128>>) -> Kernel
     ensures { result
         ≡ record { relations = stage.relations; probes = stage.probes; duals = duals } }
 {
@@ -77,12 +77,12 @@ fn last_stage(
     columns: &[Mono],
     cases: &[Change],
     lower: &[Poly],
-) -> Result<Stage, AllocError>
+) -> Result<ProbeStage, AllocError>
     requires { IsSmallKernel columns.now cases.now lower.now }
     ensures { IfOk result (λ stage. IsStage columns.now cases.now lower.now 0 stage) }
 {
     let count = unknown_count(cases, lower);
-    let mut stage = Stage {
+    let mut stage = ProbeStage {
         relations: Items::new(alloc),
         free: Items::new(alloc),
         probes: Items::new(alloc),
@@ -117,8 +117,8 @@ fn with_unknown(
     cases: &[Change],
     lower: &[Poly],
     unknown: usize,
-    stage: Stage,
-) -> Result<Stage, AllocError>
+    stage: ProbeStage,
+) -> Result<ProbeStage, AllocError>
     requires small { IsSmallKernel columns.now cases.now lower.now }
     requires here { unknown < unknown_count cases.now lower.now }
     requires stage { IsStage columns.now cases.now lower.now (unknown + 1) stage }
@@ -152,10 +152,10 @@ fn with_numbers(
     alloc: Global,
     cases: &[Change],
     lower: &[Poly],
-    stage: Stage,
+    stage: ProbeStage,
     chosen: &[usize],
     numbers: &[i128],
-) -> Result<Stage, AllocError>
+) -> Result<ProbeStage, AllocError>
     requires { AreChosenNumbers chosen.now numbers.now }
     ensures { IfOk result
         (λ next. next
@@ -171,13 +171,17 @@ fn with_numbers(
     with_relation(alloc, stage, line)
 }
 
-fn with_relation(alloc: Global, stage: Stage, line: Items<i128>) -> Result<Stage, AllocError>
+fn with_relation(
+    alloc: Global,
+    stage: ProbeStage,
+    line: Items<i128>,
+) -> Result<ProbeStage, AllocError>
     ensures { IfOk result
         (λ next. next
         ≡ record { relations = line ∷ stage.relations; free = stage.free; probes = stage.probes }) }
 {
     let relations = with_first(alloc, line, stage.relations)?;
-    Ok(Stage {
+    Ok(ProbeStage {
         relations,
         free: stage.free,
         probes: stage.probes,
@@ -186,10 +190,10 @@ fn with_relation(alloc: Global, stage: Stage, line: Items<i128>) -> Result<Stage
 
 fn with_probe(
     alloc: Global,
-    stage: Stage,
+    stage: ProbeStage,
     unknown: usize,
     probe: Probe,
-) -> Result<Stage, AllocError>
+) -> Result<ProbeStage, AllocError>
     ensures { IfOk result
         (λ next. next
         ≡ record {
@@ -201,7 +205,7 @@ fn with_probe(
 {
     let free = with_first(alloc, unknown, stage.free)?;
     let probes = with_first(alloc, probe, stage.probes)?;
-    Ok(Stage {
+    Ok(ProbeStage {
         relations: stage.relations,
         free,
         probes,
@@ -234,7 +238,7 @@ fn own_relation(
     columns: &[Mono],
     cases: &[Change],
     lower: &[Poly],
-    stage: &Stage,
+    stage: &ProbeStage,
     unknown: usize,
     chosen: &[usize],
 ) -> Result<Items<i128>, AllocError>
@@ -416,7 +420,7 @@ fn duals(
     columns: &[Mono],
     cases: &[Change],
     lower: &[Poly],
-    stage: &Stage,
+    stage: &ProbeStage,
 ) -> Result<Items<Items<i128>>, AllocError>
     requires small { HasSmallTerms cases.now lower.now }
     requires stage { IsStage columns.now cases.now lower.now 0 stage.now }
@@ -436,7 +440,7 @@ fn dual(
     columns: &[Mono],
     cases: &[Change],
     lower: &[Poly],
-    stage: &Stage,
+    stage: &ProbeStage,
     own: usize,
 ) -> Result<Items<i128>, AllocError>
     requires small { HasSmallTerms cases.now lower.now }

@@ -29,5 +29,5 @@ mod vectors;
 
 pub use answering::{answer, infeasible, sup};
 pub use questions::narrow;
-pub use reduction::{are_small_ratios, reduced, uniqueness_of_reduced};
+pub use reduction::{are_small_ratios, reduced_basis, uniqueness_of_reduced};
 pub use strata::stratum;

@@ -11,7 +11,7 @@ use crate::points::entry_values;
 use farkas_check::{Answer, Ratio, case_columns};
 use items::Items;
 use linear_terms::{Col, Kind, Mono, Poly, Row, TermError, add, scale};
-use simplex::Stop;
+use simplex::SearchStop;
 use std::alloc::{AllocError, Global};
 
 /// The numbers without common divisor, the last of them positive, that each of a few small
@@ -140,8 +140,8 @@ fn over_least(
     lowest_ratios(values);
     match least_numerators(alloc, values) {
         Ok(numbers) => Ok(numbers),
-        Err(Stop::Memory) => Err(AllocError),
-        Err(Stop::Wide(_step)) => unreachable!(),
+        Err(SearchStop::Memory) => Err(AllocError),
+        Err(SearchStop::Wide(_step)) => unreachable!(),
     }
 }
 

@@ -4,14 +4,17 @@ ghost use Rattle.elimination.specs.Spaces.{IsSome, IsProper, IsSpaceOf, HasWidth
 ghost use Rattle.elimination.specs.declared.spaces.Space.TheVariants.{Line, Plane, Whole};
 
 use crate::spaces::Space;
-use crate::vectors::{Vector, cleared};
+use crate::vectors::{Vector, cleared_row};
 use farkas_check::Ratio;
 use items::Items;
 use std::alloc::{AllocError, Global};
 
 /// The reduced row echelon basis of rows of equal lengths with at most three columns and small
 /// numbers. The one error is want of memory.
-pub fn reduced(alloc: Global, rows: &[Items<Ratio>]) -> Result<Items<Items<Ratio>>, AllocError>
+pub fn reduced_basis(
+    alloc: Global,
+    rows: &[Items<Ratio>],
+) -> Result<Items<Items<Ratio>>, AllocError>
     requires { AreSmallRatios rows.now }
     ensures { IfOk result (λ lines. IsReducedOf rows.now lines) }
 {
@@ -67,7 +70,7 @@ fn span_of(rows: &[Items<Ratio>]) -> Space
 {
     let mut space = Space::Origin;
     for row in rows {
-        space = space.with(&cleared(row.as_slice()));
+        space = space.with(&cleared_row(row.as_slice()));
     }
     space
 }

@@ -55,7 +55,7 @@ fn product(left: &i128, right: &i128) -> i128
 }
 
 /// A row of at most three numbers, times its denominators.
-pub(crate) fn cleared(row: &[Ratio]) -> Vector
+pub(crate) fn cleared_row(row: &[Ratio]) -> Vector
     requires few { length row.now ≤ 3 }
     requires small { All IsSmallRatio row.now }
     ensures { IsClearing row.now result }

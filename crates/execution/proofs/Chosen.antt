@@ -10,14 +10,14 @@ use Rattle.syntax_tree.specs.declared.program.Proc.{Proc}
 use Rattle.syntax_tree.specs.declared.program.Program.{Program}
 use Rattle.syntax_tree.specs.Term.{Term}
 use Rattle.syntax_tree.specs.Code.{Statement, Set, Any, Call, Guard, Check, If, Loop, Break, Continue, Return, Code, End, Then, code_of}
-use Rattle.syntax_tree.specs.Value.{State, evaluated, is_true, value_of}
+use Rattle.syntax_tree.specs.Value.{State, evaluation_result, is_true, value_of}
 use Rattle.syntax_tree.specs.WellFormed.{IsProcFit, IsWellFormed, callee_fits, code_fits, columns_below, cond_fits, statement_fits, width_of}
 use Rattle.execution.specs.declared.outcome.Event.{Event}
 use Rattle.execution.specs.declared.outcome.Event.TheVariants as event
 use Rattle.execution.specs.declared.outcome.Stop.{Stop}
 use Rattle.execution.specs.declared.outcome.Stop.TheVariants as stop
-use Rattle.execution.specs.Machine.{Item, Do, Head, Test, Tail, LoopParts, Frame, Config, Top, after_loop, pending, returned, state_of, to_tail, with_items, with_state}
-use Rattle.execution.specs.Step.{Chooses, DoesSimple, IsEntered, IsTrueIn, Resumes, StepsBy, StepsFrom, resumed, values_of, with_value}
+use Rattle.execution.specs.Machine.{Item, Do, Head, Test, Tail, LoopParts, Frame, Config, Top, after_loop, pending, returned_value, state_of, to_tail, with_items, with_state}
+use Rattle.execution.specs.Step.{Chooses, DoesSimple, IsEntered, IsTrueIn, Resumes, StepsBy, StepsFrom, after_return, values_of, with_value}
 use Rattle.execution.specs.Execution.{initial_globals}
 use Rattle.execution.specs.Chosen.{Stepped, chosen_any, chosen_branch, chosen_by, chosen_from, chosen_pass, chosen_return, first_columns, first_items, new_frame, number_in, numbers_in, zeros}
 use Rattle.execution.specs.Laws.{ChosenBegins, ChosenSteps, StepsCanRun}
@@ -131,7 +131,7 @@ module _ (program : Program) where
       ⊎_elim (λ p. subst Good (sym p.1) ((yes_can, below), one_more _)) (λ p. subst Good (sym p.1) ((no_can, below), one_more _)) step
 
   return-good : (into : Option ℕ) (value : ℤ) (caller : Top) → ItemsCanRun program (length caller.globals + length caller.frame.own) caller.frame.items
-      → FramesCanRun program (length caller.globals) caller.below → Good (resumed into value caller)
+      → FramesCanRun program (length caller.globals) caller.below → Good (after_return into value caller)
   return-good None value caller can below = ((can, below), one_more _)
   return-good (Some col) value caller can below =
       state-good caller (slice_set (state_of caller) col value) caller.frame.items (length-set (state_of caller) col value) can below
@@ -139,7 +139,7 @@ module _ (program : Program) where
   back-good : (top : Top) (frames : List Frame) (next : Config) → Resumes top frames next → FramesCanRun program (length top.globals) frames → Good next
   back-good top [] next step can = absurd step
   back-good top (caller ∷ below) next step can =
-      subst Good (sym step) (return-good top.frame.into (returned top.frame) (record { globals = top.globals; frame = caller; below = below }) can.0 can.1)
+      subst Good (sym step) (return-good top.frame.into (returned_value top.frame) (record { globals = top.globals; frame = caller; below = below }) can.0 can.1)
 
   entered-can : (formed : All (IsProcFit program) program.procs) (proc globals : ℕ) (args : List ℤ) (into : Option ℕ) (frame : Frame) → globals ≡ length program.globals
       → IsEntered program proc args into frame → ItemsCanRun program (globals + length frame.own) frame.items
@@ -199,7 +199,7 @@ next-is event next stepped came =
     let made : Stepped = record { event = event; next = next } in let same : made ≡ stepped = cc in sym (ap (λ s. s.next) same)
 
 number-value : (e : Term) (state : State) (v : ℤ) → number_in e state ≡ Ok v → value_of e state ≡ Some v
-number-value e state v came = evaluated-value e state (Some v) (number-there v (evaluated e state) came)
+number-value e state v came = evaluated-value e state (Some v) (number-there v (evaluation_result e state) came)
 
 numbers-values : (terms : List Term) (state : State) (vs : List ℤ) → numbers_in terms state ≡ Ok vs → values_of terms state ≡ Some vs
 numbers-values [] state vs came = let none : [] ≡ vs = cc in ap (λ l. Some l) none

@@ -4,11 +4,11 @@ use Rattle.std.proofs.lemmas.List.Elements.{All-head, All-tail}
 use Rattle.syntax_tree.specs.declared.program.Program.{Program}
 use Rattle.syntax_tree.specs.Code.{Statement, Set, Any, Call, Guard, Check, If, Loop, Break, Continue, Return}
 use Rattle.syntax_tree.specs.Term.{Term}
-use Rattle.execution.specs.Machine.{Item, Do, Head, Test, Tail, Frame, Config, Top, returned, with_items}
-use Rattle.execution.specs.Step.{DoesSimple, Resumes, StepsBy, StepsFrom, Chooses, resumed}
+use Rattle.execution.specs.Machine.{Item, Do, Head, Test, Tail, Frame, Config, Top, returned_value, with_items}
+use Rattle.execution.specs.Step.{DoesSimple, Resumes, StepsBy, StepsFrom, Chooses, after_return}
 use Rattle.execution.specs.Laws.{Above, FramesBelowStay}
 
-resumed-frames : (into : Option ℕ) (value : ℤ) (caller : Top) → (frame : Frame) × ((resumed into value caller).frames ≡ frame ∷ caller.below)
+resumed-frames : (into : Option ℕ) (value : ℤ) (caller : Top) → (frame : Frame) × ((after_return into value caller).frames ≡ frame ∷ caller.below)
 resumed-frames None value caller = (caller.frame, refl)
 resumed-frames (Some col) value caller = (_, refl)
 
@@ -16,14 +16,14 @@ resumed-frames (Some col) value caller = (_, refl)
 back_to_below : (top : Top) (below : List Frame) (next : Config) → Resumes top below next → length below < length next.frames → ⊥
 back_to_below top [] next step more = absurd step
 back_to_below top (caller ∷ below) next step more =
-    let there = resumed-frames top.frame.into (returned top.frame) (record { globals = top.globals; frame = caller; below = below }) in
+    let there = resumed-frames top.frame.into (returned_value top.frame) (record { globals = top.globals; frame = caller; below = below }) in
     let same : length next.frames ≡ suc (length below) = ap length (ap (λ c. c.frames) step ∙ there.1) in
     omega arith
 
 back_to : (top : Top) (between below : List Frame) (next : Config) → Resumes top (between ++ below) next → length below < length next.frames → Above below next.frames
 back_to top [] below next step more = absurd (back_to_below top below next step more)
 back_to top (caller ∷ between) below next step more =
-    let there = resumed-frames top.frame.into (returned top.frame) (record { globals = top.globals; frame = caller; below = between ++ below }) in
+    let there = resumed-frames top.frame.into (returned_value top.frame) (record { globals = top.globals; frame = caller; below = between ++ below }) in
     (there.0, between, ap (λ c. c.frames) step ∙ there.1)
 
 -- the step replaces the top frame

@@ -10,16 +10,16 @@ use Rattle.syntax_tree.specs.declared.evaluation.EvalWide.{EvalWide}
 use Rattle.syntax_tree.specs.declared.program.Program.{Program}
 use Rattle.syntax_tree.specs.Term.{Term}
 use Rattle.syntax_tree.specs.Code.{Set, Any, Call, Guard, Check, If, Loop, Break, Continue, Return}
-use Rattle.syntax_tree.specs.Value.{State, Step, evaluated, is_true, is_wide, steps_of, unless_wide, value_of}
+use Rattle.syntax_tree.specs.Value.{State, Step, evaluation_result, is_true, is_wide, steps_of, unless_wide, value_of}
 use Rattle.execution.specs.Step.{Chooses, DoesSimple, Resumes, StepsBy, StepsFrom, values_of, with_value}
 use Rattle.execution.specs.declared.outcome.Event.{Event}
 use Rattle.execution.specs.declared.outcome.Event.TheVariants as event
 use Rattle.execution.specs.declared.outcome.Stop.{Stop}
 use Rattle.execution.specs.declared.outcome.Stop.TheVariants as stop
-use Rattle.execution.specs.Machine.{Item, Do, Head, Test, Tail, Frame, Config, Top, returned, state_of, with_items}
-use Rattle.execution.specs.Chosen.{Stepped, as_needed, chosen_any, chosen_by, chosen_from, chosen_pass, chosen_return, number_in, numbers_in, passed}
+use Rattle.execution.specs.Machine.{Item, Do, Head, Test, Tail, Frame, Config, Top, returned_value, state_of, with_items}
+use Rattle.execution.specs.Chosen.{Stepped, as_needed, chosen_any, chosen_by, chosen_from, chosen_pass, chosen_return, number_in, numbers_in, after_condition}
 use Rattle.execution.specs.Laws.{ChosenStops, StopsHaveNoStep, ends_all}
-use Rattle.execution.specs.Stops.{HaveNumbers, IsFirstWithout, StopsBy, StopsFrom, needed}
+use Rattle.execution.specs.Stops.{HaveNumbers, IsFirstWithout, StopsBy, StopsFrom, first_needs}
 
 -- ---- why a number isn't there
 
@@ -32,10 +32,10 @@ Without terms state stop.Guard = ⊥
 Without terms state stop.Dry = ⊥
 Without terms state stop.Memory = ⊥
 
-first_alone : (e : Term) (rest : List Term) (state : State) (gave : Result (Option ℤ) EvalWide) → evaluated e state ≡ gave → IsFirstWithout (e ∷ rest) state gave
+first_alone : (e : Term) (rest : List Term) (state : State) (gave : Result (Option ℤ) EvalWide) → evaluation_result e state ≡ gave → IsFirstWithout (e ∷ rest) state gave
 first_alone e rest state gave is = record { before = []; e = e; after = rest; are = refl; numbers = tt; is = is }
 
-first-further : (e : Term) (rest : List Term) (state : State) (gave : Result (Option ℤ) EvalWide) (v : ℤ) → evaluated e state ≡ Ok (Some v)
+first-further : (e : Term) (rest : List Term) (state : State) (gave : Result (Option ℤ) EvalWide) (v : ℤ) → evaluation_result e state ≡ Ok (Some v)
     → IsFirstWithout rest state gave → IsFirstWithout (e ∷ rest) state gave
 first-further e rest state gave v has later = record {
   before = e ∷ later.before;
@@ -46,7 +46,7 @@ first-further e rest state gave v has later = record {
   is = later.is;
 }
 
-without-further : (e : Term) (rest : List Term) (state : State) (why : Stop) (v : ℤ) → evaluated e state ≡ Ok (Some v)
+without-further : (e : Term) (rest : List Term) (state : State) (why : Stop) (v : ℤ) → evaluation_result e state ≡ Ok (Some v)
     → Without rest state why → Without (e ∷ rest) state why
 without-further e rest state stop.Zero v has later = first-further e rest state (Ok None) v has later
 without-further e rest state (stop.Wide wide) v has later = first-further e rest state (Err wide) v has later
@@ -56,7 +56,7 @@ without-further e rest state stop.Guard v has later = absurd later
 without-further e rest state stop.Dry v has later = absurd later
 without-further e rest state stop.Memory v has later = absurd later
 
-number-without : (e : Term) (rest : List Term) (state : State) (why : Stop) (gave : Result (Option ℤ) EvalWide) → evaluated e state ≡ gave
+number-without : (e : Term) (rest : List Term) (state : State) (why : Stop) (gave : Result (Option ℤ) EvalWide) → evaluation_result e state ≡ gave
     → as_needed gave ≡ Err why → Without (e ∷ rest) state why
 number-without e rest state why (Ok (Some v)) is failed = absurd (cc failed)
 number-without e rest state why (Ok None) is failed =
@@ -72,9 +72,9 @@ number-there v (Err wide) came = absurd (cc came)
 numbers-without : (terms : List Term) (state : State) (why : Stop) → numbers_in terms state ≡ Err why → Without terms state why
 numbers-without [] state why failed = absurd (cc failed)
 numbers-without (e ∷ rest) state why failed =
-    on_err (number_in e state) _ why failed (λ first. number-without e rest state why (evaluated e state) refl first)
+    on_err (number_in e state) _ why failed (λ first. number-without e rest state why (evaluation_result e state) refl first)
     (λ v came later. on_err (numbers_in rest state) _ why later
-    (λ others. without-further e rest state why v (number-there v (evaluated e state) came) (numbers-without rest state why others))
+    (λ others. without-further e rest state why v (number-there v (evaluation_result e state) came) (numbers-without rest state why others))
     (λ vs others none. absurd (cc none)))
 
 -- .. and back
@@ -102,7 +102,7 @@ list-fails : {X Y : Type 0} (r : Result X Stop) (why : Stop) (f : X → Result Y
 list-fails r why f failed = ap (λ x. x >>= f) failed
 
 needed-fails : (program : Program) (number : Option ℤ) (top : Top) (items : List Item) (why : Stop)
-    → numbers_in (needed items) (state_of top) ≡ Err why → chosen_by program number top items ≡ Err why
+    → numbers_in (first_needs items) (state_of top) ≡ Err why → chosen_by program number top items ≡ Err why
 needed-fails program number top [] why failed = absurd (cc failed)
 needed-fails program number top (Do (Set col value) ∷ rest) why failed = single-fails value (state_of top) why _ failed
 needed-fails program number top (Do (Any col) ∷ rest) why failed = absurd (cc failed)
@@ -127,7 +127,7 @@ with_items_for top items = record { globals = top.globals; frame = record top.fr
 abbrev Stopping : Option ℤ → Top → List Item → Stop → Type 0
 Stopping number top items why = StopsBy number (with_items_for top items) why
 
-without-stops : (number : Option ℤ) (top : Top) (items : List Item) (why : Stop) → Without (needed items) (state_of top) why → Stopping number top items why
+without-stops : (number : Option ℤ) (top : Top) (items : List Item) (why : Stop) → Without (first_needs items) (state_of top) why → Stopping number top items why
 without-stops number top items stop.Zero without = without
 without-stops number top items (stop.Wide wide) without = without
 without-stops number top items (stop.Done v) without = absurd without
@@ -154,16 +154,16 @@ pass-zero event otherwise top rest v why false is failed = (zero_of_false v is, 
 
 pass-fails : {P : Type 0} (event : Option Event) (otherwise : Stop) (top : Top) (rest : List Item) (cond : Term) (why : Stop)
     → chosen_pass event otherwise top rest cond ≡ Err why → (Without (cond ∷ []) (state_of top) why → P)
-    → ((evaluated cond (state_of top) ≡ Ok (Some (pos 0))) → otherwise ≡ why → P) → P
+    → ((evaluation_result cond (state_of top) ≡ Ok (Some (pos 0))) → otherwise ≡ why → P) → P
 pass-fails event otherwise top rest cond why failed missing fell =
-    on_err (number_in cond (state_of top)) _ why failed (λ first. missing (number-without cond [] (state_of top) why (evaluated cond (state_of top)) refl first))
+    on_err (number_in cond (state_of top)) _ why failed (λ first. missing (number-without cond [] (state_of top) why (evaluation_result cond (state_of top)) refl first))
     (λ v came later.
     let zero = pass-zero event otherwise top rest v why (is_true v) refl later in
-    fell (number-there v (evaluated cond (state_of top)) came ∙ ap (λ x. Ok (Some x)) zero.0) zero.1)
+    fell (number-there v (evaluation_result cond (state_of top)) came ∙ ap (λ x. Ok (Some x)) zero.0) zero.1)
 
 needs-one : (e : Term) (state : State) (why : Stop) (f : ℤ → Stepped) → number_in e state >>= (λ v. Ok (f v)) ≡ Err why → Without (e ∷ []) state why
 needs-one e state why f failed =
-    on_err (number_in e state) _ why failed (λ first. number-without e [] state why (evaluated e state) refl first) (λ v came none. absurd (cc none))
+    on_err (number_in e state) _ why failed (λ first. number-without e [] state why (evaluation_result e state) refl first) (λ v came none. absurd (cc none))
 
 call-needs : (args : List Term) (state : State) (why : Stop) (f : List ℤ → Stepped) → numbers_in args state >>= (λ v. Ok (f v)) ≡ Err why → Without args state why
 call-needs args state why f failed =
@@ -171,7 +171,7 @@ call-needs args state why f failed =
 
 return-stops : (number : Option ℤ) (top : Top) (below : List Frame) (why : Stop) → top.below ≡ below → chosen_return top below ≡ Err why → Stopping number top [] why
 return-stops number top [] why are failed =
-    let that : stop.Done (returned top.frame) ≡ why = cc in subst (Stopping number top []) that (refl, are, refl)
+    let that : stop.Done (returned_value top.frame) ≡ why = cc in subst (Stopping number top []) that (refl, are, refl)
 return-stops number top (caller ∷ below) why are failed = absurd (cc failed)
 
 any-stops : (number : Option ℤ) (top : Top) (col : ℕ) (rest : List Item) (why : Stop) (given : Option ℤ) → number ≡ given
@@ -203,12 +203,12 @@ stops program number top (Tail loop ∷ rest) why failed = absurd (cc failed)
 
 -- ---- .. and back
 
-done-back : (program : Program) (number : Option ℤ) (top : Top) (v : ℤ) → top.below ≡ [] → returned top.frame ≡ v → chosen_return top top.below ≡ Err (stop.Done v)
+done-back : (program : Program) (number : Option ℤ) (top : Top) (v : ℤ) → top.below ≡ [] → returned_value top.frame ≡ v → chosen_return top top.below ≡ Err (stop.Done v)
 done-back program number top v are is = ap (chosen_return top) are ∙ ap (λ x. Err (stop.Done x)) is
 
-falls : (event : Option Event) (otherwise : Stop) (top : Top) (rest : List Item) (cond : Term) → evaluated cond (state_of top) ≡ Ok (Some (pos 0))
+falls : (event : Option Event) (otherwise : Stop) (top : Top) (rest : List Item) (cond : Term) → evaluation_result cond (state_of top) ≡ Ok (Some (pos 0))
     → chosen_pass event otherwise top rest cond ≡ Err otherwise
-falls event otherwise top rest cond is = ap (λ r. as_needed r >>= passed event otherwise top rest) is
+falls event otherwise top rest cond is = ap (λ r. as_needed r >>= after_condition event otherwise top rest) is
 
 back : (program : Program) (number : Option ℤ) (top : Top) (why : Stop) → StopsBy number top why → chosen_by program number top top.frame.items ≡ Err why
 back program number top (stop.Done v) (none, below, is) = ap (chosen_by program number top) none ∙ done-back program number top v below is
@@ -241,8 +241,8 @@ unless_value : (first : Option Step) (value gave : Option ℤ) → unless_wide f
 unless_value None value gave came = cc
 unless_value (Some step) value gave came = absurd (cc came)
 
-pub evaluated-value : (e : Term) (state : State) (gave : Option ℤ) → evaluated e state ≡ Ok gave → value_of e state ≡ gave
-unfolding evaluated
+pub evaluated-value : (e : Term) (state : State) (gave : Option ℤ) → evaluation_result e state ≡ Ok gave → value_of e state ≡ gave
+unfolding evaluation_result
 evaluated-value e state gave came = unless_value (find is_wide (steps_of e state)) (value_of e state) gave came
 
 with-none : (o : Option ℤ) → with_value o None ≡ None
@@ -263,7 +263,7 @@ chosen-value cond top on_true on_false next =
     ⊎_elim (λ p. single-value cond (state_of top) p.0.0 p.0.1) (λ p. single-value cond (state_of top) (pos 0) p.0)
 
 step-values : (program : Program) (top : Top) (items : List Item) (next : Config) → StepsBy program top items next
-    → (vs : List ℤ) × (values_of (needed items) (state_of top) ≡ Some vs)
+    → (vs : List ℤ) × (values_of (first_needs items) (state_of top) ≡ Some vs)
 step-values program top [] next step = ([], refl)
 step-values program top (Do (Set col value) ∷ rest) next step = single-value value (state_of top) step.changes.0 step.changes.1
 step-values program top (Do (Any col) ∷ rest) next step = ([], refl)

@@ -6,8 +6,8 @@ use Rattle.syntax_tree.specs.declared.program.Program.{Program}
 use Rattle.syntax_tree.specs.Term.{Term}
 use Rattle.syntax_tree.specs.Code.{Statement, Set, Any, Call, Guard, Check, If, Loop, Break, Continue, Return}
 use Rattle.syntax_tree.specs.Value.{State}
-use Rattle.execution.specs.Machine.{Item, Do, Head, Test, Tail, Frame, Config, Top, returned, state_of}
-use Rattle.execution.specs.Step.{Chooses, DoesSimple, Resumes, StepsBy, StepsFrom, resumed}
+use Rattle.execution.specs.Machine.{Item, Do, Head, Test, Tail, Frame, Config, Top, returned_value, state_of}
+use Rattle.execution.specs.Step.{Chooses, DoesSimple, Resumes, StepsBy, StepsFrom, after_return}
 use Rattle.execution.specs.Laws.{GlobalsStay}
 use Rattle.execution.proofs.Straight.{globals_fit}
 
@@ -19,7 +19,7 @@ by_choice : (cond : Term) (top : Top) (on_true on_false : List Item) (next : Con
 by_choice cond top on_true on_false next =
     ⊎_elim (λ p. ap (λ c. length c.globals) p.1) (λ p. ap (λ c. length c.globals) p.1)
 
-by_return : (into : Option ℕ) (value : ℤ) (caller : Top) → length (resumed into value caller).globals ≡ length caller.globals
+by_return : (into : Option ℕ) (value : ℤ) (caller : Top) → length (after_return into value caller).globals ≡ length caller.globals
 by_return None value caller = refl
 by_return (Some col) value caller =
     let set = length-set (state_of caller) col value in
@@ -29,7 +29,7 @@ by_return (Some col) value caller =
 by_resume : (top : Top) (below : List Frame) (next : Config) → Resumes top below next → length next.globals ≡ length top.globals
 by_resume top [] next step = absurd step
 by_resume top (caller ∷ below) next step =
-    ap (λ c. length c.globals) step ∙ by_return top.frame.into (returned top.frame) (record { globals = top.globals; frame = caller; below = below })
+    ap (λ c. length c.globals) step ∙ by_return top.frame.into (returned_value top.frame) (record { globals = top.globals; frame = caller; below = below })
 
 by_items : (program : Program) (top : Top) (items : List Item) (next : Config) → StepsBy program top items next → length next.globals ≡ length top.globals
 by_items program top [] next step = by_resume top top.below next step

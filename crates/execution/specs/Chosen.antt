@@ -8,13 +8,13 @@ use Rattle.syntax_tree.specs.declared.program.Proc.{Proc}
 use Rattle.syntax_tree.specs.declared.program.Program.{Program}
 use Rattle.syntax_tree.specs.Term.{Term}
 use Rattle.syntax_tree.specs.Code.{Set, Any, Call, Guard, Check, If, Loop, Break, Continue, Return, code_of}
-use Rattle.syntax_tree.specs.Value.{State, evaluated, is_true}
+use Rattle.syntax_tree.specs.Value.{State, evaluation_result, is_true}
 use Rattle.execution.specs.declared.outcome.Event.{Event}
 use Rattle.execution.specs.declared.outcome.Event.TheVariants as event
 use Rattle.execution.specs.declared.outcome.Stop.{Stop}
 use Rattle.execution.specs.declared.outcome.Stop.TheVariants as stop
-use Rattle.execution.specs.Machine.{Item, Do, Head, Test, Tail, Frame, Config, Top, after_loop, pending, returned, state_of, to_tail, with_items, with_state}
-use Rattle.execution.specs.Step.{at_begin, at_head, at_tail, resumed}
+use Rattle.execution.specs.Machine.{Item, Do, Head, Test, Tail, Frame, Config, Top, after_loop, pending, returned_value, state_of, to_tail, with_items, with_state}
+use Rattle.execution.specs.Step.{at_begin, at_head, at_tail, after_return}
 
 -- a step, and what it shows
 pub record Stepped : Type 0 where
@@ -34,7 +34,7 @@ as_needed (Ok None) = Err stop.Zero
 as_needed (Err wide) = Err (stop.Wide wide)
 
 abbrev pub number_in : Term → State → Result ℤ Stop
-number_in e state = as_needed (evaluated e state)
+number_in e state = as_needed (evaluation_result e state)
 
 -- several of them: the first from the left that isn't there decides
 abbrev pub numbers_in : List Term → State → Result (List ℤ) Stop
@@ -63,52 +63,52 @@ new_frame program proc args into = record {
 }
 
 -- the value of an expression goes into a column
-abbrev pub assigned : Top → List Item → ℕ → ℤ → Config
-assigned top rest col v = with_state top (slice_set (state_of top) col v) rest
+abbrev pub after_assignment : Top → List Item → ℕ → ℤ → Config
+after_assignment top rest col v = with_state top (slice_set (state_of top) col v) rest
 
 abbrev pub chosen_set : Top → List Item → ℕ → Term → Result Stepped Stop
 chosen_set top rest col value = number_in value (state_of top)
-    >>= λ v. quietly (assigned top rest col v)
+    >>= λ v. quietly (after_assignment top rest col v)
 
 -- a column takes the number that is handed in
 abbrev pub chosen_any : Option ℤ → Top → List Item → ℕ → Result Stepped Stop
 chosen_any None top rest col = Err stop.Dry
-chosen_any (Some v) top rest col = showing (event.Any v) (assigned top rest col v)
+chosen_any (Some v) top rest col = showing (event.Any v) (after_assignment top rest col v)
 
 -- a condition that has to be true
-abbrev pub passed : Option Event → Stop → Top → List Item → ℤ → Result Stepped Stop
-passed event otherwise top rest v =
+abbrev pub after_condition : Option Event → Stop → Top → List Item → ℤ → Result Stepped Stop
+after_condition event otherwise top rest v =
     if is_true v then Ok (record { event = event; next = with_items top rest }) else Err otherwise
 
 abbrev pub chosen_pass : Option Event → Stop → Top → List Item → Term → Result Stepped Stop
-chosen_pass event otherwise top rest cond = number_in cond (state_of top) >>= passed event otherwise
+chosen_pass event otherwise top rest cond = number_in cond (state_of top) >>= after_condition event otherwise
     top rest
 
 -- a condition that chooses what is to do
-abbrev pub branched : Top → List Item → List Item → ℤ → Config
-branched top on_true on_false v = if is_true v then with_items top on_true
+abbrev pub after_branch : Top → List Item → List Item → ℤ → Config
+after_branch top on_true on_false v = if is_true v then with_items top on_true
     else with_items top on_false
 
 abbrev pub chosen_branch : Top → List Item → List Item → Term → Result Stepped Stop
 chosen_branch top on_true on_false cond = number_in cond (state_of top)
-    >>= λ v. quietly (branched top on_true on_false v)
+    >>= λ v. quietly (after_branch top on_true on_false v)
 
 -- a call puts a new frame on top
-abbrev pub called : Program → ℕ → Option ℕ → Top → List Item → List ℤ → Config
-called program proc into top rest values = record {
+abbrev pub after_call : Program → ℕ → Option ℕ → Top → List Item → List ℤ → Config
+after_call program proc into top rest values = record {
   globals = top.globals;
   frames = new_frame program proc values into ∷ record top.frame { items = rest } ∷ top.below;
 }
 
 abbrev pub chosen_call : Program → Top → List Item → ℕ → List Term → Option ℕ → Result Stepped Stop
 chosen_call program top rest proc args into = numbers_in args (state_of top) >>= λ values.
-    showing (event.Call proc values) (called program proc into top rest values)
+    showing (event.Call proc values) (after_call program proc into top rest values)
 
 -- a frame without items is left, unless it is the last
 abbrev pub chosen_return : Top → List Frame → Result Stepped Stop
-chosen_return top [] = Err (stop.Done (returned top.frame))
-chosen_return top (caller ∷ below) = showing (event.Return top.frame.proc (returned top.frame))
-    (resumed top.frame.into (returned top.frame) (record {
+chosen_return top [] = Err (stop.Done (returned_value top.frame))
+chosen_return top (caller ∷ below) = showing (event.Return top.frame.proc (returned_value top.frame))
+    (after_return top.frame.into (returned_value top.frame) (record {
       globals = top.globals;
       frame = caller;
       below = below;

@@ -4,7 +4,7 @@ use Rattle.syntax_tree.specs.declared.program.Program.{Program}
 use Rattle.syntax_tree.specs.Code.{Check}
 use Rattle.syntax_tree.specs.Term.{Term}
 use Rattle.syntax_tree.specs.Value.{State}
-use Rattle.execution.specs.Machine.{Config, Do, Frame, Item, Top, config_of, returned, state_of}
+use Rattle.execution.specs.Machine.{Config, Do, Frame, Item, Top, config_of, returned_value, state_of}
 use Rattle.execution.specs.Step.{IsEntered, IsFalseIn, Steps}
 
 -- Steps lead from a configuration over each of the list to the last: the list has one configuration
@@ -32,7 +32,7 @@ pub record Returns (program : Program) (proc : ℕ) (globals args after : State)
   pub frame : Frame
   pub runs : Runs program first steps (record { globals = after; frames = frame ∷ [] })
   pub done : frame.items ≡ []
-  pub value_is : returned frame ≡ value
+  pub value_is : returned_value frame ≡ value
 
 -- the values of the globals as `main` begins (C11 6.7.9)
 abbrev pub initial_globals : Program → State

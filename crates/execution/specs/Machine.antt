@@ -82,5 +82,5 @@ with_state top state items = record {
 }
 
 -- the value that a frame returns
-abbrev pub returned : Frame → ℤ
-returned frame = slice_index_or frame.own (length frame.own - 1) (pos 0)
+abbrev pub returned_value : Frame → ℤ
+returned_value frame = slice_index_or frame.own (length frame.own - 1) (pos 0)

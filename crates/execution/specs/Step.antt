@@ -6,7 +6,7 @@ use Rattle.syntax_tree.specs.declared.program.Program.{Program}
 use Rattle.syntax_tree.specs.Term.{Term}
 use Rattle.syntax_tree.specs.Code.{Statement, Set, Any, Call, Guard, Check, If, Loop, Break, Continue, Return, code_of}
 use Rattle.syntax_tree.specs.Value.{State, value_of}
-use Rattle.execution.specs.Machine.{Item, Do, Head, Test, Tail, LoopParts, Frame, Config, Top, after_loop, config_of, pending, returned, state_of, to_tail, with_items, with_state}
+use Rattle.execution.specs.Machine.{Item, Do, Head, Test, Tail, LoopParts, Frame, Config, Top, after_loop, config_of, pending, returned_value, state_of, to_tail, with_items, with_state}
 
 -- a condition is true where it has a value that isn't 0, and false where its value is 0 (C11
 -- 6.8.4.1)
@@ -85,15 +85,15 @@ Chooses cond top on_true on_false next =
 
 -- a frame with nothing left is removed, and its value goes into the column that awaits it (C11
 -- 6.8.6.4)
-abbrev pub resumed : Option ℕ → ℤ → Top → Config
-resumed None value caller = config_of caller
-resumed (Some col) value caller = with_state caller (slice_set (state_of caller) col value)
+abbrev pub after_return : Option ℕ → ℤ → Top → Config
+after_return None value caller = config_of caller
+after_return (Some col) value caller = with_state caller (slice_set (state_of caller) col value)
     caller.frame.items
 
 abbrev pub Resumes : Top → List Frame → Config → Type 0
 Resumes top [] next = ⊥
 Resumes top (caller ∷ below) next =
-    next ≡ resumed top.frame.into (returned top.frame) (record {
+    next ≡ after_return top.frame.into (returned_value top.frame) (record {
       globals = top.globals;
       frame = caller;
       below = below;

@@ -3,28 +3,28 @@ use Rattle.std.specs.Prelude.{◌≡◌, ℕ, ℤ, pos, Option, None, Some, Resu
 use Rattle.syntax_tree.specs.declared.evaluation.EvalWide.{EvalWide}
 use Rattle.syntax_tree.specs.Term.{Term}
 use Rattle.syntax_tree.specs.Code.{Statement, Set, Any, Call, Guard, Check, If}
-use Rattle.syntax_tree.specs.Value.{State, evaluated}
+use Rattle.syntax_tree.specs.Value.{State, evaluation_result}
 use Rattle.execution.specs.declared.outcome.Stop.{Stop}
 use Rattle.execution.specs.declared.outcome.Stop.TheVariants as stop
-use Rattle.execution.specs.Machine.{Item, Do, Test, Frame, Config, Top, returned, state_of}
+use Rattle.execution.specs.Machine.{Item, Do, Test, Frame, Config, Top, returned_value, state_of}
 
 -- the expressions whose values the step by the first item needs, from the left
-abbrev pub needed_by : Statement → List Term
-needed_by (Set col value) = value ∷ []
-needed_by (Call proc args into) = args
-needed_by (Guard cond) = cond ∷ []
-needed_by (Check number cond) = cond ∷ []
-needed_by (If cond on_true on_false) = cond ∷ []
-needed_by _ = []
+abbrev pub needs_of : Statement → List Term
+needs_of (Set col value) = value ∷ []
+needs_of (Call proc args into) = args
+needs_of (Guard cond) = cond ∷ []
+needs_of (Check number cond) = cond ∷ []
+needs_of (If cond on_true on_false) = cond ∷ []
+needs_of _ = []
 
-abbrev pub needed : List Item → List Term
-needed (Do statement ∷ rest) = needed_by statement
-needed (Test loop ∷ rest) = loop.cond ∷ []
-needed _ = []
+abbrev pub first_needs : List Item → List Term
+first_needs (Do statement ∷ rest) = needs_of statement
+first_needs (Test loop ∷ rest) = loop.cond ∷ []
+first_needs _ = []
 
 abbrev pub HaveNumbers : List Term → State → Type 0
 HaveNumbers [] state = Unit {0}
-HaveNumbers (e ∷ rest) state = ((v : ℤ) × (evaluated e state ≡ Ok (Some v)))
+HaveNumbers (e ∷ rest) state = ((v : ℤ) × (evaluation_result e state ≡ Ok (Some v)))
     × HaveNumbers rest state
 
 -- the first of several expressions that has no number in 128 bits, and what it has instead
@@ -35,22 +35,22 @@ pub record IsFirstWithout (terms : List Term) (state : State)
   pub after : List Term
   pub are : terms ≡ before ++ e ∷ after
   pub numbers : HaveNumbers before state
-  pub is : evaluated e state ≡ gave
+  pub is : evaluation_result e state ≡ gave
 
 -- why there is no step from a top frame, where this number is handed in
 abbrev pub StopsBy : Option ℤ → Top → Stop → Type 0
 StopsBy number top (stop.Done v) = (top.frame.items ≡ []) × (top.below ≡ [])
-    × (returned top.frame ≡ v)
+    × (returned_value top.frame ≡ v)
 StopsBy number top (stop.Failed n) = (cond : Term) × (rest : List Item)
     × (top.frame.items ≡ Do (Check n cond) ∷ rest)
-    × (evaluated cond (state_of top) ≡ Ok (Some (pos 0)))
+    × (evaluation_result cond (state_of top) ≡ Ok (Some (pos 0)))
 StopsBy number top stop.Guard = (cond : Term) × (rest : List Item)
     × (top.frame.items ≡ Do (Guard cond) ∷ rest)
-    × (evaluated cond (state_of top) ≡ Ok (Some (pos 0)))
-StopsBy number top stop.Zero = IsFirstWithout (needed top.frame.items) (state_of top) (Ok None)
+    × (evaluation_result cond (state_of top) ≡ Ok (Some (pos 0)))
+StopsBy number top stop.Zero = IsFirstWithout (first_needs top.frame.items) (state_of top) (Ok None)
 StopsBy number top stop.Dry = (col : ℕ) × (rest : List Item)
     × (top.frame.items ≡ Do (Any col) ∷ rest) × (number ≡ None)
-StopsBy number top (stop.Wide wide) = IsFirstWithout (needed top.frame.items) (state_of top)
+StopsBy number top (stop.Wide wide) = IsFirstWithout (first_needs top.frame.items) (state_of top)
     (Err wide)
 StopsBy number top stop.Memory = ⊥
 

@@ -4,8 +4,8 @@ ghost use Rattle.syntax_tree.specs.Term.{term_of};
 ghost use Rattle.syntax_tree.specs.Code.{code_of, statement_of};
 ghost use Rattle.syntax_tree.specs.WellFormed.{IsWellFormed, all_columns_below, columns_below};
 ghost use Rattle.execution.specs.Machine.{Do, Tail, Top, after_loop, config_of, pending, state_of, to_tail, with_items, with_state};
-ghost use Rattle.execution.specs.Step.{at_begin, at_head, at_tail, resumed};
-ghost use Rattle.execution.specs.Chosen.{assigned, called, cause, chosen_any, chosen_branch, chosen_by, chosen_call, chosen_pass, chosen_return, chosen_set, chosen_start, chosen_step, new_frame, number_in, numbers_in, quietly};
+ghost use Rattle.execution.specs.Step.{at_begin, at_head, at_tail, after_return};
+ghost use Rattle.execution.specs.Chosen.{after_assignment, after_call, cause, chosen_any, chosen_branch, chosen_by, chosen_call, chosen_pass, chosen_return, chosen_set, chosen_start, chosen_step, new_frame, number_in, numbers_in, quietly};
 ghost use Rattle.execution.specs.Runnable.{ConfigCanRun, IsCallable, ItemCanRun, StatementCanRun};
 ghost use Rattle.execution.specs.Interpreter.{Takes, frame_of, frames_of, item_of, items_of, machine_config, machine_top, parts_of};
 
@@ -265,7 +265,7 @@ fn store<'p>(
     value: i128,
 ) -> Result<(), AllocError>
     ensures { OnOk result (machine_config machine.new ≡
-        assigned (machine_top machine.old call.entry) (items_of call.entry.tasks) col value) }
+        after_assignment (machine_top machine.old call.entry) (items_of call.entry.tasks) col value) }
 {
     let mut state = columns(alloc, &machine.globals, &call.own)?;
     assign(&mut state, col, value);
@@ -370,7 +370,7 @@ fn put_callee<'p>(
 ) -> Result<(), AllocError>
     requires { IsCallable program.now proc (length args) }
     ensures { OnOk result (machine_config machine.new ≡
-        called program.now proc into (machine_top machine.old call.entry)
+        after_call program.now proc into (machine_top machine.old call.entry)
         (items_of call.entry.tasks) args) }
 {
     let callee = enter(alloc, program, proc, args, into)?;
@@ -529,7 +529,7 @@ fn take_value<'p>(
     value: i128,
 ) -> Result<(), AllocError>
     ensures { OnOk result
-        (machine_config machine.new ≡ resumed into value (machine_top machine.old call.entry)) }
+        (machine_config machine.new ≡ after_return into value (machine_top machine.old call.entry)) }
 {
     match into {
         None => resume(machine, call),

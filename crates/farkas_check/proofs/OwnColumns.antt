@@ -26,7 +26,7 @@ use Rattle.farkas_check.specs.Relations.{Side, with_sides, coefficient_at, rest_
 use Rattle.farkas_check.specs.Steps.{sums_cancel, are_scaled, with_constants, are_multiples, with_half_constants}
 use Rattle.farkas_check.specs.Stratum.{tested_multiple}
 use Rattle.farkas_check.specs.Tested.{goal_columns, tested_sum}
-use Rattle.farkas_check.specs.Walk.{multiplied}
+use Rattle.farkas_check.specs.Walk.{multiplied_rows}
 use Rattle.farkas_check.proofs.Farkas.{both_true}
 use Rattle.farkas_check.proofs.Halves.{summed_half-is}
 use Rattle.farkas_check.proofs.Sums.{ok_of, summed-is, zero_product, zero_times, plus_zero}
@@ -64,16 +64,16 @@ each_of-terms : (P : List Col → Type 0) (rows : List Row) (terms : Terms) → 
 each_of-terms P [] terms h = h
 each_of-terms P (row ∷ rows) terms h = each_of-terms P rows terms (each-back P (keys_of row.poly.terms) (monos_of rows terms) h)
 
-each_of-multiplied : (P : List Col → Type 0) (rows : List Row) (by : List ℤ) (terms : Terms) → AllByRecursion P (monos_of rows terms) → AllByRecursion P (monos_of (multiplied rows by) terms)
+each_of-multiplied : (P : List Col → Type 0) (rows : List Row) (by : List ℤ) (terms : Terms) → AllByRecursion P (monos_of rows terms) → AllByRecursion P (monos_of (multiplied_rows rows by) terms)
 each_of-multiplied P [] by terms h = h
 each_of-multiplied P (row ∷ rows) [] terms h = each_of-terms P (row ∷ rows) terms h
 each_of-multiplied P (row ∷ rows) (m ∷ by) terms h =
     go (is_zero m) (each_of-multiplied P rows by terms (each-back P (keys_of row.poly.terms) (monos_of rows terms) h))
   where
-    go : (zero : Bool) → AllByRecursion P (monos_of (multiplied rows by) terms) → AllByRecursion P (monos_of (cond zero (multiplied rows by) (row ∷ multiplied rows by)) terms)
+    go : (zero : Bool) → AllByRecursion P (monos_of (multiplied_rows rows by) terms) → AllByRecursion P (monos_of (cond zero (multiplied_rows rows by) (row ∷ multiplied_rows rows by)) terms)
     go true others = others
     go false others =
-        each-append P (keys_of row.poly.terms) (monos_of (multiplied rows by) terms)
+        each-append P (keys_of row.poly.terms) (monos_of (multiplied_rows rows by) terms)
         (each-front P (keys_of row.poly.terms) (monos_of rows terms) h) others
 
 -- ---- a column that none of them has
@@ -101,20 +101,20 @@ nothing_added c row rows m by e =
     ap (λ r. r >>= λ part. sum_of (pos 0) part >>= λ next. sum_from (number_at c) next rows by) e
     ∙ ap (λ r. r >>= λ next. sum_from (number_at c) next rows by) (plus_zero (pos 0) refl)
 
-no_sum : (c : List Col) (rows : List Row) (by : List ℤ) (terms : Terms) → AllByRecursion (λ m. eq_by_cmp mono_cmp m c ≡ false) (monos_of (multiplied rows by) terms) → sum_from (number_at c) (pos 0) rows by ≡ Ok (pos 0)
+no_sum : (c : List Col) (rows : List Row) (by : List ℤ) (terms : Terms) → AllByRecursion (λ m. eq_by_cmp mono_cmp m c ≡ false) (monos_of (multiplied_rows rows by) terms) → sum_from (number_at c) (pos 0) rows by ≡ Ok (pos 0)
 no_sum c [] by terms h = refl
 no_sum c (row ∷ rows) [] terms h = refl
 no_sum c (row ∷ rows) (m ∷ by) terms h = go (is_zero m) refl h (λ others. no_sum c rows by terms others)
   where
-    go : (zero : Bool) → is_zero m ≡ zero → AllByRecursion (λ m. eq_by_cmp mono_cmp m c ≡ false) (monos_of (cond zero (multiplied rows by) (row ∷ multiplied rows by)) terms)
-        → (AllByRecursion (λ m. eq_by_cmp mono_cmp m c ≡ false) (monos_of (multiplied rows by) terms) → sum_from (number_at c) (pos 0) rows by ≡ Ok (pos 0))
+    go : (zero : Bool) → is_zero m ≡ zero → AllByRecursion (λ m. eq_by_cmp mono_cmp m c ≡ false) (monos_of (cond zero (multiplied_rows rows by) (row ∷ multiplied_rows rows by)) terms)
+        → (AllByRecursion (λ m. eq_by_cmp mono_cmp m c ≡ false) (monos_of (multiplied_rows rows by) terms) → sum_from (number_at c) (pos 0) rows by ≡ Ok (pos 0))
         → sum_from (number_at c) (pos 0) (row ∷ rows) (m ∷ by) ≡ Ok (pos 0)
     go true e each ih =
         nothing_added c row rows m by (ap (product_of (number_at c row)) ((Decides-int_eq m (pos 0)).0 e) ∙ zero_product (number_at c row)) ∙ ih each
     go false e each ih =
-        let none : number_at c row ≡ pos 0 = no_coefficient c row.poly.terms (each-front (λ m. eq_by_cmp mono_cmp m c ≡ false) (keys_of row.poly.terms) (monos_of (multiplied rows by) terms) each) in
+        let none : number_at c row ≡ pos 0 = no_coefficient c row.poly.terms (each-front (λ m. eq_by_cmp mono_cmp m c ≡ false) (keys_of row.poly.terms) (monos_of (multiplied_rows rows by) terms) each) in
         nothing_added c row rows m by (ap (λ n. product_of n m) none ∙ zero_times m)
-        ∙ ih (each-back (λ m. eq_by_cmp mono_cmp m c ≡ false) (keys_of row.poly.terms) (monos_of (multiplied rows by) terms) each)
+        ∙ ih (each-back (λ m. eq_by_cmp mono_cmp m c ≡ false) (keys_of row.poly.terms) (monos_of (multiplied_rows rows by) terms) each)
 
 -- ---- one column after another
 
@@ -165,25 +165,25 @@ module _ (rows : List Row) (terms : Terms) (by : List ℤ) (scale : ℤ) where
   same_value (c ∷ cs) h = are_scaled-next true c cs ∙ ap (λ r. r >>= λ same. are_scaled same rows terms by scale cs) h.0 ∙ same_value cs h.1
 
   -- what holds at the columns of the rows whose multipliers are not 0 holds at each column
-  each_column : (P : List Col → Type 0) → ((c : List Col) → IsSame c → P c) → AllByRecursion P (columns (multiplied rows by) terms) → (c : List Col) → P c
-  each_column P none each c = go (there_or_other P c (monos_of (multiplied rows by) terms) (each_of-in_print_order P (monos_of (multiplied rows by) terms) each))
+  each_column : (P : List Col → Type 0) → ((c : List Col) → IsSame c → P c) → AllByRecursion P (columns (multiplied_rows rows by) terms) → (c : List Col) → P c
+  each_column P none each c = go (there_or_other P c (monos_of (multiplied_rows rows by) terms) (each_of-in_print_order P (monos_of (multiplied_rows rows by) terms) each))
     where
-      go : P c ⊎ AllByRecursion (λ m. eq_by_cmp mono_cmp m c ≡ false) (monos_of (multiplied rows by) terms) → P c
+      go : P c ⊎ AllByRecursion (λ m. eq_by_cmp mono_cmp m c ≡ false) (monos_of (multiplied_rows rows by) terms) → P c
       go (inl p) = p
       go (inr others) =
           none c (
           ap (λ r. r >>= λ left. product_of scale (coefficient_in terms c) >>= λ right. ok_of (int_eq left right)) (no_sum c rows by terms others)
-          ∙ ap (λ z. product_of scale z >>= λ right. ok_of (int_eq (pos 0) right)) (no_coefficient c terms (each_of-terms (λ m. eq_by_cmp mono_cmp m c ≡ false) (multiplied rows by) terms others))
+          ∙ ap (λ z. product_of scale z >>= λ right. ok_of (int_eq (pos 0) right)) (no_coefficient c terms (each_of-terms (λ m. eq_by_cmp mono_cmp m c ≡ false) (multiplied_rows rows by) terms others))
           ∙ ap (λ r. r >>= λ right. ok_of (int_eq (pos 0) right)) (zero_product scale)
           )
 
   -- over the columns of all rows comes the same
-  over_all : (same : Bool) → are_scaled true rows terms by scale (columns (multiplied rows by) terms) ≡ Ok same → are_scaled true rows terms by scale (columns rows terms) ≡ Ok same
+  over_all : (same : Bool) → are_scaled true rows terms by scale (columns (multiplied_rows rows by) terms) ≡ Ok same → are_scaled true rows terms by scale (columns rows terms) ≡ Ok same
   over_all true e =
-      let own = (all_same (columns (multiplied rows by) terms) true e).1 in
+      let own = (all_same (columns (multiplied_rows rows by) terms) true e).1 in
       same_value (columns rows terms) (each-any IsSame (each_column IsSame (λ c s. s) own) (columns rows terms))
   over_all false e =
-      let own = all_made (columns (multiplied rows by) terms) true false e in
+      let own = all_made (columns (multiplied_rows rows by) terms) true false e in
       let made = some_value (columns rows terms) true (each-any IsMade (each_column IsMade (λ c s. (true, s)) own) (columns rows terms)) in
       go made.0 made.1
     where
@@ -191,7 +191,7 @@ module _ (rows : List Row) (terms : Terms) (by : List ℤ) (scale : ℤ) where
       go false f = f
       go true f =
           let each = each_of-in_print_order IsSame (monos_of rows terms) (all_same (columns rows terms) true f).1 in
-          let own = same_value (columns (multiplied rows by) terms) (each-in_print_order IsSame (monos_of (multiplied rows by) terms) (each_of-multiplied IsSame rows by terms each)) in
+          let own = same_value (columns (multiplied_rows rows by) terms) (each-in_print_order IsSame (monos_of (multiplied_rows rows by) terms) (each_of-multiplied IsSame rows by terms each)) in
           let clash : ok_of false ≡ ok_of true = sym e ∙ own in
           cc
 
@@ -204,7 +204,7 @@ module _ (rows : List Row) (terms : Terms) (by : List ℤ) (scale : ℤ) where
       (λ right h k. (let rest = sums_made cs (before && int_eq left right) b k in (left ∷ rest.0, rw (f, rest.1) refl))))
 
 -- the sum is the multiple where it is over the columns of its own rows, and the constants agree
-pub with_constants-is : (goal : Goal) (cert : Cert) (same : Bool) → are_scaled true goal.rows goal.objective.terms cert.by cert.scale (columns (multiplied goal.rows cert.by) goal.objective.terms) ≡ Ok same → with_constants goal cert same ≡ tested_sum goal cert
+pub with_constants-is : (goal : Goal) (cert : Cert) (same : Bool) → are_scaled true goal.rows goal.objective.terms cert.by cert.scale (columns (multiplied_rows goal.rows cert.by) goal.objective.terms) ≡ Ok same → with_constants goal cert same ≡ tested_sum goal cert
 with_constants-is goal cert same e =
     let all = over_all goal.rows goal.objective.terms cert.by cert.scale same e in
     let sums = sums_made goal.rows goal.objective.terms cert.by cert.scale (goal_columns goal) true same all in

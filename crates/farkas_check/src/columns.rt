@@ -6,7 +6,7 @@ ghost use Rattle.linear_terms.specs.Polynomial.{IsCanonical};
 ghost use Rattle.farkas_check.specs.Columns.{columns};
 ghost use Rattle.farkas_check.specs.Relations.{stratum_columns, source_columns};
 ghost use Rattle.farkas_check.specs.Listing.{columns_in};
-ghost use Rattle.farkas_check.specs.Walk.{IsNext, IsBlank, IsListing, IsRightBefore, is_after, lesser, multiplied, least_after, least_in_row, least_in_multiplied, least_in_rows, least_in_polys, least_in_cases};
+ghost use Rattle.farkas_check.specs.Walk.{IsNext, IsBlank, IsListing, IsRightBefore, is_after, lesser, multiplied_rows, least_after, least_in_row, least_in_multiplied, least_in_rows, least_in_polys, least_in_cases};
 
 use crate::search::{first_behind, is_after};
 use crate::source::{Columns, LISTED, Source};
@@ -91,13 +91,13 @@ fn is_right_before(listed: &[Option<Mono>], last: &Option<Mono>, place: usize) -
 fn is_listed(listed: &[Option<Mono>], place: usize, column: &Mono) -> bool
     ensures { IsTrue result → slice_get listed.now place ≡ Some (Some column.now) }
 {
-    match listed_at(listed, place) {
+    match listed_column_at(listed, place) {
         Some(own) => own == *column,
         None => false,
     }
 }
 
-fn listed_at(listed: &[Option<Mono>], place: usize) -> Option<Mono>
+fn listed_column_at(listed: &[Option<Mono>], place: usize) -> Option<Mono>
     ensures { IfSome result (λ column. slice_get listed.now place ≡ Some (Some column)) }
 {
     if place < listed.len() {
@@ -121,7 +121,7 @@ fn place_of(listed: &[Option<Mono>], start: usize, column: &Mono) -> Option<usiz
     ensures { IfSome result (λ place. slice_get listed.now place ≡ Some (Some column.now)) }
 {
     for place in start..listed.len() {
-        match listed_at(listed, place) {
+        match listed_column_at(listed, place) {
             Some(own) => {
                 if own == *column {
                     return Some(place);
@@ -169,7 +169,7 @@ pub(crate) fn next_of_multiplied(
 ) -> Option<Mono>
     requires by { length by.now ≡ length rows.now }
     requires terms { IsCanonical terms.now }
-    ensures { IsNext result last.now (columns (multiplied rows.now by.now) terms.now) }
+    ensures { IsNext result last.now (columns (multiplied_rows rows.now by.now) terms.now) }
 {
     let least = least_in_multiplied(rows, by, last);
     least_in_order(terms, last, least)

@@ -3,8 +3,8 @@ ghost use Rattle.farkas_check.specs.Points.{ratio_at, ratio_value};
 ghost use Rattle.farkas_check.specs.Ratios.{whole};
 ghost use Rattle.farkas_check.specs.Listing.{columns_in, side_in, lines_in};
 ghost use Rattle.farkas_check.specs.Relations.{numbers_of, places, free_places};
-ghost use Rattle.farkas_check.specs.Steps.{unless_pivot, counted, is_free, part_with, units_from};
-ghost use Rattle.farkas_check.specs.Stratum.{all_of, rows_of, terms_of, tested_spot, spots_from, minus_value, spot_side, unit_at, tested_at, tested_unit, tested_free};
+ghost use Rattle.farkas_check.specs.Steps.{unless_pivot, count_with, is_free, part_with, units_from};
+ghost use Rattle.farkas_check.specs.Stratum.{all_of, rows_of, terms_of, tested_spot, spots_from, minus_value, spot_side, unit_at, unit_test_at, tested_unit, tested_free};
 
 use crate::columns::has_length;
 use crate::lines::is_pivot;
@@ -133,7 +133,7 @@ fn spots_sum(
 }
 
 /// Whether that sum is what a unit at a place has at an unknown.
-fn tested_at(
+fn unit_test_at(
     basis: &Basis<'_>,
     columns: &Columns<'_>,
     place: usize,
@@ -141,7 +141,7 @@ fn tested_at(
     other: usize,
 ) -> Result<bool, Wide>
     requires { length by.now ≡ length basis.now.spots.now }
-    ensures { result ≡ tested_at (side_in basis.now columns.now) basis.now.spots.now place by.now
+    ensures { result ≡ unit_test_at (side_in basis.now columns.now) basis.now.spots.now place by.now
         other }
 {
     let total = spots_sum(basis, columns, other, by)?;
@@ -164,12 +164,12 @@ fn unless_pivot(
 ) -> Result<bool, Wide>
     requires { length by.now ≡ length basis.now.spots.now }
     ensures { result ≡ unless_pivot (lines_in basis.now)
-        (tested_at (side_in basis.now columns.now) basis.now.spots.now place by.now) other }
+        (unit_test_at (side_in basis.now columns.now) basis.now.spots.now place by.now) other }
 {
     if is_pivot(basis.relations, other) {
         return Ok(true);
     }
-    tested_at(basis, columns, place, by, other)
+    unit_test_at(basis, columns, place, by, other)
 }
 
 /// Whether the sums are a unit at a place, over all unknowns.
@@ -183,7 +183,7 @@ fn tested_each(
     requires { length by.now ≡ length basis.now.spots.now }
     ensures { result
         ≡ all_of (unless_pivot (lines_in basis.now)
-        (tested_at (side_in basis.now columns.now) basis.now.spots.now place by.now))
+        (unit_test_at (side_in basis.now columns.now) basis.now.spots.now place by.now))
         (places basis.now.count) }
 {
     for other in 0..basis.count {
@@ -211,9 +211,9 @@ fn tested_unit(
 }
 
 /// A count, with one more where something counts.
-fn counted(count: usize, counts: bool) -> usize
+fn count_with(count: usize, counts: bool) -> usize
     requires { count < 2 ^ 64 - 1 }
-    ensures { result ≡ counted count counts }
+    ensures { result ≡ count_with count counts }
 {
     if counts { count + 1 } else { count }
 }
@@ -231,7 +231,7 @@ fn free_count(relations: &[Relation], count: usize) -> usize
 {
     let mut total = 0;
     for place in 0..count {
-        total = counted(total, is_free(relations, place));
+        total = count_with(total, is_free(relations, place));
     }
     total
 }
@@ -274,7 +274,7 @@ fn tested_units(
         if !part_with(basis, columns, place, free, next)? {
             return Ok(false);
         }
-        next = counted(next, is_free(basis.relations, place));
+        next = count_with(next, is_free(basis.relations, place));
     }
     Ok(true)
 }

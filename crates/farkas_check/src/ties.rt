@@ -2,7 +2,7 @@ ghost use Rattle.std.specs.Prelude.{◌≡◌, ◌&&◌, ◌==◌, [], ◌∷◌
 ghost use Rattle.std.specs.List.{list_all, zip};
 ghost use Rattle.farkas_check.specs.Listing.{columns_in};
 ghost use Rattle.farkas_check.specs.Relations.{Term, Lower, One, sides, numbers_of, with_side, with_sides, coefficient_at, difference_numbers, difference_form, has_count, have_equally_many};
-ghost use Rattle.farkas_check.specs.Steps.{sums_cancel, terms_from, lower_from, value_in, is_constant, scaled_by, are_multiples, with_half_constants};
+ghost use Rattle.farkas_check.specs.Steps.{sums_cancel, terms_from, lower_from, value_in, is_constant, scaled_number, are_multiples, with_half_constants};
 ghost use Rattle.farkas_check.specs.Stratum.{all_of, tested_multiple, tested_half, tested_tie, tested_relation, has_unknowns};
 
 use crate::columns::next_column;
@@ -15,7 +15,7 @@ use whole_numbers::{Wide, product, sum};
 
 /// A place of a linear form.
 #[derive(Clone, Copy)]
-pub(crate) enum Place {
+pub(crate) enum FormPlace {
     At(Mono),
     Constant,
 }
@@ -23,7 +23,7 @@ pub(crate) enum Place {
 /// Which half of a tie: the multiples of the rows give the difference times the scale, or minus
 /// that.
 #[derive(Clone, Copy)]
-pub(crate) enum Half {
+pub(crate) enum TieHalf {
     Up,
     Down,
 }
@@ -31,23 +31,23 @@ pub(crate) enum Half {
 /// A half of a tie: multiples of the rows, and the scale of the difference that they give.
 #[derive(Clone, Copy)]
 pub(crate) struct Multiples<'a> {
-    half: Half,
+    half: TieHalf,
     scale: i128,
     by: &'a [i128],
 }
 
-fn value_in(place: &Place, poly: &Poly) -> i128
+fn value_in(place: &FormPlace, poly: &Poly) -> i128
     ensures { result ≡ value_in place.now poly.now }
 {
     match place {
-        Place::At(column) => coefficient(poly.terms(), column),
-        Place::Constant => poly.rest(),
+        FormPlace::At(column) => coefficient(poly.terms(), column),
+        FormPlace::Constant => poly.rest(),
     }
 }
 
 /// A sum so far with a multiple of a term. The multiple 0 leaves it as it is.
 #[tactic(auto, using(crate::proofs::Sums::zeros))]
-fn with_term(total: &i128, number: &i128, place: &Place, poly: &Poly) -> Result<i128, Wide>
+fn with_term(total: &i128, number: &i128, place: &FormPlace, poly: &Poly) -> Result<i128, Wide>
     ensures { result ≡ with_side (value_in place.now) false total.now number.now (Term poly.now) }
 {
     if *number == 0 {
@@ -59,7 +59,7 @@ fn with_term(total: &i128, number: &i128, place: &Place, poly: &Poly) -> Result<
 
 /// A sum so far less a multiple of a lower term. The multiple 0 leaves it as it is.
 #[tactic(auto, using(crate::proofs::Sums::zeros))]
-fn less_lower(total: &i128, number: &i128, place: &Place, poly: &Poly) -> Result<i128, Wide>
+fn less_lower(total: &i128, number: &i128, place: &FormPlace, poly: &Poly) -> Result<i128, Wide>
     ensures { result ≡ with_side (value_in place.now) false total.now number.now (Lower poly.now) }
 {
     if *number == 0 {
@@ -71,20 +71,20 @@ fn less_lower(total: &i128, number: &i128, place: &Place, poly: &Poly) -> Result
 }
 
 /// A sum so far less a number, which stands in the constant alone.
-fn less_constant(total: &i128, number: &i128, place: &Place) -> Result<i128, Wide>
+fn less_constant(total: &i128, number: &i128, place: &FormPlace) -> Result<i128, Wide>
     ensures { result ≡ with_side (value_in place.now) (is_constant place.now) total.now number.now
         One }
 {
     match place {
-        Place::At(_column) => Ok(*total),
-        Place::Constant => {
+        FormPlace::At(_column) => Ok(*total),
+        FormPlace::Constant => {
             let less = product(*number, -1)?;
             sum(*total, less)
         }
     }
 }
 
-fn with_terms(numbers: &[i128], terms: &[Poly], place: &Place) -> Result<i128, Wide>
+fn with_terms(numbers: &[i128], terms: &[Poly], place: &FormPlace) -> Result<i128, Wide>
     requires { length numbers.now ≡ length terms.now }
     ensures { result ≡ terms_from (value_in place.now) (pos 0) numbers.now terms.now }
 {
@@ -95,7 +95,12 @@ fn with_terms(numbers: &[i128], terms: &[Poly], place: &Place) -> Result<i128, W
     Ok(total)
 }
 
-fn less_lowers(start: &i128, numbers: &[i128], lower: &[Poly], place: &Place) -> Result<i128, Wide>
+fn less_lowers(
+    start: &i128,
+    numbers: &[i128],
+    lower: &[Poly],
+    place: &FormPlace,
+) -> Result<i128, Wide>
     requires { length numbers.now ≡ length lower.now }
     ensures { result ≡ lower_from (value_in place.now) start.now numbers.now lower.now }
 {
@@ -111,7 +116,7 @@ fn difference_at(
     relation: &Relation,
     terms: &[Poly],
     lower: &[Poly],
-    place: &Place,
+    place: &FormPlace,
 ) -> Result<i128, Wide>
     requires terms { length relation.now.a ≡ length terms.now }
     requires lower { length relation.now.b ≡ length lower.now }
@@ -123,13 +128,13 @@ fn difference_at(
     less_constant(&both, &relation.c, place)
 }
 
-fn scaled_by(half: Half, scale: &i128, number: i128) -> Result<i128, Wide>
-    ensures { result ≡ scaled_by half scale.now number }
+fn scaled_number(half: TieHalf, scale: &i128, number: i128) -> Result<i128, Wide>
+    ensures { result ≡ scaled_number half scale.now number }
 {
     let part = product(*scale, number)?;
     match half {
-        Half::Up => Ok(part),
-        Half::Down => product(part, -1),
+        TieHalf::Up => Ok(part),
+        TieHalf::Down => product(part, -1),
     }
 }
 
@@ -145,7 +150,7 @@ fn difference_number(
     ensures { result ≡ with_sides (coefficient_at column) false (pos 0) (numbers_of relation.now)
         (sides terms.now lower.now) }
 {
-    difference_at(relation, terms, lower, &Place::At(column))
+    difference_at(relation, terms, lower, &FormPlace::At(column))
 }
 
 /// Whether the difference is 0 at each column; every number is made.
@@ -188,7 +193,7 @@ fn are_multiples(
     requires terms { length relation.now.a ≡ length case.now.terms }
     requires lower { length relation.now.b ≡ length lower.now }
     requires by { length multiples.now.by.now ≡ length case.now.rows }
-    ensures { result ≡ are_multiples (scaled_by multiples.now.half multiples.now.scale) true
+    ensures { result ≡ are_multiples (scaled_number multiples.now.half multiples.now.scale) true
         case.now.rows multiples.now.by.now (numbers_of relation.now)
         (sides case.now.terms lower.now) (columns_in columns.now) }
 {
@@ -215,13 +220,13 @@ fn is_multiple_at(
     requires terms { length relation.now.a ≡ length case.now.terms }
     requires lower { length relation.now.b ≡ length lower.now }
     requires by { length multiples.now.by.now ≡ length case.now.rows }
-    ensures { result ≡ are_multiples (scaled_by multiples.now.half multiples.now.scale) true
+    ensures { result ≡ are_multiples (scaled_number multiples.now.half multiples.now.scale) true
         case.now.rows multiples.now.by.now (numbers_of relation.now)
         (sides case.now.terms lower.now) (column.now ∷ []) }
 {
     let left = column_sum(case.rows.as_slice(), multiples.by, column)?;
     let own = difference_number(relation, case.terms.as_slice(), lower, *column)?;
-    let right = scaled_by(multiples.half, &multiples.scale, own)?;
+    let right = scaled_number(multiples.half, &multiples.scale, own)?;
     Ok(left == right)
 }
 
@@ -237,7 +242,7 @@ fn tested_multiple(
     requires terms { length relation.now.a ≡ length case.now.terms }
     requires lower { length relation.now.b ≡ length lower.now }
     requires by { length multiples.now.by.now ≡ length case.now.rows }
-    ensures { result ≡ tested_multiple (scaled_by multiples.now.half multiples.now.scale)
+    ensures { result ≡ tested_multiple (scaled_number multiples.now.half multiples.now.scale)
         (columns_in columns.now) case.now.rows
         (difference_form (numbers_of relation.now) (sides case.now.terms lower.now)
         (columns_in columns.now)) multiples.now.by.now }
@@ -260,12 +265,12 @@ fn with_half_constants(
     requires lower { length relation.now.b ≡ length lower.now }
     requires by { length multiples.now.by.now ≡ length case.now.rows }
     ensures { result
-        ≡ with_half_constants (scaled_by multiples.now.half multiples.now.scale) case.now.rows
+        ≡ with_half_constants (scaled_number multiples.now.half multiples.now.scale) case.now.rows
         multiples.now.by.now (numbers_of relation.now) (sides case.now.terms lower.now) same }
 {
     let left = constant_sum(case.rows.as_slice(), multiples.by)?;
-    let own = difference_at(relation, case.terms.as_slice(), lower, &Place::Constant)?;
-    let right = scaled_by(multiples.half, &multiples.scale, own)?;
+    let own = difference_at(relation, case.terms.as_slice(), lower, &FormPlace::Constant)?;
+    let right = scaled_number(multiples.half, &multiples.scale, own)?;
     Ok(is_same(same, &left, &right))
 }
 
@@ -281,7 +286,7 @@ fn tested_multiple_in_order(
     requires terms { length relation.now.a ≡ length case.now.terms }
     requires lower { length relation.now.b ≡ length lower.now }
     requires by { length multiples.now.by.now ≡ length case.now.rows }
-    ensures { result ≡ tested_multiple (scaled_by multiples.now.half multiples.now.scale)
+    ensures { result ≡ tested_multiple (scaled_number multiples.now.half multiples.now.scale)
         (columns_in columns.now) case.now.rows
         (difference_form (numbers_of relation.now) (sides case.now.terms lower.now)
         (columns_in columns.now)) multiples.now.by.now }
@@ -291,9 +296,9 @@ fn tested_multiple_in_order(
     sums_cancel(rows, columns, multiples.by)?;
     let left = constant_sum(rows, multiples.by)?;
     differences_cancel(relation, terms, lower, columns)?;
-    let own = difference_at(relation, terms, lower, &Place::Constant)?;
+    let own = difference_at(relation, terms, lower, &FormPlace::Constant)?;
     let same = are_multiples(relation, case, lower, columns, multiples)?;
-    let right = scaled_by(multiples.half, &multiples.scale, own)?;
+    let right = scaled_number(multiples.half, &multiples.scale, own)?;
     Ok(is_same(same, &left, &right))
 }
 
@@ -306,7 +311,7 @@ fn tested_half(
 ) -> Result<bool, Wide>
     requires terms { length relation.now.a ≡ length case.now.terms }
     requires lower { length relation.now.b ≡ length lower.now }
-    ensures { result ≡ tested_half (scaled_by multiples.now.half) (columns_in columns.now)
+    ensures { result ≡ tested_half (scaled_number multiples.now.half) (columns_in columns.now)
         case.now.rows
         (difference_form (numbers_of relation.now) (sides case.now.terms lower.now)
         (columns_in columns.now)) multiples.now.scale multiples.now.by.now }
@@ -334,12 +339,12 @@ fn tested_tie(
         case.now tie.now }
 {
     let up = Multiples {
-        half: Half::Up,
+        half: TieHalf::Up,
         scale: tie.up_scale,
         by: tie.up.as_slice(),
     };
     let down = Multiples {
-        half: Half::Down,
+        half: TieHalf::Down,
         scale: tie.down_scale,
         by: tie.down.as_slice(),
     };

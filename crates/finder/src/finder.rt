@@ -62,7 +62,7 @@ fn answer_for(
         Question::Infeasible(rows) => {
             answer_for_rows(alloc, question, rows.as_slice(), endings, memo)
         }
-        _ => found_for(alloc, question, endings),
+        _ => finder_answer(alloc, question, endings),
     }
 }
 
@@ -81,7 +81,7 @@ fn answer_for_rows(
     match memo.answer_to(rows)? {
         Some(kept) => Ok(kept),
         None => {
-            let found = found_for(alloc, asked, endings)?;
+            let found = finder_answer(alloc, asked, endings)?;
             memo.note(alloc, rows, &found)?;
             Ok(found)
         }
@@ -89,7 +89,7 @@ fn answer_for_rows(
 }
 
 /// The answer of simplex, or that of elimination where a question about relations met a limit.
-fn found_for(
+fn finder_answer(
     alloc: Global,
     question: &Question,
     endings: &mut Endings,
@@ -98,13 +98,17 @@ fn found_for(
 {
     let found = answer_with(alloc, question, endings)?;
     match question {
-        Question::Stratum(asked) => found_for_strata(alloc, asked, found),
+        Question::Stratum(asked) => finder_answer_for_strata(alloc, asked, found),
         _ => Ok(found),
     }
 }
 
 /// The answer of simplex where it is no limit, and else that of elimination.
-fn found_for_strata(alloc: Global, asked: &Stratum, found: Answer) -> Result<Answer, AllocError>
+fn finder_answer_for_strata(
+    alloc: Global,
+    asked: &Stratum,
+    found: Answer,
+) -> Result<Answer, AllocError>
     requires { IsFoundBySimplex (question.Stratum asked.now) found }
     ensures { IfOk result (IsFound (question.Stratum asked.now)) }
 {

@@ -13,13 +13,13 @@ const KEPT: usize = 32;
 
 /// An answer that was found to the question whether no point makes these rows true.
 #[derive(Drop)]
-pub(crate) struct Known {
+pub(crate) struct KnownAnswer {
     rows: Items<Row>,
     answer: Answer,
 }
 
 // Clauses see nothing of it.
-impl Model for Known {
+impl Model for KnownAnswer {
     ghost use Rattle.std.specs.Prelude.{⊤};
     ghost use Rattle.farkas_check.specs.declared.question.Question.TheVariants as question;
     ghost use Rattle.finder.specs.Found.{IsFound};
@@ -31,7 +31,7 @@ impl Model for Known {
     ghost invariant = { λ k. IsFound (question.Infeasible k.rows) k.answer };
 }
 
-impl Known {
+impl KnownAnswer {
     /// A copy of the answer, if it was found for equal rows.
     fn answer_to(&self, rows: &[Row]) -> Result<Option<Answer>, AllocError>
         ensures { IfOk result (λ kept. IfSome kept (IsFound (question.Infeasible rows.now))) }
@@ -48,7 +48,7 @@ impl Known {
 /// The last answers to questions about rows.
 #[derive(Drop)]
 pub(crate) struct Memo {
-    known: Vec<Known>,
+    known: Vec<KnownAnswer>,
     oldest: usize,
 }
 
@@ -83,7 +83,7 @@ impl Memo {
     ) -> Result<(), AllocError>
         requires { IsFound (question.Infeasible rows.now) answer.now }
     {
-        let next = known_of(alloc, rows, answer)?;
+        let next = known_answer(alloc, rows, answer)?;
         if self.known.len() < KEPT {
             self.known.push(next)?;
         } else {
@@ -95,12 +95,12 @@ impl Memo {
     }
 }
 
-fn known_of(alloc: Global, rows: &[Row], answer: &Answer) -> Result<Known, AllocError>
+fn known_answer(alloc: Global, rows: &[Row], answer: &Answer) -> Result<KnownAnswer, AllocError>
     requires { IsFound (question.Infeasible rows.now) answer.now }
 {
     let rows = copies_of(alloc, rows)?;
     let answer = answer.clone()?;
-    Ok(Known { rows, answer })
+    Ok(KnownAnswer { rows, answer })
 }
 
 fn copies_of(alloc: Global, rows: &[Row]) -> Result<Items<Row>, AllocError>

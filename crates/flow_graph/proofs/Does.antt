@@ -8,11 +8,11 @@ use Rattle.syntax_tree.specs.declared.program.Program.{Program}
 use Rattle.syntax_tree.specs.Term.{Term}
 use Rattle.syntax_tree.specs.Code.{Call, code_of}
 use Rattle.syntax_tree.specs.Value.{State}
-use Rattle.execution.specs.Machine.{Item, Do, Frame, Config, pending, returned}
+use Rattle.execution.specs.Machine.{Item, Do, Frame, Config, pending, returned_value}
 use Rattle.execution.specs.Step.{DoesCall, Steps, values_of}
 use Rattle.execution.specs.Execution.{Runs}
 use Rattle.execution.proofs.Joining.{runs_join}
-use Rattle.flow_graph.specs.Walks.{received}
+use Rattle.flow_graph.specs.Walks.{state_with_value}
 use Rattle.flow_graph.proofs.Moves.{Plain, plain_length}
 use Rattle.flow_graph.proofs.Frames.{frame_with, here, here_of, plain_in, received_length, resumed_here, top_at}
 
@@ -46,13 +46,13 @@ pub record IsCalling (program : Program) (items : List Item) (state : State) (ca
 
 -- the value that is returned from a state
 abbrev pub value_in : ℕ → State → ℤ
-value_in w state = returned (record { proc = 0; own = drop w state; items = []; into = None })
+value_in w state = returned_value (record { proc = 0; own = drop w state; items = []; into = None })
 
 abbrev pub entry_of : ℕ → Calling → State → State
 entry_of w call state = take w state ++ (call.values ++ call.others)
 
 abbrev pub exit_state : ℕ → Calling → State → State → State
-exit_state w call state end = received call.awaits (value_in w end) (take w end ++ drop w state)
+exit_state w call state end = state_with_value call.awaits (value_in w end) (take w end ++ drop w state)
 
 abbrev pub Does : Program → ℕ → Shape → List Item → State → List Item → State → Type 0
 Does program w Still items state last final = (items ≡ last) × (state ≡ final)

@@ -5,10 +5,10 @@ use Rattle.std.proofs.lemmas.Grind.{common_steps}
 use Rattle.std.proofs.lemmas.List.{get_or-set_same, get_or-set_other, length_push, length-set, get_or_default}
 use Rattle.std.proofs.lemmas.List.Elements.{Contains-append_left, Contains-append_right, Contains-append_cases}
 use Rattle.std.specs.List.{Contains}
-use Rattle.flow_graph.specs.declared.components.Mark.{Mark}
-use Rattle.flow_graph.specs.declared.components.Mark.TheVariants.{New, OnPath, Done}
+use Rattle.flow_graph.specs.declared.components.NumberMark.{NumberMark}
+use Rattle.flow_graph.specs.declared.components.NumberMark.TheVariants.{New, OnPath, Done}
 use Rattle.flow_graph.specs.Reaching.{Reaches}
-use Rattle.flow_graph.specs.Search.{State, entered, mark_of, on_path, IsMarked, IsSound, IsJoined}
+use Rattle.flow_graph.specs.Search.{State, after_entry, mark_of, on_path, IsMarked, IsSound, IsJoined}
 use Rattle.flow_graph.proofs.SearchMarks.{same_place, new_is_not_on_path, new_is_not_done, on_path_is_not_done, fewer_new}
 use Rattle.flow_graph.proofs.Chains.{reaches_self}
 
@@ -28,31 +28,31 @@ only_end y x h = let z : h.0 ≡ 0 = omega (arith, h.1) in sym (subst (λ (k : �
 pub contains_at : (xs : List ℕ) (i : ℕ) → i < length xs → Contains xs (get_or xs i 0)
 contains_at xs i l = (i, l, get_or_default xs i (get_or xs i 0) 0 l)
 
-pub entered_marks : (s : State) (p : ℕ) → p < length s.marks → mark_of (entered s p) p ≡ OnPath (length s.path)
+pub entered_marks : (s : State) (p : ℕ) → p < length s.marks → mark_of (after_entry s p) p ≡ OnPath (length s.path)
 entered_marks s p l = get_or-set_same s.marks p (OnPath (length s.path)) New l
 
-entered_others : (s : State) (p q : ℕ) → (q ≡ p → ⊥) → mark_of (entered s p) q ≡ mark_of s q
+entered_others : (s : State) (p q : ℕ) → (q ≡ p → ⊥) → mark_of (after_entry s p) q ≡ mark_of s q
 entered_others s p q ne = get_or-set_other s.marks p q (OnPath (length s.path)) New ne
 
 -- where an old mark was not new, it stays
-pub stays : (s : State) (p q : ℕ) (m : Mark) → mark_of s p ≡ New → mark_of s q ≡ m → (New ≡ m → ⊥) → mark_of (entered s p) q ≡ m
+pub stays : (s : State) (p q : ℕ) (m : NumberMark) → mark_of s p ≡ New → mark_of s q ≡ m → (New ≡ m → ⊥) → mark_of (after_entry s p) q ≡ m
 stays s p q m new is differ = entered_others s p q (λ e. differ (sym new ∙ subst (λ (x : ℕ). mark_of s x ≡ m) e is)) ∙ is
 
 pub entered_follows : (s : State) (p : ℕ) → p < length s.marks → mark_of s p ≡ New
-    → (at group : ℕ) → mark_of s at ≡ Done group → mark_of (entered s p) at ≡ Done group
+    → (at group : ℕ) → mark_of s at ≡ Done group → mark_of (after_entry s p) at ≡ Done group
 entered_follows s p l new at group h = stays s p at (Done group) new h (new_is_not_done group)
 
-entered_marked : (s : State) (p : ℕ) → p < length s.marks → mark_of s p ≡ New → IsMarked s → IsMarked (entered s p)
+entered_marked : (s : State) (p : ℕ) → p < length s.marks → mark_of s p ≡ New → IsMarked s → IsMarked (after_entry s p)
 entered_marked s p l new m = record {
   placed = λ at h. elim (cases_lt at (length s.path)) [
-    | inl lt ↦ ap (mark_of (entered s p)) (before_end s.path p at lt)
+    | inl lt ↦ ap (mark_of (after_entry s p)) (before_end s.path p at lt)
         ∙ stays s p (on_path s at) (OnPath at) new (m.placed at lt) (new_is_not_on_path at)
     | inr ge ↦ let e : at ≡ length s.path = grind (arith, common_steps) in
-        ap (mark_of (entered s p)) (ap (on_path (entered s p)) e ∙ at_end s.path p) ∙ entered_marks s p l ∙ ap OnPath (sym e)
+        ap (mark_of (after_entry s p)) (ap (on_path (after_entry s p)) e ∙ at_end s.path p) ∙ entered_marks s p l ∙ ap OnPath (sym e)
   ];
   stands = λ q at h. elim (cases_eq q p) [
-    | inl e ↦ let n : length s.path ≡ at = same_place _ _ (sym (ap (mark_of (entered s p)) e ∙ entered_marks s p l) ∙ h) in
-        (grind (arith, common_steps), ap (on_path (entered s p)) (sym n) ∙ at_end s.path p ∙ sym e)
+    | inl e ↦ let n : length s.path ≡ at = same_place _ _ (sym (ap (mark_of (after_entry s p)) e ∙ entered_marks s p l) ∙ h) in
+        (grind (arith, common_steps), ap (on_path (after_entry s p)) (sym n) ∙ at_end s.path p ∙ sym e)
     | inr ne ↦ let old = m.stands q at (sym (entered_others s p q ne) ∙ h) in
         (grind (arith, common_steps, old.0), before_end s.path p at old.0 ∙ old.1)
   ];
@@ -78,32 +78,32 @@ entered_marked s p l new m = record {
 
 entered_reaches : (calls : List (List ℕ)) (s : State) (p : ℕ) → IsSound calls s
     → ((at : ℕ) → at < length s.path → Reaches calls (on_path s at) p)
-    → (at before : ℕ) → at < length (entered s p).path → before < length (entered s p).path → IsJoined (entered s p) at before
-    → Reaches calls (on_path (entered s p) at) (on_path (entered s p) before)
+    → (at before : ℕ) → at < length (after_entry s p).path → before < length (after_entry s p).path → IsJoined (after_entry s p) at before
+    → Reaches calls (on_path (after_entry s p) at) (on_path (after_entry s p) before)
 entered_reaches calls s p sound to at before la lb joined = elim (cases_lt at (length s.path)) [
   | inl lt ↦ elim (cases_lt before (length s.path)) [
     | inl lt2 ↦ rw (before_end s.path p at lt, before_end s.path p before lt2)
         (sound.reaches at before lt lt2 (λ b c. joined b (Contains-append_left s.starts _ b c)))
     | inr ge ↦ let e : before ≡ length s.path = grind (arith, common_steps) in
-        rw (before_end s.path p at lt, ap (on_path (entered s p)) e ∙ at_end s.path p) (to at lt)
+        rw (before_end s.path p at lt, ap (on_path (after_entry s p)) e ∙ at_end s.path p) (to at lt)
   ]
   | inr ge ↦ let e : at ≡ length s.path = grind (arith, common_steps) in
       elim (cases_lt before (length s.path)) [
         | inl lt2 ↦ absurd (joined (length s.path) (contains_end s.starts (length s.path)) lt2 (omega (arith, e)))
         | inr ge2 ↦ let f : before ≡ length s.path = grind (arith, common_steps) in
-            rw (ap (on_path (entered s p)) e ∙ at_end s.path p, ap (on_path (entered s p)) f ∙ at_end s.path p) (reaches_self calls p)
+            rw (ap (on_path (after_entry s p)) e ∙ at_end s.path p, ap (on_path (after_entry s p)) f ∙ at_end s.path p) (reaches_self calls p)
       ]
 ]
 
 -- a number that is done after the step was done before
-was_done : (s : State) (p q group : ℕ) → p < length s.marks → mark_of (entered s p) q ≡ Done group → mark_of s q ≡ Done group
+was_done : (s : State) (p q group : ℕ) → p < length s.marks → mark_of (after_entry s p) q ≡ Done group → mark_of s q ≡ Done group
 was_done s p q group l h = elim (cases_eq q p) [
-  | inl e ↦ absurd (on_path_is_not_done _ _ (sym (ap (mark_of (entered s p)) e ∙ entered_marks s p l) ∙ h))
+  | inl e ↦ absurd (on_path_is_not_done _ _ (sym (ap (mark_of (after_entry s p)) e ∙ entered_marks s p l) ∙ h))
   | inr ne ↦ sym (entered_others s p q ne) ∙ h
 ]
 
 pub entered_sound : (calls : List (List ℕ)) (s : State) (p : ℕ) → p < length s.marks → mark_of s p ≡ New → IsSound calls s
-    → ((at : ℕ) → at < length s.path → Reaches calls (on_path s at) p) → IsSound calls (entered s p)
+    → ((at : ℕ) → at < length s.path → Reaches calls (on_path s at) p) → IsSound calls (after_entry s p)
 entered_sound calls s p l new sound to = record {
   marked = entered_marked s p l new sound.marked;
   reaches = entered_reaches calls s p sound to;

@@ -6,7 +6,7 @@ use Rattle.syntax_tree.specs.Term.{Term}
 use Rattle.syntax_tree.specs.Code.{Call, code_of}
 use Rattle.syntax_tree.specs.Value.{State}
 use Rattle.execution.specs.Machine.{Item, Do, Frame, Config, pending}
-use Rattle.execution.specs.Step.{DoesCall, Resumes, resumed, values_of}
+use Rattle.execution.specs.Step.{DoesCall, Resumes, after_return, values_of}
 use Rattle.execution.specs.Execution.{Runs}
 use Rattle.flow_graph.proofs.Moves.{Plain, plain_length}
 use Rattle.flow_graph.proofs.Frames.{CallsOut, Ends, Inside, OneStep, frame_with, here, here_of, one_step, resumed_here, top_at}
@@ -20,7 +20,7 @@ module _ (program : Program) (w : ℕ) where
     pub below_are : below ≡ caller ∷ under
     pub steps : List Config
     pub fewer : length steps ≤ n
-    pub runs : Runs program (resumed into (value_in w end) (record { globals = take w end; frame = caller; below = under })) steps last
+    pub runs : Runs program (after_return into (value_in w end) (record { globals = take w end; frame = caller; below = under })) steps last
 
   pub data Fate (proc : ℕ) (into : Option ℕ) (below : List Frame) (state : State) (items : List Item) (n : ℕ) (last : Config) : Type 0 where
     OnTop : (shape : Shape) (left : List Item) (final : State) → Does program w shape items state left final → w ≤ length final
@@ -78,8 +78,8 @@ module _ (program : Program) (w : ℕ) where
       let frame = frame_with w proc into state call.rest in
       let those = same_caller leaves.caller frame leaves.under below leaves.below_are in
       let after = exit_state w call state end in
-      let back : resumed call.awaits (value_in w end) (record { globals = take w end; frame = leaves.caller; below = leaves.under }) ≡ here w proc into below after call.rest =
-      (λ i. resumed call.awaits (value_in w end) (record { globals = take w end; frame = those.0 i; below = those.1 i }))
+      let back : after_return call.awaits (value_in w end) (record { globals = take w end; frame = leaves.caller; below = leaves.under }) ≡ here w proc into below after call.rest =
+      (λ i. after_return call.awaits (value_in w end) (record { globals = take w end; frame = those.0 i; below = those.1 i }))
       ∙ resumed_here program w proc into below call.awaits (value_in w end) (take w end) state call.rest (length-take-le w end ends) in
       after_call proc into below state items n last call shape end is does
       (fates proc into below after call.rest leaves.steps last (exit_fits program w call state end ends) leaves.fewer

@@ -7,7 +7,7 @@ use Rattle.std.proofs.lemmas.List.Elements.{Contains-append_left, Contains-appen
 use Rattle.std.specs.List.{Contains}
 use Rattle.flow_graph.specs.Groups.{IsAscending}
 use Rattle.flow_graph.specs.Components.{group_at}
-use Rattle.flow_graph.specs.Reaching.{Calls, called_by}
+use Rattle.flow_graph.specs.Reaching.{Calls, callees_of}
 use Rattle.flow_graph.specs.Plans.{AreFilled, empty_rows}
 use Rattle.flow_graph.proofs.Entering.{contains_end, only_end}
 use Rattle.flow_graph.proofs.Orders.{rest_in}
@@ -61,19 +61,19 @@ module _ (calls : List (List ℕ)) (groups : List ℕ) (count k : ℕ) (members 
   calls_here xs = get_or-set_same rows (group_at groups k) xs [] (omega (arith, within, filled.rows_many))
 
   pub one_more_filled : (new more : List (List ℕ)) → new ≡ set members (group_at groups k) (get_or members (group_at groups k) [] ++ k ∷ [])
-      → more ≡ set rows (group_at groups k) (get_or rows (group_at groups k) [] ++ called_by calls k) → AreFilled calls groups count (k + 1) new more
+      → more ≡ set rows (group_at groups k) (get_or rows (group_at groups k) [] ++ callees_of calls k) → AreFilled calls groups count (k + 1) new more
   one_more_filled new more is was =
       let own = get_or members (group_at groups k) [] in
       let line = get_or rows (group_at groups k) [] in
       let same : get_or new (group_at groups k) [] ≡ own ++ k ∷ [] = ap (λ (t : List (List ℕ)). get_or t (group_at groups k) []) is ∙ row_here (own ++ k ∷ []) in
-      let same_row : get_or more (group_at groups k) [] ≡ line ++ called_by calls k = ap (λ (t : List (List ℕ)). get_or t (group_at groups k) []) was ∙ calls_here (line ++ called_by calls k) in
+      let same_row : get_or more (group_at groups k) [] ≡ line ++ callees_of calls k = ap (λ (t : List (List ℕ)). get_or t (group_at groups k) []) was ∙ calls_here (line ++ callees_of calls k) in
       let other : (g : ℕ) → (g ≡ group_at groups k → ⊥) → get_or new g [] ≡ get_or members g [] =
       λ g ne. ap (λ (t : List (List ℕ)). get_or t g []) is ∙ get_or-set_other members (group_at groups k) g (own ++ k ∷ []) [] ne in
       let other_row : (g : ℕ) → (g ≡ group_at groups k → ⊥) → get_or more g [] ≡ get_or rows g [] =
-      λ g ne. ap (λ (t : List (List ℕ)). get_or t g []) was ∙ get_or-set_other rows (group_at groups k) g (line ++ called_by calls k) [] ne in
+      λ g ne. ap (λ (t : List (List ℕ)). get_or t g []) was ∙ get_or-set_other rows (group_at groups k) g (line ++ callees_of calls k) [] ne in
       record {
         many = ap (λ (t : List (List ℕ)). length t) is ∙ length-set members (group_at groups k) (own ++ k ∷ []) ∙ filled.many;
-        rows_many = ap (λ (t : List (List ℕ)). length t) was ∙ length-set rows (group_at groups k) (line ++ called_by calls k) ∙ filled.rows_many;
+        rows_many = ap (λ (t : List (List ℕ)). length t) was ∙ length-set rows (group_at groups k) (line ++ callees_of calls k) ∙ filled.rows_many;
         listed = λ g q. elim (cases_eq g (group_at groups k)) [
           | inl e ↦ subst (λ (x : ℕ). Contains (get_or new x []) q ↔ ((q < k + 1) × (group_at groups q ≡ x))) (sym e) (
             (λ c. elim (Contains-append_cases own (k ∷ []) q (subst (λ (xs : List ℕ). Contains xs q) same c)) [
@@ -100,14 +100,14 @@ module _ (calls : List (List ℕ)) (groups : List ℕ) (count k : ℕ) (members 
         ];
         called = λ p q l call. elim (cases_eq (group_at groups p) (group_at groups k)) [
           | inl e ↦ subst (λ (x : ℕ). Contains (get_or more x []) q) (sym e) (subst (λ (xs : List ℕ). Contains xs q) (sym same_row) (elim (cases_eq p k) [
-            | inl n ↦ Contains-append_right line (called_by calls k) q (subst (λ (x : ℕ). Calls calls x q) n call)
-            | inr un ↦ Contains-append_left line (called_by calls k) q (subst (λ (x : ℕ). Contains (get_or rows x []) q) e (filled.called p q (omega (arith, l, un)) call))
+            | inl n ↦ Contains-append_right line (callees_of calls k) q (subst (λ (x : ℕ). Calls calls x q) n call)
+            | inr un ↦ Contains-append_left line (callees_of calls k) q (subst (λ (x : ℕ). Contains (get_or rows x []) q) e (filled.called p q (omega (arith, l, un)) call))
           ]))
           | inr ne ↦ subst (λ (xs : List ℕ). Contains xs q) (sym (other_row (group_at groups p) ne)) (filled.called p q
               (elim (cases_eq p k) [ inl n ↦ absurd (ne (ap (group_at groups) n)) | inr un ↦ omega (arith, l, un) ]) call)
         ];
         callers = λ g q c. elim (cases_eq g (group_at groups k)) [
-          | inl e ↦ elim (Contains-append_cases line (called_by calls k) q (subst (λ (xs : List ℕ). Contains xs q) same_row (subst (λ (x : ℕ). Contains (get_or more x []) q) e c))) [
+          | inl e ↦ elim (Contains-append_cases line (callees_of calls k) q (subst (λ (xs : List ℕ). Contains xs q) same_row (subst (λ (x : ℕ). Contains (get_or more x []) q) e c))) [
             | inl old ↦ let o = filled.callers (group_at groups k) q old in (o.0, (let l = o.1 in omega (arith, l)), o.2 ∙ sym e, o.3)
             | inr now ↦ (k, omega arith, sym e, now)
           ]

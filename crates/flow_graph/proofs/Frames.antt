@@ -8,8 +8,8 @@ use Rattle.syntax_tree.specs.Term.{Term}
 use Rattle.syntax_tree.specs.Code.{Statement, Set, Any, Call, Guard, Check, If, Loop, Break, Continue, Return}
 use Rattle.syntax_tree.specs.Value.{State}
 use Rattle.execution.specs.Machine.{Item, Do, Head, Test, Tail, Frame, Config, Top, config_of, pending, with_state}
-use Rattle.execution.specs.Step.{Changes, Chooses, DoesCall, DoesSimple, IsFalseIn, IsTrueIn, Resumes, Steps, StepsBy, resumed}
-use Rattle.flow_graph.specs.Walks.{received}
+use Rattle.execution.specs.Step.{Changes, Chooses, DoesCall, DoesSimple, IsFalseIn, IsTrueIn, Resumes, Steps, StepsBy, after_return}
+use Rattle.flow_graph.specs.Walks.{state_with_value}
 use Rattle.flow_graph.proofs.Moves.{Chosen, Goes, Plain}
 
 abbrev pub frame_with : ℕ → ℕ → Option ℕ → State → List Item → Frame
@@ -128,14 +128,14 @@ module _ (program : Program) (w proc : ℕ) (into : Option ℕ) (below : List Fr
 
   -- a caller goes on with the globals that its callee left, and the value in its column
   pub resumed_here : (awaits : Option ℕ) (value : ℤ) (left state : State) (rest : List Item) → length left ≡ w
-      → resumed awaits value (record { globals = left; frame = frame_with w proc into state rest; below = below })
-      ≡ here w proc into below (received awaits value (left ++ drop w state)) rest
+      → after_return awaits value (record { globals = left; frame = frame_with w proc into state rest; below = below })
+      ≡ here w proc into below (state_with_value awaits value (left ++ drop w state)) rest
   resumed_here None value left state rest e = sym (here_of w proc into below left (drop w state) rest e)
   resumed_here (Some col) value left state rest e =
       let after = slice_set (left ++ drop w state) col value in
       let cut : ℕ → Config = λ n. record { globals = take n after; frames = record { proc = proc; own = drop n after; items = rest; into = into } ∷ below } in
       ap cut e
 
-pub received_length : (awaits : Option ℕ) (value : ℤ) (state : State) → length (received awaits value state) ≡ length state
+pub received_length : (awaits : Option ℕ) (value : ℤ) (state : State) → length (state_with_value awaits value state) ≡ length state
 received_length None value state = refl
 received_length (Some col) value state = length-set state col value

@@ -1,7 +1,7 @@
 -- Groups of the path that are joined keep what the search keeps.
 use Rattle.std.proofs.Common.{inl, inr, ◌≡◌, ℕ, ◌<◌, List, length, refl, subst, arith, ◌∙◌}
 use Rattle.std.proofs.lemmas.Bool.{cases_lt}
-use Rattle.flow_graph.specs.declared.components.Mark.TheVariants.{OnPath}
+use Rattle.flow_graph.specs.declared.components.NumberMark.TheVariants.{OnPath}
 use Rattle.flow_graph.specs.Reaching.{Calls, Reaches}
 use Rattle.flow_graph.specs.Search.{State, mark_of, on_path, with_starts, IsSound, Follows, IsJoined, IsCut, IsSettled, AreLow}
 use Rattle.flow_graph.proofs.Chains.{reaches_then, reaches_call}

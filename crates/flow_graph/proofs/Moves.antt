@@ -7,7 +7,7 @@ use Rattle.std.proofs.lemmas.List.{length-set}
 use Rattle.syntax_tree.specs.declared.op.Sign.TheVariants.{Not}
 use Rattle.syntax_tree.specs.Term.{Term, Lit, Unary}
 use Rattle.syntax_tree.specs.Code.{Statement, Set, Any, Call, Guard, Check, If, Loop, Break, Continue, Return, Code}
-use Rattle.syntax_tree.specs.Value.{State, value_of, signed, with_number, truth_value}
+use Rattle.syntax_tree.specs.Value.{State, value_of, unary_value, with_number, truth_value}
 use Rattle.execution.specs.Machine.{Item, Do, Head, Test, Tail, LoopParts, after_loop, pending, to_tail}
 use Rattle.execution.specs.Step.{Changes, IsFalseIn, IsTrueIn, at_begin, at_head, at_tail}
 use Rattle.flow_graph.specs.FlowGraph.{skip, unless}
@@ -94,7 +94,7 @@ pub skip_passes : (state : State) → IsTrueIn (Lit (pos 1)) state
 skip_passes state = (pos 1, refl, (λ e. cc))
 
 pub false_passes : (cond : Term) (state : State) → IsFalseIn cond state → IsTrueIn (Unary Not cond) state
-false_passes cond state is = (pos 1, ap (λ v. with_number v (λ x. Some (signed Not x))) is, (λ e. cc))
+false_passes cond state is = (pos 1, ap (λ v. with_number v (λ x. Some (unary_value Not x))) is, (λ e. cc))
 
 nonzero_only : (zero_there : Bool) (x v : ℤ) → int_eq x (pos 0) ≡ zero_there
     → Some (truth_value (not (not zero_there))) ≡ Some v → v ≢ pos 0 → x ≡ pos 0
@@ -102,7 +102,7 @@ nonzero_only true x v is e differs = (Decides-int_eq x (pos 0)).0 is
 nonzero_only false x v is e differs = absurd (differs (sym (some_same e)))
 
 not_passes : (cond : Term) (state : State) (there : Option ℤ) (v : ℤ) → value_of cond state ≡ there
-    → with_number there (λ x. Some (signed Not x)) ≡ Some v → v ≢ pos 0 → IsFalseIn cond state
+    → with_number there (λ x. Some (unary_value Not x)) ≡ Some v → v ≢ pos 0 → IsFalseIn cond state
 not_passes cond state None v is e differs = absurd (cc e)
 not_passes cond state (Some x) v is e differs = is ∙ ap Some (nonzero_only (int_eq x (pos 0)) x v refl e differs)
 

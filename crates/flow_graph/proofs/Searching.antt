@@ -4,8 +4,8 @@ use Rattle.std.proofs.lemmas.Bool.{cases_lt, cases_eq}
 use Rattle.std.proofs.lemmas.Grind.{common_steps}
 use Rattle.std.proofs.lemmas.List.{get_or_past, length-map}
 use Rattle.std.specs.List.{count_by}
-use Rattle.flow_graph.specs.declared.components.Mark.{Mark}
-use Rattle.flow_graph.specs.declared.components.Mark.TheVariants.{New, OnPath, Done}
+use Rattle.flow_graph.specs.declared.components.NumberMark.{NumberMark}
+use Rattle.flow_graph.specs.declared.components.NumberMark.TheVariants.{New, OnPath, Done}
 use Rattle.flow_graph.specs.Reaching.{Calls, Leads}
 use Rattle.flow_graph.specs.Components.{AreComponents, group_at}
 use Rattle.flow_graph.specs.Search.{State, all_new, fresh, group_in, is_new, mark_of, AreDone, AreNumbers, AllReach, IsSound, Visited}
@@ -87,7 +87,7 @@ done_by_visit calls s t k d v = record {
 
 -- ---- the components
 
-group_is : (marks : List Mark) (p : ℕ) → get_or (map group_in marks) p 0 ≡ group_in (get_or marks p New)
+group_is : (marks : List NumberMark) (p : ℕ) → get_or (map group_in marks) p 0 ≡ group_in (get_or marks p New)
 group_is [] p = refl
 group_is (m ∷ marks) zero = refl
 group_is (m ∷ marks) (suc p) = group_is marks p
@@ -129,7 +129,7 @@ module _ (calls : List (List ℕ)) (s : State) (d : AreDone calls s (length call
 
 new_then : (n : ℕ) → all_new n ++ New ∷ [] ≡ all_new (suc n)
 new_then zero = refl
-new_then (suc n) = ap (λ (r : List Mark). New ∷ r) (new_then n)
+new_then (suc n) = ap (λ (r : List NumberMark). New ∷ r) (new_then n)
 
 pub new_more : (n : ℕ) → all_new n ++ New ∷ [] ≡ all_new (n + 1)
 new_more n = let e : suc n ≡ n + 1 = omega arith in new_then n ∙ ap all_new e

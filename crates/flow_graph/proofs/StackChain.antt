@@ -7,7 +7,7 @@ use Rattle.syntax_tree.specs.Term.{Term}
 use Rattle.syntax_tree.specs.Code.{Call, code_of}
 use Rattle.syntax_tree.specs.Value.{State}
 use Rattle.execution.specs.Machine.{Config, Do, Frame, Item, config_of, pending}
-use Rattle.execution.specs.Step.{DoesCall, IsFalseIn, Resumes, Steps, resumed, values_of}
+use Rattle.execution.specs.Step.{DoesCall, IsFalseIn, Resumes, Steps, after_return, values_of}
 use Rattle.execution.specs.Execution.{Begins, Runs, initial_globals}
 use Rattle.flow_graph.specs.Stack.{Beginning, FailuresAreInChains, IsChain, StacksAreChains, StandsOver}
 use Rattle.flow_graph.proofs.Moves.{Plain, plain_length}
@@ -133,7 +133,7 @@ module _ (program : Program) where
         into = caller.into;
         below = below;
         is = back
-            ∙ (λ i. resumed into (value_in w state) (record { globals = take w state; frame = frame i; below = below }))
+            ∙ (λ i. after_return into (value_in w state) (record { globals = take w state; frame = frame i; below = below }))
             ∙ resumed_here program w under.proc caller.into below into (value_in w state) (take w state) before caller.items (length-take-le w state fits);
         fits = exit_fits program w call before state fits;
         over = over_with bottom under (Do (Call at.proc values into) ∷ caller.items) before caller.into below caller.items after over

@@ -10,7 +10,7 @@ use Rattle.execution.specs.Machine.{Item, Do, Head, Test, Tail, LoopParts, after
 use Rattle.execution.specs.Step.{Changes, at_head, at_tail}
 use Rattle.execution.specs.Execution.{Returns}
 use Rattle.flow_graph.specs.FlowGraph.{arc, flow_of, skip}
-use Rattle.flow_graph.specs.Walks.{CallMeaning, CallRelates, EdgeRelates, Stride, Walks, received}
+use Rattle.flow_graph.specs.Walks.{CallMeaning, CallRelates, EdgeRelates, Stride, Walks, state_with_value}
 use Rattle.flow_graph.proofs.Each.{Each, Has, each_get}
 use Rattle.flow_graph.proofs.Moves.{Move, Near, Plain, Silent, begun, edged, move, moves_of, next_turn, passes_false, plain_length, silent_step}
 use Rattle.flow_graph.proofs.Does.{Calling, Does, IsCalling, Onward, Shape, Still, Through, does_fits, does_join, entry_fits, entry_of, exit_fits, exit_state, height, value_in}
@@ -50,7 +50,7 @@ module _ (program : Program) where
       let value : value_in w acts.final ≡ call.value =
       ap (λ (own : State). slice_index_or own (length own - 1) (pos 0)) acts.own_is ∙ returns.value_is in
       let same : exit_state w calling before acts.final ≡ after =
-      (λ i. received into (value i) (acts.now_is i ++ drop w before)) ∙ sym call.after_is in
+      (λ i. state_with_value into (value i) (acts.now_is i ++ drop w before)) ∙ sym call.after_is in
       (Through acts.shape Still, (calling, is, acts.final, inside, (refl, same)))
 
   loop_moved : (pre : Code) (cond : Term) (body step : Code) (first : Bool) (rest : List Item)

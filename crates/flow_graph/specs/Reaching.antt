@@ -3,11 +3,11 @@ use Rattle.std.specs.Prelude.{◌≡◌, ℕ, List, [], ◌∷◌, slice_index_o
 use Rattle.std.specs.List.{Contains}
 
 -- what a number calls; nothing past the end
-abbrev pub called_by : List (List ℕ) → ℕ → List ℕ
-called_by calls p = slice_index_or calls p []
+abbrev pub callees_of : List (List ℕ) → ℕ → List ℕ
+callees_of calls p = slice_index_or calls p []
 
 abbrev pub Calls : List (List ℕ) → ℕ → ℕ → Type 0
-Calls calls p q = Contains (called_by calls p) q
+Calls calls p q = Contains (callees_of calls p) q
 
 -- one call after the other leads over these numbers from p to q
 abbrev pub Leads : List (List ℕ) → ℕ → List ℕ → ℕ → Type 0

@@ -1,15 +1,15 @@
 -- The state of a path-based depth-first search (Gabow 2000), and what it keeps.
 use Rattle.std.specs.Prelude.{◌≡◌, ℕ, zero, suc, ◌+◌, ◌-◌, ◌<◌, ◌≤◌, ◌⊎◌, nat_le, nat_lt, ◌&&◌, Bool, true, false, List, [], ◌∷◌, ◌++◌, length, slice_index_or, slice_set, take, map, if◌then◌else◌}
 use Rattle.std.specs.List.{Contains, count_by}
-use Rattle.flow_graph.specs.declared.components.Mark.{Mark}
-use Rattle.flow_graph.specs.declared.components.Mark.TheVariants.{New, OnPath, Done}
+use Rattle.flow_graph.specs.declared.components.NumberMark.{NumberMark}
+use Rattle.flow_graph.specs.declared.components.NumberMark.TheVariants.{New, OnPath, Done}
 use Rattle.flow_graph.specs.declared.components.Search.{Search}
 use Rattle.flow_graph.specs.Reaching.{Calls, Reaches}
 
 -- how far each number is, the numbers on the path, the places of the path at which its groups
 -- start, and how many groups are done
 pub record State : Type 0 where
-  pub marks : List Mark
+  pub marks : List NumberMark
   pub path : List ℕ
   pub starts : List ℕ
   pub groups : ℕ
@@ -22,12 +22,12 @@ state_of s = record {
   groups = s.groups;
 }
 
-abbrev pub is_new : Mark → Bool
+abbrev pub is_new : NumberMark → Bool
 is_new New = true
 is_new (OnPath at) = false
 is_new (Done group) = false
 
-abbrev pub mark_of : State → ℕ → Mark
+abbrev pub mark_of : State → ℕ → NumberMark
 mark_of s p = slice_index_or s.marks p New
 
 abbrev pub on_path : State → ℕ → ℕ
@@ -36,8 +36,8 @@ on_path s at = slice_index_or s.path at 0
 -- ---- the steps
 
 -- a number put at the end of the path, as a group of its own
-abbrev pub entered : State → ℕ → State
-entered s p = record {
+abbrev pub after_entry : State → ℕ → State
+after_entry s p = record {
   marks = slice_set s.marks p (OnPath (length s.path));
   path = s.path ++ p ∷ [];
   starts = s.starts ++ length s.path ∷ [];
@@ -45,14 +45,14 @@ entered s p = record {
 }
 
 -- the last group of the path, which starts at a place, is done
-abbrev pub left_mark : ℕ → ℕ → ℕ → Mark → Mark
+abbrev pub left_mark : ℕ → ℕ → ℕ → NumberMark → NumberMark
 left_mark at end groups New = New
 left_mark at end groups (OnPath place) = if nat_le at place && nat_lt place end then Done groups
     else OnPath place
 left_mark at end groups (Done group) = Done group
 
-abbrev pub left : State → ℕ → State
-left s at = record {
+abbrev pub after_leaving : State → ℕ → State
+after_leaving s at = record {
   marks = map (left_mark at (length s.path) s.groups) s.marks;
   path = take at s.path;
   starts = take (length s.starts - 1) s.starts;
@@ -158,7 +158,7 @@ AllReach calls s p = (at : ℕ) → at < length s.path → Reaches calls (on_pat
 
 -- ---- all searches
 
-abbrev pub all_new : ℕ → List Mark
+abbrev pub all_new : ℕ → List NumberMark
 all_new zero = []
 all_new (suc n) = New ∷ all_new n
 
@@ -166,7 +166,7 @@ abbrev pub fresh : ℕ → State
 fresh n = record { marks = all_new n; path = []; starts = []; groups = 0 }
 
 -- the component of a number that is done
-abbrev pub group_in : Mark → ℕ
+abbrev pub group_in : NumberMark → ℕ
 group_in New = 0
 group_in (OnPath at) = 0
 group_in (Done group) = group

@@ -16,9 +16,9 @@ abbrev pub CallMeaning : Type 1
 CallMeaning = ℕ → State → State → State → ℤ → Type 0
 
 -- the returned value goes into the column that awaits it
-abbrev pub received : Option ℕ → ℤ → State → State
-received None value state = state
-received (Some col) value state = slice_set state col value
+abbrev pub state_with_value : Option ℕ → ℤ → State → State
+state_with_value None value state = state
+state_with_value (Some col) value state = slice_set state col value
 
 -- A call takes the globals and the values of its arguments, and leaves the columns past the globals
 -- but for the one that awaits its value.
@@ -29,7 +29,7 @@ pub record CallRelates (calls : CallMeaning) (globals : ℕ) (proc : ℕ) (args 
   pub left : State
   pub value : ℤ
   pub returns : calls proc (take globals before) values left value
-  pub after_is : after ≡ received into value (left ++ drop globals before)
+  pub after_is : after ≡ state_with_value into value (left ++ drop globals before)
 
 -- The relation of an edge, by what it does, where so many columns are globals: a call relates as
 -- those that are there say, every other statement as it changes a state.

@@ -1,7 +1,7 @@
 ghost use Rattle.std.specs.Prelude.{◌≡◌, ◌<◌, ◌≤◌, ◌+◌, length, map, IfOk, OnOk};
-ghost use Rattle.flow_graph.specs.Search.{state_of, all_new, entered, fresh, group_in, AreDone, last_start, with_starts, left, mark_of, AllReach, AreNumbers, IsAscending, IsCut, IsMarked, IsSound, Visited};
+ghost use Rattle.flow_graph.specs.Search.{state_of, all_new, after_entry, fresh, group_in, AreDone, last_start, with_starts, after_leaving, mark_of, AllReach, AreNumbers, IsAscending, IsCut, IsMarked, IsSound, Visited};
 ghost use Rattle.flow_graph.specs.Components.{AreComponents};
-ghost use Rattle.flow_graph.specs.declared.components.Mark.TheVariants.{New};
+ghost use Rattle.flow_graph.specs.declared.components.NumberMark.TheVariants.{New};
 
 use crate::error::GraphError;
 use items::Items;
@@ -9,7 +9,7 @@ use std::alloc::Global;
 
 /// How far a number is.
 #[derive(Clone, Copy, Debug, PartialEq, Eq)]
-pub(crate) enum Mark {
+pub(crate) enum NumberMark {
     New,
     OnPath(usize),
     Done(usize),
@@ -19,7 +19,7 @@ pub(crate) enum Mark {
 /// groups start, and how many groups are done.
 #[derive(Debug, Drop)]
 pub(crate) struct Search {
-    marks: Vec<Mark>,
+    marks: Vec<NumberMark>,
     path: Vec<u32>,
     starts: Vec<usize>,
     groups: usize,
@@ -38,10 +38,10 @@ impl Search {
     #[tactic(auto, using(crate::proofs::Entering::entered_sound))]
     fn enter(&mut self, p: u32) -> Result<(), GraphError>
         requires { p < length self.old.marks.items }
-        ensures { OnOk result (state_of self.new ≡ entered (state_of self.old) p) }
+        ensures { OnOk result (state_of self.new ≡ after_entry (state_of self.old) p) }
     {
         self.starts.push(self.path.len())?;
-        self.marks[p as usize] = Mark::OnPath(self.path.len());
+        self.marks[p as usize] = NumberMark::OnPath(self.path.len());
         self.path.push(p)?;
         Ok(())
     }
@@ -72,10 +72,10 @@ impl Search {
         requires within { at < length self.old.path.items }
         requires marked { IsMarked (state_of self.old) }
         requires few { self.old.groups + length self.old.path.items ≤ length self.old.marks.items }
-        ensures { state_of self.new ≡ left (state_of self.old) at }
+        ensures { state_of self.new ≡ after_leaving (state_of self.old) at }
     {
         for place in at..self.path.len() {
-            self.marks[self.path[place] as usize] = Mark::Done(self.groups);
+            self.marks[self.path[place] as usize] = NumberMark::Done(self.groups);
         }
         self.path.truncate(at);
         self.starts.pop();
@@ -97,9 +97,9 @@ impl Search {
         self.enter(p)?;
         for q in calls[p as usize].as_slice() {
             match self.marks[*q as usize] {
-                Mark::New => self.visit(calls, *q)?,
-                Mark::OnPath(place) => self.join(place),
-                Mark::Done(_) => {}
+                NumberMark::New => self.visit(calls, *q)?,
+                NumberMark::OnPath(place) => self.join(place),
+                NumberMark::Done(_) => {}
             }
         }
         if self.last_start() == at {
@@ -110,12 +110,12 @@ impl Search {
 }
 
 #[tactic(auto, using(crate::proofs::Searching::new_more))]
-fn new_marks(alloc: Global, count: u32) -> Result<Vec<Mark>, GraphError>
+fn new_marks(alloc: Global, count: u32) -> Result<Vec<NumberMark>, GraphError>
     ensures { IfOk result (λ marks. marks.items ≡ all_new count) }
 {
     let mut marks = Vec::new(alloc);
     for _place in 0..count {
-        marks.push(Mark::New)?;
+        marks.push(NumberMark::New)?;
     }
     Ok(marks)
 }
@@ -143,25 +143,25 @@ fn search_all(alloc: Global, calls: &[Items<u32>], count: u32) -> Result<Search,
     let mut search = fresh(alloc, count)?;
     for p in 0..count {
         match search.marks[p as usize] {
-            Mark::New => search.visit(calls, p)?,
-            Mark::OnPath(_) => {}
-            Mark::Done(_) => {}
+            NumberMark::New => search.visit(calls, p)?,
+            NumberMark::OnPath(_) => {}
+            NumberMark::Done(_) => {}
         }
     }
     Ok(search)
 }
 
-fn group_in(mark: &Mark) -> usize
+fn group_in(mark: &NumberMark) -> usize
     ensures { result ≡ group_in mark.now }
 {
     match mark {
-        Mark::New => 0,
-        Mark::OnPath(_) => 0,
-        Mark::Done(group) => *group,
+        NumberMark::New => 0,
+        NumberMark::OnPath(_) => 0,
+        NumberMark::Done(group) => *group,
     }
 }
 
-fn groups_in(alloc: Global, marks: &[Mark]) -> Result<Items<usize>, GraphError>
+fn groups_in(alloc: Global, marks: &[NumberMark]) -> Result<Items<usize>, GraphError>
     ensures { IfOk result (λ groups. groups ≡ map group_in marks.now) }
 {
     let mut groups = Items::new(alloc);

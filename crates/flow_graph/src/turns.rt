@@ -78,7 +78,7 @@ fn is_past(groups: &[usize], come: &[bool], group: usize, q: u32) -> bool
 }
 
 // The next place of a row that is not past.
-fn blocked(groups: &[usize], come: &[bool], row: &[u32], group: usize, from: usize) -> usize
+fn next_open_place(groups: &[usize], come: &[bool], row: &[u32], group: usize, from: usize) -> usize
     ensures { IsBlocked groups.now come.now row.now group from result }
 {
     for at in from..row.len() {
@@ -112,7 +112,7 @@ impl Order {
         }
         let groups = plan.groups.as_slice();
         let row = row_of(plan, group);
-        let at = blocked(groups, &self.come, row, group, self.next[group]);
+        let at = next_open_place(groups, &self.come, row, group, self.next[group]);
         self.next[group] = at;
         if at < row.len() {
             wait(&mut self.waiting, group_at(groups, row[at]), group)
@@ -191,7 +191,7 @@ impl Order {
 }
 
 // The group of a number, as it comes.
-fn made(alloc: Global, plan: &Plan, group: usize) -> Result<Group, GraphError>
+fn group_with_number(alloc: Global, plan: &Plan, group: usize) -> Result<Group, GraphError>
     ensures { IfOk result (λ made. (made.procs ≡ members_of plan.now group)
         × (made.recursive ≡ leads_back plan.now.groups group (row_of plan.now group))) }
 {
@@ -201,7 +201,7 @@ fn made(alloc: Global, plan: &Plan, group: usize) -> Result<Group, GraphError>
 }
 
 // All groups, one after the other.
-pub(crate) fn ordered(
+pub(crate) fn groups_in_order(
     alloc: Global,
     program: &Program,
     plan: &Plan,
@@ -215,7 +215,7 @@ pub(crate) fn ordered(
     while let Some(first) = order.ready.pop_first() {
         let group = group_at(plan.groups.as_slice(), first);
         order.come[group] = true;
-        let made = made(alloc, plan, group)?;
+        let made = group_with_number(alloc, plan, group)?;
         groups.push(made)?;
         order.wake(alloc, program, plan, group)?;
     }
@@ -295,5 +295,5 @@ pub(crate) fn in_order(
     let mut order = start(alloc, count)?;
     let all = numbers(alloc, count)?;
     order.settle_all(program, plan, all.as_slice())?;
-    ordered(alloc, program, plan, &mut order)
+    groups_in_order(alloc, program, plan, &mut order)
 }

@@ -33,10 +33,10 @@ use Rattle.posing.proofs.Paths.{always_any, always_bind, always_weaker}
 use Rattle.posing.proofs.Under.{passing-always}
 use Rattle.recurrence.proofs.Starred.{always_both}
 use Rattle.vocabularies.specs.Ends.{full_of}
-use Rattle.checked_tree.specs.Evaluation.{Made, cell_of, cells_of, evaluated, evaluation}
+use Rattle.checked_tree.specs.Evaluation.{Made, cell_of, cells_of, evaluated_cells, evaluation}
 use Rattle.checked_tree.proofs.Cells.{cells-found, cells-one_each}
 use Rattle.proc_summary.specs.declared.stop.Flow.{Flow}
-use Rattle.proc_summary.specs.declared.stop.Stop.{Stop}
+use Rattle.proc_summary.specs.declared.stop.NodeFormula.{NodeFormula}
 use Rattle.proc_summary.specs.Claims.{FitsStop, HoldsIf, KnowsCallees, StopHolds, nodes_of}
 use Rattle.proc_summary.specs.Flow.{cells_from, columns_of, flow_from, flow_in, formula_at, formula_of, stop_at}
 use Rattle.proc_summary.specs.Subject.{Subject, call_nodes, check_nodes, graph_by, link_of, own_graph, subject_of}
@@ -48,7 +48,7 @@ use Rattle.newton_rounds.proofs.LeafFits.{links-inside}
 use Rattle.newton_rounds.proofs.Unfolded.{AreTrueAt, IsCanonicalExit, IsTold, cells-true, summary-told}
 use Rattle.newton_rounds.proofs.Widths.{columns-are, some-nodes}
 use Rattle.newton_rounds.proofs.Zipped.{some-one}
-use Rattle.flow_laws.specs.Laws.{FlowsAreTrue, IsTrueFlow, IsTrueSummary, LeadsTo, SummariesAreTrue, TellsWay, summed_from}
+use Rattle.flow_laws.specs.Laws.{FlowsAreTrue, IsTrueFlow, IsTrueSummary, LeadsTo, SummariesAreTrue, TellsWay, summary_by_flow}
 
 -- ---- lists of stops
 
@@ -57,7 +57,7 @@ nodes-are columns cells [] = refl
 nodes-are columns cells (node ∷ nodes) = ap (λ more. node ∷ more) (nodes-are columns cells nodes)
 
 -- what is so of the stop at each node
-stops-all : (P : Stop → Type 0) (columns : ℕ) (cells : List (Cell Transition)) → ((node : ℕ) → P (stop_at columns cells node)) → (nodes : List ℕ) → All P (map (stop_at columns cells) nodes)
+stops-all : (P : NodeFormula → Type 0) (columns : ℕ) (cells : List (Cell Transition)) → ((node : ℕ) → P (stop_at columns cells node)) → (nodes : List ℕ) → All P (map (stop_at columns cells) nodes)
 stops-all P columns cells tells nodes =
     All-from_recursion P (map (stop_at columns cells) nodes)
     (each-map (λ (node : ℕ). Unit {0}) P (stop_at columns cells) (λ node any. tells node) nodes (each-any (λ (node : ℕ). Unit {0}) (λ node. tt) nodes))
@@ -97,7 +97,7 @@ module _ (program : Program) (proc : ℕ) (p : Proc) (known : List (Option Trans
     zero_by : (node : ℕ) (cell : Cell Transition) → slice_get cells node ≡ Some cell → IsZeroBy (path_at nodes links 0 node) cell
 
   cells-by-paths : Always AreByPaths (cells_from (subject_of program p known) 0)
-  unfolding cells_from evaluated
+  unfolding cells_from evaluated_cells
   cells-by-paths =
       let g = graph_by (subject_of program p known) in
       always_bind (λ made. Unit {0}) AreByPaths (evaluation g 0) (λ made. Done (cells_of g 0 made)) (always_any (λ made. Unit {0}) (evaluation g 0) (λ made. tt))
@@ -230,7 +230,7 @@ module _ (program : Program) (proc : ℕ) (p : Proc) (known : List (Option Trans
     met = λ knows met. summary-met program proc p formed is flow f h.fits (h.holds knows met) told.covers;
   }
 
-  pub summary-true : Always (IsTrueSummary program proc p known) (summed_from program p known)
+  pub summary-true : Always (IsTrueSummary program proc p known) (summary_by_flow program p known)
   summary-true =
       always_bind IsFineFlow (IsTrueSummary program proc p known) (flow_from s) (λ flow. summary_from (ends_of program p) flow.exit.formula) flow-fine
       (λ flow h. always_weaker (IsTold program proc p known is formed are flow.exit.formula) (IsTrueSummary program proc p known) (summary_from (ends_of program p) flow.exit.formula)
@@ -240,4 +240,4 @@ pub flows-true : FlowsAreTrue
 flows-true program proc p known formed is are = passing-always (IsTrueFlow program proc p known) (flow_from (subject_of program p known)) (flow-true program proc p known is formed are)
 
 pub summaries-true : SummariesAreTrue
-summaries-true program proc p known formed is are = passing-always (IsTrueSummary program proc p known) (summed_from program p known) (summary-true program proc p known is formed are)
+summaries-true program proc p known formed is are = passing-always (IsTrueSummary program proc p known) (summary_by_flow program p known) (summary-true program proc p known is formed are)

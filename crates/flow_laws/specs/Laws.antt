@@ -10,7 +10,7 @@ use Rattle.leaf_cases.specs.Conditions.{AreKnown, IsKnown}
 use Rattle.leaf_cases.specs.Summaries.{AreMet, SummaryIsMet}
 use Rattle.posing.specs.Posing.{AlwaysPassing, Posing, ◌>>=◌}
 use Rattle.proc_summary.specs.declared.stop.Flow.{Flow}
-use Rattle.proc_summary.specs.declared.stop.Stop.{Stop}
+use Rattle.proc_summary.specs.declared.stop.NodeFormula.{NodeFormula}
 use Rattle.proc_summary.specs.Claims.{FitsFlow, FlowHolds, KnowsCallees}
 use Rattle.proc_summary.specs.Flow.{flow_from}
 use Rattle.proc_summary.specs.Subject.{link_of, own_graph, subject_of}
@@ -21,7 +21,7 @@ abbrev pub LeadsTo : Proc → ℕ → List ℕ → Type 0
 LeadsTo p node edges = IsWalk (map link_of (own_graph p).arcs) 0 node edges
 
 -- a stop has no formula exactly where no path leads to its node
-abbrev pub TellsWay : Proc → Stop → Type 0
+abbrev pub TellsWay : Proc → NodeFormula → Type 0
 TellsWay p stop = (stop.formula ≡ None) ↔ ((edges : List ℕ) → ¬ LeadsTo p stop.node edges)
 
 pub record FlowTellsWays (p : Proc) (flow : Flow) : Type 0 where
@@ -44,8 +44,8 @@ FlowsAreTrue =
     AlwaysPassing (IsTrueFlow program proc p known) (flow_from (subject_of program p known))
 
 -- the summary of a procedure by the exit of its flow
-abbrev pub summed_from : Program → Proc → List (Option Transition) → Posing Transition
-summed_from program p known = flow_from (subject_of program p known)
+abbrev pub summary_by_flow : Program → Proc → List (Option Transition) → Posing Transition
+summary_by_flow program p known = flow_from (subject_of program p known)
     >>= λ flow. summary_from (ends_of program p) flow.exit.formula
 
 -- it is one that may be known, and is met where the known formulas are
@@ -58,4 +58,4 @@ abbrev pub SummariesAreTrue : Type 0
 SummariesAreTrue =
     (program : Program) (proc : ℕ) (p : Proc) (known : List (Option Transition))
     → IsWellFormed program → slice_get program.procs proc ≡ Some p → AreKnown program known →
-    AlwaysPassing (IsTrueSummary program proc p known) (summed_from program p known)
+    AlwaysPassing (IsTrueSummary program proc p known) (summary_by_flow program p known)

@@ -3,7 +3,7 @@ ghost use Rattle.execution.specs.Step.{IsTrueIn};
 ghost use Rattle.flow_graph.specs.Plain.{statement_of_act};
 ghost use Rattle.flow_graph.specs.Walks.{EdgeRelates};
 ghost use Rattle.leaf_cases.specs.Conditions.{columns_at, AreKnown, IsActOf, KnownCalls};
-ghost use Rattle.leaf_cases.specs.Edges.{leaf_of, lost_in_leaf};
+ghost use Rattle.leaf_cases.specs.Edges.{leaf_of, losses_in_leaf};
 ghost use Rattle.leaf_cases.specs.Expression.{lists_of};
 ghost use Rattle.leaf_cases.specs.Guard.{guard_of};
 ghost use Rattle.syntax_tree.specs.Term.{term_of};
@@ -34,7 +34,7 @@ pub fn leaf(
         (λ f. f ≡ leaf_of (columns_at program.now proc) (length program.now.globals) known.now
         (statement_of_act act.now)) }
     ensures noted { OnOk result
-        (losses.new ≡ losses.old ++ lost_in_leaf (columns_at program.now proc)
+        (losses.new ≡ losses.old ++ losses_in_leaf (columns_at program.now proc)
         (length program.now.globals) known.now (statement_of_act act.now)) }
     ensures kept { OnErr result (losses.new ≡ losses.old) }
     ensures cases { IfOk result (λ f. length f.cases ≤ 4096) }

@@ -1,8 +1,8 @@
 ghost use Rattle.std.specs.Prelude.{IfOk};
 ghost use Rattle.polyhedra.specs.Laws.{IsBetween, IsSmall, IsWider};
-ghost use Rattle.polyhedra.specs.Settle.{settled};
-ghost use Rattle.polyhedra.specs.Squash.{fitted};
-ghost use Rattle.polyhedra.specs.Thin.{thinned};
+ghost use Rattle.polyhedra.specs.Settle.{settled_formula};
+ghost use Rattle.polyhedra.specs.Squash.{fitted_formula};
+ghost use Rattle.polyhedra.specs.Thin.{thinned_case};
 ghost use Rattle.posing.specs.Follows.{Follows};
 ghost use Rattle.transition_formula.specs.Meaning.{Covers};
 ghost use Rattle.transition_formula.specs.Transition.{AreSolvable};
@@ -22,7 +22,7 @@ pub fn settle<O: Oracle>(
 ) -> Result<Formula, WorkError>
     requires { AreSolvable f.now.cases }
     ensures follows { Follows O.asking oracle.old oracle.new log.old log.new result
-        (settled f.now) }
+        (settled_formula f.now) }
     ensures covers { IfOk result (λ g. Covers g f.now) }
 {
     polyhedra::settle(alloc, f, oracle, log)
@@ -36,7 +36,7 @@ pub fn thin<O: Oracle>(
     log: &mut Log,
 ) -> Result<Case, WorkError>
     ensures follows { Follows O.asking oracle.old oracle.new log.old log.new result
-        (thinned case.now) }
+        (thinned_case case.now) }
     ensures covers { IfOk result (IsWider case.now) }
 {
     polyhedra::thin(alloc, case, oracle, log)
@@ -53,7 +53,7 @@ pub fn fit<O: Oracle>(
 ) -> Result<Formula, WorkError>
     requires { IsBetween f.now from.now to.now }
     ensures follows { Follows O.asking oracle.old oracle.new log.old log.new result
-        (fitted f.now from.now to.now) }
+        (fitted_formula f.now from.now to.now) }
     ensures covers { IfOk result (λ g. Covers g f.now) }
     ensures small { IfOk result (IsSmall f.now) }
 {

@@ -1,8 +1,8 @@
 ghost use Rattle.std.specs.Prelude.{◌≡◌, ◌⊎◌, ◌↔◌, ◌+◌, ◌<◌, ◌^◌, ◌++◌, ℕ, ℤ, List, length, IfOk, OnOk, IsTrue};
 ghost use Rattle.linear_terms.specs.Auxiliaries.{is_numbered};
-ghost use Rattle.transition_formula.specs.Composition.{joined, lost_in_sequence, sequence_of};
+ghost use Rattle.transition_formula.specs.Composition.{union_of, losses_in_sequence, sequence_of};
 ghost use Rattle.transition_formula.specs.Meaning.{Holds, HoldsCase, HoldsSolved};
-ghost use Rattle.transition_formula.specs.Rounds.{in_order, solved, Stays};
+ghost use Rattle.transition_formula.specs.Rounds.{in_order, solved_answer, Stays};
 ghost use Rattle.transition_formula.specs.Transition.{every_column_of, fits, AreFew};
 
 use items::Items;
@@ -14,7 +14,7 @@ use transition_formula::{Formula, FormulaError, Loss, Solved};
 pub fn join(alloc: Global, a: &Formula, b: &Formula) -> Result<Formula, FormulaError>
     requires from { a.now.from ≡ b.now.from }
     requires to { a.now.to ≡ b.now.to }
-    ensures exact { IfOk result (λ f. f ≡ joined a.now b.now) }
+    ensures exact { IfOk result (λ f. f ≡ union_of a.now b.now) }
     ensures holds { (before after : List ℤ)
         → IfOk result
         (λ f. Holds f before after ↔ (Holds a.now before after ⊎ Holds b.now before after)) }
@@ -32,7 +32,7 @@ pub fn seq(
     requires between { a.now.to ≡ b.now.from }
     requires few { AreFew a.now b.now }
     ensures exact { IfOk result (λ f. f ≡ sequence_of a.now b.now) }
-    ensures noted { OnOk result (losses.new ≡ losses.old ++ lost_in_sequence a.now b.now) }
+    ensures noted { OnOk result (losses.new ≡ losses.old ++ losses_in_sequence a.now b.now) }
     ensures at_least { (before middle after : List ℤ)
         → IfOk result (λ f. Holds a.now before middle → Holds b.now middle after
         → Holds f before after) }
@@ -47,7 +47,7 @@ pub fn seq(
 pub fn solve(alloc: Global, case: &Case, losses: &mut Items<Loss>) -> Result<Solved, FormulaError>
     requires numbered { IsTrue (every_column_of (is_numbered case.now.aux) case.now) }
     requires few { case.now.aux + length case.now.post < 2 ^ 32 }
-    ensures exact { IfOk result (λ made. made ≡ solved (in_order case.now).left) }
+    ensures exact { IfOk result (λ made. made ≡ solved_answer (in_order case.now).left) }
     ensures noted { OnOk result (losses.new ≡ losses.old ++ (in_order case.now).losses) }
     ensures at_least { (before after : List ℤ)
         → IfOk result (λ made. HoldsCase case.now before after → HoldsSolved made before after) }

@@ -1,7 +1,7 @@
 //! Reduced bases of rows of ratios.
 
 use crate::ratios::ratio;
-use elimination::{are_small_ratios, reduced};
+use elimination::{are_small_ratios, reduced_basis};
 use farkas_check::Ratio;
 use items::Items;
 use std::alloc::{AllocError, Global};
@@ -54,6 +54,6 @@ pub(crate) fn reduced_text(alloc: Global, given: &str) -> Option<String> {
     if !are_small_ratios(rows.as_slice()) {
         return format!(in alloc; "not small").ok();
     }
-    let lines = reduced(alloc, rows.as_slice()).ok()?;
+    let lines = reduced_basis(alloc, rows.as_slice()).ok()?;
     lines_text(alloc, lines.as_slice())
 }

@@ -11,12 +11,12 @@ use crate::vocabularies::first_named;
 use polyhedra::{Log, Vocabulary};
 use std::alloc::Global;
 use transition_formula::Formula;
-use wire::{Replay, read_certificate};
+use wire::{ListedAnswers, read_certificate};
 
 /// The oracle that hands out the answers of a certificate file.
-fn oracle(alloc: Global, text: &str) -> Option<Replay> {
+fn oracle(alloc: Global, text: &str) -> Option<ListedAnswers> {
     let file = read_certificate(alloc, text.as_bytes()).ok()?;
-    Some(Replay::new(file.answers))
+    Some(ListedAnswers::new(file.answers))
 }
 
 fn call_text(
@@ -24,7 +24,7 @@ fn call_text(
     kind: &str,
     given: &Formula,
     voc: &Vocabulary,
-    oracle: &mut Replay,
+    oracle: &mut ListedAnswers,
     log: &mut Log,
 ) -> Option<String> {
     match kind {
@@ -38,16 +38,16 @@ fn call_text(
 }
 
 /// What a call comes to, how many answers it took, how many it left, and what it noted.
-fn told(
+fn call_answer(
     alloc: Global,
     kind: &str,
     given: &Formula,
     voc: &Vocabulary,
-    oracle: &mut Replay,
+    oracle: &mut ListedAnswers,
 ) -> Option<String> {
     let mut log = Log::new(alloc);
     let mut text = call_text(alloc, kind, given, voc, oracle, &mut log)?;
-    write_log(&mut text, &log, oracle.left()).ok()?;
+    write_log(&mut text, &log, oracle.left_count()).ok()?;
     Some(text)
 }
 
@@ -57,14 +57,14 @@ fn call(
     kind: &str,
     sizes: &[u32],
     given: &str,
-    oracle: &mut Replay,
+    oracle: &mut ListedAnswers,
 ) -> Option<String> {
     let [from, to, named, rule] = sizes else {
         return None;
     };
     let given = formula(alloc, *from, *to, given)?;
     let voc = first_named(alloc, *to, *named, *rule).ok()?;
-    told(alloc, kind, &given, &voc, oracle)
+    call_answer(alloc, kind, &given, &voc, oracle)
 }
 
 /// What a row comes to: none where it is no row or memory is wanting.

@@ -5,12 +5,12 @@ use polyhedra::{Log, Vocabulary, finish, fit, settle, thin};
 use recurrence::star;
 use std::alloc::Global;
 use transition_formula::Formula;
-use wire::Replay;
+use wire::ListedAnswers;
 
 pub(crate) fn settle_text(
     alloc: Global,
     f: &Formula,
-    oracle: &mut Replay,
+    oracle: &mut ListedAnswers,
     log: &mut Log,
 ) -> Option<String> {
     let _cases = f.cases();
@@ -28,7 +28,7 @@ pub(crate) fn settle_text(
 pub(crate) fn thin_text(
     alloc: Global,
     f: &Formula,
-    oracle: &mut Replay,
+    oracle: &mut ListedAnswers,
     log: &mut Log,
 ) -> Option<String> {
     let [full] = f.cases() else {
@@ -42,7 +42,7 @@ pub(crate) fn thin_text(
 pub(crate) fn finish_text(
     alloc: Global,
     f: &Formula,
-    oracle: &mut Replay,
+    oracle: &mut ListedAnswers,
     log: &mut Log,
 ) -> Option<String> {
     let cases = f.cases();
@@ -66,7 +66,7 @@ pub(crate) fn fit_text(
     alloc: Global,
     f: &Formula,
     voc: &Vocabulary,
-    oracle: &mut Replay,
+    oracle: &mut ListedAnswers,
     log: &mut Log,
 ) -> Option<String> {
     let _cases = f.cases();
@@ -89,7 +89,7 @@ pub(crate) fn star_text(
     alloc: Global,
     body: &Formula,
     voc: &Vocabulary,
-    oracle: &mut Replay,
+    oracle: &mut ListedAnswers,
     log: &mut Log,
 ) -> Option<String> {
     let _cases = body.cases();

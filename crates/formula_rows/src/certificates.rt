@@ -3,7 +3,7 @@
 use crate::faults::write_error;
 use std::alloc::{AllocError, Global};
 use std::fmt::Write;
-use wire::{Certificate, Text, Version, read_certificate, write_certificate};
+use wire::{Certificate, FileText, Version, read_certificate, write_certificate};
 
 /// What is read of a file, or why it is not.
 pub(crate) fn certificate_text(alloc: Global, file: &str) -> Option<String> {
@@ -45,6 +45,6 @@ fn write_lengths(out: &mut String, text: usize, report: usize) -> Result<(), All
 /// A file that is read and written again.
 pub(crate) fn written_text(alloc: Global, file: &str) -> Option<String> {
     let file = read_certificate(alloc, file.as_bytes()).ok()?;
-    let text: Text = write_certificate(alloc, &file).ok()?;
+    let text: FileText = write_certificate(alloc, &file).ok()?;
     format!(in alloc; "{}", text.as_str()).ok()
 }

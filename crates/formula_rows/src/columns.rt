@@ -7,7 +7,9 @@ use items::Items;
 use linear_terms::Case;
 use std::alloc::{AllocError, Global};
 use std::fmt::Write;
-use transition_formula::{Formula, Loss, equated, hidden, raised, with_entries, with_posts};
+use transition_formula::{
+    Formula, Loss, equated_formula, hidden, raised_formula, with_entries, with_posts,
+};
 
 /// Numbers with blanks between them.
 pub(crate) fn small_numbers(alloc: Global, text: &str) -> Option<Vec<u32>> {
@@ -34,7 +36,7 @@ pub(crate) fn outcome(alloc: Global, kind: &str, given: &str) -> Option<String> 
 
 fn changed_text(alloc: Global, kind: &str, f: &Formula, rest: &[u32]) -> Option<String> {
     let mut losses = Items::new(alloc);
-    let made = changed(alloc, kind, f, rest, &mut losses)?;
+    let made = changed_formula(alloc, kind, f, rest, &mut losses)?;
     let mut text = String::new(alloc);
     write_changed(&mut text, &made, losses.as_slice()).ok()?;
     Some(text)
@@ -46,7 +48,7 @@ fn write_changed(text: &mut String, made: &Formula, losses: &[Loss]) -> Result<(
     write_losses(text, losses)
 }
 
-fn changed(
+fn changed_formula(
     alloc: Global,
     kind: &str,
     f: &Formula,
@@ -57,8 +59,8 @@ fn changed(
         "hidden" => hidden_from(alloc, f, rest, losses),
         "posts" => posts_of(alloc, f, rest),
         "entries" => entries_of(alloc, f, rest),
-        "raised" => raised_to(f, rest),
-        "equated" => equated_from(alloc, f, rest, losses),
+        "raised" => raise_answer(f, rest),
+        "equated" => equate_answer(alloc, f, rest, losses),
         _ => copy_of(alloc, f),
     }
 }
@@ -99,11 +101,11 @@ fn entries_of(alloc: Global, f: &Formula, places: &[u32]) -> Option<Formula> {
     with_entries(alloc, f, places).ok()
 }
 
-fn raised_to(f: &Formula, rest: &[u32]) -> Option<Formula> {
+fn raise_answer(f: &Formula, rest: &[u32]) -> Option<Formula> {
     match rest {
         [from] => {
             if f.from() <= *from {
-                return raised(f, *from).ok();
+                return raised_formula(f, *from).ok();
             }
             None
         }
@@ -112,19 +114,19 @@ fn raised_to(f: &Formula, rest: &[u32]) -> Option<Formula> {
 }
 
 /// The first of the entry columns, and then the places of the posts.
-fn equated_from(
+fn equate_answer(
     alloc: Global,
     f: &Formula,
     rest: &[u32],
     losses: &mut Items<Loss>,
 ) -> Option<Formula> {
     match rest {
-        [first, places @ ..] => equated_after(alloc, f, *first, places, losses),
+        [first, places @ ..] => equate_behind(alloc, f, *first, places, losses),
         _ => None,
     }
 }
 
-fn equated_after(
+fn equate_behind(
     alloc: Global,
     f: &Formula,
     first: u32,
@@ -137,7 +139,7 @@ fn equated_after(
     if first as usize + places.len() > f.from() as usize || !are_below(places, f.to()) {
         return None;
     }
-    equated(alloc, f, first, places, losses).ok()
+    equated_formula(alloc, f, first, places, losses).ok()
 }
 
 fn copies(alloc: Global, cases: &[Case]) -> Result<Items<Case>, AllocError>

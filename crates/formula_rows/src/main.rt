@@ -44,13 +44,13 @@ fn outcome(alloc: Global, row: &str) -> Option<String> {
         return format!(in alloc; "{row}").ok();
     }
     match row.split_once('\n') {
-        Some((head, rest)) => told_of_lines(alloc, head, rest),
-        None => told_of_line(alloc, row),
+        Some((head, rest)) => answer_of_lines(alloc, head, rest),
+        None => answer_of_line(alloc, row),
     }
 }
 
 /// What a row of more lines comes to.
-fn told_of_lines(alloc: Global, head: &str, rest: &str) -> Option<String> {
+fn answer_of_lines(alloc: Global, head: &str, rest: &str) -> Option<String> {
     match head {
         "certificate" => certificates::certificate_text(alloc, rest),
         "written" => certificates::written_text(alloc, rest),
@@ -60,12 +60,12 @@ fn told_of_lines(alloc: Global, head: &str, rest: &str) -> Option<String> {
         "twice" => replays::twice_text(alloc, rest),
         "shared" => replays::shared_text(alloc, rest),
         "infeasible" | "supremum" | "stratum" => verdicts::verdicts_text(alloc, head, rest),
-        _ => told_of_numbers(alloc, head, rest),
+        _ => answer_of_numbers(alloc, head, rest),
     }
 }
 
 /// What a row of ratios, of a search or of listed answers comes to.
-fn told_of_numbers(alloc: Global, head: &str, rest: &str) -> Option<String> {
+fn answer_of_numbers(alloc: Global, head: &str, rest: &str) -> Option<String> {
     match head {
         "lowest terms" => ratios::lowest_text(alloc, rest),
         "ratios" => ratios::ratios_text(alloc, rest),
@@ -82,16 +82,16 @@ fn told_of_numbers(alloc: Global, head: &str, rest: &str) -> Option<String> {
 }
 
 /// What a row of one line comes to.
-fn told_of_line(alloc: Global, row: &str) -> Option<String> {
+fn answer_of_line(alloc: Global, row: &str) -> Option<String> {
     if row == "directions" {
         return vocabularies::directions_text(alloc);
     }
     let (kind, given) = row.split_once(':')?;
-    told(alloc, kind, given.trim())
+    answer_of_kind(alloc, kind, given.trim())
 }
 
 /// What a row of a kind comes to.
-fn told(alloc: Global, kind: &str, given: &str) -> Option<String> {
+fn answer_of_kind(alloc: Global, kind: &str, given: &str) -> Option<String> {
     match kind {
         "closed form" | "sum bound" => closed_forms::outcome(alloc, kind, given),
         "order" | "sequence" | "choice" => formulas::outcome(alloc, kind, given),

@@ -1,6 +1,6 @@
 //! Rows of polynomials.
 
-use crate::texts::{number, numbers, polys, shown, two_polys};
+use crate::texts::{answer_text, number, numbers, polys, two_polys};
 use linear_terms::{
     Normal, Poly, TermError, add, combination, difference, mul, negation, normal, scale, subst,
     subst_aux, without,
@@ -29,7 +29,7 @@ fn of_two(alloc: Global, kind: &str, given: &str) -> Option<String> {
         "product" => mul(alloc, &a, &b),
         _ => difference(alloc, &a, &b),
     };
-    shown(alloc, made)
+    answer_text(alloc, made)
 }
 
 /// A polynomial and a number.
@@ -37,7 +37,7 @@ fn multiple(alloc: Global, given: &str) -> Option<String> {
     let (text, by) = given.split_once('|')?;
     let by = number(by)?;
     let a = poly(alloc, text).ok()?;
-    shown(alloc, scale(alloc, &a, by))
+    answer_text(alloc, scale(alloc, &a, by))
 }
 
 /// A polynomial, what is put in for its entry columns, and what for its auxiliaries.
@@ -54,14 +54,14 @@ fn put_in(alloc: Global, a: &Poly, at: &[Poly], aux: &[Poly]) -> Option<String> 
     if !a.is_covered(at.len(), aux.len()) {
         return None;
     }
-    shown(alloc, subst(alloc, a, at, aux))
+    answer_text(alloc, subst(alloc, a, at, aux))
 }
 
 /// A polynomial, and what is put in for its second auxiliary; behind a semicolon its terms without
 /// that.
 fn auxiliary(alloc: Global, given: &str) -> Option<String> {
     let (a, by) = two_polys(alloc, given)?;
-    let mut text = shown(alloc, subst_aux(alloc, &a, 1, &by))?;
+    let mut text = answer_text(alloc, subst_aux(alloc, &a, 1, &by))?;
     write_rest(alloc, &mut text, &a)?;
     Some(text)
 }
@@ -81,7 +81,7 @@ fn normal_text(alloc: Global, made: Result<Normal, TermError>) -> Option<String>
     match made {
         Ok(Normal::Constant(holds)) => format!(in alloc; "{holds}").ok(),
         Ok(Normal::Kept(row)) => format!(in alloc; "{row}").ok(),
-        Err(error) => shown::<Poly>(alloc, Err(error)),
+        Err(error) => answer_text::<Poly>(alloc, Err(error)),
     }
 }
 
@@ -90,7 +90,7 @@ fn sum_of_multiples(alloc: Global, given: &str) -> Option<String> {
     let (factors, parts) = given.split_once(':')?;
     let factors = numbers(alloc, factors)?;
     let parts = polys(alloc, parts)?;
-    shown(
+    answer_text(
         alloc,
         combination(alloc, factors.as_slice(), parts.as_slice()),
     )
@@ -99,5 +99,5 @@ fn sum_of_multiples(alloc: Global, given: &str) -> Option<String> {
 /// A polynomial.
 fn opposite(alloc: Global, given: &str) -> Option<String> {
     let a = poly(alloc, given).ok()?;
-    shown(alloc, negation(alloc, &a))
+    answer_text(alloc, negation(alloc, &a))
 }

@@ -5,7 +5,7 @@ use farkas_check::{Answer, AskError, Oracle, Question, Ratio};
 use items::Items;
 use std::alloc::{AllocError, Global};
 use std::fmt::Write;
-use wire::{Replay, read_certificate, share};
+use wire::{ListedAnswers, read_certificate, share};
 
 fn answers(alloc: Global, file: &str) -> Option<Items<Answer>> {
     let file = read_certificate(alloc, file.as_bytes()).ok()?;
@@ -21,32 +21,32 @@ fn word(made: Result<Answer, AskError>) -> &'static str {
 }
 
 /// What comes of the next question.
-fn next_word(alloc: Global, replay: &mut Replay) -> &'static str {
+fn next_word(alloc: Global, replay: &mut ListedAnswers) -> &'static str {
     word(replay.ask(alloc, &Question::Infeasible(Items::new(alloc))))
 }
 
 /// What comes of two questions, and how many answers were taken and are left.
-fn two_text(alloc: Global, replay: &mut Replay) -> Option<String> {
+fn two_text(alloc: Global, replay: &mut ListedAnswers) -> Option<String> {
     let first = next_word(alloc, replay);
     let second = next_word(alloc, replay);
-    let (taken, left) = (replay.taken(), replay.left());
+    let (taken, left) = (replay.taken_count(), replay.left_count());
     format!(in alloc; "{first}, {second}; {taken} taken, {left} left").ok()
 }
 
 /// Two questions to the answers of a file in turn.
 pub(crate) fn turns_text(alloc: Global, file: &str) -> Option<String> {
-    let mut replay = Replay::new(answers(alloc, file)?);
+    let mut replay = ListedAnswers::new(answers(alloc, file)?);
     two_text(alloc, &mut replay)
 }
 
-fn first_twice(alloc: Global, answers: Items<Answer>) -> Option<Replay> {
+fn first_twice(alloc: Global, answers: Items<Answer>) -> Option<ListedAnswers> {
     if answers.is_empty() {
         return None;
     }
     let mut order = Items::new(alloc);
     order.push(0).ok()?;
     order.push(0).ok()?;
-    Some(Replay::shared(answers, order))
+    Some(ListedAnswers::with_order(answers, order))
 }
 
 /// Three questions to the first answer of a file, which is handed out twice.

@@ -6,7 +6,7 @@ ghost use Rattle.wire.specs.Files.{most_edits};
 use crate::faults::write_error;
 use std::alloc::{AllocError, Global};
 use std::fmt::Write;
-use wire::{Script, Text, read_script, texts};
+use wire::{FileText, Script, read_script, texts};
 
 /// The texts of a script, or why it has none.
 pub(crate) fn script_text(alloc: Global, file: &str) -> Option<String> {
@@ -27,7 +27,7 @@ fn write_script(alloc: Global, out: &mut String, script: &Script) -> Option<()>
     }
 }
 
-fn write_texts(out: &mut String, texts: &[Text]) -> Result<(), AllocError> {
+fn write_texts(out: &mut String, texts: &[FileText]) -> Result<(), AllocError> {
     out.push_str("texts")?;
     for text in texts {
         write!(out, " [{}]", text.as_str())?;

@@ -36,7 +36,7 @@ pub(crate) fn numbers(alloc: Global, text: &str) -> Option<Vec<i128>> {
 }
 
 /// What an operation answers. What cannot be made stands behind `!`.
-pub(crate) fn shown<T: Display + Drop>(
+pub(crate) fn answer_text<T: Display + Drop>(
     alloc: Global,
     made: Result<T, TermError>,
 ) -> Option<String> {

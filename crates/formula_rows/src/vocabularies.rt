@@ -5,7 +5,7 @@ ghost use Rattle.polyhedra.specs.Vocabulary.{Vocabulary};
 
 use items::Items;
 use polyhedra::{Vocabulary, directions};
-use polynomial_texts::TextError;
+use polynomial_texts::PolynomialError;
 use std::alloc::{AllocError, Global};
 use std::fmt::Write;
 
@@ -15,9 +15,9 @@ pub(crate) fn first_named(
     columns: u32,
     count: u32,
     rule: u32,
-) -> Result<Vocabulary, TextError> {
+) -> Result<Vocabulary, PolynomialError> {
     if count > columns {
-        return Err(TextError::Malformed);
+        return Err(PolynomialError::Malformed);
     }
     let named = numbers_below(alloc, count)?;
     Ok(Vocabulary::from_parts(columns, named, Items::new(alloc), rule, Items::new(alloc)))

@@ -32,10 +32,10 @@ fn expression_of(program: &Program) -> Option<&Core> {
 /// What is told of an expression over one variable.
 pub(crate) fn expression_text(alloc: Global, kind: &str, text: &[u8]) -> Option<String> {
     let program = returning(alloc, text)?;
-    told(alloc, kind, expression_of(&program)?)
+    expression_answer(alloc, kind, expression_of(&program)?)
 }
 
-fn told(alloc: Global, kind: &str, e: &Core) -> Option<String> {
+fn expression_answer(alloc: Global, kind: &str, e: &Core) -> Option<String> {
     match kind {
         "value" => value_text(alloc, e),
         "cases" => cases_text(alloc, e),
@@ -89,12 +89,12 @@ fn write_width(out: &mut String, e: &Core) -> Result<(), AllocError> {
 
 /// The cases of a list with an expression twice, and a number between.
 fn joint_text(alloc: Global, e: &Core) -> Option<String> {
-    let list = doubled(alloc, e).ok()?;
+    let list = doubled_expression(alloc, e).ok()?;
     format!(in alloc; "{}", joint_cases(list.as_slice())).ok()
 }
 
 /// An expression twice, and a number between.
-fn doubled(alloc: Global, e: &Core) -> Result<Items<Core>, AllocError> {
+fn doubled_expression(alloc: Global, e: &Core) -> Result<Items<Core>, AllocError> {
     let mut list = Items::new(alloc);
     list.push(e.copy(alloc)?)?;
     list.push(Core::Lit(1))?;

@@ -17,7 +17,7 @@ use std::alloc::Global;
 use std::io;
 
 /// What a row of a kind comes to; none where it is no row or memory is wanting.
-fn told(alloc: Global, kind: &str, text: &[u8]) -> Option<String> {
+fn row_answer(alloc: Global, kind: &str, text: &[u8]) -> Option<String> {
     match kind {
         "length" => tokens::length_text(alloc, text),
         "tokens" => tokens::tokens_text(alloc, text),
@@ -38,15 +38,15 @@ fn outcome(alloc: Global, line: &str) -> Option<String> {
     }
     let (kind, text) = line.split_once(' ')?;
     match kind.strip_suffix('*') {
-        Some(kind) => told_in_short(alloc, kind, text),
-        None => told(alloc, kind, &rows::bytes_of(alloc, text)?),
+        Some(kind) => short_answer(alloc, kind, text),
+        None => row_answer(alloc, kind, &rows::bytes_of(alloc, text)?),
     }
 }
 
 /// The first two words of what a text of many parts comes to.
-fn told_in_short(alloc: Global, kind: &str, text: &str) -> Option<String> {
+fn short_answer(alloc: Global, kind: &str, text: &str) -> Option<String> {
     let made = rows::text_of_parts(alloc, text)?;
-    let told = told(alloc, kind, made.as_bytes())?;
+    let told = row_answer(alloc, kind, made.as_bytes())?;
     rows::first_words(alloc, told.as_str().trim())
 }
 

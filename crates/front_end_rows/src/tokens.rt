@@ -2,19 +2,19 @@
 //! `k` a keyword, `m` a mark, `e` the end) or by its number and `@`, its place and its length.
 use crate::words::show_place;
 use c_lexer::{
-    Kind, LexError, Token, lex, refusal_is_one, tokens_are_not_refused, tokens_are_one,
+    LexError, Token, TokenKind, lex, refusal_is_one, tokens_are_not_refused, tokens_are_one,
     tokens_ascend,
 };
 use std::alloc::{AllocError, Global};
 use std::fmt::Write;
 
-fn show_kind(out: &mut String, kind: &Kind) -> Result<(), AllocError> {
+fn show_kind(out: &mut String, kind: &TokenKind) -> Result<(), AllocError> {
     match kind {
-        Kind::Word(_) => out.push_str("w"),
-        Kind::Keyword(_) => out.push_str("k"),
-        Kind::Number(value) => write!(out, "{value}@"),
-        Kind::Mark(_) => out.push_str("m"),
-        Kind::End => out.push_str("e"),
+        TokenKind::Word(_) => out.push_str("w"),
+        TokenKind::Keyword(_) => out.push_str("k"),
+        TokenKind::Number(value) => write!(out, "{value}@"),
+        TokenKind::Mark(_) => out.push_str("m"),
+        TokenKind::End => out.push_str("e"),
     }
 }
 

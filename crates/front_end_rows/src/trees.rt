@@ -31,7 +31,7 @@ fn show_fault(out: &mut String, fault: ParseError) -> Result<(), AllocError> {
     }
 }
 
-fn told(alloc: Global, tokens: &[Token]) -> Option<String> {
+fn tree_answer(alloc: Global, tokens: &[Token]) -> Option<String> {
     if !ends_once(tokens) {
         return None;
     }
@@ -46,7 +46,7 @@ fn told(alloc: Global, tokens: &[Token]) -> Option<String> {
 /// The tree of a text that has tokens, or where it is refused.
 pub(crate) fn tree_text(alloc: Global, text: &[u8]) -> Option<String> {
     let tokens = lex(alloc, text.get(..1_048_576).unwrap_or(text)).ok()?;
-    told(alloc, tokens.as_slice())
+    tree_answer(alloc, tokens.as_slice())
 }
 
 pub(crate) fn laws() {

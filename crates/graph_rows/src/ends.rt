@@ -13,12 +13,12 @@ use vocabularies::{entry, exit, full, harvest, pair, start};
 /// its end.
 fn write_voc(text: &mut String, kind: &str, voc: &Vocabulary) -> Result<(), AllocError> {
     write!(text, "{kind} {}:", voc.columns())?;
-    for number in voc.named() {
+    for number in voc.named_columns() {
         write!(text, " {number}")?;
     }
     write!(text, ":")?;
     let mut mark = "";
-    for term in voc.harvested() {
+    for term in voc.harvested_terms() {
         write!(text, "{mark} {term}")?;
         mark = " ;";
     }

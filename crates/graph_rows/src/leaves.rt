@@ -173,7 +173,7 @@ fn edges(alloc: Global, program: &Program, known: &[Option<Formula>]) -> Option<
 }
 
 /// What is known of the procedures: of the second, this case.
-fn known_of(alloc: Global, program: &Program, text: &str) -> Option<Items<Option<Formula>>> {
+fn known_formulas(alloc: Global, program: &Program, text: &str) -> Option<Items<Option<Formula>>> {
     let mut known = Items::new(alloc);
     for n in 0..program.procs.len() {
         let formula = if n == 1 && text != "-" {
@@ -200,7 +200,7 @@ fn formula_of(alloc: Global, program: &Program, proc: &Proc, text: &str) -> Opti
 /// Procedures, and the one case of the known formula of the second, if there is one.
 pub(crate) fn edges_text(alloc: Global, given: &str, known: &str) -> Option<String> {
     let program = program_of(alloc, given)?;
-    let known = known_of(alloc, &program, known)?;
+    let known = known_formulas(alloc, &program, known)?;
     edges(alloc, &program, known.as_slice())
 }
 

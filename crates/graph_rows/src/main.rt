@@ -19,7 +19,7 @@ use std::alloc::Global;
 use std::io;
 
 /// What a row of a kind comes to; none where it is no row or memory is wanting.
-fn told(alloc: Global, kind: &str, with: &str, given: &str) -> Option<String> {
+fn row_answer(alloc: Global, kind: &str, with: &str, given: &str) -> Option<String> {
     match kind {
         "trace" => runs::trace_text(alloc, given, with),
         "graph" => graphs::graph_text(alloc, given),
@@ -43,8 +43,8 @@ fn outcome(alloc: Global, row: &str) -> Option<String> {
     }
     let (head, given) = row.split_once('\n')?;
     match head.split_once(' ') {
-        Some((kind, with)) => told(alloc, kind, with, given),
-        None => told(alloc, head, "", given),
+        Some((kind, with)) => row_answer(alloc, kind, with, given),
+        None => row_answer(alloc, head, "", given),
     }
 }
 

@@ -2,7 +2,7 @@
 //! cells.
 
 use crate::links::{is_graph, links_of};
-use checked_tree::{Key, Plan, law_of_evaluation, law_of_plans, planned};
+use checked_tree::{EliminationPlan, Key, elimination_plan, law_of_evaluation, law_of_plans};
 use path_expr::{Cell, Link};
 use std::alloc::Global;
 use std::fmt::Write;
@@ -46,14 +46,14 @@ fn plan_of(
     nodes: u32,
     links: &[Link],
     source: u32,
-) -> Option<(Plan, Vec<Cell<usize>>)> {
+) -> Option<(EliminationPlan, Vec<Cell<usize>>)> {
     if !is_graph(nodes, links) || source >= nodes || links.len() > 9 {
         return None;
     }
-    planned(alloc, nodes, links, source).ok()
+    elimination_plan(alloc, nodes, links, source).ok()
 }
 
-fn text_of(alloc: Global, plan: Plan, found: &[Cell<usize>]) -> Option<String> {
+fn text_of(alloc: Global, plan: EliminationPlan, found: &[Cell<usize>]) -> Option<String> {
     let order = order_text(alloc, plan.order.as_slice())?;
     let keys = plan.keys.into_iter().collect::<Vec<Key>>(alloc).ok()?;
     let keys = keys_text(alloc, keys.as_slice())?;

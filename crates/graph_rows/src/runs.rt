@@ -5,7 +5,7 @@ use execution::{
     frames_below_stay, globals_stay, step_is_determined, straight_line, worked_examples,
 };
 use replay::{
-    Stop, Trace, choices_take_values, chosen_is_an_execution, failed_stop_fails, follow,
+    Trace, TraceStop, choices_take_values, chosen_is_an_execution, failed_stop_fails, follow,
     traces_are_determined,
 };
 use std::alloc::{AllocError, Global};
@@ -41,18 +41,18 @@ fn mark(op: Op) -> &'static str {
     }
 }
 
-fn show_stop(out: &mut String, stop: Stop) -> Result<(), AllocError> {
+fn show_stop(out: &mut String, stop: TraceStop) -> Result<(), AllocError> {
     match stop {
-        Stop::Done(value) => write!(out, "done {value}")?,
-        Stop::Failed(number) => write!(out, "failed {number}")?,
-        Stop::Guard => write!(out, "guard")?,
-        Stop::Zero => write!(out, "zero")?,
-        Stop::Dry => write!(out, "dry")?,
-        Stop::Wide { left, right, op } => {
+        TraceStop::Done(value) => write!(out, "done {value}")?,
+        TraceStop::Failed(number) => write!(out, "failed {number}")?,
+        TraceStop::Guard => write!(out, "guard")?,
+        TraceStop::Zero => write!(out, "zero")?,
+        TraceStop::Dry => write!(out, "dry")?,
+        TraceStop::Wide { left, right, op } => {
             let mark = mark(op);
             write!(out, "wide {left} {mark} {right}")?
         }
-        Stop::Spent => write!(out, "spent")?,
+        TraceStop::Spent => write!(out, "spent")?,
     }
     Ok(())
 }

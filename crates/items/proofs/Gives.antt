@@ -7,7 +7,7 @@
 --     Gives-Ok, Gives-Err        a clause at an answer that is known
 use Rattle.std.proofs.Common.{◌≡◌, refl, ◌∙◌, ap}
 use Rattle.std.specs.Prelude.{Option, None, Some, Result, Ok, Err}
-use Rattle.items.specs.Gives.{◌>>=◌, lifted, FailsBy, Gives}
+use Rattle.items.specs.Gives.{◌>>=◌, err_map, FailsBy, Gives}
 
 pub bind-Ok : {A E : Type 0} (r : Result A E) → r >>= (λ x. Ok x) ≡ r
 bind-Ok (Ok x) = refl
@@ -27,7 +27,7 @@ pub on_err : {A B E : Type 0} {P : Type 0} (r : Result A E) (f : A → Result B 
 on_err (Ok x) f e came first second = second x refl came
 on_err (Err d) f e came first second = let same : d ≡ e = cc in first (ap (λ fault. Err fault) same)
 
-pub lifted-bind : {A B E F : Type 0} (as_fault : E → F) (r : Result A E) (f : A → Result B E) → lifted as_fault (r >>= f) ≡ lifted as_fault r >>= (λ x. lifted as_fault (f x))
+pub lifted-bind : {A B E F : Type 0} (as_fault : E → F) (r : Result A E) (f : A → Result B E) → err_map as_fault (r >>= f) ≡ err_map as_fault r >>= (λ x. err_map as_fault (f x))
 lifted-bind as_fault (Ok x) f = refl
 lifted-bind as_fault (Err e) f = refl
 
@@ -37,10 +37,10 @@ FailsBy-bind (Some fault) r f fails = ap (λ stated. stated >>= f) fails
 
 -- `inner` and `outer` are the causes of one error as the callee and the caller read it.
 pub FailsBy-lifted : {A B F G : Type 0} (as_fault : F → G) (inner : Option F) (outer : Option G) (r : Result A F) (f : A → Result B G)
-    → ((fault : F) → inner ≡ Some fault → outer ≡ Some (as_fault fault)) → (inner ≡ None → outer ≡ None) → FailsBy inner r → FailsBy outer (lifted as_fault r >>= f)
+    → ((fault : F) → inner ≡ Some fault → outer ≡ Some (as_fault fault)) → (inner ≡ None → outer ≡ None) → FailsBy inner r → FailsBy outer (err_map as_fault r >>= f)
 FailsBy-lifted as_fault None outer r f told free fails = let e : outer ≡ None = free refl in rw e tt
 FailsBy-lifted as_fault (Some fault) outer r f told free fails =
-    let e : outer ≡ Some (as_fault fault) = told fault refl in rw e (ap (λ stated. lifted as_fault stated >>= f) fails)
+    let e : outer ≡ Some (as_fault fault) = told fault refl in rw e (ap (λ stated. err_map as_fault stated >>= f) fails)
 
 pub Gives-Ok : {X Y E F : Type 0} (cause : E → Option F) (view : X → Y) (r : Result X E) (stated : Result Y F) (x : X) → r ≡ Ok x → Gives cause view r stated → stated ≡ Ok (view x)
 Gives-Ok cause view (Ok x) stated y came gives = let same : x ≡ y = cc in gives ∙ ap (λ v. Ok (view v)) same

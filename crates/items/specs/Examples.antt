@@ -1,6 +1,6 @@
 -- What the crate's examples of `Gives` cite: sums of bytes, where a sum past a byte is the fault.
 use Rattle.std.specs.Prelude.{ℕ, ◌+◌, ◌-◌, List, [], ◌∷◌, ◌++◌, Result, Ok, Err, if◌then◌else◌, nat_lt}
-use Rattle.items.specs.Gives.{◌>>=◌, lifted}
+use Rattle.items.specs.Gives.{◌>>=◌, err_map}
 
 abbrev pub byte_sum : ℕ → ℕ → Result ℕ ℕ
 byte_sum a b = if nat_lt (a + b) 256 then Ok (a + b) else Err (a + b)
@@ -16,4 +16,4 @@ behind front rest = rest >>= λ made. Ok (front ++ made)
 -- each number's double; the fault is how far the first that is past a byte is past it
 abbrev pub doubles_of : List ℕ → Result (List ℕ) ℕ
 doubles_of [] = Ok []
-doubles_of (x ∷ xs) = lifted (λ s. s - 255) (byte_sum x x) >>= λ d. behind (d ∷ []) (doubles_of xs)
+doubles_of (x ∷ xs) = err_map (λ s. s - 255) (byte_sum x x) >>= λ d. behind (d ∷ []) (doubles_of xs)

@@ -12,8 +12,8 @@ abbrev pub ◌>>=◌ : {A B E : Type 0} → Result A E → (A → Result B E) �
 (Err e) >>= next = Err e
 
 -- a stated answer with its fault told in a caller's terms
-abbrev pub lifted : {A E F : Type 0} → (E → F) → Result A E → Result A F
-lifted as_fault = result_map_both (λ x. x) as_fault
+abbrev pub err_map : {A E F : Type 0} → (E → F) → Result A E → Result A F
+err_map as_fault = result_map_both (λ x. x) as_fault
 
 -- An error stands for a fault of the stated answer, or for none: then it is want of memory, which
 -- is free.

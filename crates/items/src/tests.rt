@@ -27,7 +27,7 @@ struct Numbers {
 }
 
 /// `≡` on a type with such fields is equality of content, so a copy equals what it copies.
-fn copied(numbers: &Numbers) -> Result<Numbers, AllocError>
+fn copy_of(numbers: &Numbers) -> Result<Numbers, AllocError>
     ensures { IfOk result (λ copy. copy ≡ numbers.now) }
 {
     numbers.clone()
@@ -159,7 +159,7 @@ fn boxes(rt: HostRuntime) -> Result<(), Fail> {
         all: Items::from_slice(rt.alloc(), &[1, 2])?,
         first: boxed,
     };
-    assert_eq!(rt; copied(&numbers)?, numbers);
+    assert_eq!(rt; copy_of(&numbers)?, numbers);
     Ok(())
 }
 

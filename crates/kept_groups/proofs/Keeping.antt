@@ -32,7 +32,7 @@ use Rattle.alike_groups.proofs.Parts.{alike_parts_are_one, plans_are_planned}
 use Rattle.kept_groups.specs.declared.kept.KeptGroups.{KeptGroups}
 use Rattle.kept_groups.specs.declared.kept.KeptPart.{KeptPart}
 use Rattle.kept_groups.specs.Coming.{IsCome}
-use Rattle.kept_groups.specs.Kept.{AreKept, AreKeptIf, IsPartOf, known_in}
+use Rattle.kept_groups.specs.Kept.{AreKept, AreKeptIf, IsPartOf, kept_summaries}
 
 -- elements at the same place belong together
 both-at : {A C : Type 0} (R : A → C → Type 0) (xs : List A) (ys : List C) (k : ℕ) (x : A) (y : C) → AllZip R xs ys → slice_get xs k ≡ Some x → slice_get ys k ≡ Some y → R x y
@@ -60,7 +60,7 @@ module _ (allows other : Question → Answer → Type 0) (weaker : (question : Q
 
   pub kept-weaker : (kept : Option KeptGroups) → AreKeptIf allows kept → AreKeptIf other kept
   kept-weaker None h = tt
-  kept-weaker (Some kept) h = record { formed = h.formed; is_plan = h.is_plan; parts = parts-weaker kept.program (known_in kept) kept.plan kept.parts h.parts }
+  kept-weaker (Some kept) h = record { formed = h.formed; is_plan = h.is_plan; parts = parts-weaker kept.program (kept_summaries kept) kept.plan kept.parts h.parts }
 
   pub come-weaker : (kept : Option KeptGroups) (program : Program) (known : List (Option Transition)) (planned : Planned) (part : KeptPart) (taken : Bool)
       → IsCome allows kept program known planned part taken → IsCome other kept program known planned part taken
@@ -71,12 +71,12 @@ module _ (allows other : Question → Answer → Type 0) (weaker : (question : Q
 
 module _ (allows : Question → Answer → Type 0) (program : Program) (known : List (Option Transition)) (planned : Planned) (part : KeptPart) where
   pub kept-same : (kept : KeptGroups) (place : ℕ) (other : Planned) → AreKept allows kept → slice_get kept.plan place ≡ Some other → slice_get kept.parts place ≡ Some part → IsPlannedIn program planned
-      → AreAlikeGroups program kept.program planned.procs other.procs known (known_in kept) → IsPartOf (IsGood allows) program known planned part
+      → AreAlikeGroups program kept.program planned.procs other.procs known (kept_summaries kept) → IsPartOf (IsGood allows) program known planned part
   kept-same kept place other are at part_at here alike =
       let there = plans_are_planned kept.program kept.plan are.is_plan place other at in
-      let one = alike_parts_are_one program kept.program planned other known (known_in kept) here there alike in
-      kept_same (IsGood allows) (summaries_by other.kind kept.program other.procs (known_in kept)) (summaries_by planned.kind program planned.procs known) part.summaries part.notes part.answers
-      (sym one.1) (both-at (IsPartOf (IsGood allows) kept.program (known_in kept)) kept.plan kept.parts place other part are.parts at part_at)
+      let one = alike_parts_are_one program kept.program planned other known (kept_summaries kept) here there alike in
+      kept_same (IsGood allows) (summaries_by other.kind kept.program other.procs (kept_summaries kept)) (summaries_by planned.kind program planned.procs known) part.summaries part.notes part.answers
+      (sym one.1) (both-at (IsPartOf (IsGood allows) kept.program (kept_summaries kept)) kept.plan kept.parts place other part are.parts at part_at)
 
   pub come-part : (kept : Option KeptGroups) (taken : Bool) → AreKeptIf allows kept → IsPlannedIn program planned → IsCome allows kept program known planned part taken
       → IsPartOf (IsGood allows) program known planned part

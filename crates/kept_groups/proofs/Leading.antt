@@ -36,7 +36,7 @@ use Rattle.analysis.specs.declared.found.Found.{Found}
 use Rattle.analysis.specs.declared.parts.GroupSummaries.{GroupSummaries}
 use Rattle.analysis.specs.declared.planning.Planned.{Planned}
 use Rattle.analysis.specs.Apart.{apart, apart_from}
-use Rattle.analysis.specs.Found.{found_by, nothing_found, put_at, with_group, with_part}
+use Rattle.analysis.specs.Found.{findings_by_plan, nothing_found, put_at, with_group, with_part}
 use Rattle.analysis.specs.Parts.{part_of, part_with, summaries_by}
 use Rattle.analysis.specs.Plan.{ArePlannedOf, IsPlan}
 use Rattle.analysis.proofs.NotesApart.{path_apart}
@@ -50,7 +50,7 @@ use Rattle.named_limits.proofs.NewGroups.{AreNew, plan-new}
 use Rattle.kept_groups.specs.declared.kept.KeptGroups.{KeptGroups}
 use Rattle.kept_groups.specs.declared.kept.KeptPart.{KeptPart}
 use Rattle.kept_groups.specs.Coming.{AreCome, IsAlikeAt, IsCome, answers_asked, count_made}
-use Rattle.kept_groups.specs.Kept.{AreKept, AreKeptIf, IsPartOf, answers_in, found_by_kept, found_with, with_kept}
+use Rattle.kept_groups.specs.Kept.{AreKept, AreKeptIf, IsPartOf, answers_in, findings_by_kept, findings_with, with_kept}
 use Rattle.kept_groups.specs.Outcomes.{IsDeclinedOver}
 use Rattle.kept_groups.proofs.Itself.{KnowSame, group-itself, know-same}
 use Rattle.kept_groups.proofs.Keeping.{come-part, come-weaker, good-passing, good-weaker, part-path}
@@ -102,17 +102,17 @@ module _ (Good : Question → Answer → Type 0) (program : Program) where
         (part-path Good program found.known planned part h);
   }
 
-  parts-steps : (found : Found) (plan : List Planned) (parts : List KeptPart) → AreParts Good program found plan parts → KeptSteps Good (with_group program) found plan (found_with found plan parts) [] (answers_in parts)
+  parts-steps : (found : Found) (plan : List Planned) (parts : List KeptPart) → AreParts Good program found plan parts → KeptSteps Good (with_group program) found plan (findings_with found plan parts) [] (answers_in parts)
   parts-steps found [] [] are = all_made found
   parts-steps found [] (part ∷ parts) are = absurd are
   parts-steps found (planned ∷ plan) [] are = absurd are
   parts-steps found (planned ∷ plan) (part ∷ parts) are =
-      one_made found (with_kept found planned part) (found_with (with_kept found planned part) plan parts) planned plan [] [] part.answers (answers_in parts) (group-kept found planned part are.0)
+      one_made found (with_kept found planned part) (findings_with (with_kept found planned part) plan parts) planned plan [] [] part.answers (answers_in parts) (group-kept found planned part are.0)
       (parts-steps (with_kept found planned part) plan parts are.1)
 
   -- and where some groups are left
   parts-then : (found : Found) (done rest : List Planned) (parts : List KeptPart) (answers : List Answer) (q : Posing Found) → AreParts Good program found done parts
-      → Path Good (each (with_group program) (found_with found done parts) rest) [] answers q → Path Good (each (with_group program) found (done ++ rest)) [] (answers_in parts ++ answers) q
+      → Path Good (each (with_group program) (findings_with found done parts) rest) [] answers q → Path Good (each (with_group program) found (done ++ rest)) [] (answers_in parts ++ answers) q
   parts-then found [] rest [] answers q are path = path
   parts-then found [] rest (part ∷ parts) answers q are path = absurd are
   parts-then found (planned ∷ done) rest [] answers q are path = absurd are
@@ -134,13 +134,13 @@ put-leaves (q ∷ procs) [] known c none = refl
 put-leaves (q ∷ procs) (f ∷ table) known c none =
     put-leaves procs table (slice_set known q (Some f)) c (λ place. none (suc place)) ∙ table-leaves (q ∷ []) (f ∷ []) known c (none-else q c (none 0))
 
-found-long : (found : Found) (plan : List Planned) (parts : List KeptPart) → length (found_with found plan parts).known ≡ length found.known
+found-long : (found : Found) (plan : List Planned) (parts : List KeptPart) → length (findings_with found plan parts).known ≡ length found.known
 found-long found [] parts = refl
 found-long found (planned ∷ plan) [] = refl
 found-long found (planned ∷ plan) (part ∷ parts) = found-long (with_kept found planned part) plan parts ∙ put-long planned.procs part.summaries.formulas found.known
 
 module _ (program : Program) where
-  found-stays : (come : List ℕ) (found : Found) (plan : List Planned) (parts : List KeptPart) → AreNew program come plan → (c : ℕ) → Contains come c → slice_get (found_with found plan parts).known c ≡ slice_get found.known c
+  found-stays : (come : List ℕ) (found : Found) (plan : List Planned) (parts : List KeptPart) → AreNew program come plan → (c : ℕ) → Contains come c → slice_get (findings_with found plan parts).known c ≡ slice_get found.known c
   found-stays come found [] parts new c came = refl
   found-stays come found (planned ∷ plan) [] new c came = refl
   found-stays come found (planned ∷ plan) (part ∷ parts) new c came =
@@ -150,7 +150,7 @@ module _ (program : Program) where
   -- so each part is one of its group by what is found in the end
   module _ (allows : Question → Answer → Type 0) where
     parts-stay : (come : List ℕ) (found : Found) (groups : List Group) (plan : List Planned) (parts : List KeptPart) → AreGroupsAfter program come groups → ArePlannedOf program groups plan → AreNew program come plan
-        → length found.known ≡ length program.procs → AreParts (IsGood allows) program found plan parts → AllZip (IsPartOf (IsGood allows) program (found_with found plan parts).known) plan parts
+        → length found.known ≡ length program.procs → AreParts (IsGood allows) program found plan parts → AllZip (IsPartOf (IsGood allows) program (findings_with found plan parts).known) plan parts
     parts-stay come found [] [] [] after of new long are = tt
     parts-stay come found [] [] (part ∷ parts) after of new long are = absurd are
     parts-stay come found [] (planned ∷ plan) parts after of new long are = absurd of
@@ -158,7 +158,7 @@ module _ (program : Program) where
     parts-stay come found (group ∷ groups) (planned ∷ plan) [] after of new long are = absurd are
     parts-stay come found (group ∷ groups) (planned ∷ plan) (part ∷ parts) after of new long are =
         let next = with_kept found planned part in
-        let all = (found_with next plan parts).known in
+        let all = (findings_with next plan parts).known in
         let all_long = found-long found (planned ∷ plan) (part ∷ parts) ∙ long in
         let here : IsPlannedIn program planned = record { come = come; group = group; next = after.0; of = of.0 } in
         let knows = subst (λ procs. KnowSame program procs found.known all) (sym of.0.procs)
@@ -173,20 +173,20 @@ module _ (program : Program) where
 -- ---- the program
 
 module _ (allows : Question → Answer → Type 0) (kept : Option KeptGroups) (program : Program) (plan : List Planned) (parts : List KeptPart) (marks : List Bool) (formed : IsWellFormed program) (is : IsPlan program plan)
-    (are : AreKeptIf allows kept) (come : AreCome allows kept program (found_by_kept (length program.procs) [] []) plan parts marks) where
+    (are : AreKeptIf allows kept) (come : AreCome allows kept program (findings_by_kept (length program.procs) [] []) plan parts marks) where
   abbrev nothing : Found
   nothing = nothing_found (length program.procs)
 
   made-all : AreParts (IsGood allows) program nothing plan parts
   made-all = come-parts allows kept program are nothing plan parts marks (plan-planned program plan is) come
 
-  pub parts-lead : Path (IsGood allows) (found_by program plan) [] (answers_in parts) (Done (found_by_kept (length program.procs) plan parts))
-  unfolding found_by
-  parts-lead = (kept_each (IsGood allows) (with_group program) nothing (found_with nothing plan parts) plan [] (answers_in parts) (parts-steps (IsGood allows) program nothing plan parts made-all)).path
+  pub parts-lead : Path (IsGood allows) (findings_by_plan program plan) [] (answers_in parts) (Done (findings_by_kept (length program.procs) plan parts))
+  unfolding findings_by_plan
+  parts-lead = (kept_each (IsGood allows) (with_group program) nothing (findings_with nothing plan parts) plan [] (answers_in parts) (parts-steps (IsGood allows) program nothing plan parts made-all)).path
 
-  pub parts-whole : IsWhole program (found_by_kept (length program.procs) plan parts)
+  pub parts-whole : IsWhole program (findings_by_kept (length program.procs) plan parts)
   parts-whole =
-      under-path (IsGood allows) IsPassing good-passing (IsWhole program) (found_by program plan) (Done (found_by_kept (length program.procs) plan parts)) [] (answers_in parts)
+      under-path (IsGood allows) IsPassing good-passing (IsWhole program) (findings_by_plan program plan) (Done (findings_by_kept (length program.procs) plan parts)) [] (answers_in parts)
       parts-lead (found-whole program plan formed is)
 
   pub parts-kept : AreKept allows (record { program = program; plan = plan; parts = parts })
@@ -220,14 +220,14 @@ group-asks Good program found planned left notes answers question next path =
 
 module _ {S : Type 0} (O : Asking S) (kept : Option KeptGroups) (program : Program) (plan : List Planned) (old new : S) (over : IsDeclinedOver O kept program plan old new) where
   abbrev found_then : Found
-  found_then = found_by_kept (length program.procs) over.done over.parts
+  found_then = findings_by_kept (length program.procs) over.done over.parts
 
   pub declined-next : Answer → Posing Found
   declined-next answer = next_group program found_then over.planned over.left over.notes over.next answer
 
   pub declined-leads : IsWellFormed program → IsPlan program plan → (allows : Question → Answer → Type 0) → ((question : Question) (answer : Answer) → O.allows question answer → allows question answer) → AreKeptIf allows kept
-      → Path (IsGood allows) (found_by program plan) [] (answers_in over.parts ++ over.answers) (Asked over.question declined-next)
-  unfolding found_by declined-next
+      → Path (IsGood allows) (findings_by_plan program plan) [] (answers_in over.parts ++ over.answers) (Asked over.question declined-next)
+  unfolding findings_by_plan declined-next
   declined-leads formed is allows weaker are =
       let start = nothing_found (length program.procs) in
       let groups = over.planned ∷ over.left in

@@ -19,8 +19,8 @@ use Rattle.analysis.specs.Found.{nothing_found, put_at}
 use Rattle.kept_groups.specs.declared.kept.KeptGroups.{KeptGroups}
 use Rattle.kept_groups.specs.declared.kept.KeptPart.{KeptPart}
 use Rattle.kept_groups.specs.Coming.{IsAlikeAt}
-use Rattle.kept_groups.specs.Kept.{AreKept, Anything, IsPartOf, found_with, known_in, with_kept}
-use Rattle.kept_groups.specs.OneGroup.{FindsAlike, known_at, known_with}
+use Rattle.kept_groups.specs.Kept.{AreKept, Anything, IsPartOf, findings_with, kept_summaries, with_kept}
+use Rattle.kept_groups.specs.OneGroup.{FindsAlike, with_summary_at, summaries_with}
 
 -- ---- the search
 
@@ -57,9 +57,9 @@ placed xs ys i x same lt is = subst (λ zs. slice_get zs i ≡ Some x) same (sli
 
 module _ (program : Program) (known : List (Option Transition)) (planned : Planned) (kept : KeptGroups) where
   abbrev IsAlikeTo : Planned → Type 0
-  IsAlikeTo other = AreAlikeGroups program kept.program planned.procs other.procs known (known_in kept)
+  IsAlikeTo other = AreAlikeGroups program kept.program planned.procs other.procs known (kept_summaries kept)
 
-  pub alike-words : (procs : List ℕ) (other_known : List (Option Transition)) (other : Planned) → procs ≡ planned.procs → other_known ≡ known_in kept
+  pub alike-words : (procs : List ℕ) (other_known : List (Option Transition)) (other : Planned) → procs ≡ planned.procs → other_known ≡ kept_summaries kept
       → AreAlikeGroups program kept.program procs other.procs known other_known ≡ IsAlikeTo other
   alike-words procs other_known other same_procs same_known = λ i. AreAlikeGroups program kept.program (same_procs i) other.procs known (same_known i)
 
@@ -85,19 +85,19 @@ module _ (program : Program) (known : List (Option Transition)) (planned : Plann
   pub alike-found : (i : ℕ) (other : Planned) → AreKept Anything kept → slice_get kept.plan i ≡ Some other → IsAlikeTo other → (found : Option KeptPart) → found ≡ slice_get kept.parts i
       → FindsAlike (Some kept) program known planned found
   alike-found i other are at alike found is =
-      let own = paired (IsPartOf (IsGood Anything) kept.program (known_in kept)) kept.plan kept.parts i other are.parts at in
+      let own = paired (IsPartOf (IsGood Anything) kept.program (kept_summaries kept)) kept.plan kept.parts i other are.parts at in
       subst (FindsAlike (Some kept) program known planned) (sym own.1 ∙ sym is)
       (record { is = record { place = i; alike = record { other = other; is = at; alike = alike }; is = own.1 } })
 
 -- ---- the summaries
 
-known-with : (found : Found) (plan : List Planned) (parts : List KeptPart) → (found_with found plan parts).known ≡ known_with found.known plan parts
+known-with : (found : Found) (plan : List Planned) (parts : List KeptPart) → (findings_with found plan parts).known ≡ summaries_with found.known plan parts
 known-with found [] [] = refl
 known-with found [] (part ∷ parts) = refl
 known-with found (planned ∷ plan) [] = refl
 known-with found (planned ∷ plan) (part ∷ parts) = known-with (with_kept found planned part) plan parts
 
-pub known-kept : (kept : KeptGroups) → known_with (nothing_found (length kept.program.procs)).known kept.plan kept.parts ≡ known_in kept
+pub known-kept : (kept : KeptGroups) → summaries_with (nothing_found (length kept.program.procs)).known kept.plan kept.parts ≡ kept_summaries kept
 known-kept kept = sym (known-with (nothing_found (length kept.program.procs)) kept.plan kept.parts)
 
 set-past : {A : Type 0} (xs : List A) (place : ℕ) (x : A) → length xs ≤ place → slice_set xs place x ≡ xs
@@ -105,7 +105,7 @@ set-past [] place x past = refl
 set-past (y ∷ xs) zero x past = absurd (omega (arith, past))
 set-past (y ∷ xs) (suc place) x past = ap (λ rest. y ∷ rest) (set-past xs place x (omega (arith, past)))
 
-pub at-past : (known : List (Option Transition)) (place : ℕ) (formula : Option Transition) → length known ≤ place → known_at place formula known ≡ known
+pub at-past : (known : List (Option Transition)) (place : ℕ) (formula : Option Transition) → length known ≤ place → with_summary_at place formula known ≡ known
 at-past known place None past = refl
 at-past known place (Some f) past = set-past known place (Some f) past
 
@@ -114,7 +114,7 @@ put-nothing [] known = refl
 put-nothing (place ∷ places) known = refl
 
 put-after : (place : ℕ) (places : List ℕ) (formulas : List Transition) (i : ℕ) (known : List (Option Transition))
-    → put_at places (drop (suc i) formulas) (known_at place (slice_get formulas i) known) ≡ put_at (place ∷ places) (drop i formulas) known
+    → put_at places (drop (suc i) formulas) (with_summary_at place (slice_get formulas i) known) ≡ put_at (place ∷ places) (drop i formulas) known
 put-after place places [] zero known = put-nothing places known
 put-after place places [] (suc i) known = put-nothing places known
 put-after place places (f ∷ formulas) zero known = refl
@@ -122,7 +122,7 @@ put-after place places (f ∷ formulas) (suc i) known = put-after place places f
 
 -- what is left to put, with one formula put
 pub put-next : (places : List ℕ) (formulas : List Transition) (i : ℕ) (known next : List (Option Transition))
-    → i < length places → next ≡ known_at (get_or places i 0) (slice_get formulas i) known
+    → i < length places → next ≡ with_summary_at (get_or places i 0) (slice_get formulas i) known
     → put_at (drop (i + 1) places) (drop (i + 1) formulas) next ≡ put_at (drop i places) (drop i formulas) known
 put-next places formulas i known next lt made =
     let more : i + 1 ≡ suc i = omega arith in

@@ -18,7 +18,7 @@ use Rattle.kept_groups.specs.declared.kept.KeptPart.{KeptPart}
 use Rattle.kept_groups.specs.declared.over.ComingPart.{ComingPart}
 use Rattle.kept_groups.specs.declared.over.FoundParts.{FoundParts}
 use Rattle.kept_groups.specs.Coming.{AreCome, IsCome, IsNew, answers_asked, count_made}
-use Rattle.kept_groups.specs.Kept.{found_by_kept, found_with, with_kept}
+use Rattle.kept_groups.specs.Kept.{findings_by_kept, findings_with, with_kept}
 use Rattle.kept_groups.specs.OneGroup.{IsComing, IsStuck, nothing_yet, with_coming}
 use Rattle.kept_groups.specs.Outcomes.{IsDeclinedOver, IsFoundOver}
 use Rattle.std.specs.Prelude.{length}
@@ -27,7 +27,7 @@ use Rattle.std.specs.Prelude.{length}
 
 module _ (allows : Question → Answer → Type 0) (kept : Option KeptGroups) (program : Program) where
   pub come-more : (found : Found) (done : List Planned) (parts : List KeptPart) (marks : List Bool) (planned : Planned) (part : KeptPart) (taken : Bool)
-      → AreCome allows kept program found done parts marks → IsCome allows kept program (found_with found done parts).known planned part taken
+      → AreCome allows kept program found done parts marks → IsCome allows kept program (findings_with found done parts).known planned part taken
       → AreCome allows kept program found (done ++ planned ∷ []) (parts ++ part ∷ []) (marks ++ taken ∷ [])
   come-more found [] [] [] planned part taken come one = (one, tt)
   come-more found (g ∷ done) (p ∷ parts) (m ∷ marks) planned part taken come one = (come.0, come-more (with_kept found g p) done parts marks planned part taken come.1 one)
@@ -37,7 +37,7 @@ module _ (allows : Question → Answer → Type 0) (kept : Option KeptGroups) (p
   come-more found (g ∷ done) (p ∷ parts) [] planned part taken come one = absurd come
 
   pub kept-more : (found : Found) (done : List Planned) (parts : List KeptPart) (marks : List Bool) (planned : Planned) (part : KeptPart)
-      → AreCome allows kept program found done parts marks → found_with found (done ++ planned ∷ []) (parts ++ part ∷ []) ≡ with_kept (found_with found done parts) planned part
+      → AreCome allows kept program found done parts marks → findings_with found (done ++ planned ∷ []) (parts ++ part ∷ []) ≡ with_kept (findings_with found done parts) planned part
   kept-more found [] [] marks planned part come = refl
   kept-more found (g ∷ done) (p ∷ parts) (m ∷ marks) planned part come = kept-more (with_kept found g p) done parts marks planned part come.1
   kept-more found [] (p ∷ parts) marks planned part come = absurd come
@@ -96,7 +96,7 @@ module _ {S : Type 0} (O : Asking S) (kept : Option KeptGroups) (program : Progr
     pub more-over : (coming : ComingPart) → IsComing O kept program made.found.known planned now new mid to coming
         → IsFoundOver O kept program (done ++ planned ∷ []) old new from to (with_coming made planned coming)
     more-over coming one =
-        let nothing = found_by_kept (length program.procs) [] [] in
+        let nothing = findings_by_kept (length program.procs) [] [] in
         let same = over.found in
         let work = over.work in
         let steps = over.steps in

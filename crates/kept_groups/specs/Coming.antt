@@ -11,7 +11,7 @@ use Rattle.analysis.specs.declared.found.Found.{Found}
 use Rattle.analysis.specs.declared.planning.Planned.{Planned}
 use Rattle.kept_groups.specs.declared.kept.KeptGroups.{KeptGroups}
 use Rattle.kept_groups.specs.declared.kept.KeptPart.{KeptPart}
-use Rattle.kept_groups.specs.Kept.{IsPartOf, known_in, with_kept}
+use Rattle.kept_groups.specs.Kept.{IsPartOf, kept_summaries, with_kept}
 
 -- ---- one group
 
@@ -20,7 +20,7 @@ pub record IsAlikeAt (program : Program) (known : List (Option Transition)) (pla
     (kept : KeptGroups) (place : ℕ) : Type 0 where
   pub other : Planned
   pub is : slice_get kept.plan place ≡ Some other
-  pub alike : AreAlikeGroups program kept.program planned.procs other.procs known (known_in kept)
+  pub alike : AreAlikeGroups program kept.program planned.procs other.procs known (kept_summaries kept)
 
 -- this is kept of an alike group
 pub record IsTakenOver (program : Program) (known : List (Option Transition)) (planned : Planned)

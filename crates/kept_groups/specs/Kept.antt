@@ -24,18 +24,18 @@ with_kept found planned part =
     with_part found planned.procs (part_with planned.procs part.summaries part.notes)
 
 -- the same of all groups of a plan
-abbrev pub found_with : Found → List Planned → List KeptPart → Found
-found_with found (planned ∷ plan) (part ∷ parts) = found_with (with_kept found planned part) plan
+abbrev pub findings_with : Found → List Planned → List KeptPart → Found
+findings_with found (planned ∷ plan) (part ∷ parts) = findings_with (with_kept found planned part) plan
     parts
-found_with found _ _ = found
+findings_with found _ _ = found
 
 -- what is found of a program with so many procedures
-abbrev pub found_by_kept : ℕ → List Planned → List KeptPart → Found
-found_by_kept procs plan parts = found_with (nothing_found procs) plan parts
+abbrev pub findings_by_kept : ℕ → List Planned → List KeptPart → Found
+findings_by_kept procs plan parts = findings_with (nothing_found procs) plan parts
 
 -- the summary of each procedure
-abbrev pub known_in : KeptGroups → List (Option Transition)
-known_in kept = (found_by_kept (length kept.program.procs) kept.plan kept.parts).known
+abbrev pub kept_summaries : KeptGroups → List (Option Transition)
+kept_summaries kept = (findings_by_kept (length kept.program.procs) kept.plan kept.parts).known
 
 -- the answers, group after group
 abbrev pub answers_in : List KeptPart → List Answer
@@ -56,7 +56,7 @@ IsPartOf Good program known planned part =
 pub record AreKept (allows : Question → Answer → Type 0) (kept : KeptGroups) : Type 0 where
   pub formed : IsWellFormed kept.program
   pub is_plan : IsPlan kept.program kept.plan
-  pub parts : AllZip (IsPartOf (IsGood allows) kept.program (known_in kept)) kept.plan kept.parts
+  pub parts : AllZip (IsPartOf (IsGood allows) kept.program (kept_summaries kept)) kept.plan kept.parts
 
 abbrev pub AreKeptIf : (Question → Answer → Type 0) → Option KeptGroups → Type 0
 AreKeptIf allows None = Unit {0}

@@ -23,33 +23,33 @@ use Rattle.kept_groups.specs.declared.kept.KeptPart.{KeptPart}
 use Rattle.kept_groups.specs.declared.over.ComingPart.{ComingPart}
 use Rattle.kept_groups.specs.declared.over.FoundParts.{FoundParts}
 use Rattle.kept_groups.specs.Coming.{IsCome, IsNew, IsTakenFrom, answers_asked, count_made}
-use Rattle.kept_groups.specs.Kept.{AreKeptIf, Anything, IsPartOf, known_in, with_kept}
+use Rattle.kept_groups.specs.Kept.{AreKeptIf, Anything, IsPartOf, kept_summaries, with_kept}
 
 -- ---- what is kept of the program before
 
 -- the summary of each procedure there, if groups were kept
 abbrev pub known_if : Option KeptGroups → List (Option Transition)
 known_if None = []
-known_if (Some kept) = known_in kept
+known_if (Some kept) = kept_summaries kept
 
-abbrev pub kept_in : Earlier → Option KeptGroups
-kept_in earlier = option_copied earlier.groups
+abbrev pub groups_in : Earlier → Option KeptGroups
+groups_in earlier = option_copied earlier.groups
 
 pub record IsEarlier (earlier : Earlier) : Type 0 where
-  pub kept : AreKeptIf Anything (kept_in earlier)
-  pub known : earlier.known ≡ known_if (kept_in earlier)
+  pub kept : AreKeptIf Anything (groups_in earlier)
+  pub known : earlier.known ≡ known_if (groups_in earlier)
 
 -- known formulas with those of groups of a plan
-abbrev pub known_with : List (Option Transition) → List Planned → List KeptPart
+abbrev pub summaries_with : List (Option Transition) → List Planned → List KeptPart
     → List (Option Transition)
-known_with known (planned ∷ plan) (part ∷ parts) =
-    known_with (put_at planned.procs part.summaries.formulas known) plan parts
-known_with known _ _ = known
+summaries_with known (planned ∷ plan) (part ∷ parts) =
+    summaries_with (put_at planned.procs part.summaries.formulas known) plan parts
+summaries_with known _ _ = known
 
 -- with a formula at a place, if there is one
-abbrev pub known_at : ℕ → Option Transition → List (Option Transition) → List (Option Transition)
-known_at place None known = known
-known_at place (Some f) known = slice_set known place (Some f)
+abbrev pub with_summary_at : ℕ → Option Transition → List (Option Transition) → List (Option Transition)
+with_summary_at place None known = known
+with_summary_at place (Some f) known = slice_set known place (Some f)
 
 -- ---- the search for an alike group
 

@@ -17,16 +17,16 @@ use Rattle.kept_groups.specs.declared.kept.KeptGroups.{KeptGroups}
 use Rattle.kept_groups.specs.declared.kept.KeptPart.{KeptPart}
 use Rattle.kept_groups.specs.declared.over.FoundParts.{FoundParts}
 use Rattle.kept_groups.specs.Coming.{AreCome, IsNew, answers_asked, count_made}
-use Rattle.kept_groups.specs.Kept.{found_by_kept}
+use Rattle.kept_groups.specs.Kept.{findings_by_kept}
 
 -- A part has come for each group. The oracle had next the answers of those that are not taken over,
 -- it refused none, and each of them took one step.
 pub record IsFoundOver {S : Type 0} (O : Asking S) (kept : Option KeptGroups) (program : Program)
     (plan : List Planned) (old new : S) (from to : ℕ) (made : FoundParts) : Type 0 where
   pub marks : List Bool
-  pub come : AreCome O.allows kept program (found_by_kept (length program.procs) [] []) plan
+  pub come : AreCome O.allows kept program (findings_by_kept (length program.procs) [] []) plan
       made.parts marks
-  pub found : made.found ≡ found_by_kept (length program.procs) plan made.parts
+  pub found : made.found ≡ findings_by_kept (length program.procs) plan made.parts
   pub taken : O.left old ≡ with_all (answers_asked marks made.parts) (O.left new)
   pub counted : O.refusals new ≡ O.refusals old
   pub work : made.work ≡ count_made marks
@@ -42,16 +42,16 @@ pub record IsDeclinedOver {S : Type 0} (O : Asking S) (kept : Option KeptGroups)
   pub is : plan ≡ done ++ planned ∷ left
   pub parts : List KeptPart
   pub marks : List Bool
-  pub come : AreCome O.allows kept program (found_by_kept (length program.procs) [] []) done parts
+  pub come : AreCome O.allows kept program (findings_by_kept (length program.procs) [] []) done parts
       marks
-  pub known_new : IsNew kept program (found_by_kept (length program.procs) done parts).known planned
+  pub known_new : IsNew kept program (findings_by_kept (length program.procs) done parts).known planned
   pub notes : List Note
   pub answers : List Answer
   pub question : Question
   pub next : Answer → Posing GroupSummaries
   pub leads : Path (IsGood O.allows)
       (summaries_by planned.kind program planned.procs
-      (found_by_kept (length program.procs) done parts).known)
+      (findings_by_kept (length program.procs) done parts).known)
       notes answers (Asked question next)
   pub taken : O.left old ≡ with_all (answers_asked marks parts ++ answers) (O.left new)
   pub declined : O.declines new question

@@ -2,8 +2,8 @@ ghost use Rattle.std.specs.Prelude.{◌≡◌, ◌↔◌, IfOk, None, IsTrue, le
 ghost use Rattle.std.specs.Option.{option_copied};
 ghost use Rattle.newton_rounds.specs.Alike.{AreAlikeGroups};
 ghost use Rattle.analysis.specs.Found.{put_at};
-ghost use Rattle.kept_groups.specs.Kept.{AreKept, AreKeptIf, Anything, known_in};
-ghost use Rattle.kept_groups.specs.OneGroup.{FindsAlike, IsEarlier, kept_in, known_at, known_if, known_with};
+ghost use Rattle.kept_groups.specs.Kept.{AreKept, AreKeptIf, Anything, kept_summaries};
+ghost use Rattle.kept_groups.specs.OneGroup.{FindsAlike, IsEarlier, groups_in, with_summary_at, known_if, summaries_with};
 
 use crate::kept::{KeptGroups, KeptPart};
 use alike_groups::{KnownGroup, are_alike};
@@ -27,11 +27,11 @@ impl<'k> Earlier<'k> {
         kept: Option<&'k KeptGroups>,
     ) -> Result<Earlier<'k>, AllocError>
         requires { AreKeptIf Anything (option_copied kept) }
-        ensures same { IfOk result (λ earlier. kept_in earlier ≡ option_copied kept.entry) }
+        ensures same { IfOk result (λ earlier. groups_in earlier ≡ option_copied kept.entry) }
         ensures earlier { IfOk result IsEarlier }
     {
         let known = match kept {
-            Some(kept) => known_in(alloc, kept)?,
+            Some(kept) => kept_summaries(alloc, kept)?,
             None => Items::new(alloc),
         };
         Ok(Earlier {
@@ -42,22 +42,22 @@ impl<'k> Earlier<'k> {
 }
 
 /// The summary of each procedure, as it is kept of its group.
-fn known_in(alloc: Global, kept: &KeptGroups) -> Result<Items<Option<Formula>>, AllocError>
+fn kept_summaries(alloc: Global, kept: &KeptGroups) -> Result<Items<Option<Formula>>, AllocError>
     requires { AreKept Anything kept.now }
-    ensures { IfOk result (λ known. known ≡ known_in kept.now) }
+    ensures { IfOk result (λ known. known ≡ kept_summaries kept.now) }
 {
     let known = nothing_known(alloc, kept.program.procs.len())?;
-    known_with(known, kept.plan.as_slice(), kept.parts.as_slice())
+    summaries_with(known, kept.plan.as_slice(), kept.parts.as_slice())
 }
 
 /// With the summaries that are kept of the groups of a plan.
-fn known_with(
+fn summaries_with(
     known: Items<Option<Formula>>,
     plan: &[Planned],
     parts: &[KeptPart],
 ) -> Result<Items<Option<Formula>>, AllocError>
     requires { length parts.now ≡ length plan.now }
-    ensures { IfOk result (λ next. next ≡ known_with known plan.now parts.now) }
+    ensures { IfOk result (λ next. next ≡ summaries_with known plan.now parts.now) }
 {
     let mut made = known;
     for (place, planned) in plan.iter().enumerate() {
@@ -98,7 +98,7 @@ fn with_formula(
     known: Vec<Option<Formula>>,
 ) -> Result<Vec<Option<Formula>>, AllocError>
     ensures { IfOk result
-        (λ next. next.items ≡ known_at place (option_copied formula.entry) known.items) }
+        (λ next. next.items ≡ with_summary_at place (option_copied formula.entry) known.items) }
 {
     let mut made = known;
     let Some(formula) = formula else {
@@ -118,7 +118,7 @@ pub(crate) fn alike_part<'k>(
     earlier: &Earlier<'k>,
 ) -> Option<&'k KeptPart>
     requires { IsEarlier earlier.now }
-    ensures { FindsAlike (kept_in earlier.now) program.now known.now planned.now
+    ensures { FindsAlike (groups_in earlier.now) program.now known.now planned.now
         (option_copied result) }
 {
     match earlier.groups {
@@ -135,7 +135,7 @@ fn alike_part_of<'k>(
     kept_known: &[Option<Formula>],
 ) -> Option<&'k KeptPart>
     requires kept { AreKept Anything kept.now }
-    requires known { kept_known.now ≡ known_in kept.now }
+    requires known { kept_known.now ≡ kept_summaries kept.now }
     ensures { FindsAlike (Some kept.now) program.now known.now planned.now (option_copied result) }
 {
     let group = KnownGroup {

@@ -3,7 +3,7 @@ ghost use Rattle.std.specs.Prelude.{◌≡◌, IfOk};
 use crate::kept::KeptPart;
 use analysis::GroupSummaries;
 use items::Items;
-use proc_summary::{Flow, Stop};
+use proc_summary::{Flow, NodeFormula};
 use std::alloc::{AllocError, Global};
 
 /// A copy of what is kept of a group.
@@ -55,7 +55,7 @@ fn flow_copy(alloc: Global, flow: &Flow) -> Result<Flow, AllocError>
     })
 }
 
-fn stop_copies(alloc: Global, stops: &[Stop]) -> Result<Items<Stop>, AllocError>
+fn stop_copies(alloc: Global, stops: &[NodeFormula]) -> Result<Items<NodeFormula>, AllocError>
     ensures { IfOk result (λ copies. copies ≡ stops.now) }
 {
     let mut copies = Items::new(alloc);
@@ -65,11 +65,11 @@ fn stop_copies(alloc: Global, stops: &[Stop]) -> Result<Items<Stop>, AllocError>
     Ok(copies)
 }
 
-fn stop_copy(stop: &Stop) -> Result<Stop, AllocError>
+fn stop_copy(stop: &NodeFormula) -> Result<NodeFormula, AllocError>
     ensures { IfOk result (λ copy. copy ≡ stop.now) }
 {
     let formula = stop.formula.clone()?;
-    Ok(Stop {
+    Ok(NodeFormula {
         node: stop.node,
         formula,
     })

@@ -10,5 +10,5 @@ mod over;
 mod steps;
 
 pub use kept::{KeptGroups, KeptPart};
-pub use over::{FoundParts, found_over};
+pub use over::{FoundParts, findings_over};
 pub use steps::Steps;

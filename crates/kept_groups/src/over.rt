@@ -7,7 +7,7 @@ ghost use Rattle.analysis.specs.Parts.{part_with};
 ghost use Rattle.analysis.specs.Plan.{IsPlan};
 ghost use Rattle.analysis_laws.specs.Laws.{IsWhole};
 ghost use Rattle.kept_groups.specs.Kept.{AreKeptIf, Anything};
-ghost use Rattle.kept_groups.specs.OneGroup.{Ends, IsComing, IsDeclined, IsEarlier, IsMade, IsOneMore, IsStuck, kept_in, nothing_yet, with_coming};
+ghost use Rattle.kept_groups.specs.OneGroup.{Ends, IsComing, IsDeclined, IsEarlier, IsMade, IsOneMore, IsStuck, groups_in, nothing_yet, with_coming};
 ghost use Rattle.kept_groups.specs.Outcomes.{FindsOver};
 
 use crate::alike::{Earlier, alike_part};
@@ -43,7 +43,7 @@ struct ComingPart {
 ///
 /// A group that is alike to one that was kept takes that part over, the first of them, and poses no
 /// question. Each other one is summed up by asking the oracle, which is one step.
-pub fn found_over<O: Oracle, L: Ledger>(
+pub fn findings_over<O: Oracle, L: Ledger>(
     alloc: Global,
     program: &Program,
     plan: &[Planned],
@@ -95,9 +95,9 @@ fn with_group<O: Oracle, L: Ledger>(
     requires earlier { IsEarlier earlier.now }
     requires few { made.work + 1 < 2 ^ 64 }
     ensures { Ends O.asking
-        (IsOneMore O.asking (kept_in earlier.now) program.now made planned.now oracle.old oracle.new
+        (IsOneMore O.asking (groups_in earlier.now) program.now made planned.now oracle.old oracle.new
         steps.old steps.new)
-        (IsStuck O.asking (kept_in earlier.now) program.now made.found.known planned.now oracle.old
+        (IsStuck O.asking (groups_in earlier.now) program.now made.found.known planned.now oracle.old
         oracle.new)
         oracle.old oracle.new result }
 {
@@ -121,9 +121,9 @@ fn coming_part<O: Oracle, L: Ledger>(
     requires ready { IsReadyGroup program.now planned.now known.now }
     requires earlier { IsEarlier earlier.now }
     ensures { Ends O.asking
-        (IsComing O.asking (kept_in earlier.now) program.now known.now planned.now oracle.old
+        (IsComing O.asking (groups_in earlier.now) program.now known.now planned.now oracle.old
         oracle.new steps.old steps.new)
-        (IsStuck O.asking (kept_in earlier.now) program.now known.now planned.now oracle.old
+        (IsStuck O.asking (groups_in earlier.now) program.now known.now planned.now oracle.old
         oracle.new)
         oracle.old oracle.new result }
 {

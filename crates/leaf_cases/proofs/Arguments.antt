@@ -5,7 +5,7 @@ use Rattle.std.specs.Prelude.{IsTrue}
 use Rattle.std.specs.List.{AllByRecursion, flat_map, list_all}
 use Rattle.std.proofs.lemmas.List.{length-map, map-append, take_more, take-append-drop}
 use Rattle.items.proofs.Each.{each-append, each-flat_map, each-map, each-any, each-more}
-use Rattle.linear_terms.specs.Auxiliaries.{renumbered}
+use Rattle.linear_terms.specs.Auxiliaries.{renumbered_polynomial}
 use Rattle.linear_terms.specs.declared.row.Case.{Case}
 use Rattle.syntax_tree.specs.declared.op.Op.{Op}
 use Rattle.syntax_tree.specs.declared.op.Op.TheVariants.{Add, Sub, Mul, Div, Rem, Lt, Le, Gt, Ge, Eq, Ne, And, Or}
@@ -20,16 +20,16 @@ use Rattle.transition_formula.specs.Meaning.{HoldsSome}
 use Rattle.transition_formula.specs.Transition.{fits, IsTransition}
 use Rattle.transition_formula.proofs.Covered.{both, both_true}
 use Rattle.transition_formula.proofs.Fitting.{from_fitting}
-use Rattle.leaf_cases.specs.declared.division.Part.TheVariants.{Quotient, Remainder}
+use Rattle.leaf_cases.specs.declared.division.DivisionPart.TheVariants.{Quotient, Remainder}
 use Rattle.leaf_cases.specs.declared.step.Arithmetic.TheVariants.{Negate, Sum, Difference, Product}
 use Rattle.leaf_cases.specs.declared.step.Step.{Step}
 use Rattle.leaf_cases.specs.declared.step.Step.TheVariants.{Value, Divide, Test}
-use Rattle.leaf_cases.specs.Claims.{Answer, valued}
+use Rattle.leaf_cases.specs.Claims.{Answer, case_with_value}
 use Rattle.leaf_cases.specs.Edges.{arguments_after, arguments_of, no_values}
 use Rattle.leaf_cases.specs.Expression.{Lists, of_test, sign_lists, operator_lists, lists_of}
 use Rattle.leaf_cases.specs.Listed.{Listed, AreReady, beside, together}
 use Rattle.leaf_cases.specs.Listed as listed
-use Rattle.leaf_cases.specs.Steps.{operand, value_at, made_at, cases_by, with_number}
+use Rattle.leaf_cases.specs.Steps.{operand, value_at, cases_of_step, cases_by, with_number}
 use Rattle.leaf_cases.proofs.Expressions.{ValueIs, expression-means}
 use Rattle.leaf_cases.proofs.Meant.{Means, means-as, means-together}
 use Rattle.leaf_cases.proofs.Ready.{sit, are_ready, width_of, columns_below-more}
@@ -42,7 +42,7 @@ abbrev Long : ℕ → Case → Type 0
 Long n case = length case.post ≡ n
 
 long-beside : (n m : ℕ) (a b : Case) → Long n a → Long m b → Long (n + m) (beside a b)
-long-beside n m a b h k = length-append a.post (map (renumbered (λ i. a.aux + i)) b.post) ∙ (λ i. h i + (length-map b.post (renumbered (λ i. a.aux + i)) ∙ k) i)
+long-beside n m a b h k = length-append a.post (map (renumbered_polynomial (λ i. a.aux + i)) b.post) ∙ (λ i. h i + (length-map b.post (renumbered_polynomial (λ i. a.aux + i)) ∙ k) i)
 
 long-both : (n m : ℕ) (firsts seconds : List Case) → AllByRecursion (Long n) firsts → AllByRecursion (Long m) seconds → AllByRecursion (Long (n + m)) (listed.both firsts seconds)
 unfolding listed.both
@@ -54,11 +54,11 @@ GivesNumber (Value arithmetic) = Unit {0}
 GivesNumber (Divide part) = Unit {0}
 GivesNumber (Test relation) = ⊥
 
-one-valued : (case : Case) (r : Answer) → Long 1 (valued case r)
+one-valued : (case : Case) (r : Answer) → Long 1 (case_with_value case r)
 one-valued case (Ok p) = refl
 one-valued case (Err e) = refl
 
-one-made : (step : Step) → GivesNumber step → (case : Case) → AllByRecursion (Long 1) (made_at step case)
+one-made : (step : Step) → GivesNumber step → (case : Case) → AllByRecursion (Long 1) (cases_of_step step case)
 one-made (Value arithmetic) g case = (one-valued case (value_at arithmetic (operand 0 case) (operand 1 case)), tt)
 one-made (Divide part) g case = (refl, (refl, (refl, (refl, tt))))
 one-made (Test relation) g case = absurd g
@@ -68,7 +68,7 @@ any-case cases = each-any (λ case. Unit {0}) (λ case. tt) cases
 
 one-stepped : (step : Step) → GivesNumber step → (cases : List Case) → AllByRecursion (Long 1) (cases_by (step ∷ []) cases)
 unfolding cases_by
-one-stepped step g cases = each-append (Long 1) (flat_map (made_at step) cases) [] (each-flat_map (λ case. Unit {0}) (Long 1) (made_at step) (λ case _. one-made step g case) cases (any-case cases)) tt
+one-stepped step g cases = each-append (Long 1) (flat_map (cases_of_step step) cases) [] (each-flat_map (λ case. Unit {0}) (Long 1) (cases_of_step step) (λ case _. one-made step g case) cases (any-case cases)) tt
 
 one-numbered : (value : ℤ) (cases : List Case) → AllByRecursion (Long 1) (map (with_number value) cases)
 one-numbered value cases = each-map (λ case. Unit {0}) (Long 1) (with_number value) (λ case _. refl) cases (any-case cases)

@@ -10,7 +10,7 @@ use Rattle.linear_terms.specs.declared.col.Col.TheVariants.{At, Aux}
 use Rattle.linear_terms.specs.declared.error.TermError.{TermError}
 use Rattle.linear_terms.specs.declared.row.Row.{Row}
 use Rattle.linear_terms.specs.declared.row.Case.{Case}
-use Rattle.linear_terms.specs.Auxiliaries.{renumbered}
+use Rattle.linear_terms.specs.Auxiliaries.{renumbered_polynomial}
 use Rattle.linear_terms.specs.Operations.{difference_of_polys, multiple_of, product_of_polys, sum_of_polys}
 use Rattle.linear_terms.specs.Polynomial.{Polynomial, IsCanonical, Terms, column_of, constant_of}
 use Rattle.linear_terms.proofs.Canonical.{IsCanonical-column, IsCanonical-difference_of_polys, IsCanonical-multiple_of, IsCanonical-nil, IsCanonical-product_of_polys, IsCanonical-substituted, IsCanonical-sum_of_polys}
@@ -25,23 +25,23 @@ use Rattle.syntax_tree.specs.declared.op.Sign.{Sign}
 use Rattle.syntax_tree.specs.declared.op.Sign.TheVariants.{Plus, Minus, Not}
 use Rattle.syntax_tree.specs.Code.{Statement, Set, Any, Call, Guard, Check, If, Loop, Break, Continue, Return}
 use Rattle.syntax_tree.specs.Term as terms
-use Rattle.leaf_cases.specs.declared.division.Part.TheVariants.{Quotient, Remainder}
+use Rattle.leaf_cases.specs.declared.division.DivisionPart.TheVariants.{Quotient, Remainder}
 use Rattle.leaf_cases.specs.declared.division.Signs.{Signs}
 use Rattle.leaf_cases.specs.declared.step.Arithmetic.{Arithmetic}
 use Rattle.leaf_cases.specs.declared.step.Arithmetic.TheVariants.{Negate, Sum, Difference, Product}
-use Rattle.leaf_cases.specs.declared.step.Relation.{Relation}
-use Rattle.leaf_cases.specs.declared.step.Relation.TheVariants.{Less, LessOrEqual, Greater, GreaterOrEqual, Same, Negative, Positive, Zero}
+use Rattle.leaf_cases.specs.declared.step.TestRelation.{TestRelation}
+use Rattle.leaf_cases.specs.declared.step.TestRelation.TheVariants.{Less, LessOrEqual, Greater, GreaterOrEqual, Same, Negative, Positive, Zero}
 use Rattle.leaf_cases.specs.declared.step.Step.{Step}
 use Rattle.leaf_cases.specs.declared.step.Step.TheVariants.{Value, Divide, Test}
-use Rattle.leaf_cases.specs.Claims.{Answer, Claim, limited, rows_of, valued}
+use Rattle.leaf_cases.specs.Claims.{Answer, Claim, case_with_claims, rows_of, case_with_value}
 use Rattle.leaf_cases.specs.Division.{all_signs, divisor_sign, dividend_sign, division, equation, lower_bound, minus_one, one, upper_bound}
 use Rattle.leaf_cases.specs.Division as division
-use Rattle.leaf_cases.specs.Edges.{any_of, arguments_after, arguments_of, call_of, call_sequence, cut, entering, awaited, known_call, leaf_of, leaving_case, no_values, set_case}
-use Rattle.leaf_cases.specs.Expression.{Lists, by, calculated, compared, comparison, known, lists_of, numbered, of_number, of_test, operator_lists, opposite, sign_lists, tests_of}
+use Rattle.leaf_cases.specs.Edges.{any_of, arguments_after, arguments_of, call_of, call_sequence, cut, entering, awaited_count, known_call, leaf_of, leaving_case, no_values, set_case}
+use Rattle.leaf_cases.specs.Expression.{Lists, by, calculation_lists, comparison_list, comparison, one_case, lists_of, number_cases, of_number, of_test, operator_lists, opposite, sign_lists, tests_of}
 use Rattle.leaf_cases.specs.Guard.{columns_of}
 use Rattle.leaf_cases.specs.Guard as guards
 use Rattle.leaf_cases.specs.Listed.{Listed, beside, both, either, together}
-use Rattle.leaf_cases.specs.Steps.{cases_by, division_at, made_at, one_more, operand, part_at, test_at, test_claim, value_at, with_number}
+use Rattle.leaf_cases.specs.Steps.{cases_by, division_at, cases_of_step, one_more, operand, part_at, test_at, test_claim, value_at, with_number}
 
 -- each row has its monomials in print order, each once
 abbrev IsCanonicalRow : Row → Type 0
@@ -108,10 +108,10 @@ IsFineCase case = AreCanonicalRows case.rows × AreCanonicalPolys case.post
 abbrev AreFine : List Case → Type 0
 AreFine cases = AllByRecursion IsFineCase cases
 
-limited-fine : (case : Case) (more : ℕ) (claims : List Claim) (post : List Polynomial) → AreCanonicalRows case.rows → AreFineClaims claims → AreCanonicalPolys post → IsFineCase (limited case more claims post)
+limited-fine : (case : Case) (more : ℕ) (claims : List Claim) (post : List Polynomial) → AreCanonicalRows case.rows → AreFineClaims claims → AreCanonicalPolys post → IsFineCase (case_with_claims case more claims post)
 limited-fine case more claims post h k l = (each-append IsCanonicalRow case.rows (rows_of claims) h (rows_of-fine claims k), l)
 
-valued-fine : (case : Case) (a : Answer) → AreCanonicalRows case.rows → IsCanonicalIfMade a → IsFineCase (valued case a)
+valued-fine : (case : Case) (a : Answer) → AreCanonicalRows case.rows → IsCanonicalIfMade a → IsFineCase (case_with_value case a)
 valued-fine case (Ok p) h k = limited-fine case 0 [] (p ∷ []) h tt (k.as_made p refl, tt)
 valued-fine case (Err e) h k = limited-fine case 1 [] (column_of (Aux case.aux) ∷ []) h tt (column-fine (Aux case.aux), tt)
 
@@ -134,7 +134,7 @@ value_at-fine Product a b h = product-fine a b
 one_more-fine : (a b : Polynomial) → Fine a → IsCanonicalIfMade (one_more a b)
 one_more-fine a b h = then-fine (difference_of_polys a b) (λ d. sum_of_polys d one) (difference-fine a b h) (λ d k. sum-fine d one k)
 
-test_at-fine : (relation : Relation) (a b : Polynomial) → Fine a → Fine b → IsCanonicalIfMade (test_at relation a b)
+test_at-fine : (relation : TestRelation) (a b : Polynomial) → Fine a → Fine b → IsCanonicalIfMade (test_at relation a b)
 test_at-fine Less a b h k = one_more-fine a b h
 test_at-fine LessOrEqual a b h k = difference-fine a b h
 test_at-fine Greater a b h k = one_more-fine b a k
@@ -183,10 +183,10 @@ division-fine signs case h =
       (divisor-fine signs.divisor b (operand-fine 1 case h), (dividend-fine signs.dividend a (operand-fine 0 case h), (lower-fine signs.divisor signs.dividend b r (operand-fine 1 case h), (upper-fine signs.divisor signs.dividend b r (operand-fine 1 case h) (column-fine (Aux (case.aux + 1))), tt)))),
     )
 
-made_at-fine : (step : Step) (case : Case) → IsFineCase case → AreFine (made_at step case)
+made_at-fine : (step : Step) (case : Case) → IsFineCase case → AreFine (cases_of_step step case)
 made_at-fine (Value op) case h = (valued-fine case (value_at op (operand 0 case) (operand 1 case)) h.0 (value_at-fine op (operand 0 case) (operand 1 case) (operand-fine 0 case h.1)), tt)
 made_at-fine (Divide part) case h =
-    each-map (λ (signs : Signs). Unit {0}) IsFineCase (λ signs. limited case 2 (division_at signs case) (column_of (Aux (part_at part case.aux)) ∷ []))
+    each-map (λ (signs : Signs). Unit {0}) IsFineCase (λ signs. case_with_claims case 2 (division_at signs case) (column_of (Aux (part_at part case.aux)) ∷ []))
     (λ signs any. limited-fine case 2 (division_at signs case) (column_of (Aux (part_at part case.aux)) ∷ []) h.0 (division-fine signs case h.1) (column-fine (Aux (part_at part case.aux)), tt))
     all_signs (each-any (λ signs. Unit {0}) (λ signs. tt) all_signs)
 made_at-fine (Test relation) case h =
@@ -195,8 +195,8 @@ made_at-fine (Test relation) case h =
 cases_by-fine : (steps : List Step) (cases : List Case) → AreFine cases → AreFine (cases_by steps cases)
 unfolding cases_by
 cases_by-fine steps cases h =
-    each-flat_map (λ (step : Step). Unit {0}) IsFineCase (λ step. flat_map (made_at step) cases)
-    (λ step any. each-flat_map IsFineCase IsFineCase (made_at step) (made_at-fine step) cases h) steps (each-any (λ step. Unit {0}) (λ step. tt) steps)
+    each-flat_map (λ (step : Step). Unit {0}) IsFineCase (λ step. flat_map (cases_of_step step) cases)
+    (λ step any. each-flat_map IsFineCase IsFineCase (cases_of_step step) (made_at-fine step) cases h) steps (each-any (λ step. Unit {0}) (λ step. tt) steps)
 
 -- ---- two cases together
 
@@ -214,13 +214,13 @@ module _ (a : ℕ) where
       one (At n) = tt
       one (Aux n) = tt
 
-  later-fine : (p : Polynomial) → Fine p → Fine (renumbered (λ n. a + n) p)
+  later-fine : (p : Polynomial) → Fine p → Fine (renumbered_polynomial (λ n. a + n) p)
   later-fine p h = IsCanonical-renumbered (λ n. a + n) Anything later p.terms (columns-any p.terms) h
 
 beside-fine : (x y : Case) → IsFineCase x → IsFineCase y → IsFineCase (beside x y)
 beside-fine x y h k = (
   each-append IsCanonicalRow x.rows (map (renumbered_row (λ n. x.aux + n)) y.rows) h.0 (each-map IsCanonicalRow IsCanonicalRow (renumbered_row (λ n. x.aux + n)) (λ row l. later-fine x.aux row.poly l) y.rows k.0),
-  each-append Fine x.post (map (renumbered (λ n. x.aux + n)) y.post) h.1 (each-map Fine Fine (renumbered (λ n. x.aux + n)) (λ p l. later-fine x.aux p l) y.post k.1),
+  each-append Fine x.post (map (renumbered_polynomial (λ n. x.aux + n)) y.post) h.1 (each-map Fine Fine (renumbered_polynomial (λ n. x.aux + n)) (λ p l. later-fine x.aux p l) y.post k.1),
 )
 
 abbrev IsFineList : Listed → Type 0
@@ -244,10 +244,10 @@ record AreFineLists (lists : Lists) : Type 0 where
 by-fine : (steps : List Step) (list : Listed) → IsFineList list → IsFineList (by steps list)
 by-fine steps list h = cases_by-fine steps list.cases h
 
-known-fine : (p : Polynomial) → Fine p → IsFineList (known p)
+known-fine : (p : Polynomial) → Fine p → IsFineList (one_case p)
 known-fine p h = ((tt, (h, tt)), tt)
 
-numbered-fine : (n : ℤ) (list : Listed) → IsFineList list → IsFineList (numbered n list)
+numbered-fine : (n : ℤ) (list : Listed) → IsFineList list → IsFineList (number_cases n list)
 numbered-fine n list h = each-map IsFineCase IsFineCase (with_number n) (λ case k. limited-fine case 0 [] (constant_of n ∷ []) k.0 tt (constant-fine n, tt)) list.cases h
 
 number-fine : (value : Listed) → IsFineList value → AreFineLists (of_number value)
@@ -255,7 +255,7 @@ number-fine value h = record { value = h; truth = by-fine (Test Negative ∷ Tes
 
 test-fine : (truth falsity : Listed) → IsFineList truth → IsFineList falsity → AreFineLists (of_test truth falsity)
 test-fine truth falsity h k = record {
-  value = either-fine (numbered (pos 1) truth) (numbered (pos 0) falsity) (numbered-fine (pos 1) truth h) (numbered-fine (pos 0) falsity k);
+  value = either-fine (number_cases (pos 1) truth) (number_cases (pos 0) falsity) (numbered-fine (pos 1) truth h) (numbered-fine (pos 0) falsity k);
   truth = h;
   falsity = k;
 }
@@ -266,14 +266,14 @@ sign-fine Minus inner h = number-fine (by (Value Negate ∷ []) inner.value) (by
 sign-fine Not inner h = test-fine inner.falsity inner.truth h.falsity h.truth
 
 module _ (left right : Lists) (h : AreFineLists left) (k : AreFineLists right) where
-  calculated-fine : (step : Step) → AreFineLists (calculated step left right)
+  calculated-fine : (step : Step) → AreFineLists (calculation_lists step left right)
   calculated-fine step = number-fine (by (step ∷ []) (together left.value right.value)) (by-fine (step ∷ []) (together left.value right.value) (together-fine left.value right.value h.value k.value))
 
-  compared-fine : (op : Op) → IsFineList (compared op left right)
+  compared-fine : (op : Op) → IsFineList (comparison_list op left right)
   compared-fine op = by-fine (tests_of op) (together left.value right.value) (together-fine left.value right.value h.value k.value)
 
   comparison-fine : (op : Op) → AreFineLists (comparison op left right)
-  comparison-fine op = test-fine (compared op left right) (compared (opposite op) left right) (compared-fine op) (compared-fine (opposite op))
+  comparison-fine op = test-fine (comparison_list op left right) (comparison_list (opposite op) left right) (compared-fine op) (compared-fine (opposite op))
 
   operator-fine : (op : Op) → AreFineLists (operator_lists op left right)
   operator-fine Add = calculated-fine (Value Sum)
@@ -296,8 +296,8 @@ module _ (left right : Lists) (h : AreFineLists left) (k : AreFineLists right) w
 
 lists-fine : (e : terms.Term) → AreFineLists (lists_of e)
 unfolding lists_of
-lists-fine (terms.Lit value) = number-fine (known (constant_of value)) (known-fine (constant_of value) (constant-fine value))
-lists-fine (terms.Col col) = number-fine (known (column_of (At col))) (known-fine (column_of (At col)) (column-fine (At col)))
+lists-fine (terms.Lit value) = number-fine (one_case (constant_of value)) (known-fine (constant_of value) (constant-fine value))
+lists-fine (terms.Col col) = number-fine (one_case (column_of (At col))) (known-fine (column_of (At col)) (column-fine (At col)))
 lists-fine (terms.Unary sign inner) = sign-fine sign (lists_of inner) (lists-fine inner)
 lists-fine (terms.Binary op left right) = operator-fine (lists_of left) (lists_of right) (lists-fine left) (lists-fine right) op
 
@@ -337,7 +337,7 @@ sequence-canonical firsts seconds h =
 call-canonical : (columns globals : ℕ) (args : List terms.Term) (into : Option ℕ) (callee : Transition) → HaveCanonicalRows (call_of columns globals args into callee).cases
 call-canonical columns globals args into callee =
     posts-canonical (λ case. (leaving_case columns globals into case).post) (call_sequence columns globals args into callee).cases
-    (sequence-canonical (entering columns globals (length args) (arguments_of args).cases).cases (cut (awaited globals into) callee).cases
+    (sequence-canonical (entering columns globals (length args) (arguments_of args).cases).cases (cut (awaited_count globals into) callee).cases
     (posts-canonical (λ case. columns_of globals ++ case.post) (arguments_of args).cases (rows-alone (arguments_of args).cases (arguments-fine args))))
 
 known_call-canonical : (columns globals : ℕ) (args : List terms.Term) (into : Option ℕ) (o : Option (Option Transition)) → HaveCanonicalRows (known_call columns globals args into o).cases
@@ -345,14 +345,14 @@ known_call-canonical columns globals args into None = tt
 known_call-canonical columns globals args into (Some None) = tt
 known_call-canonical columns globals args into (Some (Some callee)) = call-canonical columns globals args into callee
 
-pub leaf-canonical : (columns globals : ℕ) (known : List (Option Transition)) (s : Statement) → HaveCanonicalRows (leaf_of columns globals known s).cases
-leaf-canonical columns globals known (Guard cond) = posts-canonical (λ case. columns_of columns) (lists_of cond).truth.cases (rows-alone (lists_of cond).truth.cases (lists-fine cond).truth)
-leaf-canonical columns globals known (Set col value) = posts-canonical (λ case. (set_case columns col case).post) (lists_of value).value.cases (rows-alone (lists_of value).value.cases (lists-fine value).value)
-leaf-canonical columns globals known (Any col) = (tt, tt)
-leaf-canonical columns globals known (Call proc args into) = known_call-canonical columns globals args into (slice_get known proc)
-leaf-canonical columns globals known (Check number cond) = tt
-leaf-canonical columns globals known (If cond a b) = tt
-leaf-canonical columns globals known (Loop pre cond body step first) = tt
-leaf-canonical columns globals known Break = tt
-leaf-canonical columns globals known Continue = tt
-leaf-canonical columns globals known Return = tt
+pub leaf-canonical : (columns globals : ℕ) (one_case : List (Option Transition)) (s : Statement) → HaveCanonicalRows (leaf_of columns globals one_case s).cases
+leaf-canonical columns globals one_case (Guard cond) = posts-canonical (λ case. columns_of columns) (lists_of cond).truth.cases (rows-alone (lists_of cond).truth.cases (lists-fine cond).truth)
+leaf-canonical columns globals one_case (Set col value) = posts-canonical (λ case. (set_case columns col case).post) (lists_of value).value.cases (rows-alone (lists_of value).value.cases (lists-fine value).value)
+leaf-canonical columns globals one_case (Any col) = (tt, tt)
+leaf-canonical columns globals one_case (Call proc args into) = known_call-canonical columns globals args into (slice_get one_case proc)
+leaf-canonical columns globals one_case (Check number cond) = tt
+leaf-canonical columns globals one_case (If cond a b) = tt
+leaf-canonical columns globals one_case (Loop pre cond body step first) = tt
+leaf-canonical columns globals one_case Break = tt
+leaf-canonical columns globals one_case Continue = tt
+leaf-canonical columns globals one_case Return = tt

@@ -11,16 +11,16 @@ use Rattle.syntax_tree.specs.declared.op.Op.TheVariants.{Add, Sub, Mul, Div, Rem
 use Rattle.syntax_tree.specs.declared.op.Sign.{Sign}
 use Rattle.syntax_tree.specs.declared.op.Sign.TheVariants.{Plus, Minus, Not}
 use Rattle.syntax_tree.specs.Term.{Term, Lit, Col, Unary, Binary}
-use Rattle.leaf_cases.specs.declared.division.Part.TheVariants.{Quotient, Remainder}
+use Rattle.leaf_cases.specs.declared.division.DivisionPart.TheVariants.{Quotient, Remainder}
 use Rattle.leaf_cases.specs.declared.step.Arithmetic.TheVariants.{Negate, Sum, Difference, Product}
-use Rattle.leaf_cases.specs.declared.step.Relation.TheVariants.{Less, LessOrEqual, Greater, GreaterOrEqual, Same, Negative, Positive, Zero}
+use Rattle.leaf_cases.specs.declared.step.TestRelation.TheVariants.{Less, LessOrEqual, Greater, GreaterOrEqual, Same, Negative, Positive, Zero}
 use Rattle.leaf_cases.specs.declared.step.Step.{Step}
 use Rattle.leaf_cases.specs.declared.step.Step.TheVariants.{Value, Divide, Test}
 use Rattle.leaf_cases.specs.Edges.{arguments_after, arguments_of, no_values}
-use Rattle.leaf_cases.specs.Expression.{Lists, of_number, of_test, sign_lists, calculated, compared, operator_lists, lists_of}
+use Rattle.leaf_cases.specs.Expression.{Lists, of_number, of_test, sign_lists, calculation_lists, comparison_list, operator_lists, lists_of}
 use Rattle.leaf_cases.specs.Listed.{Listed, beside}
 use Rattle.leaf_cases.specs.Listed as listed
-use Rattle.leaf_cases.specs.Steps.{made_at, cases_by, with_number}
+use Rattle.leaf_cases.specs.Steps.{cases_of_step, cases_by, with_number}
 
 pub flat_count : {X Y : Type 0} (f : X → List Y) (n : ℕ) → ((x : X) → length (f x) ≡ n) → (xs : List X) → length (flat_map f xs) ≡ length xs * n
 flat_count f n each [] = omega arith
@@ -39,7 +39,7 @@ made_count (Value arithmetic) = 1
 made_count (Divide part) = 4
 made_count (Test relation) = 1
 
-length-made : (step : Step) (case : Case) → length (made_at step case) ≡ made_count step
+length-made : (step : Step) (case : Case) → length (cases_of_step step case) ≡ made_count step
 length-made (Value arithmetic) case = refl
 length-made (Divide part) case = refl
 length-made (Test relation) case = refl
@@ -47,7 +47,7 @@ length-made (Test relation) case = refl
 one-step : (step : Step) (cases : List Case) → length (cases_by (step ∷ []) cases) ≡ length cases * made_count step
 unfolding cases_by
 one-step step cases =
-    length-append (flat_map (made_at step) cases) [] ∙ nothing (length (flat_map (made_at step) cases)) ∙ flat_count (made_at step) (made_count step) (length-made step) cases
+    length-append (flat_map (cases_of_step step) cases) [] ∙ nothing (length (flat_map (cases_of_step step) cases)) ∙ flat_count (cases_of_step step) (made_count step) (length-made step) cases
   where
     nothing : (n : ℕ) → n + 0 ≡ n
     nothing n = omega arith
@@ -55,14 +55,14 @@ one-step step cases =
 two-steps : (step other : Step) (cases : List Case) → length (cases_by (step ∷ other ∷ []) cases) ≡ length cases * made_count step + length cases * made_count other
 unfolding cases_by
 two-steps step other cases =
-    length-append (flat_map (made_at step) cases) (flat_map (made_at other) cases ++ [])
-    ∙ (λ i. flat_count (made_at step) (made_count step) (length-made step) cases i + one i)
+    length-append (flat_map (cases_of_step step) cases) (flat_map (cases_of_step other) cases ++ [])
+    ∙ (λ i. flat_count (cases_of_step step) (made_count step) (length-made step) cases i + one i)
   where
     nothing : (n : ℕ) → n + 0 ≡ n
     nothing n = omega arith
 
-    one : length (flat_map (made_at other) cases ++ []) ≡ length cases * made_count other
-    one = length-append (flat_map (made_at other) cases) [] ∙ nothing (length (flat_map (made_at other) cases)) ∙ flat_count (made_at other) (made_count other) (length-made other) cases
+    one : length (flat_map (cases_of_step other) cases ++ []) ≡ length cases * made_count other
+    one = length-append (flat_map (cases_of_step other) cases) [] ∙ nothing (length (flat_map (cases_of_step other) cases)) ∙ flat_count (cases_of_step other) (made_count other) (length-made other) cases
 
 record Counted (lists : Lists) (c : Cases) : Type 0 where
   value : length lists.value.cases ≡ c.value
@@ -100,12 +100,12 @@ module _ (l r : Lists) (a b : Cases) (h : Counted l a) (k : Counted r b) where
   pairs : length (listed.both l.value.cases r.value.cases) ≡ a.value * b.value
   pairs = length-both l.value.cases r.value.cases ∙ (λ i. h.value i * k.value i)
 
-  count-polynomial : (step : Step) → made_count step ≡ 1 → Counted (calculated step l r) (counted.of_number (a.value * b.value))
+  count-polynomial : (step : Step) → made_count step ≡ 1 → Counted (calculation_lists step l r) (counted.of_number (a.value * b.value))
   count-polynomial step one =
       count-number _ (a.value * b.value)
       (one-step step (listed.both l.value.cases r.value.cases) ∙ ap (λ n. length (listed.both l.value.cases r.value.cases) * n) one ∙ times-one (length (listed.both l.value.cases r.value.cases)) (a.value * b.value) pairs)
 
-  count-division : (step : Step) → made_count step ≡ 4 → Counted (calculated step l r) (counted.of_number (4 * (a.value * b.value)))
+  count-division : (step : Step) → made_count step ≡ 4 → Counted (calculation_lists step l r) (counted.of_number (4 * (a.value * b.value)))
   count-division step four =
       count-number _ (4 * (a.value * b.value))
       (one-step step (listed.both l.value.cases r.value.cases) ∙ ap (λ n. length (listed.both l.value.cases r.value.cases) * n) four ∙ times-four (length (listed.both l.value.cases r.value.cases)) (a.value * b.value) pairs)
@@ -132,12 +132,12 @@ module _ (l r : Lists) (a b : Cases) (h : Counted l a) (k : Counted r b) where
   count-operator Mul = count-polynomial (Value Product) refl
   count-operator Div = count-division (Divide Quotient) refl
   count-operator Rem = count-division (Divide Remainder) refl
-  count-operator Lt = count-test (compared Lt l r) (compared Ge l r) _ _ (one-test (Test Less) refl) (one-test (Test GreaterOrEqual) refl)
-  count-operator Le = count-test (compared Le l r) (compared Gt l r) _ _ (one-test (Test LessOrEqual) refl) (one-test (Test Greater) refl)
-  count-operator Gt = count-test (compared Gt l r) (compared Le l r) _ _ (one-test (Test Greater) refl) (one-test (Test LessOrEqual) refl)
-  count-operator Ge = count-test (compared Ge l r) (compared Lt l r) _ _ (one-test (Test GreaterOrEqual) refl) (one-test (Test Less) refl)
-  count-operator Eq = count-test (compared Eq l r) (compared Ne l r) _ _ (one-test (Test Same) refl) two-tests
-  count-operator Ne = count-test (compared Ne l r) (compared Eq l r) _ _ two-tests (one-test (Test Same) refl)
+  count-operator Lt = count-test (comparison_list Lt l r) (comparison_list Ge l r) _ _ (one-test (Test Less) refl) (one-test (Test GreaterOrEqual) refl)
+  count-operator Le = count-test (comparison_list Le l r) (comparison_list Gt l r) _ _ (one-test (Test LessOrEqual) refl) (one-test (Test Greater) refl)
+  count-operator Gt = count-test (comparison_list Gt l r) (comparison_list Le l r) _ _ (one-test (Test Greater) refl) (one-test (Test LessOrEqual) refl)
+  count-operator Ge = count-test (comparison_list Ge l r) (comparison_list Lt l r) _ _ (one-test (Test GreaterOrEqual) refl) (one-test (Test Less) refl)
+  count-operator Eq = count-test (comparison_list Eq l r) (comparison_list Ne l r) _ _ (one-test (Test Same) refl) two-tests
+  count-operator Ne = count-test (comparison_list Ne l r) (comparison_list Eq l r) _ _ two-tests (one-test (Test Same) refl)
   count-operator And = count-test _ _ _ _ (count-joint l.truth r.truth a.truth b.truth h.truth k.truth) (count-early l.falsity l.truth r.falsity a.falsity a.truth b.falsity h.falsity h.truth k.falsity)
   count-operator Or = count-test _ _ _ _ (count-early l.truth l.falsity r.truth a.truth a.falsity b.truth h.truth h.falsity k.truth) (count-joint l.falsity r.falsity a.falsity b.falsity h.falsity k.falsity)
 

@@ -15,7 +15,7 @@ use Rattle.syntax_tree.specs.WellFormed.{columns_below, all_columns_below, joint
 use Rattle.transition_formula.specs.Transition.{Transition, every_column, is_below, fits, IsTransition, AreFew}
 use Rattle.transition_formula.proofs.Covered.{both, both_true, more_columns, all_more}
 use Rattle.transition_formula.proofs.Fitting.{Fitting, fitting, from_fitting, identity-fits, below-true, true-below}
-use Rattle.leaf_cases.specs.Edges.{set_case, any_case, entering, cut, awaited, received, leaving_case, arguments_of}
+use Rattle.leaf_cases.specs.Edges.{set_case, any_case, entering, cut, awaited_count, posts_with_value, leaving_case, arguments_of}
 use Rattle.leaf_cases.specs.Expression.{lists_of}
 use Rattle.leaf_cases.specs.Guard.{columns_of, with_posts}
 use Rattle.leaf_cases.specs.Steps.{operand}
@@ -111,15 +111,15 @@ cut_fits to f made le h is =
     }) f.cases h)
 
 -- how many posts there are, where some are received
-received-long : (into : Option ℕ) (value : Polynomial) (posts : List Polynomial) → length (received into value posts) ≡ length posts
+received-long : (into : Option ℕ) (value : Polynomial) (posts : List Polynomial) → length (posts_with_value into value posts) ≡ length posts
 received-long None value posts = refl
 received-long (Some col) value posts = length-set posts col value
 
-received-covered : (test : Polynomial → Bool) (into : Option ℕ) (value : Polynomial) (posts : List Polynomial) → IsTrue (list_all test posts) → IsTrue (test value) → IsTrue (list_all test (received into value posts))
+received-covered : (test : Polynomial → Bool) (into : Option ℕ) (value : Polynomial) (posts : List Polynomial) → IsTrue (list_all test posts) → IsTrue (test value) → IsTrue (list_all test (posts_with_value into value posts))
 received-covered test None value posts h k = h
 received-covered test (Some col) value posts h k = all-set test posts col value h k
 
-awaited-most : (globals : ℕ) (into : Option ℕ) → globals ≤ awaited globals into
+awaited-most : (globals : ℕ) (into : Option ℕ) → globals ≤ awaited_count globals into
 awaited-most globals None = omega arith
 awaited-most globals (Some col) = omega arith
 
@@ -130,19 +130,19 @@ left-long columns globals to posts le long =
     together : length (columns_of columns) ≡ columns → globals + (length (columns_of columns) - globals) ≡ columns
     together e = omega arith
 
-pub leaving_fits : (columns globals : ℕ) (into : Option ℕ) (cases made : List Case) → globals ≤ columns → IsTransition columns (awaited globals into) cases → made ≡ map (leaving_case columns globals into) cases → IsTransition columns columns made
+pub leaving_fits : (columns globals : ℕ) (into : Option ℕ) (cases made : List Case) → globals ≤ columns → IsTransition columns (awaited_count globals into) cases → made ≡ map (leaving_case columns globals into) cases → IsTransition columns columns made
 leaving_fits columns globals into cases made le h is =
     subst (IsTransition columns columns) (sym is)
-    (each-posted columns (awaited globals into) columns (λ case. received into (operand globals case) (take globals case.post ++ drop globals (columns_of columns)))
+    (each-posted columns (awaited_count globals into) columns (λ case. posts_with_value into (operand globals case) (take globals case.post ++ drop globals (columns_of columns)))
     (λ case f. let long = f.length_is in let most = awaited-most globals into in record {
-      length_is = received-long into (operand globals case) (take globals case.post ++ drop globals (columns_of columns)) ∙ left-long columns globals (awaited globals into) case.post le (omega arith);
+      length_is = received-long into (operand globals case) (take globals case.post ++ drop globals (columns_of columns)) ∙ left-long columns globals (awaited_count globals into) case.post le (omega arith);
       rows_are = f.rows_are;
       posts_are =
           received-covered (every_column (is_below columns case.aux)) into (operand globals case) (take globals case.post ++ drop globals (columns_of columns))
           (list_all-append (every_column (is_below columns case.aux)) (take globals case.post) (drop globals (columns_of columns))
           ∙ both_true (list_all (every_column (is_below columns case.aux)) (take globals case.post)) (list_all (every_column (is_below columns case.aux)) (drop globals (columns_of columns)))
           (all-take (every_column (is_below columns case.aux)) globals case.post f.posts_are) (all-drop (every_column (is_below columns case.aux)) globals (columns_of columns) (columns-covered columns columns case.aux (omega arith))))
-          (operand-fits columns (awaited globals into) globals case f);
+          (operand-fits columns (awaited_count globals into) globals case f);
     }) cases h)
 
 -- ---- few auxiliaries
@@ -180,15 +180,15 @@ entering_few columns globals args f h few is =
     smaller (case ∷ cases) h = let one = h.0 in (omega arith, smaller cases h.1)
 
 pub call_few : (columns globals : ℕ) (args : List Term) (into : Option ℕ) (f a b : Transition) → IsTrue (all_columns_below columns args) → joint_operators args ≤ 200000 → columns ≤ 1000 → globals ≤ columns → All (λ (case : Case). case.aux ≤ 64) f.cases
-    → a ≡ entering columns globals (length args) (arguments_of args).cases → b ≡ cut (awaited globals into) f → AreFew a b
+    → a ≡ entering columns globals (length args) (arguments_of args).cases → b ≡ cut (awaited_count globals into) f → AreFew a b
 call_few columns globals args into f a b h few narrow le known e g =
     subst (λ (x : Transition). AreFew x b) (sym e)
     (subst (λ (x : Transition). AreFew (entering columns globals (length args) (arguments_of args).cases) x) (sym g)
-    (all-few 800000 64 (awaited globals into) (entering columns globals (length args) (arguments_of args).cases).cases (cut (awaited globals into) f).cases
+    (all-few 800000 64 (awaited_count globals into) (entering columns globals (length args) (arguments_of args).cases).cases (cut (awaited_count globals into) f).cases
     (each-aux (λ n. n ≤ 800000) (λ case. columns_of globals ++ case.post) (arguments_of args).cases (arguments_few columns args h few))
-    (each-aux (λ n. n ≤ 64) (λ case. take (awaited globals into) case.post) f.cases (recursion_from_All (λ (case : Case). case.aux ≤ 64) f.cases known)) (most into)))
+    (each-aux (λ n. n ≤ 64) (λ case. take (awaited_count globals into) case.post) f.cases (recursion_from_All (λ (case : Case). case.aux ≤ 64) f.cases known)) (most into)))
   where
-    most : (into : Option ℕ) → 800000 + 64 + awaited globals into < 2 ^ 32
+    most : (into : Option ℕ) → 800000 + 64 + awaited_count globals into < 2 ^ 32
     most None = omega arith
     most (Some col) = omega arith
 

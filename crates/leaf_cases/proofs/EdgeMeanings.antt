@@ -14,7 +14,7 @@ use Rattle.syntax_tree.specs.WellFormed.{columns_below, all_columns_below}
 use Rattle.execution.specs.Step.{values_of}
 use Rattle.flow_graph.specs.Walks.{CallRelates, EdgeRelates}
 use Rattle.flow_graph.specs.Walks as walks
-use Rattle.transition_formula.specs.Composition.{lost_in_sequence}
+use Rattle.transition_formula.specs.Composition.{losses_in_sequence}
 use Rattle.transition_formula.specs.Meaning.{numbers, HoldsSome, Holds}
 use Rattle.transition_formula.specs.Transition.{Transition, fits, IsTransition}
 use Rattle.transition_formula.proofs.Covered.{both}
@@ -22,7 +22,7 @@ use Rattle.transition_formula.proofs.Fitting.{fitting}
 use Rattle.transition_formula.proofs.Meanings.{sequence-holds, sequence-held}
 use Rattle.transition_formula.proofs.Values.{column-value, none-of}
 use Rattle.leaf_cases.specs.Conditions.{KnownCalls}
-use Rattle.leaf_cases.specs.Edges.{set_of, any_of, arguments_of, entering, cut, awaited, received, call_sequence, call_of, lost_in_call}
+use Rattle.leaf_cases.specs.Edges.{set_of, any_of, arguments_of, entering, cut, awaited_count, posts_with_value, call_sequence, call_of, losses_in_call}
 use Rattle.leaf_cases.specs.Expression.{lists_of}
 use Rattle.leaf_cases.specs.Guard.{columns_of, with_posts}
 use Rattle.leaf_cases.specs.Steps.{operand}
@@ -131,12 +131,12 @@ cut-reads to s = record { reads = λ case aux. sym (take-map (value_of (numbers 
 abbrev left_in : ℕ → Option ℕ → List ℤ → List ℤ → List ℤ
 left_in globals into s t = walks.received into (number_at globals t) (take globals t ++ drop globals s)
 
-received-read : (w : Valuation) (into : Option ℕ) (value : Polynomial) (posts : List Polynomial) → map (value_of w) (received into value posts) ≡ walks.received into (value_of w value) (map (value_of w) posts)
+received-read : (w : Valuation) (into : Option ℕ) (value : Polynomial) (posts : List Polynomial) → map (value_of w) (posts_with_value into value posts) ≡ walks.received into (value_of w value) (map (value_of w) posts)
 received-read w None value posts = refl
 received-read w (Some col) value posts = map-set (value_of w) posts col value
 
 leaving-reads : (columns globals : ℕ) (into : Option ℕ) (s : List ℤ) → length s ≡ columns
-    → Reads (λ case. received into (operand globals case) (take globals case.post ++ drop globals (columns_of columns))) s (left_in globals into s)
+    → Reads (λ case. posts_with_value into (operand globals case) (take globals case.post ++ drop globals (columns_of columns))) s (left_in globals into s)
 leaving-reads columns globals into s long = record {
   reads = λ case aux.
       let w = numbers s aux in
@@ -162,7 +162,7 @@ module _ (globals : ℕ) (left : List ℤ) (value : ℤ) (rest : List ℤ) (same
       at-end (x ∷ xs) (suc n) e = at-end xs n (omega arith)
 
   -- what is asked of the callee is the globals, and the value where it is awaited
-  pub left-asked : (into : Option ℕ) → walks.received into (number_at globals (take (awaited globals into) (left ++ value ∷ []))) (take globals (take (awaited globals into) (left ++ value ∷ [])) ++ rest)
+  pub left-asked : (into : Option ℕ) → walks.received into (number_at globals (take (awaited_count globals into) (left ++ value ∷ []))) (take globals (take (awaited_count globals into) (left ++ value ∷ [])) ++ rest)
       ≡ walks.received into value (left ++ rest)
   left-asked None = ap (λ l. l ++ rest) (take-take globals globals (left ++ value ∷ []) (omega arith) ∙ front-left)
   left-asked (Some col) =
@@ -176,7 +176,7 @@ number-taken zero (x ∷ t) = refl
 number-taken (suc n) [] = let e : suc n + 1 ≡ suc (n + 1) = omega arith in ap (λ k. number_at (suc n) (take k [])) e
 number-taken (suc n) (x ∷ t) = let e : suc n + 1 ≡ suc (n + 1) = omega arith in ap (λ k. number_at (suc n) (take k (x ∷ t))) e ∙ number-taken n t
 
-pub asked-left : (globals : ℕ) (into : Option ℕ) (t rest : List ℤ) → walks.received into (number_at globals (take (awaited globals into) t)) (take globals (take (awaited globals into) t) ++ rest) ≡ walks.received into (number_at globals t) (take globals t ++ rest)
+pub asked-left : (globals : ℕ) (into : Option ℕ) (t rest : List ℤ) → walks.received into (number_at globals (take (awaited_count globals into) t)) (take globals (take (awaited_count globals into) t) ++ rest) ≡ walks.received into (number_at globals t) (take globals t ++ rest)
 asked-left globals None t rest = ap (λ l. l ++ rest) (take-take globals globals t (omega arith))
 asked-left globals (Some col) t rest = λ i. slice_set (take-take globals (globals + 1) t (omega arith) i ++ rest) col (number-taken globals t i)
 
@@ -213,7 +213,7 @@ pub record CallAsks (columns globals : ℕ) (args : List Term) (into : Option �
   pub known_is : slice_get known proc ≡ Some (Some f)
   pub fit : IsTransition f.from f.to f.cases
   pub enters : f.from ≡ globals + length args
-  pub asked : awaited globals into ≤ f.to
+  pub asked : awaited_count globals into ≤ f.to
   pub leaves : (f.to ≡ globals) ⊎ (f.to ≡ globals + 1)
 
 -- from a state to the globals and the values of arguments
@@ -230,8 +230,8 @@ module _ (columns globals : ℕ) (args : List Term) (into : Option ℕ) (known :
   first-fits : IsTransition columns (globals + length args) (entering columns globals (length args) (arguments_of args).cases).cases
   first-fits = entering_fits columns globals (length args) (arguments_of args).cases (entering columns globals (length args) (arguments_of args).cases).cases asks.widths (arguments-fit columns args asks.below) refl
 
-  second-fits : IsTransition f.from (awaited globals into) (cut (awaited globals into) f).cases
-  second-fits = cut_fits (awaited globals into) f (cut (awaited globals into) f).cases asks.asked asks.fit refl
+  second-fits : IsTransition f.from (awaited_count globals into) (cut (awaited_count globals into) f).cases
+  second-fits = cut_fits (awaited_count globals into) f (cut (awaited_count globals into) f).cases asks.asked asks.fit refl
 
   known-same : (g : Transition) → slice_get known proc ≡ Some (Some g) → g ≡ f
   known-same g e = same (sym e ∙ asks.known_is)
@@ -241,7 +241,7 @@ module _ (columns globals : ℕ) (args : List Term) (into : Option ℕ) (known :
 
   pub call_holds : (s t : List ℤ) → length s ≡ columns → EdgeRelates (KnownCalls known) globals (Call proc args into) s t → Holds (call_of columns globals args into f) s t
   call_holds s t long r =
-      let k = awaited globals into in
+      let k = awaited_count globals into in
       let l = r.left ++ r.value ∷ [] in
       let vs = r.values in
       let returns = r.returns in
@@ -251,20 +251,20 @@ module _ (columns globals : ℕ) (args : List Term) (into : Option ℕ) (known :
       let second : Holds (cut k f) (take globals s ++ vs) (take k (take f.to l)) =
       record { enters = callee.enters; some = posted-hold (λ case. take k case.post) (take globals s ++ vs) (λ z. take k z) (cut-reads k (take globals s ++ vs)) f.cases (take f.to l) callee.some } in
       let both = sequence-holds (entering columns globals (length args) (arguments_of args).cases) (cut k f) (sym asks.enters) first-fits second-fits s (take globals s ++ vs) (take k (take f.to l)) first second in
-      let made = posted-hold (λ case. received into (operand globals case) (take globals case.post ++ drop globals (columns_of columns))) s (left_in globals into s) (leaving-reads columns globals into s long) (call_sequence columns globals args into f).cases (take k (take f.to l)) both.some in
+      let made = posted-hold (λ case. posts_with_value into (operand globals case) (take globals case.post ++ drop globals (columns_of columns))) s (left_in globals into s) (leaving-reads columns globals into s long) (call_sequence columns globals args into f).cases (take k (take f.to l)) both.some in
       let ends : left_in globals into s (take k (take f.to l)) ≡ t = ap (left_in globals into s) (take-take k f.to l asks.asked) ∙ left-asked globals r.left r.value (drop globals s) same_left into ∙ sym r.after_is in
       record { enters = long; some = subst (HoldsSome (call_of columns globals args into f).cases s) ends made }
     where
       shorter : (s : List ℤ) → length s ≡ columns → globals ≤ length s
       shorter s long = let le = asks.widths in omega arith
 
-  pub call_held : lost_in_call columns globals args into f ≡ [] → (s t : List ℤ) → Holds (call_of columns globals args into f) s t → EdgeRelates (KnownCalls known) globals (Call proc args into) s t
+  pub call_held : losses_in_call columns globals args into f ≡ [] → (s t : List ℤ) → Holds (call_of columns globals args into f) s t → EdgeRelates (KnownCalls known) globals (Call proc args into) s t
   call_held none s t h =
-      let k = awaited globals into in
+      let k = awaited_count globals into in
       let a = entering columns globals (length args) (arguments_of args).cases in
       let b = cut k f in
-      let parts = none-of (arguments_of args).lost (lost_in_sequence a b) none in
-      let p = posted-held (λ case. received into (operand globals case) (take globals case.post ++ drop globals (columns_of columns))) s (left_in globals into s) (leaving-reads columns globals into s h.enters) (call_sequence columns globals args into f).cases t h.some in
+      let parts = none-of (arguments_of args).lost (losses_in_sequence a b) none in
+      let p = posted-held (λ case. posts_with_value into (operand globals case) (take globals case.post ++ drop globals (columns_of columns))) s (left_in globals into s) (leaving-reads columns globals into s h.enters) (call_sequence columns globals args into f).cases t h.some in
       let two = sequence-held a b (sym asks.enters) first-fits second-fits parts.1 s p.numbers_are (record { enters = h.enters; some = p.holds }) in
       let first = posted-held (λ case. columns_of globals ++ case.post) s (λ z. take globals s ++ z) (entering-reads columns globals s asks.widths h.enters) (arguments_of args).cases two.0 two.1.0.some in
       let second = posted-held (λ case. take k case.post) two.0 (λ z. take k z) (cut-reads k two.0) f.cases p.numbers_are two.1.1.some in

@@ -12,17 +12,17 @@ use Rattle.syntax_tree.specs.declared.op.Op.TheVariants.{Add, Sub, Mul, Div, Rem
 use Rattle.syntax_tree.specs.declared.op.Sign.{Sign}
 use Rattle.syntax_tree.specs.declared.op.Sign.TheVariants.{Plus, Minus, Not}
 use Rattle.syntax_tree.specs.Term.{Term, Lit, Col, Unary, Binary}
-use Rattle.syntax_tree.specs.Value.{State, value_of, with_number, or_else, early_value, result_of, if_divisor, signed, truth_value, is_true}
+use Rattle.syntax_tree.specs.Value.{State, value_of, with_number, or_else, early_value, result_of, if_divisor, unary_value, truth_value, is_true}
 use Rattle.syntax_tree.specs.WellFormed.{columns_below}
 use Rattle.transition_formula.specs.Meaning.{numbers}
 use Rattle.transition_formula.proofs.Covered.{both}
 use Rattle.transition_formula.proofs.Values.{column-value}
-use Rattle.leaf_cases.specs.declared.division.Part.TheVariants.{Quotient, Remainder}
+use Rattle.leaf_cases.specs.declared.division.DivisionPart.TheVariants.{Quotient, Remainder}
 use Rattle.leaf_cases.specs.declared.step.Arithmetic.TheVariants.{Negate, Sum, Difference, Product}
-use Rattle.leaf_cases.specs.declared.step.Relation.TheVariants.{Negative, Positive, Zero}
+use Rattle.leaf_cases.specs.declared.step.TestRelation.TheVariants.{Negative, Positive, Zero}
 use Rattle.leaf_cases.specs.declared.step.Step.{Step}
 use Rattle.leaf_cases.specs.declared.step.Step.TheVariants.{Value, Divide, Test}
-use Rattle.leaf_cases.specs.Expression.{Lists, by, known, numbered, of_number, of_test, sign_lists, calculated, compared, comparison, opposite, tests_of, operator_lists, lists_of}
+use Rattle.leaf_cases.specs.Expression.{Lists, by, one_case, number_cases, of_number, of_test, sign_lists, calculation_lists, comparison_list, comparison, opposite, tests_of, operator_lists, lists_of}
 use Rattle.leaf_cases.specs.Listed.{Listed, together, either}
 use Rattle.leaf_cases.proofs.Made.{Stepped, Numbered, SomeGives, constant-value}
 use Rattle.leaf_cases.proofs.Meant.{Means, OneOf, Known, means-as, means-together, means-either, means-by, means-numbered, means-known}
@@ -120,7 +120,7 @@ module _ (columns : ℕ) (e : Term) where
       record {
         value =
             means-as columns (of_test t f).value (OneOf (Numbered (pos 1) (TrueIs e)) (Numbered (pos 0) (FalseIs e))) (ValueIs e)
-            (means-either columns (numbered (pos 1) t) (numbered (pos 0) f) (Numbered (pos 1) (TrueIs e)) (Numbered (pos 0) (FalseIs e)) (means-numbered columns (pos 1) t (TrueIs e) h) (means-numbered columns (pos 0) f (FalseIs e) k)) there back;
+            (means-either columns (number_cases (pos 1) t) (number_cases (pos 0) f) (Numbered (pos 1) (TrueIs e)) (Numbered (pos 0) (FalseIs e)) (means-numbered columns (pos 1) t (TrueIs e) h) (means-numbered columns (pos 0) f (FalseIs e) k)) there back;
         truth = h;
         falsity = k;
       }
@@ -160,8 +160,8 @@ unary-operand : (o : Option ℤ) (f : ℤ → ℤ) (v : ℤ) → with_number o (
 unary-operand None f v e = cc
 unary-operand (Some x) f v e = record { number = x; is = refl; gives = some_is (f x) v e }
 
-signed-value : (sign : Sign) (e : Term) (s : State) (x : ℤ) → value_of e s ≡ Some x → value_of (Unary sign e) s ≡ Some (signed sign x)
-signed-value sign e s x h = ap (λ o. with_number o (λ x. Some (signed sign x))) h
+signed-value : (sign : Sign) (e : Term) (s : State) (x : ℤ) → value_of e s ≡ Some x → value_of (Unary sign e) s ≡ Some (unary_value sign x)
+signed-value sign e s x h = ap (λ o. with_number o (λ x. Some (unary_value sign x))) h
 
 int_eq-zero : (x : ℤ) → x ≢ pos 0 → int_eq x (pos 0) ≡ false
 int_eq-zero x h = go (int_eq x (pos 0)) refl
@@ -218,7 +218,7 @@ module _ (columns : ℕ) (e : Term) (lists : Lists) (h : MeansAll columns e list
   plus-means =
       number-means columns (Unary Plus e) lists.value
       (means-as columns lists.value (ValueIs e) (ValueIs (Unary Plus e)) h.value (λ s z m. record { number = m.number; value = signed-value Plus e s m.number m.value; is = m.is })
-      (λ s z m. let o = unary-operand (value_of e s) (signed Plus) m.number m.value in record { number = o.number; value = o.is; is = m.is ∙ (λ i. sym o.gives i ∷ []) }))
+      (λ s z m. let o = unary-operand (value_of e s) (unary_value Plus) m.number m.value in record { number = o.number; value = o.is; is = m.is ∙ (λ i. sym o.gives i ∷ []) }))
 
   minus-means : MeansAll columns (Unary Minus e) (sign_lists Minus lists)
   minus-means =
@@ -234,21 +234,21 @@ module _ (columns : ℕ) (e : Term) (lists : Lists) (h : MeansAll columns e list
 
       back : (s z : List ℤ) → ValueIs (Unary Minus e) s z → Stepped (Value Negate ∷ []) (ValueIs e) s z
       back s z m =
-          let o = unary-operand (value_of e s) (signed Minus) m.number m.value in
+          let o = unary-operand (value_of e s) (unary_value Minus) m.number m.value in
           record { numbers_are = o.number ∷ []; holds = record { number = o.number; value = o.is; is = refl }; gives = inl (m.is ∙ (λ i. sym o.gives i ∷ [])) }
 
   not-means : MeansAll columns (Unary Not e) (sign_lists Not lists)
   not-means =
-      test-means columns (Unary Not e) lists.falsity lists.truth (record { test = λ s v k. let o = unary-operand (value_of e s) (signed Not) v k in truth_value-bit (not (is_true o.number)) v o.gives })
+      test-means columns (Unary Not e) lists.falsity lists.truth (record { test = λ s v k. let o = unary-operand (value_of e s) (unary_value Not) v k in truth_value-bit (not (is_true o.number)) v o.gives })
       (means-as columns lists.falsity (FalseIs e) (TrueIs (Unary Not e)) h.falsity (λ s z m. record { number = pos 1; value = signed-value Not e s (pos 0) m.value; some = λ k. omega (arith, ints, k); none = m.none })
       (λ s z m.
-      let o = unary-operand (value_of e s) (signed Not) m.number m.value in
+      let o = unary-operand (value_of e s) (unary_value Not) m.number m.value in
       let nought = zero-is_true o.number (not-true (is_true o.number) (is-true (not (is_true o.number)) m.number o.gives m.some)) in
       record { value = o.is ∙ numbers_differ o.number (pos 0) nought; none = m.none }))
       (means-as columns lists.truth (TrueIs e) (FalseIs (Unary Not e)) h.truth
-      (λ s z m. record { value = signed-value Not e s m.number m.value ∙ numbers_differ (signed Not m.number) (pos 0) (ap (λ b. truth_value (not b)) (is_true-some m.number m.some)); none = m.none })
+      (λ s z m. record { value = signed-value Not e s m.number m.value ∙ numbers_differ (unary_value Not m.number) (pos 0) (ap (λ b. truth_value (not b)) (is_true-some m.number m.some)); none = m.none })
       (λ s z m.
-      let o = unary-operand (value_of e s) (signed Not) (pos 0) m.value in
+      let o = unary-operand (value_of e s) (unary_value Not) (pos 0) m.value in
       record { number = o.number; value = o.is; some = some-is_true o.number (not-false (is_true o.number) (is-false (not (is_true o.number)) o.gives)); none = m.none }))
 
   pub sign-means : (sign : Sign) → MeansAll columns (Unary sign e) (sign_lists sign lists)
@@ -621,7 +621,7 @@ module _ (columns : ℕ) (l r : Term) (L R : Lists) (h : MeansAll columns l L) (
   pair_of : (s : List ℤ) (x y : ℤ) → value_of l s ≡ Some x → value_of r s ≡ Some y → Both (ValueIs l) (ValueIs r) s (x ∷ y ∷ [])
   pair_of s x y f g = record { first = x ∷ []; second = y ∷ []; left = record { number = x; value = f; is = refl }; right = record { number = y; value = g; is = refl }; joined = refl }
 
-  calculated-means : (op : Op) (step : Step) → Calculates op step → MeansAll columns (Binary op l r) (calculated step L R)
+  calculated-means : (op : Op) (step : Step) → Calculates op step → MeansAll columns (Binary op l r) (calculation_lists step L R)
   calculated-means op step does =
       number-means columns (Binary op l r) (by (step ∷ []) (together L.value R.value))
       (means-as columns (by (step ∷ []) (together L.value R.value)) (Stepped (step ∷ []) (Both (ValueIs l) (ValueIs r))) (ValueIs (Binary op l r)) (means-by columns (step ∷ []) (together L.value R.value) (Both (ValueIs l) (ValueIs r)) pairs-mean) there back)
@@ -644,9 +644,9 @@ module _ (columns : ℕ) (l r : Term) (L R : Lists) (h : MeansAll columns l L) (
 
   comparison-means : (op : Op) → Compares op → MeansAll columns (Binary op l r) (comparison op L R)
   comparison-means op does =
-      test-means columns (Binary op l r) (compared op L R) (compared (opposite op) L R)
+      test-means columns (Binary op l r) (comparison_list op L R) (comparison_list (opposite op) L R)
       (record { test = λ s v e. let o = binary-operands op l r s v does.early e in truth_value-bit (test op o.left o.right) v (some_is (truth_value (test op o.left o.right)) v (sym (does.result o.left o.right) ∙ o.gives)) })
-      (means-as columns (compared op L R) (Stepped (tests_of op) (Both (ValueIs l) (ValueIs r))) (TrueIs (Binary op l r)) (means-by columns (tests_of op) (together L.value R.value) (Both (ValueIs l) (ValueIs r)) pairs-mean)
+      (means-as columns (comparison_list op L R) (Stepped (tests_of op) (Both (ValueIs l) (ValueIs r))) (TrueIs (Binary op l r)) (means-by columns (tests_of op) (together L.value R.value) (Both (ValueIs l) (ValueIs r)) pairs-mean)
       (λ s z m.
       let x = m.holds.left.number in
       let y = m.holds.right.number in
@@ -661,7 +661,7 @@ module _ (columns : ℕ) (l r : Term) (L R : Lists) (h : MeansAll columns l L) (
       let o = binary-operands op l r s m.number does.early m.value in
       let t = is-true (test op o.left o.right) m.number (some_is (truth_value (test op o.left o.right)) m.number (sym (does.result o.left o.right) ∙ o.gives)) m.some in
       record { numbers_are = o.left ∷ o.right ∷ []; holds = pair_of s o.left o.right o.left_is o.right_is; gives = does.held o.left o.right z t m.none }))
-      (means-as columns (compared (opposite op) L R) (Stepped (tests_of (opposite op)) (Both (ValueIs l) (ValueIs r))) (FalseIs (Binary op l r)) (means-by columns (tests_of (opposite op)) (together L.value R.value) (Both (ValueIs l) (ValueIs r)) pairs-mean)
+      (means-as columns (comparison_list (opposite op) L R) (Stepped (tests_of (opposite op)) (Both (ValueIs l) (ValueIs r))) (FalseIs (Binary op l r)) (means-by columns (tests_of (opposite op)) (together L.value R.value) (Both (ValueIs l) (ValueIs r)) pairs-mean)
       (λ s z m.
       let x = m.holds.left.number in
       let y = m.holds.right.number in
@@ -770,12 +770,12 @@ module _ (columns : ℕ) (l r : Term) (L R : Lists) (h : MeansAll columns l L) (
 pub expression-means : (columns : ℕ) (e : Term) → IsTrue (columns_below columns e) → MeansAll columns e (lists_of e)
 unfolding lists_of
 expression-means columns (Lit n) h =
-    number-means columns (Lit n) (known (constant_of n))
-    (means-as columns (known (constant_of n)) (Known (λ s. n)) (ValueIs (Lit n)) (means-known columns (constant_of n) (λ s. n) (λ s aux. constant-value (numbers s aux) n) 0 (sit columns (Lit n) h).value)
+    number-means columns (Lit n) (one_case (constant_of n))
+    (means-as columns (one_case (constant_of n)) (Known (λ s. n)) (ValueIs (Lit n)) (means-known columns (constant_of n) (λ s. n) (λ s aux. constant-value (numbers s aux) n) 0 (sit columns (Lit n) h).value)
     (λ s z m. record { number = n; value = refl; is = m.is }) (λ s z m. record { is = m.is ∙ one-list m.number n (sym (some_is n m.number m.value)) }))
 expression-means columns (Col c) h =
-    number-means columns (Col c) (known (column_of (At c)))
-    (means-as columns (known (column_of (At c))) (Known (λ s. slice_index_or s c (pos 0))) (ValueIs (Col c))
+    number-means columns (Col c) (one_case (column_of (At c)))
+    (means-as columns (one_case (column_of (At c))) (Known (λ s. slice_index_or s c (pos 0))) (ValueIs (Col c))
     (means-known columns (column_of (At c)) (λ s. slice_index_or s c (pos 0)) (λ s aux. column-value (numbers s aux) (At c) ∙ unwrap_or-slice_get s c (pos 0)) 0 (sit columns (Col c) h).value)
     (λ s z m. record { number = slice_index_or s c (pos 0); value = refl; is = m.is }) (λ s z m. record { is = m.is ∙ one-list m.number (slice_index_or s c (pos 0)) (sym (some_is (slice_index_or s c (pos 0)) m.number m.value)) }))
 expression-means columns (Unary sign inner) h = sign-means columns inner (lists_of inner) (expression-means columns inner h) sign

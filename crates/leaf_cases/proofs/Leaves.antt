@@ -17,13 +17,13 @@ use Rattle.syntax_tree.specs.Term.{Term, term_of}
 use Rattle.syntax_tree.specs.WellFormed.{joint_operators, operators_of, all_columns_below, into_fits}
 use Rattle.flow_graph.specs.Walks.{EdgeRelates}
 use Rattle.transition_formula.specs.Composition.{sequence_of, sequence_of_cases, after_case}
-use Rattle.transition_formula.specs.Loss.{answered}
+use Rattle.transition_formula.specs.Loss.{answer_of}
 use Rattle.transition_formula.specs.Meaning.{Holds}
 use Rattle.transition_formula.specs.Transition.{Transition, fits, IsTransition}
 use Rattle.transition_formula.proofs.Covered.{both}
 use Rattle.transition_formula.proofs.Fitting.{fitting}
 use Rattle.leaf_cases.specs.Conditions.{AreKnown, IsKnown, KnownCalls, exits_of}
-use Rattle.leaf_cases.specs.Edges.{leaf_of, lost_in_leaf, known_call, lost_in_known_call, call_of, call_sequence, entering, cut, awaited, leaving_case, set_of, set_case, any_of, arguments_of}
+use Rattle.leaf_cases.specs.Edges.{leaf_of, losses_in_leaf, known_call, losses_in_known_call, call_of, call_sequence, entering, cut, awaited_count, leaving_case, set_of, set_case, any_of, arguments_of}
 use Rattle.leaf_cases.specs.Expression.{lists_of}
 use Rattle.leaf_cases.specs.Guard.{columns_of, guard_of, with_posts}
 use Rattle.leaf_cases.proofs.Arguments.{arguments-sit}
@@ -42,10 +42,10 @@ module _ (program : Program) (width : ℕ) (wide : length program.globals ≤ wi
       go true = inr refl
       go false = inl refl
 
-  asked-exits : (callee : Proc) (into : Option ℕ) → IsTrue (callee.returns || not (is_some into)) → awaited (length program.globals) into ≤ exits_of program callee
+  asked-exits : (callee : Proc) (into : Option ℕ) → IsTrue (callee.returns || not (is_some into)) → awaited_count (length program.globals) into ≤ exits_of program callee
   asked-exits callee into h = go callee.returns into h
     where
-      go : (b : Bool) (into : Option ℕ) → IsTrue (b || not (is_some into)) → awaited (length program.globals) into ≤ cond b (length program.globals + 1) (length program.globals)
+      go : (b : Bool) (into : Option ℕ) → IsTrue (b || not (is_some into)) → awaited_count (length program.globals) into ≤ cond b (length program.globals + 1) (length program.globals)
       go true None h = omega arith
       go true (Some col) h = omega arith
       go false None h = omega arith
@@ -60,7 +60,7 @@ module _ (program : Program) (width : ℕ) (wide : length program.globals ≤ wi
         known_is = is;
         fit = k.fits;
         enters = k.enters ∙ ap (λ n. length program.globals + n) fit.params;
-        asked = subst (λ n. awaited (length program.globals) into ≤ n) (sym k.leaves) (asked-exits fit.callee into fit.returns);
+        asked = subst (λ n. awaited_count (length program.globals) into ≤ n) (sym k.leaves) (asked-exits fit.callee into fit.returns);
         leaves = subst (λ n. (n ≡ length program.globals) ⊎ (n ≡ length program.globals + 1)) (sym k.leaves) (exits-either fit.callee);
       }
 
@@ -81,7 +81,7 @@ module _ (program : Program) (width : ℕ) (wide : length program.globals ≤ wi
   leaf_holds Continue fit s t long h = absurd fit
   leaf_holds Return fit s t long h = absurd fit
 
-  pub leaf_held : (statement : Statement) → EdgeFits program width statement → lost_in_leaf width (length program.globals) known statement ≡ []
+  pub leaf_held : (statement : Statement) → EdgeFits program width statement → losses_in_leaf width (length program.globals) known statement ≡ []
       → (s t : List ℤ) → Holds (leaf_of width (length program.globals) known statement) s t → EdgeRelates (KnownCalls known) (length program.globals) statement s t
   leaf_held (Guard e) fit none s t h =
       let k = truth_held width e (guard_of width (lists_of e).truth.cases) [] (lists_of e).truth.lost fit.below refl refl none s t h in (k.1, k.0)
@@ -89,7 +89,7 @@ module _ (program : Program) (width : ℕ) (wide : length program.globals ≤ wi
   leaf_held (Any col) fit none s t h = any_held (KnownCalls known) (length program.globals) width col s t h
   leaf_held (Call proc args into) fit none s t h = go (slice_get known proc) refl none h
     where
-      go : (o : Option (Option Transition)) → slice_get known proc ≡ o → lost_in_known_call width (length program.globals) args into o ≡ [] → Holds (known_call width (length program.globals) args into o) s t
+      go : (o : Option (Option Transition)) → slice_get known proc ≡ o → losses_in_known_call width (length program.globals) args into o ≡ [] → Holds (known_call width (length program.globals) args into o) s t
           → EdgeRelates (KnownCalls known) (length program.globals) (Call proc args into) s t
       go None e n k = absurd k.some
       go (Some None) e n k = absurd k.some
@@ -110,11 +110,11 @@ module _ (program : Program) (width : ℕ) (wide : length program.globals ≤ wi
   call-cases proc args into f fit is =
       let k : IsKnown program fit.callee f = are.fit proc fit.callee f fit.is is in
       let a = entering width (length program.globals) (length args) (arguments_of args).cases in
-      let b = cut (awaited (length program.globals) into) f in
+      let b = cut (awaited_count (length program.globals) into) f in
       let many = length-map (call_sequence width (length program.globals) args into f).cases (leaving_case width (length program.globals) into)
       ∙ flat_count (λ first. map (sequence_of_cases first) b.cases) (length b.cases) (λ first. length-map b.cases (sequence_of_cases first)) a.cases in
       let firsts : length a.cases ≡ length (arguments_of args).cases = length-map (arguments_of args).cases (λ case. with_posts (columns_of (length program.globals) ++ case.post) case) in
-      let seconds : length b.cases ≡ length f.cases = length-map f.cases (λ case. with_posts (take (awaited (length program.globals) into) case.post) case) in
+      let seconds : length b.cases ≡ length f.cases = length-map f.cases (λ case. with_posts (take (awaited_count (length program.globals) into) case.post) case) in
       let count = arguments-count args in
       let most = fit.cases in
       let most' = k.cases in
@@ -152,7 +152,7 @@ mapped-few n F tells (case ∷ cases) h = (tells case h.0, mapped-few n F tells 
 pair-few : (first : Case) (j k to : ℕ) (seconds : List Case) → first.aux ≤ j → AllByRecursion (λ case. case.aux ≤ k) seconds → AllByRecursion (λ case. length case.post ≤ to) seconds → AllByRecursion (λ case. case.aux ≤ j + k + to) (map (sequence_of_cases first) seconds)
 pair-few first j k to [] h few long = tt
 pair-few first j k to (second ∷ seconds) h few long =
-    let lost = count_by-le-length (λ q. is_none (answered (after_case first second q))) second.post in
+    let lost = count_by-le-length (λ q. is_none (answer_of (after_case first second q))) second.post in
     let one = few.0 in
     let posts = long.0 in
     (omega arith, pair-few first j k to seconds h few.1 long.1)
@@ -186,7 +186,7 @@ posts-most from to (case ∷ cases) h =
     (omega arith, posts-most from to cases parts.1)
 
 module _ (program : Program) (width : ℕ) (wide : length program.globals ≤ width) (narrow : width ≤ 1000) (known : List (Option Transition)) (are : AreKnown program known) where
-  awaited-few : (into : Option ℕ) → awaited (length program.globals) into ≤ 1001
+  awaited-few : (into : Option ℕ) → awaited_count (length program.globals) into ≤ 1001
   awaited-few None = omega arith
   awaited-few (Some col) = omega arith
 
@@ -194,7 +194,7 @@ module _ (program : Program) (width : ℕ) (wide : length program.globals ≤ wi
   call-few proc args into f fit is =
       let asks = call-asks program width wide known are proc args into f fit is in
       let k : IsKnown program fit.callee f = are.fit proc fit.callee f fit.is is in
-      let n = awaited (length program.globals) into in
+      let n = awaited_count (length program.globals) into in
       let a = entering width (length program.globals) (length args) (arguments_of args).cases in
       let b = cut n f in
       let few = fit.operators in
@@ -202,7 +202,7 @@ module _ (program : Program) (width : ℕ) (wide : length program.globals ≤ wi
       let firsts = mapped-few (4 * joint_operators args) (λ case. with_posts (columns_of (length program.globals) ++ case.post) case) (λ case le. le) (arguments_of args).cases (few-sit width (4 * joint_operators args) (arguments_of args).cases (arguments-sit width args fit.below)) in
       let seconds = mapped-few 64 (λ case. with_posts (take n case.post) case) (λ case le. le) f.cases (recursion_from_All (λ (case : Case). case.aux ≤ 64) f.cases k.auxiliaries) in
       let long = posts-most f.from n b.cases (cut_fits n f b.cases asks.asked k.fits refl) in
-      below-limit (4 * joint_operators args + 64 + awaited (length program.globals) into) (call_of width (length program.globals) args into f).cases (omega arith)
+      below-limit (4 * joint_operators args + 64 + awaited_count (length program.globals) into) (call_of width (length program.globals) args into f).cases (omega arith)
       (call_few (4 * joint_operators args) 64 n a b (λ case. (leaving_case width (length program.globals) into case).post) firsts seconds long)
 
   pub leaf_few : (statement : Statement) → EdgeFits program width statement → All (λ (case : Case). case.aux < 2 ^ 31) (leaf_of width (length program.globals) known statement).cases
@@ -232,7 +232,7 @@ pub record CallReady (program : Program) (width globals : ℕ) (slice : List Cor
   pub operators : joint_operators (map term_of slice) ≤ 200000
   pub awaits : IsTrue (into_fits width into)
   pub enters : callee.from ≡ globals + length slice
-  pub leaves : awaited globals into ≤ callee.to
+  pub leaves : awaited_count globals into ≤ callee.to
   pub few : All (λ (case : Case). case.aux ≤ 64) callee.cases
 
 pub call_ready : (program : Program) (width globals : ℕ) (known : List (Option Transition)) → AreKnown program known → length program.globals ≤ width → (proc : ℕ) (args slice : List Core) (into : Option ℕ) (callee : Transition)
@@ -248,6 +248,6 @@ call_ready program width globals known are wide proc args slice into callee fit 
       operators = subst (λ xs. joint_operators (map term_of xs) ≤ 200000) (sym same) fit.operators;
       awaits = fit.awaits;
       enters = omega (arith, enters, long, longer, count);
-      leaves = subst (λ n. awaited n into ≤ callee.to) (sym count) asks.asked;
+      leaves = subst (λ n. awaited_count n into ≤ callee.to) (sym count) asks.asked;
       few = k.auxiliaries;
     }

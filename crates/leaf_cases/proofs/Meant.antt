@@ -8,9 +8,9 @@ use Rattle.transition_formula.specs.Meaning.{numbers, HoldsSome}
 use Rattle.transition_formula.proofs.Values.{none-of}
 use Rattle.transition_formula.proofs.Meanings.{some-either, some-left, some-right}
 use Rattle.leaf_cases.specs.declared.step.Step.{Step}
-use Rattle.leaf_cases.specs.Expression.{by, known, numbered}
+use Rattle.leaf_cases.specs.Expression.{by, one_case, number_cases}
 use Rattle.leaf_cases.specs.Listed.{Listed, together, either}
-use Rattle.leaf_cases.specs.Steps.{lost_by, with_number}
+use Rattle.leaf_cases.specs.Steps.{losses_by_steps, with_number}
 use Rattle.leaf_cases.proofs.Made.{Stepped, Numbered, steps-hold, steps-held, numbered-hold, numbered-held}
 use Rattle.leaf_cases.proofs.Sitting.{Sits, sits-more, sits-both, sits-cases_by, sits-numbered}
 use Rattle.leaf_cases.proofs.Together.{Both, both-hold, both-held}
@@ -67,11 +67,11 @@ module _ (columns : ℕ) where
         sits = sits-cases_by columns h.bound steps a.cases h.sits;
         least = λ s z m. steps-hold columns h.bound steps a.cases h.sits s m.numbers_are z (h.least s m.numbers_are m.holds) m.gives;
         most = λ none s z g.
-            let parts = none-of a.lost (lost_by steps a.cases) none in
+            let parts = none-of a.lost (losses_by_steps steps a.cases) none in
             let m = steps-held steps a.cases s z parts.1 g in record { numbers_are = m.numbers_are; holds = h.most parts.0 s m.numbers_are m.holds; gives = m.gives };
       }
 
-  pub means-numbered : (value : ℤ) (a : Listed) (P : List ℤ → List ℤ → Type 0) → Means columns a P → Means columns (numbered value a) (Numbered value P)
+  pub means-numbered : (value : ℤ) (a : Listed) (P : List ℤ → List ℤ → Type 0) → Means columns a P → Means columns (number_cases value a) (Numbered value P)
   means-numbered value a P h =
       record {
         bound = h.bound;
@@ -84,7 +84,7 @@ module _ (columns : ℕ) where
 pub record Known (f : List ℤ → ℤ) (s z : List ℤ) : Type 0 where
   pub is : z ≡ f s ∷ []
 
-pub means-known : (columns : ℕ) (p : Polynomial) (f : List ℤ → ℤ) → ((s : List ℤ) (aux : ℕ → ℤ) → value_of (numbers s aux) p ≡ f s) → (n : ℕ) → AllByRecursion (Sits columns n) (known p).cases → Means columns (known p) (Known f)
+pub means-known : (columns : ℕ) (p : Polynomial) (f : List ℤ → ℤ) → ((s : List ℤ) (aux : ℕ → ℤ) → value_of (numbers s aux) p ≡ f s) → (n : ℕ) → AllByRecursion (Sits columns n) (one_case p).cases → Means columns (one_case p) (Known f)
 means-known columns p f value n sits =
     record {
       bound = n;
@@ -93,6 +93,6 @@ means-known columns p f value n sits =
       most = λ none s z g. found s z g;
     }
   where
-    found : (s z : List ℤ) → HoldsSome (known p).cases s z → Known f s z
+    found : (s z : List ℤ) → HoldsSome (one_case p).cases s z → Known f s z
     found s z (inl (aux, h)) = record { is = sym h.posts ∙ (λ i. value s aux i ∷ []) }
     found s z (inr h) = absurd h

@@ -4,7 +4,7 @@ use Rattle.std.specs.Prelude.{IsTrue, slice_index}
 use Rattle.std.specs.List.{list_all, range_with_len}
 use Rattle.std.proofs.lemmas.List.FromFn.{get_or-range_with_len}
 use Rattle.linear_terms.specs.Polynomial.{Polynomial}
-use Rattle.linear_terms.specs.Auxiliaries.{occurs, renumbered, is_numbered, KeepsOrder}
+use Rattle.linear_terms.specs.Auxiliaries.{occurs, renumbered_polynomial, is_numbered, KeepsOrder}
 use Rattle.transition_formula.specs.Transition.{every_column}
 use Rattle.transition_formula.proofs.Covered.{both_true}
 use Rattle.transition_formula.proofs.Loops.{or_left}
@@ -31,7 +31,7 @@ moved_order first count numbers p e h m n k l lt =
     let other = number_at first count numbers e n b in
     omega (arith, one, other)
 
-pub moved_made : (first count : ℕ) (numbers : List ℕ) (p q : Polynomial) → numbers ≡ range_with_len first count → IsTrue (every_column (is_numbered count) p) → q ≡ renumbered (slice_index numbers) p → q ≡ renumbered (λ n. first + n) p
+pub moved_made : (first count : ℕ) (numbers : List ℕ) (p q : Polynomial) → numbers ≡ range_with_len first count → IsTrue (every_column (is_numbered count) p) → q ≡ renumbered_polynomial (slice_index numbers) p → q ≡ renumbered_polynomial (λ n. first + n) p
 moved_made first count numbers p q e h made = made ∙ polynomial_agrees (slice_index numbers) (λ n. first + n) count (number_at first count numbers e) p h
 
 range-last : (first count : ℕ) → range_with_len first (count + 1) ≡ range_with_len first count ++ (first + count) ∷ []

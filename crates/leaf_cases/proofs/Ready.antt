@@ -17,14 +17,14 @@ use Rattle.syntax_tree.specs.WellFormed.{columns_below, operators_of}
 use Rattle.transition_formula.specs.Transition.{every_column, every_column_of, is_below}
 use Rattle.transition_formula.proofs.Covered.{both, both_true, more_columns, more_columns_of, all_more, test_from_each}
 use Rattle.transition_formula.proofs.Fitting.{below-true, true-below}
-use Rattle.leaf_cases.specs.declared.division.Part.TheVariants.{Quotient, Remainder}
+use Rattle.leaf_cases.specs.declared.division.DivisionPart.TheVariants.{Quotient, Remainder}
 use Rattle.leaf_cases.specs.declared.expression.Sought.{Sought}
 use Rattle.leaf_cases.specs.declared.expression.Sought.TheVariants as sought
 use Rattle.leaf_cases.specs.declared.step.Arithmetic.TheVariants.{Negate, Sum, Difference, Product}
-use Rattle.leaf_cases.specs.declared.step.Relation.TheVariants.{Negative, Positive, Zero}
+use Rattle.leaf_cases.specs.declared.step.TestRelation.TheVariants.{Negative, Positive, Zero}
 use Rattle.leaf_cases.specs.declared.step.Step.{Step}
 use Rattle.leaf_cases.specs.declared.step.Step.TheVariants.{Value, Divide, Test}
-use Rattle.leaf_cases.specs.Expression.{Lists, of_number, of_test, sign_lists, calculated, compared, comparison, opposite, tests_of, operator_lists, lists_of, sought_in, known}
+use Rattle.leaf_cases.specs.Expression.{Lists, of_number, of_test, sign_lists, calculation_lists, comparison_list, comparison, opposite, tests_of, operator_lists, lists_of, sought_in, one_case}
 use Rattle.leaf_cases.specs.Listed.{Listed, AreFew, AreReady, is_ready}
 use Rattle.leaf_cases.specs.Listed as listed
 use Rattle.leaf_cases.specs.Steps.{cases_by, with_number}
@@ -71,17 +71,17 @@ module _ (columns : ℕ) where
   sit-sign n Not inner s = sit-test (n + 2) inner.falsity inner.truth s.falsity s.truth
 
   module _ (j k : ℕ) (l r : Lists) (s : SitLists columns j l) (u : SitLists columns k r) where
-    sit-calculated : (step : Step) → SitLists columns (j + k + 4) (calculated step l r)
+    sit-calculated : (step : Step) → SitLists columns (j + k + 4) (calculation_lists step l r)
     sit-calculated step =
-        sit-more (j + k + 2) (j + k + 4) (omega arith) (calculated step l r)
+        sit-more (j + k + 2) (j + k + 4) (omega arith) (calculation_lists step l r)
         (sit-number (j + k + 2) _ (sits-cases_by columns (j + k) (step ∷ []) (listed.both l.value.cases r.value.cases) (sits-both columns j k l.value.cases r.value.cases s.value u.value)))
 
-    sit-compared : (op : Op) → AllByRecursion (Sits columns (j + k + 2)) (compared op l r).cases
+    sit-compared : (op : Op) → AllByRecursion (Sits columns (j + k + 2)) (comparison_list op l r).cases
     sit-compared op = sits-cases_by columns (j + k) (tests_of op) (listed.both l.value.cases r.value.cases) (sits-both columns j k l.value.cases r.value.cases s.value u.value)
 
     sit-comparison : (op : Op) → SitLists columns (j + k + 4) (comparison op l r)
     sit-comparison op =
-        sit-more (j + k + 2) (j + k + 4) (omega arith) (comparison op l r) (sit-test (j + k + 2) (compared op l r) (compared (opposite op) l r) (sit-compared op) (sit-compared (opposite op)))
+        sit-more (j + k + 2) (j + k + 4) (omega arith) (comparison op l r) (sit-test (j + k + 2) (comparison_list op l r) (comparison_list (opposite op) l r) (sit-compared op) (sit-compared (opposite op)))
 
     -- a logical operator: both sides together, or the left one alone
     sit-joint : (firsts seconds : List Case) → AllByRecursion (Sits columns (j + 2)) firsts → AllByRecursion (Sits columns (k + 2)) seconds → AllByRecursion (Sits columns (j + k + 4)) (listed.both firsts seconds)
@@ -110,9 +110,9 @@ module _ (columns : ℕ) where
 
   pub sit : (e : Term) → IsTrue (columns_below columns e) → SitLists columns (4 * operators_of e) (lists_of e)
   unfolding lists_of
-  sit (Lit value) h = sit-number 0 (known (constant_of value)) (record { few = omega arith; rows_are = refl; posts_are = refl }, tt)
+  sit (Lit value) h = sit-number 0 (one_case (constant_of value)) (record { few = omega arith; rows_are = refl; posts_are = refl }, tt)
   sit (Col c) h =
-      sit-number 0 (known (column_of (At c)))
+      sit-number 0 (one_case (column_of (At c)))
       (record { few = omega arith; rows_are = refl; posts_are = both_true (every_column (is_below columns 0) (column_of (At c))) true (column_passes (is_below columns 0) (At c) h) refl }, tt)
   sit (Unary sign inner) h =
       sit-more (4 * operators_of inner + 2) (4 * (1 + operators_of inner)) (omega arith) (sign_lists sign (lists_of inner)) (sit-sign (4 * operators_of inner) sign (lists_of inner) (sit inner h))

@@ -10,14 +10,14 @@ use Rattle.syntax_tree.specs.Term.{term_of}
 use Rattle.syntax_tree.specs.WellFormed.{IsWellFormed}
 use Rattle.transition_formula.specs.Transition.{Transition}
 use Rattle.leaf_cases.specs.Conditions.{AreKnown, IsActOf, columns_at}
-use Rattle.leaf_cases.specs.Edges.{leaf_of, lost_in_leaf, known_call, lost_in_known_call}
+use Rattle.leaf_cases.specs.Edges.{leaf_of, losses_in_leaf, known_call, losses_in_known_call}
 use Rattle.leaf_cases.proofs.Graphs.{fit_as, globals_at, proc_within}
 use Rattle.leaf_cases.proofs.Leaves.{CallReady, call_ready}
 
 -- the formula and the losses of the edge by what is known of the callee
 pub record IsReadyCall (program : Program) (known : List (Option Transition)) (at width globals : ℕ) (statement : Statement) (slice : List Core) (into : Option ℕ) (entry : Option Transition) : Type 0 where
   pub exact : known_call width globals (map term_of slice) into (Some entry) ≡ leaf_of (columns_at program at) (length program.globals) known statement
-  pub lost : lost_in_known_call width globals (map term_of slice) into (Some entry) ≡ lost_in_leaf (columns_at program at) (length program.globals) known statement
+  pub lost : losses_in_known_call width globals (map term_of slice) into (Some entry) ≡ losses_in_leaf (columns_at program at) (length program.globals) known statement
   pub given : (callee : Transition) → entry ≡ Some callee → CallReady program width globals slice into callee
 
 pub call-ready : {program : Program} {known : List (Option Transition)} {at width globals proc : ℕ} {statement : Statement} {slice : List Core} {into : Option ℕ} {found entry : Option Transition} (args : List Core) →
@@ -31,6 +31,6 @@ call-ready {program} {known} {at} {width} {globals} {proc} {statement} {slice} {
     let wide = subst (λ n. length program.globals ≤ n) (sym columns) (globals_at program at there) in
     record {
       exact = (λ i. known_call (columns i) (count i) (map term_of (same i)) into (back i)) ∙ sym (ap (leaf_of (columns_at program at) (length program.globals) known) calls);
-      lost = (λ i. lost_in_known_call (columns i) (count i) (map term_of (same i)) into (back i)) ∙ sym (ap (lost_in_leaf (columns_at program at) (length program.globals) known) calls);
+      lost = (λ i. losses_in_known_call (columns i) (count i) (map term_of (same i)) into (back i)) ∙ sym (ap (losses_in_leaf (columns_at program at) (length program.globals) known) calls);
       given = λ callee e. call_ready program width globals known are wide proc args slice into callee fit (entry_is ∙ ap (λ o. Some o) e) same count;
     }

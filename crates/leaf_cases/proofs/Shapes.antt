@@ -5,13 +5,13 @@ use Rattle.linear_terms.specs.Polynomial.{column_of, constant_of}
 use Rattle.syntax_tree.specs.declared.op.Op.{Op}
 use Rattle.syntax_tree.specs.declared.op.Sign.{Sign}
 use Rattle.syntax_tree.specs.Term.{Term, Lit, Col, Unary, Binary}
-use Rattle.leaf_cases.specs.Expression.{known, of_number, sign_lists, operator_lists, lists_of}
+use Rattle.leaf_cases.specs.Expression.{one_case, of_number, sign_lists, operator_lists, lists_of}
 
-pub lists_of-Lit : (value : ℤ) → lists_of (Lit value) ≡ of_number (known (constant_of value))
+pub lists_of-Lit : (value : ℤ) → lists_of (Lit value) ≡ of_number (one_case (constant_of value))
 unfolding lists_of
 lists_of-Lit value = refl
 
-pub lists_of-Col : (col : ℕ) → lists_of (Col col) ≡ of_number (known (column_of (At col)))
+pub lists_of-Col : (col : ℕ) → lists_of (Col col) ≡ of_number (one_case (column_of (At col)))
 unfolding lists_of
 lists_of-Col col = refl
 

@@ -10,7 +10,7 @@ use Rattle.items.proofs.Each.{each-flat_map, each-map, each-any}
 use Rattle.linear_terms.specs.declared.col.Col.{Col}
 use Rattle.linear_terms.specs.declared.col.Col.TheVariants.{At, Aux}
 use Rattle.linear_terms.specs.declared.row.Case.{Case}
-use Rattle.linear_terms.specs.Auxiliaries.{renumbered, renumbered_column}
+use Rattle.linear_terms.specs.Auxiliaries.{renumbered_polynomial, renumbered_column}
 use Rattle.linear_terms.specs.Polynomial.{Polynomial, column_of, constant_of}
 use Rattle.linear_terms.specs.Operations.{multiple_of, sum_of_polys, product_of_polys, difference_of_polys}
 use Rattle.linear_terms.proofs.Columns.{multiple_of-each, product_of_polys-each, sum_of_polys-each}
@@ -19,20 +19,20 @@ use Rattle.transition_formula.specs.Renumbering.{renumbered_row}
 use Rattle.transition_formula.specs.Transition.{every_column, is_below}
 use Rattle.transition_formula.proofs.Covered.{both, both_true, columns_from_test, test_from_columns, more_columns, more_columns_of, all_more}
 use Rattle.transition_formula.proofs.Fitting.{below-true, true-below, is_below-more}
-use Rattle.leaf_cases.specs.declared.division.Part.{Part}
-use Rattle.leaf_cases.specs.declared.division.Part.TheVariants.{Quotient, Remainder}
+use Rattle.leaf_cases.specs.declared.division.DivisionPart.{DivisionPart}
+use Rattle.leaf_cases.specs.declared.division.DivisionPart.TheVariants.{Quotient, Remainder}
 use Rattle.leaf_cases.specs.declared.division.Signs.{Signs}
 use Rattle.leaf_cases.specs.declared.step.Arithmetic.{Arithmetic}
 use Rattle.leaf_cases.specs.declared.step.Arithmetic.TheVariants.{Negate, Sum, Difference, Product}
-use Rattle.leaf_cases.specs.declared.step.Relation.{Relation}
-use Rattle.leaf_cases.specs.declared.step.Relation.TheVariants.{Less, LessOrEqual, Greater, GreaterOrEqual, Same, Negative, Positive, Zero}
+use Rattle.leaf_cases.specs.declared.step.TestRelation.{TestRelation}
+use Rattle.leaf_cases.specs.declared.step.TestRelation.TheVariants.{Less, LessOrEqual, Greater, GreaterOrEqual, Same, Negative, Positive, Zero}
 use Rattle.leaf_cases.specs.declared.step.Step.{Step}
 use Rattle.leaf_cases.specs.declared.step.Step.TheVariants.{Value, Divide, Test}
-use Rattle.leaf_cases.specs.Claims.{Answer, Claim, rows_of, limited, valued}
+use Rattle.leaf_cases.specs.Claims.{Answer, Claim, rows_of, case_with_claims, case_with_value}
 use Rattle.leaf_cases.specs.Division.{one, minus_one, equation, divisor_sign, dividend_sign, lower_bound, upper_bound, division, all_signs}
 use Rattle.leaf_cases.specs.Listed.{beside}
 use Rattle.leaf_cases.specs.Listed as listed
-use Rattle.leaf_cases.specs.Steps.{one_more, operand, value_at, test_at, test_claim, division_at, part_at, made_at, cases_by, with_number}
+use Rattle.leaf_cases.specs.Steps.{one_more, operand, value_at, test_at, test_claim, division_at, part_at, cases_of_step, cases_by, with_number}
 
 -- ---- lists
 
@@ -40,7 +40,7 @@ mapped-passes : {X Y : Type 0} (f : X → Y) (s : X → Bool) (t : Y → Bool) �
 mapped-passes f s t tells [] h = refl
 mapped-passes f s t tells (x ∷ xs) h = let parts = both (s x) (list_all s xs) h in both_true (t (f x)) (list_all t (map f xs)) (tells x parts.0) (mapped-passes f s t tells xs parts.1)
 
-renumbered-passes : (number : ℕ → ℕ) (s t : Col → Bool) → ((c : Col) → IsTrue (s c) → IsTrue (t (renumbered_column number c))) → (p : Polynomial) → IsTrue (every_column s p) → IsTrue (every_column t (renumbered number p))
+renumbered-passes : (number : ℕ → ℕ) (s t : Col → Bool) → ((c : Col) → IsTrue (s c) → IsTrue (t (renumbered_column number c))) → (p : Polynomial) → IsTrue (every_column s p) → IsTrue (every_column t (renumbered_polynomial number p))
 renumbered-passes number s t tells p = mapped-passes (λ u. (map (renumbered_column number) u.0, u.1)) (λ u. list_all s u.0) (λ u. list_all t u.0) (λ u. mapped-passes (renumbered_column number) s t tells u.0) p.terms
 
 -- ---- answers whose columns pass a test
@@ -73,7 +73,7 @@ module _ (t : Col → Bool) where
   one_more-covered : (a b : Polynomial) → IsTrue (every_column t a) → IsTrue (every_column t b) → Covers t (one_more a b)
   one_more-covered a b h k = bind-covered (difference_of_polys a b) (λ d. sum_of_polys d one) (difference-covered a b h k) (λ d l. sum-covered d one l refl)
 
-  test-covered : (relation : Relation) (a b : Polynomial) → IsTrue (every_column t a) → IsTrue (every_column t b) → Covers t (test_at relation a b)
+  test-covered : (relation : TestRelation) (a b : Polynomial) → IsTrue (every_column t a) → IsTrue (every_column t b) → Covers t (test_at relation a b)
   test-covered Less a b h k = one_more-covered a b h k
   test-covered LessOrEqual a b h k = difference-covered a b h k
   test-covered Greater a b h k = one_more-covered b a k h
@@ -166,10 +166,10 @@ module _ (columns : ℕ) where
             (mapped-passes (renumbered_row (λ n. a.aux + n)) (λ row. every_column (is_below columns b.aux) row.poly) (λ row. every_column all row.poly)
             (λ row. renumbered-passes (λ n. a.aux + n) (is_below columns b.aux) all (moved-below a.aux b.aux) row.poly) b.rows u.rows_are);
         posts_are =
-            list_all-append (every_column all) a.post (map (renumbered (λ n. a.aux + n)) b.post)
-            ∙ both_true (list_all (every_column all) a.post) (list_all (every_column all) (map (renumbered (λ n. a.aux + n)) b.post))
+            list_all-append (every_column all) a.post (map (renumbered_polynomial (λ n. a.aux + n)) b.post)
+            ∙ both_true (list_all (every_column all) a.post) (list_all (every_column all) (map (renumbered_polynomial (λ n. a.aux + n)) b.post))
             (all_more (every_column (is_below columns a.aux)) (every_column all) (more_columns (is_below columns a.aux) all wider) a.post s.posts_are)
-            (mapped-passes (renumbered (λ n. a.aux + n)) (every_column (is_below columns b.aux)) (every_column all) (renumbered-passes (λ n. a.aux + n) (is_below columns b.aux) all (moved-below a.aux b.aux)) b.post u.posts_are);
+            (mapped-passes (renumbered_polynomial (λ n. a.aux + n)) (every_column (is_below columns b.aux)) (every_column all) (renumbered-passes (λ n. a.aux + n) (is_below columns b.aux) all (moved-below a.aux b.aux)) b.post u.posts_are);
       }
 
   pub sits-both : (j k : ℕ) (firsts seconds : List Case) → AllByRecursion (Sits columns j) firsts → AllByRecursion (Sits columns k) seconds → AllByRecursion (Sits columns (j + k)) (listed.both firsts seconds)
@@ -178,7 +178,7 @@ module _ (columns : ℕ) where
 
   pub sits-limited : (most more : ℕ) (case : Case) (claims : List Claim) (post : List Polynomial) → Sits columns most case
       → AllByRecursion (λ claim. Covers (is_below columns (case.aux + more)) claim.poly) claims → IsTrue (list_all (every_column (is_below columns (case.aux + more))) post)
-      → Sits columns (most + more) (limited case more claims post)
+      → Sits columns (most + more) (case_with_claims case more claims post)
   sits-limited most more case claims post s h k =
       let all = is_below columns (case.aux + more) in
       let few = s.few in
@@ -200,24 +200,24 @@ module _ (columns : ℕ) where
   one-post : (t : Col → Bool) (p : Polynomial) → IsTrue (every_column t p) → IsTrue (list_all (every_column t) (p ∷ []))
   one-post t p h = both_true (every_column t p) true h refl
 
-  pub sits-valued : (most : ℕ) (case : Case) (r : Answer) → Sits columns most case → Covers (is_below columns (case.aux + 0)) r → Sits columns (most + 2) (valued case r)
+  pub sits-valued : (most : ℕ) (case : Case) (r : Answer) → Sits columns most case → Covers (is_below columns (case.aux + 0)) r → Sits columns (most + 2) (case_with_value case r)
   sits-valued most case (Ok p) s h =
-      sits-more columns (most + 0) (most + 2) (omega arith) (valued case (Ok p)) (sits-limited most 0 case [] (p ∷ []) s tt (one-post (is_below columns (case.aux + 0)) p (h.is p refl)))
+      sits-more columns (most + 0) (most + 2) (omega arith) (case_with_value case (Ok p)) (sits-limited most 0 case [] (p ∷ []) s tt (one-post (is_below columns (case.aux + 0)) p (h.is p refl)))
   sits-valued most case (Err e) s h =
       let t = is_below columns (case.aux + 1) in
-      sits-more columns (most + 1) (most + 2) (omega arith) (valued case (Err e))
+      sits-more columns (most + 1) (most + 2) (omega arith) (case_with_value case (Err e))
       (sits-limited most 1 case [] (column_of (Aux case.aux) ∷ []) s tt (one-post t (column_of (Aux case.aux)) (column_passes t (Aux case.aux) (below-true case.aux (case.aux + 1) (omega arith)))))
 
-  part-below : (part : Part) (aux : ℕ) → IsTrue (is_below columns (aux + 2) (Aux (part_at part aux)))
+  part-below : (part : DivisionPart) (aux : ℕ) → IsTrue (is_below columns (aux + 2) (Aux (part_at part aux)))
   part-below Quotient aux = below-true aux (aux + 2) (omega arith)
   part-below Remainder aux = below-true (aux + 1) (aux + 2) (omega arith)
 
-  pub sits-step : (most : ℕ) (step : Step) (case : Case) → Sits columns most case → AllByRecursion (Sits columns (most + 2)) (made_at step case)
+  pub sits-step : (most : ℕ) (step : Step) (case : Case) → Sits columns most case → AllByRecursion (Sits columns (most + 2)) (cases_of_step step case)
   sits-step most (Value arithmetic) case s =
       (sits-valued most case (value_at arithmetic (operand 0 case) (operand 1 case)) s (value-covered (is_below columns (case.aux + 0)) arithmetic (operand 0 case) (operand 1 case) (operand-covered most 0 0 case s) (operand-covered most 0 1 case s)), tt)
   sits-step most (Divide part) case s =
       let t = is_below columns (case.aux + 2) in
-      each-map (λ signs. Unit {0}) (Sits columns (most + 2)) (λ signs. limited case 2 (division_at signs case) (column_of (Aux (part_at part case.aux)) ∷ []))
+      each-map (λ signs. Unit {0}) (Sits columns (most + 2)) (λ signs. case_with_claims case 2 (division_at signs case) (column_of (Aux (part_at part case.aux)) ∷ []))
       (λ signs _. sits-limited most 2 case (division_at signs case) (column_of (Aux (part_at part case.aux)) ∷ []) s
       (division-covered t signs (operand 0 case) (operand 1 case) (column_of (Aux case.aux)) (column_of (Aux (case.aux + 1))) (operand-covered most 2 0 case s) (operand-covered most 2 1 case s)
       (column_passes t (Aux case.aux) (part-below Quotient case.aux)) (column_passes t (Aux (case.aux + 1)) (part-below Remainder case.aux)))
@@ -225,7 +225,7 @@ module _ (columns : ℕ) where
       all_signs (each-any (λ signs. Unit {0}) (λ signs. tt) all_signs)
   sits-step most (Test relation) case s =
       let t = is_below columns (case.aux + 0) in (
-        sits-more columns (most + 0) (most + 2) (omega arith) (limited case 0 (test_claim relation case ∷ []) [])
+        sits-more columns (most + 0) (most + 2) (omega arith) (case_with_claims case 0 (test_claim relation case ∷ []) [])
             (sits-limited most 0 case (test_claim relation case ∷ []) [] s (test-covered t relation (operand 0 case) (operand 1 case) (operand-covered most 0 0 case s) (operand-covered most 0 1 case s), tt) refl),
         tt,
       )
@@ -233,8 +233,8 @@ module _ (columns : ℕ) where
   pub sits-cases_by : (most : ℕ) (steps : List Step) (cases : List Case) → AllByRecursion (Sits columns most) cases → AllByRecursion (Sits columns (most + 2)) (cases_by steps cases)
   unfolding cases_by
   sits-cases_by most steps cases h =
-      each-flat_map (λ step. Unit {0}) (Sits columns (most + 2)) (λ step. flat_map (made_at step) cases)
-      (λ step _. each-flat_map (Sits columns most) (Sits columns (most + 2)) (made_at step) (λ case s. sits-step most step case s) cases h) steps (each-any (λ step. Unit {0}) (λ step. tt) steps)
+      each-flat_map (λ step. Unit {0}) (Sits columns (most + 2)) (λ step. flat_map (cases_of_step step) cases)
+      (λ step _. each-flat_map (Sits columns most) (Sits columns (most + 2)) (cases_of_step step) (λ case s. sits-step most step case s) cases h) steps (each-any (λ step. Unit {0}) (λ step. tt) steps)
 
   pub sits-numbered : (most : ℕ) (value : ℤ) (cases : List Case) → AllByRecursion (Sits columns most) cases → AllByRecursion (Sits columns most) (map (with_number value) cases)
   sits-numbered most value cases h =

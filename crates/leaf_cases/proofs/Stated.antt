@@ -8,7 +8,7 @@ use Rattle.linear_terms.specs.declared.row.Row.{Row}
 use Rattle.transition_formula.specs.declared.loss.Loss.{Loss}
 use Rattle.transition_formula.specs.Loss.{losses_of}
 use Rattle.transition_formula.specs.Composition.{row_of}
-use Rattle.leaf_cases.specs.Claims.{Answer, Claim, rows_of, lost_of}
+use Rattle.leaf_cases.specs.Claims.{Answer, Claim, rows_of, claim_losses}
 use Rattle.items.specs.Gives.{Gives}
 use Rattle.linear_terms.specs.declared.error.TermError.{TermError}
 use Rattle.linear_terms.specs.declared.error.TermError.TheVariants.{Wide, Degree, Memory}
@@ -31,9 +31,9 @@ rows_of-append (x ∷ xs) ys = go (row_of x.kind x.poly) (rows_of-append xs ys)
     go None e = e
     go (Some row) e = ap (λ l. row ∷ l) e
 
-lost_of-append : (xs ys : List Claim) → lost_of (xs ++ ys) ≡ lost_of xs ++ lost_of ys
+lost_of-append : (xs ys : List Claim) → claim_losses (xs ++ ys) ≡ claim_losses xs ++ claim_losses ys
 lost_of-append [] ys = refl
-lost_of-append (x ∷ xs) ys = ap (λ l. losses_of x.poly ++ l) (lost_of-append xs ys) ∙ sym (append_assoc (losses_of x.poly) (lost_of xs) (lost_of ys))
+lost_of-append (x ∷ xs) ys = ap (λ l. losses_of x.poly ++ l) (lost_of-append xs ys) ∙ sym (append_assoc (losses_of x.poly) (claim_losses xs) (claim_losses ys))
 
 abbrev claim : Kind → Answer → Claim
 claim kind poly = record { kind = kind; poly = poly }
@@ -47,13 +47,13 @@ claim_made old before after claims kind made stated e gives told pushed =
     ∙ append_assoc old (rows_of claims) (rows_of (claim kind stated ∷ []))
     ∙ ap (λ l. old ++ l) (sym (rows_of-append claims (claim kind stated ∷ [])))
 
-pub claim_noted : (old before after : List Loss) (claims : List Claim) (kind : Kind) (made stated : Answer) → before ≡ old ++ lost_of claims → Gives cause (λ p. p) made stated → made ≢ Err Memory
-    → after ≡ before ++ losses_of made → after ≡ old ++ lost_of (claims ++ claim kind stated ∷ [])
+pub claim_noted : (old before after : List Loss) (claims : List Claim) (kind : Kind) (made stated : Answer) → before ≡ old ++ claim_losses claims → Gives cause (λ p. p) made stated → made ≢ Err Memory
+    → after ≡ before ++ losses_of made → after ≡ old ++ claim_losses (claims ++ claim kind stated ∷ [])
 claim_noted old before after claims kind made stated e gives told pushed =
     pushed
     ∙ (λ i. e i ++ losses_of (sym (stated_is made stated gives told) i))
-    ∙ append_assoc old (lost_of claims) (losses_of stated)
-    ∙ ap (λ l. old ++ (lost_of claims ++ l)) (sym (append-nil (losses_of stated)))
+    ∙ append_assoc old (claim_losses claims) (losses_of stated)
+    ∙ ap (λ l. old ++ (claim_losses claims ++ l)) (sym (append-nil (losses_of stated)))
     ∙ ap (λ l. old ++ l) (sym (lost_of-append claims (claim kind stated ∷ [])))
 
 -- which default is given does not matter inside a list

@@ -16,16 +16,16 @@ use Rattle.transition_formula.specs.Loss.{losses_of}
 use Rattle.transition_formula.specs.Meaning.{HoldsAt}
 use Rattle.transition_formula.proofs.Telling.{lost-some}
 use Rattle.transition_formula.proofs.Values.{none-of}
-use Rattle.leaf_cases.specs.declared.division.Part.{Part}
-use Rattle.leaf_cases.specs.declared.division.Part.TheVariants.{Quotient, Remainder}
+use Rattle.leaf_cases.specs.declared.division.DivisionPart.{DivisionPart}
+use Rattle.leaf_cases.specs.declared.division.DivisionPart.TheVariants.{Quotient, Remainder}
 use Rattle.leaf_cases.specs.declared.division.Signs.{Signs}
 use Rattle.leaf_cases.specs.declared.step.Arithmetic.{Arithmetic}
 use Rattle.leaf_cases.specs.declared.step.Arithmetic.TheVariants.{Negate, Sum, Difference, Product}
-use Rattle.leaf_cases.specs.declared.step.Relation.{Relation}
-use Rattle.leaf_cases.specs.declared.step.Relation.TheVariants.{Less, LessOrEqual, Greater, GreaterOrEqual, Same, Negative, Positive, Zero}
+use Rattle.leaf_cases.specs.declared.step.TestRelation.{TestRelation}
+use Rattle.leaf_cases.specs.declared.step.TestRelation.TheVariants.{Less, LessOrEqual, Greater, GreaterOrEqual, Same, Negative, Positive, Zero}
 use Rattle.leaf_cases.specs.declared.step.Step.{Step}
 use Rattle.leaf_cases.specs.declared.step.Step.TheVariants.{Value, Divide, Test}
-use Rattle.leaf_cases.specs.Claims.{Answer, Claim, rows_of, lost_of}
+use Rattle.leaf_cases.specs.Claims.{Answer, Claim, rows_of, claim_losses}
 use Rattle.leaf_cases.specs.Division.{one, minus_one, equation, divisor_sign, dividend_sign, lower_bound, upper_bound, division}
 use Rattle.leaf_cases.specs.Steps.{one_more, operand, value_at, test_at, kind_of}
 use Rattle.leaf_cases.proofs.Quotients.{Splits}
@@ -90,12 +90,12 @@ claims-hold w (claim ∷ claims) (z ∷ zs) h k = go claim.poly refl (claims-hol
     go (Ok p) e rest = (subst (IsWithin claim.kind) (sym (h.0.is p e)) k.0, rest)
     go (Err d) e rest = rest
 
-pub claims-held : (w : Valuation) (claims : List Claim) (zs : List ℤ) → AllTell claims → AllSay w claims zs → lost_of claims ≡ [] → RowsHold w (rows_of claims) → AllWithin claims zs
+pub claims-held : (w : Valuation) (claims : List Claim) (zs : List ℤ) → AllTell claims → AllSay w claims zs → claim_losses claims ≡ [] → RowsHold w (rows_of claims) → AllWithin claims zs
 claims-held w [] [] tells h none k = tt
 claims-held w [] (z ∷ zs) tells h none k = absurd h
 claims-held w (claim ∷ claims) [] tells h none k = absurd h
 claims-held w (claim ∷ claims) (z ∷ zs) tells h none k =
-    let parts = none-of (losses_of claim.poly) (lost_of claims) none in
+    let parts = none-of (losses_of claim.poly) (claim_losses claims) none in
     go claim.poly refl parts.0 k (λ rest. claims-held w claims zs tells.1 h.1 parts.1 rest)
   where
     go : (r : Answer) → claim.poly ≡ r → losses_of r ≡ [] → RowsHold w (cons_option (row_of claim.kind r) (rows_of claims)) → (RowsHold w (rows_of claims) → AllWithin claims zs) → AllWithin (claim ∷ claims) (z ∷ zs)
@@ -126,7 +126,7 @@ calculated_number Sum a b = a +ℤ b
 calculated_number Difference a b = a -ℤ b
 calculated_number Product a b = a *ℤ b
 
-abbrev pub tested_number : Relation → ℤ → ℤ → ℤ
+abbrev pub tested_number : TestRelation → ℤ → ℤ → ℤ
 tested_number Less a b = a -ℤ b +ℤ pos 1
 tested_number LessOrEqual a b = a -ℤ b
 tested_number Greater a b = b -ℤ a +ℤ pos 1
@@ -136,7 +136,7 @@ tested_number Negative a b = a -ℤ negsuc 0
 tested_number Positive a b = pos 1 -ℤ a
 tested_number Zero a b = a -ℤ pos 0
 
-abbrev pub part_number : Part → ℤ → ℤ → ℤ
+abbrev pub part_number : DivisionPart → ℤ → ℤ → ℤ
 part_number Quotient a b = int_div a b
 part_number Remainder a b = a -ℤ (int_div a b *ℤ b)
 
@@ -152,7 +152,7 @@ module _ (w : Valuation) (a b : Polynomial) (x y : ℤ) (h : value_of w a ≡ x)
   value-says Difference = record { is = λ p e. (difference-says w a b).is p e ∙ (λ i. h i -ℤ k i) }
   value-says Product = record { is = λ p e. product_of_polys-value w a b p e ∙ (λ i. h i *ℤ k i) }
 
-  pub test-says : (relation : Relation) → Says w (test_at relation a b) (tested_number relation x y)
+  pub test-says : (relation : TestRelation) → Says w (test_at relation a b) (tested_number relation x y)
   test-says Less = record { is = λ p e. (one_more-says w a b).is p e ∙ (λ i. h i -ℤ k i +ℤ pos 1) }
   test-says LessOrEqual = record { is = λ p e. (difference-says w a b).is p e ∙ (λ i. h i -ℤ k i) }
   test-says Greater = record { is = λ p e. (one_more-says w b a).is p e ∙ (λ i. k i -ℤ h i +ℤ pos 1) }

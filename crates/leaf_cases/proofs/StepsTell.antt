@@ -8,8 +8,8 @@ use Rattle.transition_formula.proofs.Telling.{Tells, bind-tells, difference_of_p
 use Rattle.leaf_cases.specs.declared.division.Signs.{Signs}
 use Rattle.leaf_cases.specs.declared.step.Arithmetic.{Arithmetic}
 use Rattle.leaf_cases.specs.declared.step.Arithmetic.TheVariants.{Negate, Sum, Difference, Product}
-use Rattle.leaf_cases.specs.declared.step.Relation.{Relation}
-use Rattle.leaf_cases.specs.declared.step.Relation.TheVariants.{Less, LessOrEqual, Greater, GreaterOrEqual, Same, Negative, Positive, Zero}
+use Rattle.leaf_cases.specs.declared.step.TestRelation.{TestRelation}
+use Rattle.leaf_cases.specs.declared.step.TestRelation.TheVariants.{Less, LessOrEqual, Greater, GreaterOrEqual, Same, Negative, Positive, Zero}
 use Rattle.leaf_cases.specs.Claims.{Claim}
 use Rattle.leaf_cases.specs.Division.{zero, one, minus_one, equation, divisor_sign, dividend_sign, lower_bound, upper_bound, division}
 use Rattle.leaf_cases.specs.Steps.{one_more, value_at, test_at}
@@ -26,7 +26,7 @@ value_at-tells Product a b = product_of_polys-tells a b
 one_more-tells : (a b : Polynomial) → Tells (one_more a b)
 one_more-tells a b = bind-tells (difference_of_polys a b) (λ d. sum_of_polys d one) (difference_of_polys-tells a b) (λ d. sum_of_polys-tells d one)
 
-pub test_at-tells : (relation : Relation) (a b : Polynomial) → Tells (test_at relation a b)
+pub test_at-tells : (relation : TestRelation) (a b : Polynomial) → Tells (test_at relation a b)
 test_at-tells Less a b = one_more-tells a b
 test_at-tells LessOrEqual a b = difference_of_polys-tells a b
 test_at-tells Greater a b = one_more-tells b a

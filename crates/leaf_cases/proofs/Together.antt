@@ -7,7 +7,7 @@ use Rattle.items.proofs.Each.{each-append, each-front, each-back}
 use Rattle.linear_terms.specs.declared.col.Col.{Col}
 use Rattle.linear_terms.specs.declared.col.Col.TheVariants.{At, Aux}
 use Rattle.linear_terms.specs.declared.row.Case.{Case}
-use Rattle.linear_terms.specs.Auxiliaries.{renumbered, renumbered_column}
+use Rattle.linear_terms.specs.Auxiliaries.{renumbered_polynomial, renumbered_column}
 use Rattle.linear_terms.specs.Row.{RowHolds}
 use Rattle.linear_terms.specs.Value.{value_of}
 use Rattle.transition_formula.specs.Meaning.{numbers, HoldsAt, HoldsCase, HoldsSome}
@@ -72,7 +72,7 @@ module _ (columns most : ℕ) (a b : Case) (sits : Sits columns most a) (s x y :
         record {
           rows = each-append (RowHolds w) a.rows (map (renumbered_row (λ n. a.aux + n)) b.rows) left.rows (rows-moved (λ n. a.aux + n) (numbers s k.0) w told b.rows k.1.rows);
           posts =
-              map-append (value_of w) a.post (map (renumbered (λ n. a.aux + n)) b.post)
+              map-append (value_of w) a.post (map (renumbered_polynomial (λ n. a.aux + n)) b.post)
               ∙ (λ i. left.posts i ++ (posts-moved (λ n. a.aux + n) (numbers s k.0) w told b.post ∙ k.1.posts) i);
         },
       )
@@ -100,7 +100,7 @@ beside-held a b s z (aux, h) =
       );
       joined =
           sym h.posts
-          ∙ map-append (value_of w) a.post (map (renumbered (λ n. a.aux + n)) b.post)
+          ∙ map-append (value_of w) a.post (map (renumbered_polynomial (λ n. a.aux + n)) b.post)
           ∙ ap (λ l. map (value_of w) a.post ++ l) (posts-moved (λ n. a.aux + n) at w told b.post);
     }
 

@@ -24,18 +24,18 @@ pub record Claim : Type 0 where
 abbrev pub rows_of : List Claim → List Row
 rows_of claims = filter_map (λ claim. row_of claim.kind claim.poly) claims
 
-abbrev pub lost_of : List Claim → List Loss
-lost_of claims = flat_map (λ claim. losses_of claim.poly) claims
+abbrev pub claim_losses : List Claim → List Loss
+claim_losses claims = flat_map (λ claim. losses_of claim.poly) claims
 
 -- the case with more rows, and other posts over more auxiliaries
-abbrev pub limited : Case → ℕ → List Claim → List Polynomial → Case
-limited case more claims post = record {
+abbrev pub case_with_claims : Case → ℕ → List Claim → List Polynomial → Case
+case_with_claims case more claims post = record {
   aux = case.aux + more;
   rows = case.rows ++ rows_of claims;
   post = post;
 }
 
 -- the case with this value alone; one that is lost may be any number: it becomes a new auxiliary
-abbrev pub valued : Case → Answer → Case
-valued case (Ok p) = limited case 0 [] (p ∷ [])
-valued case (Err e) = limited case 1 [] (column_of (Aux case.aux) ∷ [])
+abbrev pub case_with_value : Case → Answer → Case
+case_with_value case (Ok p) = case_with_claims case 0 [] (p ∷ [])
+case_with_value case (Err e) = case_with_claims case 1 [] (column_of (Aux case.aux) ∷ [])

@@ -6,7 +6,7 @@ use Rattle.linear_terms.specs.Polynomial.{Polynomial, column_of}
 use Rattle.syntax_tree.specs.Code.{Statement, Set, Any, Call, Guard}
 use Rattle.syntax_tree.specs.Term.{Term}
 use Rattle.transition_formula.specs.declared.loss.Loss.{Loss}
-use Rattle.transition_formula.specs.Composition.{sequence_of, lost_in_sequence}
+use Rattle.transition_formula.specs.Composition.{sequence_of, losses_in_sequence}
 use Rattle.transition_formula.specs.Transition.{Transition}
 use Rattle.leaf_cases.specs.Expression.{lists_of}
 use Rattle.leaf_cases.specs.Guard.{columns_of, guard_of, with_posts}
@@ -67,26 +67,26 @@ cut to f = record {
 }
 
 -- the globals, and the returned value where it is awaited
-abbrev pub awaited : ℕ → Option ℕ → ℕ
-awaited globals None = globals
-awaited globals (Some col) = globals + 1
+abbrev pub awaited_count : ℕ → Option ℕ → ℕ
+awaited_count globals None = globals
+awaited_count globals (Some col) = globals + 1
 
 -- a value goes into the column that awaits it
-abbrev pub received : Option ℕ → Polynomial → List Polynomial → List Polynomial
-received None value posts = posts
-received (Some col) value posts = slice_set posts col value
+abbrev pub posts_with_value : Option ℕ → Polynomial → List Polynomial → List Polynomial
+posts_with_value None value posts = posts
+posts_with_value (Some col) value posts = slice_set posts col value
 
 -- the globals take the callee's posts, and the other columns stay, but for the one that awaits the
 -- value
 abbrev pub leaving_case : ℕ → ℕ → Option ℕ → Case → Case
 leaving_case columns globals into case =
-    with_posts (received into (operand globals case)
+    with_posts (posts_with_value into (operand globals case)
     (take globals case.post ++ drop globals (columns_of columns))) case
 
 abbrev pub call_sequence : ℕ → ℕ → List Term → Option ℕ → Transition → Transition
 call_sequence columns globals args into callee =
     sequence_of (entering columns globals (length args) (arguments_of args).cases)
-    (cut (awaited globals into) callee)
+    (cut (awaited_count globals into) callee)
 
 abbrev pub call_of : ℕ → ℕ → List Term → Option ℕ → Transition → Transition
 call_of columns globals args into callee =
@@ -97,11 +97,11 @@ call_of columns globals args into callee =
           (call_sequence columns globals args into callee).cases;
     }
 
-abbrev pub lost_in_call : ℕ → ℕ → List Term → Option ℕ → Transition → List Loss
-lost_in_call columns globals args into callee =
+abbrev pub losses_in_call : ℕ → ℕ → List Term → Option ℕ → Transition → List Loss
+losses_in_call columns globals args into callee =
     (arguments_of args).lost
-    ++ lost_in_sequence (entering columns globals (length args) (arguments_of args).cases)
-    (cut (awaited globals into) callee)
+    ++ losses_in_sequence (entering columns globals (length args) (arguments_of args).cases)
+    (cut (awaited_count globals into) callee)
 
 -- a formula that holds of nothing
 abbrev pub nothing_of : ℕ → Transition
@@ -112,11 +112,11 @@ abbrev pub known_call : ℕ → ℕ → List Term → Option ℕ → Option (Opt
 known_call columns globals args into (Some (Some callee)) = call_of columns globals args into callee
 known_call columns globals args into _ = nothing_of columns
 
-abbrev pub lost_in_known_call : ℕ → ℕ → List Term → Option ℕ → Option (Option Transition)
+abbrev pub losses_in_known_call : ℕ → ℕ → List Term → Option ℕ → Option (Option Transition)
     → List Loss
-lost_in_known_call columns globals args into (Some (Some callee)) =
-    lost_in_call columns globals args into callee
-lost_in_known_call columns globals args into _ = []
+losses_in_known_call columns globals args into (Some (Some callee)) =
+    losses_in_call columns globals args into callee
+losses_in_known_call columns globals args into _ = []
 
 -- ---- an edge, by what it does; the other statements stand at no edge
 
@@ -128,10 +128,10 @@ leaf_of columns globals known (Call proc args into) =
     known_call columns globals args into (slice_get known proc)
 leaf_of columns globals known _ = nothing_of columns
 
-abbrev pub lost_in_leaf : ℕ → ℕ → List (Option Transition) → Statement → List Loss
-lost_in_leaf columns globals known (Guard cond) = (lists_of cond).truth.lost
-lost_in_leaf columns globals known (Set col value) = (lists_of value).value.lost
-lost_in_leaf columns globals known (Any col) = []
-lost_in_leaf columns globals known (Call proc args into) =
-    lost_in_known_call columns globals args into (slice_get known proc)
-lost_in_leaf columns globals known _ = []
+abbrev pub losses_in_leaf : ℕ → ℕ → List (Option Transition) → Statement → List Loss
+losses_in_leaf columns globals known (Guard cond) = (lists_of cond).truth.lost
+losses_in_leaf columns globals known (Set col value) = (lists_of value).value.lost
+losses_in_leaf columns globals known (Any col) = []
+losses_in_leaf columns globals known (Call proc args into) =
+    losses_in_known_call columns globals args into (slice_get known proc)
+losses_in_leaf columns globals known _ = []

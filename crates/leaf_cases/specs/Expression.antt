@@ -8,15 +8,15 @@ use Rattle.syntax_tree.specs.declared.op.Op.TheVariants.{Add, Sub, Mul, Div, Rem
 use Rattle.syntax_tree.specs.declared.op.Sign.{Sign}
 use Rattle.syntax_tree.specs.declared.op.Sign.TheVariants.{Plus, Minus, Not}
 use Rattle.syntax_tree.specs.Term.{Term, Lit, Col, Unary, Binary}
-use Rattle.leaf_cases.specs.declared.division.Part.TheVariants.{Quotient, Remainder}
+use Rattle.leaf_cases.specs.declared.division.DivisionPart.TheVariants.{Quotient, Remainder}
 use Rattle.leaf_cases.specs.declared.expression.Sought.{Sought}
 use Rattle.leaf_cases.specs.declared.expression.Sought.TheVariants as sought
 use Rattle.leaf_cases.specs.declared.step.Arithmetic.TheVariants.{Negate, Sum, Difference, Product}
-use Rattle.leaf_cases.specs.declared.step.Relation.TheVariants.{Less, LessOrEqual, Greater, GreaterOrEqual, Same, Negative, Positive, Zero}
+use Rattle.leaf_cases.specs.declared.step.TestRelation.TheVariants.{Less, LessOrEqual, Greater, GreaterOrEqual, Same, Negative, Positive, Zero}
 use Rattle.leaf_cases.specs.declared.step.Step.{Step}
 use Rattle.leaf_cases.specs.declared.step.Step.TheVariants.{Value, Divide, Test}
 use Rattle.leaf_cases.specs.Listed.{Listed, together, either}
-use Rattle.leaf_cases.specs.Steps.{cases_by, lost_by, with_number}
+use Rattle.leaf_cases.specs.Steps.{cases_by, losses_by_steps, with_number}
 
 pub record Lists : Type 0 where
   pub value : Listed
@@ -27,16 +27,16 @@ pub record Lists : Type 0 where
 abbrev pub by : List Step → Listed → Listed
 by steps list = record {
   cases = cases_by steps list.cases;
-  lost = list.lost ++ lost_by steps list.cases;
+  lost = list.lost ++ losses_by_steps steps list.cases;
 }
 
 -- one case without rows
-abbrev pub known : Polynomial → Listed
-known p = record { cases = record { aux = 0; rows = []; post = p ∷ [] } ∷ []; lost = [] }
+abbrev pub one_case : Polynomial → Listed
+one_case p = record { cases = record { aux = 0; rows = []; post = p ∷ [] } ∷ []; lost = [] }
 
 -- each case with a number as its value
-abbrev pub numbered : ℤ → Listed → Listed
-numbered value list = record { cases = map (with_number value) list.cases; lost = list.lost }
+abbrev pub number_cases : ℤ → Listed → Listed
+number_cases value list = record { cases = map (with_number value) list.cases; lost = list.lost }
 
 -- a number is true below 0 and above 0, and false at 0
 abbrev pub of_number : Listed → Lists
@@ -51,7 +51,7 @@ of_number value =
 abbrev pub of_test : Listed → Listed → Lists
 of_test truth falsity =
     record {
-      value = either (numbered (pos 1) truth) (numbered (pos 0) falsity);
+      value = either (number_cases (pos 1) truth) (number_cases (pos 0) falsity);
       truth = truth;
       falsity = falsity;
     }
@@ -62,8 +62,8 @@ sign_lists Minus inner = of_number (by (Value Negate ∷ []) inner.value)
 sign_lists Not inner = of_test inner.falsity inner.truth
 
 -- by a step at each pair of values
-abbrev pub calculated : Step → Lists → Lists → Lists
-calculated step left right = of_number (by (step ∷ []) (together left.value right.value))
+abbrev pub calculation_lists : Step → Lists → Lists → Lists
+calculation_lists step left right = of_number (by (step ∷ []) (together left.value right.value))
 
 -- what a comparison says of its operands: one of these
 abbrev pub tests_of : Op → List Step
@@ -85,20 +85,20 @@ opposite Eq = Ne
 opposite Ne = Eq
 opposite op = op
 
-abbrev pub compared : Op → Lists → Lists → Listed
-compared op left right = by (tests_of op) (together left.value right.value)
+abbrev pub comparison_list : Op → Lists → Lists → Listed
+comparison_list op left right = by (tests_of op) (together left.value right.value)
 
 abbrev pub comparison : Op → Lists → Lists → Lists
-comparison op left right = of_test (compared op left right) (compared (opposite op) left right)
+comparison op left right = of_test (comparison_list op left right) (comparison_list (opposite op) left right)
 
 -- Where the left operand of `&&` is false, or that of `||` true, the right one has no part (C11
 -- 6.5.13, 6.5.14).
 abbrev pub operator_lists : Op → Lists → Lists → Lists
-operator_lists Add left right = calculated (Value Sum) left right
-operator_lists Sub left right = calculated (Value Difference) left right
-operator_lists Mul left right = calculated (Value Product) left right
-operator_lists Div left right = calculated (Divide Quotient) left right
-operator_lists Rem left right = calculated (Divide Remainder) left right
+operator_lists Add left right = calculation_lists (Value Sum) left right
+operator_lists Sub left right = calculation_lists (Value Difference) left right
+operator_lists Mul left right = calculation_lists (Value Product) left right
+operator_lists Div left right = calculation_lists (Divide Quotient) left right
+operator_lists Rem left right = calculation_lists (Divide Remainder) left right
 operator_lists And left right =
     of_test (together left.truth right.truth)
     (either left.falsity (together left.truth right.falsity))
@@ -113,8 +113,8 @@ operator_lists Eq left right = comparison Eq left right
 operator_lists Ne left right = comparison Ne left right
 
 unfoldable pub lists_of : Term → Lists
-lists_of (Lit value) = of_number (known (constant_of value))
-lists_of (Col col) = of_number (known (column_of (At col)))
+lists_of (Lit value) = of_number (one_case (constant_of value))
+lists_of (Col col) = of_number (one_case (column_of (At col)))
 lists_of (Unary sign inner) = sign_lists sign (lists_of inner)
 lists_of (Binary op left right) = operator_lists op (lists_of left) (lists_of right)
 

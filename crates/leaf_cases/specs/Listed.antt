@@ -4,7 +4,7 @@
 use Rattle.std.specs.Prelude.{ℕ, ◌+◌, List, ◌++◌, map, Bool, ◌&&◌, nat_lt, IsTrue}
 use Rattle.std.specs.List.{flat_map, list_all}
 use Rattle.linear_terms.specs.declared.row.Case.{Case}
-use Rattle.linear_terms.specs.Auxiliaries.{renumbered, is_numbered}
+use Rattle.linear_terms.specs.Auxiliaries.{renumbered_polynomial, is_numbered}
 use Rattle.transition_formula.specs.declared.loss.Loss.{Loss}
 use Rattle.transition_formula.specs.Renumbering.{renumbered_row}
 use Rattle.transition_formula.specs.Transition.{every_column_of}
@@ -20,7 +20,7 @@ beside first second =
     record {
       aux = first.aux + second.aux;
       rows = first.rows ++ map (renumbered_row (λ n. first.aux + n)) second.rows;
-      post = first.post ++ map (renumbered (λ n. first.aux + n)) second.post;
+      post = first.post ++ map (renumbered_polynomial (λ n. first.aux + n)) second.post;
     }
 
 -- each case of the one with each of the other

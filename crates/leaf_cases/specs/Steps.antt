@@ -10,16 +10,16 @@ use Rattle.linear_terms.specs.Polynomial.{Polynomial, column_of, constant_of}
 use Rattle.linear_terms.specs.Operations.{multiple_of, sum_of_polys, product_of_polys, difference_of_polys}
 use Rattle.transition_formula.specs.declared.loss.Loss.{Loss}
 use Rattle.transition_formula.specs.Loss.{losses_of}
-use Rattle.leaf_cases.specs.declared.division.Part.{Part}
-use Rattle.leaf_cases.specs.declared.division.Part.TheVariants.{Quotient, Remainder}
+use Rattle.leaf_cases.specs.declared.division.DivisionPart.{DivisionPart}
+use Rattle.leaf_cases.specs.declared.division.DivisionPart.TheVariants.{Quotient, Remainder}
 use Rattle.leaf_cases.specs.declared.division.Signs.{Signs}
 use Rattle.leaf_cases.specs.declared.step.Arithmetic.{Arithmetic}
 use Rattle.leaf_cases.specs.declared.step.Arithmetic.TheVariants.{Negate, Sum, Difference, Product}
-use Rattle.leaf_cases.specs.declared.step.Relation.{Relation}
-use Rattle.leaf_cases.specs.declared.step.Relation.TheVariants.{Less, LessOrEqual, Greater, GreaterOrEqual, Same, Negative, Positive, Zero}
+use Rattle.leaf_cases.specs.declared.step.TestRelation.{TestRelation}
+use Rattle.leaf_cases.specs.declared.step.TestRelation.TheVariants.{Less, LessOrEqual, Greater, GreaterOrEqual, Same, Negative, Positive, Zero}
 use Rattle.leaf_cases.specs.declared.step.Step.{Step}
 use Rattle.leaf_cases.specs.declared.step.Step.TheVariants.{Value, Divide, Test}
-use Rattle.leaf_cases.specs.Claims.{Answer, Claim, limited, lost_of, valued}
+use Rattle.leaf_cases.specs.Claims.{Answer, Claim, case_with_claims, claim_losses, case_with_value}
 use Rattle.leaf_cases.specs.Division.{zero, one, minus_one, division, all_signs}
 
 -- the value of the first operand, or of the second
@@ -38,7 +38,7 @@ one_more a b = difference_of_polys a b >>= λ d. sum_of_polys d one
 
 -- what a test says of its operands, or of its one operand and 0: `a < b` is the row `a - b + 1 <=
 -- 0`
-abbrev pub test_at : Relation → Polynomial → Polynomial → Answer
+abbrev pub test_at : TestRelation → Polynomial → Polynomial → Answer
 test_at Less a b = one_more a b
 test_at LessOrEqual a b = difference_of_polys a b
 test_at Greater a b = one_more b a
@@ -48,13 +48,13 @@ test_at Negative a b = difference_of_polys a minus_one
 test_at Positive a b = difference_of_polys one a
 test_at Zero a b = difference_of_polys a zero
 
-abbrev pub kind_of : Relation → Kind
+abbrev pub kind_of : TestRelation → Kind
 kind_of Same = kind.Equal
 kind_of Zero = kind.Equal
 kind_of _ = kind.AtMost
 
 -- the quotient is the first new auxiliary of the case, and the remainder the second
-abbrev pub part_at : Part → ℕ → ℕ
+abbrev pub part_at : DivisionPart → ℕ → ℕ
 part_at Quotient next = next
 part_at Remainder next = next + 1
 
@@ -62,33 +62,33 @@ abbrev pub division_at : Signs → Case → List Claim
 division_at signs case = division signs (operand 0 case) (operand 1 case) (column_of (Aux case.aux))
     (column_of (Aux (case.aux + 1)))
 
-abbrev pub test_claim : Relation → Case → Claim
+abbrev pub test_claim : TestRelation → Case → Claim
 test_claim relation case = record {
   kind = kind_of relation;
   poly = test_at relation (operand 0 case) (operand 1 case);
 }
 
 -- the cases that a step makes of one
-abbrev pub made_at : Step → Case → List Case
-made_at (Value arithmetic) case =
-    valued case (value_at arithmetic (operand 0 case) (operand 1 case)) ∷ []
-made_at (Divide part) case =
-    map (λ signs. limited case 2 (division_at signs case)
+abbrev pub cases_of_step : Step → Case → List Case
+cases_of_step (Value arithmetic) case =
+    case_with_value case (value_at arithmetic (operand 0 case) (operand 1 case)) ∷ []
+cases_of_step (Divide part) case =
+    map (λ signs. case_with_claims case 2 (division_at signs case)
     (column_of (Aux (part_at part case.aux)) ∷ [])) all_signs
-made_at (Test relation) case = limited case 0 (test_claim relation case ∷ []) [] ∷ []
+cases_of_step (Test relation) case = case_with_claims case 0 (test_claim relation case ∷ []) [] ∷ []
 
-abbrev pub lost_at : Step → Case → List Loss
-lost_at (Value arithmetic) case = losses_of (value_at arithmetic (operand 0 case) (operand 1 case))
-lost_at (Divide part) case = flat_map (λ signs. lost_of (division_at signs case)) all_signs
-lost_at (Test relation) case = lost_of (test_claim relation case ∷ [])
+abbrev pub losses_at : Step → Case → List Loss
+losses_at (Value arithmetic) case = losses_of (value_at arithmetic (operand 0 case) (operand 1 case))
+losses_at (Divide part) case = flat_map (λ signs. claim_losses (division_at signs case)) all_signs
+losses_at (Test relation) case = claim_losses (test_claim relation case ∷ [])
 
 -- the case with a number as its value
 abbrev pub with_number : ℤ → Case → Case
-with_number value case = limited case 0 [] (constant_of value ∷ [])
+with_number value case = case_with_claims case 0 [] (constant_of value ∷ [])
 
 -- a step at each case, one step after another
 unfoldable pub cases_by : List Step → List Case → List Case
-cases_by steps cases = flat_map (λ step. flat_map (made_at step) cases) steps
+cases_by steps cases = flat_map (λ step. flat_map (cases_of_step step) cases) steps
 
-unfoldable pub lost_by : List Step → List Case → List Loss
-lost_by steps cases = flat_map (λ step. flat_map (lost_at step) cases) steps
+unfoldable pub losses_by_steps : List Step → List Case → List Loss
+losses_by_steps steps cases = flat_map (λ step. flat_map (losses_at step) cases) steps

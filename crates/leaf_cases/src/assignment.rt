@@ -66,12 +66,12 @@ fn set_case(alloc: Global, same: &Items<Poly>, col: u32, case: &Case) -> Result<
     Ok(Case {
         aux: case.aux,
         rows,
-        post: replaced(posts, col, value),
+        post: posts_with(posts, col, value),
     })
 }
 
 /// The posts with another in the place of one, if that is there.
-pub(crate) fn replaced(posts: Items<Poly>, col: u32, value: Poly) -> Items<Poly>
+pub(crate) fn posts_with(posts: Items<Poly>, col: u32, value: Poly) -> Items<Poly>
     ensures { result ≡ slice_set posts col value }
 {
     let mut posts = posts.into_vec();
@@ -92,7 +92,7 @@ pub(crate) fn any(alloc: Global, columns: u32, col: u32) -> Result<Formula, Form
     cases.push(Case {
         aux: 1,
         rows: Items::new(alloc),
-        post: replaced(same, col, free),
+        post: posts_with(same, col, free),
     })?;
     Ok(formula(columns, columns, cases))
 }

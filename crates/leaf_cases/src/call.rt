@@ -5,11 +5,11 @@ ghost use Rattle.syntax_tree.specs.WellFormed.{all_columns_below, into_fits, joi
 ghost use Rattle.execution.specs.Step.{values_of};
 ghost use Rattle.transition_formula.specs.Meaning.{Holds};
 ghost use Rattle.transition_formula.specs.Transition.{IsTransition};
-ghost use Rattle.leaf_cases.specs.Edges.{arguments_of, awaited, call_of, cut, entering, leaving_case, lost_in_call, received};
+ghost use Rattle.leaf_cases.specs.Edges.{arguments_of, awaited_count, call_of, cut, entering, leaving_case, losses_in_call, posts_with_value};
 ghost use Rattle.leaf_cases.specs.Guard.{with_posts};
 ghost use Rattle.leaf_cases.specs.Steps.{operand};
 
-use crate::assignment::replaced;
+use crate::assignment::posts_with;
 use crate::expression::{Sought, cases_of};
 use crate::guard::{columns_below, formula};
 use crate::listed::both;
@@ -24,7 +24,7 @@ use transition_formula::{Formula, FormulaError, Loss, seq};
 /// caller's columns. What is lost is noted.
 pub(crate) fn call(
     alloc: Global,
-    widths: Widths,
+    widths: LeafWidths,
     args: &[Core],
     into: Option<u32>,
     callee: &Formula,
@@ -36,18 +36,18 @@ pub(crate) fn call(
     requires operators { joint_operators (map term_of args.now) ≤ MOST_OPERATORS }
     requires into { IsTrue (into_fits widths.columns into) }
     requires enters { callee.now.from ≡ widths.globals + length args.now }
-    requires leaves { awaited widths.globals into ≤ callee.now.to }
+    requires leaves { awaited_count widths.globals into ≤ callee.now.to }
     requires few { All (λ case. case.aux ≤ 64) callee.now.cases }
     ensures exact { IfOk result
         (λ f. f ≡ call_of widths.columns widths.globals (map term_of args.now) into callee.now) }
     ensures noted { OnOk result
-        (losses.new ≡ losses.old ++ lost_in_call widths.columns widths.globals
+        (losses.new ≡ losses.old ++ losses_in_call widths.columns widths.globals
         (map term_of args.now) into callee.now) }
 {
     let values = arguments(alloc, args, losses)?;
     let count = callee.from() - widths.globals;
     let before = entering(alloc, widths, count, values.as_slice())?;
-    let after = cut(alloc, awaited(widths.globals, into), callee)?;
+    let after = cut(alloc, awaited_count(widths.globals, into), callee)?;
     let made = seq(alloc, &before, &after, losses)?;
     let formula = leaving(alloc, widths, into, made.cases())?;
     Ok(formula)
@@ -81,7 +81,7 @@ pub fn call_entry(
 {
     let mut lost = Items::new(alloc);
     let values = arguments(alloc, args, &mut lost)?;
-    let widths = Widths { columns, globals };
+    let widths = LeafWidths { columns, globals };
     let formula = entering(alloc, widths, args.len() as u32, values.as_slice())?;
     losses.append(lost)?;
     Ok(formula)
@@ -89,7 +89,7 @@ pub fn call_entry(
 
 /// How many columns a state has, and how many of these are globals.
 #[derive(Clone, Copy)]
-pub(crate) struct Widths {
+pub(crate) struct LeafWidths {
     pub(crate) columns: u32,
     pub(crate) globals: u32,
 }
@@ -121,7 +121,7 @@ fn arguments(
 /// From the state to the globals and the arguments.
 fn entering(
     alloc: Global,
-    widths: Widths,
+    widths: LeafWidths,
     count: u32,
     cases: &[Case],
 ) -> Result<Formula, FormulaError>
@@ -167,9 +167,9 @@ fn entering_case(front: &Items<Poly>, case: &Case) -> Result<Case, FormulaError>
 
 /// How many of its posts are asked of a callee: the globals, and the returned value where it is
 /// awaited.
-fn awaited(globals: u32, into: Option<u32>) -> u32
-    requires { awaited globals into < 2 ^ 32 }
-    ensures { result ≡ awaited globals into }
+fn awaited_count(globals: u32, into: Option<u32>) -> u32
+    requires { awaited_count globals into < 2 ^ 32 }
+    ensures { result ≡ awaited_count globals into }
 {
     match into {
         Some(_) => globals + 1,
@@ -245,12 +245,12 @@ fn copies(alloc: Global, posts: &[Poly]) -> Result<Items<Poly>, FormulaError>
 /// What a callee leaves is put into the caller's columns.
 fn leaving(
     alloc: Global,
-    widths: Widths,
+    widths: LeafWidths,
     into: Option<u32>,
     cases: &[Case],
 ) -> Result<Formula, FormulaError>
     requires globals { widths.globals ≤ widths.columns }
-    requires cases { IsTransition widths.columns (awaited widths.globals into) cases.now }
+    requires cases { IsTransition widths.columns (awaited_count widths.globals into) cases.now }
     ensures { IfOk result
         (λ f. f ≡ record {
           from = widths.columns;
@@ -276,7 +276,7 @@ fn leaving_cases(
     ensures { IfOk result
         (λ made. made
         ≡ map (λ case. with_posts
-        (received into (operand globals case) (take globals case.post ++ drop globals same.now))
+        (posts_with_value into (operand globals case) (take globals case.post ++ drop globals same.now))
         case) cases.now) }
 {
     let mut made = Items::new(alloc);
@@ -295,7 +295,7 @@ fn leaving_case(
 ) -> Result<Case, FormulaError>
     ensures { IfOk result
         (λ c. c ≡ with_posts
-        (received into (operand globals case.now)
+        (posts_with_value into (operand globals case.now)
         (take globals case.now.post ++ drop globals same.now)) case.now) }
 {
     let rows = case.rows.clone()?;
@@ -307,16 +307,16 @@ fn leaving_case(
     Ok(Case {
         aux: case.aux,
         rows,
-        post: received(into, value, post),
+        post: posts_with_value(into, value, post),
     })
 }
 
 /// A value goes into the column that awaits it.
-fn received(into: Option<u32>, value: Poly, posts: Items<Poly>) -> Items<Poly>
-    ensures { result ≡ received into value posts }
+fn posts_with_value(into: Option<u32>, value: Poly, posts: Items<Poly>) -> Items<Poly>
+    ensures { result ≡ posts_with_value into value posts }
 {
     match into {
-        Some(col) => replaced(posts, col, value),
+        Some(col) => posts_with(posts, col, value),
         None => posts,
     }
 }

@@ -1,7 +1,7 @@
 ghost use Rattle.std.specs.Prelude.{◌≡◌, ◌≢◌, ◌<◌, ◌^◌, ◌++◌, [], ◌∷◌, Err, IfOk, OnOk};
 ghost use Rattle.linear_terms.specs.declared.error.TermError.TheVariants.{Memory};
-ghost use Rattle.transition_formula.specs.Loss.{noted, losses_of};
-ghost use Rattle.leaf_cases.specs.Claims.{rows_of, valued};
+ghost use Rattle.transition_formula.specs.Loss.{error_losses, losses_of};
+ghost use Rattle.leaf_cases.specs.Claims.{rows_of, case_with_value};
 
 use items::Items;
 use linear_terms::{Case, Col, Kind, Poly, Row, TermError};
@@ -10,7 +10,7 @@ use transition_formula::{FormulaError, Loss, column, loss_of};
 
 /// Notes an error of an operation; want of memory is an error here too.
 fn note(error: TermError, losses: &mut Items<Loss>) -> Result<(), FormulaError>
-    ensures noted { OnOk result (losses.new ≡ losses.old ++ noted error) }
+    ensures noted { OnOk result (losses.new ≡ losses.old ++ error_losses error) }
     ensures told { OnOk result (error ≢ Memory) }
 {
     match loss_of(error) {
@@ -44,14 +44,14 @@ pub(crate) fn push_claim(
 }
 
 /// The case with this value alone; one that is lost is noted, and becomes a new auxiliary.
-pub(crate) fn valued(
+pub(crate) fn case_with_value(
     alloc: Global,
     case: &Case,
     value: Result<Poly, TermError>,
     losses: &mut Items<Loss>,
 ) -> Result<Case, FormulaError>
     requires { case.now.aux < 2 ^ 31 }
-    ensures exact { IfOk result (λ c. c ≡ valued case.now value) }
+    ensures exact { IfOk result (λ c. c ≡ case_with_value case.now value) }
     ensures noted { OnOk result (losses.new ≡ losses.old ++ losses_of value) }
     ensures told { OnOk result (value ≢ Err Memory) }
 {

@@ -1,7 +1,7 @@
 ghost use Rattle.std.specs.Prelude.{◌≡◌, ◌++◌, OnOk};
 ghost use Rattle.items.specs.Gives.{Gives};
 ghost use Rattle.linear_terms.specs.TermError.{cause};
-ghost use Rattle.leaf_cases.specs.Claims.{rows_of, lost_of};
+ghost use Rattle.leaf_cases.specs.Claims.{rows_of, claim_losses};
 ghost use Rattle.leaf_cases.specs.Division.{equation, divisor_sign, dividend_sign, lower_bound, upper_bound, division};
 
 use crate::claims::push_claim;
@@ -12,7 +12,7 @@ use transition_formula::{FormulaError, Loss};
 
 /// What is taken of a division.
 #[derive(Clone, Copy)]
-pub(crate) enum Part {
+pub(crate) enum DivisionPart {
     Quotient,
     Remainder,
 }
@@ -48,7 +48,7 @@ impl Division<'_> {
             self.now.quotient.now self.now.remainder.now)) }
         ensures noted { OnOk result
             (losses.new ≡ losses.old
-            ++ lost_of (division signs self.now.dividend.now self.now.divisor.now
+            ++ claim_losses (division signs self.now.dividend.now self.now.divisor.now
             self.now.quotient.now self.now.remainder.now)) }
     {
         let Division {

@@ -4,10 +4,10 @@ ghost use Rattle.flow_graph.specs.Walks.{EdgeRelates};
 ghost use Rattle.syntax_tree.specs.WellFormed.{IsWellFormed};
 ghost use Rattle.transition_formula.specs.Meaning.{Holds};
 ghost use Rattle.leaf_cases.specs.Conditions.{columns_at, AreKnown, IsActOf, KnownCalls};
-ghost use Rattle.leaf_cases.specs.Edges.{leaf_of, lost_in_leaf};
+ghost use Rattle.leaf_cases.specs.Edges.{leaf_of, losses_in_leaf};
 
 use crate::assignment::{any, nothing, set};
-use crate::call::{Widths, call};
+use crate::call::{LeafWidths, call};
 use crate::guard::truth;
 use flow_graph::Act;
 use items::Items;
@@ -34,7 +34,7 @@ pub fn leaf(
         (λ f. f ≡ leaf_of (columns_at program.now proc) (length program.now.globals) known.now
         (statement_of_act act.now)) }
     ensures noted { OnOk result
-        (losses.new ≡ losses.old ++ lost_in_leaf (columns_at program.now proc)
+        (losses.new ≡ losses.old ++ losses_in_leaf (columns_at program.now proc)
         (length program.now.globals) known.now (statement_of_act act.now)) }
     ensures kept { OnErr result (losses.new ≡ losses.old) }
     ensures cases { IfOk result (λ f. length f.cases ≤ 4096) }
@@ -71,7 +71,7 @@ fn act_formula(
         (λ f. f ≡ leaf_of (columns_at program.now proc) (length program.now.globals) known.now
         (statement_of_act act.now)) }
     ensures noted { OnOk result
-        (losses.new ≡ losses.old ++ lost_in_leaf (columns_at program.now proc)
+        (losses.new ≡ losses.old ++ losses_in_leaf (columns_at program.now proc)
         (length program.now.globals) known.now (statement_of_act act.now)) }
 {
     let widths = widths_of(program, proc);
@@ -90,7 +90,7 @@ fn act_formula(
 }
 
 /// How many columns and globals the states of a procedure have.
-fn widths_of(program: &Program, proc: u32) -> Widths
+fn widths_of(program: &Program, proc: u32) -> LeafWidths
     requires formed { IsWellFormed program.now }
     requires procedure { proc < length program.now.procs }
     ensures columns { result.columns ≡ columns_at program.now proc }
@@ -98,7 +98,7 @@ fn widths_of(program: &Program, proc: u32) -> Widths
 {
     let own = own_columns(program, proc);
     let globals = program.globals.len() as u32;
-    Widths {
+    LeafWidths {
         columns: globals + own + 1,
         globals,
     }

@@ -3,12 +3,12 @@ ghost use Rattle.syntax_tree.specs.declared.limits.TheConstants.{MOST_OPERATORS}
 ghost use Rattle.syntax_tree.specs.Term.{term_of};
 ghost use Rattle.syntax_tree.specs.WellFormed.{operators_of};
 ghost use Rattle.leaf_cases.specs.Listed.{AreFew, together, either};
-ghost use Rattle.leaf_cases.specs.Steps.{with_number, cases_by, lost_by};
-ghost use Rattle.leaf_cases.specs.Expression.{known, of_number, lists_of, sign_lists, operator_lists, calculated, compared, comparison, opposite, tests_of, sought_in};
+ghost use Rattle.leaf_cases.specs.Steps.{with_number, cases_by, losses_by_steps};
+ghost use Rattle.leaf_cases.specs.Expression.{one_case, of_number, lists_of, sign_lists, operator_lists, calculation_lists, comparison_list, comparison, opposite, tests_of, sought_in};
 
-use crate::division::Part;
+use crate::division::DivisionPart;
 use crate::listed::both;
-use crate::step::{Arithmetic, Relation, Step, cases_by, numbered};
+use crate::step::{Arithmetic, Step, TestRelation, cases_by, push_number_cases};
 use items::Items;
 use linear_terms::{Case, Col, Poly};
 use std::alloc::Global;
@@ -29,19 +29,19 @@ const DIFFERENCE: Step = Step::Value(Arithmetic::Difference);
 
 const PRODUCT: Step = Step::Value(Arithmetic::Product);
 
-const QUOTIENT: Step = Step::Divide(Part::Quotient);
+const QUOTIENT: Step = Step::Divide(DivisionPart::Quotient);
 
-const REMAINDER: Step = Step::Divide(Part::Remainder);
+const REMAINDER: Step = Step::Divide(DivisionPart::Remainder);
 
-const LESS: Step = Step::Test(Relation::Less);
+const LESS: Step = Step::Test(TestRelation::Less);
 
-const LESS_OR_EQUAL: Step = Step::Test(Relation::LessOrEqual);
+const LESS_OR_EQUAL: Step = Step::Test(TestRelation::LessOrEqual);
 
-const GREATER: Step = Step::Test(Relation::Greater);
+const GREATER: Step = Step::Test(TestRelation::Greater);
 
-const GREATER_OR_EQUAL: Step = Step::Test(Relation::GreaterOrEqual);
+const GREATER_OR_EQUAL: Step = Step::Test(TestRelation::GreaterOrEqual);
 
-const SAME: Step = Step::Test(Relation::Same);
+const SAME: Step = Step::Test(TestRelation::Same);
 
 /// The cases of an expression's value, of its truth or of its falsity. What is lost on the way is
 /// noted.
@@ -61,11 +61,11 @@ pub(crate) fn cases_of(
 {
     match e {
         Core::Lit(value) => {
-            let value = known(alloc, Poly::constant(alloc, *value))?;
+            let value = one_case(alloc, Poly::constant(alloc, *value))?;
             number_cases(alloc, value, sought, losses)
         }
         Core::Col(col) => {
-            let value = known(alloc, column(alloc, Col::At(*col))?)?;
+            let value = one_case(alloc, column(alloc, Col::At(*col))?)?;
             number_cases(alloc, value, sought, losses)
         }
         Core::Unary(sign, inner) => sign_cases(alloc, *sign, inner, sought, losses),
@@ -74,8 +74,8 @@ pub(crate) fn cases_of(
 }
 
 /// One case without rows.
-fn known(alloc: Global, value: Poly) -> Result<Items<Case>, FormulaError>
-    ensures { IfOk result (λ made. made ≡ (known value).cases) }
+fn one_case(alloc: Global, value: Poly) -> Result<Items<Case>, FormulaError>
+    ensures { IfOk result (λ made. made ≡ (one_case value).cases) }
 {
     let mut post = Items::new(alloc);
     post.push(value)?;
@@ -107,13 +107,13 @@ fn number_cases(
         Sought::Value => Ok(values),
         Sought::Truth => {
             let steps = [
-                Step::Test(Relation::Negative),
-                Step::Test(Relation::Positive),
+                Step::Test(TestRelation::Negative),
+                Step::Test(TestRelation::Positive),
             ];
             cases_by(alloc, &steps, values.as_slice(), losses)
         }
         Sought::Falsity => {
-            let steps = [Step::Test(Relation::Zero)];
+            let steps = [Step::Test(TestRelation::Zero)];
             cases_by(alloc, &steps, values.as_slice(), losses)
         }
     }
@@ -126,8 +126,8 @@ fn test_value(alloc: Global, truth: &[Case], falsity: &[Case]) -> Result<Items<C
         falsity.now) }
 {
     let mut made = Items::new(alloc);
-    numbered(alloc, 1, truth, &mut made)?;
-    numbered(alloc, 0, falsity, &mut made)?;
+    push_number_cases(alloc, 1, truth, &mut made)?;
+    push_number_cases(alloc, 0, falsity, &mut made)?;
     Ok(made)
 }
 
@@ -221,11 +221,11 @@ fn calculation_cases(
     ensures exact { IfOk result
         (λ made. made
         ≡ (sought_in sought
-        (calculated step (lists_of (term_of left.now)) (lists_of (term_of right.now)))).cases) }
+        (calculation_lists step (lists_of (term_of left.now)) (lists_of (term_of right.now)))).cases) }
     ensures noted { OnOk result
         (losses.new ≡ losses.old
         ++ (sought_in sought
-        (calculated step (lists_of (term_of left.now)) (lists_of (term_of right.now)))).lost) }
+        (calculation_lists step (lists_of (term_of left.now)) (lists_of (term_of right.now)))).lost) }
 {
     let pairs = joint_cases(alloc, left, Sought::Value, right, Sought::Value, losses)?;
     let steps = [step];
@@ -255,11 +255,11 @@ fn comparison_cases(
         (comparison op (lists_of (term_of left.now)) (lists_of (term_of right.now)))).lost) }
 {
     match sought {
-        Sought::Truth => compared(alloc, op, left, right, losses),
-        Sought::Falsity => compared(alloc, opposite(op), left, right, losses),
+        Sought::Truth => cases_of_comparison(alloc, op, left, right, losses),
+        Sought::Falsity => cases_of_comparison(alloc, opposite(op), left, right, losses),
         Sought::Value => {
-            let truth = compared(alloc, op, left, right, losses)?;
-            let falsity = compared(alloc, opposite(op), left, right, losses)?;
+            let truth = cases_of_comparison(alloc, op, left, right, losses)?;
+            let falsity = cases_of_comparison(alloc, opposite(op), left, right, losses)?;
             test_value(alloc, truth.as_slice(), falsity.as_slice())
         }
     }
@@ -267,7 +267,7 @@ fn comparison_cases(
 
 /// The cases in which a comparison is true.
 #[cycle(expression)]
-fn compared(
+fn cases_of_comparison(
     alloc: Global,
     op: Op,
     left: &Core,
@@ -278,10 +278,10 @@ fn compared(
     requires right { operators_of (term_of right.now) ≤ MOST_OPERATORS + 1 }
     ensures exact { IfOk result
         (λ made. made
-        ≡ (compared op (lists_of (term_of left.now)) (lists_of (term_of right.now))).cases) }
+        ≡ (comparison_list op (lists_of (term_of left.now)) (lists_of (term_of right.now))).cases) }
     ensures noted { OnOk result
         (losses.new ≡ losses.old
-        ++ (compared op (lists_of (term_of left.now)) (lists_of (term_of right.now))).lost) }
+        ++ (comparison_list op (lists_of (term_of left.now)) (lists_of (term_of right.now))).lost) }
 {
     let pairs = joint_cases(alloc, left, Sought::Value, right, Sought::Value, losses)?;
     tests_by(alloc, op, pairs.as_slice(), losses)
@@ -296,7 +296,7 @@ fn tests_by(
 ) -> Result<Items<Case>, FormulaError>
     requires { AreFew (2 ^ 31) pairs.now }
     ensures exact { IfOk result (λ made. made ≡ cases_by (tests_of op) pairs.now) }
-    ensures noted { OnOk result (losses.new ≡ losses.old ++ lost_by (tests_of op) pairs.now) }
+    ensures noted { OnOk result (losses.new ≡ losses.old ++ losses_by_steps (tests_of op) pairs.now) }
 {
     match op {
         Op::Lt => cases_by(alloc, &[LESS], pairs, losses),

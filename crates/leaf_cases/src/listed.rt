@@ -1,12 +1,12 @@
 ghost use Rattle.std.specs.Prelude.{◌≡◌, ◌+◌, ◌<◌, ◌^◌, ◌++◌, map, IfOk, OnOk, IsTrue};
 ghost use Rattle.std.specs.List.{list_all, range_with_len};
-ghost use Rattle.linear_terms.specs.Auxiliaries.{renumbered, is_numbered};
+ghost use Rattle.linear_terms.specs.Auxiliaries.{renumbered_polynomial, is_numbered};
 ghost use Rattle.transition_formula.specs.Renumbering.{renumbered_row};
 ghost use Rattle.transition_formula.specs.Transition.{every_column, every_column_of};
 ghost use Rattle.leaf_cases.specs.Listed.{AreReady, beside, both};
 
 use items::Items;
-use linear_terms::{Case, Poly, Row, renumbered};
+use linear_terms::{Case, Poly, Row, renumbered_poly};
 use std::alloc::Global;
 use transition_formula::FormulaError;
 
@@ -123,7 +123,7 @@ impl Later<'_> {
         requires numbered { IsTrue
             (list_all (every_column (is_numbered self.now.count)) posts.now) }
         ensures { OnOk result
-            (made.new ≡ made.old ++ map (renumbered (λ n. self.now.first + n)) posts.now) }
+            (made.new ≡ made.old ++ map (renumbered_polynomial (λ n. self.now.first + n)) posts.now) }
     {
         for post in posts {
             made.push(self.poly(alloc, post)?)?;
@@ -135,8 +135,8 @@ impl Later<'_> {
     fn poly(&self, alloc: Global, poly: &Poly) -> Result<Poly, FormulaError>
         requires numbers { self.now.numbers.now ≡ range_with_len self.now.first self.now.count }
         requires numbered { IsTrue (every_column (is_numbered self.now.count) poly.now) }
-        ensures { IfOk result (λ p. p ≡ renumbered (λ n. self.now.first + n) poly.now) }
+        ensures { IfOk result (λ p. p ≡ renumbered_polynomial (λ n. self.now.first + n) poly.now) }
     {
-        Ok(renumbered(alloc, poly, self.numbers)?)
+        Ok(renumbered_poly(alloc, poly, self.numbers)?)
     }
 }

@@ -5,12 +5,12 @@ ghost use Rattle.linear_terms.specs.declared.col.Col.TheVariants.{Aux};
 ghost use Rattle.linear_terms.specs.Polynomial.{column_of, constant_of};
 ghost use Rattle.linear_terms.specs.TermError.{cause};
 ghost use Rattle.transition_formula.specs.Loss.{losses_of};
-ghost use Rattle.leaf_cases.specs.Claims.{limited, lost_of, valued};
+ghost use Rattle.leaf_cases.specs.Claims.{case_with_claims, claim_losses, case_with_value};
 ghost use Rattle.leaf_cases.specs.Listed.{AreFew};
-ghost use Rattle.leaf_cases.specs.Steps.{one_more, operand, with_number, value_at, test_at, test_claim, kind_of, part_at, division_at, made_at, lost_at, cases_by, lost_by};
+ghost use Rattle.leaf_cases.specs.Steps.{one_more, operand, with_number, value_at, test_at, test_claim, kind_of, part_at, division_at, cases_of_step, losses_at, cases_by, losses_by_steps};
 
-use crate::claims::{push_claim, valued, with_value};
-use crate::division::{Division, Part, Signs};
+use crate::claims::{case_with_value, push_claim, with_value};
+use crate::division::{Division, DivisionPart, Signs};
 use items::Items;
 use linear_terms::{Case, Col, Kind, Poly, TermError, add, difference, mul, scale};
 use std::alloc::Global;
@@ -27,7 +27,7 @@ pub(crate) enum Arithmetic {
 
 /// A test of two numbers, or of one number and zero.
 #[derive(Clone, Copy)]
-pub(crate) enum Relation {
+pub(crate) enum TestRelation {
     Less,
     LessOrEqual,
     Greater,
@@ -42,12 +42,12 @@ pub(crate) enum Relation {
 #[derive(Clone, Copy)]
 pub(crate) enum Step {
     Value(Arithmetic),
-    Divide(Part),
-    Test(Relation),
+    Divide(DivisionPart),
+    Test(TestRelation),
 }
 
 /// Each step at each case, one step after another. What is lost is noted.
-#[tactic(auto, unfolding(crate::specs::Steps::cases_by, crate::specs::Steps::lost_by))]
+#[tactic(auto, unfolding(crate::specs::Steps::cases_by, crate::specs::Steps::losses_by_steps))]
 pub(crate) fn cases_by(
     alloc: Global,
     steps: &[Step],
@@ -56,7 +56,7 @@ pub(crate) fn cases_by(
 ) -> Result<Items<Case>, FormulaError>
     requires { AreFew (2 ^ 31) cases.now }
     ensures exact { IfOk result (λ made. made ≡ cases_by steps.now cases.now) }
-    ensures noted { OnOk result (losses.new ≡ losses.old ++ lost_by steps.now cases.now) }
+    ensures noted { OnOk result (losses.new ≡ losses.old ++ losses_by_steps steps.now cases.now) }
 {
     let mut made = Items::new(alloc);
     for step in steps {
@@ -74,8 +74,8 @@ fn push_each(
     losses: &mut Items<Loss>,
 ) -> Result<(), FormulaError>
     requires { AreFew (2 ^ 31) cases.now }
-    ensures made { OnOk result (made.new ≡ made.old ++ flat_map (made_at step) cases.now) }
-    ensures noted { OnOk result (losses.new ≡ losses.old ++ flat_map (lost_at step) cases.now) }
+    ensures made { OnOk result (made.new ≡ made.old ++ flat_map (cases_of_step step) cases.now) }
+    ensures noted { OnOk result (losses.new ≡ losses.old ++ flat_map (losses_at step) cases.now) }
 {
     for case in cases {
         push_made(alloc, step, case, made, losses)?;
@@ -92,17 +92,17 @@ fn push_made(
     losses: &mut Items<Loss>,
 ) -> Result<(), FormulaError>
     requires { case.now.aux < 2 ^ 31 }
-    ensures made { OnOk result (made.new ≡ made.old ++ made_at step case.now) }
-    ensures noted { OnOk result (losses.new ≡ losses.old ++ lost_at step case.now) }
+    ensures made { OnOk result (made.new ≡ made.old ++ cases_of_step step case.now) }
+    ensures noted { OnOk result (losses.new ≡ losses.old ++ losses_at step case.now) }
 {
     match step {
         Step::Value(arithmetic) => {
-            made.push(calculated(alloc, arithmetic, case, losses)?)?;
+            made.push(case_with_arithmetic(alloc, arithmetic, case, losses)?)?;
             Ok(())
         }
         Step::Divide(part) => push_divided(alloc, part, case, made, losses),
         Step::Test(relation) => {
-            made.push(tested(alloc, relation, case, losses)?)?;
+            made.push(case_with_test(alloc, relation, case, losses)?)?;
             Ok(())
         }
     }
@@ -120,7 +120,7 @@ pub(crate) fn operand<'a>(case: &'a Case, place: usize, zero: &'a Poly) -> &'a P
 }
 
 /// The case with the value of an operation alone.
-fn calculated(
+fn case_with_arithmetic(
     alloc: Global,
     arithmetic: Arithmetic,
     case: &Case,
@@ -128,7 +128,7 @@ fn calculated(
 ) -> Result<Case, FormulaError>
     requires { case.now.aux < 2 ^ 31 }
     ensures exact { IfOk result
-        (λ c. c ≡ valued case.now (value_at arithmetic (operand 0 case.now) (operand 1 case.now))) }
+        (λ c. c ≡ case_with_value case.now (value_at arithmetic (operand 0 case.now) (operand 1 case.now))) }
     ensures noted { OnOk result
         (losses.new ≡ losses.old
         ++ losses_of (value_at arithmetic (operand 0 case.now) (operand 1 case.now))) }
@@ -136,7 +136,7 @@ fn calculated(
     let zero = Poly::constant(alloc, 0);
     let first = operand(case, 0, &zero);
     let second = operand(case, 1, &zero);
-    valued(
+    case_with_value(
         alloc,
         case,
         value_at(alloc, arithmetic, first, second),
@@ -156,16 +156,16 @@ fn value_at(alloc: Global, arithmetic: Arithmetic, a: &Poly, b: &Poly) -> Result
 }
 
 /// The case with the row of a test, and no value.
-fn tested(
+fn case_with_test(
     alloc: Global,
-    relation: Relation,
+    relation: TestRelation,
     case: &Case,
     losses: &mut Items<Loss>,
 ) -> Result<Case, FormulaError>
     ensures exact { IfOk result
-        (λ c. c ≡ limited case.now 0 (test_claim relation case.now ∷ []) []) }
+        (λ c. c ≡ case_with_claims case.now 0 (test_claim relation case.now ∷ []) []) }
     ensures noted { OnOk result
-        (losses.new ≡ losses.old ++ lost_of (test_claim relation case.now ∷ [])) }
+        (losses.new ≡ losses.old ++ claim_losses (test_claim relation case.now ∷ [])) }
 {
     let zero = Poly::constant(alloc, 0);
     let first = operand(case, 0, &zero);
@@ -180,28 +180,29 @@ fn tested(
     })
 }
 
-fn kind_of(relation: Relation) -> Kind
+fn kind_of(relation: TestRelation) -> Kind
     ensures { result ≡ kind_of relation }
 {
     match relation {
-        Relation::Less | Relation::LessOrEqual | Relation::Greater => Kind::AtMost,
-        Relation::GreaterOrEqual | Relation::Negative | Relation::Positive => Kind::AtMost,
-        Relation::Same | Relation::Zero => Kind::Equal,
+        TestRelation::Less | TestRelation::LessOrEqual | TestRelation::Greater => Kind::AtMost,
+        TestRelation::GreaterOrEqual | TestRelation::Negative | TestRelation::Positive =>
+            Kind::AtMost,
+        TestRelation::Same | TestRelation::Zero => Kind::Equal,
     }
 }
 
-fn test_at(alloc: Global, relation: Relation, a: &Poly, b: &Poly) -> Result<Poly, TermError>
+fn test_at(alloc: Global, relation: TestRelation, a: &Poly, b: &Poly) -> Result<Poly, TermError>
     ensures { Gives cause (λ p. p) result (test_at relation a.now b.now) }
 {
     match relation {
-        Relation::Less => one_more(alloc, a, b),
-        Relation::LessOrEqual => difference(alloc, a, b),
-        Relation::Greater => one_more(alloc, b, a),
-        Relation::GreaterOrEqual => difference(alloc, b, a),
-        Relation::Same => difference(alloc, a, b),
-        Relation::Negative => difference(alloc, a, &Poly::constant(alloc, -1)),
-        Relation::Positive => difference(alloc, &Poly::constant(alloc, 1), a),
-        Relation::Zero => difference(alloc, a, &Poly::constant(alloc, 0)),
+        TestRelation::Less => one_more(alloc, a, b),
+        TestRelation::LessOrEqual => difference(alloc, a, b),
+        TestRelation::Greater => one_more(alloc, b, a),
+        TestRelation::GreaterOrEqual => difference(alloc, b, a),
+        TestRelation::Same => difference(alloc, a, b),
+        TestRelation::Negative => difference(alloc, a, &Poly::constant(alloc, -1)),
+        TestRelation::Positive => difference(alloc, &Poly::constant(alloc, 1), a),
+        TestRelation::Zero => difference(alloc, a, &Poly::constant(alloc, 0)),
     }
 }
 
@@ -216,27 +217,27 @@ fn one_more(alloc: Global, a: &Poly, b: &Poly) -> Result<Poly, TermError>
 /// The four cases of a division, behind what is made.
 fn push_divided(
     alloc: Global,
-    part: Part,
+    part: DivisionPart,
     case: &Case,
     made: &mut Items<Case>,
     losses: &mut Items<Loss>,
 ) -> Result<(), FormulaError>
     requires { case.now.aux < 2 ^ 31 }
-    ensures made { OnOk result (made.new ≡ made.old ++ made_at (Step.Divide part) case.now) }
-    ensures noted { OnOk result (losses.new ≡ losses.old ++ lost_at (Step.Divide part) case.now) }
+    ensures made { OnOk result (made.new ≡ made.old ++ cases_of_step (Step.Divide part) case.now) }
+    ensures noted { OnOk result (losses.new ≡ losses.old ++ losses_at (Step.Divide part) case.now) }
 {
-    made.push(divided(alloc, part, case, true, true, losses)?)?;
-    made.push(divided(alloc, part, case, true, false, losses)?)?;
-    made.push(divided(alloc, part, case, false, true, losses)?)?;
-    made.push(divided(alloc, part, case, false, false, losses)?)?;
+    made.push(case_with_division(alloc, part, case, true, true, losses)?)?;
+    made.push(case_with_division(alloc, part, case, true, false, losses)?)?;
+    made.push(case_with_division(alloc, part, case, false, true, losses)?)?;
+    made.push(case_with_division(alloc, part, case, false, false, losses)?)?;
     Ok(())
 }
 
 /// The case with the rows of a division whose divisor is above zero or not, and its dividend not
 /// below zero or below it, and the quotient or the remainder as its value.
-fn divided(
+fn case_with_division(
     alloc: Global,
-    part: Part,
+    part: DivisionPart,
     case: &Case,
     divisor: bool,
     dividend: bool,
@@ -244,12 +245,12 @@ fn divided(
 ) -> Result<Case, FormulaError>
     requires { case.now.aux < 2 ^ 31 }
     ensures exact { IfOk result
-        (λ c. c ≡ limited case.now 2
+        (λ c. c ≡ case_with_claims case.now 2
         (division_at (record { divisor = divisor; dividend = dividend }) case.now)
         (column_of (Aux (part_at part case.now.aux)) ∷ [])) }
     ensures noted { OnOk result
         (losses.new ≡ losses.old
-        ++ lost_of (division_at (record { divisor = divisor; dividend = dividend }) case.now)) }
+        ++ claim_losses (division_at (record { divisor = divisor; dividend = dividend }) case.now)) }
 {
     let zero = Poly::constant(alloc, 0);
     let quotient = column(alloc, Col::Aux(case.aux))?;
@@ -264,8 +265,8 @@ fn divided(
     parts.push_rows(alloc, Signs { divisor, dividend }, &mut rows, losses)?;
     let mut post = Items::new(alloc);
     post.push(match part {
-        Part::Quotient => quotient,
-        Part::Remainder => remainder,
+        DivisionPart::Quotient => quotient,
+        DivisionPart::Remainder => remainder,
     })?;
     Ok(Case {
         aux: case.aux + 2,
@@ -275,7 +276,7 @@ fn divided(
 }
 
 /// Each case with a number as its value.
-pub(crate) fn numbered(
+pub(crate) fn push_number_cases(
     alloc: Global,
     value: i128,
     cases: &[Case],

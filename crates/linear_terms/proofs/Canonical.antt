@@ -18,7 +18,7 @@ use Rattle.linear_terms.specs.TermError.{plus, times}
 use Rattle.linear_terms.specs.Mono.{mono_cmp, in_order}
 use Rattle.linear_terms.specs.MonoOrder.{mono_cmp_total}
 use Rattle.linear_terms.specs.Polynomial.{Terms, Polynomial, IsCanonical, constant_of}
-use Rattle.linear_terms.specs.Operations.{kept, put, put_all, sum_of_polys, times_each, multiple_of, difference_of_polys, parts, put_part, add_product, add_row, add_rows, product_of_polys, replaced, add_substituted, substituted}
+use Rattle.linear_terms.specs.Operations.{with_term, put, put_all, sum_of_polys, times_each, multiple_of, difference_of_polys, parts, put_part, add_product, add_row, add_rows, product_of_polys, substituted_monomial, add_substituted, substituted_polynomial}
 
 abbrev done : {X : Type 0} → X → Result X TermError
 done x = Ok x
@@ -66,14 +66,14 @@ reversed m n o e = mono_cmp_total.antisymm n m ∙ ap ordering_reverse e
 some_kept : (c : ℤ) → int_eq c (pos 0) ≡ false → c ≢ pos 0
 some_kept c e f = false≢true (sym e ∙ (Decides-int_eq c (pos 0)).1 f)
 
-Before-kept : (m n : List Col) (c : ℤ) (ts : Terms) → mono_cmp m n ≡ Less → Before m ts → Before m (kept n c ts)
+Before-kept : (m n : List Col) (c : ℤ) (ts : Terms) → mono_cmp m n ≡ Less → Before m ts → Before m (with_term n c ts)
 Before-kept m n c ts h b = go (int_eq c (pos 0))
   where
     go : (z : Bool) → Before m (cond z ts ((n, c) ∷ ts))
     go true = b
     go false = (h, b)
 
-pub IsCanonical-kept : (m : List Col) (c : ℤ) (ts : Terms) → Before m ts → IsCanonical ts → IsCanonical (kept m c ts)
+pub IsCanonical-kept : (m : List Col) (c : ℤ) (ts : Terms) → Before m ts → IsCanonical ts → IsCanonical (with_term m c ts)
 IsCanonical-kept m c ts b rest = go (int_eq c (pos 0)) refl
   where
     go : (z : Bool) → int_eq c (pos 0) ≡ z → IsCanonical (cond z ts ((m, c) ∷ ts))
@@ -86,21 +86,21 @@ same_made : (P : Terms → Type 0) (ts made : Terms) → (let r : Result Terms T
 same_made P ts made e p = let same : ts ≡ made = cc in subst P same p
 
 Before-put : (x m : List Col) (c : ℤ) (ts made : Terms) → mono_cmp x m ≡ Less → Before x ts → put m c ts ≡ Ok made → Before x made
-Before-put x m c [] made h b e = same_made (Before x) (kept m c []) made e (Before-kept x m c [] h tt)
+Before-put x m c [] made h b e = same_made (Before x) (with_term m c []) made e (Before-kept x m c [] h tt)
 Before-put x m c (t ∷ ts) made h b e = go (mono_cmp m t.0) e (λ more f. Before-put x m c ts more h b.1 f)
   where
-    go : (o : Ordering) → match_ordering o (Ok (kept m c (t ∷ ts))) (plus t.1 c >>= λ s. Ok (kept t.0 s ts)) (put m c ts >>= λ more. Ok (t ∷ more)) ≡ Ok made → ((more : Terms) → put m c ts ≡ Ok more → Before x more) → Before x made
-    go Less f ih = same_made (Before x) (kept m c (t ∷ ts)) made f (Before-kept x m c (t ∷ ts) h b)
-    go Equal f ih = on_ok (plus t.1 c) (λ s. Ok (kept t.0 s ts)) made f (λ s g k. same_made (Before x) (kept t.0 s ts) made k (Before-kept x t.0 s ts b.0 b.1))
+    go : (o : Ordering) → match_ordering o (Ok (with_term m c (t ∷ ts))) (plus t.1 c >>= λ s. Ok (with_term t.0 s ts)) (put m c ts >>= λ more. Ok (t ∷ more)) ≡ Ok made → ((more : Terms) → put m c ts ≡ Ok more → Before x more) → Before x made
+    go Less f ih = same_made (Before x) (with_term m c (t ∷ ts)) made f (Before-kept x m c (t ∷ ts) h b)
+    go Equal f ih = on_ok (plus t.1 c) (λ s. Ok (with_term t.0 s ts)) made f (λ s g k. same_made (Before x) (with_term t.0 s ts) made k (Before-kept x t.0 s ts b.0 b.1))
     go Greater f ih = on_ok (put m c ts) (λ more. Ok (t ∷ more)) made f (λ more g k. same_made (Before x) (t ∷ more) made k (b.0, ih more g))
 
 pub IsCanonical-put : (m : List Col) (c : ℤ) (ts made : Terms) → IsCanonical ts → put m c ts ≡ Ok made → IsCanonical made
-IsCanonical-put m c [] made k e = same_made IsCanonical (kept m c []) made e (IsCanonical-kept m c [] tt IsCanonical-nil)
+IsCanonical-put m c [] made k e = same_made IsCanonical (with_term m c []) made e (IsCanonical-kept m c [] tt IsCanonical-nil)
 IsCanonical-put m c (t ∷ ts) made k e = go (mono_cmp m t.0) refl e (λ more f. IsCanonical-put m c ts more (IsCanonical-tail t ts k) f)
   where
-    go : (o : Ordering) → mono_cmp m t.0 ≡ o → match_ordering o (Ok (kept m c (t ∷ ts))) (plus t.1 c >>= λ s. Ok (kept t.0 s ts)) (put m c ts >>= λ more. Ok (t ∷ more)) ≡ Ok made → ((more : Terms) → put m c ts ≡ Ok more → IsCanonical more) → IsCanonical made
-    go Less o f ih = same_made IsCanonical (kept m c (t ∷ ts)) made f (IsCanonical-kept m c (t ∷ ts) (o, Before-trans m t.0 ts o (first_before t ts k)) k)
-    go Equal o f ih = on_ok (plus t.1 c) (λ s. Ok (kept t.0 s ts)) made f (λ s g l. same_made IsCanonical (kept t.0 s ts) made l (IsCanonical-kept t.0 s ts (first_before t ts k) (IsCanonical-tail t ts k)))
+    go : (o : Ordering) → mono_cmp m t.0 ≡ o → match_ordering o (Ok (with_term m c (t ∷ ts))) (plus t.1 c >>= λ s. Ok (with_term t.0 s ts)) (put m c ts >>= λ more. Ok (t ∷ more)) ≡ Ok made → ((more : Terms) → put m c ts ≡ Ok more → IsCanonical more) → IsCanonical made
+    go Less o f ih = same_made IsCanonical (with_term m c (t ∷ ts)) made f (IsCanonical-kept m c (t ∷ ts) (o, Before-trans m t.0 ts o (first_before t ts k)) k)
+    go Equal o f ih = on_ok (plus t.1 c) (λ s. Ok (with_term t.0 s ts)) made f (λ s g l. same_made IsCanonical (with_term t.0 s ts) made l (IsCanonical-kept t.0 s ts (first_before t ts k) (IsCanonical-tail t ts k)))
     go Greater o f ih =
         on_ok (put m c ts) (λ more. Ok (t ∷ more)) made f
         (λ more g l. same_made IsCanonical (t ∷ more) made l
@@ -116,16 +116,16 @@ IsCanonical-put_all (t ∷ more) ts made k e =
 Before-times_each : (m : List Col) (by : ℤ) (ts made : Terms) → Before m ts → times_each ts by ≡ Ok made → Before m made
 Before-times_each m by [] made b e = same_made (Before m) [] made e tt
 Before-times_each m by (t ∷ ts) made b e =
-    on_ok (times t.1 by) (λ c. times_each ts by >>= λ more. Ok (kept t.0 c more)) made e
-    (λ c f g. on_ok (times_each ts by) (λ more. Ok (kept t.0 c more)) made g
-    (λ more h k. same_made (Before m) (kept t.0 c more) made k (Before-kept m t.0 c more b.0 (Before-times_each m by ts more b.1 h))))
+    on_ok (times t.1 by) (λ c. times_each ts by >>= λ more. Ok (with_term t.0 c more)) made e
+    (λ c f g. on_ok (times_each ts by) (λ more. Ok (with_term t.0 c more)) made g
+    (λ more h k. same_made (Before m) (with_term t.0 c more) made k (Before-kept m t.0 c more b.0 (Before-times_each m by ts more b.1 h))))
 
 pub IsCanonical-times_each : (by : ℤ) (ts made : Terms) → IsCanonical ts → times_each ts by ≡ Ok made → IsCanonical made
 IsCanonical-times_each by [] made k e = same_made IsCanonical [] made e IsCanonical-nil
 IsCanonical-times_each by (t ∷ ts) made k e =
-    on_ok (times t.1 by) (λ c. times_each ts by >>= λ more. Ok (kept t.0 c more)) made e
-    (λ c f g. on_ok (times_each ts by) (λ more. Ok (kept t.0 c more)) made g
-    (λ more h l. same_made IsCanonical (kept t.0 c more) made l
+    on_ok (times t.1 by) (λ c. times_each ts by >>= λ more. Ok (with_term t.0 c more)) made e
+    (λ c f g. on_ok (times_each ts by) (λ more. Ok (with_term t.0 c more)) made g
+    (λ more h l. same_made IsCanonical (with_term t.0 c more) made l
     (IsCanonical-kept t.0 c more (Before-times_each t.0 by ts more (first_before t ts k) h) (IsCanonical-times_each by ts more (IsCanonical-tail t ts k) h))))
 
 -- ---- polynomials
@@ -188,11 +188,11 @@ IsCanonical-product_of_polys a b p e = IsCanonical-add_rows (parts a) (parts b) 
 IsCanonical-add_substituted : (put_in : Col → Polynomial) (ts : Terms) (a p : Polynomial) → add_substituted put_in ts a ≡ Ok p → IsCanonical a.terms → IsCanonical p.terms
 IsCanonical-add_substituted put_in [] a p e k = same_poly a p e k
 IsCanonical-add_substituted put_in (t ∷ ts) a p e k =
-    on_ok (replaced put_in t.0 t.1) (λ term. sum_of_polys a term >>= λ next. add_substituted put_in ts next) p e
+    on_ok (substituted_monomial put_in t.0 t.1) (λ term. sum_of_polys a term >>= λ next. add_substituted put_in ts next) p e
     (λ term f g. on_ok (sum_of_polys a term) (λ next. add_substituted put_in ts next) p g
     (λ next h l. IsCanonical-add_substituted put_in ts next p l (IsCanonical-sum_of_polys a term next h k)))
 
-pub IsCanonical-substituted : (put_in : Col → Polynomial) (a p : Polynomial) → substituted put_in a ≡ Ok p → IsCanonical p.terms
+pub IsCanonical-substituted : (put_in : Col → Polynomial) (a p : Polynomial) → substituted_polynomial put_in a ≡ Ok p → IsCanonical p.terms
 IsCanonical-substituted put_in a p e =
     on_ok (add_substituted put_in a.terms (constant_of (pos 0))) (λ sum. plus sum.rest a.rest >>= λ r. Ok record { terms = sum.terms; rest = r }) p e
     (λ sum f g. on_ok (plus sum.rest a.rest) (λ r. Ok record { terms = sum.terms; rest = r }) p g

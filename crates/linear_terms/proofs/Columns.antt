@@ -13,9 +13,9 @@ use Rattle.linear_terms.specs.declared.error.TermError.{TermError}
 use Rattle.linear_terms.specs.declared.error.TermError.TheVariants.{Degree}
 use Rattle.linear_terms.specs.Col.{col_cmp}
 use Rattle.linear_terms.specs.TermError.{plus, times}
-use Rattle.linear_terms.specs.Mono.{mono_cmp, placed, in_order}
+use Rattle.linear_terms.specs.Mono.{mono_cmp, with_column, in_order}
 use Rattle.linear_terms.specs.Polynomial.{Terms, Polynomial, constant_of}
-use Rattle.linear_terms.specs.Operations.{kept, put, put_all, sum_of_polys, times_each, multiple_of, parts, put_part, add_product, add_row, add_rows, product_of_polys, product_on, product_in, replaced, add_substituted, substituted}
+use Rattle.linear_terms.specs.Operations.{with_term, put, put_all, sum_of_polys, times_each, multiple_of, parts, put_part, add_product, add_row, add_rows, product_of_polys, product_on, product_in, substituted_monomial, add_substituted, substituted_polynomial}
 
 -- each column of each term has the property
 abbrev pub EachColumn : (Col → Type 0) → Terms → Type 0
@@ -32,19 +32,19 @@ ended : (ts : Terms) (r : ℤ) (p : Polynomial) (P : Col → Type 0) → done (r
 ended ts r p P e h = let same : record { terms = ts; rest = r } ≡ p = cc in subst (EachColumn P) (ap (λ q. q.terms) same) h
 
 module _ (P : Col → Type 0) where
-  placed-each : (m : List Col) (c : Col) → AllByRecursion P m → P c → AllByRecursion P (placed m c)
+  placed-each : (m : List Col) (c : Col) → AllByRecursion P m → P c → AllByRecursion P (with_column m c)
   placed-each [] c h k = (k, tt)
   placed-each (d ∷ m) c h k = go (is_lt (col_cmp c d)) (placed-each m d h.1 h.0) (placed-each m c h.1 k)
     where
-      go : (b : Bool) → AllByRecursion P (placed m d) → AllByRecursion P (placed m c) → AllByRecursion P (cond b (c ∷ placed m d) (d ∷ placed m c))
+      go : (b : Bool) → AllByRecursion P (with_column m d) → AllByRecursion P (with_column m c) → AllByRecursion P (cond b (c ∷ with_column m d) (d ∷ with_column m c))
       go true f g = (k, f)
       go false f g = (h.0, g)
 
-  fold-each : (front m : List Col) → AllByRecursion P front → AllByRecursion P m → AllByRecursion P (fold placed front m)
+  fold-each : (front m : List Col) → AllByRecursion P front → AllByRecursion P m → AllByRecursion P (fold with_column front m)
   fold-each front [] h k = h
-  fold-each front (c ∷ m) h k = fold-each (placed front c) m (placed-each front c h k.0) k.1
+  fold-each front (c ∷ m) h k = fold-each (with_column front c) m (placed-each front c h k.0) k.1
 
-  kept-each : (m : List Col) (c : ℤ) (ts : Terms) → AllByRecursion P m → EachColumn P ts → EachColumn P (kept m c ts)
+  kept-each : (m : List Col) (c : ℤ) (ts : Terms) → AllByRecursion P m → EachColumn P ts → EachColumn P (with_term m c ts)
   kept-each m c ts h k = go (int_eq c (pos 0))
     where
       go : (b : Bool) → EachColumn P (cond b ts ((m, c) ∷ ts))
@@ -52,12 +52,12 @@ module _ (P : Col → Type 0) where
       go false = (h, k)
 
   put-each : (m : List Col) (c : ℤ) (ts made : Terms) → put m c ts ≡ Ok made → AllByRecursion P m → EachColumn P ts → EachColumn P made
-  put-each m c [] made e h k = let same : kept m c [] ≡ made = cc in subst (EachColumn P) same (kept-each m c [] h tt)
+  put-each m c [] made e h k = let same : with_term m c [] ≡ made = cc in subst (EachColumn P) same (kept-each m c [] h tt)
   put-each m c (t ∷ ts) made e h k = go (mono_cmp m t.0) e (λ more f. put-each m c ts more f h k.1)
     where
-      go : (o : Ordering) → match_ordering o (Ok (kept m c (t ∷ ts))) (plus t.1 c >>= λ s. Ok (kept t.0 s ts)) (put m c ts >>= λ more. Ok (t ∷ more)) ≡ Ok made → ((more : Terms) → put m c ts ≡ Ok more → EachColumn P more) → EachColumn P made
-      go Less f ih = let same : kept m c (t ∷ ts) ≡ made = cc in subst (EachColumn P) same (kept-each m c (t ∷ ts) h k)
-      go Equal f ih = on_ok (plus t.1 c) (λ s. Ok (kept t.0 s ts)) made f (λ s g l. let same : kept t.0 s ts ≡ made = cc in subst (EachColumn P) same (kept-each t.0 s ts k.0 k.1))
+      go : (o : Ordering) → match_ordering o (Ok (with_term m c (t ∷ ts))) (plus t.1 c >>= λ s. Ok (with_term t.0 s ts)) (put m c ts >>= λ more. Ok (t ∷ more)) ≡ Ok made → ((more : Terms) → put m c ts ≡ Ok more → EachColumn P more) → EachColumn P made
+      go Less f ih = let same : with_term m c (t ∷ ts) ≡ made = cc in subst (EachColumn P) same (kept-each m c (t ∷ ts) h k)
+      go Equal f ih = on_ok (plus t.1 c) (λ s. Ok (with_term t.0 s ts)) made f (λ s g l. let same : with_term t.0 s ts ≡ made = cc in subst (EachColumn P) same (kept-each t.0 s ts k.0 k.1))
       go Greater f ih = on_ok (put m c ts) (λ more. Ok (t ∷ more)) made f (λ more g l. let same : t ∷ more ≡ made = cc in subst (EachColumn P) same (k.0, ih more g))
 
   put_all-each : (more ts made : Terms) → put_all ts more ≡ Ok made → EachColumn P ts → EachColumn P more → EachColumn P made
@@ -74,9 +74,9 @@ module _ (P : Col → Type 0) where
   times_each-each : (ts : Terms) (by : ℤ) (made : Terms) → times_each ts by ≡ Ok made → EachColumn P ts → EachColumn P made
   times_each-each [] by made e h = let same : [] ≡ made = cc in subst (EachColumn P) same tt
   times_each-each (t ∷ ts) by made e h =
-      on_ok (times t.1 by) (λ c. times_each ts by >>= λ more. Ok (kept t.0 c more)) made e
-      (λ c f g. on_ok (times_each ts by) (λ more. Ok (kept t.0 c more)) made g
-      (λ more l n. let same : kept t.0 c more ≡ made = cc in subst (EachColumn P) same (kept-each t.0 c more h.0 (times_each-each ts by more l h.1))))
+      on_ok (times t.1 by) (λ c. times_each ts by >>= λ more. Ok (with_term t.0 c more)) made e
+      (λ c f g. on_ok (times_each ts by) (λ more. Ok (with_term t.0 c more)) made g
+      (λ more l n. let same : with_term t.0 c more ≡ made = cc in subst (EachColumn P) same (kept-each t.0 c more h.0 (times_each-each ts by more l h.1))))
 
   pub multiple_of-each : (a : Polynomial) (by : ℤ) (p : Polynomial) → multiple_of a by ≡ Ok p → EachColumn P a.terms → EachColumn P p.terms
   multiple_of-each a by p e h =
@@ -128,12 +128,12 @@ module _ (P Q : Col → Type 0) (put_in : Col → Polynomial) (covers : (c : Col
   add_substituted-each : (ts : Terms) (a p : Polynomial) → add_substituted put_in ts a ≡ Ok p → EachColumn P ts → EachColumn Q a.terms → EachColumn Q p.terms
   add_substituted-each [] a p e h k = let same : a ≡ p = cc in subst (λ q. EachColumn Q q.terms) same k
   add_substituted-each (t ∷ ts) a p e h k =
-      on_ok (replaced put_in t.0 t.1) (λ term. sum_of_polys a term >>= λ next. add_substituted put_in ts next) p e
+      on_ok (substituted_monomial put_in t.0 t.1) (λ term. sum_of_polys a term >>= λ next. add_substituted put_in ts next) p e
       (λ term f g. on_ok (sum_of_polys a term) (λ next. add_substituted put_in ts next) p g
       (λ next l n. on_ok (product_in put_in t.0) (λ product. multiple_of product t.1) term f
       (λ product x y. add_substituted-each ts next p n h.1 (sum_of_polys-each Q a term next l k (multiple_of-each Q product t.1 term y (product_in-each t.0 product x h.0))))))
 
-  pub substituted-each : (a p : Polynomial) → substituted put_in a ≡ Ok p → EachColumn P a.terms → EachColumn Q p.terms
+  pub substituted-each : (a p : Polynomial) → substituted_polynomial put_in a ≡ Ok p → EachColumn P a.terms → EachColumn Q p.terms
   substituted-each a p e h =
       on_ok (add_substituted put_in a.terms (constant_of (pos 0))) (λ sum. plus sum.rest a.rest >>= λ r. Ok record { terms = sum.terms; rest = r }) p e
       (λ sum f g. on_ok (plus sum.rest a.rest) (λ r. Ok record { terms = sum.terms; rest = r }) p g

@@ -5,7 +5,7 @@ use Rattle.std.specs.Map.{values_of}
 use Rattle.std.specs.Ordering.{match_ordering}
 use Rattle.std.specs.declared.cmp.Ordering.{Ordering}
 use Rattle.std.specs.declared.cmp.Ordering.TheVariants.{Less, Equal, Greater}
-use Rattle.items.specs.Gives.{◌>>=◌, lifted, FailsBy, Gives}
+use Rattle.items.specs.Gives.{◌>>=◌, err_map, FailsBy, Gives}
 use Rattle.items.proofs.Gives.{on_err}
 use Rattle.whole_numbers.specs.declared.wide.Wide as Step
 use Rattle.whole_numbers.specs.Divisors.{divides, gcd_of_all}
@@ -20,12 +20,12 @@ use Rattle.linear_terms.specs.declared.row.Normal.TheVariants.{Constant, Kept}
 use Rattle.linear_terms.specs.TermError.{wide, plus, times, cause}
 use Rattle.linear_terms.specs.Mono.{mono_cmp}
 use Rattle.linear_terms.specs.Polynomial.{Terms, Polynomial}
-use Rattle.linear_terms.specs.Operations.{kept, put, put_all, sum_of_polys, times_each, multiple_of, difference_of_polys}
-use Rattle.linear_terms.specs.Row.{starts_negative, with_positive_first, divided, reduced, normal_form, IsTurnFault}
+use Rattle.linear_terms.specs.Operations.{with_term, put, put_all, sum_of_polys, times_each, multiple_of, difference_of_polys}
+use Rattle.linear_terms.specs.Row.{starts_negative, with_positive_first, divided_terms, reduced_row, normal_form, IsTurnFault}
 
 -- ---- sums and multiples have no degree that is too high
 
-step-no_degree : (r : Result ℤ Step.Wide) → lifted wide r ≢ Err Degree
+step-no_degree : (r : Result ℤ Step.Wide) → err_map wide r ≢ Err Degree
 step-no_degree (Ok z) e = cc
 step-no_degree (Err step) e = cc
 
@@ -39,9 +39,9 @@ put-no_degree : (m : List Col) (c : ℤ) (ts : Terms) → put m c ts ≢ Err Deg
 put-no_degree m c [] e = cc
 put-no_degree m c (t ∷ ts) e = go (mono_cmp m t.0) e (put-no_degree m c ts)
   where
-    go : (o : Ordering) → match_ordering o (Ok (kept m c (t ∷ ts))) (plus t.1 c >>= λ s. Ok (kept t.0 s ts)) (put m c ts >>= λ made. Ok (t ∷ made)) ≡ Err Degree → put m c ts ≢ Err Degree → ⊥
+    go : (o : Ordering) → match_ordering o (Ok (with_term m c (t ∷ ts))) (plus t.1 c >>= λ s. Ok (with_term t.0 s ts)) (put m c ts >>= λ made. Ok (t ∷ made)) ≡ Err Degree → put m c ts ≢ Err Degree → ⊥
     go Less f ih = cc
-    go Equal f ih = on_err (plus t.1 c) (λ s. Ok (kept t.0 s ts)) Degree f (plus-no_degree t.1 c) (λ s g h. cc)
+    go Equal f ih = on_err (plus t.1 c) (λ s. Ok (with_term t.0 s ts)) Degree f (plus-no_degree t.1 c) (λ s g h. cc)
     go Greater f ih = on_err (put m c ts) (λ made. Ok (t ∷ made)) Degree f ih (λ made g h. cc)
 
 pub put_all-no_degree : (more ts : Terms) → put_all ts more ≢ Err Degree
@@ -57,8 +57,8 @@ sum_of_polys-no_degree a b e =
 times_each-no_degree : (ts : Terms) (by : ℤ) → times_each ts by ≢ Err Degree
 times_each-no_degree [] by e = cc
 times_each-no_degree (t ∷ ts) by e =
-    on_err (times t.1 by) (λ c. times_each ts by >>= λ made. Ok (kept t.0 c made)) Degree e (times-no_degree t.1 by)
-    (λ c f g. on_err (times_each ts by) (λ made. Ok (kept t.0 c made)) Degree g (times_each-no_degree ts by) (λ made h k. cc))
+    on_err (times t.1 by) (λ c. times_each ts by >>= λ made. Ok (with_term t.0 c made)) Degree e (times-no_degree t.1 by)
+    (λ c f g. on_err (times_each ts by) (λ made. Ok (with_term t.0 c made)) Degree g (times_each-no_degree ts by) (λ made h k. cc))
 
 pub multiple_of-no_degree : (a : Polynomial) (by : ℤ) → multiple_of a by ≢ Err Degree
 multiple_of-no_degree a by e =
@@ -83,8 +83,8 @@ FailsBy-no_degree e stated never fails same = never (subst_fails e same fails)
 times_each-fault : (ts : Terms) (e : TermError) → times_each ts (negsuc 0) ≡ Err e → IsTurnFault e
 times_each-fault [] e f = cc
 times_each-fault (t ∷ ts) e f =
-    on_err (times t.1 (negsuc 0)) (λ c. times_each ts (negsuc 0) >>= λ made. Ok (kept t.0 c made)) e f (λ g. (t.1, g))
-    (λ c g h. on_err (times_each ts (negsuc 0)) (λ made. Ok (kept t.0 c made)) e h (times_each-fault ts e) (λ made k l. cc))
+    on_err (times t.1 (negsuc 0)) (λ c. times_each ts (negsuc 0) >>= λ made. Ok (with_term t.0 c made)) e f (λ g. (t.1, g))
+    (λ c g h. on_err (times_each ts (negsuc 0)) (λ made. Ok (with_term t.0 c made)) e h (times_each-fault ts e) (λ made k l. cc))
 
 turned-fault : (p : Polynomial) (e : TermError) → multiple_of p (negsuc 0) ≡ Err e → IsTurnFault e
 turned-fault p e f =
@@ -98,14 +98,14 @@ with_positive_first-fault p e f = go (starts_negative p.terms) f
     go true g = turned-fault p e g
     go false g = cc
 
-pub reduced-fault : (k : Kind) (g : ℕ) (p : Polynomial) (e : TermError) → reduced k g p ≡ Err e → IsTurnFault e
+pub reduced-fault : (k : Kind) (g : ℕ) (p : Polynomial) (e : TermError) → reduced_row k g p ≡ Err e → IsTurnFault e
 reduced-fault Kinds.AtMost g p e f = cc
 reduced-fault Kinds.Equal g p e f = go (divides g (unsigned_abs p.rest)) f
   where
-    go : (b : Bool) → cond b (with_positive_first (record { terms = divided g p.terms; rest = int_div p.rest (pos g) }) >>= λ q. Ok (Kept (record { poly = q; kind = Kinds.Equal }))) (Ok (Constant false)) ≡ Err e → IsTurnFault e
+    go : (b : Bool) → cond b (with_positive_first (record { terms = divided_terms g p.terms; rest = int_div p.rest (pos g) }) >>= λ q. Ok (Kept (record { poly = q; kind = Kinds.Equal }))) (Ok (Constant false)) ≡ Err e → IsTurnFault e
     go true h =
-        on_err (with_positive_first (record { terms = divided g p.terms; rest = int_div p.rest (pos g) })) (λ q. Ok (Kept (record { poly = q; kind = Kinds.Equal }))) e h
-        (with_positive_first-fault (record { terms = divided g p.terms; rest = int_div p.rest (pos g) }) e) (λ q k l. cc)
+        on_err (with_positive_first (record { terms = divided_terms g p.terms; rest = int_div p.rest (pos g) })) (λ q. Ok (Kept (record { poly = q; kind = Kinds.Equal }))) e h
+        (with_positive_first-fault (record { terms = divided_terms g p.terms; rest = int_div p.rest (pos g) }) e) (λ q k l. cc)
     go false h = cc
 
 pub normal_form-fault : (row : Row) (e : TermError) → normal_form row ≡ Err e → IsTurnFault e

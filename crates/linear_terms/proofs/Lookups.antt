@@ -13,8 +13,8 @@ use Rattle.linear_terms.specs.declared.error.TermError.{TermError}
 use Rattle.linear_terms.specs.TermError.{plus}
 use Rattle.linear_terms.specs.Mono.{mono_cmp}
 use Rattle.linear_terms.specs.Polynomial.{Terms, Polynomial, IsCanonical}
-use Rattle.linear_terms.specs.Operations.{kept, put, put_term}
-use Rattle.linear_terms.specs.Lookup.{lookup, added, stored}
+use Rattle.linear_terms.specs.Operations.{with_term, put, put_term}
+use Rattle.linear_terms.specs.Lookup.{lookup, summed_term, with_coefficient}
 use Rattle.linear_terms.proofs.Canonical.{Before, Before-trans, first_before, IsCanonical-tail}
 
 -- a monomial before all of them is not there
@@ -32,34 +32,34 @@ stored-later true t x y = refl
 stored-later false t x y = refl
 
 -- where m is not there
-pub put-new : (m : List Col) (c : ℤ) (ts : Terms) → IsCanonical ts → lookup m ts ≡ None → put m c ts ≡ Ok (stored m c ts)
+pub put-new : (m : List Col) (c : ℤ) (ts : Terms) → IsCanonical ts → lookup m ts ≡ None → put m c ts ≡ Ok (with_coefficient m c ts)
 put-new m c [] k e = refl
 put-new m c (t ∷ ts) k e = go (mono_cmp m t.0) refl e (put-new m c ts (IsCanonical-tail t ts k))
   where
-    go : (o : Ordering) → mono_cmp m t.0 ≡ o → cond (is_eq o) (Some t.1) (lookup m ts) ≡ None → (lookup m ts ≡ None → put m c ts ≡ Ok (stored m c ts))
-        → match_ordering o (Ok (kept m c (t ∷ ts))) (plus t.1 c >>= λ s. Ok (kept t.0 s ts)) (put m c ts >>= λ more. Ok (t ∷ more))
+    go : (o : Ordering) → mono_cmp m t.0 ≡ o → cond (is_eq o) (Some t.1) (lookup m ts) ≡ None → (lookup m ts ≡ None → put m c ts ≡ Ok (with_coefficient m c ts))
+        → match_ordering o (Ok (with_term m c (t ∷ ts))) (plus t.1 c >>= λ s. Ok (with_term t.0 s ts)) (put m c ts >>= λ more. Ok (t ∷ more))
         ≡ Ok (cond (int_eq c (pos 0)) (cond (is_eq o) ts (t ∷ remove_entry (is_at (mono_cmp m)) ts)) (match_ordering o ((m, c) ∷ t ∷ ts) ((t.0, c) ∷ ts) (t ∷ insert_entry mono_cmp ts m c)))
     go Less o f ih = ap (λ l. Ok (cond (int_eq c (pos 0)) (t ∷ l) ((m, c) ∷ t ∷ ts))) (sym (remove-before m ts (Before-trans m t.0 ts o (first_before t ts k))))
     go Equal o f ih = cc
     go Greater o f ih = ap (λ r. r >>= λ more. Ok (t ∷ more)) (ih f) ∙ ap (λ l. Ok l) (sym (stored-later (int_eq c (pos 0)) t (remove_entry (is_at (mono_cmp m)) ts) (insert_entry mono_cmp ts m c)))
 
 -- where it is there with the coefficient d
-pub put-had : (m : List Col) (c d : ℤ) (ts : Terms) → IsCanonical ts → lookup m ts ≡ Some d → put m c ts ≡ plus d c >>= λ s. Ok (stored m s ts)
+pub put-had : (m : List Col) (c d : ℤ) (ts : Terms) → IsCanonical ts → lookup m ts ≡ Some d → put m c ts ≡ plus d c >>= λ s. Ok (with_coefficient m s ts)
 put-had m c d [] k e = cc
 put-had m c d (t ∷ ts) k e = go (mono_cmp m t.0) refl e (put-had m c d ts (IsCanonical-tail t ts k))
   where
-    after : (r : Result ℤ TermError) → (r >>= λ s. Ok (stored m s ts)) >>= (λ more. Ok (t ∷ more)) ≡ r >>= λ s. Ok (cond (int_eq s (pos 0)) (t ∷ remove_entry (is_at (mono_cmp m)) ts) (t ∷ insert_entry mono_cmp ts m s))
+    after : (r : Result ℤ TermError) → (r >>= λ s. Ok (with_coefficient m s ts)) >>= (λ more. Ok (t ∷ more)) ≡ r >>= λ s. Ok (cond (int_eq s (pos 0)) (t ∷ remove_entry (is_at (mono_cmp m)) ts) (t ∷ insert_entry mono_cmp ts m s))
     after (Ok s) = ap (λ l. Ok l) (sym (stored-later (int_eq s (pos 0)) t (remove_entry (is_at (mono_cmp m)) ts) (insert_entry mono_cmp ts m s)))
     after (Err e) = refl
 
-    go : (o : Ordering) → mono_cmp m t.0 ≡ o → cond (is_eq o) (Some t.1) (lookup m ts) ≡ Some d → (lookup m ts ≡ Some d → put m c ts ≡ plus d c >>= λ s. Ok (stored m s ts))
-        → match_ordering o (Ok (kept m c (t ∷ ts))) (plus t.1 c >>= λ s. Ok (kept t.0 s ts)) (put m c ts >>= λ more. Ok (t ∷ more))
+    go : (o : Ordering) → mono_cmp m t.0 ≡ o → cond (is_eq o) (Some t.1) (lookup m ts) ≡ Some d → (lookup m ts ≡ Some d → put m c ts ≡ plus d c >>= λ s. Ok (with_coefficient m s ts))
+        → match_ordering o (Ok (with_term m c (t ∷ ts))) (plus t.1 c >>= λ s. Ok (with_term t.0 s ts)) (put m c ts >>= λ more. Ok (t ∷ more))
         ≡ plus d c >>= λ s. Ok (cond (int_eq s (pos 0)) (cond (is_eq o) ts (t ∷ remove_entry (is_at (mono_cmp m)) ts)) (match_ordering o ((m, s) ∷ t ∷ ts) ((t.0, s) ∷ ts) (t ∷ insert_entry mono_cmp ts m s)))
     go Less o f ih = absurd (none_some (sym (lookup-before m ts (Before-trans m t.0 ts o (first_before t ts k))) ∙ f))
       where
         none_some : (let n : Option ℤ = None in n ≡ Some d) → ⊥
         none_some g = cc
-    go Equal o f ih = let same : t.1 ≡ d = cc in ap (λ y. plus y c >>= λ s. Ok (kept t.0 s ts)) same
+    go Equal o f ih = let same : t.1 ≡ d = cc in ap (λ y. plus y c >>= λ s. Ok (with_term t.0 s ts)) same
     go Greater o f ih = ap (λ r. r >>= λ more. Ok (t ∷ more)) (ih f) ∙ after (plus d c)
 
 -- ---- for the code
@@ -71,14 +71,14 @@ changed p ts = record { terms = ts; rest = p.rest }
 abbrev paired : List Col → ℤ → List Col × ℤ
 paired m s = (m, s)
 
-pub put_term-is : (m : List Col) (c : ℤ) (p : Polynomial) → IsCanonical p.terms → put_term m c p ≡ added (lookup m p.terms) (m, c) >>= λ t. Ok (changed p (stored t.0 t.1 p.terms))
+pub put_term-is : (m : List Col) (c : ℤ) (p : Polynomial) → IsCanonical p.terms → put_term m c p ≡ summed_term (lookup m p.terms) (m, c) >>= λ t. Ok (changed p (with_coefficient t.0 t.1 p.terms))
 put_term-is m c p k = go (lookup m p.terms) refl
   where
-    after : (r : Result ℤ TermError) → (r >>= λ s. Ok (stored m s p.terms)) >>= (λ ts. Ok (changed p ts)) ≡ (r >>= λ s. Ok (paired m s)) >>= λ t. Ok (changed p (stored t.0 t.1 p.terms))
+    after : (r : Result ℤ TermError) → (r >>= λ s. Ok (with_coefficient m s p.terms)) >>= (λ ts. Ok (changed p ts)) ≡ (r >>= λ s. Ok (paired m s)) >>= λ t. Ok (changed p (with_coefficient t.0 t.1 p.terms))
     after (Ok s) = refl
     after (Err e) = refl
 
-    go : (had : Option ℤ) → lookup m p.terms ≡ had → put_term m c p ≡ added had (m, c) >>= λ t. Ok (changed p (stored t.0 t.1 p.terms))
+    go : (had : Option ℤ) → lookup m p.terms ≡ had → put_term m c p ≡ summed_term had (m, c) >>= λ t. Ok (changed p (with_coefficient t.0 t.1 p.terms))
     go None e = ap (λ r. r >>= λ ts. Ok (changed p ts)) (put-new m c p.terms k e)
     go (Some d) e = ap (λ r. r >>= λ ts. Ok (changed p ts)) (put-had m c d p.terms k e) ∙ after (plus d c)
 

@@ -10,7 +10,7 @@ use Rattle.linear_terms.specs.declared.error.TermError.{TermError}
 use Rattle.linear_terms.specs.TermError.{plus}
 use Rattle.linear_terms.specs.Mono.{mono_cmp}
 use Rattle.linear_terms.specs.Polynomial.{Terms, Polynomial, constant_of, IsCanonical}
-use Rattle.linear_terms.specs.Operations.{kept, put, put_all, sum_of_polys}
+use Rattle.linear_terms.specs.Operations.{with_term, put, put_all, sum_of_polys}
 use Rattle.linear_terms.proofs.Steps.{with_front}
 use Rattle.linear_terms.proofs.Order.{mono_tie}
 use Rattle.linear_terms.proofs.Canonical.{Before, Before-trans, first_before, first_some, IsCanonical-tail, reversed}
@@ -19,7 +19,7 @@ use Rattle.linear_terms.proofs.Canonical.{Before, Before-trans, first_before, fi
 pub put_all-behind : (t : List Col × ℤ) (ts more : Terms) → Before t.0 more → put_all (t ∷ ts) more ≡ with_front (t ∷ []) (put_all ts more)
 put_all-behind t ts [] b = refl
 put_all-behind t ts (u ∷ more) b =
-    ap (λ o. match_ordering o (Ok (kept u.0 u.1 (t ∷ ts))) (plus t.1 u.1 >>= λ s. Ok (kept t.0 s ts)) (put u.0 u.1 ts >>= λ made. Ok (t ∷ made)) >>= λ made. put_all made more) (reversed t.0 u.0 Less b.0)
+    ap (λ o. match_ordering o (Ok (with_term u.0 u.1 (t ∷ ts))) (plus t.1 u.1 >>= λ s. Ok (with_term t.0 s ts)) (put u.0 u.1 ts >>= λ made. Ok (t ∷ made)) >>= λ made. put_all made more) (reversed t.0 u.0 Less b.0)
     ∙ bind-assoc (put u.0 u.1 ts) (λ made. Ok (t ∷ made)) (λ made. put_all made more)
     ∙ each (λ made. put_all-behind t made more b.1) (put u.0 u.1 ts)
   where
@@ -27,7 +27,7 @@ put_all-behind t ts (u ∷ more) b =
     each later (Ok made) = later made
     each later (Err e) = refl
 
-kept-some : (m : List Col) (c : ℤ) (ts : Terms) → (c ≡ pos 0 → ⊥) → kept m c ts ≡ (m, c) ∷ ts
+kept-some : (m : List Col) (c : ℤ) (ts : Terms) → (c ≡ pos 0 → ⊥) → with_term m c ts ≡ (m, c) ∷ ts
 kept-some m c ts h = go (int_eq c (pos 0)) refl
   where
     go : (b : Bool) → int_eq c (pos 0) ≡ b → cond b ts ((m, c) ∷ ts) ≡ (m, c) ∷ ts
@@ -41,14 +41,14 @@ merge_left t u ts us o k = put_all-behind t ts (u ∷ us) (o, Before-trans t.0 u
 
 pub merge_right : (t u : List Col × ℤ) (ts us : Terms) → mono_cmp t.0 u.0 ≡ Greater → IsCanonical (u ∷ us) → put_all (t ∷ ts) (u ∷ us) ≡ with_front (u ∷ []) (put_all (t ∷ ts) us)
 merge_right t u ts us o k =
-    ap (λ p. match_ordering p (Ok (kept u.0 u.1 (t ∷ ts))) (plus t.1 u.1 >>= λ s. Ok (kept t.0 s ts)) (put u.0 u.1 ts >>= λ made. Ok (t ∷ made)) >>= λ made. put_all made us) (reversed t.0 u.0 Greater o)
+    ap (λ p. match_ordering p (Ok (with_term u.0 u.1 (t ∷ ts))) (plus t.1 u.1 >>= λ s. Ok (with_term t.0 s ts)) (put u.0 u.1 ts >>= λ made. Ok (t ∷ made)) >>= λ made. put_all made us) (reversed t.0 u.0 Greater o)
     ∙ ap (λ l. put_all l us) (kept-some u.0 u.1 (t ∷ ts) (first_some u us k))
     ∙ put_all-behind u (t ∷ ts) us (first_before u us k)
 
-pub merge_both : (t u : List Col × ℤ) (ts us : Terms) → mono_cmp t.0 u.0 ≡ Equal → put_all (t ∷ ts) (u ∷ us) ≡ plus t.1 u.1 >>= λ s. put_all (kept t.0 s ts) us
+pub merge_both : (t u : List Col × ℤ) (ts us : Terms) → mono_cmp t.0 u.0 ≡ Equal → put_all (t ∷ ts) (u ∷ us) ≡ plus t.1 u.1 >>= λ s. put_all (with_term t.0 s ts) us
 merge_both t u ts us o =
-    ap (λ p. match_ordering p (Ok (kept u.0 u.1 (t ∷ ts))) (plus t.1 u.1 >>= λ s. Ok (kept t.0 s ts)) (put u.0 u.1 ts >>= λ made. Ok (t ∷ made)) >>= λ made. put_all made us) (reversed t.0 u.0 Equal o)
-    ∙ bind-assoc (plus t.1 u.1) (λ s. Ok (kept t.0 s ts)) (λ made. put_all made us)
+    ap (λ p. match_ordering p (Ok (with_term u.0 u.1 (t ∷ ts))) (plus t.1 u.1 >>= λ s. Ok (with_term t.0 s ts)) (put u.0 u.1 ts >>= λ made. Ok (t ∷ made)) >>= λ made. put_all made us) (reversed t.0 u.0 Equal o)
+    ∙ bind-assoc (plus t.1 u.1) (λ s. Ok (with_term t.0 s ts)) (λ made. put_all made us)
 
 -- ---- the ends
 
@@ -87,8 +87,8 @@ step_right made left right t u ts us e f o k =
     with_front-append made (u ∷ []) (put_all left us)
     ∙ ap (with_front made) (rw (e, f) (sym (merge_right t u ts us o (subst IsCanonical f k))))
 
-both_made : (t u : List Col × ℤ) (ts us : Terms) (s : ℤ) → mono_cmp t.0 u.0 ≡ Equal → plus t.1 u.1 ≡ Ok s → put_all (t ∷ ts) (u ∷ us) ≡ put_all (kept t.0 s ts) us
-both_made t u ts us s o f = merge_both t u ts us o ∙ ap (λ r. r >>= λ x. put_all (kept t.0 x ts) us) f
+both_made : (t u : List Col × ℤ) (ts us : Terms) (s : ℤ) → mono_cmp t.0 u.0 ≡ Equal → plus t.1 u.1 ≡ Ok s → put_all (t ∷ ts) (u ∷ us) ≡ put_all (with_term t.0 s ts) us
+both_made t u ts us s o f = merge_both t u ts us o ∙ ap (λ r. r >>= λ x. put_all (with_term t.0 x ts) us) f
 
 pub step_both : (made left right : Terms) (t u v : List Col × ℤ) (ts us : Terms) → left ≡ t ∷ ts → right ≡ u ∷ us → mono_cmp t.0 u.0 ≡ Equal → IsCanonical right → plus t.1 u.1 ≡ Ok v.1 → v.0 ≡ t.0 → v.1 ≢ pos 0 → with_front (made ++ v ∷ []) (put_all ts us) ≡ with_front made (put_all left right)
 step_both made left right t u v ts us e f o k made_sum same some =
@@ -102,12 +102,12 @@ pub step_zero : (made left right : Terms) (t u v : List Col × ℤ) (ts us : Ter
 step_zero made left right t u v ts us e f o made_sum zero_is =
     ap (with_front made) (ap (λ l. put_all l us) (sym (kept-none zero_is)) ∙ sym (both_made t u ts us v.1 o made_sum) ∙ (rw (e, f) refl))
   where
-    kept-none : v.1 ≡ pos 0 → kept t.0 v.1 ts ≡ ts
-    kept-none z = ap (λ c. kept t.0 c ts) z
+    kept-none : v.1 ≡ pos 0 → with_term t.0 v.1 ts ≡ ts
+    kept-none z = ap (λ c. with_term t.0 c ts) z
 
 pub step_failed : (made left right : Terms) (t u : List Col × ℤ) (ts us : Terms) (e : TermError) → left ≡ t ∷ ts → right ≡ u ∷ us → mono_cmp t.0 u.0 ≡ Equal → plus t.1 u.1 ≡ Err e → with_front made (put_all left right) ≡ Err e
 step_failed made left right t u ts us d e f o failed =
-    ap (with_front made) ((rw (e, f) (merge_both t u ts us o)) ∙ ap (λ r. r >>= λ x. put_all (kept t.0 x ts) us) failed)
+    ap (with_front made) ((rw (e, f) (merge_both t u ts us o)) ∙ ap (λ r. r >>= λ x. put_all (with_term t.0 x ts) us) failed)
 
 pub no_left : (made left right : Terms) → left ≡ [] → IsCanonical right → with_front made (put_all left right) ≡ Ok (made ++ left ++ right)
 no_left made left right e k = rw e (ap (with_front made) (put_all-nil right k) ∙ ap (λ l. Ok (l ++ right)) (sym (append-nil made)))

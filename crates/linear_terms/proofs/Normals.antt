@@ -26,8 +26,8 @@ use Rattle.linear_terms.specs.declared.row.Normal.{Normal}
 use Rattle.linear_terms.specs.declared.row.Normal.TheVariants.{Constant, Kept}
 use Rattle.linear_terms.specs.TermError.{times, cause}
 use Rattle.linear_terms.specs.Polynomial.{Terms, Polynomial, IsCanonical}
-use Rattle.linear_terms.specs.Operations.{kept, times_each, multiple_of}
-use Rattle.linear_terms.specs.Row.{IsWithin, is_within, divided, starts_negative, with_positive_first, reduced, normal_form, SaysAsMuch, StartsPositive, IsNormal, HasCanonicalTerms}
+use Rattle.linear_terms.specs.Operations.{with_term, times_each, multiple_of}
+use Rattle.linear_terms.specs.Row.{IsWithin, is_within, divided_terms, starts_negative, with_positive_first, reduced_row, normal_form, SaysAsMuch, StartsPositive, IsNormal, HasCanonicalTerms}
 use Rattle.linear_terms.specs.Value.{Valuation, mono_value, terms_value, value_of}
 use Rattle.std.proofs.lemmas.List.{drop_all}
 use Rattle.linear_terms.proofs.Canonical.{first_some, IsCanonical-multiple_of}
@@ -36,19 +36,19 @@ use Rattle.linear_terms.proofs.Values.{times-value, int_eq-zero, multiple_of-val
 
 -- ---- terms divided by a common divisor
 
-values_of-divided : (d : ℕ) (ts : Terms) → values_of (divided d ts) ≡ quotients d (values_of ts)
+values_of-divided : (d : ℕ) (ts : Terms) → values_of (divided_terms d ts) ≡ quotients d (values_of ts)
 values_of-divided d [] = refl
 values_of-divided d (t ∷ ts) = ap (λ zs. int_div t.1 (pos d) ∷ zs) (values_of-divided d ts)
 
-keys_of-divided : (d : ℕ) (ts : Terms) → keys_of (divided d ts) ≡ keys_of ts
+keys_of-divided : (d : ℕ) (ts : Terms) → keys_of (divided_terms d ts) ≡ keys_of ts
 keys_of-divided d [] = refl
 keys_of-divided d (t ∷ ts) = ap (λ ms. t.0 ∷ ms) (keys_of-divided d ts)
 
-terms_value-divided : (at : Valuation) (d : ℕ) (ts : Terms) → DividesEach d (values_of ts) → terms_value at (divided d ts) *ℤ pos d ≡ terms_value at ts
+terms_value-divided : (at : Valuation) (d : ℕ) (ts : Terms) → DividesEach d (values_of ts) → terms_value at (divided_terms d ts) *ℤ pos d ≡ terms_value at ts
 terms_value-divided at d [] h = zero-*ℤ (pos d)
 terms_value-divided at d (t ∷ ts) h =
-    spread (int_div t.1 (pos d)) (mono_value at t.0) (terms_value at (divided d ts)) (pos d)
-    ∙ ap (λ z. z *ℤ mono_value at t.0 +ℤ terms_value at (divided d ts) *ℤ pos d) (int_div-*ℤ t.1 d h.0)
+    spread (int_div t.1 (pos d)) (mono_value at t.0) (terms_value at (divided_terms d ts)) (pos d)
+    ∙ ap (λ z. z *ℤ mono_value at t.0 +ℤ terms_value at (divided_terms d ts) *ℤ pos d) (int_div-*ℤ t.1 d h.0)
     ∙ ap (λ v. t.1 *ℤ mono_value at t.0 +ℤ v) (terms_value-divided at d ts h.1)
   where
     spread : (x v w k : ℤ) → (x *ℤ v +ℤ w) *ℤ k ≡ x *ℤ k *ℤ v +ℤ w *ℤ k
@@ -57,11 +57,11 @@ terms_value-divided at d (t ∷ ts) h =
 some-divided : (d : ℕ) (z : ℤ) → d ∣ unsigned_abs z → z ≢ pos 0 → int_div z (pos d) ≢ pos 0
 some-divided d z h some e = some (sym (int_div-*ℤ z d h) ∙ ap (λ q. q *ℤ pos d) e ∙ zero-*ℤ (pos d))
 
-no_zero-divided : (d : ℕ) (ts : Terms) → DividesEach d (values_of ts) → AllByRecursion (λ c. c ≢ pos 0) (values_of ts) → AllByRecursion (λ c. c ≢ pos 0) (values_of (divided d ts))
+no_zero-divided : (d : ℕ) (ts : Terms) → DividesEach d (values_of ts) → AllByRecursion (λ c. c ≢ pos 0) (values_of ts) → AllByRecursion (λ c. c ≢ pos 0) (values_of (divided_terms d ts))
 no_zero-divided d [] h k = tt
 no_zero-divided d (t ∷ ts) h k = (some-divided d t.1 h.0 k.0, no_zero-divided d ts h.1 k.1)
 
-pub IsCanonical-divided : (d : ℕ) (ts : Terms) → d ≡ gcd_of_all (values_of ts) → IsCanonical ts → IsCanonical (divided d ts)
+pub IsCanonical-divided : (d : ℕ) (ts : Terms) → d ≡ gcd_of_all (values_of ts) → IsCanonical ts → IsCanonical (divided_terms d ts)
 IsCanonical-divided d ts e c = record {
   in_print_order = rw (keys_of-divided d ts) c.in_print_order;
   no_zero = no_zero-divided d ts (rw e (DividesEach-gcd_of_all (values_of ts))) c.no_zero;
@@ -123,7 +123,7 @@ divisible v w r g e h = true-divides g (unsigned_abs r) (rw size (dvd-mul_left g
 
 -- ---- the sign turned
 
-gcd_of_all-kept : (m : List Col) (c : ℤ) (ts : Terms) → gcd_of_all (values_of (kept m c ts)) ≡ gcd_of (unsigned_abs c) (gcd_of_all (values_of ts))
+gcd_of_all-kept : (m : List Col) (c : ℤ) (ts : Terms) → gcd_of_all (values_of (with_term m c ts)) ≡ gcd_of (unsigned_abs c) (gcd_of_all (values_of ts))
 gcd_of_all-kept m c ts = go (int_eq c (pos 0)) refl
   where
     gone : c ≡ pos 0 → gcd_of_all (values_of ts) ≡ gcd_of (unsigned_abs c) (gcd_of_all (values_of ts))
@@ -139,9 +139,9 @@ unsigned_abs-turned c z e = ap unsigned_abs e ∙ unsigned_abs-mul z (negsuc 0) 
 gcd_of_all-turned : (ts made : Terms) → times_each ts (negsuc 0) ≡ Ok made → gcd_of_all (values_of made) ≡ gcd_of_all (values_of ts)
 gcd_of_all-turned [] made e = let same : [] ≡ made = cc in ap (λ (us : Terms). gcd_of_all (values_of us)) (sym same)
 gcd_of_all-turned (t ∷ ts) made e =
-    on_ok (times t.1 (negsuc 0)) (λ c. times_each ts (negsuc 0) >>= λ more. Ok (kept t.0 c more)) made e
-    (λ c f g. on_ok (times_each ts (negsuc 0)) (λ more. Ok (kept t.0 c more)) made g
-    (λ more h k. let same : kept t.0 c more ≡ made = cc in
+    on_ok (times t.1 (negsuc 0)) (λ c. times_each ts (negsuc 0) >>= λ more. Ok (with_term t.0 c more)) made e
+    (λ c f g. on_ok (times_each ts (negsuc 0)) (λ more. Ok (with_term t.0 c more)) made g
+    (λ more h k. let same : with_term t.0 c more ≡ made = cc in
     ap (λ (us : Terms). gcd_of_all (values_of us)) (sym same) ∙ gcd_of_all-kept t.0 c more
     ∙ ap (λ n. gcd_of n (gcd_of_all (values_of more))) (unsigned_abs-turned c t.1 (times-value t.1 (negsuc 0) c f))
     ∙ ap (gcd_of (unsigned_abs t.1)) (gcd_of_all-turned ts more h)))
@@ -149,14 +149,14 @@ gcd_of_all-turned (t ∷ ts) made e =
 StartsPositive-turned : (ts made : Terms) → starts_negative ts ≡ true → times_each ts (negsuc 0) ≡ Ok made → StartsPositive made
 StartsPositive-turned [] made n e = cc
 StartsPositive-turned (t ∷ ts) made n e =
-    on_ok (times t.1 (negsuc 0)) (λ c. times_each ts (negsuc 0) >>= λ more. Ok (kept t.0 c more)) made e
-    (λ c f g. on_ok (times_each ts (negsuc 0)) (λ more. Ok (kept t.0 c more)) made g
-    (λ more h k. let same : kept t.0 c more ≡ made = cc in subst StartsPositive same (first c more (times-value t.1 (negsuc 0) c f))))
+    on_ok (times t.1 (negsuc 0)) (λ c. times_each ts (negsuc 0) >>= λ more. Ok (with_term t.0 c more)) made e
+    (λ c f g. on_ok (times_each ts (negsuc 0)) (λ more. Ok (with_term t.0 c more)) made g
+    (λ more h k. let same : with_term t.0 c more ≡ made = cc in subst StartsPositive same (first c more (times-value t.1 (negsuc 0) c f))))
   where
     below : t.1 <ℤ pos 0
     below = let k : int_lt t.1 (pos 0) ≡ true = n in omega (arith, ints)
 
-    first : (c : ℤ) (more : Terms) → c ≡ t.1 *ℤ negsuc 0 → StartsPositive (kept t.0 c more)
+    first : (c : ℤ) (more : Terms) → c ≡ t.1 *ℤ negsuc 0 → StartsPositive (with_term t.0 c more)
     first c more f = go (int_eq c (pos 0)) refl
       where
         positive : pos 0 <ℤ c
@@ -217,22 +217,22 @@ same_made P m n e p = let same : m ≡ n = cc in subst P same p
 
 -- the terms of p divided by g, with a constant
 abbrev over : ℕ → Polynomial → ℤ → Polynomial
-over g p r = record { terms = divided g p.terms; rest = r }
+over g p r = record { terms = divided_terms g p.terms; rest = r }
 
-value_of-over : (at : Valuation) (g : ℕ) (p : Polynomial) → g ≡ gcd_of_all (values_of p.terms) → terms_value at (divided g p.terms) *ℤ pos g ≡ terms_value at p.terms
+value_of-over : (at : Valuation) (g : ℕ) (p : Polynomial) → g ≡ gcd_of_all (values_of p.terms) → terms_value at (divided_terms g p.terms) *ℤ pos g ≡ terms_value at p.terms
 value_of-over at g p e = terms_value-divided at g p.terms (rw e (DividesEach-gcd_of_all (values_of p.terms)))
 
-gcd_of_all-over : (g : ℕ) (p : Polynomial) → 0 < g → g ≡ gcd_of_all (values_of p.terms) → gcd_of_all (values_of (divided g p.terms)) ≡ 1
+gcd_of_all-over : (g : ℕ) (p : Polynomial) → 0 < g → g ≡ gcd_of_all (values_of p.terms) → gcd_of_all (values_of (divided_terms g p.terms)) ≡ 1
 gcd_of_all-over g p h e =
     ap gcd_of_all (values_of-divided g p.terms) ∙ ap (λ d. gcd_of_all (quotients d (values_of p.terms))) e ∙ gcd_of_all-reduced (values_of p.terms) (rw (sym e) h)
 
 both : {A B C : Type 0} → A ↔ B → B ↔ C → A ↔ C
 both f g = (λ a. g.0 (f.0 a), λ c. f.1 (g.1 c))
 
-pub reduced-SaysAsMuch : (at : Valuation) (k : Kind) (g : ℕ) (p : Polynomial) (n : Normal) → 0 < g → g ≡ gcd_of_all (values_of p.terms) → reduced k g p ≡ Ok n → SaysAsMuch at (row_of k p) n
+pub reduced-SaysAsMuch : (at : Valuation) (k : Kind) (g : ℕ) (p : Polynomial) (n : Normal) → 0 < g → g ≡ gcd_of_all (values_of p.terms) → reduced_row k g p ≡ Ok n → SaysAsMuch at (row_of k p) n
 reduced-SaysAsMuch at AtMost g p n h e f =
     same_made (SaysAsMuch at (row_of AtMost p)) (Kept (row_of AtMost (over g p (ceiling_of p.rest g)))) n f
-    (rounded (terms_value at (divided g p.terms)) (terms_value at p.terms) p.rest g h (value_of-over at g p e))
+    (rounded (terms_value at (divided_terms g p.terms)) (terms_value at p.terms) p.rest g h (value_of-over at g p e))
 reduced-SaysAsMuch at Equal g p n h e f = go (divides g (unsigned_abs p.rest)) refl f
   where
     go : (b : Bool) → divides g (unsigned_abs p.rest) ≡ b → cond b (with_positive_first (over g p (int_div p.rest (pos g))) >>= λ q. Ok (Kept (row_of Equal q))) (Ok (Constant false)) ≡ Ok n → SaysAsMuch at (row_of Equal p) n
@@ -240,12 +240,12 @@ reduced-SaysAsMuch at Equal g p n h e f = go (divides g (unsigned_abs p.rest)) r
         on_ok (with_positive_first (over g p (int_div p.rest (pos g)))) (λ q. Ok (Kept (row_of Equal q))) n k
         (λ q l m. same_made (SaysAsMuch at (row_of Equal p)) (Kept (row_of Equal q)) n m
         (both (with_positive_first-zero at (over g p (int_div p.rest (pos g))) q l)
-        (exact (terms_value at (divided g p.terms)) (terms_value at p.terms) (int_div p.rest (pos g)) p.rest g h (value_of-over at g p e) (int_div-*ℤ p.rest g (divides-true g (unsigned_abs p.rest) d)))))
+        (exact (terms_value at (divided_terms g p.terms)) (terms_value at p.terms) (int_div p.rest (pos g)) p.rest g h (value_of-over at g p e) (int_div-*ℤ p.rest g (divides-true g (unsigned_abs p.rest) d)))))
     go false d k =
         same_made (SaysAsMuch at (row_of Equal p)) (Constant false) n k
-        (λ l. absurd (false≢true l), λ l. absurd (true≢false (sym (divisible (terms_value at (divided g p.terms)) (terms_value at p.terms) p.rest g (value_of-over at g p e) l) ∙ d)))
+        (λ l. absurd (false≢true l), λ l. absurd (true≢false (sym (divisible (terms_value at (divided_terms g p.terms)) (terms_value at p.terms) p.rest g (value_of-over at g p e) l) ∙ d)))
 
-pub reduced-IsNormal : (k : Kind) (g : ℕ) (p : Polynomial) (n : Normal) → 0 < g → g ≡ gcd_of_all (values_of p.terms) → IsCanonical p.terms → reduced k g p ≡ Ok n → IsNormal n
+pub reduced-IsNormal : (k : Kind) (g : ℕ) (p : Polynomial) (n : Normal) → 0 < g → g ≡ gcd_of_all (values_of p.terms) → IsCanonical p.terms → reduced_row k g p ≡ Ok n → IsNormal n
 reduced-IsNormal AtMost g p n h e c f =
     same_made IsNormal (Kept (row_of AtMost (over g p (ceiling_of p.rest g)))) n f (gcd_of_all-over g p h e, λ l. cc)
 reduced-IsNormal Equal g p n h e c f = go (divides g (unsigned_abs p.rest)) f
@@ -278,10 +278,10 @@ SaysAsMuch-none at row c e =
     alone : (r : ℤ) → pos 0 +ℤ r ≡ r
     alone r = omega (arith, ints)
 
-pub normal_form-some : (row : Row) → 0 < gcd_of_all (values_of row.poly.terms) → normal_form row ≡ reduced row.kind (gcd_of_all (values_of row.poly.terms)) row.poly
+pub normal_form-some : (row : Row) → 0 < gcd_of_all (values_of row.poly.terms) → normal_form row ≡ reduced_row row.kind (gcd_of_all (values_of row.poly.terms)) row.poly
 normal_form-some row h = go row.poly.terms h
   where
-    go : (ts : Terms) → 0 < gcd_of_all (values_of ts) → normal_form (row_of row.kind (record { terms = ts; rest = row.poly.rest })) ≡ reduced row.kind (gcd_of_all (values_of ts)) (record { terms = ts; rest = row.poly.rest })
+    go : (ts : Terms) → 0 < gcd_of_all (values_of ts) → normal_form (row_of row.kind (record { terms = ts; rest = row.poly.rest })) ≡ reduced_row row.kind (gcd_of_all (values_of ts)) (record { terms = ts; rest = row.poly.rest })
     go [] h = absurd (omega arith)
     go (t ∷ ts) h = refl
 
@@ -290,7 +290,7 @@ normal_form-some row h = go row.poly.terms h
 -- a law of all rows without columns and of all reduced rows is one of all normal forms
 normal_form-law : (P : Normal → Type 0) (row : Row) (n : Normal) → IsCanonical row.poly.terms → normal_form row ≡ Ok n
     → (gcd_of_all (values_of row.poly.terms) ≡ 0 → P (Constant (is_within row.kind row.poly.rest)))
-    → (0 < gcd_of_all (values_of row.poly.terms) → reduced row.kind (gcd_of_all (values_of row.poly.terms)) row.poly ≡ Ok n → P n) → P n
+    → (0 < gcd_of_all (values_of row.poly.terms) → reduced_row row.kind (gcd_of_all (values_of row.poly.terms)) row.poly ≡ Ok n → P n) → P n
 normal_form-law P row n c e without_columns with_columns = go (gcd_of_all (values_of row.poly.terms)) refl
   where
     go : (g : ℕ) → gcd_of_all (values_of row.poly.terms) ≡ g → P n
@@ -312,7 +312,7 @@ with_positive_first-IsCanonical p q c e = go (starts_negative p.terms) e
     go true f = IsCanonical-multiple_of p (negsuc 0) q f c
     go false f = let same : p ≡ q = cc in subst (λ r. IsCanonical r.terms) same c
 
-reduced-HasCanonicalTerms : (k : Kind) (g : ℕ) (p : Polynomial) (n : Normal) → g ≡ gcd_of_all (values_of p.terms) → IsCanonical p.terms → reduced k g p ≡ Ok n → HasCanonicalTerms n
+reduced-HasCanonicalTerms : (k : Kind) (g : ℕ) (p : Polynomial) (n : Normal) → g ≡ gcd_of_all (values_of p.terms) → IsCanonical p.terms → reduced_row k g p ≡ Ok n → HasCanonicalTerms n
 reduced-HasCanonicalTerms AtMost g p n e c f =
     same_made HasCanonicalTerms (Kept (row_of AtMost (over g p (ceiling_of p.rest g)))) n f (IsCanonical-divided g p.terms e c)
 reduced-HasCanonicalTerms Equal g p n e c f = go (divides g (unsigned_abs p.rest)) f
@@ -329,15 +329,15 @@ normal_form-HasCanonicalTerms row n c e =
 
 -- ---- for the code: what a call that answers the reduced row answers of the row
 
-pub Gives-normal_form : (row : Row) (g : ℕ) (r : Result Normal TermError) → 0 < g → g ≡ gcd_of_all (values_of row.poly.terms) → Gives cause (λ n. n) r (reduced row.kind g row.poly) → Gives cause (λ n. n) r (normal_form row)
+pub Gives-normal_form : (row : Row) (g : ℕ) (r : Result Normal TermError) → 0 < g → g ≡ gcd_of_all (values_of row.poly.terms) → Gives cause (λ n. n) r (reduced_row row.kind g row.poly) → Gives cause (λ n. n) r (normal_form row)
 Gives-normal_form row g r h e given =
-    subst (λ s. Gives cause (λ n. n) r s) (ap (λ d. reduced row.kind d row.poly) e ∙ sym (normal_form-some row (rw (sym e) h))) given
+    subst (λ s. Gives cause (λ n. n) r s) (ap (λ d. reduced_row row.kind d row.poly) e ∙ sym (normal_form-some row (rw (sym e) h))) given
 
-pub IfOk-SaysAsMuch : (at : Valuation) (row : Row) (g : ℕ) (r : Result Normal TermError) → 0 < g → g ≡ gcd_of_all (values_of row.poly.terms) → Gives cause (λ n. n) r (reduced row.kind g row.poly) → IfOk r (SaysAsMuch at row)
+pub IfOk-SaysAsMuch : (at : Valuation) (row : Row) (g : ℕ) (r : Result Normal TermError) → 0 < g → g ≡ gcd_of_all (values_of row.poly.terms) → Gives cause (λ n. n) r (reduced_row row.kind g row.poly) → IfOk r (SaysAsMuch at row)
 IfOk-SaysAsMuch at row g (Ok n) h e given = reduced-SaysAsMuch at row.kind g row.poly n h e given
 IfOk-SaysAsMuch at row g (Err f) h e given = tt
 
-pub IfOk-IsNormal : (row : Row) (g : ℕ) (r : Result Normal TermError) → 0 < g → g ≡ gcd_of_all (values_of row.poly.terms) → IsCanonical row.poly.terms → Gives cause (λ n. n) r (reduced row.kind g row.poly) → IfOk r IsNormal
+pub IfOk-IsNormal : (row : Row) (g : ℕ) (r : Result Normal TermError) → 0 < g → g ≡ gcd_of_all (values_of row.poly.terms) → IsCanonical row.poly.terms → Gives cause (λ n. n) r (reduced_row row.kind g row.poly) → IfOk r IsNormal
 IfOk-IsNormal row g (Ok n) h e c given = reduced-IsNormal row.kind g row.poly n h e c given
 IfOk-IsNormal row g (Err f) h e c given = tt
 

@@ -12,7 +12,7 @@ use Rattle.linear_terms.specs.declared.col.Col.{Col}
 use Rattle.linear_terms.specs.declared.error.TermError.{TermError}
 use Rattle.linear_terms.specs.TermError.{plus, times}
 use Rattle.linear_terms.specs.Polynomial.{Terms, Polynomial, constant_of}
-use Rattle.linear_terms.specs.Operations.{kept, times_each, multiple_of, product_on, put, put_all, put_term, add_product, add_row, add_rows, put_part, replaced, sum_of_polys, add_substituted, substituted}
+use Rattle.linear_terms.specs.Operations.{with_term, times_each, multiple_of, product_on, put, put_all, put_term, add_product, add_row, add_rows, put_part, substituted_monomial, sum_of_polys, add_substituted, substituted_polynomial}
 
 -- terms before those that are still to be made
 abbrev pub with_front : Terms → Result Terms TermError → Result Terms TermError
@@ -22,19 +22,19 @@ pub with_front-nil : (made : Result Terms TermError) → with_front [] made ≡ 
 with_front-nil (Ok ts) = refl
 with_front-nil (Err e) = refl
 
-pub with_front-kept : (front : Terms) (m : List Col) (c : ℤ) (made : Result Terms TermError) → int_eq c (pos 0) ≡ false → with_front front (made >>= λ ts. Ok (kept m c ts)) ≡ with_front (front ++ (m, c) ∷ []) made
+pub with_front-kept : (front : Terms) (m : List Col) (c : ℤ) (made : Result Terms TermError) → int_eq c (pos 0) ≡ false → with_front front (made >>= λ ts. Ok (with_term m c ts)) ≡ with_front (front ++ (m, c) ∷ []) made
 with_front-kept front m c (Ok ts) test =
     ap (λ b. Ok (front ++ cond b ts ((m, c) ∷ ts))) test ∙ ap (λ l. Ok l) (sym (append_assoc front ((m, c) ∷ []) ts))
 with_front-kept front m c (Err e) test = refl
 
-pub with_front-dropped : (front : Terms) (m : List Col) (c : ℤ) (made : Result Terms TermError) → int_eq c (pos 0) ≡ true → with_front front (made >>= λ ts. Ok (kept m c ts)) ≡ with_front front made
+pub with_front-dropped : (front : Terms) (m : List Col) (c : ℤ) (made : Result Terms TermError) → int_eq c (pos 0) ≡ true → with_front front (made >>= λ ts. Ok (with_term m c ts)) ≡ with_front front made
 with_front-dropped front m c (Ok ts) test = ap (λ b. Ok (front ++ cond b ts ((m, c) ∷ ts))) test
 with_front-dropped front m c (Err e) test = refl
 
-pub with_front-one : (front : Terms) (m : List Col) (c : ℤ) (made : Result Terms TermError) → with_front front (made >>= λ ts. Ok (kept m c ts)) ≡ with_front (front ++ kept m c []) made
+pub with_front-one : (front : Terms) (m : List Col) (c : ℤ) (made : Result Terms TermError) → with_front front (made >>= λ ts. Ok (with_term m c ts)) ≡ with_front (front ++ with_term m c []) made
 with_front-one front m c made = go (int_eq c (pos 0)) refl
   where
-    go : (b : Bool) → int_eq c (pos 0) ≡ b → with_front front (made >>= λ ts. Ok (kept m c ts)) ≡ with_front (front ++ kept m c []) made
+    go : (b : Bool) → int_eq c (pos 0) ≡ b → with_front front (made >>= λ ts. Ok (with_term m c ts)) ≡ with_front (front ++ with_term m c []) made
     go true test = with_front-dropped front m c made test ∙ ap (λ l. with_front l made) (sym (ap (λ b. front ++ cond b [] ((m, c) ∷ [])) test ∙ append-nil front))
     go false test = with_front-kept front m c made test ∙ ap (λ l. with_front l made) (sym (ap (λ b. front ++ cond b [] ((m, c) ∷ [])) test))
 
@@ -67,17 +67,17 @@ add_rows-last r items others i sum made h e =
 
 -- ---- the loop of the multiple
 
-pub times_each-next : (by : ℤ) (items front : Terms) (i : ℕ) (t : List Col × ℤ) (c : ℤ) → i < length items → t ≡ get_or items i t → times t.1 by ≡ Ok c → with_front front (times_each (drop i items) by) ≡ with_front (front ++ kept t.0 c []) (times_each (drop (i + 1) items) by)
+pub times_each-next : (by : ℤ) (items front : Terms) (i : ℕ) (t : List Col × ℤ) (c : ℤ) → i < length items → t ≡ get_or items i t → times t.1 by ≡ Ok c → with_front front (times_each (drop i items) by) ≡ with_front (front ++ with_term t.0 c []) (times_each (drop (i + 1) items) by)
 times_each-next by items front i t c h e f =
     ap (λ l. with_front front (times_each l by)) (at_index items i t h e)
-    ∙ ap (λ r. with_front front (r >>= λ d. times_each (drop (i + 1) items) by >>= λ made. Ok (kept t.0 d made))) f
+    ∙ ap (λ r. with_front front (r >>= λ d. times_each (drop (i + 1) items) by >>= λ made. Ok (with_term t.0 d made))) f
     ∙ with_front-one front t.0 c (times_each (drop (i + 1) items) by)
 
 -- ---- the loop of the substitution
 
 -- one term, and then the others
 add_substituted-one : (put_in : Col → Polynomial) (t : List Col × ℤ) (ts : Terms) (sum : Polynomial) → add_substituted put_in (t ∷ ts) sum ≡ (add_substituted put_in (t ∷ []) sum >>= λ made. add_substituted put_in ts made)
-add_substituted-one put_in t ts sum = go (replaced put_in t.0 t.1)
+add_substituted-one put_in t ts sum = go (substituted_monomial put_in t.0 t.1)
   where
     after : (s : Result Polynomial TermError) → (s >>= λ made. add_substituted put_in ts made) ≡ ((s >>= λ made. Ok made) >>= λ made. add_substituted put_in ts made)
     after (Ok p) = refl
@@ -94,18 +94,18 @@ pub substituted-next : (put_in : Col → Polynomial) (items : Terms) (i : ℕ) (
 substituted-next put_in items i t sum made h e f =
     substituted-step put_in items i t sum h e ∙ ap (λ r. r >>= λ next. add_substituted put_in (drop (i + 1) items) next) f
 
-pub substituted-last : (put_in : Col → Polynomial) (a : Polynomial) (r : ℤ) (items : Terms) (i : ℕ) (sum : Polynomial) → length items ≤ i → add_substituted put_in (drop i items) sum ≡ add_substituted put_in a.terms (constant_of (pos 0)) → r ≡ a.rest → substituted put_in a ≡ put_part [] r sum
+pub substituted-last : (put_in : Col → Polynomial) (a : Polynomial) (r : ℤ) (items : Terms) (i : ℕ) (sum : Polynomial) → length items ≤ i → add_substituted put_in (drop i items) sum ≡ add_substituted put_in a.terms (constant_of (pos 0)) → r ≡ a.rest → substituted_polynomial put_in a ≡ put_part [] r sum
 substituted-last put_in a r items i sum h e f =
     ap (λ s. s >>= λ p. put_part [] a.rest p) (sym e ∙ ap (λ l. add_substituted put_in l sum) (drop_all i items h)) ∙ ap (λ x. put_part [] x sum) (sym f)
 
-pub substituted-failed : (put_in : Col → Polynomial) (a : Polynomial) (items : Terms) (i : ℕ) (t : List Col × ℤ) (sum : Polynomial) (fault : Option TermError) → i < length items → t ≡ get_or items i t → add_substituted put_in (drop i items) sum ≡ add_substituted put_in a.terms (constant_of (pos 0)) → FailsBy fault (add_substituted put_in (t ∷ []) sum) → FailsBy fault (substituted put_in a)
+pub substituted-failed : (put_in : Col → Polynomial) (a : Polynomial) (items : Terms) (i : ℕ) (t : List Col × ℤ) (sum : Polynomial) (fault : Option TermError) → i < length items → t ≡ get_or items i t → add_substituted put_in (drop i items) sum ≡ add_substituted put_in a.terms (constant_of (pos 0)) → FailsBy fault (add_substituted put_in (t ∷ []) sum) → FailsBy fault (substituted_polynomial put_in a)
 substituted-failed put_in a items i t sum fault h e same fails =
     FailsBy-bind fault (add_substituted put_in a.terms (constant_of (pos 0))) (λ p. put_part [] a.rest p)
     (subst (λ r. FailsBy fault r) (sym (substituted-step put_in items i t sum h e) ∙ same)
     (FailsBy-bind fault (add_substituted put_in (t ∷ []) sum) (λ next. add_substituted put_in (drop (i + 1) items) next) fails))
 
 -- one column, and then the others
-pub replaced-more : (put_in : Col → Polynomial) (columns : List Col) (c : ℤ) (d : Col) (first product : Polynomial) → 1 ≤ length columns → first ≡ put_in (get_or columns 0 d) → product_on put_in first (take (length columns - 1) (drop 1 columns)) ≡ Ok product → replaced put_in columns c ≡ multiple_of product c
+pub replaced-more : (put_in : Col → Polynomial) (columns : List Col) (c : ℤ) (d : Col) (first product : Polynomial) → 1 ≤ length columns → first ≡ put_in (get_or columns 0 d) → product_on put_in first (take (length columns - 1) (drop 1 columns)) ≡ Ok product → substituted_monomial put_in columns c ≡ multiple_of product c
 replaced-more put_in [] c d first product some e f = absurd (omega arith)
 replaced-more put_in (x ∷ m) c d first product some e f =
     let count : length (x ∷ m) - 1 ≡ length m = omega arith in

@@ -7,7 +7,7 @@ use Rattle.std.specs.declared.cmp.Ordering.TheVariants.{Less, Equal, Greater}
 use Rattle.std.proofs.lemmas.Int.{ints}
 use Rattle.std.proofs.lemmas.Bool.Decides.{Decides-int_eq}
 use Rattle.std.proofs.Math.IntN.{zero-*ℤ}
-use Rattle.items.specs.Gives.{◌>>=◌, lifted}
+use Rattle.items.specs.Gives.{◌>>=◌, err_map}
 use Rattle.items.proofs.Gives.{on_ok}
 use Rattle.whole_numbers.specs.Fits.{fits}
 use Rattle.whole_numbers.specs.declared.wide.Wide as Step
@@ -17,9 +17,9 @@ use Rattle.linear_terms.specs.declared.error.TermError.{TermError}
 use Rattle.linear_terms.specs.declared.error.TermError.TheVariants.{Degree}
 use Rattle.linear_terms.specs.Col.{col_cmp}
 use Rattle.linear_terms.specs.TermError.{wide, plus, times}
-use Rattle.linear_terms.specs.Mono.{mono_cmp, placed, in_order}
+use Rattle.linear_terms.specs.Mono.{mono_cmp, with_column, in_order}
 use Rattle.linear_terms.specs.Polynomial.{Terms, Polynomial, constant_of}
-use Rattle.linear_terms.specs.Operations.{kept, put, put_all, sum_of_polys, times_each, multiple_of, difference_of_polys, parts, put_part, add_product, add_row, add_rows, product_of_polys, product_on, product_in, replaced, add_substituted, substituted}
+use Rattle.linear_terms.specs.Operations.{with_term, put, put_all, sum_of_polys, times_each, multiple_of, difference_of_polys, parts, put_part, add_product, add_row, add_rows, product_of_polys, product_on, product_in, substituted_monomial, add_substituted, substituted_polynomial}
 use Rattle.linear_terms.specs.Value.{Valuation, mono_value, terms_value, value_of}
 use Rattle.linear_terms.proofs.Order.{mono_tie}
 
@@ -28,7 +28,7 @@ use Rattle.linear_terms.proofs.Order.{mono_tie}
 abbrev done : {X : Type 0} → X → Result X TermError
 done x = Ok x
 
-checked : (b : Bool) (x y : ℤ) (w : Step.Wide) → lifted wide (cond b (Ok x) (Err w)) ≡ Ok y → y ≡ x
+checked : (b : Bool) (x y : ℤ) (w : Step.Wide) → err_map wide (cond b (Ok x) (Err w)) ≡ Ok y → y ≡ x
 checked true x y w e = cc
 checked false x y w e = cc
 
@@ -44,18 +44,18 @@ int_eq-zero c e = (Decides-int_eq c (pos 0)).0 e
 -- ---- monomials
 
 -- the two orders in which two columns may stand
-mono_value-placed : (at : Valuation) (m : List Col) (c : Col) → mono_value at (placed m c) ≡ at c *ℤ mono_value at m
+mono_value-placed : (at : Valuation) (m : List Col) (c : Col) → mono_value at (with_column m c) ≡ at c *ℤ mono_value at m
 mono_value-placed at [] c = refl
 mono_value-placed at (d ∷ m) c = go (is_lt (col_cmp c d)) (mono_value-placed at m d) (mono_value-placed at m c)
   where
-    go : (b : Bool) → mono_value at (placed m d) ≡ at d *ℤ mono_value at m → mono_value at (placed m c) ≡ at c *ℤ mono_value at m → mono_value at (cond b (c ∷ placed m d) (d ∷ placed m c)) ≡ at c *ℤ (at d *ℤ mono_value at m)
+    go : (b : Bool) → mono_value at (with_column m d) ≡ at d *ℤ mono_value at m → mono_value at (with_column m c) ≡ at c *ℤ mono_value at m → mono_value at (cond b (c ∷ with_column m d) (d ∷ with_column m c)) ≡ at c *ℤ (at d *ℤ mono_value at m)
     go true e f = ap (λ v. at c *ℤ v) e
     go false e f = ap (λ v. at d *ℤ v) f ∙ *ℤ_left_comm (at d) (at c) (mono_value at m)
 
-mono_value-fold : (at : Valuation) (front m : List Col) → mono_value at (fold placed front m) ≡ mono_value at m *ℤ mono_value at front
+mono_value-fold : (at : Valuation) (front m : List Col) → mono_value at (fold with_column front m) ≡ mono_value at m *ℤ mono_value at front
 mono_value-fold at front [] = omega (arith, ints)
 mono_value-fold at front (c ∷ m) =
-    mono_value-fold at (placed front c) m ∙ ap (λ v. mono_value at m *ℤ v) (mono_value-placed at front c) ∙ shuffle (mono_value at m) (at c) (mono_value at front)
+    mono_value-fold at (with_column front c) m ∙ ap (λ v. mono_value at m *ℤ v) (mono_value-placed at front c) ∙ shuffle (mono_value at m) (at c) (mono_value at front)
   where
     shuffle : (x y z : ℤ) → x *ℤ (y *ℤ z) ≡ y *ℤ x *ℤ z
     shuffle x y z = simp ring (omega (arith, ints))
@@ -75,7 +75,7 @@ mono_value-in_order at m n = mono_value-fold at [] (m ++ n) ∙ one_right (mono_
 
 -- ---- sums
 
-terms_value-kept : (at : Valuation) (m : List Col) (c : ℤ) (ts : Terms) → terms_value at (kept m c ts) ≡ c *ℤ mono_value at m +ℤ terms_value at ts
+terms_value-kept : (at : Valuation) (m : List Col) (c : ℤ) (ts : Terms) → terms_value at (with_term m c ts) ≡ c *ℤ mono_value at m +ℤ terms_value at ts
 terms_value-kept at m c ts = go (int_eq c (pos 0)) refl
   where
     gone : (x v : ℤ) → x ≡ pos 0 → terms_value at ts ≡ x *ℤ v +ℤ terms_value at ts
@@ -86,7 +86,7 @@ terms_value-kept at m c ts = go (int_eq c (pos 0)) refl
     go false e = refl
 
 pub put-value : (at : Valuation) (m : List Col) (c : ℤ) (ts made : Terms) → put m c ts ≡ Ok made → terms_value at made ≡ terms_value at ts +ℤ c *ℤ mono_value at m
-put-value at m c [] made e = let same : kept m c [] ≡ made = cc in ap (terms_value at) (sym same) ∙ terms_value-kept at m c [] ∙ swap (c *ℤ mono_value at m)
+put-value at m c [] made e = let same : with_term m c [] ≡ made = cc in ap (terms_value at) (sym same) ∙ terms_value-kept at m c [] ∙ swap (c *ℤ mono_value at m)
   where
     swap : (x : ℤ) → x +ℤ pos 0 ≡ pos 0 +ℤ x
     swap x = omega (arith, ints)
@@ -95,10 +95,10 @@ put-value at m c (t ∷ ts) made e = go (mono_cmp m t.0) refl e (λ more f. put-
     before : (x y : ℤ) → x +ℤ y ≡ y +ℤ x
     before x y = omega (arith, ints)
 
-    first : done (kept m c (t ∷ ts)) ≡ Ok made → terms_value at made ≡ terms_value at (t ∷ ts) +ℤ c *ℤ mono_value at m
-    first f = let same : kept m c (t ∷ ts) ≡ made = cc in ap (terms_value at) (sym same) ∙ terms_value-kept at m c (t ∷ ts) ∙ before (c *ℤ mono_value at m) (terms_value at (t ∷ ts))
+    first : done (with_term m c (t ∷ ts)) ≡ Ok made → terms_value at made ≡ terms_value at (t ∷ ts) +ℤ c *ℤ mono_value at m
+    first f = let same : with_term m c (t ∷ ts) ≡ made = cc in ap (terms_value at) (sym same) ∙ terms_value-kept at m c (t ∷ ts) ∙ before (c *ℤ mono_value at m) (terms_value at (t ∷ ts))
 
-    added : (s : ℤ) → s ≡ t.1 +ℤ c → m ≡ t.0 → kept t.0 s ts ≡ made → terms_value at made ≡ terms_value at (t ∷ ts) +ℤ c *ℤ mono_value at m
+    added : (s : ℤ) → s ≡ t.1 +ℤ c → m ≡ t.0 → with_term t.0 s ts ≡ made → terms_value at made ≡ terms_value at (t ∷ ts) +ℤ c *ℤ mono_value at m
     added s f tie same =
         ap (terms_value at) (sym same) ∙ terms_value-kept at t.0 s ts ∙ ap (λ k. k *ℤ mono_value at t.0 +ℤ terms_value at ts) f
         ∙ spread t.1 c (mono_value at t.0) (terms_value at ts) ∙ ap (λ n. terms_value at (t ∷ ts) +ℤ c *ℤ mono_value at n) (sym tie)
@@ -112,9 +112,9 @@ put-value at m c (t ∷ ts) made e = go (mono_cmp m t.0) refl e (λ more f. put-
         group : (x y z : ℤ) → x +ℤ (y +ℤ z) ≡ x +ℤ y +ℤ z
         group x y z = omega (arith, ints)
 
-    go : (o : Ordering) → mono_cmp m t.0 ≡ o → match_ordering o (Ok (kept m c (t ∷ ts))) (plus t.1 c >>= λ s. Ok (kept t.0 s ts)) (put m c ts >>= λ more. Ok (t ∷ more)) ≡ Ok made → ((more : Terms) → put m c ts ≡ Ok more → terms_value at more ≡ terms_value at ts +ℤ c *ℤ mono_value at m) → terms_value at made ≡ terms_value at (t ∷ ts) +ℤ c *ℤ mono_value at m
+    go : (o : Ordering) → mono_cmp m t.0 ≡ o → match_ordering o (Ok (with_term m c (t ∷ ts))) (plus t.1 c >>= λ s. Ok (with_term t.0 s ts)) (put m c ts >>= λ more. Ok (t ∷ more)) ≡ Ok made → ((more : Terms) → put m c ts ≡ Ok more → terms_value at more ≡ terms_value at ts +ℤ c *ℤ mono_value at m) → terms_value at made ≡ terms_value at (t ∷ ts) +ℤ c *ℤ mono_value at m
     go Less o f ih = first f
-    go Equal o f ih = on_ok (plus t.1 c) (λ s. Ok (kept t.0 s ts)) made f (λ s g k. added s (plus-value t.1 c s g) (mono_tie m t.0 o) (cc))
+    go Equal o f ih = on_ok (plus t.1 c) (λ s. Ok (with_term t.0 s ts)) made f (λ s g k. added s (plus-value t.1 c s g) (mono_tie m t.0 o) (cc))
     go Greater o f ih = on_ok (put m c ts) (λ more. Ok (t ∷ more)) made f (λ more g k. later more (ih more g) (cc))
 
 put_all-value : (at : Valuation) (more ts made : Terms) → put_all ts more ≡ Ok made → terms_value at made ≡ terms_value at ts +ℤ terms_value at more
@@ -148,9 +148,9 @@ sum_of_polys-value at a b p e =
 times_each-value : (at : Valuation) (ts : Terms) (by : ℤ) (made : Terms) → times_each ts by ≡ Ok made → terms_value at made ≡ terms_value at ts *ℤ by
 times_each-value at [] by made e = let same : [] ≡ made = cc in ap (terms_value at) (sym same) ∙ sym (zero-*ℤ by)
 times_each-value at (t ∷ ts) by made e =
-    on_ok (times t.1 by) (λ c. times_each ts by >>= λ more. Ok (kept t.0 c more)) made e
-    (λ c f g. on_ok (times_each ts by) (λ more. Ok (kept t.0 c more)) made g
-    (λ more h k. let same : kept t.0 c more ≡ made = cc in
+    on_ok (times t.1 by) (λ c. times_each ts by >>= λ more. Ok (with_term t.0 c more)) made e
+    (λ c f g. on_ok (times_each ts by) (λ more. Ok (with_term t.0 c more)) made g
+    (λ more h k. let same : with_term t.0 c more ≡ made = cc in
     ap (terms_value at) (sym same) ∙ terms_value-kept at t.0 c more ∙ grown c (terms_value at more) (times-value t.1 by c f) (times_each-value at ts by more h)))
   where
     spread : (x y v w : ℤ) → x *ℤ y *ℤ v +ℤ w *ℤ y ≡ (x *ℤ v +ℤ w) *ℤ y
@@ -291,7 +291,7 @@ add_substituted-value at put_in [] a p e = let same : a ≡ p = cc in ap (value_
     nothing : (x : ℤ) → x ≡ x +ℤ pos 0
     nothing x = omega (arith, ints)
 add_substituted-value at put_in (t ∷ ts) a p e =
-    on_ok (replaced put_in t.0 t.1) (λ term. sum_of_polys a term >>= λ next. add_substituted put_in ts next) p e
+    on_ok (substituted_monomial put_in t.0 t.1) (λ term. sum_of_polys a term >>= λ next. add_substituted put_in ts next) p e
     (λ term f g. on_ok (sum_of_polys a term) (λ next. add_substituted put_in ts next) p g
     (λ next h k. on_ok (product_in put_in t.0) (λ product. multiple_of product t.1) term f
     (λ product l n. add_substituted-value at put_in ts next p k
@@ -304,7 +304,7 @@ add_substituted-value at put_in (t ∷ ts) a p e =
     added : (u v : ℤ) → u ≡ v *ℤ t.1 → v ≡ mono_value (seen_through at put_in) t.0 → value_of at a +ℤ u +ℤ terms_value (seen_through at put_in) ts ≡ value_of at a +ℤ terms_value (seen_through at put_in) (t ∷ ts)
     added u v f g = rw (f, g) (spread (value_of at a) t.1 (mono_value (seen_through at put_in) t.0) (terms_value (seen_through at put_in) ts))
 
-pub substituted-value : (at : Valuation) (put_in : Col → Polynomial) (a p : Polynomial) → substituted put_in a ≡ Ok p → value_of at p ≡ value_of (seen_through at put_in) a
+pub substituted-value : (at : Valuation) (put_in : Col → Polynomial) (a p : Polynomial) → substituted_polynomial put_in a ≡ Ok p → value_of at p ≡ value_of (seen_through at put_in) a
 substituted-value at put_in a p e =
     on_ok (add_substituted put_in a.terms (constant_of (pos 0))) (λ sum. plus sum.rest a.rest >>= λ r. Ok record { terms = sum.terms; rest = r }) p e
     (λ sum f g. on_ok (plus sum.rest a.rest) (λ r. Ok record { terms = sum.terms; rest = r }) p g

@@ -16,10 +16,10 @@ use Rattle.linear_terms.specs.declared.row.Kind.{Kind}
 use Rattle.linear_terms.specs.declared.row.Kind.TheVariants.{AtMost, Equal}
 use Rattle.linear_terms.specs.declared.row.Row.{Row}
 use Rattle.linear_terms.specs.Polynomial.{Terms, Polynomial, constant_of, column_of}
-use Rattle.linear_terms.specs.Operations.{kept, product_of_polys, multiple_of, sum_of_polys, difference_of_polys, substituted}
+use Rattle.linear_terms.specs.Operations.{with_term, product_of_polys, multiple_of, sum_of_polys, difference_of_polys, substituted_polynomial}
 use Rattle.linear_terms.specs.Row.{RowHolds, IsWithin}
 use Rattle.linear_terms.specs.Value.{Valuation, mono_value, terms_value, value_of, dot}
-use Rattle.linear_terms.specs.Expressions.{Made, ◌⊠◌, ◌⊞◌, ◌⊟◌, whole, column, turned, at_most, equation, negation, all_of, coefficients, linear, sum_from, weighted, combination, or_zero, when_made, when_all_made, put_into}
+use Rattle.linear_terms.specs.Expressions.{Made, ◌⊠◌, ◌⊞◌, ◌⊟◌, whole, column, negative_of, at_most, equation, negation, all_of, coefficients, linear, sum_from, weighted_sum, combination, or_zero, when_made, when_all_made, put_into}
 use Rattle.linear_terms.proofs.Values.{int_eq-zero, sum_of_polys-value, multiple_of-value, difference_of_polys-value, product_of_polys-value, substituted-value}
 
 -- ---- expressions
@@ -88,7 +88,7 @@ IsWorth-then {a = a} f of_a next = record {
   as_made = λ r e. on_ok a f r e (λ p g h. (next p (of_a.as_made p g)).as_made r h);
 }
 
-pub IsWorth-turned : {at : Valuation} {a : Made} {x : ℤ} → IsWorth at a x → IsWorth at (turned a) (pos 0 -ℤ x)
+pub IsWorth-turned : {at : Valuation} {a : Made} {x : ℤ} → IsWorth at a x → IsWorth at (negative_of a) (pos 0 -ℤ x)
 IsWorth-turned {at = at} {a = a} {x = x} of_a = record {
   as_made = λ r e. on_ok a (λ p. multiple_of p (negsuc 0)) r e (λ p f g.
       times_minus_one (value_of at r) (value_of at p) (multiple_of-value at p (negsuc 0) r g) (of_a.as_made p f));
@@ -159,7 +159,7 @@ dot-same [] xs f g all = refl
 dot-same (b ∷ bs) [] f g all = refl
 dot-same (b ∷ bs) (x ∷ xs) f g all = λ i. b *ℤ all.0 i +ℤ dot-same bs xs f g all.1 i
 
-kept-value : (at : Valuation) (m : List Col) (a : ℤ) (ts : Terms) → terms_value at (kept m a ts) ≡ a *ℤ mono_value at m +ℤ terms_value at ts
+kept-value : (at : Valuation) (m : List Col) (a : ℤ) (ts : Terms) → terms_value at (with_term m a ts) ≡ a *ℤ mono_value at m +ℤ terms_value at ts
 kept-value at m a ts = go (int_eq a (pos 0)) refl
   where
     none : (x y : ℤ) → y ≡ pos 0 *ℤ x +ℤ y
@@ -219,13 +219,13 @@ all_of-values at (m ∷ ms) (x ∷ xs) ps worth e =
     (λ p f g. on_ok (all_of ms) (λ qs. Ok (p ∷ qs)) ps g
     (λ qs h k. let same : p ∷ qs ≡ ps = cc in ap (map (value_of at)) (sym same) ∙ (λ i. worth.0.as_made p f i ∷ all_of-values at ms xs qs worth.1 h i)))
 
-pub IsWorth-weighted : (at : Valuation) (ns : List ℤ) (ps : List Polynomial) → IsWorth at (weighted ns ps) (dot ns (map (value_of at) ps))
+pub IsWorth-weighted : (at : Valuation) (ns : List ℤ) (ps : List Polynomial) → IsWorth at (weighted_sum ns ps) (dot ns (map (value_of at) ps))
 IsWorth-weighted at ns ps = IsWorth-same (none (dot ns (map (value_of at) ps))) (IsWorth-sum_from at (constant_of (pos 0)) ns ps (map (value_of at) ps) refl)
   where
     none : (x : ℤ) → pos 0 +ℤ pos 0 +ℤ x ≡ x
     none x = omega (arith, ints)
 
-pub weighted-value : (at : Valuation) (ns : List ℤ) (ps : List Polynomial) (p : Polynomial) → weighted ns ps ≡ Ok p → value_of at p ≡ dot ns (map (value_of at) ps)
+pub weighted-value : (at : Valuation) (ns : List ℤ) (ps : List Polynomial) (p : Polynomial) → weighted_sum ns ps ≡ Ok p → value_of at p ≡ dot ns (map (value_of at) ps)
 weighted-value at ns ps p e = (IsWorth-weighted at ns ps).as_made p e
 
 pub IsWorth-combination : (at : Valuation) (bs : List ℤ) (ms : List Made) (xs : List ℤ) → AreWorth at ms xs → IsWorth at (combination bs ms) (dot bs xs)
@@ -266,7 +266,7 @@ module _ (at : Valuation) (values : Col → Made) (w : Valuation) (reads : Reads
   unfolding seen
   IsWorth-put_into d = record {
     as_made = λ p e.
-        let found = terms-seen d.terms (substituted (λ c. or_zero (values c)) d) p e in
+        let found = terms-seen d.terms (substituted_polynomial (λ c. or_zero (values c)) d) p e in
         substituted-value at (λ c. or_zero (values c)) d p found.1 ∙ ap (λ x. x +ℤ d.rest) found.0;
   }
 

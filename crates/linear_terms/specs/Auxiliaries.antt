@@ -42,8 +42,8 @@ abbrev pub renumbered_column : (ℕ → ℕ) → Col → Col
 renumbered_column number (At m) = At m
 renumbered_column number (Aux m) = Aux (number m)
 
-abbrev pub renumbered : (ℕ → ℕ) → Polynomial → Polynomial
-renumbered number p = record {
+abbrev pub renumbered_polynomial : (ℕ → ℕ) → Polynomial → Polynomial
+renumbered_polynomial number p = record {
   terms = map (λ t. (map (renumbered_column number) t.0, t.1)) p.terms;
   rest = p.rest;
 }

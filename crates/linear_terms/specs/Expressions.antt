@@ -9,7 +9,7 @@ use Rattle.linear_terms.specs.declared.error.TermError.{TermError}
 use Rattle.linear_terms.specs.declared.row.Kind.TheVariants.{AtMost, Equal}
 use Rattle.linear_terms.specs.declared.row.Row.{Row}
 use Rattle.linear_terms.specs.Polynomial.{Terms, Polynomial, constant_of, column_of}
-use Rattle.linear_terms.specs.Operations.{kept, multiple_of, sum_of_polys, difference_of_polys, product_of_polys, substituted}
+use Rattle.linear_terms.specs.Operations.{with_term, multiple_of, sum_of_polys, difference_of_polys, product_of_polys, substituted_polynomial}
 
 -- a polynomial, or the first step that cannot be made
 abbrev pub Made : Type 0
@@ -39,8 +39,8 @@ abbrev pub column : Col → Made
 column c = Ok (column_of c)
 
 -- an expression times -1, which stands on the right
-abbrev pub turned : Made → Made
-turned a = a >>= λ p. multiple_of p (negsuc 0)
+abbrev pub negative_of : Made → Made
+negative_of a = a >>= λ p. multiple_of p (negsuc 0)
 
 -- the row that says that an expression is not positive
 abbrev pub at_most : Made → Result Row TermError
@@ -52,7 +52,7 @@ equation a = a >>= λ p. Ok record { poly = p; kind = Equal }
 
 -- the row that holds exactly where `p <= 0` does not: `-p + 1 <= 0`
 abbrev pub negation : Polynomial → Result Row TermError
-negation p = at_most (turned (Ok p) ⊞ whole (pos 1))
+negation p = at_most (negative_of (Ok p) ⊞ whole (pos 1))
 
 -- all of a list, each made in turn
 abbrev pub all_of : List Made → Result (List Polynomial) TermError
@@ -66,7 +66,7 @@ all_of (m ∷ ms) = m >>= λ p. all_of ms >>= λ ps. Ok (p ∷ ps)
 abbrev pub coefficients : List ℤ → List Col → Terms
 coefficients [] cs = []
 coefficients (n ∷ ns) [] = []
-coefficients (n ∷ ns) (c ∷ cs) = kept (c ∷ []) n (coefficients ns cs)
+coefficients (n ∷ ns) (c ∷ cs) = with_term (c ∷ []) n (coefficients ns cs)
 
 -- the linear polynomial without constant that has these numbers at these columns
 abbrev pub linear : List ℤ → List Col → Polynomial
@@ -79,12 +79,12 @@ sum_from total (n ∷ ns) [] = Ok total
 sum_from total (n ∷ ns) (p ∷ ps) = (Ok total ⊞ whole n ⊠ Ok p) >>= λ next. sum_from next ns ps
 
 -- numbers times polynomials, summed from zero
-abbrev pub weighted : List ℤ → List Polynomial → Made
-weighted ns ps = sum_from (constant_of (pos 0)) ns ps
+abbrev pub weighted_sum : List ℤ → List Polynomial → Made
+weighted_sum ns ps = sum_from (constant_of (pos 0)) ns ps
 
 -- numbers times expressions, all of which are made before they are summed
 abbrev pub combination : List ℤ → List Made → Made
-combination ns ms = all_of ms >>= λ ps. weighted ns ps
+combination ns ms = all_of ms >>= λ ps. weighted_sum ns ps
 
 -- ---- expressions put in for columns
 
@@ -106,4 +106,4 @@ when_all_made values (t ∷ ts) next = when_made values t.0 (when_all_made value
 -- a polynomial with expressions put in for its columns; a value that cannot be made comes before
 -- any step of the substitution
 abbrev pub put_into : (Col → Made) → Polynomial → Made
-put_into values p = when_all_made values p.terms (substituted (λ c. or_zero (values c)) p)
+put_into values p = when_all_made values p.terms (substituted_polynomial (λ c. or_zero (values c)) p)

@@ -16,11 +16,11 @@ abbrev pub lookup : List Col → Terms → Option ℤ
 lookup m ts = map.lookup (is_at (mono_cmp m)) ts
 
 -- a term with what its monomial had before
-abbrev pub added : Option ℤ → List Col × ℤ → Result (List Col × ℤ) TermError
-added None t = Ok t
-added (Some had) t = plus had t.1 >>= λ s. Ok (t.0, s)
+abbrev pub summed_term : Option ℤ → List Col × ℤ → Result (List Col × ℤ) TermError
+summed_term None t = Ok t
+summed_term (Some had) t = plus had t.1 >>= λ s. Ok (t.0, s)
 
 -- the terms with s as the coefficient of m, and without m where s is zero
-abbrev pub stored : List Col → ℤ → Terms → Terms
-stored m s ts = if int_eq s (pos 0) then remove_entry (is_at (mono_cmp m)) ts
+abbrev pub with_coefficient : List Col → ℤ → Terms → Terms
+with_coefficient m s ts = if int_eq s (pos 0) then remove_entry (is_at (mono_cmp m)) ts
     else insert_entry mono_cmp ts m s

@@ -11,14 +11,14 @@ abbrev pub mono_cmp : List Col → List Col → Ordering
 mono_cmp m n = ordering_then (nat_cmp (length n) (length m)) (slice_cmp col_cmp m n)
 
 -- columns in order, with one more at its place
-abbrev pub placed : List Col → Col → List Col
-placed [] c = c ∷ []
-placed (d ∷ m) c = if is_lt (col_cmp c d) then c ∷ placed m d else d ∷ placed m c
+abbrev pub with_column : List Col → Col → List Col
+with_column [] c = c ∷ []
+with_column (d ∷ m) c = if is_lt (col_cmp c d) then c ∷ with_column m d else d ∷ with_column m c
 
 -- the columns put in order, the smaller first: each in turn is put at its place among those before
 -- it
 abbrev pub in_order : List Col → List Col
-in_order columns = fold placed [] columns
+in_order columns = fold with_column [] columns
 
 -- whether no column stands before a smaller one
 abbrev pub starts_from : Col → List Col → Bool

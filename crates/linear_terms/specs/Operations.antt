@@ -13,15 +13,15 @@ use Rattle.linear_terms.specs.Polynomial.{Terms, Polynomial, constant_of}
 -- ---- sums
 
 -- the terms with one more before them, unless its coefficient is zero
-abbrev pub kept : List Col → ℤ → Terms → Terms
-kept m c ts = if int_eq c (pos 0) then ts else (m, c) ∷ ts
+abbrev pub with_term : List Col → ℤ → Terms → Terms
+with_term m c ts = if int_eq c (pos 0) then ts else (m, c) ∷ ts
 
 -- the terms, which stand in print order, with c added to the coefficient of m
 abbrev pub put : List Col → ℤ → Terms → Result Terms TermError
-put m c [] = Ok (kept m c [])
+put m c [] = Ok (with_term m c [])
 put m c (t ∷ ts) =
-    match_ordering (mono_cmp m t.0) (Ok (kept m c (t ∷ ts)))
-    (plus t.1 c >>= λ s. Ok (kept t.0 s ts)) (put m c ts >>= λ made. Ok (t ∷ made))
+    match_ordering (mono_cmp m t.0) (Ok (with_term m c (t ∷ ts)))
+    (plus t.1 c >>= λ s. Ok (with_term t.0 s ts)) (put m c ts >>= λ made. Ok (t ∷ made))
 
 -- the terms with others added, one after another
 abbrev pub put_all : Terms → Terms → Result Terms TermError
@@ -38,7 +38,7 @@ sum_of_polys a b = put_all a.terms b.terms >>= λ ts. plus a.rest b.rest >>= λ 
 
 abbrev pub times_each : Terms → ℤ → Result Terms TermError
 times_each [] by = Ok []
-times_each (t ∷ ts) by = times t.1 by >>= λ c. times_each ts by >>= λ made. Ok (kept t.0 c made)
+times_each (t ∷ ts) by = times t.1 by >>= λ c. times_each ts by >>= λ made. Ok (with_term t.0 c made)
 
 abbrev pub multiple_of : Polynomial → ℤ → Result Polynomial TermError
 multiple_of p by = times_each p.terms by >>= λ ts. times p.rest by >>= λ r. Ok record {
@@ -98,19 +98,19 @@ product_in put_in [] = Ok (constant_of (pos 1))
 product_in put_in (c ∷ m) = product_on put_in (put_in c) m
 
 -- that product times the coefficient of the monomial
-abbrev pub replaced : (Col → Polynomial) → List Col → ℤ → Result Polynomial TermError
-replaced put_in m c = product_in put_in m >>= λ product. multiple_of product c
+abbrev pub substituted_monomial : (Col → Polynomial) → List Col → ℤ → Result Polynomial TermError
+substituted_monomial put_in m c = product_in put_in m >>= λ product. multiple_of product c
 
 -- monomial by monomial: what comes of it, added to the sum so far
 abbrev pub add_substituted : (Col → Polynomial) → Terms → Polynomial → Result Polynomial TermError
 add_substituted put_in [] sum = Ok sum
 add_substituted put_in (t ∷ ts) sum =
-    replaced put_in t.0 t.1 >>= λ term. sum_of_polys sum term >>= λ made. add_substituted put_in ts
+    substituted_monomial put_in t.0 t.1 >>= λ term. sum_of_polys sum term >>= λ made. add_substituted put_in ts
     made
 
 -- each column replaced by a polynomial
-abbrev pub substituted : (Col → Polynomial) → Polynomial → Result Polynomial TermError
-substituted put_in p =
+abbrev pub substituted_polynomial : (Col → Polynomial) → Polynomial → Result Polynomial TermError
+substituted_polynomial put_in p =
     add_substituted put_in p.terms (constant_of (pos 0)) >>= λ sum. plus sum.rest p.rest
     >>= λ r. Ok record {
       terms = sum.terms;

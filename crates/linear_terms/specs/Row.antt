@@ -39,8 +39,8 @@ is_within AtMost z = int_le z (pos 0)
 is_within Equal z = int_eq z (pos 0)
 
 -- the terms with each coefficient divided by a number that divides them all
-abbrev pub divided : ℕ → Terms → Terms
-divided d ts = map (λ t. (t.0, int_div t.1 (pos d))) ts
+abbrev pub divided_terms : ℕ → Terms → Terms
+divided_terms d ts = map (λ t. (t.0, int_div t.1 (pos d))) ts
 
 -- the first coefficient is negative
 abbrev pub starts_negative : Terms → Bool
@@ -52,16 +52,16 @@ abbrev pub with_positive_first : Polynomial → Result Polynomial TermError
 with_positive_first p = if starts_negative p.terms then multiple_of p (negsuc 0) else Ok p
 
 -- of a row with columns, by the greatest common divisor g of its coefficients
-abbrev pub reduced : Kind → ℕ → Polynomial → Result Normal TermError
-reduced AtMost g p =
+abbrev pub reduced_row : Kind → ℕ → Polynomial → Result Normal TermError
+reduced_row AtMost g p =
     Ok (Kept record {
-      poly = record { terms = divided g p.terms; rest = ceiling_of p.rest g };
+      poly = record { terms = divided_terms g p.terms; rest = ceiling_of p.rest g };
       kind = AtMost;
     })
-reduced Equal g p =
+reduced_row Equal g p =
     if divides g (unsigned_abs p.rest)
     then (with_positive_first record {
-      terms = divided g p.terms;
+      terms = divided_terms g p.terms;
       rest = int_div p.rest (pos g);
     } >>= λ q. Ok (Kept record { poly = q; kind = Equal }))
     else Ok (Constant false)
@@ -74,7 +74,7 @@ normal_form row = of_terms row.poly.terms
   where
     of_terms : Terms → Result Normal TermError
     of_terms [] = Ok (Constant (is_within row.kind row.poly.rest))
-    of_terms (t ∷ ts) = reduced row.kind (gcd_of_all (values_of row.poly.terms)) row.poly
+    of_terms (t ∷ ts) = reduced_row row.kind (gcd_of_all (values_of row.poly.terms)) row.poly
 
 -- ---- what a normal form is
 

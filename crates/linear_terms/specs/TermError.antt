@@ -1,6 +1,6 @@
 -- Errors of the operations on polynomials.
 use Rattle.std.specs.Prelude.{ℤ, Option, Some, None, Result}
-use Rattle.items.specs.Gives.{lifted}
+use Rattle.items.specs.Gives.{err_map}
 use Rattle.whole_numbers.specs.declared.wide.Wide as Step
 use Rattle.whole_numbers.specs.Fits.{sum_of, product_of}
 use Rattle.linear_terms.specs.declared.error.TermError.{TermError}
@@ -12,10 +12,10 @@ wide step = Wide step.left step.right step.times
 
 -- a sum of two numbers of 128 bits, and a product, or the error that names them
 abbrev pub plus : ℤ → ℤ → Result ℤ TermError
-plus a b = lifted wide (sum_of a b)
+plus a b = err_map wide (sum_of a b)
 
 abbrev pub times : ℤ → ℤ → Result ℤ TermError
-times a b = lifted wide (product_of a b)
+times a b = err_map wide (product_of a b)
 
 -- what an error tells: want of memory tells nothing, and each other is a fault of the operation
 -- itself

@@ -2,8 +2,8 @@ ghost use Rattle.std.specs.Prelude.{◌≡◌, ◌≤◌, [], ◌∷◌, not, ma
 ghost use Rattle.std.specs.List.{filter, list_all, list_any};
 ghost use Rattle.items.specs.Gives.{FailsBy, Gives};
 ghost use Rattle.linear_terms.specs.TermError.{cause};
-ghost use Rattle.linear_terms.specs.Operations.{add_substituted, product_in, product_on, product_of_polys, replaced, substituted};
-ghost use Rattle.linear_terms.specs.Auxiliaries.{has_auxiliary, occurs, without, put_for, is_numbered, renumbered_column, renumbered, KeepsOrder};
+ghost use Rattle.linear_terms.specs.Operations.{add_substituted, product_in, product_on, product_of_polys, substituted_monomial, substituted_polynomial};
+ghost use Rattle.linear_terms.specs.Auxiliaries.{has_auxiliary, occurs, without, put_for, is_numbered, renumbered_column, renumbered_polynomial, KeepsOrder};
 ghost use Rattle.linear_terms.specs.Value.{Valuation, value_of};
 
 use crate::total::Total;
@@ -13,17 +13,17 @@ use std::alloc::{AllocError, Global};
 
 /// An auxiliary replaced by a polynomial; the other columns stand for themselves.
 pub fn subst_aux(alloc: Global, a: &Poly, aux: u32, by: &Poly) -> Result<Poly, TermError>
-    ensures exact { Gives cause (λ p. p) result (substituted (put_for aux by.now) a.now) }
+    ensures exact { Gives cause (λ p. p) result (substituted_polynomial (put_for aux by.now) a.now) }
     ensures value { (numbers : Valuation)
         → IfOk result
         (λ p. value_of numbers p ≡ value_of (λ c. value_of numbers (put_for aux by.now c)) a.now) }
 {
-    let made = substituted(alloc, a, aux, by)?;
+    let made = substituted_polynomial(alloc, a, aux, by)?;
     Ok(made)
 }
 
-fn substituted(alloc: Global, a: &Poly, aux: u32, by: &Poly) -> Result<Poly, TermError>
-    ensures { Gives cause (λ p. p) result (substituted (put_for aux by.now) a.now) }
+fn substituted_polynomial(alloc: Global, a: &Poly, aux: u32, by: &Poly) -> Result<Poly, TermError>
+    ensures { Gives cause (λ p. p) result (substituted_polynomial (put_for aux by.now) a.now) }
 {
     let mut total = Total::new(alloc);
     for term in a.terms.as_slice() {
@@ -45,12 +45,12 @@ fn add_replaced(
     ensures err { IfErr result
         (λ e. FailsBy (cause e) (add_substituted (put_for aux by.now) (term.now ∷ []) total.old)) }
 {
-    let made = replaced(alloc, term.0.columns(), term.1, aux, by)?;
+    let made = substituted_monomial(alloc, term.0.columns(), term.1, aux, by)?;
     total.add(&made)
 }
 
 /// The product of what stands for the columns, times the coefficient.
-fn replaced(
+fn substituted_monomial(
     alloc: Global,
     columns: &[Col],
     number: i128,
@@ -58,7 +58,7 @@ fn replaced(
     by: &Poly,
 ) -> Result<Poly, TermError>
     requires { 1 ≤ length columns.now }
-    ensures { Gives cause (λ p. p) result (replaced (put_for aux by.now) columns.now number) }
+    ensures { Gives cause (λ p. p) result (substituted_monomial (put_for aux by.now) columns.now number) }
 {
     let product = product_in(alloc, columns, aux, by)?;
     scale(alloc, &product, number)
@@ -145,11 +145,11 @@ fn terms_without(
 }
 
 /// The auxiliaries' numbers replaced by those at their places in a list, which keep their order.
-pub fn renumbered(alloc: Global, a: &Poly, numbers: &[u32]) -> Result<Poly, AllocError>
+pub fn renumbered_poly(alloc: Global, a: &Poly, numbers: &[u32]) -> Result<Poly, AllocError>
     requires numbered { IsTrue
         (list_all (λ t. list_all (is_numbered (length numbers.now)) t.0) a.now.terms) }
     requires order { KeepsOrder (slice_index numbers.now) (λ n. occurs n a.now) }
-    ensures { IfOk result (λ p. p ≡ renumbered (slice_index numbers.now) a.now) }
+    ensures { IfOk result (λ p. p ≡ renumbered_polynomial (slice_index numbers.now) a.now) }
 {
     let terms = terms_renumbered(alloc, a.terms.as_slice(), numbers)?;
     Ok(Poly {
@@ -173,7 +173,7 @@ fn terms_renumbered(
 {
     let mut made = Items::new(alloc);
     for (mono, number) in terms {
-        made.push((mono.renumbered(numbers), *number))?;
+        made.push((mono.with_numbers(numbers), *number))?;
     }
     Ok(made)
 }

@@ -32,7 +32,7 @@ impl Col {
     }
 
     /// An auxiliary's number replaced by the one at its place.
-    pub(crate) fn renumbered(self, numbers: &[u32]) -> Col
+    pub(crate) fn with_numbers(self, numbers: &[u32]) -> Col
         requires { IsTrue (is_numbered (length numbers.now) self) }
         ensures { result ≡ renumbered_column (slice_index numbers.now) self }
     {

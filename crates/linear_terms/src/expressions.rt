@@ -3,7 +3,7 @@ ghost use Rattle.items.specs.Gives.{Gives};
 ghost use Rattle.linear_terms.specs.TermError.{cause};
 ghost use Rattle.linear_terms.specs.declared.error.TermError.TheVariants.{Degree};
 ghost use Rattle.linear_terms.specs.Operations.{difference_of_polys, sum_of_polys, product_of_polys};
-ghost use Rattle.linear_terms.specs.Expressions.{◌⊞◌, ◌⊠◌, whole, turned, negation, weighted, sum_from};
+ghost use Rattle.linear_terms.specs.Expressions.{◌⊞◌, ◌⊠◌, whole, negative_of, negation, weighted_sum, sum_from};
 ghost use Rattle.linear_terms.specs.Row.{RowHolds};
 ghost use Rattle.linear_terms.specs.Value.{Valuation, value_of, dot};
 
@@ -42,16 +42,16 @@ pub fn negation(alloc: Global, poly: &Poly) -> Result<Row, TermError>
 /// nothing.
 #[tactic(auto, using(crate::proofs::Worth::weighted_value))]
 pub fn combination(alloc: Global, numbers: &[i128], polys: &[Poly]) -> Result<Poly, TermError>
-    ensures exact { Gives cause (λ p. p) result (weighted numbers.now polys.now) }
+    ensures exact { Gives cause (λ p. p) result (weighted_sum numbers.now polys.now) }
     ensures value { (at : Valuation)
         → IfOk result (λ p. value_of at p ≡ dot numbers.now (map (value_of at) polys.now)) }
 {
-    let total = weighted(alloc, numbers, polys)?;
+    let total = weighted_sum(alloc, numbers, polys)?;
     Ok(total)
 }
 
-fn weighted(alloc: Global, numbers: &[i128], polys: &[Poly]) -> Result<Poly, TermError>
-    ensures { Gives cause (λ p. p) result (weighted numbers.now polys.now) }
+fn weighted_sum(alloc: Global, numbers: &[i128], polys: &[Poly]) -> Result<Poly, TermError>
+    ensures { Gives cause (λ p. p) result (weighted_sum numbers.now polys.now) }
 {
     let mut total = Poly::constant(alloc, 0);
     let mut numbers = numbers;

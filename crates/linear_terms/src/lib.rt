@@ -18,7 +18,7 @@ mod sums;
 mod text;
 mod total;
 
-pub use auxiliaries::{renumbered, subst_aux, without};
+pub use auxiliaries::{renumbered_poly, subst_aux, without};
 pub use col::Col;
 pub use error::TermError;
 pub use expressions::{combination, difference, negation};

@@ -4,7 +4,7 @@ ghost use Rattle.std.specs.Option.{SomeIff};
 ghost use Rattle.std.specs.Ordering.{eq_by_cmp, is_lt};
 ghost use Rattle.linear_terms.specs.Col.{col_cmp};
 ghost use Rattle.std.specs.Cmp.{partial_order_from_agreeing_total, partial_equiv_from_equiv, eq_by_cmp_equiv};
-ghost use Rattle.linear_terms.specs.Mono.{mono_cmp, in_order, is_in_order, placed};
+ghost use Rattle.linear_terms.specs.Mono.{mono_cmp, in_order, is_in_order, with_column};
 ghost use Rattle.linear_terms.specs.Auxiliaries.{has_auxiliary, is_entry, is_numbered, renumbered_column, KeepsOrder};
 ghost use Rattle.linear_terms.specs.Replacement.{IsBelow};
 ghost use Rattle.linear_terms.specs.MonoOrder.{mono_cmp_total};
@@ -85,7 +85,7 @@ impl Mono {
     }
 
     /// The auxiliaries' numbers replaced by those at their places, which keep the columns in order.
-    pub(crate) fn renumbered(&self, numbers: &[u32]) -> Mono
+    pub(crate) fn with_numbers(&self, numbers: &[u32]) -> Mono
         requires numbered { IsTrue (list_all (is_numbered (length numbers.now)) self.now) }
         requires order { KeepsOrder (slice_index numbers.now) (λ n. has_auxiliary n self.now) }
         ensures { result ≡ map (renumbered_column (slice_index numbers.now)) self.now }
@@ -133,14 +133,14 @@ fn renumber_each(cells: &mut [Col; DEGREE], columns: &[Col], numbers: &[u32])
     ensures after { drop (length columns.now) cells.new ≡ drop (length columns.now) cells.old }
 {
     for (i, col) in columns.iter().enumerate() {
-        cells[i] = col.renumbered(numbers);
+        cells[i] = col.with_numbers(numbers);
     }
 }
 
 /// Puts each of the columns at its place among the first `len` cells and those put before.
 fn place_each(cells: &mut [Col; DEGREE], len: usize, columns: &[Col])
     requires { len + length columns.now ≤ 4 }
-    ensures placed { take (len + length columns.now) cells.new ≡ fold placed (take len cells.old)
+    ensures placed { take (len + length columns.now) cells.new ≡ fold with_column (take len cells.old)
         columns.now }
     ensures after { drop (len + length columns.now) cells.new ≡ drop (len + length columns.now)
         cells.old }
@@ -153,7 +153,7 @@ fn place_each(cells: &mut [Col; DEGREE], len: usize, columns: &[Col])
 /// Puts a column at its place among the first `len` cells, which make room.
 fn place(cells: &mut [Col; DEGREE], len: usize, col: Col)
     requires { len < 4 }
-    ensures placed { take (len + 1) cells.new ≡ placed (take len cells.old) col }
+    ensures placed { take (len + 1) cells.new ≡ with_column (take len cells.old) col }
     ensures after { drop (len + 1) cells.new ≡ drop (len + 1) cells.old }
 {
     let mut carried = col;

@@ -5,7 +5,7 @@ ghost use Rattle.whole_numbers.specs.Divisors.{gcd_of_all};
 ghost use Rattle.linear_terms.specs.TermError.{cause};
 ghost use Rattle.linear_terms.specs.declared.error.TermError.TheVariants.{Memory};
 ghost use Rattle.linear_terms.specs.Polynomial.{IsCanonical};
-ghost use Rattle.linear_terms.specs.Row.{normal_form, reduced, divided, with_positive_first, starts_negative, is_within, SaysAsMuch, IsNormal, IsTurnFault};
+ghost use Rattle.linear_terms.specs.Row.{normal_form, reduced_row, divided_terms, with_positive_first, starts_negative, is_within, SaysAsMuch, IsNormal, IsTurnFault};
 ghost use Rattle.linear_terms.specs.Value.{Valuation};
 
 use crate::{Kind, Mono, Normal, Poly, Row, TermError, scale};
@@ -27,7 +27,7 @@ pub fn normal(alloc: Global, row: &Row) -> Result<Normal, TermError>
     if divisor == 0 {
         return Ok(Normal::Constant(is_within(row.kind, row.poly.rest)));
     }
-    reduced(alloc, row.kind, divisor, &row.poly)
+    reduced_row(alloc, row.kind, divisor, &row.poly)
 }
 
 fn is_within(kind: Kind, number: i128) -> bool
@@ -59,15 +59,15 @@ fn greatest_divisor(terms: &[(Mono, i128)]) -> u128
 }
 
 /// The row with its coefficients divided by their greatest common divisor.
-fn reduced(alloc: Global, kind: Kind, divisor: u128, poly: &Poly) -> Result<Normal, TermError>
+fn reduced_row(alloc: Global, kind: Kind, divisor: u128, poly: &Poly) -> Result<Normal, TermError>
     requires some { 0 < divisor }
     requires divisor { divisor ≡ gcd_of_all (values_of poly.now.terms) }
-    ensures { Gives cause (λ n. n) result (reduced kind divisor poly.now) }
+    ensures { Gives cause (λ n. n) result (reduced_row kind divisor poly.now) }
 {
     match kind {
         Kind::AtMost => {
             let rest = quotient_up(poly.rest, divisor);
-            let poly = divided(alloc, poly, divisor, rest)?;
+            let poly = divided_poly(alloc, poly, divisor, rest)?;
             Ok(Normal::Kept(Row { poly, kind }))
         }
         Kind::Equal => {
@@ -75,18 +75,18 @@ fn reduced(alloc: Global, kind: Kind, divisor: u128, poly: &Poly) -> Result<Norm
                 return Ok(Normal::Constant(false));
             }
             let rest = quotient(poly.rest, divisor);
-            let poly = with_positive_first(alloc, divided(alloc, poly, divisor, rest)?)?;
+            let poly = with_positive_first(alloc, divided_poly(alloc, poly, divisor, rest)?)?;
             Ok(Normal::Kept(Row { poly, kind }))
         }
     }
 }
 
 /// The terms divided by their greatest common divisor, with a constant.
-fn divided(alloc: Global, poly: &Poly, divisor: u128, rest: i128) -> Result<Poly, AllocError>
+fn divided_poly(alloc: Global, poly: &Poly, divisor: u128, rest: i128) -> Result<Poly, AllocError>
     requires some { 0 < divisor }
     requires divisor { divisor ≡ gcd_of_all (values_of poly.now.terms) }
     ensures { IfOk result
-        (λ p. p ≡ record { terms = divided divisor poly.now.terms; rest = rest }) }
+        (λ p. p ≡ record { terms = divided_terms divisor poly.now.terms; rest = rest }) }
 {
     let terms = quotients(alloc, poly.terms.as_slice(), divisor)?;
     Ok(Poly { terms, rest })
@@ -98,7 +98,7 @@ fn quotients(
     divisor: u128,
 ) -> Result<Items<(Mono, i128)>, AllocError>
     requires { 0 < divisor }
-    ensures { IfOk result (λ made. made ≡ divided divisor terms.now) }
+    ensures { IfOk result (λ made. made ≡ divided_terms divisor terms.now) }
 {
     let mut made = Items::new(alloc);
     for (mono, number) in terms {

@@ -2,7 +2,7 @@ ghost use Rattle.std.specs.Prelude.{◌≡◌, ◌≢◌, ℤ, ◌*ℤ◌, [], �
 ghost use Rattle.items.specs.Gives.{Gives};
 ghost use Rattle.linear_terms.specs.TermError.{cause};
 ghost use Rattle.linear_terms.specs.declared.error.TermError.TheVariants.{Degree};
-ghost use Rattle.linear_terms.specs.Operations.{kept, times_each, multiple_of};
+ghost use Rattle.linear_terms.specs.Operations.{with_term, times_each, multiple_of};
 ghost use Rattle.linear_terms.specs.Value.{Valuation, value_of};
 
 use crate::{Mono, Poly, TermError};
@@ -17,12 +17,16 @@ pub fn scale(alloc: Global, a: &Poly, by: i128) -> Result<Poly, TermError>
     ensures value { (at : Valuation) → IfOk result (λ p. value_of at p ≡ value_of at a.now *ℤ by) }
     ensures no_degree { IfErr result (λ e. e ≢ Degree) }
 {
-    let terms = scaled(alloc, a.terms.as_slice(), by)?;
+    let terms = scaled_terms(alloc, a.terms.as_slice(), by)?;
     let rest = product(a.rest, by)?;
     Ok(Poly { terms, rest })
 }
 
-fn scaled(alloc: Global, terms: &[(Mono, i128)], by: i128) -> Result<Items<(Mono, i128)>, TermError>
+fn scaled_terms(
+    alloc: Global,
+    terms: &[(Mono, i128)],
+    by: i128,
+) -> Result<Items<(Mono, i128)>, TermError>
     ensures exact { Gives cause (λ made. made) result (times_each terms.now by) }
     ensures no_degree { IfErr result (λ e. e ≢ Degree) }
 {
@@ -36,7 +40,7 @@ fn scaled(alloc: Global, terms: &[(Mono, i128)], by: i128) -> Result<Items<(Mono
 
 /// Puts a term behind the others, unless its number is zero.
 fn push_kept(made: &mut Items<(Mono, i128)>, term: (Mono, i128)) -> Result<(), AllocError>
-    ensures { OnOk result (made.new ≡ made.old ++ kept term.0 term.1 []) }
+    ensures { OnOk result (made.new ≡ made.old ++ with_term term.0 term.1 []) }
 {
     if term.1 != 0 {
         made.push(term)?;

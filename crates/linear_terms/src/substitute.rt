@@ -1,7 +1,7 @@
 ghost use Rattle.std.specs.Prelude.{◌≡◌, ◌≤◌, [], ◌∷◌, length, All, Ok, IfOk};
 ghost use Rattle.items.specs.Gives.{Gives};
 ghost use Rattle.linear_terms.specs.TermError.{cause};
-ghost use Rattle.linear_terms.specs.Operations.{add_substituted, product_on, put_part, replaced, substituted, sum_of_polys};
+ghost use Rattle.linear_terms.specs.Operations.{add_substituted, product_on, put_part, substituted_monomial, substituted_polynomial, sum_of_polys};
 ghost use Rattle.linear_terms.specs.Polynomial.{constant_of};
 ghost use Rattle.linear_terms.specs.Replacement.{HasPoly, put_in};
 ghost use Rattle.linear_terms.specs.Value.{Valuation, value_of};
@@ -14,19 +14,24 @@ use whole_numbers::sum;
 /// auxiliary by one of `aux`.
 pub fn subst(alloc: Global, a: &Poly, at: &[Poly], aux: &[Poly]) -> Result<Poly, TermError>
     requires { All (λ t. All (HasPoly at.now aux.now) t.0) a.now.terms }
-    ensures exact { Gives cause (λ p. p) result (substituted (put_in at.now aux.now) a.now) }
+    ensures exact { Gives cause (λ p. p) result (substituted_polynomial (put_in at.now aux.now) a.now) }
     ensures value { (numbers : Valuation)
         → IfOk result
         (λ p. value_of numbers p ≡ value_of (λ c. value_of numbers (put_in at.now aux.now c))
         a.now) }
 {
-    let made = substituted(alloc, a, at, aux)?;
+    let made = substituted_polynomial(alloc, a, at, aux)?;
     Ok(made)
 }
 
-fn substituted(alloc: Global, a: &Poly, at: &[Poly], aux: &[Poly]) -> Result<Poly, TermError>
+fn substituted_polynomial(
+    alloc: Global,
+    a: &Poly,
+    at: &[Poly],
+    aux: &[Poly],
+) -> Result<Poly, TermError>
     requires { All (λ t. All (HasPoly at.now aux.now) t.0) a.now.terms }
-    ensures { Gives cause (λ p. p) result (substituted (put_in at.now aux.now) a.now) }
+    ensures { Gives cause (λ p. p) result (substituted_polynomial (put_in at.now aux.now) a.now) }
 {
     let mut total = Poly::constant(alloc, 0);
     for term in a.terms.as_slice() {
@@ -47,7 +52,7 @@ fn with_replaced(
     ensures { Gives cause (λ p. p) result
         (add_substituted (put_in at.now aux.now) (term.now ∷ []) total) }
 {
-    let made = replaced(alloc, term.0.columns(), term.1, at, aux)?;
+    let made = substituted_monomial(alloc, term.0.columns(), term.1, at, aux)?;
     with_poly(alloc, total, made)
 }
 
@@ -80,7 +85,7 @@ fn with_constant(total: Poly, number: &i128) -> Result<Poly, TermError>
 }
 
 /// The product of what is put in for the columns, times the coefficient.
-fn replaced(
+fn substituted_monomial(
     alloc: Global,
     columns: &[Col],
     number: i128,
@@ -89,7 +94,7 @@ fn replaced(
 ) -> Result<Poly, TermError>
     requires some { 1 ≤ length columns.now }
     requires covered { All (HasPoly at.now aux.now) columns.now }
-    ensures { Gives cause (λ p. p) result (replaced (put_in at.now aux.now) columns.now number) }
+    ensures { Gives cause (λ p. p) result (substituted_monomial (put_in at.now aux.now) columns.now number) }
 {
     let first = put_in(columns[0], at, aux);
     if columns.len() == 1 {

@@ -20,13 +20,13 @@ pub fn add(alloc: Global, a: &Poly, b: &Poly) -> Result<Poly, TermError>
         → IfOk result (λ p. value_of at p ≡ value_of at a.now +ℤ value_of at b.now) }
     ensures no_degree { IfErr result (λ e. e ≢ Degree) }
 {
-    let terms = merged(alloc, a.terms.as_slice(), b.terms.as_slice())?;
+    let terms = merged_terms(alloc, a.terms.as_slice(), b.terms.as_slice())?;
     let rest = sum(a.rest, b.rest)?;
     Ok(Poly { terms, rest })
 }
 
 /// The terms of both in print order, with the sum of the numbers where both have a monomial.
-fn merged(
+fn merged_terms(
     alloc: Global,
     left: &[(Mono, i128)],
     right: &[(Mono, i128)],
@@ -57,7 +57,7 @@ fn merged(
                 right = rights;
             }
             Ordering::Equal => {
-                let term = joined(first, other)?;
+                let term = joint_term(first, other)?;
                 if term.1 != 0 {
                     made.push(term)?;
                 }
@@ -71,7 +71,7 @@ fn merged(
 }
 
 /// One monomial with the numbers of both.
-fn joined(left: &(Mono, i128), right: &(Mono, i128)) -> Result<(Mono, i128), TermError>
+fn joint_term(left: &(Mono, i128), right: &(Mono, i128)) -> Result<(Mono, i128), TermError>
     ensures number { IfOk result (λ t. plus left.now.1 right.now.1 ≡ Ok t.1) }
     ensures mono { IfOk result (λ t. t.0 ≡ left.now.0) }
     ensures err { IfErr result (λ e. plus left.now.1 right.now.1 ≡ Err e) }

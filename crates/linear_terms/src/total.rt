@@ -4,7 +4,7 @@ ghost use Rattle.linear_terms.specs.TermError.{cause};
 ghost use Rattle.linear_terms.specs.Mono.{in_order};
 ghost use Rattle.linear_terms.specs.Polynomial.{constant_of, IsCanonical};
 ghost use Rattle.linear_terms.specs.Operations.{sum_of_polys, put_term, put_part, add_product};
-ghost use Rattle.linear_terms.specs.Lookup.{lookup, added, stored};
+ghost use Rattle.linear_terms.specs.Lookup.{lookup, summed_term, with_coefficient};
 
 use crate::mono::DEGREE;
 use crate::{Col, Mono, Poly, TermError};
@@ -105,7 +105,7 @@ impl Total {
         ensures err { IfErr result
             (λ e. FailsBy (cause e) (put_term term.now.0 term.now.1 self.old)) }
     {
-        let term = added(self.coefficient(&term.0), term)?;
+        let term = summed_term(self.coefficient(&term.0), term)?;
         self.store(term)?;
         Ok(())
     }
@@ -146,13 +146,16 @@ impl Total {
         ensures { IfOk result (λ p. p ≡ self) }
     {
         let Total { terms, rest } = self;
-        let terms = listed(alloc, terms)?;
+        let terms = terms_of_map(alloc, terms)?;
         Ok(Poly { terms, rest })
     }
 }
 
 /// The terms of a map, in the order of their monomials.
-fn listed(alloc: Global, terms: BTreeMap<Mono, i128>) -> Result<Items<(Mono, i128)>, AllocError>
+fn terms_of_map(
+    alloc: Global,
+    terms: BTreeMap<Mono, i128>,
+) -> Result<Items<(Mono, i128)>, AllocError>
     ensures { IfOk result (λ made. made ≡ terms.entries) }
 {
     let made: Vec<(Mono, i128)> = terms.into_iter().collect(alloc)?;
@@ -167,8 +170,8 @@ fn is_above_degree(left: &[Col], right: &[Col]) -> bool
 }
 
 /// The term with what its monomial had before.
-fn added(had: Option<i128>, term: &(Mono, i128)) -> Result<(Mono, i128), TermError>
-    ensures { Gives Some (λ t. t) result (added had term.now) }
+fn summed_term(had: Option<i128>, term: &(Mono, i128)) -> Result<(Mono, i128), TermError>
+    ensures { Gives Some (λ t. t) result (summed_term had term.now) }
 {
     let number = match had {
         Some(had) => sum(had, term.1)?,

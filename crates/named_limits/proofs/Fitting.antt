@@ -27,13 +27,13 @@ use Rattle.transition_formula.specs.Transition.{Transition, is_fitted}
 use Rattle.posing.specs.declared.note.Note.TheVariants as note
 use Rattle.posing.specs.Logs.{loss_notes}
 use Rattle.posing.specs.Posing.{Posing, Done, Noted, ◌>>=◌, answer_to}
-use Rattle.polyhedra.specs.Bounds.{bound_in, bound_by, bounded, with_row, with_row_for}
-use Rattle.polyhedra.specs.Finish.{cut, cut_notes, finished, finished_left, told_count}
+use Rattle.polyhedra.specs.Bounds.{bound_in, bound_by, rows_with_bound, with_row, with_row_for}
+use Rattle.polyhedra.specs.Finish.{cut, cut_notes, finish_of_case, finished_left, told_count}
 use Rattle.polyhedra.specs.Infeasibility.{assent, is_yes, limits_of}
 use Rattle.polyhedra.specs.Relations.{relations_in, relations_of}
-use Rattle.polyhedra.specs.Settle.{feasible, feasible_by, feasible_left, settled, settled_case, with_settled}
-use Rattle.polyhedra.specs.Squash.{fitted, noted_squash, related, squash_rows, squashed, squashed_case, with_bounds, with_differences, with_relations}
-use Rattle.polyhedra.specs.Thin.{thinned, thinned_at, thinned_by, thinned_found, thinned_of, thinned_with}
+use Rattle.polyhedra.specs.Settle.{feasible, feasible_by, feasible_left, settled_formula, settled_case, with_settled}
+use Rattle.polyhedra.specs.Squash.{fitted_formula, noted_squash, change_relations, squash_rows, squashed_formula, squashed_case, with_bounds, with_differences, with_relations}
+use Rattle.polyhedra.specs.Thin.{thinned_case, thinning_at, thinning_by, thinned_found, thinning_of, thinning_with}
 use Rattle.polyhedra.specs.Vocabulary.{Vocabulary}
 use Rattle.named_limits.specs.Limits.{count, limit_given, limits_told}
 use Rattle.named_limits.proofs.Balance.{TellNone, TellsAll, balances-asked, balances-done, balances-noted, no_limit, same-refl, tells-bind, tells-done, tells-down, tells-each, tells-noted, tells-then}
@@ -86,8 +86,8 @@ with_row_for-tells : (rows : List Row) (row : ℤ → Result Row TermError) (mos
 with_row_for-tells rows row None = tells-done rows
 with_row_for-tells rows row (Some most) = with_row-tells rows (row most)
 
-pub bounded-tells : (cases : List Case) (objective : Case → Made) (row : ℤ → Result Row TermError) (rows : List Row) → TellsAll (bounded cases objective row rows)
-unfolding bounded
+pub bounded-tells : (cases : List Case) (objective : Case → Made) (row : ℤ → Result Row TermError) (rows : List Row) → TellsAll (rows_with_bound cases objective row rows)
+unfolding rows_with_bound
 bounded-tells cases objective row rows = tells-bind (bound-tells _) (λ most. with_row_for-tells rows row most)
 
 -- ---- settling
@@ -112,22 +112,22 @@ with_settled-tells : (made : List Case) (case : Case) → TellsAll (with_settled
 unfolding with_settled
 with_settled-tells made case = tells-then _ (settled_case-tells case)
 
-pub settled-tells : (f : Transition) → TellsAll (settled f)
-unfolding settled
+pub settled-tells : (f : Transition) → TellsAll (settled_formula f)
+unfolding settled_formula
 settled-tells f = tells-then _ (tells-each with_settled [] f.cases with_settled-tells)
 
 -- ---- thinning and finishing
 
-thinned_with-tells : (row : Row) (place : ℕ) (rows : List Row) → TellsAll (thinned_with row place rows)
-unfolding thinned_with
+thinned_with-tells : (row : Row) (place : ℕ) (rows : List Row) → TellsAll (thinning_with row place rows)
+unfolding thinning_with
 thinned_with-tells row place rows = tells-then _ (assent-tells _)
 
-thinned_by-tells : (made : Result Row TermError) (place : ℕ) (rows : List Row) → TellsAll (thinned_by made place rows)
-unfolding thinned_by
+thinned_by-tells : (made : Result Row TermError) (place : ℕ) (rows : List Row) → TellsAll (thinning_by made place rows)
+unfolding thinning_by
 thinned_by-tells (Ok row) place rows = thinned_with-tells row place rows
 thinned_by-tells (Err e) place rows = tells-noted (losses-tell_none (loss.noted e)) (tells-done rows)
 
-thinned_of-tells : (kind : Kind) (poly : Polynomial) (place : ℕ) (rows : List Row) → TellsAll (thinned_of kind poly place rows)
+thinned_of-tells : (kind : Kind) (poly : Polynomial) (place : ℕ) (rows : List Row) → TellsAll (thinning_of kind poly place rows)
 thinned_of-tells AtMost poly place rows = thinned_by-tells (negation poly) place rows
 thinned_of-tells Equal poly place rows = tells-done rows
 
@@ -135,13 +135,13 @@ thinned_found-tells : (found : Option Row) (place : ℕ) (rows : List Row) → T
 thinned_found-tells None place rows = tells-done rows
 thinned_found-tells (Some row) place rows = thinned_of-tells row.kind row.poly place rows
 
-thinned_at-tells : (rows : List Row) (place : ℕ) → TellsAll (thinned_at rows place)
-unfolding thinned_at
+thinned_at-tells : (rows : List Row) (place : ℕ) → TellsAll (thinning_at rows place)
+unfolding thinning_at
 thinned_at-tells rows place = thinned_found-tells (slice_get rows place) place rows
 
-thinned-tells : (case : Case) → TellsAll (thinned case)
-unfolding thinned
-thinned-tells case = tells-then _ (tells-down thinned_at case.rows (length case.rows) thinned_at-tells)
+thinned-tells : (case : Case) → TellsAll (thinned_case case)
+unfolding thinned_case
+thinned-tells case = tells-then _ (tells-down thinning_at case.rows (length case.rows) thinned_at-tells)
 
 cut-tell_none : (rows : ℕ) → TellNone (cut_notes rows)
 cut-tell_none rows = go (nat_le rows 64)
@@ -158,8 +158,8 @@ finished_left-tells : (left : Option Case) → TellsAll (finished_left left)
 finished_left-tells None = tells-done None
 finished_left-tells (Some case) = tells-bind (thinned-tells case) (λ left. tells-then _ (cut-tells left))
 
-pub finished-tells : (case : Case) → TellsAll (finished case)
-unfolding finished
+pub finished-tells : (case : Case) → TellsAll (finish_of_case case)
+unfolding finish_of_case
 finished-tells case = tells-noted (losses-tell_none _) (finished_left-tells _)
 
 -- ---- fitting
@@ -168,8 +168,8 @@ with_relations-tells : (terms lower : List Polynomial) (relations : Option (List
 with_relations-tells terms lower None = tells-done []
 with_relations-tells terms lower (Some relations) = tells-each _ [] relations (λ rows r. with_row-tells rows _)
 
-related-tells : (one : Bool) (f : Transition) → TellsAll (related one f)
-unfolding related
+related-tells : (one : Bool) (f : Transition) → TellsAll (change_relations one f)
+unfolding change_relations
 related-tells one f = tells-bind (relations-tell _ _) (λ found. with_relations-tells _ _ found)
 
 with_differences-tells : (one : Bool) (f : Transition) (voc : Vocabulary) (rows : List Row) → TellsAll (with_differences one f voc rows)
@@ -190,14 +190,14 @@ squashed_case-tells : (one : Bool) (f : Transition) (from to : Vocabulary) → T
 unfolding squashed_case
 squashed_case-tells one f from to = tells-noted (losses-tell_none _) (tells-then _ (squash_rows-tells one f from to))
 
-squashed-tells : (f : Transition) (from to : Vocabulary) → TellsAll (squashed f from to)
-unfolding squashed
+squashed-tells : (f : Transition) (from to : Vocabulary) → TellsAll (squashed_formula f from to)
+unfolding squashed_formula
 squashed-tells f from to = tells-bind (squashed_case-tells _ f from to) (λ case. tells-then _ (finished-tells case))
 
 noted_squash-tells : (f : Transition) (from to : Vocabulary) → TellsAll (noted_squash f from to)
 unfolding noted_squash
 noted_squash-tells f from to = tells-noted (record { none = refl }) (squashed-tells f from to)
 
-pub fitted-tells : (f : Transition) (from to : Vocabulary) → TellsAll (fitted f from to)
-unfolding fitted
+pub fitted-tells : (f : Transition) (from to : Vocabulary) → TellsAll (fitted_formula f from to)
+unfolding fitted_formula
 fitted-tells f from to = tells-if (is_fitted f.cases) (tells-done f) (noted_squash-tells f from to)

@@ -11,7 +11,7 @@ use Rattle.syntax_tree.specs.declared.program.Program.{Program}
 use Rattle.posing.specs.Posing.{Posing, Done, Path}
 use Rattle.report.specs.declared.blocks.Report.{Report}
 use Rattle.analysis.specs.declared.planning.Planned.{Planned}
-use Rattle.analysis.specs.Analysis.{analysed}
+use Rattle.analysis.specs.Analysis.{report_by_plan}
 use Rattle.named_limits.specs.Laws.{AnswersTame, AsksTame, TameQuestionsNameNone}
 use Rattle.named_limits.specs.Limits.{AreSame, count, limit_given, limits_given}
 use Rattle.named_limits.specs.Named.{LimitsAreNamed}
@@ -43,4 +43,4 @@ tame-limitless program plan p answers report path named tame =
     (answers-limitless AnswersTame IsTame (λ question a owed is_tame. no-limit a (owed is_tame)) p (Done report) [] answers path tame)
 
 pub tame-analysis : TameQuestionsNameNone
-tame-analysis program places plan answers report path named tame = tame-limitless program plan (analysed program places plan) answers report path named tame
+tame-analysis program places plan answers report path named tame = tame-limitless program plan (report_by_plan program places plan) answers report path named tame

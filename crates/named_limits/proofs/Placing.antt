@@ -15,7 +15,7 @@ use Rattle.posing.specs.declared.note.Note.{Note}
 use Rattle.flow_graph.proofs.Members.{In, contains_of}
 use Rattle.report.specs.declared.blocks.ProcBlock.{ProcBlock}
 use Rattle.analysis.specs.Analysis.{block_onto, blocks_by}
-use Rattle.analysis.specs.Found.{noted_at}
+use Rattle.analysis.specs.Found.{with_notes_at}
 use Rattle.named_limits.specs.Limits.{count, limits_told}
 use Rattle.named_limits.specs.Named.{StandAt}
 use Rattle.named_limits.proofs.Balance.{count-append, told}
@@ -69,7 +69,7 @@ pub record IsPlaced (program : Program) (come procs : List ℕ) (notes : List No
   pub clear : IsClear program (come ++ procs) next
   pub sum : (test : Limit → Bool) → all_told test next ≡ all_told test noted + told test notes
 
-pub placed : (program : Program) (come procs : List ℕ) (notes : List Note) (noted : List (List Note)) → IsNew program come procs → IsClear program come noted → IsPlaced program come procs notes noted (noted_at procs notes noted)
+pub placed : (program : Program) (come procs : List ℕ) (notes : List Note) (noted : List (List Note)) → IsNew program come procs → IsClear program come noted → IsPlaced program come procs notes noted (with_notes_at procs notes noted)
 placed program come [] notes noted new clear = absurd (new.some refl)
 placed program come (first ∷ procs) notes noted new clear =
     let head : Contains (first ∷ procs) first = contains_of (first ∷ procs) first (inl refl) in

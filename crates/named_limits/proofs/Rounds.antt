@@ -22,9 +22,9 @@ use Rattle.posing.specs.declared.note.Witness.TheVariants as witness
 use Rattle.posing.specs.Posing.{Done, ◌>>=◌, each}
 use Rattle.path_expr.specs.declared.cell.Cell.{Cell}
 use Rattle.proc_summary.specs.Subject.{Subject}
-use Rattle.newton_rounds.specs.Candidates.{candidate_by, candidate_of, dropped_by, dropped_in, dropped_notes, found_in, found_left, kept_candidates, kept_row, limit_notes, most_rounds, outcome, outcome_by, refuted, round, unfolded, with_answer, with_case, with_judged, with_point, with_round}
-use Rattle.newton_rounds.specs.Close.{closed_by_rounds, closed_from, closed_of, with_candidate}
-use Rattle.newton_rounds.specs.Closure.{base_of, bases_of, closed_by, closed_member, closure_of, placed_from, sides_from, sides_of, with_base, with_closed, with_member, with_sides}
+use Rattle.newton_rounds.specs.Candidates.{candidate_by, candidate_of, drop_notes_by, drop_notes_in, dropped_notes, findings_in, found_left, kept_candidates, kept_row, limit_notes, most_rounds, outcome, outcome_by, refutation, round, unfolded_formula, with_answer, with_case, with_judged, with_point, with_round}
+use Rattle.newton_rounds.specs.Close.{closure_by_rounds, closure_from, group_closure, with_candidate}
+use Rattle.newton_rounds.specs.Closure.{base_of, bases_of, closure_at, closed_member, closure_of, with_places_from, sides_from, sides_of, with_base, with_closed, with_member, with_sides}
 use Rattle.newton_rounds.specs.Members.{GroupCall}
 use Rattle.newton_rounds.specs.Pairs.{PairEnds, Stretch}
 use Rattle.named_limits.specs.Limits.{AreSame, count, limit_by, limit_given, limit_told, limits_told}
@@ -60,8 +60,8 @@ sides_of-tells : (program : Program) (procs : List ℕ) (known : List (Option Tr
 unfolding sides_of
 sides_of-tells program procs known = tells-each _ [] _ (λ made member. with_member-tells program procs known made member)
 
-closed_by-tells : (members : List PairEnds) (bases : List Transition) (place : ℕ) (cells : List (Cell Transition)) → TellsAll (closed_by members bases place cells)
-unfolding closed_by
+closed_by-tells : (members : List PairEnds) (bases : List Transition) (place : ℕ) (cells : List (Cell Transition)) → TellsAll (closure_at members bases place cells)
+unfolding closure_at
 closed_by-tells members bases place cells = tells-noted (losses-tell_none _) (settled_and_fitted-tells _ _ _)
 
 closed_member-tells : (members : List PairEnds) (stretches : List Stretch) (bases : List Transition) (place : ℕ) → TellsAll (closed_member members stretches bases place)
@@ -128,7 +128,7 @@ answer-same found rows (answer.Unbounded case point ray) = same-of (append-nil (
 answer-same found rows (answer.Basis relations spots free) = same-of (append-nil (limits_found found))
 answer-same found rows (answer.Limit limit) = same-of (append_assoc (limit_if found.point) found.limits (limit ∷ []))
 
-found_in-balances : (found : Findings) (rows : List Row) → Balances (limits_found found) limits_found (found_in found rows)
+found_in-balances : (found : Findings) (rows : List Row) → Balances (limits_found found) limits_found (findings_in found rows)
 unfolding ◌>>=◌
 found_in-balances found [] = balances-done (limits_found found) limits_found _ (same-of (point-same found (witness.Point [] []) refl))
 found_in-balances found (row ∷ rows) =
@@ -161,8 +161,8 @@ outcome_by-balances None (limit ∷ limits) =
     (λ test. let noted = ap (count test) (limits-noted limits) in omega (arith, noted))
     (balances-done (limit ∷ []) limit_if (Some (witness.Limit limit)) (same-refl (limit ∷ [])))
 
-pub refuted-balances : (f : Transition) (row : Row) → Balances [] limit_if (refuted f row)
-unfolding refuted
+pub refuted-balances : (f : Transition) (row : Row) → Balances [] limit_if (refutation f row)
+unfolding refutation
 refuted-balances f row =
     balances-bind [] limits_found limit_if _ outcome (balances-each limits_found (with_case f.from row) _ f.cases (λ found case. with_case-balances f.from row found case))
     (λ found. outcome_by-balances found.point found.limits)
@@ -182,39 +182,39 @@ one-more f xs x e = ap (λ l. flat_map f xs ++ l) (sym e) ∙ sym (flat_map-appe
 with_judged-balances : (f : Transition) (made : List Judged) (row : Row) → Balances (limits_of_member made) limits_of_member (with_judged f made row)
 unfolding with_judged
 with_judged-balances f made row =
-    balances-bind (limits_of_member made) (λ by. limits_of_member made ++ limit_if by) limits_of_member (refuted f row) _
-    (balances-frame (limits_of_member made) limit_if (refuted f row) (refuted-balances f row))
+    balances-bind (limits_of_member made) (λ by. limits_of_member made ++ limit_if by) limits_of_member (refutation f row) _
+    (balances-frame (limits_of_member made) limit_if (refutation f row) (refuted-balances f row))
     (λ by. balances-done (limits_of_member made ++ limit_if by) limits_of_member _ (same-of (one-more (λ j. limit_if j.by) made _ (append-nil (limit_if by)))))
 
-unfolded-tells : (program : Program) (known : List (Option Transition)) (p : Proc) → TellsAll (unfolded program known p)
-unfolding unfolded
+unfolded-tells : (program : Program) (known : List (Option Transition)) (p : Proc) → TellsAll (unfolded_formula program known p)
+unfolding unfolded_formula
 unfolded-tells program known p = tells-bind (cells-tell _ 0) (λ cells. summary-tells _ _)
 
 with_round-balances : (program : Program) (known : List (Option Transition)) (made : List (List Judged)) (member : Proc × List Row)
     → Balances (limits_of_all made) limits_of_all (with_round program known made member)
 unfolding with_round
 with_round-balances program known made member =
-    balances-bind (limits_of_all made) (λ f. limits_of_all made) limits_of_all (unfolded program known member.0) _ (tells-frame (limits_of_all made) (unfolded-tells program known member.0))
+    balances-bind (limits_of_all made) (λ f. limits_of_all made) limits_of_all (unfolded_formula program known member.0) _ (tells-frame (limits_of_all made) (unfolded-tells program known member.0))
     (λ f. balances-bind (limits_of_all made) (λ judged. limits_of_all made ++ limits_of_member judged) limits_of_all (each (with_judged f) [] member.1) _
     (balances-frame (limits_of_all made) limits_of_member (each (with_judged f) [] member.1)
     (balances-each limits_of_member (with_judged f) [] member.1 (λ made row. with_judged-balances f made row)))
     (λ judged. balances-done (limits_of_all made ++ limits_of_member judged) limits_of_all _
     (same-of (one-more limits_of_member made judged (append-nil (limits_of_member judged))))))
 
-dropped_by-told : (place : ℕ) (row : Row) (by : Option Witness) → limits_told (dropped_by place row by) ≡ limit_if by
+dropped_by-told : (place : ℕ) (row : Row) (by : Option Witness) → limits_told (drop_notes_by place row by) ≡ limit_if by
 dropped_by-told place row None = refl
 dropped_by-told place row (Some by) = append-nil (limit_by by)
 
-member-told : (place : ℕ) (judged : List Judged) → limits_told (dropped_in (place, judged)) ≡ limits_of_member judged
+member-told : (place : ℕ) (judged : List Judged) → limits_told (drop_notes_in (place, judged)) ≡ limits_of_member judged
 member-told place [] = refl
 member-told place (j ∷ judged) =
-    flat_map-append limit_told (dropped_by place j.row j.by) (dropped_in (place, judged))
+    flat_map-append limit_told (drop_notes_by place j.row j.by) (drop_notes_in (place, judged))
     ∙ (λ i. dropped_by-told place j.row j.by i ++ member-told place judged i)
 
-all-told : (place : ℕ) (judged : List (List Judged)) → limits_told (flat_map dropped_in (placed_from place judged)) ≡ limits_of_all judged
+all-told : (place : ℕ) (judged : List (List Judged)) → limits_told (flat_map drop_notes_in (with_places_from place judged)) ≡ limits_of_all judged
 all-told place [] = refl
 all-told place (own ∷ judged) =
-    flat_map-append limit_told (dropped_in (place, own)) (flat_map dropped_in (placed_from (place + 1) judged))
+    flat_map-append limit_told (drop_notes_in (place, own)) (flat_map drop_notes_in (with_places_from (place + 1) judged))
     ∙ (λ i. member-told place own i ++ all-told (place + 1) judged i)
 
 pub round-tells : (program : Program) (procs : List ℕ) (known : List (Option Transition)) (candidates : List (List Row)) → TellsAll (round program procs known candidates)
@@ -233,17 +233,17 @@ kept-tells program procs known candidates = tells-until (round program procs kno
 
 -- ---- the whole
 
-rounds-tell : (program : Program) (procs : List ℕ) (known : List (Option Transition)) (bases : List Transition) → TellsAll (closed_by_rounds program procs known bases)
-unfolding closed_by_rounds
+rounds-tell : (program : Program) (procs : List ℕ) (known : List (Option Transition)) (bases : List Transition) → TellsAll (closure_by_rounds program procs known bases)
+unfolding closure_by_rounds
 rounds-tell program procs known bases =
     tells-bind (closure-tells program procs known bases []) (λ first.
     tells-bind (closure-tells program procs known bases first) (λ second.
     tells-bind (tells-each with_candidate [] _ with_candidate-tells) (λ candidates. tells-then _ (kept-tells program procs known candidates))))
 
-closed_from-tells : (linear : Bool) (program : Program) (procs : List ℕ) (known : List (Option Transition)) (bases : List Transition) → TellsAll (closed_from linear program procs known bases)
+closed_from-tells : (linear : Bool) (program : Program) (procs : List ℕ) (known : List (Option Transition)) (bases : List Transition) → TellsAll (closure_from linear program procs known bases)
 closed_from-tells true program procs known bases = closure-tells program procs known bases []
 closed_from-tells false program procs known bases = rounds-tell program procs known bases
 
-pub closed-tells : (linear : Bool) (program : Program) (procs : List ℕ) (known : List (Option Transition)) → TellsAll (closed_of linear program procs known)
-unfolding closed_of
+pub closed-tells : (linear : Bool) (program : Program) (procs : List ℕ) (known : List (Option Transition)) → TellsAll (group_closure linear program procs known)
+unfolding group_closure
 closed-tells linear program procs known = tells-bind (bases-tell program procs known) (λ bases. closed_from-tells linear program procs known bases)

@@ -30,10 +30,10 @@ use Rattle.analysis.specs.declared.places.TextPlace.{TextPlace}
 use Rattle.analysis.specs.declared.planning.GroupKind.{GroupKind}
 use Rattle.analysis.specs.declared.planning.GroupKind.TheVariants.{Plain, Linear, Rounds}
 use Rattle.analysis.specs.declared.planning.Planned.{Planned}
-use Rattle.analysis.specs.Analysis.{analysed, blocks_by, ended_by, report_by}
+use Rattle.analysis.specs.Analysis.{report_by_plan, blocks_by, report_by_findings, report_by}
 use Rattle.analysis.specs.Apart.{apart}
-use Rattle.analysis.specs.Found.{flows_in, found_by, nothing_found, with_group, with_part}
-use Rattle.analysis.specs.Judging.{Asserted, asserted, judged_by, judged_of, place_in, unreached, with_judged}
+use Rattle.analysis.specs.Found.{flows_in, findings_by_plan, nothing_found, with_group, with_part}
+use Rattle.analysis.specs.Judging.{Asserted, numbered_assertion, judgements_on_all, judgement_of, place_in, unreached_judgement, with_judged}
 use Rattle.analysis.specs.Parts.{note_in, part_of, plain_part, recursive_part, summaries_by, with_flow, with_plain}
 use Rattle.analysis.specs.Plan.{IsPlan}
 use Rattle.named_limits.specs.Leading.{LeadsTo}
@@ -183,14 +183,14 @@ pub record IsAssertionShared (a : Option Asserted) (notes : List Note) (share : 
   pub quiet : notes ≡ []
   pub named : IsAssertionNamed a share judged
 
-assertion-shared : (at : TextPlace) (a : Option Asserted) (notes : List Note) (share : List Answer) (judged : Judged) → LeadsTo (judged_of at a) notes share (Done judged) → IsAssertionShared a notes share judged
-unfolding judged_of
+assertion-shared : (at : TextPlace) (a : Option Asserted) (notes : List Note) (share : List Answer) (judged : Judged) → LeadsTo (judgement_of at a) notes share (Done judged) → IsAssertionShared a notes share judged
+unfolding judgement_of
 assertion-shared at None notes share judged path =
-    let end = from-Done (unreached at) judged notes share path in
-    let own : IsAssertionNamed None [] (unreached at) = record { leads = here (Done Proved); same = same-refl []; own = λ case limit e. absurd (cc e) } in
+    let end = from-Done (unreached_judgement at) judged notes share path in
+    let own : IsAssertionNamed None [] (unreached_judgement at) = record { leads = here (Done Proved); same = same-refl []; own = λ case limit e. absurd (cc e) } in
     record {
       quiet = end.notes_are;
-      named = subst (λ j. IsAssertionNamed None share j) (sym end.same) (subst (λ l. IsAssertionNamed None l (unreached at)) (sym end.answers_are) own);
+      named = subst (λ j. IsAssertionNamed None share j) (sym end.same) (subst (λ l. IsAssertionNamed None l (unreached_judgement at)) (sym end.answers_are) own);
     }
 assertion-shared at (Some a) notes share judged path =
     let p = verdict_of (place_of a.program a.p) a.cond a.entry a.stand in
@@ -239,9 +239,9 @@ assertions-shared program places entries flows made [] notes answers last path =
     }
 assertions-shared program places entries flows made (number ∷ numbers) notes answers last path =
     let cut = path-cut (with_judged program places entries flows made number) (λ next. each (with_judged program places entries flows) next numbers) notes answers last path in
-    let own = path-cut (judged_of (place_in places number) (asserted program entries flows number)) (λ judged. Done (made ++ judged ∷ [])) cut.first cut.share cut.value cut.leads in
+    let own = path-cut (judgement_of (place_in places number) (numbered_assertion program entries flows number)) (λ judged. Done (made ++ judged ∷ [])) cut.first cut.share cut.value cut.leads in
     let end = from-Done (made ++ own.value ∷ []) cut.value own.more own.others own.rest in
-    let one = assertion-shared (place_in places number) (asserted program entries flows number) own.first own.share own.value own.leads in
+    let one = assertion-shared (place_in places number) (numbered_assertion program entries flows number) own.first own.share own.value own.leads in
     let rest = assertions-shared program places entries flows (made ++ own.value ∷ []) numbers cut.more cut.others last
     (subst (λ next. LeadsTo (each (with_judged program places entries flows) next numbers) cut.more cut.others (Done last)) end.same cut.rest) in
     let share : answers ≡ own.share ++ cut.others = own-first own.share cut.others cut.answers_are own.answers_are end.answers_are in
@@ -262,9 +262,9 @@ assertions-shared program places entries flows made (number ∷ numbers) notes a
 -- ---- the whole
 
 report-named : (program : Program) (places : List TextPlace) (plan : List Planned) (found : Found) (notes : List Note) (of_groups others : List Answer) (report : Report) → IsPlan program plan → ReportCovers program report
-    → LeadsTo (found_by program plan) notes of_groups (Done found) → (more : List Note) → LeadsTo (ended_by program places found) more others (Done report)
+    → LeadsTo (findings_by_plan program plan) notes of_groups (Done found) → (more : List Note) → LeadsTo (report_by_findings program places found) more others (Done report)
     → LimitsAreNamed program plan (of_groups ++ others) report
-unfolding found_by ended_by report_by judged_by
+unfolding findings_by_plan report_by_findings report_by judgements_on_all
 report-named program places plan found notes of_groups others report is_plan covers path more later =
     let groups = groups-shared program [] (nothing_found (length program.procs)) found plan notes of_groups (plan-new program plan is_plan) (blank-clear program) path in
     let cut = path-cut (apart (entries_from program (flows_in found))) _ more others report later in
@@ -320,9 +320,9 @@ report-named program places plan found notes of_groups others report is_plan cov
     }
 
 pub analysis-names : (program : Program) (places : List TextPlace) (plan : List Planned) (answers : List Answer) (report : Report) → IsPlan program plan
-    → LeadsTo (analysed program places plan) [] answers (Done report) → ReportCovers program report → LimitsAreNamed program plan answers report
-unfolding analysed
+    → LeadsTo (report_by_plan program places plan) [] answers (Done report) → ReportCovers program report → LimitsAreNamed program plan answers report
+unfolding report_by_plan
 analysis-names program places plan answers report is_plan path covers =
-    let cut = path-cut (found_by program plan) (λ found. ended_by program places found) [] answers report path in
+    let cut = path-cut (findings_by_plan program plan) (λ found. report_by_findings program places found) [] answers report path in
     subst (λ l. LimitsAreNamed program plan l report) (sym cut.answers_are)
     (report-named program places plan cut.value cut.first cut.share cut.others report is_plan covers cut.leads cut.more cut.rest)

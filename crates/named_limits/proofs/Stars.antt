@@ -11,7 +11,7 @@ use Rattle.path_expr.specs.PathExpr.{PathExpr, Zero, One, Edge, Seq, Join, Star}
 use Rattle.polyhedra.specs.Vocabulary.{Vocabulary}
 use Rattle.recurrence.specs.Star.{rows_of, star_by, star_of, turns}
 use Rattle.recurrence.specs.Strata.{strata, stratum, stratum_if}
-use Rattle.checked_tree.specs.Evaluation.{Made, evaluated, evaluation, join_formula, leaf_formula, own, sequence_formula, settled_and_fitted, with_made}
+use Rattle.checked_tree.specs.Evaluation.{Made, evaluated_cells, evaluation, join_formula, leaf_formula, own, sequence_formula, settled_and_fitted, with_made}
 use Rattle.checked_tree.specs.Graph.{Graph}
 use Rattle.proc_summary.specs.Flow.{cells_from, flow_from}
 use Rattle.proc_summary.specs.Subject.{Subject}
@@ -87,8 +87,8 @@ evaluation-tells : (g : Graph) (source : ℕ) → TellsAll (evaluation g source)
 unfolding evaluation
 evaluation-tells g source = tells-each (with_made g) [] _ (with_made-tells g)
 
-pub evaluated-tells : (g : Graph) (source : ℕ) → TellsAll (evaluated g source)
-unfolding evaluated
+pub evaluated-tells : (g : Graph) (source : ℕ) → TellsAll (evaluated_cells g source)
+unfolding evaluated_cells
 evaluated-tells g source = tells-then _ (evaluation-tells g source)
 
 -- ---- procedures

@@ -20,7 +20,7 @@ use Rattle.posing.specs.declared.note.Note.{Note}
 use Rattle.posing.specs.Posing.{Done, ◌>>=◌, each}
 use Rattle.proc_summary.specs.declared.stop.Flow.{Flow}
 use Rattle.context.specs.Entries.{entries_from}
-use Rattle.context.specs.Verdicts.{case_verdict, else_by, failed_from, is_limited, is_refuted, judged_from, limit_of, limits_of, reached_from, verdict_at, verdict_by, verdict_from, verdict_left, verdict_of, with_verdict}
+use Rattle.context.specs.Verdicts.{case_verdict, else_by, failure_verdict_from, is_limited, is_refuted, verdict_on_cases_from, limit_of, limits_of, reach_from, verdict_at, verdict_by, verdict_from, verdict_left, verdict_of, with_verdict}
 use Rattle.report.specs.declared.verdict.Verdict.{Verdict}
 use Rattle.report.specs.declared.verdict.Verdict.TheVariants.{Proved, Unproved, UnprovedLimit}
 use Rattle.named_limits.specs.Leading.{LeadsTo, WasAsked}
@@ -36,8 +36,8 @@ pub entries-tell : (program : Program) (flows : List Flow) → TellsAll (entries
 unfolding entries_from
 entries-tell program flows = tells-noted (losses-tell_none _) (tells-then _ (evaluated-tells _ 0))
 
-reached-tells : (place : _) (begun stand : Transition) → TellsAll (reached_from place begun stand)
-unfolding reached_from
+reached-tells : (place : _) (begun stand : Transition) → TellsAll (reach_from place begun stand)
+unfolding reach_from
 reached-tells place begun stand = tells-noted (losses-tell_none _) (settled_and_fitted-tells _ _ _)
 
 -- ---- one case
@@ -118,8 +118,8 @@ all-told test verdicts = go (list_any is_refuted verdicts) refl
         omega (arith, others, own)
     go false e = first-carried test verdicts e
 
-judged-balances : (cases : List Case) → Balances [] limit_carried (judged_from cases)
-unfolding judged_from
+judged-balances : (cases : List Case) → Balances [] limit_carried (verdict_on_cases_from cases)
+unfolding verdict_on_cases_from
 judged-balances cases =
     balances-bind [] all_carried limit_carried (each with_verdict [] cases) _ (balances-each all_carried with_verdict [] cases with_verdict-balances)
     (λ verdicts. balances-noted (all_carried verdicts) (limit_carried (verdict_from verdicts)) limit_carried (limits_of verdicts) (Done (verdict_from verdicts)) (λ test. all-told test verdicts)
@@ -127,14 +127,14 @@ judged-balances cases =
 
 -- ---- the assertion
 
-failed-balances : (place : _) (cond : Term) (f : Transition) → Balances [] limit_carried (failed_from place cond f)
-unfolding failed_from
+failed-balances : (place : _) (cond : Term) (f : Transition) → Balances [] limit_carried (failure_verdict_from place cond f)
+unfolding failure_verdict_from
 failed-balances place cond f = balances-quiet (losses-tell_none _) (judged-balances _)
 
 pub verdict-balances : (place : _) (cond : Term) (entry stand : Option Transition) → Balances [] limit_carried (verdict_of place cond entry stand)
 unfolding verdict_of
 verdict-balances place cond entry stand =
-    balances-bind [] no_limit limit_carried _ (failed_from place cond) ((reached-tells place _ _).balances) (λ f. failed-balances place cond f)
+    balances-bind [] no_limit limit_carried _ (failure_verdict_from place cond) ((reached-tells place _ _).balances) (λ f. failed-balances place cond f)
 
 -- ---- whose question it was
 
@@ -229,19 +229,19 @@ chosen-in verdicts question a h = go (find is_refuted verdicts) (find is_limited
     go None (Some verdict) e f own = found-in is_limited verdicts verdict question a f own
     go None None e f own = absurd (cc (own.is))
 
-judged-owns : (cases : List Case) → Owns Never Carries (judged_from cases)
-unfolding judged_from
+judged-owns : (cases : List Case) → Owns Never Carries (verdict_on_cases_from cases)
+unfolding verdict_on_cases_from
 judged-owns cases =
     owns-bind Never CarriedIn Carries (each with_verdict [] cases) _ (owns-each CarriedIn with_verdict [] cases with_verdict-owns)
     (λ verdicts. owns-noted (CarriedIn verdicts) Carries (limits_of verdicts) (Done (verdict_from verdicts)) (owns-done (CarriedIn verdicts) Carries (verdict_from verdicts) (chosen-in verdicts)))
 
-failed-owns : (place : _) (cond : Term) (f : Transition) → Owns Never Carries (failed_from place cond f)
-unfolding failed_from
+failed-owns : (place : _) (cond : Term) (f : Transition) → Owns Never Carries (failure_verdict_from place cond f)
+unfolding failure_verdict_from
 failed-owns place cond f = owns-noted Never Carries _ _ (judged-owns _)
 
 verdict_of-owns : (place : _) (cond : Term) (entry stand : Option Transition) → Owns Never Carries (verdict_of place cond entry stand)
 unfolding verdict_of
-verdict_of-owns place cond entry stand = owns-bind Never (λ f. Never) Carries _ (failed_from place cond) (owns-none _) (λ f. failed-owns place cond f)
+verdict_of-owns place cond entry stand = owns-bind Never (λ f. Never) Carries _ (failure_verdict_from place cond) (owns-none _) (λ f. failed-owns place cond f)
 
 pub verdict-owns : (place : _) (cond : Term) (entry stand : Option Transition) (notes : List Note) (answers : List Answer) (verdict : Verdict) (case : Case) (limit : Limit)
     → LeadsTo (verdict_of place cond entry stand) notes answers (Done verdict) → verdict ≡ UnprovedLimit case limit

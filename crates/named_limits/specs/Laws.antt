@@ -10,7 +10,7 @@ use Rattle.report.specs.declared.blocks.Report.{Report}
 use Rattle.report.specs.Claims.{ReportCovers}
 use Rattle.analysis.specs.declared.places.TextPlace.{TextPlace}
 use Rattle.analysis.specs.declared.planning.Planned.{Planned}
-use Rattle.analysis.specs.Analysis.{analysed}
+use Rattle.analysis.specs.Analysis.{report_by_plan}
 use Rattle.analysis.specs.Plan.{IsPlan}
 use Rattle.named_limits.specs.Leading.{LeadsTo, WasAsked}
 use Rattle.named_limits.specs.Limits.{limits_given}
@@ -23,7 +23,7 @@ abbrev pub AnalysisNamesLimits : Type 0
 AnalysisNamesLimits =
     (program : Program) (places : List TextPlace) (plan : List Planned) (answers : List Answer)
     (report : Report) → IsPlan program plan
-    → LeadsTo (analysed program places plan) [] answers (Done report) → ReportCovers program report
+    → LeadsTo (report_by_plan program places plan) [] answers (Done report) → ReportCovers program report
     → LimitsAreNamed program plan answers report
 
 -- where no answer is a limit, the report has none
@@ -45,6 +45,6 @@ AsksTame p answers = (question : Question) (a : Answer) → WasAsked p answers q
 abbrev pub TameQuestionsNameNone : Type 0
 TameQuestionsNameNone =
     (program : Program) (places : List TextPlace) (plan : List Planned) (answers : List Answer)
-    (report : Report) → Path AnswersTame (analysed program places plan) [] answers (Done report)
-    → LimitsAreNamed program plan answers report → AsksTame (analysed program places plan) answers
+    (report : Report) → Path AnswersTame (report_by_plan program places plan) [] answers (Done report)
+    → LimitsAreNamed program plan answers report → AsksTame (report_by_plan program places plan) answers
     → HasNoLimit report

@@ -22,7 +22,7 @@ use Rattle.analysis.specs.declared.found.Found.{Found}
 use Rattle.analysis.specs.declared.parts.Part.{Part}
 use Rattle.analysis.specs.declared.planning.Planned.{Planned}
 use Rattle.analysis.specs.Found.{flows_in, nothing_found, with_part}
-use Rattle.analysis.specs.Judging.{Asserted, asserted}
+use Rattle.analysis.specs.Judging.{Asserted, numbered_assertion}
 use Rattle.analysis.specs.Parts.{part_of}
 use Rattle.named_limits.specs.Leading.{LeadsTo, WasAsked}
 use Rattle.named_limits.specs.Limits.{AreSame, limits_given, limits_told}
@@ -74,19 +74,19 @@ verdict_on (Some a) = verdict_of (place_of a.program a.p) a.cond a.entry a.stand
 
 -- The share of an assertion. The limit that its verdict carries, if it carries one, was the answer
 -- to the question whether the rows of its case are infeasible.
-pub record IsAssertionNamed (asserted : Option Asserted) (share : List Answer)
+pub record IsAssertionNamed (numbered_assertion : Option Asserted) (share : List Answer)
     (judged : Judged) : Type 0 where
-  pub leads : LeadsTo (verdict_on asserted) judged.notes share (Done judged.verdict)
+  pub leads : LeadsTo (verdict_on numbered_assertion) judged.notes share (Done judged.verdict)
   pub same : AreSame (limits_given share) (limits_judged judged)
   pub own : (case : Case) (limit : Limit) → judged.verdict ≡ UnprovedLimit case limit
-      → WasAsked (verdict_on asserted) share (Infeasible case.rows) (answer.Limit limit)
+      → WasAsked (verdict_on numbered_assertion) share (Infeasible case.rows) (answer.Limit limit)
 
 -- the answers are the shares of the assertions with these numbers, one after another
 pub data AreAssertionsNamed (program : Program) (entries : List (Option Transition))
     (flows : List Flow) : List ℕ → List Answer → List Judged → Type 0 where
   no_assertion : AreAssertionsNamed program entries flows [] [] []
   assertion : (number : ℕ) (numbers : List ℕ) (share answers : List Answer) (judged : Judged)
-      (others : List Judged) → IsAssertionNamed (asserted program entries flows number) share judged
+      (others : List Judged) → IsAssertionNamed (numbered_assertion program entries flows number) share judged
       → AreAssertionsNamed program entries flows numbers answers others
       → AreAssertionsNamed program entries flows (number ∷ numbers) (share ++ answers)
       (judged ∷ others)

@@ -11,11 +11,11 @@ use Rattle.proc_summary.specs.Flow.{cells_from, columns_of, formula_at}
 use Rattle.proc_summary.specs.Subject.{subject_of}
 use Rattle.proc_summary.specs.Summary.{summary_from}
 use Rattle.newton_rounds.specs.Alike.{AlikeGroupsAreOne, AreAlikeGroups, subjects_by}
-use Rattle.newton_rounds.specs.Candidates.{dropped_notes, kept_candidates, kept_row, members_with, most_rounds, round, some_note, table_of, unfolded, with_judged, with_round}
-use Rattle.newton_rounds.specs.Close.{closed_by_rounds, closed_from, closed_of, paired_up, with_candidate}
-use Rattle.newton_rounds.specs.Closure.{base_of, bases_of, closure_of, ends_of_members, pair_ends, placed_from, sides_of, stretches_with, with_base, with_closed, with_member, with_sides}
+use Rattle.newton_rounds.specs.Candidates.{dropped_notes, kept_candidates, kept_row, members_with, most_rounds, round, some_note, table_of, unfolded_formula, with_judged, with_round}
+use Rattle.newton_rounds.specs.Close.{closure_by_rounds, closure_from, group_closure, pairs_of, with_candidate}
+use Rattle.newton_rounds.specs.Closure.{base_of, bases_of, closure_of, ends_of_members, pair_ends, with_places_from, sides_of, stretches_with, with_base, with_closed, with_member, with_sides}
 use Rattle.newton_rounds.specs.Members.{calls_from, calls_of, members_of, with_table}
-use Rattle.newton_rounds.specs.Pairs.{base_from, lost_in_base}
+use Rattle.newton_rounds.specs.Pairs.{base_from, losses_in_base}
 use Rattle.newton_rounds.proofs.AlikeMembers.{AreMembers, alike-ends, alike-linear, alike-members, alike-subjects, all-calls-alike, own-calls-alike}
 use Rattle.newton_rounds.proofs.Zipped.{zipped-each, zipped-length, zipped-map}
 
@@ -61,7 +61,7 @@ module _ (program other : Program) (procs others : List ℕ) (known other_known 
       let m = ends p q h in
       let s = subjects [] p q h in
       λ i. cells_from (s i) 0 >>= λ cells.
-      Noted (loss_notes (lost_in_base (m i) (formula_at (columns_of (s i)) cells (s i).exit)))
+      Noted (loss_notes (losses_in_base (m i) (formula_at (columns_of (s i)) cells (s i).exit)))
       (Done (base_from (m i) (formula_at (columns_of (s i)) cells (s i).exit)))
 
   bases-one : bases_of program procs known ≡ bases_of other others other_known
@@ -75,7 +75,7 @@ module _ (program other : Program) (procs others : List ℕ) (known other_known 
   abbrev ArePlaced : ℕ × Proc → ℕ × Proc → Type 0
   ArePlaced a b = (a.0 ≡ b.0) × Are a.1 b.1
 
-  placed : (place : ℕ) (xs ys : List Proc) → AllZip Are xs ys → AllZip ArePlaced (placed_from place xs) (placed_from place ys)
+  placed : (place : ℕ) (xs ys : List Proc) → AllZip Are xs ys → AllZip ArePlaced (with_places_from place xs) (with_places_from place ys)
   placed place [] [] h = tt
   placed place [] (y ∷ ys) h = absurd h
   placed place (x ∷ xs) [] h = absurd h
@@ -92,7 +92,7 @@ module _ (program other : Program) (procs others : List ℕ) (known other_known 
   unfolding sides_of
   sides-one table =
       zipped-each ArePlaced (with_member program procs (by table)) (with_member other others (other_by table)) (member-one table)
-      [] (placed_from 0 ps) (placed_from 0 qs) (placed 0 ps qs members)
+      [] (with_places_from 0 ps) (with_places_from 0 qs) (placed 0 ps qs members)
 
   closure-one : (bases table : List Transition) → closure_of program procs known bases table ≡ closure_of other others other_known bases table
   unfolding closure_of
@@ -102,8 +102,8 @@ module _ (program other : Program) (procs others : List ℕ) (known other_known 
 
   -- ---- rounds
 
-  unfolded-one : (table : List Transition) (p q : Proc) → Are p q → unfolded program (by table) p ≡ unfolded other (other_by table) q
-  unfolding unfolded
+  unfolded-one : (table : List Transition) (p q : Proc) → Are p q → unfolded_formula program (by table) p ≡ unfolded_formula other (other_by table) q
+  unfolding unfolded_formula
   unfolded-one table p q h =
       let m = ends p q h in
       let s = subjects table p q h in
@@ -144,21 +144,21 @@ module _ (program other : Program) (procs others : List ℕ) (known other_known 
 
   -- ---- summaries
 
-  rounds-one : (bases : List Transition) → closed_by_rounds program procs known bases ≡ closed_by_rounds other others other_known bases
-  unfolding closed_by_rounds
+  rounds-one : (bases : List Transition) → closure_by_rounds program procs known bases ≡ closure_by_rounds other others other_known bases
+  unfolding closure_by_rounds
   rounds-one bases =
       λ i. closure-one bases [] i >>= λ first.
       closure-one bases first i >>= λ second.
-      each with_candidate [] (paired_up (all-ends i) second) >>= λ candidates.
+      each with_candidate [] (pairs_of (all-ends i) second) >>= λ candidates.
       kept-one candidates i >>= λ kept.
       Done (table_of (all-ends i) kept)
 
-  from-one : (linear : Bool) (bases : List Transition) → closed_from linear program procs known bases ≡ closed_from linear other others other_known bases
+  from-one : (linear : Bool) (bases : List Transition) → closure_from linear program procs known bases ≡ closure_from linear other others other_known bases
   from-one true bases = closure-one bases []
   from-one false bases = rounds-one bases
 
-  closed-one : (linear : Bool) → closed_of linear program procs known ≡ closed_of linear other others other_known
-  unfolding closed_of
+  closed-one : (linear : Bool) → group_closure linear program procs known ≡ group_closure linear other others other_known
+  unfolding group_closure
   closed-one linear = λ i. bases-one i >>= λ bases. from-one linear bases i
 
 pub alike_groups_are_one : AlikeGroupsAreOne

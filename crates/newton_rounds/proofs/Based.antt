@@ -4,7 +4,7 @@ use Rattle.std.specs.Prelude.{All, Option}
 use Rattle.std.specs.List.{AllByRecursion}
 use Rattle.items.proofs.Each.{each-map}
 use Rattle.linear_terms.specs.declared.row.Case.{Case}
-use Rattle.transition_formula.specs.Equating.{equated, equated_case}
+use Rattle.transition_formula.specs.Equating.{equated_formula, equated_case}
 use Rattle.transition_formula.specs.Posts.{case_with_posts}
 use Rattle.transition_formula.specs.Transition.{Transition, IsTransition}
 use Rattle.transition_formula.proofs.PostsAsEntries.{equated-fits}
@@ -22,7 +22,7 @@ module _ (m : PairEnds) (ends : AreEnds m) (exit : Option Transition) (fits : Fi
   told = entry_told m exit
 
   abbrev equal : Transition
-  equal = equated m.ends.entry.columns (exit_places m.ends) told
+  equal = equated_formula m.ends.entry.columns (exit_places m.ends) told
 
   equal-fits : IsTransition equal.from equal.to equal.cases
   equal-fits =

@@ -15,7 +15,7 @@ use Rattle.syntax_tree.specs.declared.program.Program.{Program}
 use Rattle.syntax_tree.specs.Code.{code_of}
 use Rattle.syntax_tree.specs.Value.{State}
 use Rattle.syntax_tree.specs.WellFormed.{IsWellFormed, width_of}
-use Rattle.transition_formula.specs.Equating.{equated, equated_case}
+use Rattle.transition_formula.specs.Equating.{equated_formula, equated_case}
 use Rattle.transition_formula.specs.Meaning.{Holds}
 use Rattle.transition_formula.specs.Posts.{case_with_posts, numbers_at}
 use Rattle.transition_formula.specs.Transition.{IsTransition, Transition}
@@ -57,7 +57,7 @@ module _ (m : PairEnds) (ends : AreEnds m) (f : Option Transition) (fit : FitsIf
   base-goes-over : GoesBetween 1000 m.pair.columns 0 (base_from m f)
   base-goes-over =
       let told = entry_told m f in
-      let equal = equated m.ends.entry.columns (exit_places m.ends) told in
+      let equal = equated_formula m.ends.entry.columns (exit_places m.ends) told in
       record {
         from_is = refl;
         to_is = refl;

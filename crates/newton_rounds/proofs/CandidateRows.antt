@@ -15,7 +15,7 @@ use Rattle.linear_terms.proofs.Canonical.{IsCanonical-column}
 use Rattle.transition_formula.specs.Transition.{Transition, every_column, is_below}
 use Rattle.transition_formula.proofs.Fitting.{below-true}
 use Rattle.posing.specs.Posing.{each, Always}
-use Rattle.polyhedra.specs.Bounds.{after_row, bounded_after, put_in_for}
+use Rattle.polyhedra.specs.Bounds.{after_row, rows_with_exit_bound, put_in_for}
 use Rattle.polyhedra.specs.Directions.{directions}
 use Rattle.polyhedra.proofs.Places.{range-first}
 use Rattle.polyhedra.proofs.Rows.{IsSound, at_most-sound, difference-sound, put_in_for-sound, whole-sound}
@@ -52,9 +52,9 @@ module _ (columns : ℕ) where
         (difference-sound test (put_in_for (columns_of columns) d) (whole most) (put_in_for-sound test (columns_of columns) d columns-sound) (whole-sound test most)) row e).passes;
   }
 
-  bounds-rows : (cases : List Case) (ds : List Polynomial) → Always (ArePairRows columns) (each (bounded_after cases (columns_of columns)) [] ds)
+  bounds-rows : (cases : List Case) (ds : List Polynomial) → Always (ArePairRows columns) (each (rows_with_exit_bound cases (columns_of columns)) [] ds)
   bounds-rows cases ds =
-      each-keeps (IsPairRow columns) (λ (d : Polynomial). Unit {0}) (bounded_after cases (columns_of columns)) [] ds
+      each-keeps (IsPairRow columns) (λ (d : Polynomial). Unit {0}) (rows_with_exit_bound cases (columns_of columns)) [] ds
       (λ made d k fine. bounded-keeps (IsPairRow columns) cases (λ case. put_in_for case.post d) (after_row (columns_of columns) d) made (bound-row d) fine)
       (each-any (λ d. Unit {0}) (λ d. tt) ds) tt
 

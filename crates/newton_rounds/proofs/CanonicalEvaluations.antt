@@ -12,17 +12,17 @@ use Rattle.path_expr.specs.PathExpr.{PathExpr, Zero, One, Edge, Seq, Join, Star}
 use Rattle.path_expr.specs.Elimination.{path_at}
 use Rattle.path_expr.specs.Operations.{operations}
 use Rattle.path_expr.specs.Walks.{IsWalk}
-use Rattle.transition_formula.specs.Composition.{joined, sequence_of}
+use Rattle.transition_formula.specs.Composition.{union_of, sequence_of}
 use Rattle.transition_formula.specs.Transition.{Transition}
 use Rattle.posing.specs.Posing.{Done, Always}
 use Rattle.posing.proofs.Paths.{always_bind, always_each, always_weaker}
 use Rattle.polyhedra.specs.Laws.{HaveCanonicalRows}
-use Rattle.polyhedra.specs.Settle.{settled}
-use Rattle.polyhedra.specs.Squash.{fitted}
+use Rattle.polyhedra.specs.Settle.{settled_formula}
+use Rattle.polyhedra.specs.Squash.{fitted_formula}
 use Rattle.polyhedra.specs.Vocabulary.{Vocabulary, IsVocabulary}
 use Rattle.recurrence.proofs.Starred.{always_both}
 use Rattle.checked_tree.specs.Graph.{Graph, nothing, leaf_at, link_at, end_vocabulary, start_vocabulary, vocabulary_at}
-use Rattle.checked_tree.specs.Evaluation.{Made, cell_of, cells_of, evaluated, evaluation, formula_at, join_formula, leaf_formula, own, paths_of, sequence_formula, settled_and_fitted, with_entry, with_made}
+use Rattle.checked_tree.specs.Evaluation.{Made, cell_of, cells_of, evaluated_cells, evaluation, formula_at, join_formula, leaf_formula, own, paths_of, sequence_formula, settled_and_fitted, with_entry, with_made}
 use Rattle.checked_tree.specs.Law.{AreCanonicalMade, AreFittedCells, CellsHold, HaveCanonicalLeaves, HoldsAlong, HoldsCell, IsEvaluated, IsRun}
 use Rattle.checked_tree.specs.Ready.{AreReady, IsReady}
 use Rattle.checked_tree.specs.UnderWay.{IsKnown}
@@ -46,7 +46,7 @@ formula-canonical f h = each-more _ IsCanonicalCase (λ (case : Case) k. recursi
 pub settled_and_fitted-canonical : (f : Transition) (from to : Vocabulary) → IsVocabulary from → IsCanonicalFormula f → Always IsCanonicalFormula (settled_and_fitted f from to)
 unfolding settled_and_fitted
 settled_and_fitted-canonical f from to is h =
-    always_bind IsCanonicalFormula IsCanonicalFormula (settled f) (λ g. fitted g from to) (settled-canonical f h) (λ g k. fitted-canonical g from to (directions-canonical from is) k)
+    always_bind IsCanonicalFormula IsCanonicalFormula (settled_formula f) (λ g. fitted_formula g from to) (settled-canonical f h) (λ g k. fitted-canonical g from to (directions-canonical from is) k)
 
 abbrev pub IsCanonicalCell : Cell Transition → Type 0
 IsCanonicalCell known.Zero = Unit {0}
@@ -88,7 +88,7 @@ module _ (g : Graph) (source : ℕ) (is : IsEvaluated g source) (leaves : HaveCa
       own-canonical (Join a b) ready =
           let fa = formula_at made a in
           let fb = formula_at made b in
-          fitted-canonical (joined fa fb) (start_vocabulary g a) (end_vocabulary g a) (directions-canonical (start_vocabulary g a) (all_known a ready.0).starts.is)
+          fitted-canonical (union_of fa fb) (start_vocabulary g a) (end_vocabulary g a) (directions-canonical (start_vocabulary g a) (all_known a ready.0).starts.is)
           (joined-canonical fa fb (of-path a) (of-path b))
       own-canonical (Star a) ready = star-canonical (formula_at made a) (start_vocabulary g a) (directions-canonical (start_vocabulary g a) (all_known a ready.0).starts.is)
 
@@ -155,8 +155,8 @@ module _ (g : Graph) (source : ℕ) (is : IsEvaluated g source) (leaves : HaveCa
     pub canonical : AreCanonicalCells cells
     pub hold : CellsHold g source cells
 
-  cells-true : Always (λ cells. AreCanonicalCells cells × CellsHold g source cells) (evaluated g source)
-  unfolding evaluated
+  cells-true : Always (λ cells. AreCanonicalCells cells × CellsHold g source cells) (evaluated_cells g source)
+  unfolding evaluated_cells
   cells-true =
       always_bind (Lasts []) (λ cells. AreCanonicalCells cells × CellsHold g source cells) (evaluation g source) (λ made. Done (cells_of g source made)) evaluation-lasts
       (λ made kept. (
@@ -165,8 +165,8 @@ module _ (g : Graph) (source : ℕ) (is : IsEvaluated g source) (leaves : HaveCa
             cell-holds g source is made (whole made kept) node below kept.along word walk before after long run),
       ))
 
-  pub evaluated-true : Always AreTrueCells (evaluated g source)
+  pub evaluated-true : Always AreTrueCells (evaluated_cells g source)
   evaluated-true =
-      always_weaker (λ cells. AreFittedCells g source cells × (AreCanonicalCells cells × CellsHold g source cells)) AreTrueCells (evaluated g source)
+      always_weaker (λ cells. AreFittedCells g source cells × (AreCanonicalCells cells × CellsHold g source cells)) AreTrueCells (evaluated_cells g source)
       (λ cells h. record { fit = h.0; canonical = h.1.0; hold = h.1.1 })
-      (always_both (AreFittedCells g source) (λ cells. AreCanonicalCells cells × CellsHold g source cells) (evaluated g source) (cells-fit g source is) cells-true)
+      (always_both (AreFittedCells g source) (λ cells. AreCanonicalCells cells × CellsHold g source cells) (evaluated_cells g source) (cells-fit g source is) cells-true)

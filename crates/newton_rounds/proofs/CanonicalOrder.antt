@@ -9,7 +9,7 @@ use Rattle.linear_terms.specs.declared.row.Row.{Row}
 use Rattle.linear_terms.specs.declared.row.Case.{Case}
 use Rattle.linear_terms.specs.declared.row.Normal.TheVariants.{Kept}
 use Rattle.linear_terms.specs.Auxiliaries.{occurs, put_for}
-use Rattle.linear_terms.specs.Operations.{substituted}
+use Rattle.linear_terms.specs.Operations.{substituted_polynomial}
 use Rattle.linear_terms.specs.Polynomial.{Polynomial, IsCanonical}
 use Rattle.linear_terms.specs.Row.{normal_form}
 use Rattle.linear_terms.proofs.Canonical.{IsCanonical-substituted}
@@ -18,8 +18,8 @@ use Rattle.linear_terms.proofs.Numbering.{IsCanonical-renumbered, Keeps, terms_o
 use Rattle.transition_formula.specs.Composition.{Operation, rows_by, row_of}
 use Rattle.transition_formula.specs.Order.{first_equation, solution, with_solution}
 use Rattle.transition_formula.specs.Renumbering.{new_number, occurs_in, renumbered_case, renumbered_row}
-use Rattle.transition_formula.specs.Rounds.{in_order, round, rounds, solved_at, solved_first, with_rows, with_solved}
-use Rattle.transition_formula.specs.Rows.{tidied}
+use Rattle.transition_formula.specs.Rounds.{in_order, round, rounds, round_at, solved_first, with_rows, with_solved}
+use Rattle.transition_formula.specs.Rows.{tidied_rows}
 use Rattle.transition_formula.specs.Transition.{Transition}
 use Rattle.transition_formula.proofs.Loops.{or_left, or_right}
 use Rattle.transition_formula.proofs.Numbers.{count_below-keeps}
@@ -29,8 +29,8 @@ use Rattle.posing.proofs.Paths.{always_any, always_bind, always_each}
 use Rattle.polyhedra.specs.Finish.{cut, cut_case, finished_left}
 use Rattle.polyhedra.specs.Finish as finish
 use Rattle.polyhedra.specs.Infeasibility.{infeasible}
-use Rattle.polyhedra.specs.Settle.{feasible, feasible_by, feasible_left, settled, settled_case, settled_cases, unless, with_settled}
-use Rattle.polyhedra.specs.Thin.{thinned, thinned_rows}
+use Rattle.polyhedra.specs.Settle.{feasible, feasible_by, feasible_left, settled_formula, settled_case, settled_cases, unless, with_settled}
+use Rattle.polyhedra.specs.Thin.{thinned_case, thinned_rows}
 use Rattle.polyhedra.proofs.Thinned.{thinned_rows-keep}
 
 -- each row has its monomials in print order, each once
@@ -75,7 +75,7 @@ canonical-normal row r e k = normal_form-HasCanonicalTerms row (Kept r) k e
 with_solution-canonical : (n : ℕ) (q : Polynomial) → KeepsCanonical (with_solution n q)
 with_solution-canonical n q p r e k = go (occurs n p) e
   where
-    go : (b : Bool) → cond b (substituted (put_for n q) p) (Ok p) ≡ Ok r → IsCanonical r.terms
+    go : (b : Bool) → cond b (substituted_polynomial (put_for n q) p) (Ok p) ≡ Ok r → IsCanonical r.terms
     go true f = IsCanonical-substituted (put_for n q) p r f
     go false f = let same : p ≡ r = cc in subst (λ s. IsCanonical s.terms) same k
 
@@ -104,9 +104,9 @@ module _ (case : Case) where
 
 rounds-canonical : (n : ℕ) (case : Case) → IsCanonicalCase case → IsCanonicalIf (rounds n case).left
 rounds-canonical zero case k = renumbered-canonical case k
-rounds-canonical (suc n) case k = go (tidied case.rows).rows refl (λ next l. rounds-canonical n next l)
+rounds-canonical (suc n) case k = go (tidied_rows case.rows).rows refl (λ next l. rounds-canonical n next l)
   where
-    at_equation : (left : Case) (m : ℕ) (o : Option Row) → IsCanonicalCase left → ((next : Case) → IsCanonicalCase next → IsCanonicalIf (rounds n next).left) → IsCanonicalIf (solved_at (rounds n) left m o).left
+    at_equation : (left : Case) (m : ℕ) (o : Option Row) → IsCanonicalCase left → ((next : Case) → IsCanonicalCase next → IsCanonicalIf (rounds n next).left) → IsCanonicalIf (round_at (rounds n) left m o).left
     at_equation left m None l ih = renumbered-canonical left l
     at_equation left m (Some row) l ih = ih (with_solved (solution row.poly m) m left) (solved-canonical (solution row.poly m) m left l)
 
@@ -114,7 +114,7 @@ rounds-canonical (suc n) case k = go (tidied case.rows).rows refl (λ next l. ro
     first left None l ih = renumbered-canonical left l
     first left (Some found) l ih = at_equation (with_rows left (remove left.rows found.0)) found.1 (slice_get left.rows found.0) (removed-canonical left.rows found.0 l) ih
 
-    go : (o : Option (List Row)) → (tidied case.rows).rows ≡ o → ((next : Case) → IsCanonicalCase next → IsCanonicalIf (rounds n next).left) → IsCanonicalIf (round (rounds n) case o).left
+    go : (o : Option (List Row)) → (tidied_rows case.rows).rows ≡ o → ((next : Case) → IsCanonicalCase next → IsCanonicalIf (rounds n next).left) → IsCanonicalIf (round (rounds n) case o).left
     go None e ih = tt
     go (Some rows) e ih = first (with_rows case rows) (first_equation rows) (tidied-keeps (λ p. IsCanonical p.terms) canonical-normal case.rows rows e k) ih
 
@@ -161,8 +161,8 @@ with_settled-canonical case rest made h =
 abbrev pub IsCanonicalFormula : Transition → Type 0
 IsCanonicalFormula f = AreCanonicalCases f.cases
 
-pub settled-canonical : (f : Transition) → IsCanonicalFormula f → Always IsCanonicalFormula (settled f)
-unfolding settled
+pub settled-canonical : (f : Transition) → IsCanonicalFormula f → Always IsCanonicalFormula (settled_formula f)
+unfolding settled_formula
 settled-canonical f h =
     always_bind (AreLeft []) IsCanonicalFormula (settled_cases f.cases) (λ cases. Done record { from = f.from; to = f.to; cases = cases })
     (always_each AreLeft with_settled [] f.cases (λ case rest made k. with_settled-canonical case rest made k) (h, tt)) (λ cases k. k.1)
@@ -174,8 +174,8 @@ first-canonical zero rows h = tt
 first-canonical (suc n) [] h = h
 first-canonical (suc n) (row ∷ rows) h = (h.0, first-canonical n rows h.1)
 
-thinned-canonical : (case : Case) → IsCanonicalCase case → Always IsCanonicalCase (thinned case)
-unfolding thinned
+thinned-canonical : (case : Case) → IsCanonicalCase case → Always IsCanonicalCase (thinned_case case)
+unfolding thinned_case
 thinned-canonical case k =
     always_bind (AllByRecursion IsCanonicalRow) IsCanonicalCase (thinned_rows case.rows) (λ rows. Done record { aux = case.aux; rows = rows; post = case.post })
     (thinned_rows-keep (AllByRecursion IsCanonicalRow) removed-canonical case.rows k) (λ rows h. h)
@@ -187,5 +187,5 @@ finished-canonical case k = go (in_order case).left (in_order-canonical case k)
     go : (o : Option Case) → IsCanonicalIf o → Always IsCanonicalIf (finished_left o)
     go None h = tt
     go (Some left) h =
-        always_bind IsCanonicalCase IsCanonicalIf (thinned left) (λ thin. cut thin >>= λ kept. Done (Some kept)) (thinned-canonical left h)
+        always_bind IsCanonicalCase IsCanonicalIf (thinned_case left) (λ thin. cut thin >>= λ kept. Done (Some kept)) (thinned-canonical left h)
         (λ thin l. first-canonical 64 thin.rows l)

@@ -8,21 +8,21 @@ use Rattle.items.proofs.Each.{each-any, each-append, each-more}
 use Rattle.linear_terms.specs.declared.row.Row.{Row}
 use Rattle.linear_terms.specs.declared.row.Case.{Case}
 use Rattle.linear_terms.specs.declared.row.Kind.TheVariants.{Equal}
-use Rattle.linear_terms.specs.Expressions.{Made, ◌⊟◌, whole, weighted, sum_from, equation, put_into}
+use Rattle.linear_terms.specs.Expressions.{Made, ◌⊟◌, whole, weighted_sum, sum_from, equation, put_into}
 use Rattle.linear_terms.specs.Operations.{sum_of_polys, product_of_polys}
 use Rattle.linear_terms.specs.Polynomial.{Polynomial, IsCanonical, constant_of}
 use Rattle.linear_terms.proofs.Canonical.{IsCanonical-nil, IsCanonical-sum_of_polys}
-use Rattle.transition_formula.specs.Composition.{identity_of, joined}
+use Rattle.transition_formula.specs.Composition.{identity_of, union_of}
 use Rattle.transition_formula.specs.Transition.{Transition, is_fitted}
 use Rattle.farkas_check.specs.declared.stratum.Relation.{Relation}
 use Rattle.posing.specs.Posing.{Done, ◌>>=◌, each, Always}
 use Rattle.posing.proofs.Paths.{always_any, always_bind}
-use Rattle.polyhedra.specs.Bounds.{after_row, before_row, bounded_after, bounded_before, bounded_change, change_row, for_entries, put_in_for}
-use Rattle.polyhedra.specs.Changes.{change, changes_of, moving, modified, occurring}
+use Rattle.polyhedra.specs.Bounds.{after_row, before_row, rows_with_exit_bound, rows_with_entry_bound, bounded_change, change_row, for_entries, put_in_for}
+use Rattle.polyhedra.specs.Changes.{change, changes_of, moving, modified_variables, occurring}
 use Rattle.polyhedra.specs.Directions.{directions}
-use Rattle.polyhedra.specs.Finish.{finished}
+use Rattle.polyhedra.specs.Finish.{finish_of_case}
 use Rattle.polyhedra.specs.Relations.{relations_of}
-use Rattle.polyhedra.specs.Squash.{are_same, change_after, changes_after, entries_of, fitted, noted_squash, posts_after, related, relation_row, squash_case, squash_rows, squashed, squashed_case, with_bounds, with_differences, with_relation, with_relations}
+use Rattle.polyhedra.specs.Squash.{are_same, change_after, changes_after, entries_of, fitted_formula, noted_squash, posts_after, change_relations, relation_row, squash_case, squash_rows, squashed_formula, squashed_case, with_bounds, with_differences, with_relation, with_relations}
 use Rattle.polyhedra.specs.Vocabulary.{Vocabulary, IsDirectionOver, IsVocabulary}
 use Rattle.polyhedra.proofs.Directed.{directions-over}
 use Rattle.polyhedra.proofs.Shaped.{HasIfMade, bounded-keeps, each-keeps, with_row-keeps}
@@ -58,14 +58,14 @@ directions-canonical voc is = each-more (IsDirectionOver voc.columns) (λ (d : P
 
 -- ---- bounds
 
-pub before-canonical : (cases : List Case) (rows : List Row) (ds : List Polynomial) → AreCanonicalPolys ds → AreCanonicalRows rows → Always AreCanonicalRows (each (bounded_before cases) rows ds)
+pub before-canonical : (cases : List Case) (rows : List Row) (ds : List Polynomial) → AreCanonicalPolys ds → AreCanonicalRows rows → Always AreCanonicalRows (each (rows_with_entry_bound cases) rows ds)
 before-canonical cases rows ds all h =
-    each-keeps IsCanonicalRow (λ (d : Polynomial). IsCanonical d.terms) (bounded_before cases) rows ds
+    each-keeps IsCanonicalRow (λ (d : Polynomial). IsCanonical d.terms) (rows_with_entry_bound cases) rows ds
     (λ made d k fine. bounded-keeps IsCanonicalRow cases (λ case. Ok d) (before_row d) made (λ most. (canonical-at_most (Ok d ⊟ whole most) (canonical-difference (Ok d) (whole most) (canonical-Ok d k))).as_made) fine) all h
 
-pub after-canonical : (cases : List Case) (after : List Polynomial) (rows : List Row) (ds : List Polynomial) → AreCanonicalRows rows → Always AreCanonicalRows (each (bounded_after cases after) rows ds)
+pub after-canonical : (cases : List Case) (after : List Polynomial) (rows : List Row) (ds : List Polynomial) → AreCanonicalRows rows → Always AreCanonicalRows (each (rows_with_exit_bound cases after) rows ds)
 after-canonical cases after rows ds h =
-    each-keeps IsCanonicalRow (λ d. Unit {0}) (bounded_after cases after) rows ds
+    each-keeps IsCanonicalRow (λ d. Unit {0}) (rows_with_exit_bound cases after) rows ds
     (λ made d k fine. bounded-keeps IsCanonicalRow cases (λ case. put_in_for case.post d) (after_row after d) made
     (λ most. (canonical-at_most (put_in_for after d ⊟ whole most) (canonical-difference (put_in_for after d) (whole most) (canonical-put_in_for after d))).as_made) fine)
     (each-any (λ d. Unit {0}) (λ d. tt) ds) h
@@ -76,20 +76,20 @@ module _ (one : Bool) (f : Transition) where
   relation-canonical : (terms lower : List Polynomial) (rows : List Row) (r : Relation) → AreCanonicalRows rows → Always AreCanonicalRows (with_relation terms lower rows r)
   relation-canonical terms lower rows r h =
       with_row-keeps IsCanonicalRow rows (relation_row terms lower r)
-      (equation-canonical (weighted r.a terms ⊟ weighted r.b lower ⊟ whole r.c)
-      (canonical-difference (weighted r.a terms ⊟ weighted r.b lower) (whole r.c)
-      (canonical-difference (weighted r.a terms) (weighted r.b lower) (sum_from-canonical (constant_of (pos 0)) r.a terms IsCanonical-nil)))) h
+      (equation-canonical (weighted_sum r.a terms ⊟ weighted_sum r.b lower ⊟ whole r.c)
+      (canonical-difference (weighted_sum r.a terms ⊟ weighted_sum r.b lower) (whole r.c)
+      (canonical-difference (weighted_sum r.a terms) (weighted_sum r.b lower) (sum_from-canonical (constant_of (pos 0)) r.a terms IsCanonical-nil)))) h
 
   relations-canonical : (terms lower : List Polynomial) (found : Option (List Relation)) → Always AreCanonicalRows (with_relations terms lower found)
   relations-canonical terms lower None = tt
   relations-canonical terms lower (Some relations) =
       each-keeps IsCanonicalRow (λ r. Unit {0}) (with_relation terms lower) [] relations (λ rows r any h. relation-canonical terms lower rows r h) (each-any (λ r. Unit {0}) (λ r. tt) relations) tt
 
-  related-canonical : Always AreCanonicalRows (related one f)
-  unfolding related
+  related-canonical : Always AreCanonicalRows (change_relations one f)
+  unfolding change_relations
   related-canonical =
       always_bind (λ found. Unit {0}) AreCanonicalRows (relations_of (changes_of one f) (entries_of (occurring one f)))
-      (with_relations (map (change_after one (modified one f)) (moving one f)) (entries_of (occurring one f)))
+      (with_relations (map (change_after one (modified_variables one f)) (moving one f)) (entries_of (occurring one f)))
       (always_any (λ found. Unit {0}) (relations_of (changes_of one f) (entries_of (occurring one f))) (λ found. tt)) (λ found any. relations-canonical _ _ found)
 
   module _ (from to : Vocabulary) (known : AreCanonicalPolys (directions from)) where
@@ -104,11 +104,11 @@ module _ (one : Bool) (f : Transition) where
     squash_rows-canonical : Always AreCanonicalRows (squash_rows one f from to)
     unfolding squash_rows with_bounds
     squash_rows-canonical =
-        always_bind AreCanonicalRows AreCanonicalRows (related one f) (with_bounds one f from to) related-canonical
-        (λ equations h. always_bind AreCanonicalRows AreCanonicalRows (each (bounded_before f.cases) equations (directions from))
-        (λ rows. each (bounded_after f.cases (posts_after one f)) rows (directions to) >>= λ both. with_differences one f from both)
+        always_bind AreCanonicalRows AreCanonicalRows (change_relations one f) (with_bounds one f from to) related-canonical
+        (λ equations h. always_bind AreCanonicalRows AreCanonicalRows (each (rows_with_entry_bound f.cases) equations (directions from))
+        (λ rows. each (rows_with_exit_bound f.cases (posts_after one f)) rows (directions to) >>= λ both. with_differences one f from both)
         (before-canonical f.cases equations (directions from) known h)
-        (λ rows k. always_bind AreCanonicalRows AreCanonicalRows (each (bounded_after f.cases (posts_after one f)) rows (directions to)) (λ both. with_differences one f from both)
+        (λ rows k. always_bind AreCanonicalRows AreCanonicalRows (each (rows_with_exit_bound f.cases (posts_after one f)) rows (directions to)) (λ both. with_differences one f from both)
         (after-canonical f.cases (posts_after one f) rows (directions to) k) (λ both l. differences-canonical one both l)))
 
 pub listed-canonical : (left : Option Case) → IsCanonicalIf left → AreCanonicalCases (option_to_list left)
@@ -122,16 +122,16 @@ module _ (f : Transition) (from to : Vocabulary) (known : AreCanonicalPolys (dir
       always_bind AreCanonicalRows IsCanonicalCase (squash_rows (are_same from to) f from to) (λ rows. Done (squash_case (are_same from to) f rows))
       (squash_rows-canonical (are_same from to) f from to known) (λ rows h. h)
 
-  squashed-canonical : Always IsCanonicalFormula (squashed f from to)
-  unfolding squashed
+  squashed-canonical : Always IsCanonicalFormula (squashed_formula f from to)
+  unfolding squashed_formula
   squashed-canonical =
       always_bind IsCanonicalCase IsCanonicalFormula (squashed_case (are_same from to) f from to)
-      (λ case. finished case >>= λ left. Done record { from = f.from; to = f.to; cases = option_to_list left }) squashed_case-canonical
-      (λ case h. always_bind IsCanonicalIf IsCanonicalFormula (finished case) (λ left. Done record { from = f.from; to = f.to; cases = option_to_list left })
+      (λ case. finish_of_case case >>= λ left. Done record { from = f.from; to = f.to; cases = option_to_list left }) squashed_case-canonical
+      (λ case h. always_bind IsCanonicalIf IsCanonicalFormula (finish_of_case case) (λ left. Done record { from = f.from; to = f.to; cases = option_to_list left })
       (finished-canonical case h) (λ left k. listed-canonical left k))
 
-  pub fitted-canonical : IsCanonicalFormula f → Always IsCanonicalFormula (fitted f from to)
-  unfolding fitted noted_squash
+  pub fitted-canonical : IsCanonicalFormula f → Always IsCanonicalFormula (fitted_formula f from to)
+  unfolding fitted_formula noted_squash
   fitted-canonical h = go (is_fitted f.cases)
     where
       go : (b : Bool) → Always IsCanonicalFormula (if b then Done f else noted_squash f from to)
@@ -140,7 +140,7 @@ module _ (f : Transition) (from to : Vocabulary) (known : AreCanonicalPolys (dir
 
 -- ---- star
 
-pub joined-canonical : (a b : Transition) → IsCanonicalFormula a → IsCanonicalFormula b → IsCanonicalFormula (joined a b)
+pub joined-canonical : (a b : Transition) → IsCanonicalFormula a → IsCanonicalFormula b → IsCanonicalFormula (union_of a b)
 joined-canonical a b h k = each-append IsCanonicalCase a.cases b.cases h k
 
 pub star-canonical : (body : Transition) (voc : Vocabulary) → AreCanonicalPolys (directions voc) → Always IsCanonicalFormula (star_of body voc)
@@ -150,6 +150,6 @@ star-canonical body voc known = go body.cases
     go : (cases : List Case) → Always IsCanonicalFormula (star_by body voc cases)
     go [] = (tt, tt)
     go (case ∷ cases) =
-        always_bind IsCanonicalIf IsCanonicalFormula (turns body voc >>= finished) (λ left. Done (joined (identity_of body.from) record { from = body.from; to = body.to; cases = option_to_list left }))
-        (always_bind IsCanonicalCase IsCanonicalIf (turns body voc) finished (turns-canonical body voc known) (λ c k. finished-canonical c k))
+        always_bind IsCanonicalIf IsCanonicalFormula (turns body voc >>= finish_of_case) (λ left. Done (union_of (identity_of body.from) record { from = body.from; to = body.to; cases = option_to_list left }))
+        (always_bind IsCanonicalCase IsCanonicalIf (turns body voc) finish_of_case (turns-canonical body voc known) (λ c k. finished-canonical c k))
         (λ left h. joined-canonical (identity_of body.from) record { from = body.from; to = body.to; cases = option_to_list left } (tt, tt) (listed-canonical left h))

@@ -13,7 +13,7 @@ use Rattle.syntax_tree.specs.declared.program.Program.{Program}
 use Rattle.leaf_cases.specs.Conditions.{IsKnown}
 use Rattle.newton_rounds.specs.Between.{AreCandidates, AreSummaries, FitTable, IsRowOver, IsSummary}
 use Rattle.newton_rounds.specs.Candidates.{candidate_of}
-use Rattle.newton_rounds.specs.Close.{paired_up, with_candidate}
+use Rattle.newton_rounds.specs.Close.{pairs_of, with_candidate}
 use Rattle.newton_rounds.specs.Pairs.{PairEnds}
 use Rattle.newton_rounds.proofs.Matched.{IsBehind, each-match}
 use Rattle.newton_rounds.proofs.Rowed.{candidate-over}
@@ -23,13 +23,13 @@ pub empty-fits : (program : Program) (procs : List ℕ) → FitTable program pro
 empty-fits program procs place proc p f at is found = absurd (cc found)
 
 pub next-paired : (members : List PairEnds) (table : List Transition) (i : ℕ) (m : PairEnds) (f : Transition) → i < length members → length table ≡ length members → m ≡ get_or members i m → f ≡ get_or table i f
-    → paired_up (drop i members) (drop i table) ≡ (m, f) ∷ paired_up (drop (i + 1) members) (drop (i + 1) table)
+    → pairs_of (drop i members) (drop i table) ≡ (m, f) ∷ pairs_of (drop (i + 1) members) (drop (i + 1) table)
 next-paired members table i m f lt long e g =
-    λ j. paired_up ((drop_more members i m lt ∙ ap (λ x. x ∷ drop (i + 1) members) (sym e)) j)
+    λ j. pairs_of ((drop_more members i m lt ∙ ap (λ x. x ∷ drop (i + 1) members) (sym e)) j)
     ((drop_more table i f (omega (arith, lt, long)) ∙ ap (λ x. x ∷ drop (i + 1) table) (sym g)) j)
 
-pub paired-end : (members : List PairEnds) (table : List Transition) (i : ℕ) → length members ≤ i → paired_up (drop i members) (drop i table) ≡ []
-paired-end members table i end = ap (λ ms. paired_up ms (drop i table)) (drop_all i members end)
+pub paired-end : (members : List PairEnds) (table : List Transition) (i : ℕ) → length members ≤ i → pairs_of (drop i members) (drop i table) ≡ []
+paired-end members table i end = ap (λ ms. pairs_of ms (drop i table)) (drop_all i members end)
 
 pub summary-read : (members : List PairEnds) (table : List Transition) (i : ℕ) (m : PairEnds) (f : Transition) → i < length members → m ≡ get_or members i m → f ≡ get_or table i f → AreSummaries members table → IsSummary m f
 summary-read [] table i m f lt e g h = absurd (omega (arith, lt))
@@ -45,14 +45,14 @@ candidate-behind made member =
     always_bind (AllByRecursion (IsRowOver member.0.pair.columns)) (IsBehind (λ (t : PairEnds × Transition) rows. AllByRecursion (IsRowOver t.0.pair.columns) rows) made member) (candidate_of member.0 member.1) (λ rows. Done (made ++ rows ∷ []))
     (candidate-over member.0 member.1) (λ rows h. record { value = rows; is = refl; holds = h })
 
-pub candidates-over : (members : List PairEnds) (table : List Transition) → length table ≡ length members → Always (AreCandidates members) (each with_candidate [] (paired_up members table))
+pub candidates-over : (members : List PairEnds) (table : List Transition) → length table ≡ length members → Always (AreCandidates members) (each with_candidate [] (pairs_of members table))
 candidates-over members table long =
-    always_weaker (AllZip (λ (t : PairEnds × Transition) rows. AllByRecursion (IsRowOver t.0.pair.columns) rows) (paired_up members table)) (AreCandidates members) (each with_candidate [] (paired_up members table))
+    always_weaker (AllZip (λ (t : PairEnds × Transition) rows. AllByRecursion (IsRowOver t.0.pair.columns) rows) (pairs_of members table)) (AreCandidates members) (each with_candidate [] (pairs_of members table))
     (λ candidates h. go members table candidates long h)
-    (each-match (λ member. Unit {0}) (λ (t : PairEnds × Transition) rows. AllByRecursion (IsRowOver t.0.pair.columns) rows) with_candidate (λ made member any. candidate-behind made member) (paired_up members table)
-    (each-any (λ member. Unit {0}) (λ member. tt) (paired_up members table)))
+    (each-match (λ member. Unit {0}) (λ (t : PairEnds × Transition) rows. AllByRecursion (IsRowOver t.0.pair.columns) rows) with_candidate (λ made member any. candidate-behind made member) (pairs_of members table)
+    (each-any (λ member. Unit {0}) (λ member. tt) (pairs_of members table)))
   where
-    go : (ms : List PairEnds) (fs : List Transition) (candidates : List (List Row)) → length fs ≡ length ms → AllZip (λ (t : PairEnds × Transition) rows. AllByRecursion (IsRowOver t.0.pair.columns) rows) (paired_up ms fs) candidates → AreCandidates ms candidates
+    go : (ms : List PairEnds) (fs : List Transition) (candidates : List (List Row)) → length fs ≡ length ms → AllZip (λ (t : PairEnds × Transition) rows. AllByRecursion (IsRowOver t.0.pair.columns) rows) (pairs_of ms fs) candidates → AreCandidates ms candidates
     go [] fs [] e h = tt
     go [] fs (rows ∷ candidates) e h = h
     go (m ∷ ms) [] candidates e h = absurd (omega (arith, e))

@@ -23,12 +23,12 @@ use Rattle.transition_formula.proofs.HiddenColumns.{hidden-holds}
 use Rattle.transition_formula.proofs.Meanings.{identity-holds, sequence-holds, some-left, some-right}
 use Rattle.transition_formula.proofs.SomePosts.{with_entries-fits, with_entries-least}
 use Rattle.checked_tree.specs.Graph.{Graph, vocabulary_at}
-use Rattle.checked_tree.specs.Evaluation.{evaluated, settled_and_fitted}
+use Rattle.checked_tree.specs.Evaluation.{evaluated_cells, settled_and_fitted}
 use Rattle.checked_tree.specs.Law.{HaveCanonicalLeaves, HoldsCell, IsEvaluated, IsRun}
 use Rattle.checked_tree.proofs.Between.{sequence-canonical, settled_and_fitted-covers}
 use Rattle.proc_summary.proofs.Told.{numbers-range}
 use Rattle.newton_rounds.specs.Between.{AreBases, AreChained, GoesBetween, IsGroup, IsMember, base_at, chain_to, width_at}
-use Rattle.newton_rounds.specs.Closure.{chain_end, chains_of, closed_by, closed_member, ends_at, exits_told, group_graph, lost_in_group_leaf, order_from, others_in, pair_cell}
+use Rattle.newton_rounds.specs.Closure.{chain_end, chains_of, closure_at, closed_member, ends_at, exits_told, group_graph, losses_in_group_leaf, order_from, others_in, pair_cell}
 use Rattle.newton_rounds.specs.Pairs.{PairEnds, Stretch}
 use Rattle.newton_rounds.specs.Shapes.{AreEnds}
 use Rattle.newton_rounds.proofs.CanonicalEvaluations.{AreTrueCells, IsCanonicalCell, evaluated-true, formula-canonical, rows-canonical}
@@ -195,8 +195,8 @@ module _ (members : List PairEnds) (stretches : List Stretch) (bases : List Tran
       abbrev HoldsOfChains : Transition → Type 0
       HoldsOfChains f = (before after : List ℤ) → length before ≡ m.ends.entry.columns → length after ≡ m.ends.exit.columns → LeadsToBase place (before ++ after) → Holds f before after
 
-      closed_by-holds : Always HoldsOfChains (closed_by members bases place cells)
-      unfolding closed_by
+      closed_by-holds : Always HoldsOfChains (closure_at members bases place cells)
+      unfolding closure_at
       closed_by-holds =
           let chains = chains_of members bases cells place in
           let over = chains-go members bases place cells chained in
@@ -216,7 +216,7 @@ module _ (members : List PairEnds) (stretches : List Stretch) (bases : List Tran
     pub closed-holds : Always IsClosed (closed_member members stretches bases place)
     unfolding closed_member
     closed-holds =
-        always_bind (λ cells. AreTrueCells graph place is-graph leaves cells × StaysAt graph place cells) IsClosed (Noted (loss_notes (flat_map (lost_in_group_leaf members) stretches)) (evaluated graph place))
-        (λ cells. closed_by members bases place cells)
-        (always_both (AreTrueCells graph place is-graph leaves) (StaysAt graph place) (evaluated graph place) (evaluated-true graph place is-graph leaves) (cells-stay graph place is-graph))
+        always_bind (λ cells. AreTrueCells graph place is-graph leaves cells × StaysAt graph place cells) IsClosed (Noted (loss_notes (flat_map (losses_in_group_leaf members) stretches)) (evaluated_cells graph place))
+        (λ cells. closure_at members bases place cells)
+        (always_both (AreTrueCells graph place is-graph leaves) (StaysAt graph place) (evaluated_cells graph place) (evaluated-true graph place is-graph leaves) (cells-stay graph place is-graph))
         (λ cells both. closed_by-holds cells both.0 both.1)

@@ -14,8 +14,8 @@ use Rattle.linear_terms.specs.declared.error.TermError.{TermError}
 use Rattle.linear_terms.specs.declared.row.Kind.TheVariants.{AtMost}
 use Rattle.linear_terms.specs.declared.row.Row.{Row}
 use Rattle.linear_terms.specs.declared.row.Case.{Case}
-use Rattle.linear_terms.specs.Expressions.{◌⊞◌, negation, turned, whole}
-use Rattle.linear_terms.specs.Operations.{substituted}
+use Rattle.linear_terms.specs.Expressions.{◌⊞◌, negation, negative_of, whole}
+use Rattle.linear_terms.specs.Operations.{substituted_polynomial}
 use Rattle.linear_terms.specs.Polynomial.{Polynomial, constant_of}
 use Rattle.linear_terms.specs.Replacement.{put_in}
 use Rattle.linear_terms.specs.Row.{IsWithin, RowHolds, RowsHold}
@@ -33,7 +33,7 @@ use Rattle.posing.specs.declared.note.Witness.{Witness}
 use Rattle.posing.specs.declared.note.Witness.TheVariants as witness
 use Rattle.posing.specs.Posing.{◌>>=◌, each, AlwaysPassing, IsPassing}
 use Rattle.transition_formula.specs.Hiding.{own_auxiliaries}
-use Rattle.transition_formula.specs.Loss.{answered}
+use Rattle.transition_formula.specs.Loss.{answer_of}
 use Rattle.transition_formula.specs.Meaning.{Holds, HoldsAt, HoldsCase, HoldsLeft, HoldsSome, numbers}
 use Rattle.transition_formula.specs.Rounds.{in_order}
 use Rattle.transition_formula.specs.Transition.{Transition, is_below}
@@ -43,7 +43,7 @@ use Rattle.transition_formula.proofs.Values.{value-agrees}
 use Rattle.leaf_cases.specs.Guard.{columns_of}
 use Rattle.leaf_cases.proofs.Guards.{columns-read}
 use Rattle.newton_rounds.specs.declared.findings.Findings.{Findings}
-use Rattle.newton_rounds.specs.Candidates.{against, contrary, found_in, found_left, outcome, outcome_by, refuted, with_answer, with_case, with_point}
+use Rattle.newton_rounds.specs.Candidates.{against, contrary, findings_in, found_left, outcome, outcome_by, refutation, with_answer, with_case, with_point}
 use Rattle.newton_rounds.specs.Shapes.{IsOverPairs, IsRefutable}
 use Rattle.newton_rounds.proofs.CanonicalOrder.{IsCanonicalCase, IsCanonicalFormula, IsCanonicalRow}
 use Rattle.newton_rounds.proofs.Opposite.{against-solvable, negation-covered}
@@ -63,7 +63,7 @@ decided (pos (suc n)) known = absurd (known (λ h. omega (arith, ints, h)))
 decided (negsuc n) known = omega (arith, ints)
 
 negation-kind : (p : Polynomial) (r : Row) → negation p ≡ Ok r → r.kind ≡ AtMost
-negation-kind p r e = on_ok (turned (Ok p) ⊞ whole (pos 1)) (λ q. Ok record { poly = q; kind = AtMost }) r e (λ q f g. let same : record { poly = q; kind = AtMost } ≡ r = cc in ap (λ (x : Row). x.kind) (sym same))
+negation-kind p r e = on_ok (negative_of (Ok p) ⊞ whole (pos 1)) (λ q. Ok record { poly = q; kind = AtMost }) r e (λ q f g. let same : record { poly = q; kind = AtMost } ≡ r = cc in ap (λ (x : Row). x.kind) (sym same))
 
 pub got : (f : Polynomial → ℤ) (d : Polynomial) (ps : List Polynomial) (n : ℕ) → f d ≡ pos 0 → f (unwrap_or (slice_get ps n) d) ≡ unwrap_or (slice_get (map f ps) n) (pos 0)
 got f d [] n e = e
@@ -93,8 +93,8 @@ module _ (from : ℕ) (case : Case) (row : Row) (over : IsOverPairs from case ro
     -- where the row is false the contrary row is true
     contrary-true : (made : Row) → contrary from case row ≡ Ok made → (RowHolds (pair_numbers (before ++ after)) row → ⊥) → RowHolds at made
     contrary-true made e not =
-        on_ok (negation row.poly) (λ opposite. substituted (put_in pairs own) opposite.poly >>>= λ p. Ok record { poly = p; kind = AtMost }) made e (λ opposite f g.
-        on_ok (substituted (put_in pairs own) opposite.poly) (λ p. Ok record { poly = p; kind = AtMost }) made g (λ p k l.
+        on_ok (negation row.poly) (λ opposite. substituted_polynomial (put_in pairs own) opposite.poly >>>= λ p. Ok record { poly = p; kind = AtMost }) made e (λ opposite f g.
+        on_ok (substituted_polynomial (put_in pairs own) opposite.poly) (λ p. Ok record { poly = p; kind = AtMost }) made g (λ p k l.
         let same : record { poly = p; kind = AtMost } ≡ made = cc in
         let false_there : value_of (pair_numbers (before ++ after)) row.poly ≤ℤ pos 0 → ⊥ = λ le. not (subst (λ kind. IsWithin kind (value_of (pair_numbers (before ++ after)) row.poly)) (sym kind) le) in
         let opposite_true : RowHolds (pair_numbers (before ++ after)) opposite = (RowHolds-negation (pair_numbers (before ++ after)) row.poly opposite f).1 false_there in
@@ -105,22 +105,22 @@ module _ (from : ℕ) (case : Case) (row : Row) (over : IsOverPairs from case ro
         subst (RowHolds at) same (subst (λ z. z ≤ℤ pos 0) (sym value) at_most)))
 
     against-true : (RowHolds (pair_numbers (before ++ after)) row → ⊥) → HoldsAt at (against from case row) after
-    against-true not = record { rows = each-append (RowHolds at) case.rows (option_to_list (answered (contrary from case row))) h.rows (one (contrary from case row) refl); posts = h.posts }
+    against-true not = record { rows = each-append (RowHolds at) case.rows (option_to_list (answer_of (contrary from case row))) h.rows (one (contrary from case row) refl); posts = h.posts }
       where
-        one : (r : Result Row TermError) → contrary from case row ≡ r → RowsHold at (option_to_list (answered r))
+        one : (r : Result Row TermError) → contrary from case row ≡ r → RowsHold at (option_to_list (answer_of r))
         one (Ok made) e = (contrary-true made e not, tt)
         one (Err x) e = tt
 
   contrary-canonical : (made : Row) → contrary from case row ≡ Ok made → IsCanonicalRow made
   contrary-canonical made e =
-      on_ok (negation row.poly) (λ opposite. substituted (put_in pairs own) opposite.poly >>>= λ p. Ok record { poly = p; kind = AtMost }) made e (λ opposite f g.
-      on_ok (substituted (put_in pairs own) opposite.poly) (λ p. Ok record { poly = p; kind = AtMost }) made g (λ p k l.
+      on_ok (negation row.poly) (λ opposite. substituted_polynomial (put_in pairs own) opposite.poly >>>= λ p. Ok record { poly = p; kind = AtMost }) made e (λ opposite f g.
+      on_ok (substituted_polynomial (put_in pairs own) opposite.poly) (λ p. Ok record { poly = p; kind = AtMost }) made g (λ p k l.
       let same : record { poly = p; kind = AtMost } ≡ made = cc in subst IsCanonicalRow same (IsCanonical-substituted (put_in pairs own) opposite.poly p k)))
 
   against-canonical : IsCanonicalCase case → IsCanonicalCase (against from case row)
-  against-canonical h = each-append IsCanonicalRow case.rows (option_to_list (answered (contrary from case row))) h (one (contrary from case row) refl)
+  against-canonical h = each-append IsCanonicalRow case.rows (option_to_list (answer_of (contrary from case row))) h (one (contrary from case row) refl)
     where
-      one : (r : Result Row TermError) → contrary from case row ≡ r → AllByRecursion IsCanonicalRow (option_to_list (answered r))
+      one : (r : Result Row TermError) → contrary from case row ≡ r → AllByRecursion IsCanonicalRow (option_to_list (answer_of r))
       one (Ok made) e = (contrary-canonical made e, tt)
       one (Err x) e = tt
 
@@ -149,7 +149,7 @@ module _ (from : ℕ) (case : Case) (row : Row) (over : IsOverPairs from case ro
   Tells found next = IsClear next → IsClear found × CaseTells
 
   found_in-tells : (found : Findings) (left : Case) (rows : List Row) → left.rows ≡ rows → ((before after : List ℤ) → HoldsCase (against from case row) before after → HoldsCase left before after)
-      → AlwaysPassing (Tells found) (found_in found rows)
+      → AlwaysPassing (Tells found) (findings_in found rows)
   unfolding ◌>>=◌
   found_in-tells found left [] same leads = λ clear. unclear found (witness.Point [] []) clear
   found_in-tells found left (r ∷ rows) same leads = asked
@@ -204,8 +204,8 @@ module _ (f : Transition) (row : Row) (kind : row.kind ≡ AtMost) where
       either before after tells (inr (inr k)) = inr k
 
   -- nothing refutes it: then it is true of each pair of which the formula holds
-  pub refuted-entails : IsCanonicalFormula f → IsRefutable f row → AlwaysPassing (λ by. by ≡ None → Entails f row) (refuted f row)
-  unfolding refuted
+  pub refuted-entails : IsCanonicalFormula f → IsRefutable f row → AlwaysPassing (λ by. by ≡ None → Entails f row) (refutation f row)
+  unfolding refutation
   refuted-entails canonical over =
       under-bind IsPassing (Tells-so-far f.cases []) (λ by. by ≡ None → Entails f row) (each (with_case f.from row) record { point = None; limits = [] } f.cases) (λ found. outcome found)
       (under-each IsPassing (Tells-so-far f.cases) (with_case f.from row) record { point = None; limits = [] } f.cases (λ case rest made k. one-more f.cases rest case made k)

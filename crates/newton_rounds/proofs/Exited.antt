@@ -12,12 +12,12 @@ use Rattle.posing.proofs.Paths.{bind-assoc}
 use Rattle.proc_summary.specs.Flow.{cells_from, columns_of, formula_at}
 use Rattle.proc_summary.specs.Subject.{subject_of}
 use Rattle.proc_summary.specs.Summary.{ends_of, summary_from}
-use Rattle.newton_rounds.specs.Candidates.{unfolded}
+use Rattle.newton_rounds.specs.Candidates.{unfolded_formula}
 use Rattle.newton_rounds.specs.Closure.{base_of, exit_from, pair_ends}
-use Rattle.newton_rounds.specs.Pairs.{PairEnds, base_from, lost_in_base}
+use Rattle.newton_rounds.specs.Pairs.{PairEnds, base_from, losses_in_base}
 
 abbrev pub noted_base : PairEnds → Option Transition → Posing Transition
-noted_base ends exit = Noted (loss_notes (lost_in_base ends exit)) (Done (base_from ends exit))
+noted_base ends exit = Noted (loss_notes (losses_in_base ends exit)) (Done (base_from ends exit))
 
 module _ (program : Program) (known : List (Option Transition)) (p : Proc) where
   pub base-by-exit : exit_from (subject_of program p known) >>= noted_base (pair_ends program p) ≡ base_of program known p
@@ -26,8 +26,8 @@ module _ (program : Program) (known : List (Option Transition)) (p : Proc) where
       bind-assoc (cells_from (subject_of program p known) 0) (λ cells. Done (formula_at (columns_of (subject_of program p known)) cells (subject_of program p known).exit))
       (noted_base (pair_ends program p))
 
-  pub unfolded-by-exit : exit_from (subject_of program p known) >>= summary_from (ends_of program p) ≡ unfolded program known p
-  unfolding exit_from unfolded ◌>>=◌
+  pub unfolded-by-exit : exit_from (subject_of program p known) >>= summary_from (ends_of program p) ≡ unfolded_formula program known p
+  unfolding exit_from unfolded_formula ◌>>=◌
   unfolded-by-exit =
       bind-assoc (cells_from (subject_of program p known) 0) (λ cells. Done (formula_at (columns_of (subject_of program p known)) cells (subject_of program p known).exit))
       (summary_from (ends_of program p))

@@ -22,9 +22,9 @@ use Rattle.leaf_cases.specs.Conditions.{AreKnown, KnownCalls}
 use Rattle.leaf_cases.specs.Summaries.{exit_values}
 use Rattle.checked_tree.specs.Law.{IsBetweenEnds}
 use Rattle.checked_tree.proofs.Between.{IsFewCase, few-cases}
-use Rattle.newton_rounds.specs.declared.dropping.Judged.{Judged}
-use Rattle.newton_rounds.specs.Candidates.{dropped_by, dropped_in, kept_row, members_with, refuted, unfolded, unless_refuted, with_judged, with_round}
-use Rattle.newton_rounds.specs.Closure.{pair_ends, placed_from}
+use Rattle.newton_rounds.specs.declared.dropping.JudgedRow.{JudgedRow}
+use Rattle.newton_rounds.specs.Candidates.{drop_notes_by, drop_notes_in, kept_row, members_with, refutation, unfolded_formula, unless_refuted, with_judged, with_round}
+use Rattle.newton_rounds.specs.Closure.{pair_ends, with_places_from}
 use Rattle.newton_rounds.specs.Shapes.{IsOverPairs, IsRefutable}
 use Rattle.newton_rounds.proofs.CanonicalOrder.{IsCanonicalFormula}
 use Rattle.newton_rounds.proofs.CandidateRows.{ArePairRows, IsPairRow}
@@ -39,33 +39,33 @@ use Rattle.newton_rounds.proofs.Widths.{ends-are}
 -- ---- rows and what refutes them
 
 -- each is judged in its order, and what is not refuted is true
-abbrev pub AreJudged : (Row → Type 0) → List Row → List Judged → Type 0
+abbrev pub AreJudged : (Row → Type 0) → List Row → List JudgedRow → Type 0
 AreJudged True [] [] = Unit {0}
 AreJudged True [] (j ∷ js) = ⊥
 AreJudged True (row ∷ rows) [] = ⊥
 AreJudged True (row ∷ rows) (j ∷ js) = (j.row ≡ row) × (j.by ≡ None → True row) × AreJudged True rows js
 
-pub judged-more : (P Q : Row → Type 0) → ((row : Row) → P row → Q row) → (rows : List Row) (js : List Judged) → AreJudged P rows js → AreJudged Q rows js
+pub judged-more : (P Q : Row → Type 0) → ((row : Row) → P row → Q row) → (rows : List Row) (js : List JudgedRow) → AreJudged P rows js → AreJudged Q rows js
 judged-more P Q more [] [] h = tt
 judged-more P Q more [] (j ∷ js) h = absurd h
 judged-more P Q more (row ∷ rows) [] h = absurd h
 judged-more P Q more (row ∷ rows) (j ∷ js) h = (h.0, (λ e. more row (h.1 e)), judged-more P Q more rows js h.2)
 
 -- it is judged itself
-judged-of : (True : Row → Type 0) (rows : List Row) (js : List Judged) → AreJudged True rows js → AreOf rows js
+judged-of : (True : Row → Type 0) (rows : List Row) (js : List JudgedRow) → AreJudged True rows js → AreOf rows js
 judged-of True [] [] h = tt
 judged-of True [] (j ∷ js) h = absurd h
 judged-of True (row ∷ rows) [] h = absurd h
 judged-of True (row ∷ rows) (j ∷ js) h = (h.0, judged-of True rows js h.2)
 
 -- where no note says so, all are kept and true
-kept-all : (True : Row → Type 0) (place : ℕ) (rows : List Row) (js : List Judged) → AreJudged True rows js → dropped_in (place, js) ≡ [] → (filter_map kept_row js ≡ rows) × AllByRecursion True rows
+kept-all : (True : Row → Type 0) (place : ℕ) (rows : List Row) (js : List JudgedRow) → AreJudged True rows js → drop_notes_in (place, js) ≡ [] → (filter_map kept_row js ≡ rows) × AllByRecursion True rows
 kept-all True place [] [] h none = (refl, tt)
 kept-all True place [] (j ∷ js) h none = absurd h
 kept-all True place (row ∷ rows) [] h none = absurd h
 kept-all True place (row ∷ rows) (j ∷ js) h none = go j.by h.1 none (λ later. kept-all True place rows js h.2 later)
   where
-    go : (by : Option Witness) → (by ≡ None → True row) → dropped_by place j.row by ++ dropped_in (place, js) ≡ [] → (dropped_in (place, js) ≡ [] → (filter_map kept_row js ≡ rows) × AllByRecursion True rows)
+    go : (by : Option Witness) → (by ≡ None → True row) → drop_notes_by place j.row by ++ drop_notes_in (place, js) ≡ [] → (drop_notes_in (place, js) ≡ [] → (filter_map kept_row js ≡ rows) × AllByRecursion True rows)
         → (cons_option (unless_refuted j.row by) (filter_map kept_row js) ≡ row ∷ rows) × AllByRecursion True (row ∷ rows)
     go None tells e later = let rest = later e in ((λ i. h.0 i ∷ rest.0 i), (tells refl, rest.1))
     go (Some w) tells e later = absurd (cc)
@@ -92,22 +92,22 @@ module _ (f : Transition) (columns : ℕ) (from to : Vocabulary) (between : IsBe
       (each-both (Fitting f.from f.to) IsFewCase f.cases (each_from_test (fits f.from f.to) (Fitting f.from f.to) (λ case h. fitting f.from f.to case h) f.cases between.between.fits) (few-cases f.cases between.fitted)))
 
 -- a row for each step
-judged-step : (True : Row → Type 0) (all : List Row) (rows : List Row) (row : Row) (made : List Judged) (j : Judged)
-    → ((js : List Judged) → AreJudged True (row ∷ rows) js → AreJudged True all (made ++ js)) → j.row ≡ row → (j.by ≡ None → True row)
-    → (js : List Judged) → AreJudged True rows js → AreJudged True all ((made ++ j ∷ []) ++ js)
+judged-step : (True : Row → Type 0) (all : List Row) (rows : List Row) (row : Row) (made : List JudgedRow) (j : JudgedRow)
+    → ((js : List JudgedRow) → AreJudged True (row ∷ rows) js → AreJudged True all (made ++ js)) → j.row ≡ row → (j.by ≡ None → True row)
+    → (js : List JudgedRow) → AreJudged True rows js → AreJudged True all ((made ++ j ∷ []) ++ js)
 judged-step True all rows row made j so_far same tells js h = subst (AreJudged True all) (sym (append_assoc made (j ∷ []) js)) (so_far (j ∷ js) (same, tells, h))
 
-abbrev MadeSoFar : (Row → Type 0) → List Row → List Row → List Judged → Type 0
-MadeSoFar True all rest made = (js : List Judged) → AreJudged True rest js → AreJudged True all (made ++ js)
+abbrev MadeSoFar : (Row → Type 0) → List Row → List Row → List JudgedRow → Type 0
+MadeSoFar True all rest made = (js : List JudgedRow) → AreJudged True rest js → AreJudged True all (made ++ js)
 
 module _ (f : Transition) (columns : ℕ) (canonical : IsCanonicalFormula f) (ready : (row : Row) → IsPairRow columns row → IsRefutable f row) where
-  abbrev RowsLeft : List Row → List Row → List Judged → Type 0
+  abbrev RowsLeft : List Row → List Row → List JudgedRow → Type 0
   RowsLeft rows rest made = ArePairRows columns rest × MadeSoFar (Entails f) rows rest made
 
-  row-judged : (rows : List Row) (row : Row) (rest : List Row) (made : List Judged) → RowsLeft rows (row ∷ rest) made → AlwaysPassing (RowsLeft rows rest) (with_judged f made row)
+  row-judged : (rows : List Row) (row : Row) (rest : List Row) (made : List JudgedRow) → RowsLeft rows (row ∷ rest) made → AlwaysPassing (RowsLeft rows rest) (with_judged f made row)
   unfolding with_judged
   row-judged rows row rest made k =
-      under-bind IsPassing (λ by. by ≡ None → Entails f row) (RowsLeft rows rest) (refuted f row) (λ by. Done (made ++ record { row = row; by = by } ∷ []))
+      under-bind IsPassing (λ by. by ≡ None → Entails f row) (RowsLeft rows rest) (refutation f row) (λ by. Done (made ++ record { row = row; by = by } ∷ []))
       (refuted-entails f row k.0.0.kind canonical (ready row k.0.0))
       (λ by tells. (k.0.1, judged-step (Entails f) rows rest row made (record { row = row; by = by }) k.1 refl tells))
 
@@ -146,7 +146,7 @@ module _ (program : Program) (formed : IsWellFormed program) where
 
   module _ (known : List (Option Transition)) (are : AreKnown program known) where
     -- the rows of each member are judged
-    abbrev pub AreAllJudged : List (Proc × List Row) → List (List Judged) → Type 0
+    abbrev pub AreAllJudged : List (Proc × List Row) → List (List JudgedRow) → Type 0
     AreAllJudged [] [] = Unit {0}
     AreAllJudged [] (js ∷ all) = ⊥
     AreAllJudged (m ∷ ms) [] = ⊥
@@ -155,13 +155,13 @@ module _ (program : Program) (formed : IsWellFormed program) where
     abbrev IsReady : Proc × List Row → Type 0
     IsReady m = IsProcedure program m.0 × ArePairRows (columns_of_pair m.0) m.1
 
-    abbrev AllSoFar : List (Proc × List Row) → List (Proc × List Row) → List (List Judged) → Type 0
-    AllSoFar all rest made = (jss : List (List Judged)) → AreAllJudged rest jss → AreAllJudged all (made ++ jss)
+    abbrev AllSoFar : List (Proc × List Row) → List (Proc × List Row) → List (List JudgedRow) → Type 0
+    AllSoFar all rest made = (jss : List (List JudgedRow)) → AreAllJudged rest jss → AreAllJudged all (made ++ jss)
 
     -- it does not matter by which number the procedure goes
-    every-number : (p : Proc) → Always (λ f. (number : (proc : ℕ) × (slice_get program.procs proc ≡ Some p)) → IsUnfolded program number.0 p known number.1 formed are f) (unfolded program known p)
+    every-number : (p : Proc) → Always (λ f. (number : (proc : ℕ) × (slice_get program.procs proc ≡ Some p)) → IsUnfolded program number.0 p known number.1 formed are f) (unfolded_formula program known p)
     every-number p =
-        always_every (λ number f. IsUnfolded program number.0 p known number.1 formed are f) (unfolded program known p)
+        always_every (λ number f. IsUnfolded program number.0 p known number.1 formed are f) (unfolded_formula program known p)
         (λ (number : (proc : ℕ) × (slice_get program.procs proc ≡ Some p)). unfolded-tells program number.0 p known number.1 formed are)
 
     member-judged : (p : Proc) (rows : List Row) → IsProcedure program p → ArePairRows (columns_of_pair p) rows → (f : Transition)
@@ -176,13 +176,13 @@ module _ (program : Program) (formed : IsWellFormed program) where
         (rows-judged f (columns_of_pair p) own.canonical
         (refutable f (columns_of_pair p) (pair_ends program p).ends.entry (pair_ends program p).ends.exit own.between (sym wide) (omega (arith, few))) rows over)
 
-    with_round-judged : (all : List (Proc × List Row)) (m : Proc × List Row) (rest : List (Proc × List Row)) (made : List (List Judged)) → AllByRecursion IsReady (m ∷ rest) × AllSoFar all (m ∷ rest) made
+    with_round-judged : (all : List (Proc × List Row)) (m : Proc × List Row) (rest : List (Proc × List Row)) (made : List (List JudgedRow)) → AllByRecursion IsReady (m ∷ rest) × AllSoFar all (m ∷ rest) made
         → AlwaysPassing (λ next. AllByRecursion IsReady rest × AllSoFar all rest next) (with_round program known made m)
     unfolding with_round
     with_round-judged all m rest made k =
         under-bind IsPassing (λ f. (number : (proc : ℕ) × (slice_get program.procs proc ≡ Some m.0)) → IsUnfolded program number.0 m.0 known number.1 formed are f) (λ next. AllByRecursion IsReady rest × AllSoFar all rest next)
-        (unfolded program known m.0) (λ f. each (with_judged f) [] m.1 >>= λ judged. Done (made ++ judged ∷ []))
-        (passing-always _ (unfolded program known m.0) (every-number m.0))
+        (unfolded_formula program known m.0) (λ f. each (with_judged f) [] m.1 >>= λ judged. Done (made ++ judged ∷ []))
+        (passing-always _ (unfolded_formula program known m.0) (every-number m.0))
         (λ f tells. under-bind IsPassing (AreJudged (IsTrueOf known m.0) m.1) (λ next. AllByRecursion IsReady rest × AllSoFar all rest next) (each (with_judged f) [] m.1) (λ judged. Done (made ++ judged ∷ []))
         (member-judged m.0 m.1 k.0.0.0 k.0.0.1 f tells)
         (λ judged h. (k.0.1, λ jss more. subst (AreAllJudged all) (sym (append_assoc made (judged ∷ []) jss)) (k.1 (judged ∷ jss) (h, more)))))
@@ -200,7 +200,7 @@ module _ (program : Program) (formed : IsWellFormed program) where
     all-ready (p ∷ ps) [] members h = tt
     all-ready (p ∷ ps) (rows ∷ candidates) members h = ((members.0, h.0), all-ready ps candidates members.1 h.1)
 
-    pub kept-candidates : (ps : List Proc) (candidates : List (List Row)) (jss : List (List Judged)) → AreCandidates ps candidates → AreAllJudged (members_with ps candidates) jss → AreCandidates ps (map (filter_map kept_row) jss)
+    pub kept-candidates : (ps : List Proc) (candidates : List (List Row)) (jss : List (List JudgedRow)) → AreCandidates ps candidates → AreAllJudged (members_with ps candidates) jss → AreCandidates ps (map (filter_map kept_row) jss)
     kept-candidates [] [] [] h k = tt
     kept-candidates [] [] (js ∷ jss) h k = absurd k
     kept-candidates [] (rows ∷ candidates) jss h k = absurd h
@@ -209,7 +209,7 @@ module _ (program : Program) (formed : IsWellFormed program) where
     kept-candidates (p ∷ ps) (rows ∷ candidates) (js ∷ jss) h k =
         (kept-over (IsPairRow (columns_of_pair p)) rows js (judged-of (IsTrueOf known p) rows js k.0) h.0, kept-candidates ps candidates jss h.1 k.1)
 
-    pub all-of : (ps : List Proc) (candidates : List (List Row)) (jss : List (List Judged)) → AreCandidates ps candidates → AreAllJudged (members_with ps candidates) jss → AllZip AreOf candidates jss
+    pub all-of : (ps : List Proc) (candidates : List (List Row)) (jss : List (List JudgedRow)) → AreCandidates ps candidates → AreAllJudged (members_with ps candidates) jss → AllZip AreOf candidates jss
     all-of [] [] [] h k = tt
     all-of [] [] (js ∷ jss) h k = absurd k
     all-of [] (rows ∷ candidates) jss h k = absurd h
@@ -222,15 +222,15 @@ module _ (program : Program) (formed : IsWellFormed program) where
     both-none (x ∷ xs) ys e = absurd (cc)
 
     -- where it drops none, it keeps all, and all are true
-    pub kept-true : (place : ℕ) (ps : List Proc) (candidates : List (List Row)) (jss : List (List Judged)) → AreCandidates ps candidates → AreAllJudged (members_with ps candidates) jss
-        → flat_map dropped_in (placed_from place jss) ≡ [] → (map (filter_map kept_row) jss ≡ candidates) × AreTrueOf known ps candidates
+    pub kept-true : (place : ℕ) (ps : List Proc) (candidates : List (List Row)) (jss : List (List JudgedRow)) → AreCandidates ps candidates → AreAllJudged (members_with ps candidates) jss
+        → flat_map drop_notes_in (with_places_from place jss) ≡ [] → (map (filter_map kept_row) jss ≡ candidates) × AreTrueOf known ps candidates
     kept-true place [] [] [] h k none = (refl, tt)
     kept-true place [] [] (js ∷ jss) h k none = absurd k
     kept-true place [] (rows ∷ candidates) jss h k none = absurd h
     kept-true place (p ∷ ps) [] jss h k none = absurd h
     kept-true place (p ∷ ps) (rows ∷ candidates) [] h k none = absurd k
     kept-true place (p ∷ ps) (rows ∷ candidates) (js ∷ jss) h k none =
-        let parts = both-none (dropped_in (place, js)) (flat_map dropped_in (placed_from (place + 1) jss)) none in
+        let parts = both-none (drop_notes_in (place, js)) (flat_map drop_notes_in (with_places_from (place + 1) jss)) none in
         let one = kept-all (IsTrueOf known p) place rows js k.0 parts.0 in
         let more = kept-true (place + 1) ps candidates jss h.1 k.1 parts.1 in
         ((λ i. one.0 i ∷ more.0 i), (one.1, more.1))

@@ -17,7 +17,7 @@ use Rattle.path_expr.proofs.WayWalks.{language_is_walks}
 use Rattle.posing.specs.Posing.{Done, Always}
 use Rattle.posing.proofs.Paths.{always_any, always_bind}
 use Rattle.polyhedra.specs.Vocabulary.{Vocabulary}
-use Rattle.checked_tree.specs.Evaluation.{Made, cell_at, cell_of, cells_of, evaluated, evaluation}
+use Rattle.checked_tree.specs.Evaluation.{Made, cell_at, cell_of, cells_of, evaluated_cells, evaluation}
 use Rattle.checked_tree.specs.Graph.{Graph, vocabulary_at}
 use Rattle.checked_tree.specs.Law.{AreFittedCells, FitsCell, IsEvaluated}
 use Rattle.newton_rounds.specs.Between.{AreChainsFrom, GoesBetween, IsGroup, chain_to, width_at}
@@ -43,8 +43,8 @@ one-path made (Seq a b) e = absurd (cc e)
 one-path made (Join a b) e = absurd (cc e)
 one-path made (Star a) e = absurd (cc e)
 
-pub cells-stay : (g : Graph) (source : ℕ) → IsEvaluated g source → Always (StaysAt g source) (evaluated g source)
-unfolding evaluated
+pub cells-stay : (g : Graph) (source : ℕ) → IsEvaluated g source → Always (StaysAt g source) (evaluated_cells g source)
+unfolding evaluated_cells
 cells-stay g source is =
     always_bind (λ made. Unit {0}) (StaysAt g source) (evaluation g source) (λ made. Done (cells_of g source made)) (always_any (λ made. Unit {0}) (evaluation g source) (λ made. tt))
     (λ made any n lt e.

@@ -17,7 +17,7 @@ use Rattle.transition_formula.proofs.Fitting.{sequence_of-fits}
 use Rattle.flow_graph.specs.FlowGraph.{Arc, FlowGraph}
 use Rattle.flow_graph.proofs.Within.{arcs_within}
 use Rattle.leaf_cases.specs.Conditions.{AreKnown, IsActOf, IsKnown, exits_of}
-use Rattle.leaf_cases.specs.Edges.{any_case, arguments_of, awaited, call_of, call_sequence, cut, entering, known_call, leaf_of, leaving_case, set_case}
+use Rattle.leaf_cases.specs.Edges.{any_case, arguments_of, awaited_count, call_of, call_sequence, cut, entering, known_call, leaf_of, leaving_case, set_case}
 use Rattle.leaf_cases.specs.Expression.{lists_of}
 use Rattle.leaf_cases.specs.Guard.{columns_of, with_posts}
 use Rattle.leaf_cases.proofs.Arguments.{arguments-fit}
@@ -37,10 +37,10 @@ module _ (program : Program) (width : ℕ) (wide : length program.globals ≤ wi
   abbrev globals : ℕ
   globals = length program.globals
 
-  awaited-there : (callee : Proc) (into : Option ℕ) → IsTrue (callee.returns || not (is_some into)) → awaited globals into ≤ exits_of program callee
+  awaited-there : (callee : Proc) (into : Option ℕ) → IsTrue (callee.returns || not (is_some into)) → awaited_count globals into ≤ exits_of program callee
   awaited-there callee into h = go callee.returns into h
     where
-      go : (b : Bool) (into : Option ℕ) → IsTrue (b || not (is_some into)) → awaited globals into ≤ cond b (globals + 1) globals
+      go : (b : Bool) (into : Option ℕ) → IsTrue (b || not (is_some into)) → awaited_count globals into ≤ cond b (globals + 1) globals
       go true None h = omega arith
       go true (Some col) h = omega arith
       go false None h = omega arith
@@ -50,12 +50,12 @@ module _ (program : Program) (width : ℕ) (wide : length program.globals ≤ wi
   call-fits proc args into f fit is =
       let k : IsKnown program fit.callee f = are.fit proc fit.callee f fit.is is in
       let a = entering width globals (length args) (arguments_of args).cases in
-      let b = cut (awaited globals into) f in
+      let b = cut (awaited_count globals into) f in
       let enters = k.enters in
       let params = fit.params in
       leaving_fits width globals into (call_sequence width globals args into f).cases (map (leaving_case width globals into) (call_sequence width globals args into f).cases) wide
       (sequence_of-fits a b (omega (arith, enters, params)) (entering_fits width globals (length args) (arguments_of args).cases a.cases wide (arguments-fit width args fit.below) refl)
-      (cut_fits (awaited globals into) f b.cases (subst (λ n. awaited globals into ≤ n) (sym k.leaves) (awaited-there fit.callee into fit.returns)) k.fits refl)) refl
+      (cut_fits (awaited_count globals into) f b.cases (subst (λ n. awaited_count globals into ≤ n) (sym k.leaves) (awaited-there fit.callee into fit.returns)) k.fits refl)) refl
 
   pub leaf-fits : (s : Statement) → EdgeFits program width s → IsFit (leaf_of width globals known s)
   leaf-fits (Guard e) fit = guard_fits width (lists_of e).truth.cases (map (with_posts (columns_of width)) (lists_of e).truth.cases) (truth_covered width e (lists_of e).truth.cases (lists_of e).truth.cases fit.below refl refl) refl

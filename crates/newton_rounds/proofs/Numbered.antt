@@ -9,7 +9,7 @@ use Rattle.items.proofs.Each.{each-append, each-more}
 use Rattle.linear_terms.specs.declared.row.Case.{Case}
 use Rattle.transition_formula.specs.Composition.{after_case, sequence_of_cases}
 use Rattle.transition_formula.specs.Hiding.{hidden_case, hiding}
-use Rattle.transition_formula.specs.Loss.{answered}
+use Rattle.transition_formula.specs.Loss.{answer_of}
 use Rattle.transition_formula.specs.Transition.{Transition, fits, IsTransition}
 use Rattle.transition_formula.proofs.Covered.{both}
 use Rattle.transition_formula.proofs.Fitting.{fitting}
@@ -36,7 +36,7 @@ after-few j k between to first [] le h l = tt
 after-few j k between to first (second ∷ seconds) le h l =
     let parts = both (fits between to second) (list_all (fits between to) seconds) h in
     let long = (fitting between to second parts.0).length_is in
-    let lost = count_by-le-length (λ p. is_none (answered (after_case first second p))) second.post in
+    let lost = count_by-le-length (λ p. is_none (answer_of (after_case first second p))) second.post in
     let few = l.0 in
     (omega (arith, le, few, lost, long), after-few j k between to first seconds le parts.1 l.1)
 
@@ -53,7 +53,7 @@ hidden-few n from to most [] h l = tt
 hidden-few n from to most (case ∷ cases) h l =
     let parts = both (fits from to case) (list_all (fits from to) cases) h in
     let long = (fitting from to case parts.0).length_is in
-    let lost = count_by-le-length (λ p. is_none (answered (hiding n from case p))) case.post in
+    let lost = count_by-le-length (λ p. is_none (answer_of (hiding n from case p))) case.post in
     let few = l.0 in
     (omega (arith, few, lost, long), hidden-few n from to most cases parts.1 l.1)
 

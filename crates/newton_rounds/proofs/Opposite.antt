@@ -13,12 +13,12 @@ use Rattle.linear_terms.specs.declared.row.Case.{Case}
 use Rattle.linear_terms.specs.declared.row.Kind.TheVariants.{AtMost}
 use Rattle.linear_terms.specs.declared.row.Row.{Row}
 use Rattle.linear_terms.specs.Expressions.{negation}
-use Rattle.linear_terms.specs.Operations.{multiple_of, substituted, sum_of_polys}
+use Rattle.linear_terms.specs.Operations.{multiple_of, substituted_polynomial, sum_of_polys}
 use Rattle.linear_terms.specs.Polynomial.{Polynomial, column_of, constant_of}
 use Rattle.linear_terms.specs.Replacement.{HasPoly, put_in}
 use Rattle.linear_terms.proofs.Columns.{multiple_of-each, sum_of_polys-each}
 use Rattle.transition_formula.specs.Hiding.{own_auxiliaries}
-use Rattle.transition_formula.specs.Loss.{answered}
+use Rattle.transition_formula.specs.Loss.{answer_of}
 use Rattle.transition_formula.specs.Transition.{every_column, fits, is_below, IsSolvable}
 use Rattle.transition_formula.proofs.Covered.{both, both_true, columns_from_test, every_column-Decides, more_columns, substituted-carries, test_from_columns}
 use Rattle.transition_formula.proofs.Fitted.{fits-solvable}
@@ -76,7 +76,7 @@ module _ (from : ℕ) (case : Case) (row : Row) (over : IsOverPairs from case ro
   contrary-covered : (made : Row) → contrary from case row ≡ Ok made → IsTrue (every_column (is_below from case.aux) made.poly)
   contrary-covered made e =
       let first = bind-ok (negation row.poly) _ made e in
-      let second = bind-ok (substituted (put_in pairs (own_auxiliaries case.aux)) first.0.poly) (λ p. Ok record { poly = p; kind = AtMost }) made first.2 in
+      let second = bind-ok (substituted_polynomial (put_in pairs (own_auxiliaries case.aux)) first.0.poly) (λ p. Ok record { poly = p; kind = AtMost }) made first.2 in
       subst (λ (r : Row). IsTrue (every_column (is_below from case.aux) r.poly)) (one-ok refl second.2)
       ((substituted-carries (put_in pairs (own_auxiliaries case.aux)) (is_below (from + length case.post) 0) (is_below from case.aux) put-covered).to first.0.poly second.0 second.1
       (negation-covered (is_below (from + length case.post) 0) row.poly first.0 first.1 over.row_is))
@@ -86,11 +86,11 @@ module _ (from : ℕ) (case : Case) (row : Row) (over : IsOverPairs from case ro
       let f = fitting from (length case.post) case over.case_is in
       from_fitting from (length case.post) (against from case row) record {
         length_is = refl;
-        rows_are = appended (λ (r : Row). every_column (is_below from case.aux) r.poly) case.rows (option_to_list (answered (contrary from case row))) f.rows_are (one (contrary from case row) refl);
+        rows_are = appended (λ (r : Row). every_column (is_below from case.aux) r.poly) case.rows (option_to_list (answer_of (contrary from case row))) f.rows_are (one (contrary from case row) refl);
         posts_are = f.posts_are;
       }
     where
-      one : (r : Result Row TermError) → contrary from case row ≡ r → IsTrue (list_all (λ (r : Row). every_column (is_below from case.aux) r.poly) (option_to_list (answered r)))
+      one : (r : Result Row TermError) → contrary from case row ≡ r → IsTrue (list_all (λ (r : Row). every_column (is_below from case.aux) r.poly) (option_to_list (answer_of r)))
       one (Ok made) e = both_true (every_column (is_below from case.aux) made.poly) true (contrary-covered made e) refl
       one (Err x) e = refl
 

@@ -15,7 +15,7 @@ use Rattle.linear_terms.specs.Value.{Valuation, value_of}
 use Rattle.syntax_tree.specs.Term.{Term}
 use Rattle.syntax_tree.specs.WellFormed.{all_columns_below}
 use Rattle.execution.specs.Step.{values_of}
-use Rattle.transition_formula.specs.Equating.{equated}
+use Rattle.transition_formula.specs.Equating.{equated_formula}
 use Rattle.transition_formula.specs.Composition.{sequence_of}
 use Rattle.transition_formula.specs.Meaning.{Holds, HoldsSome, numbers}
 use Rattle.transition_formula.specs.Posts.{numbers_at}
@@ -27,7 +27,7 @@ use Rattle.transition_formula.proofs.PostsAsEntries.{StandFrom, equated-holds}
 use Rattle.transition_formula.proofs.SomePosts.{with_posts-holds}
 use Rattle.transition_formula.proofs.Values.{column-value, posts-agree, rows-agree}
 use Rattle.flow_graph.specs.Walks as walks
-use Rattle.leaf_cases.specs.Edges.{arguments_of, entering, received}
+use Rattle.leaf_cases.specs.Edges.{arguments_of, entering, posts_with_value}
 use Rattle.leaf_cases.specs.Guard as cases
 use Rattle.leaf_cases.specs.Steps.{operand}
 use Rattle.leaf_cases.specs.Summaries.{if_returned}
@@ -37,7 +37,7 @@ use Rattle.proc_summary.specs.Claims.{HoldsIf}
 use Rattle.proc_summary.specs.Summary.{exit_formula, exit_places}
 use Rattle.proc_summary.proofs.Graphs.{length-after}
 use Rattle.proc_summary.proofs.Told.{numbers-range}
-use Rattle.newton_rounds.specs.Pairs.{PairEnds, Stretch, along, call_entry, call_exit, callee_width, carrying, carrying_case, columns_from, entered_case, exit_columns, pair_formula, returned, Stations, stations_of}
+use Rattle.newton_rounds.specs.Pairs.{PairEnds, Stretch, along, call_entry, call_exit, callee_width, carrying, carrying_case, columns_from, entered_case, exit_columns, pair_formula, posts_after_return, Stations, stations_of}
 use Rattle.newton_rounds.specs.Shapes.{IsStretchBetween}
 use Rattle.checked_tree.proofs.Between.{sequence-canonical}
 use Rattle.newton_rounds.proofs.CanonicalEvaluations.{formula-canonical, rows-canonical}
@@ -105,7 +105,7 @@ call_entry-holds columns globals args le below there values long are =
 
 -- ---- its exit
 
-received-read : (at : Valuation) (into : Option ℕ) (value : Polynomial) (posts : List Polynomial) → map (value_of at) (received into value posts) ≡ walks.received into (value_of at value) (map (value_of at) posts)
+received-read : (at : Valuation) (into : Option ℕ) (value : Polynomial) (posts : List Polynomial) → map (value_of at) (posts_with_value into value posts) ≡ walks.received into (value_of at value) (map (value_of at) posts)
 received-read at None value posts = refl
 received-read at (Some col) value posts = map-set (value_of at) posts col value
 
@@ -140,7 +140,7 @@ call_exit-holds columns globals into there entry left value returns long short a
     let back : map (value_of at) (drop globals (cases.columns_of columns)) ≡ drop globals there = map-drop (value_of at) globals (cases.columns_of columns) ∙ ap (drop globals) own in
     let first : value_of at (operand globals record { aux = 0; rows = []; post = values }) ≡ read_number exits (length left) =
     got (value_of at) (constant_of (pos 0)) values globals refl ∙ (λ i. unwrap_or (slice_get (read i) (sym short i)) (pos 0)) in
-    let state : map (value_of at) (returned columns globals into values) ≡ walks.received into value (left ++ drop globals there) =
+    let state : map (value_of at) (posts_after_return columns globals into values) ≡ walks.received into value (left ++ drop globals there) =
     received-read at into (operand globals record { aux = 0; rows = []; post = values }) (take globals values ++ drop globals (cases.columns_of columns))
     ∙ (λ i. walks.received into (first i) ((map-append (value_of at) (take globals values) (drop globals (cases.columns_of columns)) ∙ (λ j. front j ++ back j)) i))
     ∙ received-same into returns left value (left ++ drop globals there) awaits in
@@ -151,7 +151,7 @@ call_exit-holds columns globals into there entry left value returns long short a
         read_number exits,
         record {
           rows = tt;
-          posts = map-append (value_of at) (returned columns globals into values) (columns_from columns (length entry) ++ values)
+          posts = map-append (value_of at) (posts_after_return columns globals into values) (columns_from columns (length entry) ++ values)
               ∙ (λ i. state i ++ (map-append (value_of at) (columns_from columns (length entry)) values ∙ (λ j. carried j ++ read j)) i);
         },
       );
@@ -284,7 +284,7 @@ module _ (caller callee : PairEnds) (s : Stretch) (is : IsStretchBetween caller 
         let behind : numbers_at (range_with_len columns width) (final ++ rest) ≡ rest =
         numbers-range columns width (final ++ rest) (omega (arith, all, final-long, rest-long)) ∙ (λ i. take width (drop (sym final-long i) (final ++ rest))) ∙ ap (take width) (drop-append_seam final rest) ∙ take_all width rest (omega (arith, rest-long)) in
         subst (Holds (pair_formula caller callee s) pair) behind
-        (with_posts-holds (range_with_len columns width) (equated caller.ends.entry.columns places (along stations)) pair (final ++ rest)
+        (with_posts-holds (range_with_len columns width) (equated_formula caller.ends.entry.columns places (along stations)) pair (final ++ rest)
         (equated-holds caller.ends.entry.columns places (along stations) pair (final ++ rest) stand along-holds))
 
   -- its rows are canonical
@@ -293,5 +293,5 @@ module _ (caller callee : PairEnds) (s : Stretch) (is : IsStretchBetween caller 
       let two = sequence-canonical stations.first stations.second (rows-canonical stations.first (told-canonical caller is.caller_is s.before is.before h)) in
       let three = sequence-canonical (sequence_of stations.first stations.second) stations.third two in
       let four = sequence-canonical (sequence_of (sequence_of stations.first stations.second) stations.third) stations.fourth three in
-      posts-canonical (range_with_len columns (callee_width caller.ends callee.ends s.call.args)) (equated caller.ends.entry.columns (exit_places caller.ends) (along stations))
+      posts-canonical (range_with_len columns (callee_width caller.ends callee.ends s.call.args)) (equated_formula caller.ends.entry.columns (exit_places caller.ends) (along stations))
       (equated-canonical caller.ends.entry.columns (exit_places caller.ends) (along stations) (formula-canonical (along stations) four))

@@ -13,7 +13,7 @@ use Rattle.linear_terms.specs.declared.row.Case.{Case}
 use Rattle.linear_terms.specs.Expressions.{◌⊟◌, column}
 use Rattle.linear_terms.specs.Polynomial.{Polynomial}
 use Rattle.transition_formula.specs.Composition.{row_of}
-use Rattle.transition_formula.specs.Equating.{differences, equated, equated_case}
+use Rattle.transition_formula.specs.Equating.{differences, equated_formula, equated_case}
 use Rattle.transition_formula.specs.Hiding.{hidden}
 use Rattle.transition_formula.specs.Meaning.{Holds, numbers}
 use Rattle.transition_formula.specs.Posts.{case_with_posts, numbers_at, posts_at, with_posts}
@@ -52,7 +52,7 @@ differences-canonical first (post ∷ posts) = go (column (At first) ⊟ Ok post
     go (Ok p) e later = ((canonical-difference (column (At first)) (Ok post) (canonical-column (At first))).as_made p e, later)
     go (Err x) e later = later
 
-pub equated-canonical : (first : ℕ) (places : List ℕ) (f : Transition) → IsCanonicalFormula f → IsCanonicalFormula (equated first places f)
+pub equated-canonical : (first : ℕ) (places : List ℕ) (f : Transition) → IsCanonicalFormula f → IsCanonicalFormula (equated_formula first places f)
 equated-canonical first places f h =
     each-map IsCanonicalCase IsCanonicalCase (equated_case first places)
     (λ case k. each-append IsCanonicalRow case.rows (filter_map (row_of Equal) (differences first (posts_at places case.post))) k (differences-canonical first (posts_at places case.post))) f.cases h
@@ -100,10 +100,10 @@ module _ (m : PairEnds) (ends : AreEnds m) (f : Option Transition) (fit : FitsIf
   -- the base holds of an activation without a call of the group
   pub base-holds : (before exits after : List ℤ) → length exits ≡ m.ends.exit.columns → numbers_at (exit_places m.ends) after ≡ exits → HoldsIf f before after → Holds (base_from m f) (take m.ends.entry.columns before ++ exits) []
   base-holds before exits after long are h =
-      with_posts-holds [] (equated m.ends.entry.columns (exit_places m.ends) (entry_told m f)) (take m.ends.entry.columns before ++ exits) after
+      with_posts-holds [] (equated_formula m.ends.entry.columns (exit_places m.ends) (entry_told m f)) (take m.ends.entry.columns before ++ exits) after
       (equated-holds m.ends.entry.columns (exit_places m.ends) (entry_told m f) (take m.ends.entry.columns before ++ exits) after
       (subst (StandFrom (take m.ends.entry.columns before ++ exits) m.ends.entry.columns) (sym are) (told-stand before exits after h))
       (entry_told-holds before exits after long h))
 
   pub base-canonical : IsCanonicalExit f → IsCanonicalFormula (base_from m f)
-  base-canonical h = posts-canonical [] (equated m.ends.entry.columns (exit_places m.ends) (entry_told m f)) (equated-canonical m.ends.entry.columns (exit_places m.ends) (entry_told m f) (told-canonical h))
+  base-canonical h = posts-canonical [] (equated_formula m.ends.entry.columns (exit_places m.ends) (entry_told m f)) (equated-canonical m.ends.entry.columns (exit_places m.ends) (entry_told m f) (told-canonical h))

@@ -6,7 +6,7 @@ use Rattle.std.proofs.lemmas.List.FromFn.{length-range_with_len}
 use Rattle.items.proofs.Each.{each-map}
 use Rattle.linear_terms.specs.declared.row.Case.{Case}
 use Rattle.transition_formula.specs.Composition.{sequence_of}
-use Rattle.transition_formula.specs.Equating.{equated, equated_case}
+use Rattle.transition_formula.specs.Equating.{equated_formula, equated_case}
 use Rattle.transition_formula.specs.Posts.{case_with_posts}
 use Rattle.transition_formula.specs.Transition.{Transition, IsTransition, every_column, is_below}
 use Rattle.transition_formula.proofs.Fitting.{sequence-fits}
@@ -123,7 +123,7 @@ module _ (caller callee : PairEnds) (s : Stretch) (is : IsStretchBetween caller 
       (sequence-few 190 800000 columns (columns + entry) first.cases second.cases second-fits (told-has caller is.caller_is s.before is.before) second-few)
       (exit-few callee is.callee_is, tt)) fourth-few)
 
-  equal-fits : IsTransition caller.pair.columns (columns + width) (equated caller.ends.entry.columns (exit_places caller.ends) whole).cases
+  equal-fits : IsTransition caller.pair.columns (columns + width) (equated_formula caller.ends.entry.columns (exit_places caller.ends) whole).cases
   equal-fits = equated-fits caller.ends.entry.columns (exit_places caller.ends) whole (told-along caller callee s is) (pair-holds caller is.caller_is) whole-fits
 
   equal-few : (cases : List Case) → HasFew 900000 cases → HasFew 900000 (map (equated_case caller.ends.entry.columns (exit_places caller.ends)) cases)
@@ -132,7 +132,7 @@ module _ (caller callee : PairEnds) (s : Stretch) (is : IsStretchBetween caller 
   pub pair-goes : callee.ends.entry.columns ≡ entry → GoesBetween 900000 caller.pair.columns callee.pair.columns (pair_formula caller callee s)
   pair-goes enters =
       let places = range_with_len columns width in
-      let equal = equated caller.ends.entry.columns (exit_places caller.ends) whole in
+      let equal = equated_formula caller.ends.entry.columns (exit_places caller.ends) whole in
       record {
         from_is = refl;
         to_is = length-range_with_len columns width ∙ (let pair = is.callee_is.pair in omega (arith, pair, enters));

@@ -12,11 +12,11 @@ use Rattle.transition_formula.specs.Transition.{every_column, fits, is_below, Is
 use Rattle.transition_formula.proofs.Covered.{both, both_true, test_from_columns}
 use Rattle.transition_formula.proofs.Fitting.{Fitting, below-true, columns_pass, fitting, from_fitting, test_of_get}
 use Rattle.transition_formula.proofs.PostsAsEntries.{raised-fits}
-use Rattle.leaf_cases.specs.Edges.{received}
+use Rattle.leaf_cases.specs.Edges.{posts_with_value}
 use Rattle.leaf_cases.specs.Guard.{with_posts}
 use Rattle.leaf_cases.specs.Guard as cases
 use Rattle.leaf_cases.specs.Steps.{operand}
-use Rattle.newton_rounds.specs.Pairs.{call_exit, carrying_case, columns_from, exit_columns, returned}
+use Rattle.newton_rounds.specs.Pairs.{call_exit, carrying_case, columns_from, exit_columns, posts_after_return}
 
 -- ---- other posts
 
@@ -72,11 +72,11 @@ all-drop test zero xs h = h
 all-drop test (suc n) [] h = refl
 all-drop test (suc n) (x ∷ xs) h = let parts = both (test x) (list_all test xs) h in all-drop test n xs parts.1
 
-received-long : (into : Option ℕ) (value : Polynomial) (posts : List Polynomial) → length (received into value posts) ≡ length posts
+received-long : (into : Option ℕ) (value : Polynomial) (posts : List Polynomial) → length (posts_with_value into value posts) ≡ length posts
 received-long None value posts = refl
 received-long (Some col) value posts = length-set posts col value
 
-received-covered : (test : Polynomial → Bool) (into : Option ℕ) (value : Polynomial) (posts : List Polynomial) → IsTrue (list_all test posts) → IsTrue (test value) → IsTrue (list_all test (received into value posts))
+received-covered : (test : Polynomial → Bool) (into : Option ℕ) (value : Polynomial) (posts : List Polynomial) → IsTrue (list_all test posts) → IsTrue (test value) → IsTrue (list_all test (posts_with_value into value posts))
 received-covered test None value posts h k = h
 received-covered test (Some col) value posts h k = all-set test posts col value h k
 
@@ -110,7 +110,7 @@ module _ (columns globals : ℕ) (into : Option ℕ) (entry exit : ℕ) (enough 
   abbrev test : Polynomial → Bool
   test = every_column (is_below (columns + entry) exit)
 
-  returned-covered : IsTrue (list_all test (returned columns globals into values))
+  returned-covered : IsTrue (list_all test (posts_after_return columns globals into values))
   returned-covered =
       received-covered test into (operand globals record { aux = 0; rows = []; post = values }) back
       (appended test (take globals values) (drop globals (cases.columns_of columns)) (all-take test globals values (exits-covered exit (columns + entry)))
@@ -119,17 +119,17 @@ module _ (columns globals : ℕ) (into : Option ℕ) (entry exit : ℕ) (enough 
 
   pub exit-fits : IsTransition (columns + entry) (columns + entry + exit) (call_exit columns globals into entry exit).cases
   exit-fits =
-      let case : Case = record { aux = exit; rows = []; post = returned columns globals into values ++ (columns_from columns entry ++ values) } in
+      let case : Case = record { aux = exit; rows = []; post = posts_after_return columns globals into values ++ (columns_from columns entry ++ values) } in
       both_true (fits (columns + entry) (columns + entry + exit) case) true
       (from_fitting (columns + entry) (columns + entry + exit) case record {
         length_is =
-            length-append (returned columns globals into values) (columns_from columns entry ++ values)
+            length-append (posts_after_return columns globals into values) (columns_from columns entry ++ values)
             ∙ (λ i. (received-long into (operand globals record { aux = 0; rows = []; post = values }) back ∙ back-length) i
             + (length-append (columns_from columns entry) values ∙ (λ j. columns-length columns entry j + exits-length exit j)) i)
             ∙ omega arith;
         rows_are = refl;
         posts_are =
-            appended test (returned columns globals into values) (columns_from columns entry ++ values) returned-covered
+            appended test (posts_after_return columns globals into values) (columns_from columns entry ++ values) returned-covered
             (appended test (columns_from columns entry) values (columns-covered columns entry (columns + entry) exit (omega arith)) (exits-covered exit (columns + entry)));
       }) refl
 

@@ -7,7 +7,7 @@ use Rattle.items.specs.Gives as gives
 use Rattle.linear_terms.specs.declared.error.TermError.{TermError}
 use Rattle.linear_terms.specs.declared.row.Kind.TheVariants.{AtMost}
 use Rattle.linear_terms.specs.Expressions.{negation}
-use Rattle.linear_terms.specs.Operations.{substituted}
+use Rattle.linear_terms.specs.Operations.{substituted_polynomial}
 use Rattle.linear_terms.specs.Polynomial.{Polynomial}
 use Rattle.linear_terms.specs.Replacement.{put_in}
 use Rattle.linear_terms.specs.TermError.{cause}
@@ -16,20 +16,20 @@ use Rattle.linear_terms.specs.declared.row.Row.{Row}
 use Rattle.farkas_check.specs.declared.question.Question.TheVariants.{Infeasible}
 use Rattle.farkas_check.specs.declared.answer.Limit.{Limit}
 use Rattle.transition_formula.specs.Hiding.{own_auxiliaries}
-use Rattle.transition_formula.specs.Rounds.{solved}
+use Rattle.transition_formula.specs.Rounds.{solved_answer}
 use Rattle.posing.specs.Posing.{Done, Noted, answer_to, ◌>>=◌}
 use Rattle.posing.specs.declared.note.Witness.TheVariants as witness
 use Rattle.leaf_cases.specs.Guard.{columns_of}
 use Rattle.newton_rounds.specs.declared.findings.Findings.{Findings}
-use Rattle.newton_rounds.specs.Candidates.{contrary, found_in, limit_notes, outcome_by, with_answer}
-use Rattle.newton_rounds.specs.Shapes.{kept_of}
+use Rattle.newton_rounds.specs.Candidates.{contrary, findings_in, limit_notes, outcome_by, with_answer}
+use Rattle.newton_rounds.specs.Shapes.{case_left_of}
 
 -- a case with rows is asked about
-pub asked-in : (found : Findings) (rows : List Row) → rows ≢ [] → (answer_to (Infeasible rows) >>= λ answer. Done (with_answer found rows answer)) ≡ found_in found rows
+pub asked-in : (found : Findings) (rows : List Row) → rows ≢ [] → (answer_to (Infeasible rows) >>= λ answer. Done (with_answer found rows answer)) ≡ findings_in found rows
 asked-in found [] some = absurd (some refl)
 asked-in found (row ∷ rows) some = refl
 
-pub kept-solved : (left : Option Case) → kept_of (solved left) ≡ left
+pub kept-solved : (left : Option Case) → case_left_of (solved_answer left) ≡ left
 kept-solved None = refl
 kept-solved (Some case) = refl
 
@@ -46,13 +46,13 @@ others-are limits = take_all (length limits - 1) (drop 1 limits) (simp length-dr
 
 module _ (from : ℕ) (case : Case) (row opposite : Row) (made : negation row.poly ≡ Ok opposite) where
   abbrev put : Result Polynomial TermError
-  put = substituted (put_in (columns_of from ++ case.post) (own_auxiliaries case.aux)) opposite.poly
+  put = substituted_polynomial (put_in (columns_of from ++ case.post) (own_auxiliaries case.aux)) opposite.poly
 
   abbrev told : Polynomial → Result Row TermError
   told p = Ok record { poly = p; kind = AtMost }
 
   contrary-is : contrary from case row ≡ gives.◌>>=◌ put told
-  contrary-is = λ i. gives.◌>>=◌ (made i) (λ (o : Row). gives.◌>>=◌ (substituted (put_in (columns_of from ++ case.post) (own_auxiliaries case.aux)) o.poly) told)
+  contrary-is = λ i. gives.◌>>=◌ (made i) (λ (o : Row). gives.◌>>=◌ (substituted_polynomial (put_in (columns_of from ++ case.post) (own_auxiliaries case.aux)) o.poly) told)
 
   pub contrary-made : (p : Polynomial) → put ≡ Ok p → contrary from case row ≡ Ok record { poly = p; kind = AtMost }
   contrary-made p e = contrary-is ∙ (λ i. gives.◌>>=◌ (e i) told)

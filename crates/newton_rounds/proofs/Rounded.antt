@@ -25,11 +25,11 @@ use Rattle.syntax_tree.specs.declared.program.Program.{Program}
 use Rattle.vocabularies.specs.Ends.{entry_of, pair_of}
 use Rattle.vocabularies.specs.Ends as ends
 use Rattle.leaf_cases.specs.Conditions.{IsKnown, exits_of}
-use Rattle.newton_rounds.specs.declared.dropping.Judged.{Judged}
+use Rattle.newton_rounds.specs.declared.dropping.JudgedRow.{JudgedRow}
 use Rattle.newton_rounds.specs.Between.{AreCandidates, AreSummaries, FitTable, IsFewer, IsRowOver, IsSummary, row_count}
-use Rattle.newton_rounds.specs.Candidates.{dropped_by, dropped_in, dropped_notes, kept_row, most_rounds, members_with, refuted, round, some_note, table_of, unfolded, unless_refuted, with_judged, with_round}
+use Rattle.newton_rounds.specs.Candidates.{drop_notes_by, drop_notes_in, dropped_notes, kept_row, most_rounds, members_with, refutation, round, some_note, table_of, unfolded_formula, unless_refuted, with_judged, with_round}
 use Rattle.newton_rounds.specs.Claims.{AreKnownMembers}
-use Rattle.newton_rounds.specs.Closure.{ends_of_members, pair_ends, placed_from}
+use Rattle.newton_rounds.specs.Closure.{ends_of_members, pair_ends, with_places_from}
 use Rattle.newton_rounds.specs.Members.{members_of, with_table}
 use Rattle.newton_rounds.specs.Pairs.{PairEnds}
 use Rattle.newton_rounds.specs.Shapes.{IsOverPairs, IsRefutable}
@@ -106,26 +106,26 @@ module _ (program : Program) where
       (each_from_test (fits f.from f.to) (λ case. IsTrue (fits f.from f.to case)) (λ case k. k) f.cases known.fits)))
 
 -- what a judged row is
-abbrev pub IsOf : Row → Judged → Type 0
+abbrev pub IsOf : Row → JudgedRow → Type 0
 IsOf row judged = judged.row ≡ row
 
-abbrev pub AreOf : List Row → List Judged → Type 0
+abbrev pub AreOf : List Row → List JudgedRow → Type 0
 AreOf rows judged = AllZip IsOf rows judged
 
-judged-behind : (f : Transition) (made : List Judged) (row : Row) → Always (IsBehind IsOf made row) (with_judged f made row)
+judged-behind : (f : Transition) (made : List JudgedRow) (row : Row) → Always (IsBehind IsOf made row) (with_judged f made row)
 unfolding with_judged
 judged-behind f made row =
-    always_bind (λ by. Unit {0}) (IsBehind IsOf made row) (refuted f row) (λ by. Done (made ++ record { row = row; by = by } ∷ [])) (always_any (λ by. Unit {0}) (refuted f row) (λ by. tt))
+    always_bind (λ by. Unit {0}) (IsBehind IsOf made row) (refutation f row) (λ by. Done (made ++ record { row = row; by = by } ∷ [])) (always_any (λ by. Unit {0}) (refutation f row) (λ by. tt))
     (λ by any. record { value = record { row = row; by = by }; is = refl; holds = refl })
 
 judged-rows : (f : Transition) (rows : List Row) → Always (AreOf rows) (each (with_judged f) [] rows)
 judged-rows f rows = each-match (λ row. Unit {0}) IsOf (with_judged f) (λ made row any. judged-behind f made row) rows (each-any (λ row. Unit {0}) (λ row. tt) rows)
 
-member-behind : (program : Program) (known : List (Option Transition)) (made : List (List Judged)) (member : Proc × List Row) → Always (IsBehind (λ (m : Proc × List Row) judged. AreOf m.1 judged) made member) (with_round program known made member)
+member-behind : (program : Program) (known : List (Option Transition)) (made : List (List JudgedRow)) (member : Proc × List Row) → Always (IsBehind (λ (m : Proc × List Row) judged. AreOf m.1 judged) made member) (with_round program known made member)
 unfolding with_round
 member-behind program known made member =
-    always_bind (λ f. Unit {0}) (IsBehind (λ (m : Proc × List Row) judged. AreOf m.1 judged) made member) (unfolded program known member.0) (λ f. each (with_judged f) [] member.1 >>= λ judged. Done (made ++ judged ∷ []))
-    (always_any (λ f. Unit {0}) (unfolded program known member.0) (λ f. tt))
+    always_bind (λ f. Unit {0}) (IsBehind (λ (m : Proc × List Row) judged. AreOf m.1 judged) made member) (unfolded_formula program known member.0) (λ f. each (with_judged f) [] member.1 >>= λ judged. Done (made ++ judged ∷ []))
+    (always_any (λ f. Unit {0}) (unfolded_formula program known member.0) (λ f. tt))
     (λ f any. always_bind (AreOf member.1) (IsBehind (λ (m : Proc × List Row) judged. AreOf m.1 judged) made member) (each (with_judged f) [] member.1) (λ judged. Done (made ++ judged ∷ [])) (judged-rows f member.1)
     (λ judged are. record { value = judged; is = refl; holds = are }))
 
@@ -133,7 +133,7 @@ all-judged : (program : Program) (known : List (Option Transition)) (members : L
 all-judged program known members =
     each-match (λ member. Unit {0}) (λ (m : Proc × List Row) judged. AreOf m.1 judged) (with_round program known) (λ made member any. member-behind program known made member) members (each-any (λ member. Unit {0}) (λ member. tt) members)
 
-by-rows : (ps : List Proc) (candidates : List (List Row)) (judged : List (List Judged)) → length candidates ≡ length ps → AllZip (λ (m : Proc × List Row) judged. AreOf m.1 judged) (members_with ps candidates) judged → AllZip AreOf candidates judged
+by-rows : (ps : List Proc) (candidates : List (List Row)) (judged : List (List JudgedRow)) → length candidates ≡ length ps → AllZip (λ (m : Proc × List Row) judged. AreOf m.1 judged) (members_with ps candidates) judged → AllZip AreOf candidates judged
 by-rows [] [] [] e h = h
 by-rows [] [] (js ∷ judged) e h = h
 by-rows [] (rows ∷ candidates) judged e h = absurd (omega (arith, e))
@@ -149,7 +149,7 @@ rows-judged program known ps candidates e =
 
 -- ---- rows that are kept
 
-pub kept-over : (P : Row → Type 0) (rows : List Row) (judged : List Judged) → AreOf rows judged → AllByRecursion P rows → AllByRecursion P (filter_map kept_row judged)
+pub kept-over : (P : Row → Type 0) (rows : List Row) (judged : List JudgedRow) → AreOf rows judged → AllByRecursion P rows → AllByRecursion P (filter_map kept_row judged)
 kept-over P [] [] h k = tt
 kept-over P [] (j ∷ judged) h k = absurd h
 kept-over P (row ∷ rows) [] h k = absurd h
@@ -159,7 +159,7 @@ kept-over P (row ∷ rows) (j ∷ judged) h k = go j.by (kept-over P rows judged
     go None more = (subst P (sym h.0) k.0, more)
     go (Some by) more = more
 
-kept-candidates : (members : List PairEnds) (candidates : List (List Row)) (judged : List (List Judged)) → AllZip AreOf candidates judged → AreCandidates members candidates → AreCandidates members (map (filter_map kept_row) judged)
+kept-candidates : (members : List PairEnds) (candidates : List (List Row)) (judged : List (List JudgedRow)) → AllZip AreOf candidates judged → AreCandidates members candidates → AreCandidates members (map (filter_map kept_row) judged)
 kept-candidates [] [] [] h k = tt
 kept-candidates [] [] (js ∷ judged) h k = absurd h
 kept-candidates [] (rows ∷ candidates) judged h k = absurd k
@@ -169,8 +169,8 @@ kept-candidates (m ∷ members) (rows ∷ candidates) (js ∷ judged) h k =
     (kept-over (IsRowOver m.pair.columns) rows js h.0 k.0, kept-candidates members candidates judged h.1 k.1)
 
 -- each row is kept, or its note is made
-each-counted : (place : ℕ) (rows : List Row) (judged : List Judged) → AreOf rows judged
-    → length (filter_map kept_row judged) + length (flat_map (λ (j : Judged). dropped_by place j.row j.by) judged) ≡ length rows
+each-counted : (place : ℕ) (rows : List Row) (judged : List JudgedRow) → AreOf rows judged
+    → length (filter_map kept_row judged) + length (flat_map (λ (j : JudgedRow). drop_notes_by place j.row j.by) judged) ≡ length rows
 each-counted place [] [] h = refl
 each-counted place [] (j ∷ judged) h = absurd h
 each-counted place (row ∷ rows) [] h = absurd h
@@ -180,21 +180,21 @@ each-counted place (row ∷ rows) (j ∷ judged) h = go j.by (each-counted place
     kept = filter_map kept_row judged
 
     notes : List Note
-    notes = flat_map (λ (j : Judged). dropped_by place j.row j.by) judged
+    notes = flat_map (λ (j : JudgedRow). drop_notes_by place j.row j.by) judged
 
-    go : (by : Option Witness) → length kept + length notes ≡ length rows → length (cons_option (unless_refuted j.row by) kept) + length (dropped_by place j.row by ++ notes) ≡ length (row ∷ rows)
+    go : (by : Option Witness) → length kept + length notes ≡ length rows → length (cons_option (unless_refuted j.row by) kept) + length (drop_notes_by place j.row by ++ notes) ≡ length (row ∷ rows)
     go None e = omega (arith, e)
     go (Some by) e = omega (arith, e)
 
-pub all-counted : (place : ℕ) (candidates : List (List Row)) (judged : List (List Judged)) → AllZip AreOf candidates judged
-    → row_count (map (filter_map kept_row) judged) + length (flat_map dropped_in (placed_from place judged)) ≡ row_count candidates
+pub all-counted : (place : ℕ) (candidates : List (List Row)) (judged : List (List JudgedRow)) → AllZip AreOf candidates judged
+    → row_count (map (filter_map kept_row) judged) + length (flat_map drop_notes_in (with_places_from place judged)) ≡ row_count candidates
 all-counted place [] [] h = refl
 all-counted place [] (js ∷ judged) h = absurd h
 all-counted place (rows ∷ candidates) [] h = absurd h
 all-counted place (rows ∷ candidates) (js ∷ judged) h =
     let one = each-counted place rows js h.0 in
     let more = all-counted (place + 1) candidates judged h.1 in
-    let all = length-append (dropped_in (place, js)) (flat_map dropped_in (placed_from (place + 1) judged)) in
+    let all = length-append (drop_notes_in (place, js)) (flat_map drop_notes_in (with_places_from (place + 1) judged)) in
     omega (arith, one, more, all)
 
 some-counted : (notes : List Note) → (if some_note notes then 1 else 0) ≤ length notes

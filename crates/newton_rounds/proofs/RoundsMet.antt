@@ -33,7 +33,7 @@ use Rattle.proc_summary.proofs.Graphs.{graph-is}
 use Rattle.newton_rounds.specs.Between.{row_count}
 use Rattle.newton_rounds.specs.Candidates.{candidate_formula, candidate_of, dropped_notes, kept_candidates, kept_row, members_with, most_rounds, round, some_note, table_of, with_round}
 use Rattle.newton_rounds.specs.Claims.{AreMetMembers}
-use Rattle.newton_rounds.specs.Close.{closed_by_rounds, paired_up, with_candidate}
+use Rattle.newton_rounds.specs.Close.{closure_by_rounds, pairs_of, with_candidate}
 use Rattle.newton_rounds.specs.Closure.{closed_member, closure_of, ends_of_members, pair_ends, sides_of, stretches_with, with_closed}
 use Rattle.newton_rounds.specs.Laws.{CallsMember, KnowsOthers}
 use Rattle.newton_rounds.specs.Members.{calls_from, members_of, with_table}
@@ -100,7 +100,7 @@ rows-for all =
     one m rest made k = candidate-next all rest m made k
 
 module _ (program : Program) (formed : IsWellFormed program) where
-  candidates-for : (ps : List Proc) (table : List Transition) (cs : List (List Row)) → length table ≡ length ps → AreRowsFor (paired_up (map (pair_ends program) ps) table) cs → AreCandidates program formed ps cs
+  candidates-for : (ps : List Proc) (table : List Transition) (cs : List (List Row)) → length table ≡ length ps → AreRowsFor (pairs_of (map (pair_ends program) ps) table) cs → AreCandidates program formed ps cs
   candidates-for [] table [] same h = tt
   candidates-for [] table (rows ∷ cs) same h = absurd h
   candidates-for (p ∷ ps) [] cs same h = absurd (omega (arith, same))
@@ -315,14 +315,14 @@ module _ (program : Program) (procs : List ℕ) (known : List (Option Transition
 
   -- ---- where calls of the group may follow one another
 
-  pub closed_by_rounds-met : AreMet program known → KnowsOthers program procs known → (bases : List Transition) → AlwaysPassing (AreMetMembers program procs) (closed_by_rounds program procs known bases)
-  unfolding closed_by_rounds
+  pub closed_by_rounds-met : AreMet program known → KnowsOthers program procs known → (bases : List Transition) → AlwaysPassing (AreMetMembers program procs) (closure_by_rounds program procs known bases)
+  unfolding closure_by_rounds
   closed_by_rounds-met met knows bases =
       under-bind IsPassing (λ t. Unit {0}) (AreMetMembers program procs) (closure_of program procs known bases []) _
       (passing-always (λ t. Unit {0}) (closure_of program procs known bases []) (always_any (λ t. Unit {0}) (closure_of program procs known bases []) (λ t. tt))) (λ first any.
       under-bind IsPassing (λ t. length t ≡ length ps) (AreMetMembers program procs) (closure_of program procs known bases first) _
       (passing-always (λ t. length t ≡ length ps) (closure_of program procs known bases first) (closure-long program procs known bases first)) (λ second long.
-      under-bind IsPassing (AreRowsFor (paired_up (map (pair_ends program) ps) second)) (AreMetMembers program procs) (each with_candidate [] (paired_up (map (pair_ends program) ps) second)) _
-      (passing-always (AreRowsFor (paired_up (map (pair_ends program) ps) second)) (each with_candidate [] (paired_up (map (pair_ends program) ps) second)) (rows-for (paired_up (map (pair_ends program) ps) second))) (λ candidates rows.
+      under-bind IsPassing (AreRowsFor (pairs_of (map (pair_ends program) ps) second)) (AreMetMembers program procs) (each with_candidate [] (pairs_of (map (pair_ends program) ps) second)) _
+      (passing-always (AreRowsFor (pairs_of (map (pair_ends program) ps) second)) (each with_candidate [] (pairs_of (map (pair_ends program) ps) second)) (rows-for (pairs_of (map (pair_ends program) ps) second))) (λ candidates rows.
       under-bind IsPassing (λ kept. AreCandidates program formed ps kept × AreSettled kept) (AreMetMembers program procs) (kept_candidates program procs known candidates) (λ kept. Done (table kept))
       (candidates-settled candidates (candidates-for program formed ps second candidates long rows)) (λ kept both. rounds-met met knows kept both.0 both.1))))

@@ -11,7 +11,7 @@ use Rattle.transition_formula.proofs.Covered.{both_true}
 use Rattle.transition_formula.proofs.Fitting.{from_fitting}
 use Rattle.posing.specs.Posing.{Done, each, Always}
 use Rattle.posing.proofs.Paths.{always_weaker}
-use Rattle.polyhedra.specs.Bounds.{IsCovered, IsCoveredByPosts, bounded_after}
+use Rattle.polyhedra.specs.Bounds.{IsCovered, IsCoveredByPosts, rows_with_exit_bound}
 use Rattle.polyhedra.specs.Directions.{directions}
 use Rattle.polyhedra.proofs.Covering.{directions-covered, directions-covered_by_posts}
 use Rattle.leaf_cases.specs.Guard.{columns_of}
@@ -30,7 +30,7 @@ pub candidate-none : (m : PairEnds) (from : ℕ) (cases : List Case) → cases �
 candidate-none m from cases e = ap (candidate_by m from) e
 
 pub candidate-some : (m : PairEnds) (from : ℕ) (cases : List Case) → (cases ≡ [] → ⊥)
-    → candidate_by m from cases ≡ each (bounded_after (map (paired_case from) cases) (columns_of m.pair.columns)) [] (directions m.pair)
+    → candidate_by m from cases ≡ each (rows_with_exit_bound (map (paired_case from) cases) (columns_of m.pair.columns)) [] (directions m.pair)
 candidate-some m from [] some = absurd (some refl)
 candidate-some m from (case ∷ more) some = refl
 

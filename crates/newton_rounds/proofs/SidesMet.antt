@@ -21,7 +21,7 @@ use Rattle.proc_summary.specs.Claims.{FitsIf, HoldsIf}
 use Rattle.proc_summary.specs.Flow.{cells_from, columns_of, formula_at}
 use Rattle.proc_summary.specs.Subject.{own_graph, subject_of}
 use Rattle.newton_rounds.specs.declared.calls.Sides.{Sides}
-use Rattle.newton_rounds.specs.Closure.{placed_from, sides_from, sides_of, with_member, with_sides}
+use Rattle.newton_rounds.specs.Closure.{with_places_from, sides_from, sides_of, with_member, with_sides}
 use Rattle.newton_rounds.specs.Members.{GroupCall, call_by, call_to, calls_from, calls_of, members_of, place_of}
 use Rattle.newton_rounds.proofs.Called.{AreThere, calls-from, each-got, member-at}
 use Rattle.newton_rounds.proofs.Matched.{AreBehind, IsBehind, each-behind}
@@ -137,13 +137,13 @@ module _ (program : Program) (procs : List ℕ) (known : List (Option Transition
       let own : p ≡ q = some-one (ap (slice_get (members_of program procs)) same ∙ at) e in
       subst (λ r. IsSide program r known call one) own h
 
-  from-place : (place : ℕ) (ps : List Proc) → StandAt place ps → (made : List Sides) → Always (AreBehind IsSideOf made (calls_from procs place ps)) (each (with_member program procs known) made (placed_from place ps))
+  from-place : (place : ℕ) (ps : List Proc) → StandAt place ps → (made : List Sides) → Always (AreBehind IsSideOf made (calls_from procs place ps)) (each (with_member program procs known) made (with_places_from place ps))
   from-place place [] stand made = record { values = []; is = sym (append-nil made); match = tt }
   from-place place (p ∷ ps) stand made =
       let number = stand.0 in
       always_bind (AreBehind (IsSide program p known) made (calls_of procs place p)) (AreBehind IsSideOf made (calls_from procs place (p ∷ ps))) (with_member program procs known made (place, p))
-      (λ next. each (with_member program procs known) next (placed_from (place + 1) ps)) (member-sides program number.0 p known number.1 formed are procs place made)
-      (λ next first. always_weaker (AreBehind IsSideOf next (calls_from procs (place + 1) ps)) (AreBehind IsSideOf made (calls_from procs place (p ∷ ps))) (each (with_member program procs known) next (placed_from (place + 1) ps))
+      (λ next. each (with_member program procs known) next (with_places_from (place + 1) ps)) (member-sides program number.0 p known number.1 formed are procs place made)
+      (λ next first. always_weaker (AreBehind IsSideOf next (calls_from procs (place + 1) ps)) (AreBehind IsSideOf made (calls_from procs place (p ∷ ps))) (each (with_member program procs known) next (with_places_from (place + 1) ps))
       (λ all rest. record {
         values = first.values ++ rest.values;
         is = rest.is ∙ ap (λ u. u ++ rest.values) first.is ∙ append_assoc made first.values rest.values;
@@ -170,6 +170,6 @@ module _ (program : Program) (procs : List ℕ) (known : List (Option Transition
     pub sides-true : Always (AllZip IsSideOf (calls_from procs 0 (members_of program procs))) (sides_of program procs known)
     unfolding sides_of
     sides-true =
-        always_weaker (AreBehind IsSideOf [] (calls_from procs 0 (members_of program procs))) (AllZip IsSideOf (calls_from procs 0 (members_of program procs))) (each (with_member program procs known) [] (placed_from 0 (members_of program procs)))
+        always_weaker (AreBehind IsSideOf [] (calls_from procs 0 (members_of program procs))) (AllZip IsSideOf (calls_from procs 0 (members_of program procs))) (each (with_member program procs known) [] (with_places_from 0 (members_of program procs)))
         (λ all h. subst (AllZip IsSideOf (calls_from procs 0 (members_of program procs))) (sym h.is) h.match)
         (from-place 0 (members_of program procs) (stand-at [] procs there refl) [])

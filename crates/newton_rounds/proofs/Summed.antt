@@ -11,12 +11,12 @@ use Rattle.path_expr.specs.declared.cell.Cell.{Cell}
 use Rattle.posing.specs.Logs.{loss_notes}
 use Rattle.posing.specs.Posing.{Done, Noted, each, Always}
 use Rattle.posing.proofs.Paths.{always_bind, always_weaker}
-use Rattle.checked_tree.specs.Evaluation.{evaluated, settled_and_fitted}
+use Rattle.checked_tree.specs.Evaluation.{evaluated_cells, settled_and_fitted}
 use Rattle.checked_tree.specs.Law.{AreFittedCells, IsBetweenEnds}
 use Rattle.checked_tree.proofs.Between.{settled_and_fitted-between}
 use Rattle.checked_tree.proofs.Cells.{cells-fit}
 use Rattle.newton_rounds.specs.Between.{AreBases, AreChained, AreChainsFrom, AreSummaries, GoesBetween, IsGroup, IsSummary}
-use Rattle.newton_rounds.specs.Closure.{chains_of, closed_by, closed_member, ends_at, exits_told, group_graph, lost_in_group_leaf, with_closed}
+use Rattle.newton_rounds.specs.Closure.{chains_of, closure_at, closed_member, ends_at, exits_told, group_graph, losses_in_group_leaf, with_closed}
 use Rattle.newton_rounds.specs.Pairs.{PairEnds, Stretch}
 use Rattle.newton_rounds.proofs.Below.{fitted-few}
 use Rattle.newton_rounds.proofs.Chained.{chains-go, exits-from, member-at}
@@ -31,8 +31,8 @@ between-summary m f is = record {
   cases = leb-true (length f.cases) 16 (both (nat_le (length f.cases) 16) (list_all (λ case. nat_le (length case.rows) 64 && nat_le case.aux 64) f.cases) is.fitted).0;
 }
 
-closed_by-summary : (members : List PairEnds) (bases : List Transition) (place : ℕ) (cells : List (Cell Transition)) → AreChained members bases place cells → Always (IsSummary (ends_at members place)) (closed_by members bases place cells)
-unfolding closed_by
+closed_by-summary : (members : List PairEnds) (bases : List Transition) (place : ℕ) (cells : List (Cell Transition)) → AreChained members bases place cells → Always (IsSummary (ends_at members place)) (closure_at members bases place cells)
+unfolding closure_at
 closed_by-summary members bases place cells chained =
     let m = ends_at members place in
     let is = member-at members place chained.within chained.each_member in
@@ -49,9 +49,9 @@ module _ (members : List PairEnds) (stretches : List Stretch) (group : IsGroup m
   member-summary place lt =
       let g = group_graph members stretches in
       let is = group-evaluated members stretches group place lt in
-      always_bind (λ cells. AreFittedCells g place cells × StaysAt g place cells) (IsSummary (ends_at members place)) (Noted (loss_notes (flat_map (lost_in_group_leaf members) stretches)) (evaluated g place))
-      (λ cells. closed_by members bases place cells)
-      (always_both (AreFittedCells g place) (StaysAt g place) (evaluated g place) (cells-fit g place is) (cells-stay g place is))
+      always_bind (λ cells. AreFittedCells g place cells × StaysAt g place cells) (IsSummary (ends_at members place)) (Noted (loss_notes (flat_map (losses_in_group_leaf members) stretches)) (evaluated_cells g place))
+      (λ cells. closure_at members bases place cells)
+      (always_both (AreFittedCells g place) (StaysAt g place) (evaluated_cells g place) (cells-fit g place is) (cells-stay g place is))
       (λ cells h. closed_by-summary members bases place cells (chained-by place cells lt (chains-from members stretches group place cells h.0 h.1)))
 
   closed-behind : (made : List Transition) (place : ℕ) → place < length members → Always (IsBehind (λ n f. IsSummary (ends_at members n) f) made place) (with_closed members stretches bases made place)

@@ -26,16 +26,16 @@ use Rattle.posing.proofs.Paths.{always_bind, always_weaker}
 use Rattle.recurrence.proofs.Starred.{always_both}
 use Rattle.vocabularies.specs.Ends.{entry_of, entry_width, full_of}
 use Rattle.vocabularies.specs.Ends as ends
-use Rattle.checked_tree.specs.Evaluation.{evaluated, settled_and_fitted}
+use Rattle.checked_tree.specs.Evaluation.{evaluated_cells, settled_and_fitted}
 use Rattle.checked_tree.specs.Law.{HoldsCell, IsBetweenEnds}
 use Rattle.checked_tree.proofs.Between.{settled_and_fitted-between, settled_and_fitted-covers}
 use Rattle.proc_summary.specs.Claims.{FitsIf, HoldsIf, HoldsOfWalks}
 use Rattle.proc_summary.specs.Flow.{cells_from, columns_of, formula_at, formula_of}
 use Rattle.proc_summary.specs.Subject.{graph_by, own_graph, subject_of}
-use Rattle.proc_summary.specs.Summary.{ends_of, exit_formula, exit_places, summary_from, told_of}
+use Rattle.proc_summary.specs.Summary.{ends_of, exit_formula, exit_places, summary_from, projection_of}
 use Rattle.proc_summary.proofs.Graphs.{full-columns, graph-is, holds-of-walks}
 use Rattle.proc_summary.proofs.Told.{entry-columns, entry-end, exit-end, exit-told, told-between, told-is, told-solved}
-use Rattle.newton_rounds.specs.Candidates.{unfolded}
+use Rattle.newton_rounds.specs.Candidates.{unfolded_formula}
 use Rattle.newton_rounds.proofs.Below.{some_at}
 use Rattle.newton_rounds.proofs.CanonicalEvaluations.{AreCanonicalCells, AreTrueCells, IsCanonicalCell, evaluated-true, rows-canonical, settled_and_fitted-canonical}
 use Rattle.newton_rounds.proofs.CanonicalOrder.{IsCanonicalCase, IsCanonicalFormula, rows_by-canonical}
@@ -50,7 +50,7 @@ hidden-canonical n f h =
     each-map IsCanonicalCase IsCanonicalCase (hidden_case n f.from)
     (λ case k. rows_by-canonical (hiding n f.from case) (λ p r e fine. IsCanonical-substituted _ p r e) case.rows k) f.cases h
 
-pub told-canonical : (entry : ℕ) (places : List ℕ) (f : Transition) → IsCanonicalFormula f → IsCanonicalFormula (told_of entry places f)
+pub told-canonical : (entry : ℕ) (places : List ℕ) (f : Transition) → IsCanonicalFormula f → IsCanonicalFormula (projection_of entry places f)
 told-canonical entry places f h = each-map IsCanonicalCase IsCanonicalCase (case_with_posts places) (λ case k. k) (hidden entry f).cases (hidden-canonical entry f h)
 
 -- a formula that may be missing has canonical rows
@@ -101,7 +101,7 @@ module _ (program : Program) (proc : ℕ) (p : Proc) (known : List (Option Trans
       let g = graph_by (subject_of program p known) in
       let ev = graph-evaluated program proc p known is formed are source lt in
       let canon = leaves-canonical program proc p known is formed are in
-      always_weaker (AreTrueCells g source ev canon) (AreTrueAt source) (evaluated g source)
+      always_weaker (AreTrueCells g source ev canon) (AreTrueAt source) (evaluated_cells g source)
       (λ cells true_cells. record {
         fit = states-at program proc p formed is known are source cells lt true_cells.fit;
         canonical = at-canonical width cells true_cells.canonical;
@@ -121,17 +121,17 @@ module _ (program : Program) (proc : ℕ) (p : Proc) (known : List (Option Trans
   pub record IsTold (exit : Option Transition) (f : Transition) : Type 0 where
     pub between : IsBetweenEnds (entry_of program p) (ends.exit_of program p) f
     pub canonical : IsCanonicalFormula f
-    pub covers : Covers f (told_of (entry_width program p) places (exit_formula width exit))
+    pub covers : Covers f (projection_of (entry_width program p) places (exit_formula width exit))
 
   pub summary-told : (exit : Option Transition) → FitsIf width exit → IsCanonicalExit exit → Always (IsTold exit) (summary_from (ends_of program p) exit)
   unfolding summary_from
   summary-told exit fit canonical =
       let start = entry-end program proc p formed is in
       let end = exit-end program proc p formed is in
-      let told = told_of (entry_width program p) places (exit_formula width exit) in
+      let told = projection_of (entry_width program p) places (exit_formula width exit) in
       let between = told-between program proc p formed is exit fit in
       let fine = told-canonical (entry_width program p) places (exit_formula width exit) (exit-canonical width exit canonical) in
-      let same : told_of (entry_of program p).columns places (exit_formula (full_of program p).columns exit) ≡ told =
+      let same : projection_of (entry_of program p).columns places (exit_formula (full_of program p).columns exit) ≡ told =
       told-is program proc p formed is (full_of program p).columns (entry_of program p).columns places exit (full-columns program p) (entry-columns program proc p formed is) refl fit in
       subst (λ t. Always (IsTold exit) (settled_and_fitted t (entry_of program p) (ends.exit_of program p))) (sym same)
       (always_weaker (λ f. IsBetweenEnds (entry_of program p) (ends.exit_of program p) f × (IsCanonicalFormula f × Covers f told)) (IsTold exit)
@@ -185,8 +185,8 @@ module _ (program : Program) (proc : ℕ) (p : Proc) (known : List (Option Trans
         r.after_is r.value_is);
   }
 
-  pub unfolded-tells : Always IsUnfolded (unfolded program known p)
-  unfolding unfolded
+  pub unfolded-tells : Always IsUnfolded (unfolded_formula program known p)
+  unfolding unfolded_formula
   unfolded-tells =
       always_bind (AreTrueAt 0) IsUnfolded (cells_from (subject_of program p known) 0)
       (λ cells. summary_from (ends_of program p) (formula_at (columns_of (subject_of program p known)) cells (exit_of (code_of p.body))))

@@ -7,7 +7,7 @@ use Rattle.syntax_tree.specs.declared.program.Program.{Program}
 use Rattle.transition_formula.specs.Transition.{Transition}
 use Rattle.proc_summary.specs.Alike.{AreAlikeProcs, AreKnownAlike}
 use Rattle.proc_summary.specs.Subject.{Subject, subject_of}
-use Rattle.newton_rounds.specs.Close.{closed_of}
+use Rattle.newton_rounds.specs.Close.{group_closure}
 use Rattle.newton_rounds.specs.Members.{IsLinear, members_of, place_of, with_table}
 
 -- no procedure stands at two places
@@ -58,7 +58,7 @@ AlikeGroupsAreOne =
     →
     AreAlikeGroups program other procs others known other_known →
     (IsLinear program procs ↔ IsLinear other others)
-    × ((linear : Bool) → closed_of linear program procs known
-    ≡ closed_of linear other others other_known)
+    × ((linear : Bool) → group_closure linear program procs known
+    ≡ group_closure linear other others other_known)
     × ((table : List Transition) → subjects_by program procs known table
     ≡ subjects_by other others other_known table)

@@ -9,7 +9,7 @@ use Rattle.linear_terms.specs.declared.row.Row.{Row}
 use Rattle.linear_terms.specs.declared.row.Case.{Case}
 use Rattle.linear_terms.specs.declared.row.Kind.TheVariants.{AtMost}
 use Rattle.linear_terms.specs.Expressions.{negation}
-use Rattle.linear_terms.specs.Operations.{substituted}
+use Rattle.linear_terms.specs.Operations.{substituted_polynomial}
 use Rattle.linear_terms.specs.Polynomial.{Polynomial}
 use Rattle.linear_terms.specs.Replacement.{put_in}
 use Rattle.farkas_check.specs.declared.answer.Answer.{Answer}
@@ -21,7 +21,7 @@ use Rattle.syntax_tree.specs.declared.program.Proc.{Proc}
 use Rattle.syntax_tree.specs.declared.program.Program.{Program}
 use Rattle.transition_formula.specs.declared.loss.Loss.{Loss}
 use Rattle.transition_formula.specs.Hiding.{hidden, own_auxiliaries}
-use Rattle.transition_formula.specs.Loss.{answered, losses_of}
+use Rattle.transition_formula.specs.Loss.{answer_of, losses_of}
 use Rattle.transition_formula.specs.Posts.{with_entries}
 use Rattle.transition_formula.specs.Rounds.{in_order}
 use Rattle.transition_formula.specs.Transition.{Transition}
@@ -31,7 +31,7 @@ use Rattle.posing.specs.declared.note.Witness.{Witness}
 use Rattle.posing.specs.declared.note.Witness.TheVariants as witness
 use Rattle.posing.specs.Logs.{loss_notes}
 use Rattle.posing.specs.Posing.{Posing, Done, Noted, answer_to, ◌>>=◌, each, until}
-use Rattle.polyhedra.specs.Bounds.{bounded_after}
+use Rattle.polyhedra.specs.Bounds.{rows_with_exit_bound}
 use Rattle.polyhedra.specs.Directions.{directions}
 use Rattle.leaf_cases.specs.Guard.{columns_of}
 use Rattle.leaf_cases.specs.Guard as cases
@@ -39,10 +39,10 @@ use Rattle.proc_summary.specs.Flow.{cells_from, columns_of as state_columns, for
 use Rattle.proc_summary.specs.Subject.{subject_of}
 use Rattle.proc_summary.specs.Summary.{ends_of, summary_from}
 use Rattle.newton_rounds.specs.declared.findings.Findings.{Findings}
-use Rattle.newton_rounds.specs.declared.dropping.Judged.{Judged}
+use Rattle.newton_rounds.specs.declared.dropping.JudgedRow.{JudgedRow}
 use Rattle.newton_rounds.specs.Members.{members_of, with_table}
 use Rattle.newton_rounds.specs.Pairs.{PairEnds}
-use Rattle.newton_rounds.specs.Closure.{ends_at, pair_ends, placed_from}
+use Rattle.newton_rounds.specs.Closure.{ends_at, pair_ends, with_places_from}
 
 -- ---- a candidate
 
@@ -55,7 +55,7 @@ paired_case from case = cases.with_posts (columns_of from ++ case.post) case
 abbrev pub candidate_by : PairEnds → ℕ → List Case → Posing (List Row)
 candidate_by member from [] = Done []
 candidate_by member from (case ∷ more) =
-    each (bounded_after (map (paired_case from) (case ∷ more)) (columns_of member.pair.columns)) []
+    each (rows_with_exit_bound (map (paired_case from) (case ∷ more)) (columns_of member.pair.columns)) []
     (directions member.pair)
 
 unfoldable pub candidate_of : PairEnds → Transition → Posing (List Row)
@@ -84,7 +84,7 @@ table_of (member ∷ members) (rows ∷ candidates) = candidate_formula member r
 abbrev pub contrary : ℕ → Case → Row → Result Row TermError
 contrary from case row =
     gives.◌>>=◌ (negation row.poly) (λ opposite.
-    gives.◌>>=◌ (substituted (put_in (columns_of from ++ case.post) (own_auxiliaries case.aux))
+    gives.◌>>=◌ (substituted_polynomial (put_in (columns_of from ++ case.post) (own_auxiliaries case.aux))
     opposite.poly) (λ p.
     Ok record { poly = p; kind = AtMost }))
 
@@ -93,7 +93,7 @@ abbrev pub against : ℕ → Case → Row → Case
 against from case row =
     record {
       aux = case.aux;
-      rows = case.rows ++ option_to_list (answered (contrary from case row));
+      rows = case.rows ++ option_to_list (answer_of (contrary from case row));
       post = case.post;
     }
 
@@ -113,14 +113,14 @@ with_answer found rows (answer.Limit limit) = record {
 with_answer found rows _ = found
 
 -- a case without rows is refuted by the point without numbers
-abbrev pub found_in : Findings → List Row → Posing Findings
-found_in found [] = Done (with_point found (witness.Point [] []))
-found_in found (row ∷ rows) =
+abbrev pub findings_in : Findings → List Row → Posing Findings
+findings_in found [] = Done (with_point found (witness.Point [] []))
+findings_in found (row ∷ rows) =
     answer_to (Infeasible (row ∷ rows)) >>= λ answer. Done (with_answer found (row ∷ rows) answer)
 
 abbrev pub found_left : Findings → Option Case → Posing Findings
 found_left found None = Done found
-found_left found (Some case) = found_in found case.rows
+found_left found (Some case) = findings_in found case.rows
 
 -- one case with the contrary row, put in order; losses are noted before the question
 unfoldable pub with_case : ℕ → Row → Findings → Case → Posing Findings
@@ -143,49 +143,49 @@ outcome found = outcome_by found.point found.limits
 
 -- what refutes a row of a candidate, over all cases of the formula that one more unfolding makes:
 -- the first point, else the first limit, if there is one
-unfoldable pub refuted : Transition → Row → Posing (Option Witness)
-refuted f row = each (with_case f.from row) record {
+unfoldable pub refutation : Transition → Row → Posing (Option Witness)
+refutation f row = each (with_case f.from row) record {
   point = None;
   limits = [];
 } f.cases >>= λ found. outcome found
 
 -- ---- a round
 
-unfoldable pub with_judged : Transition → List Judged → Row → Posing (List Judged)
-with_judged f made row = refuted f row >>= λ by. Done (made ++ record { row = row; by = by } ∷ [])
+unfoldable pub with_judged : Transition → List JudgedRow → Row → Posing (List JudgedRow)
+with_judged f made row = refutation f row >>= λ by. Done (made ++ record { row = row; by = by } ∷ [])
 
 -- the formula of a member as for a procedure that is not recursive, where calls of the group are
 -- read by the candidates
-unfoldable pub unfolded : Program → List (Option Transition) → Proc → Posing Transition
-unfolded program known p =
+unfoldable pub unfolded_formula : Program → List (Option Transition) → Proc → Posing Transition
+unfolded_formula program known p =
     cells_from (subject_of program p known) 0 >>= λ cells.
     summary_from (ends_of program p)
     (formula_at (state_columns (subject_of program p known)) cells
     (subject_of program p known).exit)
 
-unfoldable pub with_round : Program → List (Option Transition) → List (List Judged)
-    → Proc × List Row → Posing (List (List Judged))
+unfoldable pub with_round : Program → List (Option Transition) → List (List JudgedRow)
+    → Proc × List Row → Posing (List (List JudgedRow))
 with_round program known made member =
-    unfolded program known member.0 >>= λ f.
+    unfolded_formula program known member.0 >>= λ f.
     each (with_judged f) [] member.1 >>= λ judged. Done (made ++ judged ∷ [])
 
 abbrev pub unless_refuted : Row → Option Witness → Option Row
 unless_refuted row None = Some row
 unless_refuted row (Some by) = None
 
-abbrev pub kept_row : Judged → Option Row
+abbrev pub kept_row : JudgedRow → Option Row
 kept_row judged = unless_refuted judged.row judged.by
 
 -- a dropped row is noted by the place of its procedure in the group
-abbrev pub dropped_by : ℕ → Row → Option Witness → List Note
-dropped_by place row None = []
-dropped_by place row (Some by) = note.Dropped place row by ∷ []
+abbrev pub drop_notes_by : ℕ → Row → Option Witness → List Note
+drop_notes_by place row None = []
+drop_notes_by place row (Some by) = note.Dropped place row by ∷ []
 
-abbrev pub dropped_in : ℕ × List Judged → List Note
-dropped_in member = flat_map (λ judged. dropped_by member.0 judged.row judged.by) member.1
+abbrev pub drop_notes_in : ℕ × List JudgedRow → List Note
+drop_notes_in member = flat_map (λ judged. drop_notes_by member.0 judged.row judged.by) member.1
 
-abbrev pub dropped_notes : List (List Judged) → List Note
-dropped_notes judged = flat_map dropped_in (placed_from 0 judged)
+abbrev pub dropped_notes : List (List JudgedRow) → List Note
+dropped_notes judged = flat_map drop_notes_in (with_places_from 0 judged)
 
 abbrev pub some_note : List Note → Bool
 some_note [] = false

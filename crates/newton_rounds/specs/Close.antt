@@ -12,19 +12,19 @@ use Rattle.newton_rounds.specs.Candidates.{candidate_of, kept_candidates, table_
 unfoldable pub with_candidate : List (List Row) → PairEnds × Transition → Posing (List (List Row))
 with_candidate made member = candidate_of member.0 member.1 >>= λ rows. Done (made ++ rows ∷ [])
 
-abbrev pub paired_up : List PairEnds → List Transition → List (PairEnds × Transition)
-paired_up [] table = []
-paired_up (member ∷ members) [] = []
-paired_up (member ∷ members) (f ∷ table) = (member, f) ∷ paired_up members table
+abbrev pub pairs_of : List PairEnds → List Transition → List (PairEnds × Transition)
+pairs_of [] table = []
+pairs_of (member ∷ members) [] = []
+pairs_of (member ∷ members) (f ∷ table) = (member, f) ∷ pairs_of members table
 
 -- where calls of the group may follow one another: two closures, the candidates of the second, and
 -- what stands of these
-unfoldable pub closed_by_rounds : Program → List ℕ → List (Option Transition) → List Transition
+unfoldable pub closure_by_rounds : Program → List ℕ → List (Option Transition) → List Transition
     → Posing (List Transition)
-closed_by_rounds program procs known bases =
+closure_by_rounds program procs known bases =
     closure_of program procs known bases [] >>= λ first.
     closure_of program procs known bases first >>= λ second.
-    each with_candidate [] (paired_up (ends_of_members program procs) second) >>= λ candidates.
+    each with_candidate [] (pairs_of (ends_of_members program procs) second) >>= λ candidates.
     kept_candidates program procs known candidates >>= λ kept.
     Done (table_of (ends_of_members program procs) kept)
 
@@ -32,7 +32,7 @@ closed_by_rounds program procs known bases =
 unfoldable pub rounds_over : Program → List ℕ → List (Option Transition) → List Transition
     → Posing (List Transition)
 rounds_over program procs known table =
-    each with_candidate [] (paired_up (ends_of_members program procs) table) >>= λ candidates.
+    each with_candidate [] (pairs_of (ends_of_members program procs) table) >>= λ candidates.
     kept_candidates program procs known candidates >>= λ kept.
     Done (table_of (ends_of_members program procs) kept)
 
@@ -42,12 +42,12 @@ rounds_after program procs known bases table =
     closure_of program procs known bases table >>= λ second. rounds_over program procs known second
 
 -- the closure of the empty table where the group is linear
-abbrev pub closed_from : Bool → Program → List ℕ → List (Option Transition) → List Transition
+abbrev pub closure_from : Bool → Program → List ℕ → List (Option Transition) → List Transition
     → Posing (List Transition)
-closed_from true program procs known bases = closure_of program procs known bases []
-closed_from false program procs known bases = closed_by_rounds program procs known bases
+closure_from true program procs known bases = closure_of program procs known bases []
+closure_from false program procs known bases = closure_by_rounds program procs known bases
 
-unfoldable pub closed_of : Bool → Program → List ℕ → List (Option Transition)
+unfoldable pub group_closure : Bool → Program → List ℕ → List (Option Transition)
     → Posing (List Transition)
-closed_of linear program procs known =
-    bases_of program procs known >>= λ bases. closed_from linear program procs known bases
+group_closure linear program procs known =
+    bases_of program procs known >>= λ bases. closure_from linear program procs known bases

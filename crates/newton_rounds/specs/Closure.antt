@@ -9,14 +9,14 @@ use Rattle.path_expr.specs.declared.link.Link.{Link}
 use Rattle.syntax_tree.specs.declared.program.Proc.{Proc}
 use Rattle.syntax_tree.specs.declared.program.Program.{Program}
 use Rattle.transition_formula.specs.declared.loss.Loss.{Loss}
-use Rattle.transition_formula.specs.Composition.{identity_of, sequence_of, lost_in_sequence}
-use Rattle.transition_formula.specs.Hiding.{hidden, lost_in_hiding}
+use Rattle.transition_formula.specs.Composition.{identity_of, sequence_of, losses_in_sequence}
+use Rattle.transition_formula.specs.Hiding.{hidden, losses_in_hiding}
 use Rattle.transition_formula.specs.Posts.{with_entries}
 use Rattle.transition_formula.specs.Transition.{Transition}
 use Rattle.posing.specs.Logs.{loss_notes}
 use Rattle.posing.specs.Posing.{Posing, Done, Noted, ◌>>=◌, each}
 use Rattle.polyhedra.specs.Vocabulary.{Vocabulary}
-use Rattle.checked_tree.specs.Evaluation.{evaluated, settled_and_fitted}
+use Rattle.checked_tree.specs.Evaluation.{evaluated_cells, settled_and_fitted}
 use Rattle.checked_tree.specs.Graph.{Graph, graph_of}
 use Rattle.vocabularies.specs.Ends.{pair_of}
 use Rattle.proc_summary.specs.Flow.{cells_from, columns_of, formula_at}
@@ -24,7 +24,7 @@ use Rattle.proc_summary.specs.Subject.{Subject, subject_of}
 use Rattle.proc_summary.specs.Summary.{Ends, ends_of}
 use Rattle.newton_rounds.specs.declared.calls.Sides.{Sides}
 use Rattle.newton_rounds.specs.Members.{GroupCall, calls_of, calls_from, members_of, with_table}
-use Rattle.newton_rounds.specs.Pairs.{PairEnds, Stretch, base_from, lost_in_base, pair_formula, lost_in_pair}
+use Rattle.newton_rounds.specs.Pairs.{PairEnds, Stretch, base_from, losses_in_base, pair_formula, losses_in_pair}
 
 abbrev pub pair_ends : Program → Proc → PairEnds
 pair_ends program p = record { ends = ends_of program p; pair = pair_of program p }
@@ -57,13 +57,13 @@ with_member program procs known made member =
     (calls_of procs member.0 member.1)
 
 -- the members with their places
-abbrev pub placed_from : {A : Type 0} → ℕ → List A → List (ℕ × A)
-placed_from place [] = []
-placed_from place (x ∷ xs) = (place, x) ∷ placed_from (place + 1) xs
+abbrev pub with_places_from : {A : Type 0} → ℕ → List A → List (ℕ × A)
+with_places_from place [] = []
+with_places_from place (x ∷ xs) = (place, x) ∷ with_places_from (place + 1) xs
 
 unfoldable pub sides_of : Program → List ℕ → List (Option Transition) → Posing (List Sides)
 sides_of program procs known =
-    each (with_member program procs known) [] (placed_from 0 (members_of program procs))
+    each (with_member program procs known) [] (with_places_from 0 (members_of program procs))
 
 -- the calls with their sides
 abbrev pub stretches_with : List GroupCall → List Sides → List Stretch
@@ -102,8 +102,8 @@ abbrev pub group_leaf : List PairEnds → Stretch → Transition
 group_leaf members s = pair_formula (ends_at members s.call.caller) (ends_at members s.call.callee)
     s
 
-abbrev pub lost_in_group_leaf : List PairEnds → Stretch → List Loss
-lost_in_group_leaf members s = lost_in_pair (ends_at members s.call.caller)
+abbrev pub losses_in_group_leaf : List PairEnds → Stretch → List Loss
+losses_in_group_leaf members s = losses_in_pair (ends_at members s.call.caller)
     (ends_at members s.call.callee) s
 
 abbrev pub group_graph : List PairEnds → List Stretch → Graph
@@ -138,10 +138,10 @@ chain_end members bases cells place n =
       cases = [];
     })
 
-abbrev pub lost_in_chain_end : List PairEnds → List Transition → List (Cell Transition) → ℕ → ℕ
+abbrev pub losses_in_chain_end : List PairEnds → List Transition → List (Cell Transition) → ℕ → ℕ
     → List Loss
-lost_in_chain_end members bases cells place n =
-    lost_in_sequence
+losses_in_chain_end members bases cells place n =
+    losses_in_sequence
     (pair_cell (ends_at members place).pair.columns (ends_at members n).pair.columns
     (unwrap_or (slice_get cells n) known.Zero))
     (unwrap_or (slice_get bases n) record {
@@ -160,9 +160,9 @@ chains_of members bases cells place =
           (order_from place (length members));
     }
 
-abbrev pub lost_in_chains : List PairEnds → List Transition → List (Cell Transition) → ℕ → List Loss
-lost_in_chains members bases cells place =
-    flat_map (lost_in_chain_end members bases cells place) (order_from place (length members))
+abbrev pub losses_in_chains : List PairEnds → List Transition → List (Cell Transition) → ℕ → List Loss
+losses_in_chains members bases cells place =
+    flat_map (losses_in_chain_end members bases cells place) (order_from place (length members))
 
 -- the exit's columns become auxiliaries after the case's own, and these are the posts
 abbrev pub exits_told : PairEnds → Transition → Transition
@@ -170,27 +170,27 @@ exits_told member f =
     hidden member.ends.entry.columns
     (with_entries (range_with_len member.ends.entry.columns member.ends.exit.columns) f)
 
-abbrev pub lost_in_exits : PairEnds → Transition → List Loss
-lost_in_exits member f =
-    lost_in_hiding member.ends.entry.columns
+abbrev pub losses_in_exits : PairEnds → Transition → List Loss
+losses_in_exits member f =
+    losses_in_hiding member.ends.entry.columns
     (with_entries (range_with_len member.ends.entry.columns member.ends.exit.columns) f)
 
-unfoldable pub closed_by : List PairEnds → List Transition → ℕ → List (Cell Transition)
+unfoldable pub closure_at : List PairEnds → List Transition → ℕ → List (Cell Transition)
     → Posing Transition
-closed_by members bases place cells =
+closure_at members bases place cells =
     Noted
     (loss_notes
-    (lost_in_chains members bases cells place
-    ++ lost_in_exits (ends_at members place) (chains_of members bases cells place)))
+    (losses_in_chains members bases cells place
+    ++ losses_in_exits (ends_at members place) (chains_of members bases cells place)))
     (settled_and_fitted (exits_told (ends_at members place) (chains_of members bases cells place))
     (ends_at members place).ends.entry (ends_at members place).ends.exit)
 
 unfoldable pub closed_member : List PairEnds → List Stretch → List Transition → ℕ
     → Posing Transition
 closed_member members stretches bases place =
-    Noted (loss_notes (flat_map (lost_in_group_leaf members) stretches))
-    (evaluated (group_graph members stretches) place) >>= λ cells.
-    closed_by members bases place cells
+    Noted (loss_notes (flat_map (losses_in_group_leaf members) stretches))
+    (evaluated_cells (group_graph members stretches) place) >>= λ cells.
+    closure_at members bases place cells
 
 unfoldable pub with_closed : List PairEnds → List Stretch → List Transition → List Transition → ℕ
     → Posing (List Transition)
@@ -220,7 +220,7 @@ unfoldable pub base_of : Program → List (Option Transition) → Proc → Posin
 base_of program known p =
     cells_from (subject_of program p known) 0 >>= λ cells.
     Noted (loss_notes
-    (lost_in_base (pair_ends program p)
+    (losses_in_base (pair_ends program p)
     (formula_at (columns_of (subject_of program p known)) cells
     (subject_of program p known).exit)))
     (Done (base_from (pair_ends program p)

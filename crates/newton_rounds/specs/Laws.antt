@@ -11,7 +11,7 @@ use Rattle.leaf_cases.specs.Summaries.{AreMet, KnowsCallee}
 use Rattle.proc_summary.specs.Subject.{own_graph}
 use Rattle.posing.specs.Posing.{AlwaysPassing}
 use Rattle.newton_rounds.specs.Claims.{AreMetMembers}
-use Rattle.newton_rounds.specs.Close.{closed_of}
+use Rattle.newton_rounds.specs.Close.{group_closure}
 use Rattle.newton_rounds.specs.Members.{IsLinear}
 
 -- a call of one of these
@@ -36,4 +36,4 @@ SummariesAreMet =
     → AreKnown program known →
     AreMet program known →
     KnowsOthers program procs known → (IsTrue linear → IsLinear program procs) →
-    AlwaysPassing (AreMetMembers program procs) (closed_of linear program procs known)
+    AlwaysPassing (AreMetMembers program procs) (group_closure linear program procs known)

@@ -6,14 +6,14 @@ use Rattle.linear_terms.specs.declared.col.Col.TheVariants.{At, Aux}
 use Rattle.linear_terms.specs.declared.row.Case.{Case}
 use Rattle.linear_terms.specs.Polynomial.{Polynomial, column_of}
 use Rattle.syntax_tree.specs.Term.{Term}
-use Rattle.transition_formula.specs.Equating.{equated, lost_in_equating, raised}
+use Rattle.transition_formula.specs.Equating.{equated_formula, losses_in_equating, raised_formula}
 use Rattle.transition_formula.specs.declared.loss.Loss.{Loss}
-use Rattle.transition_formula.specs.Composition.{sequence_of, lost_in_sequence}
-use Rattle.transition_formula.specs.Hiding.{hidden, lost_in_hiding}
+use Rattle.transition_formula.specs.Composition.{sequence_of, losses_in_sequence}
+use Rattle.transition_formula.specs.Hiding.{hidden, losses_in_hiding}
 use Rattle.transition_formula.specs.Posts.{with_posts}
 use Rattle.transition_formula.specs.Transition.{Transition}
 use Rattle.polyhedra.specs.Vocabulary.{Vocabulary}
-use Rattle.leaf_cases.specs.Edges.{arguments_of, received}
+use Rattle.leaf_cases.specs.Edges.{arguments_of, posts_with_value}
 use Rattle.leaf_cases.specs.Guard.{columns_of}
 use Rattle.leaf_cases.specs.Guard as cases
 use Rattle.leaf_cases.specs.Steps.{operand}
@@ -32,18 +32,18 @@ pub record PairEnds : Type 0 where
 -- for each column of the exit says that it is the post there
 abbrev pub entry_told : PairEnds → Option Transition → Transition
 entry_told member f =
-    raised member.pair.columns
+    raised_formula member.pair.columns
     (hidden member.ends.entry.columns (exit_formula member.ends.full.columns f))
 
 abbrev pub base_from : PairEnds → Option Transition → Transition
 base_from member exit =
     with_posts []
-    (equated member.ends.entry.columns (exit_places member.ends) (entry_told member exit))
+    (equated_formula member.ends.entry.columns (exit_places member.ends) (entry_told member exit))
 
-abbrev pub lost_in_base : PairEnds → Option Transition → List Loss
-lost_in_base member exit =
-    lost_in_hiding member.ends.entry.columns (exit_formula member.ends.full.columns exit)
-    ++ lost_in_equating member.ends.entry.columns (exit_places member.ends) (entry_told member exit)
+abbrev pub losses_in_base : PairEnds → Option Transition → List Loss
+losses_in_base member exit =
+    losses_in_hiding member.ends.entry.columns (exit_formula member.ends.full.columns exit)
+    ++ losses_in_equating member.ends.entry.columns (exit_places member.ends) (entry_told member exit)
 
 -- ---- a call of the group
 
@@ -71,9 +71,9 @@ exit_columns count = map (λ n. column_of (Aux n)) (range_with_len 0 count)
 
 -- the caller's columns where the call has returned with these values: first the globals, then what
 -- is returned
-abbrev pub returned : ℕ → ℕ → Option ℕ → List Polynomial → List Polynomial
-returned columns globals into values =
-    received into (operand globals record { aux = 0; rows = []; post = values })
+abbrev pub posts_after_return : ℕ → ℕ → Option ℕ → List Polynomial → List Polynomial
+posts_after_return columns globals into values =
+    posts_with_value into (operand globals record { aux = 0; rows = []; post = values })
     (take globals values ++ drop globals (columns_of columns))
 
 -- new auxiliaries for the callee's exit are put into the caller's columns; the callee's entry is
@@ -88,7 +88,7 @@ call_exit columns globals into entry exit =
             aux = exit;
             rows = [];
             post =
-                returned columns globals into (exit_columns exit)
+                posts_after_return columns globals into (exit_columns exit)
                 ++ (columns_from columns entry ++ exit_columns exit);
           } ∷ [];
     }
@@ -139,24 +139,24 @@ stations_of caller callee s =
 abbrev pub along : Stations → Transition
 along s = sequence_of (sequence_of (sequence_of s.first s.second) s.third) s.fourth
 
-abbrev pub lost_along : Stations → List Loss
-lost_along s =
-    lost_in_sequence s.first s.second
-    ++ (lost_in_sequence (sequence_of s.first s.second) s.third
-    ++ lost_in_sequence (sequence_of (sequence_of s.first s.second) s.third) s.fourth)
+abbrev pub losses_along : Stations → List Loss
+losses_along s =
+    losses_in_sequence s.first s.second
+    ++ (losses_in_sequence (sequence_of s.first s.second) s.third
+    ++ losses_in_sequence (sequence_of (sequence_of s.first s.second) s.third) s.fourth)
 
 -- the formula of a call, from the caller's pair to the callee's
 abbrev pub pair_formula : PairEnds → PairEnds → Stretch → Transition
 pair_formula caller callee s =
     with_posts (range_with_len caller.ends.full.columns
     (callee_width caller.ends callee.ends s.call.args))
-    (equated caller.ends.entry.columns (exit_places caller.ends)
+    (equated_formula caller.ends.entry.columns (exit_places caller.ends)
     (along (stations_of caller callee s)))
 
-abbrev pub lost_in_pair : PairEnds → PairEnds → Stretch → List Loss
-lost_in_pair caller callee s =
-    lost_in_hiding caller.ends.entry.columns (exit_formula caller.ends.full.columns s.before)
+abbrev pub losses_in_pair : PairEnds → PairEnds → Stretch → List Loss
+losses_in_pair caller callee s =
+    losses_in_hiding caller.ends.entry.columns (exit_formula caller.ends.full.columns s.before)
     ++ ((arguments_of s.call.args).lost
-    ++ (lost_along (stations_of caller callee s)
-    ++ lost_in_equating caller.ends.entry.columns (exit_places caller.ends)
+    ++ (losses_along (stations_of caller callee s)
+    ++ losses_in_equating caller.ends.entry.columns (exit_places caller.ends)
     (along (stations_of caller callee s))))

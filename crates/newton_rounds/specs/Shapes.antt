@@ -2,7 +2,7 @@
 use Rattle.std.specs.Prelude.{◌≡◌, ◌<◌, ◌≤◌, ◌+◌, ◌++◌, ◌∷◌, [], ◌^◌, ℕ, All, IsTrue, List, Option, None, Some, length, map}
 use Rattle.std.specs.List.{AllByRecursion}
 use Rattle.transition_formula.specs.declared.loss.Loss.{Loss}
-use Rattle.transition_formula.specs.Hiding.{lost_in_hiding}
+use Rattle.transition_formula.specs.Hiding.{losses_in_hiding}
 use Rattle.flow_graph.specs.FlowGraph.{exit_of}
 use Rattle.syntax_tree.specs.Term.{term_of}
 use Rattle.proc_summary.specs.Subject.{own_graph}
@@ -22,7 +22,7 @@ use Rattle.proc_summary.specs.Claims.{FitsIf}
 use Rattle.newton_rounds.specs.Members.{GroupCall}
 use Rattle.newton_rounds.specs.declared.calls.GroupCall as own
 use Rattle.newton_rounds.specs.declared.calls.Sides.{Sides}
-use Rattle.newton_rounds.specs.Pairs.{PairEnds, Stretch, lost_along, stations_of}
+use Rattle.newton_rounds.specs.Pairs.{PairEnds, Stretch, losses_along, stations_of}
 use Rattle.newton_rounds.specs.Closure.{ends_at}
 
 -- how many columns the ends of a procedure have
@@ -50,10 +50,10 @@ pub record IsStretchBetween (caller callee : PairEnds) (s : Stretch) : Type 0 wh
   pub after : FitsIf caller.ends.full.columns s.after
 
 -- what is lost before the pair's rows are added
-abbrev pub lost_on_the_way : PairEnds → PairEnds → Stretch → List Loss
-lost_on_the_way caller callee s =
-    lost_in_hiding caller.ends.entry.columns (exit_formula caller.ends.full.columns s.before)
-    ++ ((arguments_of s.call.args).lost ++ lost_along (stations_of caller callee s))
+abbrev pub losses_on_the_way : PairEnds → PairEnds → Stretch → List Loss
+losses_on_the_way caller callee s =
+    losses_in_hiding caller.ends.entry.columns (exit_formula caller.ends.full.columns s.before)
+    ++ ((arguments_of s.call.args).lost ++ losses_along (stations_of caller callee s))
 
 -- a call with its terms
 abbrev pub plain_call : own.GroupCall → GroupCall
@@ -117,9 +117,9 @@ abbrev pub IsRefutable : Transition → Row → Type 0
 IsRefutable f row = All (λ case. IsOverPairs f.from case row) f.cases
 
 -- the case that is left
-abbrev pub kept_of : Solved → Option Case
-kept_of False = None
-kept_of (Kept case) = Some case
+abbrev pub case_left_of : Solved → Option Case
+case_left_of False = None
+case_left_of (Kept case) = Some case
 
 -- ---- the nodes of a procedure's graph
 

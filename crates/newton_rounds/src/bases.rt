@@ -9,7 +9,7 @@ ghost use Rattle.proc_summary.specs.Claims.{FitsIf};
 ghost use Rattle.newton_rounds.specs.Between.{AddsBase, AreBases, GoesBetween};
 ghost use Rattle.newton_rounds.specs.Closure.{base_of, bases_of, ends_of_members, pair_ends, with_base};
 ghost use Rattle.newton_rounds.specs.Members.{members_of};
-ghost use Rattle.newton_rounds.specs.Pairs.{base_from, lost_in_base};
+ghost use Rattle.newton_rounds.specs.Pairs.{base_from, losses_in_base};
 ghost use Rattle.newton_rounds.specs.Shapes.{AreEnds};
 
 use crate::ends::{PairEnds, pair_ends};
@@ -124,7 +124,7 @@ fn noted_base(
 ) -> Result<Formula, FormulaError>
     requires ends { AreEnds member.now }
     requires fits { FitsIf member.now.ends.full.columns exit.now }
-    ensures noted { Adds (loss_notes (lost_in_base member.now exit.now)) log.old log.new result }
+    ensures noted { Adds (loss_notes (losses_in_base member.now exit.now)) log.old log.new result }
     ensures made { IfOk result (λ base. base ≡ base_from member.now exit.now) }
 {
     let mut lost = Items::new(alloc);

@@ -2,7 +2,7 @@ ghost use Rattle.std.specs.Prelude.{◌≡◌, [], All, length, map, IfOk};
 ghost use Rattle.std.specs.List.{AllByRecursion};
 ghost use Rattle.posing.specs.Follows.{Follows};
 ghost use Rattle.posing.specs.Posing.{each};
-ghost use Rattle.polyhedra.specs.Bounds.{IsCovered, IsCoveredByPosts, bounded_after};
+ghost use Rattle.polyhedra.specs.Bounds.{IsCovered, IsCoveredByPosts, rows_with_exit_bound};
 ghost use Rattle.polyhedra.specs.Directions.{directions};
 ghost use Rattle.leaf_cases.specs.Guard.{columns_of};
 ghost use Rattle.newton_rounds.specs.Candidates.{candidate_formula, candidate_of, paired_case, table_of};
@@ -65,7 +65,7 @@ fn pair_bounds<O: Oracle>(
     requires rows { All (IsCovered (length (columns_of member.now.pair.columns)))
         (directions member.now.pair) }
     ensures { Follows O.asking oracle.old oracle.new log.old log.new result
-        (each (bounded_after cases.now (columns_of member.now.pair.columns)) []
+        (each (rows_with_exit_bound cases.now (columns_of member.now.pair.columns)) []
         (directions member.now.pair)) }
 {
     let after = columns_from(alloc, 0, member.pair.columns())?;

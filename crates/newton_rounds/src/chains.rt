@@ -1,7 +1,7 @@
 ghost use Rattle.std.specs.Prelude.{◌≡◌, ◌<◌, ◌^◌, ◌++◌, [], ◌∷◌, length, IfOk, OnOk};
 ghost use Rattle.std.specs.List.{flat_map};
 ghost use Rattle.posing.specs.Follows.{Follows};
-ghost use Rattle.newton_rounds.specs.Closure.{chain_end, chains_of, closed_by, ends_at, exits_told, lost_in_chain_end, lost_in_chains, lost_in_exits, others_in, pair_cell};
+ghost use Rattle.newton_rounds.specs.Closure.{chain_end, chains_of, closure_at, ends_at, exits_told, losses_in_chain_end, losses_in_chains, losses_in_exits, others_in, pair_cell};
 ghost use Rattle.newton_rounds.specs.Between.{AreChained, GoesBetween, width_at};
 ghost use Rattle.newton_rounds.specs.Shapes.{AreEnds};
 
@@ -17,8 +17,8 @@ use transition_formula::{Formula, FormulaError, Loss, hidden, identity, seq, wit
 
 /// The formula of the procedure at a place, by what stands at each procedure of the group: the
 /// chains of calls from the one to the other, each with the base of its end.
-#[tactic(auto, using(posing::proofs::Following::following), unfolding(crate::specs::Closure::closed_by))]
-pub(crate) fn closed_by<O: Oracle>(
+#[tactic(auto, using(posing::proofs::Following::following), unfolding(crate::specs::Closure::closure_at))]
+pub(crate) fn closure_at<O: Oracle>(
     alloc: Global,
     members: &[PairEnds],
     bases: &[Formula],
@@ -29,7 +29,7 @@ pub(crate) fn closed_by<O: Oracle>(
 ) -> Result<Formula, WorkError>
     requires { AreChained members.now bases.now place cells.now }
     ensures { Follows O.asking oracle.old oracle.new log.old log.new result
-        (closed_by members.now bases.now place cells.now) }
+        (closure_at members.now bases.now place cells.now) }
 {
     let member = &members[place as usize];
     let mut lost = Items::new(alloc);
@@ -52,7 +52,7 @@ fn chains_of(
     requires { AreChained members.now bases.now place cells.now }
     ensures made { IfOk result (λ f. f ≡ chains_of members.now bases.now cells.now place) }
     ensures noted { OnOk result
-        (lost.new ≡ lost.old ++ lost_in_chains members.now bases.now cells.now place) }
+        (lost.new ≡ lost.old ++ losses_in_chains members.now bases.now cells.now place) }
 {
     let mut cases = Items::new(alloc);
     add_chains(alloc, members, bases, place, place, cells, &mut cases, lost)?;
@@ -80,7 +80,7 @@ fn add_others(
         ++ flat_map (λ n. (chain_end members.now bases.now cells.now place n).cases)
         (others_in place (n ∷ []))) }
     ensures noted { OnOk result
-        (lost.new ≡ lost.old ++ flat_map (lost_in_chain_end members.now bases.now cells.now place)
+        (lost.new ≡ lost.old ++ flat_map (losses_in_chain_end members.now bases.now cells.now place)
         (others_in place (n ∷ []))) }
 {
     if n == place {
@@ -105,7 +105,7 @@ fn add_chains(
     ensures made { OnOk result
         (cases.new ≡ cases.old ++ (chain_end members.now bases.now cells.now place n).cases) }
     ensures noted { OnOk result
-        (lost.new ≡ lost.old ++ lost_in_chain_end members.now bases.now cells.now place n) }
+        (lost.new ≡ lost.old ++ losses_in_chain_end members.now bases.now cells.now place n) }
 {
     let chains = chain_end(alloc, members, bases, place, n, cells, lost)?;
     Ok(add_cases(chains.cases(), cases)?)
@@ -125,7 +125,7 @@ fn chain_end(
     requires there { n < length members.now }
     ensures made { IfOk result (λ f. f ≡ chain_end members.now bases.now cells.now place n) }
     ensures noted { OnOk result
-        (lost.new ≡ lost.old ++ lost_in_chain_end members.now bases.now cells.now place n) }
+        (lost.new ≡ lost.old ++ losses_in_chain_end members.now bases.now cells.now place n) }
 {
     let from = width_at(members, place);
     let to = width_at(members, n);
@@ -179,7 +179,7 @@ pub(crate) fn exits_told(
     requires ends { AreEnds member.now }
     requires over { GoesBetween 2000 member.now.pair.columns 0 f.now }
     ensures made { IfOk result (λ told. told ≡ exits_told member.now f.now) }
-    ensures noted { OnOk result (lost.new ≡ lost.old ++ lost_in_exits member.now f.now) }
+    ensures noted { OnOk result (lost.new ≡ lost.old ++ losses_in_exits member.now f.now) }
 {
     let entry = member.entry.columns();
     let places = numbers_from(alloc, entry, member.exit.columns())?;

@@ -6,7 +6,7 @@ ghost use Rattle.posing.specs.Posing.{each};
 ghost use Rattle.leaf_cases.specs.Conditions.{AreKnown};
 ghost use Rattle.leaf_cases.specs.Summaries.{AreMet};
 ghost use Rattle.newton_rounds.specs.Claims.{AreKnownMembers, AreMetMembers};
-ghost use Rattle.newton_rounds.specs.Close.{closed_by_rounds, closed_of, paired_up, rounds_after, rounds_over, with_candidate};
+ghost use Rattle.newton_rounds.specs.Close.{closure_by_rounds, group_closure, pairs_of, rounds_after, rounds_over, with_candidate};
 ghost use Rattle.newton_rounds.specs.Closure.{ends_of_members};
 ghost use Rattle.newton_rounds.specs.Laws.{KnowsOthers};
 ghost use Rattle.newton_rounds.specs.Members.{IsLinear};
@@ -42,18 +42,18 @@ pub fn close<O: Oracle>(
     requires few { length procs.now ≤ length program.now.procs }
     requires known { AreKnown program.now known.now }
     ensures follows { Follows O.asking oracle.old oracle.new log.old log.new result
-        (closed_of linear program.now procs.now known.now) }
+        (group_closure linear program.now procs.now known.now) }
     ensures known { IfOk result (AreKnownMembers program.now procs.now) }
     ensures met { AreMet program.now known.now → KnowsOthers program.now procs.now known.now
         → (IsTrue linear → IsLinear program.now procs.now)
         → IfOk result (AreMetMembers program.now procs.now) }
 {
-    closed_of(alloc, program, procs, known, linear, oracle, log)
+    group_closure(alloc, program, procs, known, linear, oracle, log)
 }
 
 /// The same, of which it is not yet said that the summaries are met.
-#[tactic(auto, using(posing::proofs::Following::following), unfolding(crate::specs::Close::closed_of))]
-fn closed_of<O: Oracle>(
+#[tactic(auto, using(posing::proofs::Following::following), unfolding(crate::specs::Close::group_closure))]
+fn group_closure<O: Oracle>(
     alloc: Global,
     program: &Program,
     procs: &[u32],
@@ -67,7 +67,7 @@ fn closed_of<O: Oracle>(
     requires few { length procs.now ≤ length program.now.procs }
     requires known { AreKnown program.now known.now }
     ensures follows { Follows O.asking oracle.old oracle.new log.old log.new result
-        (closed_of linear program.now procs.now known.now) }
+        (group_closure linear program.now procs.now known.now) }
     ensures known { IfOk result (AreKnownMembers program.now procs.now) }
 {
     let bases = bases_of(alloc, program, procs, known, oracle, log)?;
@@ -75,13 +75,13 @@ fn closed_of<O: Oracle>(
     if linear {
         closure_of(alloc, program, procs, known, bases, &[], oracle, log)
     } else {
-        closed_by_rounds(alloc, program, procs, known, bases, oracle, log)
+        closure_by_rounds(alloc, program, procs, known, bases, oracle, log)
     }
 }
 
 /// Two closures, the candidates of the second, and what stands of these.
-#[tactic(auto, using(posing::proofs::Following::following), unfolding(crate::specs::Close::closed_by_rounds))]
-fn closed_by_rounds<O: Oracle>(
+#[tactic(auto, using(posing::proofs::Following::following), unfolding(crate::specs::Close::closure_by_rounds))]
+fn closure_by_rounds<O: Oracle>(
     alloc: Global,
     program: &Program,
     procs: &[u32],
@@ -96,7 +96,7 @@ fn closed_by_rounds<O: Oracle>(
     requires known { AreKnown program.now known.now }
     requires bases { AreBases (ends_of_members program.now procs.now) bases.now }
     ensures follows { Follows O.asking oracle.old oracle.new log.old log.new result
-        (closed_by_rounds program.now procs.now known.now bases.now) }
+        (closure_by_rounds program.now procs.now known.now bases.now) }
     ensures fits { IfOk result (AreSummaries (ends_of_members program.now procs.now)) }
 {
     let members = ends_of_members(alloc, program, procs)?;
@@ -176,7 +176,7 @@ fn candidates_of<O: Oracle>(
     requires members { AllByRecursion IsMember members.now }
     requires table { AreSummaries members.now table.now }
     ensures follows { Follows O.asking oracle.old oracle.new log.old log.new result
-        (each with_candidate [] (paired_up members.now table.now)) }
+        (each with_candidate [] (pairs_of members.now table.now)) }
     ensures over { IfOk result (AreCandidates members.now) }
 {
     let mut made = Items::new(alloc);

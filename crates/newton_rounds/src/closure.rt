@@ -6,14 +6,14 @@ ghost use Rattle.posing.specs.Follows.{Follows};
 ghost use Rattle.posing.specs.Logs.{Adds, loss_notes};
 ghost use Rattle.posing.specs.Posing.{Noted, each};
 ghost use Rattle.leaf_cases.specs.Conditions.{AreKnown};
-ghost use Rattle.checked_tree.specs.Evaluation.{evaluated};
-ghost use Rattle.newton_rounds.specs.Closure.{closed_member, closure_of, ends_of_members, group_graph, group_leaf, group_link, lost_in_group_leaf, sides_of, stretches_with, with_closed};
+ghost use Rattle.checked_tree.specs.Evaluation.{evaluated_cells};
+ghost use Rattle.newton_rounds.specs.Closure.{closed_member, closure_of, ends_of_members, group_graph, group_leaf, group_link, losses_in_group_leaf, sides_of, stretches_with, with_closed};
 ghost use Rattle.newton_rounds.specs.Between.{AreBases, AreChainsFrom, AreSummaries, FitTable, IsGroup};
 ghost use Rattle.newton_rounds.specs.Members.{calls_from, members_of, with_table};
 ghost use Rattle.newton_rounds.specs.Shapes.{FitCalls, plain_call};
 
 use crate::calls::{GroupCall, Sides};
-use crate::chains::closed_by;
+use crate::chains::closure_at;
 use crate::ends::{PairEnds, ends_of_members};
 use crate::sides::{calls_from, sides_of};
 use crate::stretching::pair_formula;
@@ -55,7 +55,7 @@ pub(crate) fn closure_of<O: Oracle>(
     let calls = calls_from(alloc, program, procs)?;
     let sides = sides_by(alloc, program, procs, known, table, oracle, log)?;
     let calls = calls.as_slice();
-    closed(
+    group_formulas(
         alloc,
         members.as_slice(),
         calls,
@@ -94,7 +94,7 @@ fn sides_by<O: Oracle>(
 
 /// The formula of each procedure, by the graph of the group's calls.
 #[tactic(auto, using(posing::proofs::Following::following))]
-fn closed<O: Oracle>(
+fn group_formulas<O: Oracle>(
     alloc: Global,
     members: &[PairEnds],
     calls: &[GroupCall],
@@ -166,7 +166,7 @@ fn closed_member<O: Oracle>(
         place) }
 {
     let cells = group_cells(alloc, members, calls, sides, place, oracle, log)?;
-    closed_by(alloc, members, bases, place, cells.as_slice(), oracle, log)
+    closure_at(alloc, members, bases, place, cells.as_slice(), oracle, log)
 }
 
 /// What stands at each procedure of the group: the chains of calls from the one at a place to it.
@@ -185,9 +185,9 @@ fn group_cells<O: Oracle>(
     requires there { place < length members.now }
     ensures follows { Follows O.asking oracle.old oracle.new log.old log.new result
         (Noted (loss_notes
-        (flat_map (lost_in_group_leaf members.now)
+        (flat_map (losses_in_group_leaf members.now)
         (stretches_with (map plain_call calls.now) sides.now)))
-        (evaluated (group_graph members.now (stretches_with (map plain_call calls.now) sides.now))
+        (evaluated_cells (group_graph members.now (stretches_with (map plain_call calls.now) sides.now))
         place)) }
     ensures lead { IfOk result (AreChainsFrom members.now place) }
 {
@@ -230,7 +230,7 @@ fn noted_leaves(
     requires each { length calls.now ≡ length sides.now }
     requires group { IsGroup members.now (stretches_with (map plain_call calls.now) sides.now) }
     ensures noted { Adds
-        (loss_notes (flat_map (lost_in_group_leaf members.now)
+        (loss_notes (flat_map (losses_in_group_leaf members.now)
         (stretches_with (map plain_call calls.now) sides.now))) log.old log.new result }
     ensures made { IfOk result
         (λ leaves. leaves
@@ -255,7 +255,7 @@ fn leaves_of(
         (λ leaves. leaves
         ≡ map (group_leaf members.now) (stretches_with (map plain_call calls.now) sides.now)) }
     ensures noted { OnOk result
-        (lost.new ≡ lost.old ++ flat_map (lost_in_group_leaf members.now)
+        (lost.new ≡ lost.old ++ flat_map (losses_in_group_leaf members.now)
         (stretches_with (map plain_call calls.now) sides.now)) }
 {
     let mut leaves = Items::new(alloc);

@@ -8,7 +8,7 @@ ghost use Rattle.proc_summary.specs.Subject.{link_of};
 ghost use Rattle.newton_rounds.specs.Members.{AreApart, IsLinear, calls_in, is_call_to, place_of};
 ghost use Rattle.newton_rounds.specs.Reached.{is_marked};
 
-use crate::reaching::reached;
+use crate::reaching::reach_marks;
 use flow_graph::{Act, Edge, Group, graph};
 use items::Items;
 use path_expr::Link;
@@ -56,7 +56,7 @@ fn edges_are_apart(
 {
     let links = links_of(alloc, edges)?;
     let ends = ends_of_calls(alloc, edges, procs)?;
-    let marks = reached(alloc, nodes, links.as_slice(), ends.as_slice())?;
+    let marks = reach_marks(alloc, nodes, links.as_slice(), ends.as_slice())?;
     Ok(no_call_begins(edges, procs, marks.as_slice()))
 }
 

@@ -1,8 +1,8 @@
 ghost use Rattle.std.specs.Prelude.{◌≡◌, ◌+◌, ◌<◌, ◌^◌, ◌++◌, IfOk, OnOk};
-ghost use Rattle.transition_formula.specs.Hiding.{lost_in_hiding};
+ghost use Rattle.transition_formula.specs.Hiding.{losses_in_hiding};
 ghost use Rattle.proc_summary.specs.Claims.{FitsIf};
 ghost use Rattle.proc_summary.specs.Summary.{exit_formula};
-ghost use Rattle.newton_rounds.specs.Pairs.{base_from, columns_from, entry_told, lost_in_base};
+ghost use Rattle.newton_rounds.specs.Pairs.{base_from, columns_from, entry_told, losses_in_base};
 ghost use Rattle.newton_rounds.specs.Shapes.{AreEnds};
 
 use crate::ends::PairEnds;
@@ -10,7 +10,7 @@ use items::Items;
 use linear_terms::{Col, Poly};
 use std::alloc::{AllocError, Global};
 use transition_formula::{
-    Formula, FormulaError, Loss, column, equated, hidden, raised, with_posts,
+    Formula, FormulaError, Loss, column, equated_formula, hidden, raised_formula, with_posts,
 };
 
 // ---- the activations without a call of the group
@@ -41,12 +41,12 @@ pub(crate) fn entry_told(
     requires fits { FitsIf member.now.ends.full.columns f.now }
     ensures made { IfOk result (λ told. told ≡ entry_told member.now f.now) }
     ensures noted { OnOk result
-        (lost.new ≡ lost.old ++ lost_in_hiding member.now.ends.entry.columns
+        (lost.new ≡ lost.old ++ losses_in_hiding member.now.ends.entry.columns
         (exit_formula member.now.ends.full.columns f.now)) }
 {
     let whole = exit_formula(alloc, member.full.columns(), f)?;
     let told = hidden(alloc, &whole, member.entry.columns(), lost)?;
-    raised(&told, member.pair.columns())
+    raised_formula(&told, member.pair.columns())
 }
 
 /// What holds of the pairs of activations without a call of the group, by the formula of the exit.
@@ -60,12 +60,12 @@ pub(crate) fn base_from(
     requires ends { AreEnds member.now }
     requires fits { FitsIf member.now.ends.full.columns exit.now }
     ensures made { IfOk result (λ base. base ≡ base_from member.now exit.now) }
-    ensures noted { OnOk result (lost.new ≡ lost.old ++ lost_in_base member.now exit.now) }
+    ensures noted { OnOk result (lost.new ≡ lost.old ++ losses_in_base member.now exit.now) }
 {
     let told = entry_told(alloc, member, exit, lost)?;
     let places = member.exit_places(alloc)?;
     let first = member.entry.columns();
-    let equal = equated(alloc, &told, first, places.as_slice(), lost)?;
+    let equal = equated_formula(alloc, &told, first, places.as_slice(), lost)?;
     with_posts(alloc, &equal, &[])
 }
 

@@ -7,7 +7,7 @@ use path_expr::Link;
 use std::alloc::{AllocError, Global};
 
 /// The nodes of a graph that walks lead to from some of its nodes: a mark for each node.
-pub(crate) fn reached(
+pub(crate) fn reach_marks(
     alloc: Global,
     nodes: u32,
     links: &[Link],

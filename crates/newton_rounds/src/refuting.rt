@@ -3,13 +3,13 @@ ghost use Rattle.items.specs.Gives.{Gives};
 ghost use Rattle.linear_terms.specs.TermError.{cause};
 ghost use Rattle.linear_terms.specs.declared.row.Row.{Row as PlainRow};
 ghost use Rattle.transition_formula.specs.Hiding.{own_auxiliaries};
-ghost use Rattle.transition_formula.specs.Loss.{answered, losses_of};
+ghost use Rattle.transition_formula.specs.Loss.{answer_of, losses_of};
 ghost use Rattle.farkas_check.specs.Columns.{columns};
 ghost use Rattle.posing.specs.Follows.{Follows};
 ghost use Rattle.posing.specs.Posing.{each};
 ghost use Rattle.leaf_cases.specs.Guard.{columns_of};
-ghost use Rattle.newton_rounds.specs.Candidates.{against, contrary, found_in, found_left, limit_notes, outcome, outcome_by, refuted, with_answer, with_case, with_point};
-ghost use Rattle.newton_rounds.specs.Shapes.{IsOverPairs, IsRefutable, kept_of};
+ghost use Rattle.newton_rounds.specs.Candidates.{against, contrary, findings_in, found_left, limit_notes, outcome, outcome_by, refutation, with_answer, with_case, with_point};
+ghost use Rattle.newton_rounds.specs.Shapes.{IsOverPairs, IsRefutable, case_left_of};
 
 use crate::findings::Findings;
 use crate::pairs::add_copies;
@@ -22,8 +22,8 @@ use transition_formula::{Formula, FormulaError, Loss, Solved, note, solve};
 
 /// What refutes a row of a candidate, over all cases of the formula that one more unfolding makes:
 /// the first point, else the first limit, if there is one.
-#[tactic(auto, using(posing::proofs::Following::following), unfolding(crate::specs::Candidates::refuted))]
-pub(crate) fn refuted<O: Oracle>(
+#[tactic(auto, using(posing::proofs::Following::following), unfolding(crate::specs::Candidates::refutation))]
+pub(crate) fn refutation<O: Oracle>(
     alloc: Global,
     f: &Formula,
     row: &Row,
@@ -32,14 +32,14 @@ pub(crate) fn refuted<O: Oracle>(
 ) -> Result<Option<Witness>, WorkError>
     requires rows { IsRefutable f.now row.now }
     ensures { Follows O.asking oracle.old oracle.new log.old log.new result
-        (refuted f.now row.now) }
+        (refutation f.now row.now) }
 {
-    let found = found_over(alloc, f, row, oracle, log)?;
+    let found = findings_over(alloc, f, row, oracle, log)?;
     outcome(alloc, found, oracle, log)
 }
 
 #[tactic(auto, using(posing::proofs::Following::following))]
-fn found_over<O: Oracle>(
+fn findings_over<O: Oracle>(
     alloc: Global,
     f: &Formula,
     row: &Row,
@@ -115,7 +115,7 @@ fn add_contrary(
 ) -> Result<(), FormulaError>
     requires { IsOverPairs from case.now row.now }
     ensures made { OnOk result
-        (rows.new ≡ rows.old ++ option_to_list (answered (contrary from case.now row.now))) }
+        (rows.new ≡ rows.old ++ option_to_list (answer_of (contrary from case.now row.now))) }
     ensures noted { OnOk result
         (lost.new ≡ lost.old ++ losses_of (contrary from case.now row.now)) }
 {
@@ -173,24 +173,24 @@ fn found_left<O: Oracle>(
     log: &mut Log,
 ) -> Result<Findings, WorkError>
     ensures { Follows O.asking oracle.old oracle.new log.old log.new result
-        (found_left found (kept_of left)) }
+        (found_left found (case_left_of left)) }
 {
     match left {
-        Solved::Kept(case) => found_in(alloc, found, case.rows, oracle, log),
+        Solved::Kept(case) => findings_in(alloc, found, case.rows, oracle, log),
         Solved::False => Ok(found),
     }
 }
 
 /// A case without rows is refuted by the point without numbers.
 #[tactic(auto, using(posing::proofs::Following::following))]
-fn found_in<O: Oracle>(
+fn findings_in<O: Oracle>(
     alloc: Global,
     found: Findings,
     rows: Items<Row>,
     oracle: &mut O,
     log: &mut Log,
 ) -> Result<Findings, WorkError>
-    ensures { Follows O.asking oracle.old oracle.new log.old log.new result (found_in found rows) }
+    ensures { Follows O.asking oracle.old oracle.new log.old log.new result (findings_in found rows) }
 {
     if rows.is_empty() {
         let of = Items::new(alloc);

@@ -1,7 +1,7 @@
 ghost use Rattle.std.specs.Prelude.{◌≡◌, ◌+◌, ◌<◌, ◌≤◌, ◌^◌, IfOk, drop, length, slice_get, slice_set, unwrap_or};
 ghost use Rattle.leaf_cases.specs.Division.{zero};
-ghost use Rattle.leaf_cases.specs.Edges.{received};
-ghost use Rattle.newton_rounds.specs.Pairs.{call_exit, exit_columns, returned};
+ghost use Rattle.leaf_cases.specs.Edges.{posts_with_value};
+ghost use Rattle.newton_rounds.specs.Pairs.{call_exit, exit_columns, posts_after_return};
 
 use crate::pairs::{add_copies, columns_from};
 use items::Items;
@@ -25,7 +25,7 @@ pub(crate) fn call_exit(
     ensures { IfOk result (λ f. f ≡ call_exit columns globals into entry exit) }
 {
     let values = exit_columns(alloc, exit)?;
-    let mut post = returned(alloc, columns, globals, into, values.as_slice())?;
+    let mut post = posts_after_return(alloc, columns, globals, into, values.as_slice())?;
     let mut carried = columns_from(alloc, columns, entry)?;
     carried.append(values)?;
     post.append(carried)?;
@@ -51,7 +51,7 @@ fn exit_columns(alloc: Global, count: u32) -> Result<Items<Poly>, FormulaError>
 
 /// The caller's columns where a call has returned with these values: first the globals, then what
 /// is returned.
-fn returned(
+fn posts_after_return(
     alloc: Global,
     columns: u32,
     globals: u32,
@@ -60,14 +60,14 @@ fn returned(
 ) -> Result<Items<Poly>, FormulaError>
     requires values { globals ≤ length values.now }
     requires columns { globals ≤ columns }
-    ensures { IfOk result (λ made. made ≡ returned columns globals into values.now) }
+    ensures { IfOk result (λ made. made ≡ posts_after_return columns globals into values.now) }
 {
     let same = columns_from(alloc, 0, columns)?;
     let mut made = Items::new(alloc);
     add_copies(&values[..globals as usize], &mut made)?;
     made.append(rest_of(alloc, same.as_slice(), globals as usize)?)?;
     let value = value_at(alloc, values, globals as usize)?;
-    Ok(received(into, value, made))
+    Ok(posts_with_value(into, value, made))
 }
 
 fn copies(alloc: Global, polys: &[Poly]) -> Result<Items<Poly>, AllocError>
@@ -100,17 +100,17 @@ fn value_at(alloc: Global, values: &[Poly], place: usize) -> Result<Poly, AllocE
 }
 
 /// A value goes into the column that awaits it.
-fn received(into: Option<u32>, value: Poly, posts: Items<Poly>) -> Items<Poly>
-    ensures { result ≡ received into value posts }
+fn posts_with_value(into: Option<u32>, value: Poly, posts: Items<Poly>) -> Items<Poly>
+    ensures { result ≡ posts_with_value into value posts }
 {
     match into {
-        Some(col) => replaced(posts, col, value),
+        Some(col) => posts_with(posts, col, value),
         None => posts,
     }
 }
 
 /// The posts with another in the place of one, if that is there.
-fn replaced(posts: Items<Poly>, col: u32, value: Poly) -> Items<Poly>
+fn posts_with(posts: Items<Poly>, col: u32, value: Poly) -> Items<Poly>
     ensures { result ≡ slice_set posts col value }
 {
     let mut posts = posts.into_vec();

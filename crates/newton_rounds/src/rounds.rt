@@ -6,17 +6,17 @@ ghost use Rattle.posing.specs.Follows.{Follows};
 ghost use Rattle.posing.specs.Logs.{Adds};
 ghost use Rattle.posing.specs.Posing.{each};
 ghost use Rattle.leaf_cases.specs.Conditions.{AreKnown, IsKnown};
-ghost use Rattle.newton_rounds.specs.Candidates.{dropped_notes, kept_candidates, kept_row, members_with, round, some_note, table_of, unfolded, with_judged, with_round};
+ghost use Rattle.newton_rounds.specs.Candidates.{dropped_notes, kept_candidates, kept_row, members_with, round, some_note, table_of, unfolded_formula, with_judged, with_round};
 ghost use Rattle.newton_rounds.specs.Closure.{ends_of_members, pair_ends};
 ghost use Rattle.newton_rounds.specs.Members.{members_of, with_table};
 ghost use Rattle.newton_rounds.specs.Between.{AreCandidates, IsFewer, IsMember, IsRowOver};
 ghost use Rattle.newton_rounds.specs.Shapes.{IsRefutable};
 
 use crate::candidates::table_of;
-use crate::dropping::{Judged, dropped_notes, kept_rows};
+use crate::dropping::{JudgedRow, dropped_notes, kept_rows};
 use crate::ends::{PairEnds, ends_of_members};
 use crate::exits::exit_from;
-use crate::refuting::refuted;
+use crate::refuting::refutation;
 use crate::tables::with_table;
 use farkas_check::Oracle;
 use items::Items;
@@ -89,14 +89,14 @@ fn round<O: Oracle>(
     ensures over { IfOk result (λ next. AreCandidates members.now next.0) }
     ensures fewer { IfOk result (λ next. IsFewer candidates.now next) }
 {
-    let all = known_with(alloc, procs, members, known, candidates)?;
+    let all = known_formulas_with(alloc, procs, members, known, candidates)?;
     let all = all.as_slice();
-    let judged = judged_in(alloc, program, procs, all, candidates, oracle, log)?;
+    let judged = judgements_in(alloc, program, procs, all, candidates, oracle, log)?;
     Ok(rows_left(alloc, judged.as_slice(), log)?)
 }
 
 /// The known formulas, with those of the candidates.
-fn known_with(
+fn known_formulas_with(
     alloc: Global,
     procs: &[u32],
     members: &[PairEnds],
@@ -116,7 +116,7 @@ fn known_with(
 /// The rows that are left, and whether any was dropped; each that was is noted.
 fn rows_left(
     alloc: Global,
-    judged: &[Items<Judged>],
+    judged: &[Items<JudgedRow>],
     log: &mut Log,
 ) -> Result<(Items<Items<Row>>, bool), AllocError>
     requires { length judged.now < 2 ^ 32 }
@@ -134,7 +134,7 @@ fn rows_left(
 
 /// The rows of all procedures with what refutes each.
 #[tactic(auto, using(posing::proofs::Following::following))]
-fn judged_in<O: Oracle>(
+fn judgements_in<O: Oracle>(
     alloc: Global,
     program: &Program,
     procs: &[u32],
@@ -142,7 +142,7 @@ fn judged_in<O: Oracle>(
     candidates: &[Items<Row>],
     oracle: &mut O,
     log: &mut Log,
-) -> Result<Items<Items<Judged>>, WorkError>
+) -> Result<Items<Items<JudgedRow>>, WorkError>
     requires formed { IsWellFormed program.now }
     requires there { All (λ proc. proc < length program.now.procs) procs.now }
     requires known { AreKnown program.now known.now }
@@ -166,12 +166,12 @@ fn with_round<O: Oracle>(
     alloc: Global,
     program: &Program,
     known: &[Option<Formula>],
-    made: Items<Items<Judged>>,
+    made: Items<Items<JudgedRow>>,
     proc: u32,
     rows: &[Row],
     oracle: &mut O,
     log: &mut Log,
-) -> Result<Items<Items<Judged>>, WorkError>
+) -> Result<Items<Items<JudgedRow>>, WorkError>
     requires formed { IsWellFormed program.now }
     requires procedure { proc < length program.now.procs }
     requires known { AreKnown program.now known.now }
@@ -181,21 +181,21 @@ fn with_round<O: Oracle>(
         → Follows O.asking oracle.old oracle.new log.old log.new result
         (with_round program.now known.now made (p, rows.now)) }
 {
-    let f = unfolded(alloc, program, proc, known, oracle, log)?;
-    let judged = judged_by(alloc, &f, rows, oracle, log)?;
+    let f = unfolded_formula(alloc, program, proc, known, oracle, log)?;
+    let judged = judgements_by(alloc, &f, rows, oracle, log)?;
     let mut all = made;
     all.push(judged)?;
     Ok(all)
 }
 
 #[tactic(auto, using(posing::proofs::Following::following))]
-fn judged_by<O: Oracle>(
+fn judgements_by<O: Oracle>(
     alloc: Global,
     f: &Formula,
     rows: &[Row],
     oracle: &mut O,
     log: &mut Log,
-) -> Result<Items<Judged>, WorkError>
+) -> Result<Items<JudgedRow>, WorkError>
     requires { AllByRecursion (IsRefutable f.now) rows.now }
     ensures { Follows O.asking oracle.old oracle.new log.old log.new result
         (each (with_judged f.now) [] rows.now) }
@@ -211,26 +211,26 @@ fn judged_by<O: Oracle>(
 fn with_judged<O: Oracle>(
     alloc: Global,
     f: &Formula,
-    made: Items<Judged>,
+    made: Items<JudgedRow>,
     row: &Row,
     oracle: &mut O,
     log: &mut Log,
-) -> Result<Items<Judged>, WorkError>
+) -> Result<Items<JudgedRow>, WorkError>
     requires { IsRefutable f.now row.now }
     ensures { Follows O.asking oracle.old oracle.new log.old log.new result
         (with_judged f.now made row.now) }
 {
     let copy = row.clone()?;
-    let by = refuted(alloc, f, row, oracle, log)?;
+    let by = refutation(alloc, f, row, oracle, log)?;
     let mut all = made;
-    all.push(Judged { row: copy, by })?;
+    all.push(JudgedRow { row: copy, by })?;
     Ok(all)
 }
 
 /// The formula of a procedure as of one that is not recursive, where calls of the group are read by
 /// the candidates.
 #[tactic(auto, using(posing::proofs::Following::following))]
-fn unfolded<O: Oracle>(
+fn unfolded_formula<O: Oracle>(
     alloc: Global,
     program: &Program,
     proc: u32,
@@ -243,7 +243,7 @@ fn unfolded<O: Oracle>(
     requires known { AreKnown program.now known.now }
     ensures follows { (p : Procedure) → slice_get program.now.procs proc ≡ Some p
         → Follows O.asking oracle.old oracle.new log.old log.new result
-        (unfolded program.now known.now p) }
+        (unfolded_formula program.now known.now p) }
     ensures known { (p : Procedure) → slice_get program.now.procs proc ≡ Some p
         → IfOk result (IsKnown program.now p) }
 {

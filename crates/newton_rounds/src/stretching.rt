@@ -1,10 +1,10 @@
 ghost use Rattle.std.specs.Prelude.{◌≡◌, ◌+◌, ◌<◌, ◌^◌, ◌++◌, IfOk, OnOk};
-ghost use Rattle.transition_formula.specs.Composition.{lost_in_sequence, sequence_of};
+ghost use Rattle.transition_formula.specs.Composition.{losses_in_sequence, sequence_of};
 ghost use Rattle.transition_formula.specs.Transition.{AreFew};
 ghost use Rattle.proc_summary.specs.Claims.{FitsIf};
 ghost use Rattle.proc_summary.specs.Summary.{exit_formula};
-ghost use Rattle.newton_rounds.specs.Pairs.{along, carrying, lost_in_pair, pair_formula, stations_of};
-ghost use Rattle.newton_rounds.specs.Shapes.{IsStretchBetween, lost_on_the_way, stretch_of};
+ghost use Rattle.newton_rounds.specs.Pairs.{along, carrying, losses_in_pair, pair_formula, stations_of};
+ghost use Rattle.newton_rounds.specs.Shapes.{IsStretchBetween, losses_on_the_way, stretch_of};
 
 use crate::calls::{GroupCall, Sides};
 use crate::ends::{PairEnds, numbers_from};
@@ -13,7 +13,7 @@ use crate::returning::call_exit;
 use crate::stations::{call_entry, carrying};
 use items::Items;
 use std::alloc::Global;
-use transition_formula::{Formula, FormulaError, Loss, equated, seq, with_posts};
+use transition_formula::{Formula, FormulaError, Loss, equated_formula, seq, with_posts};
 
 /// The formulas between the stations of a call, one after another. The losses of each are noted
 /// where it is made, those of the sequences behind them.
@@ -29,7 +29,7 @@ fn along(
     ensures made { IfOk result
         (λ f. f ≡ along (stations_of caller.now callee.now (stretch_of call.now sides.now))) }
     ensures noted { OnOk result
-        (lost.new ≡ lost.old ++ lost_on_the_way caller.now callee.now
+        (lost.new ≡ lost.old ++ losses_on_the_way caller.now callee.now
         (stretch_of call.now sides.now)) }
 {
     let first = entry_told(alloc, caller, &sides.before, lost)?;
@@ -61,9 +61,9 @@ fn along_from_entry(
     ensures made { IfOk result
         (λ f. f ≡ along (stations_of caller.now callee.now (stretch_of call.now sides.now))) }
     ensures noted { OnOk result
-        (lost.new ≡ (lost.old ++ lost_in_sequence entered.now
+        (lost.new ≡ (lost.old ++ losses_in_sequence entered.now
         (stations_of caller.now callee.now (stretch_of call.now sides.now)).third)
-        ++ lost_in_sequence
+        ++ losses_in_sequence
         (sequence_of entered.now
         (stations_of caller.now callee.now (stretch_of call.now sides.now)).third)
         (stations_of caller.now callee.now (stretch_of call.now sides.now)).fourth) }
@@ -106,13 +106,13 @@ pub(crate) fn pair_formula(
     ensures made { IfOk result
         (λ f. f ≡ pair_formula caller.now callee.now (stretch_of call.now sides.now)) }
     ensures noted { OnOk result
-        (lost.new ≡ lost.old ++ lost_in_pair caller.now callee.now
+        (lost.new ≡ lost.old ++ losses_in_pair caller.now callee.now
         (stretch_of call.now sides.now)) }
 {
     let whole = along(alloc, caller, callee, call, sides, lost)?;
     let told = caller.exit_places(alloc)?;
     let first = caller.entry.columns();
-    let equal = equated(alloc, &whole, first, told.as_slice(), lost)?;
+    let equal = equated_formula(alloc, &whole, first, told.as_slice(), lost)?;
     let width = caller.globals + call.args.len() as u32 + callee.exit.columns();
     let places = numbers_from(alloc, caller.full.columns(), width)?;
     with_posts(alloc, &equal, places.as_slice())

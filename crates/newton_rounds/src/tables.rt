@@ -19,13 +19,13 @@ pub fn with_table(
     let mut all = copies_of(alloc, known)?;
     for (place, proc) in procs.iter().enumerate() {
         let f = formula_in(table, place)?;
-        all = replaced(all, *proc as usize, f);
+        all = formulas_with(all, *proc as usize, f);
     }
     Ok(Items::from_vec(all))
 }
 
 /// The formulas with another in one place.
-fn replaced(
+fn formulas_with(
     formulas: Vec<Option<Formula>>,
     place: usize,
     f: Option<Formula>,

@@ -4,7 +4,7 @@ use Rattle.std.specs.List.{concat, slice_get}
 use Rattle.std.proofs.lemmas.Bool.{cond-true, cond-false, cond_both, and_parts, and_from, and_left, and_right, lt-ltb, le-ltb, cases_lt}
 use Rattle.path_expr.specs.declared.link.Link.{Link}
 use Rattle.path_expr.specs.PathExpr.{PathExpr, Zero, Edge, InLanguage, seq_of, join_of, star_of}
-use Rattle.path_expr.specs.Elimination.{place_of, Table, links_between, joined, first_table, eliminated, table_after}
+use Rattle.path_expr.specs.Elimination.{place_of, Table, links_between, path_through, first_table, after_elimination, table_after}
 use Rattle.path_expr.proofs.Turns.{Each, Inner, Through, Inner-weaker, Inner-through, cut}
 use Rattle.path_expr.proofs.Language.{in_seq_of, of_seq_of, Splits, in_join_left, in_join_right, of_join_of, in_star_of, of_star_of}
 
@@ -17,7 +17,7 @@ abbrev pub Among : ℕ → List ℕ → Type 0
 Among k [] = ⊥
 Among k (x ∷ xs) = (k ≡ x) ⊎ Among k xs
 
-of_joined : (p : PathExpr) (ks : List ℕ) (w : List ℕ) → InLanguage (joined p ks) w → InLanguage p w ⊎ ((k : ℕ) × (w ≡ k ∷ []) × Among k ks)
+of_joined : (p : PathExpr) (ks : List ℕ) (w : List ℕ) → InLanguage (path_through p ks) w → InLanguage p w ⊎ ((k : ℕ) × (w ≡ k ∷ []) × Among k ks)
 of_joined p [] w h = inl h
 of_joined p (k ∷ ks) w h = next (of_joined (join_of p (Edge k)) ks w h)
   where
@@ -29,11 +29,11 @@ of_joined p (k ∷ ks) w h = next (of_joined (join_of p (Edge k)) ks w h)
     next (inl r) = first (of_join_of p (Edge k) w r)
     next (inr t) = inr (t.0, t.1, inr t.2)
 
-in_joined : (p : PathExpr) (ks : List ℕ) (w : List ℕ) → InLanguage p w → InLanguage (joined p ks) w
+in_joined : (p : PathExpr) (ks : List ℕ) (w : List ℕ) → InLanguage p w → InLanguage (path_through p ks) w
 in_joined p [] w h = h
 in_joined p (k ∷ ks) w h = in_joined (join_of p (Edge k)) ks w (in_join_left p (Edge k) w h)
 
-among_joined : (p : PathExpr) (ks : List ℕ) (k : ℕ) → Among k ks → InLanguage (joined p ks) (k ∷ [])
+among_joined : (p : PathExpr) (ks : List ℕ) (k : ℕ) → Among k ks → InLanguage (path_through p ks) (k ∷ [])
 among_joined p [] k h = absurd h
 among_joined p (x ∷ ks) k (inl e) = in_joined (join_of p (Edge x)) ks (k ∷ []) (in_join_right p (Edge x) (k ∷ []) (ap (λ y. y ∷ []) e))
 among_joined p (x ∷ ks) k (inr h) = among_joined (join_of p (Edge x)) ks k h
@@ -142,12 +142,12 @@ module _ (links : List Link) (source nodes : ℕ) (bounded : (k i j : ℕ) → J
   }
 
   eliminated-inside : (n : ℕ) (cells : Table) (i j : ℕ) → i < n → j < n →
-      eliminated n cells i j ≡ join_of (cells i j) (seq_of (seq_of (cells i n) (star_of (cells n n))) (cells n j))
-  unfolding eliminated
+      after_elimination n cells i j ≡ join_of (cells i j) (seq_of (seq_of (cells i n) (star_of (cells n n))) (cells n j))
+  unfolding after_elimination
   eliminated-inside n cells i j li lj = cond-true (ltb i n && ltb j n) _ _ (and_from (ltb i n) (ltb j n) (lt-ltb i n li) (lt-ltb j n lj))
 
-  eliminated-outside : (n : ℕ) (cells : Table) (i j : ℕ) → (n ≤ i) ⊎ (n ≤ j) → eliminated n cells i j ≡ cells i j
-  unfolding eliminated
+  eliminated-outside : (n : ℕ) (cells : Table) (i j : ℕ) → (n ≤ i) ⊎ (n ≤ j) → after_elimination n cells i j ≡ cells i j
+  unfolding after_elimination
   eliminated-outside n cells i j (inl le) = cond-false (ltb i n && ltb j n) _ _ (and_left (ltb i n) (ltb j n) (le-ltb i n le))
   eliminated-outside n cells i j (inr le) = cond-false (ltb i n && ltb j n) _ _ (and_right (ltb i n) (ltb j n) (le-ltb j n le))
 
@@ -189,7 +189,7 @@ module _ (links : List Link) (source nodes : ℕ) (bounded : (k i j : ℕ) → J
             (means.complete n j (n + 1) below (omega arith) (omega arith) t.back t.out)))
 
     eliminated_sound : (i j m : ℕ) → i < nodes → j < nodes → m ≡ max n (max (i + 1) (j + 1)) → (i < n) ⊎ (n ≤ i) → (j < n) ⊎ (n ≤ j) →
-        (w : List ℕ) → InLanguage (eliminated n cells i j) w → Inner Step m i j w
+        (w : List ℕ) → InLanguage (after_elimination n cells i j) w → Inner Step m i j w
     eliminated_sound i j m li lj em (inl a) (inl b) w h =
         subst (λ x. Inner Step x i j w) (let e : n ≡ m = omega arith in e)
         (inside_sound i j a b w (subst (λ x. InLanguage x w) (eliminated-inside n cells i j a b) h))
@@ -199,7 +199,7 @@ module _ (links : List Link) (source nodes : ℕ) (bounded : (k i j : ℕ) → J
         means.sound i j m li lj (omega arith) w (subst (λ x. InLanguage x w) (eliminated-outside n cells i j (inl a)) h)
 
     eliminated_complete : (i j m : ℕ) → i < nodes → j < nodes → m ≡ max n (max (i + 1) (j + 1)) → (i < n) ⊎ (n ≤ i) → (j < n) ⊎ (n ≤ j) →
-        (w : List ℕ) → Inner Step m i j w → InLanguage (eliminated n cells i j) w
+        (w : List ℕ) → Inner Step m i j w → InLanguage (after_elimination n cells i j) w
     eliminated_complete i j m li lj em (inl a) (inl b) w h =
         subst (λ x. InLanguage x w) (sym (eliminated-inside n cells i j a b))
         (inside_complete i j a b w (subst (λ x. Inner Step x i j w) (let e : m ≡ n = omega arith in e) h))
@@ -208,7 +208,7 @@ module _ (links : List Link) (source nodes : ℕ) (bounded : (k i j : ℕ) → J
     eliminated_complete i j m li lj em (inr a) other w h =
         subst (λ x. InLanguage x w) (sym (eliminated-outside n cells i j (inl a))) (means.complete i j m li lj (omega arith) w h)
 
-    eliminated_means : Means n (eliminated n cells)
+    eliminated_means : Means n (after_elimination n cells)
     eliminated_means = record {
       sound = λ i j m li lj em w h. eliminated_sound i j m li lj em (cases_lt i n) (cases_lt j n) w h;
       complete = λ i j m li lj em w h. eliminated_complete i j m li lj em (cases_lt i n) (cases_lt j n) w h;

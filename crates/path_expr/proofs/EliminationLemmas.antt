@@ -6,15 +6,15 @@ use Rattle.path_expr.specs.declared.link.Link.{Link}
 use Rattle.path_expr.specs.PathExpr.{PathExpr, star_of}
 use Rattle.path_expr.specs.Algebra.{Keeps}
 use Rattle.path_expr.specs.Holds.{IsItemOrOne, node_at}
-use Rattle.path_expr.specs.Elimination.{eliminated, table_after}
+use Rattle.path_expr.specs.Elimination.{after_elimination, table_after}
 use Rattle.path_expr.specs.Operations.{place_operations, eliminations}
 use Rattle.path_expr.proofs.HoldLemmas.{IsItemOrOne-kept}
 use Rattle.path_expr.proofs.SweepLemmas.{eliminated-past}
 
 pub table_after-more : (nodes : ℕ) (links : List Link) (source count n : ℕ) → n ≡ nodes - suc count → (a b : ℕ) →
-    eliminated n (table_after nodes links source count) a b ≡ table_after nodes links source (count + 1) a b
+    after_elimination n (table_after nodes links source count) a b ≡ table_after nodes links source (count + 1) a b
 table_after-more nodes links source count n e a b =
-    ap (λ x. eliminated x (table_after nodes links source count) a b) e
+    ap (λ x. after_elimination x (table_after nodes links source count) a b) e
     ∙ ap (λ x. table_after nodes links source x a b) (sym (add-one count))
 
 -- a cell at a place that was eliminated before

@@ -8,7 +8,7 @@ use Rattle.std.proofs.lemmas.Bool.Decides.{nat_tests}
 use Rattle.std.proofs.lemmas.Option.{slice_get_within, get_or_from_slice_get}
 use Rattle.path_expr.specs.declared.link.Link.{Link}
 use Rattle.path_expr.specs.PathExpr.{PathExpr, Zero, Edge, join_of}
-use Rattle.path_expr.specs.Elimination.{place_of, joins, links_between, joined, first_table}
+use Rattle.path_expr.specs.Elimination.{place_of, joins, links_between, path_through, first_table}
 use Rattle.path_expr.specs.Operations.{below, join_operation, join_operations, first_row_operations}
 use Rattle.path_expr.specs.Elimination.{Table as Cells}
 use Rattle.path_expr.specs.Algebra.{Keeps}
@@ -17,8 +17,8 @@ use Rattle.path_expr.specs.Holds.{IsItem, IsItemOrZero, AreEdges, HoldsAll, node
 use Rattle.path_expr.specs.Table.{entry, cell}
 use Rattle.path_expr.specs.declared.table.Table.{Table}
 use Rattle.path_expr.specs.declared.rows.Rows.{Rows}
-use Rattle.path_expr.specs.Numbers.{numbers_at, joined_at, joins_at, HaveItems, AllHaveItems}
-use Rattle.path_expr.specs.Sweeps.{written, row_written, rows_begun}
+use Rattle.path_expr.specs.Numbers.{numbers_at, path_through_at, joins_at, HaveItems, AllHaveItems}
+use Rattle.path_expr.specs.Sweeps.{with_cell, row_written, rows_begun}
 use Rattle.path_expr.specs.Walks.{IsGraph}
 use Rattle.path_expr.proofs.RunLemmas.{Runs-then, Runs-as}
 use Rattle.path_expr.proofs.TableLemmas.{slice_get_some}
@@ -30,15 +30,15 @@ use Rattle.path_expr.proofs.WayWalks.{place_below}
 pub node_at-place_of : (source v : ℕ) → node_at source (place_of source v) ≡ v
 node_at-place_of source v = grind (arith, nat_tests)
 
-pub joined-append : (p : PathExpr) (ks ms : List ℕ) → joined p (ks ++ ms) ≡ joined (joined p ks) ms
+pub joined-append : (p : PathExpr) (ks ms : List ℕ) → path_through p (ks ++ ms) ≡ path_through (path_through p ks) ms
 joined-append p [] ms = refl
 joined-append p (k ∷ ks) ms = joined-append (join_of p (Edge k)) ks ms
 
-pub join_operations-append : (p : PathExpr) (ks ms : List ℕ) → join_operations p (ks ++ ms) ≡ join_operations p ks ++ join_operations (joined p ks) ms
+pub join_operations-append : (p : PathExpr) (ks ms : List ℕ) → join_operations p (ks ++ ms) ≡ join_operations p ks ++ join_operations (path_through p ks) ms
 join_operations-append p [] ms = refl
 join_operations-append p (k ∷ ks) ms =
     ap (λ x. join_operation p (Edge k) ++ x) (join_operations-append (join_of p (Edge k)) ks ms)
-    ∙ sym (append_assoc (join_operation p (Edge k)) (join_operations (join_of p (Edge k)) ks) (join_operations (joined (join_of p (Edge k)) ks) ms))
+    ∙ sym (append_assoc (join_operation p (Edge k)) (join_operations (join_of p (Edge k)) ks) (join_operations (path_through (join_of p (Edge k)) ks) ms))
 
 cond-append : (b : Bool) (k : ℕ) (xs ys : List ℕ) → cond b (k ∷ (xs ++ ys)) (xs ++ ys) ≡ cond b (k ∷ xs) xs ++ ys
 cond-append true k xs ys = refl
@@ -79,7 +79,7 @@ joins-here source links n from to l i j is at_from at_to =
     ap (λ x. eqb x i && eqb to j) (at_from ∙ ap (λ (y : Link). place_of source y.from) same)
     ∙ ap (λ x. eqb (place_of source l.from) i && eqb x j) (at_to ∙ ap (λ (y : Link). place_of source y.to) same)
 
-pub first_table-is : (links : List Link) (source i j : ℕ) → joined Zero (links_between source 0 links i j) ≡ first_table links source i j
+pub first_table-is : (links : List Link) (source i j : ℕ) → path_through Zero (links_between source 0 links i j) ≡ first_table links source i j
 unfolding first_table
 first_table-is links source i j = refl
 
@@ -164,17 +164,17 @@ take-suc : (ks : List ℕ) (n k : ℕ) → slice_get ks n ≡ Some k → take (n
 take-suc ks n k e = ap (λ m. take m ks) (add-one n) ∙ take-more ks n k e
 
 pub joins-more : (ks : List ℕ) (n k : ℕ) → slice_get ks n ≡ Some k →
-    (join_operations Zero (take n ks) ++ join_operation (joined Zero (take n ks)) (Edge k) ≡ join_operations Zero (take (n + 1) ks))
-    × (join_of (joined Zero (take n ks)) (Edge k) ≡ joined Zero (take (n + 1) ks))
+    (join_operations Zero (take n ks) ++ join_operation (path_through Zero (take n ks)) (Edge k) ≡ join_operations Zero (take (n + 1) ks))
+    × (join_of (path_through Zero (take n ks)) (Edge k) ≡ path_through Zero (take (n + 1) ks))
 joins-more ks n k e = (
-  ap (λ x. join_operations Zero (take n ks) ++ x) (sym (append-nil (join_operation (joined Zero (take n ks)) (Edge k))))
+  ap (λ x. join_operations Zero (take n ks) ++ x) (sym (append-nil (join_operation (path_through Zero (take n ks)) (Edge k))))
       ∙ (sym (join_operations-append Zero (take n ks) (k ∷ [])) ∙ ap (join_operations Zero) (sym (take-suc ks n k e))),
-  sym (joined-append Zero (take n ks) (k ∷ [])) ∙ ap (joined Zero) (sym (take-suc ks n k e)),
+  sym (joined-append Zero (take n ks) (k ∷ [])) ∙ ap (path_through Zero) (sym (take-suc ks n k e)),
 )
 
 pub joins-rest : (ks : List ℕ) (n : ℕ) → (rest : List PathExpr) × (join_operations Zero (take n ks) ++ rest ≡ join_operations Zero ks)
 joins-rest ks n = (
-  join_operations (joined Zero (take n ks)) (drop n ks),
+  join_operations (path_through Zero (take n ks)) (drop n ks),
   sym (join_operations-append Zero (take n ks) (drop n ks)) ∙ ap (join_operations Zero) (take-append-drop n ks),
 )
 
@@ -182,21 +182,21 @@ joins-rest ks n = (
 module _ {A T F : Type 0} {fits : A → PathExpr → T → Type 0} {spans : A → T → ℕ → ℕ → Type 0} {ends : A → ℕ → ℕ → ℕ → Type 0}
     {is_memory : F → Bool} {faults : A → ℕ} {made : A → List PathExpr → Type 0} {stopped : A → PathExpr → Type 0} {source : ℕ} {a b : A} where
   pub begun-at : {table : Table T} (f : Cells) (numbers : Rows (List ℕ)) (i from j : ℕ) → from ≤ j → ((k : ℕ) → f i k ≡ Zero) → ((k : ℕ) → from ≤ k → k < j → entry numbers i k ≡ None) →
-      Runs fits spans ends is_memory faults made stopped a b (below (joins_at numbers i) from) None × HoldsAll fits spans source b (row_written f i from (joined_at numbers i)) table →
-      Runs fits spans ends is_memory faults made stopped a b (below (joins_at numbers i) j) None × HoldsAll fits spans source b (row_written f i j (joined_at numbers i)) table
+      Runs fits spans ends is_memory faults made stopped a b (below (joins_at numbers i) from) None × HoldsAll fits spans source b (row_written f i from (path_through_at numbers i)) table →
+      Runs fits spans ends is_memory faults made stopped a b (below (joins_at numbers i) j) None × HoldsAll fits spans source b (row_written f i j (path_through_at numbers i)) table
   begun-at f numbers i from j le holds_no none so_far = (
     Runs-as (below-skip (joins_at numbers i) from j le (λ k x y. sym (ap (λ o. join_operations Zero (unwrap_or o [])) (none k x y)))) so_far.0,
-    HoldsAll-as (row_written-skip f i from j (joined_at numbers i) le (λ k x y. ap (λ o. joined Zero (unwrap_or o [])) (none k x y) ∙ sym (holds_no k))) so_far.1,
+    HoldsAll-as (row_written-skip f i from j (path_through_at numbers i) le (λ k x y. ap (λ o. path_through Zero (unwrap_or o [])) (none k x y) ∙ sym (holds_no k))) so_far.1,
   )
 
   pub begun-more : {c : A} {new : Table T} (f : Cells) (numbers : Rows (List ℕ)) (i j : ℕ) →
       Runs fits spans ends is_memory faults made stopped a b (below (joins_at numbers i) j) None →
       Runs fits spans ends is_memory faults made stopped b c (joins_at numbers i j) None →
-      HoldsAll fits spans source c (written (row_written f i j (joined_at numbers i)) i j (joined_at numbers i j)) new →
-      Runs fits spans ends is_memory faults made stopped a c (below (joins_at numbers i) (j + 1)) None × HoldsAll fits spans source c (row_written f i (j + 1) (joined_at numbers i)) new
+      HoldsAll fits spans source c (with_cell (row_written f i j (path_through_at numbers i)) i j (path_through_at numbers i j)) new →
+      Runs fits spans ends is_memory faults made stopped a c (below (joins_at numbers i) (j + 1)) None × HoldsAll fits spans source c (row_written f i (j + 1) (path_through_at numbers i)) new
   begun-more f numbers i j run here h = (
     Runs-as (below-more (joins_at numbers i) j) (Runs-then run here),
-    HoldsAll-as (λ a b. sweep-cond (joined_at numbers i) (f a b) (eqb a i) b j) h,
+    HoldsAll-as (λ a b. sweep-cond (path_through_at numbers i) (f a b) (eqb a i) b j) h,
   )
 
 -- the cell that comes next has not begun
@@ -253,8 +253,8 @@ joins-are nodes links source numbers same =
     ∙ first_row_operations-is nodes links source i)
 
 pub joined-are : (links : List Link) (source : ℕ) (numbers : Rows (List ℕ)) → ((i j : ℕ) → numbers_at numbers i j ≡ links_between source 0 links i j) → (i j : ℕ) →
-    joined_at numbers i j ≡ first_table links source i j
-joined-are links source numbers same i j = ap (joined Zero) (same i j) ∙ first_table-is links source i j
+    path_through_at numbers i j ≡ first_table links source i j
+joined-are links source numbers same i j = ap (path_through Zero) (same i j) ∙ first_table-is links source i j
 
 -- one of these links has its item within the list
 pub link_within : {A T : Type 0} {fits : A → PathExpr → T → Type 0} {spans : A → T → ℕ → ℕ → Type 0} {a : A} (items : List T) (numbers : List ℕ) (from to t : ℕ) →

@@ -4,9 +4,9 @@ use Rattle.std.proofs.lemmas.Bool.{cases_Bool, cases_order, cases_eq, cases_lt, 
 use Rattle.std.proofs.lemmas.List.{append-nil}
 use Rattle.path_expr.specs.PathExpr.{PathExpr, Zero, seq_of, join_of, star_of}
 use Rattle.path_expr.specs.Operations.{star_operation, seq_operation, join_operation, below, cell_operations, row_operations, place_operations}
-use Rattle.path_expr.specs.Elimination.{eliminated}
+use Rattle.path_expr.specs.Elimination.{after_elimination}
 use Rattle.path_expr.specs.Elimination.{Table as Cells}
-use Rattle.path_expr.specs.Sweeps.{written, row_written, rows_written, step_operations, swept, rows_swept}
+use Rattle.path_expr.specs.Sweeps.{with_cell, row_written, rows_written, step_operations, swept, rows_swept}
 use Rattle.path_expr.specs.Runs.{Runs}
 use Rattle.path_expr.specs.Holds.{IsItemOrZero, HoldsAll, node_at}
 use Rattle.path_expr.specs.Table.{cell}
@@ -27,7 +27,7 @@ module _ {A T : Type 0} {fits : A → PathExpr → T → Type 0} {spans : A → 
   pub HoldsAll-written : {a : A} {source : ℕ} {f : Cells} {table : Table T} (new : Table T) (i j : ℕ) (p : PathExpr) (o : Option T) →
       HoldsAll fits spans source a f table → IsItemOrZero fits spans a p o (node_at source i) (node_at source j) →
       ((k l : ℕ) → cell new k l ≡ cond (eqb k i && eqb l j) o (cell table k l)) →
-      HoldsAll fits spans source a (written f i j p) new
+      HoldsAll fits spans source a (with_cell f i j p) new
   HoldsAll-written {a} {source} {f} {table} new i j p o h is w = record { at = λ k l. at k l (cases_Bool (eqb k i && eqb l j)) }
     where
       at : (k l : ℕ) → ((eqb k i && eqb l j) ≡ true) ⊎ ((eqb k i && eqb l j) ≡ false) →
@@ -50,7 +50,7 @@ cond-twice true x y z = refl
 cond-twice false x y z = refl
 
 -- a cell that is written as it was
-pub written-same : (f : Cells) (i j : ℕ) (p : PathExpr) → p ≡ f i j → (a b : ℕ) → f a b ≡ written f i j p a b
+pub written-same : (f : Cells) (i j : ℕ) (p : PathExpr) → p ≡ f i j → (a b : ℕ) → f a b ≡ with_cell f i j p a b
 written-same f i j p e a b = at (cases_Bool (eqb a i && eqb b j))
   where
     at : ((eqb a i && eqb b j) ≡ true) ⊎ ((eqb a i && eqb b j) ≡ false) → f a b ≡ cond (eqb a i && eqb b j) p (f a b)
@@ -96,7 +96,7 @@ swept-none f way n i a b = sym (cond-false (eqb a i && ltb b 0) _ (f a b) (ap (�
     and-false false = refl
 
 pub swept-more : (f : Cells) (way : PathExpr) (n i j : ℕ) → (n ≡ i → ⊥) → (a b : ℕ) →
-    written (swept f way n i j) i j (join_of (swept f way n i j i j) (seq_of way (swept f way n i j n j))) a b ≡ swept f way n i (j + 1) a b
+    with_cell (swept f way n i j) i j (join_of (swept f way n i j i j) (seq_of way (swept f way n i j n j))) a b ≡ swept f way n i (j + 1) a b
 swept-more f way n i j ne a b =
     ap (λ x. cond (eqb a i && eqb b j) (join_of x (seq_of way (swept f way n i j n j))) (swept f way n i j a b)) (swept-here f way n i j)
     ∙ (ap (λ x. cond (eqb a i && eqb b j) (join_of (f i j) (seq_of way x)) (swept f way n i j a b)) (swept-other f way n i j n j ne)
@@ -190,25 +190,25 @@ swept-Zero f n i e a b = at (cases_Bool (eqb a i && ltb b n))
     at (inr t) = sym (cond-false (eqb a i && ltb b n) _ (f a b) t)
 
 pub rows_swept-later : (f : Cells) (n i a b : ℕ) → i ≤ a → rows_swept f n i a b ≡ f a b
-rows_swept-later f n i a b le = cond-false (ltb a i) (eliminated n f a b) (f a b) (le-ltb a i le)
+rows_swept-later f n i a b le = cond-false (ltb a i) (after_elimination n f a b) (f a b) (le-ltb a i le)
 
 pub rows_swept-none : (f : Cells) (n a b : ℕ) → f a b ≡ rows_swept f n 0 a b
 rows_swept-none f n a b = sym (rows_swept-later f n 0 a b (omega arith))
 
-eliminated-row : (f : Cells) (n i b : ℕ) → i < n → eliminated n f i b ≡ cond (ltb b n) (join_of (f i b) (seq_of (seq_of (f i n) (star_of (f n n))) (f n b))) (f i b)
-unfolding eliminated
+eliminated-row : (f : Cells) (n i b : ℕ) → i < n → after_elimination n f i b ≡ cond (ltb b n) (join_of (f i b) (seq_of (seq_of (f i n) (star_of (f n n))) (f n b))) (f i b)
+unfolding after_elimination
 eliminated-row f n i b lt = ap (λ x. cond (x && ltb b n) (join_of (f i b) (seq_of (seq_of (f i n) (star_of (f n n))) (f n b))) (f i b)) (lt-ltb i n lt)
 
-pub eliminated-past : (f : Cells) (n a b : ℕ) → n ≤ a → eliminated n f a b ≡ f a b
-unfolding eliminated
+pub eliminated-past : (f : Cells) (n a b : ℕ) → n ≤ a → after_elimination n f a b ≡ f a b
+unfolding after_elimination
 eliminated-past f n a b le = ap (λ x. cond (x && ltb b n) (join_of (f a b) (seq_of (seq_of (f a n) (star_of (f n n))) (f n b))) (f a b)) (le-ltb a n le)
 
-pub rows_swept-all : (f : Cells) (n a b : ℕ) → rows_swept f n n a b ≡ eliminated n f a b
+pub rows_swept-all : (f : Cells) (n a b : ℕ) → rows_swept f n n a b ≡ after_elimination n f a b
 rows_swept-all f n a b = at (cases_lt a n)
   where
-    at : (a < n) ⊎ (n ≤ a) → cond (ltb a n) (eliminated n f a b) (f a b) ≡ eliminated n f a b
-    at (inl lt) = cond-true (ltb a n) (eliminated n f a b) (f a b) (lt-ltb a n lt)
-    at (inr le) = cond-false (ltb a n) (eliminated n f a b) (f a b) (le-ltb a n le) ∙ sym (eliminated-past f n a b le)
+    at : (a < n) ⊎ (n ≤ a) → cond (ltb a n) (after_elimination n f a b) (f a b) ≡ after_elimination n f a b
+    at (inl lt) = cond-true (ltb a n) (after_elimination n f a b) (f a b) (lt-ltb a n lt)
+    at (inr le) = cond-false (ltb a n) (after_elimination n f a b) (f a b) (le-ltb a n le) ∙ sym (eliminated-past f n a b le)
 
 -- two tables that agree on rows i and n
 module _ (f g : Cells) (n i : ℕ) (on_i : (b : ℕ) → g i b ≡ f i b) (on_n : (b : ℕ) → g n b ≡ f n b) where
@@ -256,26 +256,26 @@ rows_swept-more f n i lt a b = at (cases_order a i)
         ∙ (rows_swept-later f n i i b (omega arith)
         ∙ ap (λ x. cond x (join_of (f i b) (seq_of (seq_of (f i n) (star_of (f n n))) (f n b))) (f i b)) (sym t))
 
-    at : (a ≡ i) ⊎ ((a < i) ⊎ (i < a)) → cond (eqb a i && ltb b n) (join_of (g i b) (seq_of way (g n b))) (g a b) ≡ cond (ltb a (i + 1)) (eliminated n f a b) (f a b)
+    at : (a ≡ i) ⊎ ((a < i) ⊎ (i < a)) → cond (eqb a i && ltb b n) (join_of (g i b) (seq_of way (g n b))) (g a b) ≡ cond (ltb a (i + 1)) (after_elimination n f a b) (f a b)
     at (inl e) = ap (λ x. cond (x && ltb b n) (join_of (g i b) (seq_of way (g n b))) (g a b)) (eq-eqb a i e)
         ∙ (ap (λ x. cond (ltb b n) (join_of (g i b) (seq_of way (g n b))) (g x b)) e
         ∙ (here (cases_Bool (ltb b n))
         ∙ (sym (eliminated-row f n i b lt)
-        ∙ (ap (λ x. eliminated n f x b) (sym e)
-        ∙ sym (cond-true (ltb a (i + 1)) (eliminated n f a b) (f a b) (lt-ltb a (i + 1) (omega arith)))))))
+        ∙ (ap (λ x. after_elimination n f x b) (sym e)
+        ∙ sym (cond-true (ltb a (i + 1)) (after_elimination n f a b) (f a b) (lt-ltb a (i + 1) (omega arith)))))))
     at (inr (inl less)) = cond-false (eqb a i && ltb b n) _ (g a b) (and_left (eqb a i) (ltb b n) (ne_eqb a i (omega arith)))
-        ∙ (cond-true (ltb a i) (eliminated n f a b) (f a b) (lt-ltb a i less)
-        ∙ sym (cond-true (ltb a (i + 1)) (eliminated n f a b) (f a b) (lt-ltb a (i + 1) (omega arith))))
+        ∙ (cond-true (ltb a i) (after_elimination n f a b) (f a b) (lt-ltb a i less)
+        ∙ sym (cond-true (ltb a (i + 1)) (after_elimination n f a b) (f a b) (lt-ltb a (i + 1) (omega arith))))
     at (inr (inr more)) = cond-false (eqb a i && ltb b n) _ (g a b) (and_left (eqb a i) (ltb b n) (ne_eqb a i (omega arith)))
-        ∙ (cond-false (ltb a i) (eliminated n f a b) (f a b) (le-ltb a i (omega arith))
-        ∙ sym (cond-false (ltb a (i + 1)) (eliminated n f a b) (f a b) (le-ltb a (i + 1) (omega arith))))
+        ∙ (cond-false (ltb a i) (after_elimination n f a b) (f a b) (le-ltb a i (omega arith))
+        ∙ sym (cond-false (ltb a (i + 1)) (after_elimination n f a b) (f a b) (le-ltb a (i + 1) (omega arith))))
 
 pub place_operations-is : (f : Cells) (n : ℕ) → star_operation (f n n) ++ below (row_operations f n) n ≡ place_operations f n
 unfolding place_operations
 place_operations-is f n = refl
 
 -- a row from which no path leads to the place is as it was
-eliminated-Zero : (f : Cells) (n i b : ℕ) → i < n → f i n ≡ Zero → eliminated n f i b ≡ f i b
+eliminated-Zero : (f : Cells) (n i b : ℕ) → i < n → f i n ≡ Zero → after_elimination n f i b ≡ f i b
 eliminated-Zero f n i b lt e = eliminated-row f n i b lt
     ∙ (ap (λ x. cond (ltb b n) (join_of (f i b) (seq_of (seq_of x (star_of (f n n))) (f n b))) (f i b)) e
     ∙ (ap (λ x. cond (ltb b n) x (f i b)) (join_of-Zero (f i b)) ∙ either (ltb b n)))
@@ -301,7 +301,7 @@ module _ {A T F : Type 0} {fits : A → PathExpr → T → Type 0} {spans : A �
   pub cells-more : {c : A} {new : Table T} (f : Cells) (w : PathExpr) (n i j : ℕ) → i < n →
       Runs fits spans ends is_memory faults made stopped a b (below (step_operations f w n i) j) None →
       Runs fits spans ends is_memory faults made stopped b c (step_operations (swept f w n i j) w n i j) None →
-      HoldsAll fits spans source c (written (swept f w n i j) i j (join_of (swept f w n i j i j) (seq_of w (swept f w n i j n j)))) new →
+      HoldsAll fits spans source c (with_cell (swept f w n i j) i j (join_of (swept f w n i j i j) (seq_of w (swept f w n i j n j)))) new →
       Runs fits spans ends is_memory faults made stopped a c (below (step_operations f w n i) (j + 1)) None × HoldsAll fits spans source c (swept f w n i (j + 1)) new
   cells-more f w n i j lt run here h = (
     Runs-as (below-more (step_operations f w n i) j) (Runs-then run (Runs-as (step_operations-swept f w n i j (omega arith)) here)),
@@ -313,7 +313,7 @@ module _ {A T F : Type 0} {fits : A → PathExpr → T → Type 0} {spans : A �
       Runs fits spans ends is_memory faults made stopped a b (star_operation (f n n) ++ below (row_operations f n) i) None × HoldsAll fits spans source b (rows_swept f n i) table
   rows-at {table} f n from i le within none so_far = (
     Runs-as (ap (λ x. star_operation (f n n) ++ x) (below-skip (row_operations f n) from i le (λ k x y. row_operations-Zero f n k (zero_at k x y)))) so_far.0,
-    HoldsAll-as (rows_written-skip f from i (eliminated n f) le (λ k c x y. eliminated-Zero f n k c (omega arith) (zero_at k x y))) so_far.1,
+    HoldsAll-as (rows_written-skip f from i (after_elimination n f) le (λ k c x y. eliminated-Zero f n k c (omega arith) (zero_at k x y))) so_far.1,
   )
     where
       zero_at : (k : ℕ) → from ≤ k → k < i → f k n ≡ Zero

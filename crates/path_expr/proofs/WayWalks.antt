@@ -6,7 +6,7 @@ use Rattle.std.proofs.lemmas.Bool.Decides.{nat_tests}
 use Rattle.std.proofs.lemmas.Option.{slice_get_within, get_or_from_slice_get}
 use Rattle.path_expr.specs.declared.link.Link.{Link}
 use Rattle.path_expr.specs.PathExpr.{PathExpr, Zero, Edge, InLanguage, seq_of, join_of, star_of}
-use Rattle.path_expr.specs.Elimination.{place_of, Table, first_table, eliminated, table_after, last_table, arrivals, way_at, ways, path_at, joined, links_between}
+use Rattle.path_expr.specs.Elimination.{place_of, Table, first_table, after_elimination, table_after, last_table, arrivals, way_at, ways, path_at, path_through, links_between}
 use Rattle.path_expr.specs.Walks.{IsWalk, IsGraph}
 use Rattle.path_expr.proofs.Turns.{Each, Inner, Walk, Walk-append, Walk-inner, Walk-turns, Reaches, arrives, turning, falling, reach}
 use Rattle.path_expr.proofs.Language.{in_seq_of, of_seq_of, in_join_left, in_join_right, of_join_of, in_star_of, of_star_of, Filled, nothing, word, Filled-seq_of, Filled-join_of, Filled-star_of}
@@ -231,12 +231,12 @@ language_is_walks nodes links source node g hs hn w =
           (places_of_walk links source nodes some bounded source node w h)),
     )
 
-Filled-joined : (p : PathExpr) (ks : List ℕ) → Filled p → Filled (joined p ks)
+Filled-joined : (p : PathExpr) (ks : List ℕ) → Filled p → Filled (path_through p ks)
 Filled-joined p [] f = f
 Filled-joined p (k ∷ ks) f = Filled-joined _ ks (Filled-join_of p (Edge k) f (word (k ∷ []) refl))
 
 Filled-table : (nodes : ℕ) (links : List Link) (source count : ℕ) (i j : ℕ) → Filled (table_after nodes links source count i j)
-unfolding first_table eliminated
+unfolding first_table after_elimination
 Filled-table nodes links source zero i j = Filled-joined Zero (links_between source 0 links i j) (nothing refl)
 Filled-table nodes links source (suc count) i j = step (Filled-table nodes links source count)
   where
@@ -246,7 +246,7 @@ Filled-table nodes links source (suc count) i j = step (Filled-table nodes links
     n : ℕ
     n = nodes - suc count
 
-    step : ((a b : ℕ) → Filled (old a b)) → Filled (eliminated n old i j)
+    step : ((a b : ℕ) → Filled (old a b)) → Filled (after_elimination n old i j)
     step f = cond_both (ltb i n && ltb j n) (join_of (old i j) (seq_of (seq_of (old i n) (star_of (old n n))) (old n j))) (old i j) Filled
         (λ _. Filled-join_of (old i j) (seq_of (seq_of (old i n) (star_of (old n n))) (old n j)) (f i j)
         (Filled-seq_of (seq_of (old i n) (star_of (old n n))) (old n j) (Filled-seq_of (old i n) (star_of (old n n)) (f i n) (Filled-star_of (old n n))) (f n j)))

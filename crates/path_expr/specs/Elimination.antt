@@ -28,19 +28,19 @@ links_between source number (link ∷ links) i j =
     else links_between source (number + 1) links i j)
 
 -- the join of a path and of links, from the left
-abbrev pub joined : PathExpr → List ℕ → PathExpr
-joined path [] = path
-joined path (number ∷ numbers) = joined (join_of path (Edge number)) numbers
+abbrev pub path_through : PathExpr → List ℕ → PathExpr
+path_through path [] = path
+path_through path (number ∷ numbers) = path_through (join_of path (Edge number)) numbers
 
 -- the table at the beginning: a cell is the join of the links that lead from its one place to the
 -- other
 unfoldable pub first_table : List Link → ℕ → Table
-first_table links source i j = joined Zero (links_between source 0 links i j)
+first_table links source i j = path_through Zero (links_between source 0 links i j)
 
 -- the table after place n is eliminated: below n, a path may now lead through n, where it may turn
 -- at will
-unfoldable pub eliminated : ℕ → Table → Table
-eliminated n cells i j =
+unfoldable pub after_elimination : ℕ → Table → Table
+after_elimination n cells i j =
     (if nat_lt i n && nat_lt j n
     then join_of (cells i j) (seq_of (seq_of (cells i n) (star_of (cells n n))) (cells n j))
     else cells i j)
@@ -49,7 +49,7 @@ eliminated n cells i j =
 abbrev pub table_after : ℕ → List Link → ℕ → ℕ → Table
 table_after nodes links source zero = first_table links source
 table_after nodes links source (suc count) =
-    eliminated (nodes - suc count) (table_after nodes links source count)
+    after_elimination (nodes - suc count) (table_after nodes links source count)
 
 -- the table after all places but the source's are eliminated
 abbrev pub last_table : ℕ → List Link → ℕ → Table

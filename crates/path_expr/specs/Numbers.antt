@@ -2,7 +2,7 @@
 use Rattle.std.specs.Prelude.{◌≡◌, ℕ, List, [], Some, slice_get}
 use Rattle.std.specs.Option.{unwrap_or}
 use Rattle.path_expr.specs.PathExpr.{PathExpr, Zero, Edge}
-use Rattle.path_expr.specs.Elimination.{Table, joined}
+use Rattle.path_expr.specs.Elimination.{Table, path_through}
 use Rattle.path_expr.specs.Operations.{join_operations}
 use Rattle.path_expr.specs.Holds.{IsItem, node_at}
 use Rattle.path_expr.specs.declared.rows.Rows.{Rows}
@@ -13,8 +13,8 @@ abbrev pub numbers_at : Rows (List ℕ) → ℕ → ℕ → List ℕ
 numbers_at numbers i j = unwrap_or (entry numbers i j) []
 
 -- the joins of these links, for each two places
-abbrev pub joined_at : Rows (List ℕ) → Table
-joined_at numbers i j = joined Zero (numbers_at numbers i j)
+abbrev pub path_through_at : Rows (List ℕ) → Table
+path_through_at numbers i j = path_through Zero (numbers_at numbers i j)
 
 -- the operations of these joins
 abbrev pub joins_at : Rows (List ℕ) → ℕ → ℕ → List PathExpr

@@ -2,11 +2,11 @@
 use Rattle.std.specs.Prelude.{ℕ, ◌==◌, ◌&&◌, nat_lt, List, ◌++◌, if◌then◌else◌}
 use Rattle.path_expr.specs.PathExpr.{PathExpr, Zero, seq_of, join_of}
 use Rattle.path_expr.specs.Operations.{seq_operation, join_operation}
-use Rattle.path_expr.specs.Elimination.{Table, eliminated}
+use Rattle.path_expr.specs.Elimination.{Table, after_elimination}
 
 -- a table with another cell at i and j
-abbrev pub written : Table → ℕ → ℕ → PathExpr → Table
-written cells i j path a b = if a == i && b == j then path else cells a b
+abbrev pub with_cell : Table → ℕ → ℕ → PathExpr → Table
+with_cell cells i j path a b = if a == i && b == j then path else cells a b
 
 -- a table with other cells in row i, below column j
 abbrev pub row_written : Table → ℕ → ℕ → (ℕ → PathExpr) → Table
@@ -28,7 +28,7 @@ swept cells way n i j = row_written cells i j (λ b. join_of (cells i b) (seq_of
 
 -- the table when place n is eliminated in the rows below i
 abbrev pub rows_swept : Table → ℕ → ℕ → Table
-rows_swept cells n i = rows_written cells i (eliminated n cells)
+rows_swept cells n i = rows_written cells i (after_elimination n cells)
 
 -- the table whose rows below i have begun
 abbrev pub rows_begun : Table → ℕ → Table

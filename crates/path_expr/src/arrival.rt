@@ -9,7 +9,7 @@ ghost use Rattle.path_expr.specs.Table.{cell};
 use crate::algebra::Algebra;
 use crate::cell::{Cell, ReachError};
 use crate::elimination::turns;
-use crate::steps::{join_both, seq, turned};
+use crate::steps::{join_both, path_with_turns, seq};
 use crate::table::Table;
 use std::alloc::Global;
 
@@ -34,7 +34,7 @@ fn through_path<A: Algebra>(
         (λ item. IsItem A.fits A.spans algebra.new (seq_of (seq_of w p) q) item from to) }
 {
     let up = seq(alloc, algebra, path, step)?;
-    turned(alloc, algebra, &up, turn)
+    path_with_turns(alloc, algebra, &up, turn)
 }
 
 /// A way, then a step, then turns.
@@ -59,7 +59,7 @@ fn through<A: Algebra>(
 {
     match way {
         Cell::Zero => Ok(None),
-        Cell::One => match turned(alloc, algebra, step, turn) {
+        Cell::One => match path_with_turns(alloc, algebra, step, turn) {
             Ok(path) => Ok(Some(path)),
             Err(error) => Err(error),
         },

@@ -1,11 +1,11 @@
 ghost use Rattle.std.specs.Prelude.{◌≡◌, ◌<◌, ◌≤◌, ◌⊎◌, ◌^◌, ◌∷◌, [], ℕ, Some, slice_get, length, IfOk};
 ghost use Rattle.path_expr.specs.declared.link.Link.{Link as SpecLink};
 ghost use Rattle.path_expr.specs.PathExpr.{PathExpr, Zero, Edge, join_of};
-ghost use Rattle.path_expr.specs.Elimination.{joined, first_table};
+ghost use Rattle.path_expr.specs.Elimination.{path_through, first_table};
 ghost use Rattle.path_expr.specs.Operations.{below, join_operation, join_operations, first_row_operations};
 ghost use Rattle.path_expr.specs.Table.{place_count};
-ghost use Rattle.path_expr.specs.Numbers.{numbers_at, joined_at, joins_at, HaveItems, AllHaveItems};
-ghost use Rattle.path_expr.specs.Sweeps.{written, row_written};
+ghost use Rattle.path_expr.specs.Numbers.{numbers_at, path_through_at, joins_at, HaveItems, AllHaveItems};
+ghost use Rattle.path_expr.specs.Sweeps.{with_cell, row_written};
 ghost use Rattle.path_expr.specs.Runs.{Makes};
 ghost use Rattle.path_expr.specs.Holds.{IsItem, IsItemOrZero, AreEdges, HoldsAll, node_at};
 ghost use Rattle.path_expr.specs.Walks.{IsGraph};
@@ -77,7 +77,7 @@ fn first_cell<A: Algebra>(
         → HaveItems A.fits A.spans algebra.old items.now numbers.now from to →
         Makes A.fits A.spans A.ends A.is_memory A.faults A.made A.stopped algebra.old algebra.new
         (join_operations Zero numbers.now) result
-        (λ path. IsItemOrZero A.fits A.spans algebra.new (joined Zero numbers.now) path from to) }
+        (λ path. IsItemOrZero A.fits A.spans algebra.new (path_through Zero numbers.now) path from to) }
 {
     let mut total = None;
     for number in numbers {
@@ -107,7 +107,7 @@ fn begin_cell<A: Algebra>(
         HoldsAll A.fits A.spans source algebra.old f table.old → f i j ≡ Zero →
         Makes A.fits A.spans A.ends A.is_memory A.faults A.made A.stopped algebra.old algebra.new
         (joins_at numbers.now i j) result
-        (λ _. HoldsAll A.fits A.spans source algebra.new (written f i j (joined_at numbers.now i j))
+        (λ _. HoldsAll A.fits A.spans source algebra.new (with_cell f i j (path_through_at numbers.now i j))
         table.new) }
 {
     let Some(these) = numbers.get(i, j) else {
@@ -143,7 +143,7 @@ fn begin_row<A: Algebra>(
         Makes A.fits A.spans A.ends A.is_memory A.faults A.made A.stopped algebra.old algebra.new
         (below (joins_at numbers.now i) nodes) result
         (λ _. HoldsAll A.fits A.spans source algebra.new
-        (row_written f i nodes (joined_at numbers.now i)) table.new) }
+        (row_written f i nodes (path_through_at numbers.now i)) table.new) }
 {
     let mut from = 0;
     while let Some(j) = numbers.next(i, from, nodes) {
@@ -169,7 +169,7 @@ fn begin_rows<A: Algebra>(
         → AllHaveItems A.fits A.spans source algebra.old items.now numbers.now →
         Makes A.fits A.spans A.ends A.is_memory A.faults A.made A.stopped algebra.old algebra.new
         (below (λ i. below (joins_at numbers.now i) nodes) nodes) result
-        (HoldsAll A.fits A.spans source algebra.new (joined_at numbers.now)) }
+        (HoldsAll A.fits A.spans source algebra.new (path_through_at numbers.now)) }
 {
     let mut table = Table::new(alloc, nodes)?;
     for i in 0..nodes {

@@ -1,16 +1,16 @@
 ghost use Rattle.std.specs.Prelude.{◌≡◌, ◌≢◌, ◌<◌, ◌≤◌, ◌-◌, ℕ, List, None, IfOk, OnOk};
 ghost use Rattle.path_expr.specs.declared.link.Link.{Link};
 ghost use Rattle.path_expr.specs.PathExpr.{PathExpr, seq_of, join_of, star_of};
-ghost use Rattle.path_expr.specs.Elimination.{eliminated, first_table, last_table};
+ghost use Rattle.path_expr.specs.Elimination.{after_elimination, first_table, last_table};
 ghost use Rattle.path_expr.specs.Operations.{below, star_operation, row_operations, place_operations, eliminations};
-ghost use Rattle.path_expr.specs.Sweeps.{written, step_operations, swept};
+ghost use Rattle.path_expr.specs.Sweeps.{with_cell, step_operations, swept};
 ghost use Rattle.path_expr.specs.Runs.{Runs, error_of, Makes};
 ghost use Rattle.path_expr.specs.Holds.{IsItem, IsItemOrOne, HoldsAll, node_at};
 ghost use Rattle.path_expr.specs.Table.{cell, place_count};
 
 use crate::algebra::Algebra;
 use crate::cell::ReachError;
-use crate::steps::{join_onto, seq, star, turned};
+use crate::steps::{join_onto, path_with_turns, seq, star};
 use crate::table::Table;
 use std::alloc::Global;
 
@@ -36,7 +36,7 @@ fn eliminate_cell<A: Algebra>(
         Makes A.fits A.spans A.ends A.is_memory A.faults A.made A.stopped algebra.old algebra.new
         (step_operations f w n i j) result
         (λ _. HoldsAll A.fits A.spans source algebra.new
-        (written f i j (join_of (f i j) (seq_of w (f n j)))) table.new) }
+        (with_cell f i j (join_of (f i j) (seq_of w (f n j)))) table.new) }
 {
     let Some(out) = table.get(n, j) else {
         return Ok(());
@@ -104,7 +104,7 @@ fn eliminate_row<A: Algebra>(
     let Some(into) = table.get(i, n) else {
         return Ok(());
     };
-    let way = turned(alloc, algebra, into, turn)?;
+    let way = path_with_turns(alloc, algebra, into, turn)?;
     eliminate_cells(alloc, algebra, table, &way, n, i)
 }
 
@@ -147,7 +147,7 @@ fn eliminate_place<A: Algebra>(
         → HoldsAll A.fits A.spans source algebra.old f table.old →
         Makes A.fits A.spans A.ends A.is_memory A.faults A.made A.stopped algebra.old algebra.new
         (place_operations f n) result
-        (λ turn. HoldsAll A.fits A.spans source algebra.new (eliminated n f) table.new
+        (λ turn. HoldsAll A.fits A.spans source algebra.new (after_elimination n f) table.new
         × IsItemOrOne A.fits A.spans algebra.new (star_of (f n n)) turn (node_at source n)) }
 {
     let turn = turns(alloc, algebra, table, n)?;
@@ -178,7 +178,7 @@ fn eliminate_next<A: Algebra>(
         → HoldsAll A.fits A.spans source algebra.old f table.old →
         Makes A.fits A.spans A.ends A.is_memory A.faults A.made A.stopped algebra.old algebra.new
         (place_operations f n) result
-        (λ _. HoldsAll A.fits A.spans source algebra.new (eliminated n f) table.new
+        (λ _. HoldsAll A.fits A.spans source algebra.new (after_elimination n f) table.new
         × IsItemOrOne A.fits A.spans algebra.new (star_of (f n n)) (cell stars.new n n)
         (node_at source n)) }
     ensures others { OnOk result ((m : ℕ) → m ≢ n → cell stars.new m m ≡ cell stars.old m m) }

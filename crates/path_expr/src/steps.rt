@@ -137,7 +137,7 @@ pub(crate) fn join_both<A: Algebra>(
 }
 
 /// A path, and turns behind it where there are any.
-pub(crate) fn turned<A: Algebra>(
+pub(crate) fn path_with_turns<A: Algebra>(
     alloc: Global,
     algebra: &mut A,
     path: &A::Item,

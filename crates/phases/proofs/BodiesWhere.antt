@@ -24,7 +24,7 @@ use Rattle.transition_formula.proofs.Fitting.{fitting, from_fitting, is_below-mo
 use Rattle.transition_formula.proofs.Values.{value-agrees}
 use Rattle.posing.specs.Posing.{Always}
 use Rattle.posing.proofs.Paths.{always_weaker}
-use Rattle.polyhedra.specs.Settle.{settled}
+use Rattle.polyhedra.specs.Settle.{settled_formula}
 use Rattle.polyhedra.proofs.Settled.{settled-covers}
 use Rattle.phases.specs.Phases.{body_where, case_where, turns_where}
 use Rattle.phases.specs.Splits.{contrary, inequality}
@@ -115,6 +115,6 @@ HoldsWhere body p g = (before after : List ℤ) → Holds body before after → 
 pub turns_where-holds : (body : Transition) (p : Polynomial) → IsHalvable body p → IsCanonical p.terms → IsCanonicalFormula body → Always (HoldsWhere body p) (turns_where p body)
 unfolding turns_where
 turns_where-holds body p is h k =
-    always_weaker _ (HoldsWhere body p) (settled (body_where p body))
+    always_weaker _ (HoldsWhere body p) (settled_formula (body_where p body))
     (λ g covers before after held true_there. covers before after (record { enters = held.enters; some = some-where body.from p body.cases before after is.over true_there held.some }))
     (settled-covers (body_where p body) (rows-canonical (body_where p body) (where-canonical p body h k)) (where-solvable body p is))

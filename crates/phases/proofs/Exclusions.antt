@@ -11,7 +11,7 @@ use Rattle.linear_terms.specs.declared.row.Row.{Row}
 use Rattle.linear_terms.specs.declared.row.Case.{Case}
 use Rattle.linear_terms.specs.Auxiliaries.{is_numbered}
 use Rattle.linear_terms.specs.Expressions.{Made}
-use Rattle.linear_terms.specs.Operations.{substituted}
+use Rattle.linear_terms.specs.Operations.{substituted_polynomial}
 use Rattle.linear_terms.specs.Polynomial.{Polynomial, constant_of}
 use Rattle.linear_terms.specs.Replacement.{put_in}
 use Rattle.linear_terms.specs.Row.{RowHolds, AreCanonical}
@@ -47,12 +47,12 @@ module _ (case : Case) (at : Valuation) (after : List ℤ) (posts : map (value_o
   seen (At n) = got (value_of at) (constant_of (pos 0)) case.post n refl ∙ ap (λ xs. unwrap_or (slice_get xs n) (pos 0)) posts
   seen (Aux n) = refl
 
-  after-value : (q r : Polynomial) → substituted (put_in case.post []) q ≡ Ok r → value_of at r ≡ value_of (numbers after (λ n. pos 0)) q
+  after-value : (q r : Polynomial) → substituted_polynomial (put_in case.post []) q ≡ Ok r → value_of at r ≡ value_of (numbers after (λ n. pos 0)) q
   after-value q r e = substituted-value at (put_in case.post []) q r e ∙ (λ i. value_of (λ c. seen c i) q)
 
 -- ---- the case with it can be put in order
 
-module _ (q r : Polynomial) (case : Case) (made : substituted (put_in case.post []) q ≡ Ok r) (is : IsExcludable q case) where
+module _ (q r : Polynomial) (case : Case) (made : substituted_polynomial (put_in case.post []) q ≡ Ok r) (is : IsExcludable q case) where
   abbrev AllPosts : Type 0
   AllPosts = IsTrue (list_all (every_column (is_numbered case.aux)) case.post)
 
@@ -96,17 +96,17 @@ left-holds_nothing (Some case) =
 
 case_excludes-true : (q : Polynomial) (case : Case) → IsExcludable q case → IsCanonicalCase case → Always (Excludes q case) (case_excludes q case)
 unfolding case_excludes
-case_excludes-true q case is canonical = go (substituted (put_in case.post []) q) refl
+case_excludes-true q case is canonical = go (substituted_polynomial (put_in case.post []) q) refl
   where
-    whole : (r : Polynomial) → substituted (put_in case.post []) q ≡ Ok r → (before after : List ℤ) → HoldsCase case before after → IsTrueAt q after → HoldsCase (case_where r case) before after
+    whole : (r : Polynomial) → substituted_polynomial (put_in case.post []) q ≡ Ok r → (before after : List ℤ) → HoldsCase case before after → IsTrueAt q after → HoldsCase (case_where r case) before after
     whole r e before after (aux, h) there =
         let true_here : RowHolds (numbers before aux) (inequality r) = subst (λ z. z ≤ℤ pos 0) (sym (after-value case (numbers before aux) after h.posts q r e)) there in
         (aux, record { rows = each-append (RowHolds (numbers before aux)) case.rows (inequality r ∷ []) h.rows (true_here, tt); posts = h.posts })
 
-    rows : (r : Polynomial) → substituted (put_in case.post []) q ≡ Ok r → AreCanonical (case_where r case).rows
+    rows : (r : Polynomial) → substituted_polynomial (put_in case.post []) q ≡ Ok r → AreCanonical (case_where r case).rows
     rows r e = All-from_recursion IsCanonicalRow (case_where r case).rows (each-append IsCanonicalRow case.rows (inequality r ∷ []) canonical (IsCanonical-substituted (put_in case.post []) q r e, tt))
 
-    go : (m : Made) → substituted (put_in case.post []) q ≡ m → Always (Excludes q case) (case_excludes_by case m)
+    go : (m : Made) → substituted_polynomial (put_in case.post []) q ≡ m → Always (Excludes q case) (case_excludes_by case m)
     go (Ok r) e =
         always_weaker (HoldsNothing (in_order (case_where r case)).left) (Excludes q case) (left_excludes (in_order (case_where r case)).left)
         (λ b none told before after h there.

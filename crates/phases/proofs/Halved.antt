@@ -13,7 +13,7 @@ use Rattle.transition_formula.proofs.Fitted.{fits-solvable}
 use Rattle.transition_formula.proofs.Fitting.{fitting}
 use Rattle.posing.specs.Posing.{Done, ◌>>=◌, Always}
 use Rattle.posing.proofs.Paths.{always_any, always_bind, always_weaker}
-use Rattle.polyhedra.specs.Settle.{settled, settled_cases}
+use Rattle.polyhedra.specs.Settle.{settled_formula, settled_cases}
 use Rattle.polyhedra.specs.Vocabulary.{Vocabulary}
 use Rattle.polyhedra.proofs.Settled.{settled_cases-fit}
 use Rattle.recurrence.proofs.Starred.{always_both}
@@ -51,7 +51,7 @@ module _ (others most : ℕ) (body : Transition) (p : Polynomial) (is : IsHalvab
       }
 
   pub turns_where-half : AllByRecursion HasRoomFor body.cases → Always (IsHalf others most body) (turns_where p body)
-  unfolding turns_where settled
+  unfolding turns_where settled_formula
   turns_where-half room =
       always_bind (λ cases. IsTransition body.from body.to cases × AllByRecursion (λ (case : Case). case.aux + others ≤ most) cases) (IsHalf others most body)
       (settled_cases (map (case_where p) body.cases)) (λ cases. Done record { from = body.from; to = body.to; cases = cases })
@@ -208,8 +208,8 @@ module _ (body : Transition) (is : IsSplittable body) (canonical : IsCanonicalFo
   turns-true : (p : Polynomial) → IsOverEntries body.from p → IsInForm p → Always (IsHalfWhere p) (turns_where p body)
   unfolding turns_where
   turns-true p over form =
-      always_weaker (λ g. HoldsWhere body p g × IsCanonicalFormula g) (IsHalfWhere p) (settled (body_where p body)) (λ g k. record { holds = k.0; form = k.1 })
-      (always_both (HoldsWhere body p) IsCanonicalFormula (settled (body_where p body)) (turns_where-holds body p (record { splittable = is; over = over }) form canonical)
+      always_weaker (λ g. HoldsWhere body p g × IsCanonicalFormula g) (IsHalfWhere p) (settled_formula (body_where p body)) (λ g k. record { holds = k.0; form = k.1 })
+      (always_both (HoldsWhere body p) IsCanonicalFormula (settled_formula (body_where p body)) (turns_where-holds body p (record { splittable = is; over = over }) form canonical)
       (settled-canonical (body_where p body) (where-canonical p body form canonical)))
 
   module _ (p q : Polynomial) (e : contrary p ≡ Ok q) (over : IsOverEntries body.from p) (form : IsInForm p) where

@@ -7,8 +7,8 @@ use Rattle.linear_terms.specs.declared.row.Row.{Row}
 use Rattle.linear_terms.specs.declared.row.Case.{Case}
 use Rattle.transition_formula.specs.Order.{first_equation, solution}
 use Rattle.transition_formula.specs.Renumbering.{occurs_in, renumbered_case}
-use Rattle.transition_formula.specs.Rounds.{in_order, round, rounds, solved_at, solved_first, with_rows, with_solved}
-use Rattle.transition_formula.specs.Rows.{tidied}
+use Rattle.transition_formula.specs.Rounds.{in_order, round, rounds, round_at, solved_first, with_rows, with_solved}
+use Rattle.transition_formula.specs.Rows.{tidied_rows}
 use Rattle.transition_formula.proofs.FewAuxiliaries.{HasRoom, first-room, solved-room, tidied-room}
 use Rattle.transition_formula.proofs.Numbers.{count_below-most}
 use Rattle.transition_formula.proofs.Rounding.{AllNumbered, first_equation-row}
@@ -28,10 +28,10 @@ module _ (start room : ℕ) where
 
   rounds-room : (n : ℕ) (case : Case) → HasRoom start room case → IsWithinRoom (start + room) (rounds n case).left
   rounds-room zero case h = renumbered-room case h
-  rounds-room (suc n) case h = go (tidied case.rows).rows refl (λ next k. rounds-room n next k)
+  rounds-room (suc n) case h = go (tidied_rows case.rows).rows refl (λ next k. rounds-room n next k)
     where
       at : (left : Case) (place m : ℕ) (o : Option Row) → o ≡ slice_get left.rows place → Some (place, m) ≡ first_equation left.rows → HasRoom start room left
-          → ((next : Case) → HasRoom start room next → IsWithinRoom (start + room) (rounds n next).left) → IsWithinRoom (start + room) (solved_at (rounds n) (with_rows left (remove left.rows place)) m o).left
+          → ((next : Case) → HasRoom start room next → IsWithinRoom (start + room) (rounds n next).left) → IsWithinRoom (start + room) (round_at (rounds n) (with_rows left (remove left.rows place)) m o).left
       at left place m None e f k ih = let there = first_equation-row left.rows place m f in let is = there.1.1 ∙ sym e in cc
       at left place m (Some row) e f k ih = ih (with_solved (solution row.poly m) m (with_rows left (remove left.rows place))) (solved-room start room left place m row f e k)
 
@@ -40,7 +40,7 @@ module _ (start room : ℕ) where
       first left None e k ih = renumbered-room left k
       first left (Some found) e k ih = at left found.0 found.1 (slice_get left.rows found.0) refl e k ih
 
-      go : (o : Option (List Row)) → (tidied case.rows).rows ≡ o → ((next : Case) → HasRoom start room next → IsWithinRoom (start + room) (rounds n next).left) → IsWithinRoom (start + room) (round (rounds n) case o).left
+      go : (o : Option (List Row)) → (tidied_rows case.rows).rows ≡ o → ((next : Case) → HasRoom start room next → IsWithinRoom (start + room) (rounds n next).left) → IsWithinRoom (start + room) (round (rounds n) case o).left
       go None e ih = tt
       go (Some rows) e ih = first (with_rows case rows) (first_equation rows) refl (tidied-room start room case (with_rows case rows) (record { rows = sym e; same = refl }) h) ih
 

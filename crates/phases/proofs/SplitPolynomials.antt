@@ -18,13 +18,13 @@ use Rattle.linear_terms.specs.declared.row.Normal.TheVariants.{Constant, Kept}
 use Rattle.linear_terms.specs.declared.row.Row.{Row}
 use Rattle.linear_terms.specs.declared.row.Case.{Case}
 use Rattle.linear_terms.specs.Equality.{poly_eq}
-use Rattle.linear_terms.specs.Expressions.{Made, ◌⊞◌, all_of, turned, whole}
+use Rattle.linear_terms.specs.Expressions.{Made, ◌⊞◌, all_of, negative_of, whole}
 use Rattle.linear_terms.specs.Polynomial.{Polynomial, IsCanonical, constant_of}
 use Rattle.linear_terms.specs.Row.{normal_form}
 use Rattle.linear_terms.proofs.Canonical.{IsCanonical-multiple_of, IsCanonical-sum_of_polys}
 use Rattle.linear_terms.proofs.Columns.{multiple_of-each, sum_of_polys-each}
 use Rattle.linear_terms.proofs.Normals.{normal_form-HasCanonicalTerms}
-use Rattle.transition_formula.specs.Rows.{each_once, opposites_met, tidied, with_normal}
+use Rattle.transition_formula.specs.Rows.{each_once, opposites_met, tidied_rows, with_normal}
 use Rattle.transition_formula.specs.Transition.{Transition, every_column, is_below}
 use Rattle.transition_formula.proofs.Carried.{passes, tidied-passes}
 use Rattle.transition_formula.proofs.Fitting.{below-true, true-below}
@@ -38,13 +38,13 @@ use Rattle.phases.specs.Words.{IsOverEntries, with_split, with_splits}
 -- ---- a property that the steps to an inequality keep
 
 pub record Steps (Q : Polynomial → Type 0) : Type 0 where
-  pub turns : (p q : Polynomial) → turned (Ok p) ≡ Ok q → Q p → Q q
+  pub turns : (p q : Polynomial) → negative_of (Ok p) ≡ Ok q → Q p → Q q
   pub adds : (p q : Polynomial) → Ok p ⊞ whole (pos 1) ≡ Ok q → Q p → Q q
   pub norms : (p q : Polynomial) → normal_polynomial p ≡ Some q → Q p → Q q
 
 module _ (Q : Polynomial → Type 0) (steps : Steps Q) where
   pub contrary-keeps : (p q : Polynomial) → contrary p ≡ Ok q → Q p → Q q
-  contrary-keeps p q e h = on_ok (turned (Ok p)) (λ t. Ok t ⊞ whole (pos 1)) q e (λ t f g. steps.adds t q g (steps.turns p t f h))
+  contrary-keeps p q e h = on_ok (negative_of (Ok p)) (λ t. Ok t ⊞ whole (pos 1)) q e (λ t f g. steps.adds t q g (steps.turns p t f h))
 
   all_of-keeps : (ms : List Made) → AllByRecursion (λ (m : Made). (q : Polynomial) → m ≡ Ok q → Q q) ms → (ps : List Polynomial) → all_of ms ≡ Ok ps → AllByRecursion Q ps
   all_of-keeps [] h ps e = let same : [] ≡ ps = cc in subst (AllByRecursion Q) same tt
@@ -55,7 +55,7 @@ module _ (Q : Polynomial → Type 0) (steps : Steps Q) where
   offers-keep : (kind : Kind) (p : Polynomial) → Q p → (ps : List Polynomial) → offers kind p ≡ Ok ps → AllByRecursion Q ps
   offers-keep AtMost p h ps e = all_of-keeps (Ok p ∷ contrary p ∷ []) ((λ q f. let same : p ≡ q = cc in subst Q same h), ((λ q f. contrary-keeps p q f h), tt)) ps e
   offers-keep Equal p h ps e =
-      all_of-keeps (Ok p ∷ contrary p ∷ turned (Ok p) ∷ (Ok p ⊞ whole (pos 1)) ∷ [])
+      all_of-keeps (Ok p ∷ contrary p ∷ negative_of (Ok p) ∷ (Ok p ⊞ whole (pos 1)) ∷ [])
       ((λ q f. let same : p ≡ q = cc in subst Q same h), ((λ q f. contrary-keeps p q f h), ((λ q f. steps.turns p q f h), ((λ q f. steps.adds p q f h), tt)))) ps e
 
   normal-keeps : (p : Polynomial) → Q p → AllByRecursion Q (option_to_list (normal_polynomial p))
@@ -100,7 +100,7 @@ module _ (test : Col → Bool) where
   Passes p = IsTrue (every_column test p)
 
   -- one row is tidied to its normal form
-  tidied-one : (p : Polynomial) (row : Row) → normal_form (inequality p) ≡ Ok (Kept row) → (tidied (inequality p ∷ [])).rows ≡ Some (row ∷ [])
+  tidied-one : (p : Polynomial) (row : Row) → normal_form (inequality p) ≡ Ok (Kept row) → (tidied_rows (inequality p ∷ [])).rows ≡ Some (row ∷ [])
   tidied-one p row e = ap (λ n. opposites_met (option_map each_once (with_normal n (record { rows = Some []; losses = [] })).rows)) e
 
   norms-pass : (p q : Polynomial) → normal_polynomial p ≡ Some q → Passes p → Passes q

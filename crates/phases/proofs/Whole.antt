@@ -6,7 +6,7 @@ use Rattle.std.proofs.lemmas.Bool.{leb-true, le-leb}
 use Rattle.std.proofs.lemmas.List.Sums.{count_by-le-length}
 use Rattle.items.proofs.Each.{each-both, each-flat_map, each-map, each-more, each_from_test, test_from_each}
 use Rattle.linear_terms.specs.declared.row.Case.{Case}
-use Rattle.transition_formula.specs.Composition.{after_case, identity_of, joined, sequence_of, sequence_of_cases}
+use Rattle.transition_formula.specs.Composition.{after_case, identity_of, union_of, sequence_of, sequence_of_cases}
 use Rattle.transition_formula.specs.Meaning.{Covers, HoldsOfChains}
 use Rattle.transition_formula.specs.Transition.{Transition, IsTransition, IsFitted, AreFew, AreSolvable, fits}
 use Rattle.transition_formula.proofs.Covered.{both, both_true, lost}
@@ -14,10 +14,10 @@ use Rattle.transition_formula.proofs.Few.{all_few}
 use Rattle.transition_formula.proofs.Fitting.{below-true, fitting, sequence_of-fits}
 use Rattle.posing.specs.Posing.{Done, ◌>>=◌, Always}
 use Rattle.posing.proofs.Paths.{always_any, always_bind, always_weaker}
-use Rattle.polyhedra.specs.Finish.{finished}
+use Rattle.polyhedra.specs.Finish.{finish_of_case}
 use Rattle.polyhedra.specs.Laws.{IsBetween, IsSmall}
-use Rattle.polyhedra.specs.Settle.{settled, settled_cases}
-use Rattle.polyhedra.specs.Squash.{fitted}
+use Rattle.polyhedra.specs.Settle.{settled_formula, settled_cases}
+use Rattle.polyhedra.specs.Squash.{fitted_formula}
 use Rattle.polyhedra.specs.Vocabulary.{Vocabulary}
 use Rattle.polyhedra.proofs.Fitted.{fitted-covers, fitted-small}
 use Rattle.polyhedra.proofs.Settled.{settled-covers, settled_cases-fit}
@@ -28,7 +28,7 @@ use Rattle.recurrence.proofs.Whole.{star-fits, star-holds-of-chains}
 use Rattle.phases.specs.declared.halving.Halves.{Halves}
 use Rattle.phases.specs.Law.{IsPhasable, IsPhased, PhasesFit, PhasesHold}
 use Rattle.phases.specs.Limits.{most_depth}
-use Rattle.phases.specs.Phases.{in_turn, phased, phased_by, phases_of, split}
+use Rattle.phases.specs.Phases.{in_turn, phased_star, star_by_halves, phases_of, split}
 use Rattle.phases.specs.Words.{AreInTurn, AreRoomy, IfFound, IsRoomy}
 use Rattle.phases.proofs.BodiesWhere.{AreFewAuxiliaries, few-solvable}
 use Rattle.phases.proofs.CanonicalForms.{formula-canonical, rows-canonical, sequence-canonical}
@@ -65,8 +65,8 @@ module _ (depth : ℕ) (body : Transition) (voc : Vocabulary) (is : IsRoomy dept
       by_cases : (cases : List Case) → Always StaysAt (star_by body voc cases)
       by_cases [] = (refl, refl)
       by_cases (case ∷ cases) =
-          always_bind (λ (left : Option Case). Unit {0}) StaysAt (turns body voc >>= finished) (λ left. Done (joined (identity_of body.from) record { from = body.from; to = body.to; cases = option_to_list left }))
-          (always_any (λ left. Unit {0}) (turns body voc >>= finished) (λ left. tt)) (λ left any. (refl, refl))
+          always_bind (λ (left : Option Case). Unit {0}) StaysAt (turns body voc >>= finish_of_case) (λ left. Done (union_of (identity_of body.from) record { from = body.from; to = body.to; cases = option_to_list left }))
+          (always_any (λ left. Unit {0}) (turns body voc >>= finish_of_case) (λ left. tt)) (λ left any. (refl, refl))
 
   star-fitted : (g : Transition) → IsStar body.to g → IsFitted g.cases
   star-fitted g star =
@@ -133,8 +133,8 @@ module _ (voc : Vocabulary) (a b : Transition) (is : AreInTurn voc a b) where
     pub to_is : g.to ≡ voc.columns
     pub fit : IsTransition voc.columns voc.columns g.cases
 
-  pub sequence-settled : Always IsSettled (settled sequence)
-  unfolding settled
+  pub sequence-settled : Always IsSettled (settled_formula sequence)
+  unfolding settled_formula
   sequence-settled =
       always_bind (IsTransition voc.columns voc.columns) IsSettled (settled_cases sequence.cases) (λ cases. Done record { from = a.from; to = b.to; cases = cases })
       (settled_cases-fit voc.columns voc.columns sequence.cases fits-sequence) (λ cases k. record { from_is = is.first.from_is; to_is = is.second.to_is; fit = k })
@@ -161,8 +161,8 @@ module _ (voc : Vocabulary) (a b : Transition) (is : AreInTurn voc a b) where
   in_turn-phased : Always (IsPhased voc.columns) (in_turn voc a b)
   unfolding in_turn ◌>>=◌
   in_turn-phased =
-      always_bind IsSettled (IsPhased voc.columns) (settled sequence) (λ g. fitted g voc voc) sequence-settled
-      (λ g k. always_weaker (IsSmall g) (IsPhased voc.columns) (fitted g voc voc) (λ h small. small-phased g h k small) (fitted-small g voc voc (settled-between g k)))
+      always_bind IsSettled (IsPhased voc.columns) (settled_formula sequence) (λ g. fitted_formula g voc voc) sequence-settled
+      (λ g k. always_weaker (IsSmall g) (IsPhased voc.columns) (fitted_formula g voc voc) (λ h small. small-phased g h k small) (fitted-small g voc voc (settled-between g k)))
 
   -- it holds of all that the sequence holds of, and is in canonical form
   abbrev IsWider : Transition → Type 0
@@ -172,11 +172,11 @@ module _ (voc : Vocabulary) (a b : Transition) (is : AreInTurn voc a b) where
   unfolding in_turn ◌>>=◌
   in_turn-wider canonical =
       let form = sequence-canonical a b canonical in
-      always_bind (λ g. IsSettled g × IsWider g) IsWider (settled sequence) (λ g. fitted g voc voc)
-      (always_both IsSettled IsWider (settled sequence) sequence-settled
-      (always_both (λ g. Covers g sequence) IsCanonicalFormula (settled sequence) (settled-covers sequence (rows-canonical sequence form) sequence-solvable) (settled-canonical sequence form)))
-      (λ g k. always_weaker (λ h. Covers h g × IsCanonicalFormula h) IsWider (fitted g voc voc) (λ h l. ((λ before after held. l.0 before after (k.1.0 before after held)), l.1))
-      (always_both (λ h. Covers h g) IsCanonicalFormula (fitted g voc voc) (fitted-covers g voc voc (settled-between g k.0)) (fitted-canonical g voc voc (directions-canonical voc is.vocabulary) k.1.1)))
+      always_bind (λ g. IsSettled g × IsWider g) IsWider (settled_formula sequence) (λ g. fitted_formula g voc voc)
+      (always_both IsSettled IsWider (settled_formula sequence) sequence-settled
+      (always_both (λ g. Covers g sequence) IsCanonicalFormula (settled_formula sequence) (settled-covers sequence (rows-canonical sequence form) sequence-solvable) (settled-canonical sequence form)))
+      (λ g k. always_weaker (λ h. Covers h g × IsCanonicalFormula h) IsWider (fitted_formula g voc voc) (λ h l. ((λ before after held. l.0 before after (k.1.0 before after held)), l.1))
+      (always_both (λ h. Covers h g) IsCanonicalFormula (fitted_formula g voc voc) (fitted-covers g voc voc (settled-between g k.0)) (fitted-canonical g voc voc (directions-canonical voc is.vocabulary) k.1.1)))
 
 -- ---- phases
 
@@ -184,16 +184,16 @@ pub in_turn-ready : (depth : ℕ) (voc : Vocabulary) (body a b : Transition) →
 in_turn-ready depth voc body a b is h k =
     record { first = h; second = k; vocabulary = is.starred.vocabulary; few_columns = subst (λ n. n ≤ 63) (sym is.starred.same_columns) is.few_columns }
 
-pub phased-small : (depth : ℕ) (voc : Vocabulary) (body : Transition) → IsRoomy depth body voc → Always (IsPhased voc.columns) (phased depth voc body)
+pub phased-small : (depth : ℕ) (voc : Vocabulary) (body : Transition) → IsRoomy depth body voc → Always (IsPhased voc.columns) (phased_star depth voc body)
 phased-small zero voc body is = star-phased zero body voc is
 phased-small (suc depth) voc body is =
-    always_bind (IfFound (AreRoomy depth voc)) (IsPhased voc.columns) (split body) (phased_by (phased depth voc) voc body) (split-roomy depth voc body is) (λ found k. go found k (phased-small depth voc))
+    always_bind (IfFound (AreRoomy depth voc)) (IsPhased voc.columns) (split body) (star_by_halves (phased_star depth voc) voc body) (split-roomy depth voc body is) (λ found k. go found k (phased-small depth voc))
   where
-    go : (found : Option Halves) → IfFound (AreRoomy depth voc) found → ((g : Transition) → IsRoomy depth g voc → Always (IsPhased voc.columns) (phased depth voc g)) → Always (IsPhased voc.columns) (phased_by (phased depth voc) voc body found)
+    go : (found : Option Halves) → IfFound (AreRoomy depth voc) found → ((g : Transition) → IsRoomy depth g voc → Always (IsPhased voc.columns) (phased_star depth voc g)) → Always (IsPhased voc.columns) (star_by_halves (phased_star depth voc) voc body found)
     go None k ih = star-phased (suc depth) body voc is
     go (Some found) k ih =
-        always_bind (IsPhased voc.columns) (IsPhased voc.columns) (phased depth voc found.first) (λ a. phased depth voc found.second >>= λ b. in_turn voc a b) (ih found.first k.0) (λ a h.
-        always_bind (IsPhased voc.columns) (IsPhased voc.columns) (phased depth voc found.second) (λ b. in_turn voc a b) (ih found.second k.1) (λ b l.
+        always_bind (IsPhased voc.columns) (IsPhased voc.columns) (phased_star depth voc found.first) (λ a. phased_star depth voc found.second >>= λ b. in_turn voc a b) (ih found.first k.0) (λ a h.
+        always_bind (IsPhased voc.columns) (IsPhased voc.columns) (phased_star depth voc found.second) (λ b. in_turn voc a b) (ih found.second k.1) (λ b l.
         in_turn-phased voc a b (in_turn-ready (suc depth) voc body a b is h l)))
 
 -- it holds of chains of the body, and is in canonical form
@@ -208,21 +208,21 @@ star-true depth body voc is =
 abbrev IsBoth : ℕ → Transition → Transition → Type 0
 IsBoth n half g = IsPhased n g × IsTrueOf half g
 
-phased-true : (depth : ℕ) (voc : Vocabulary) (body : Transition) → IsRoomy depth body voc → IsCanonicalFormula body → Always (IsTrueOf body) (phased depth voc body)
+phased-true : (depth : ℕ) (voc : Vocabulary) (body : Transition) → IsRoomy depth body voc → IsCanonicalFormula body → Always (IsTrueOf body) (phased_star depth voc body)
 phased-true zero voc body is canonical = star-true zero body voc is
 phased-true (suc depth) voc body is canonical =
-    always_bind (λ found. IfFound (AreRoomy depth voc) found × IfFound (AreTrueHalves body) found) (IsTrueOf body) (split body) (phased_by (phased depth voc) voc body)
+    always_bind (λ found. IfFound (AreRoomy depth voc) found × IfFound (AreTrueHalves body) found) (IsTrueOf body) (split body) (star_by_halves (phased_star depth voc) voc body)
     (always_both (IfFound (AreRoomy depth voc)) (IfFound (AreTrueHalves body)) (split body) (split-roomy depth voc body is) (split-true body (roomy-splittable (suc depth) voc body is) canonical))
     (λ found k. go found k.0 k.1 (phased-true depth voc))
   where
     go : (found : Option Halves) → IfFound (AreRoomy depth voc) found → IfFound (AreTrueHalves body) found
-        → ((g : Transition) → IsRoomy depth g voc → IsCanonicalFormula g → Always (IsTrueOf g) (phased depth voc g)) → Always (IsTrueOf body) (phased_by (phased depth voc) voc body found)
+        → ((g : Transition) → IsRoomy depth g voc → IsCanonicalFormula g → Always (IsTrueOf g) (phased_star depth voc g)) → Always (IsTrueOf body) (star_by_halves (phased_star depth voc) voc body found)
     go None k l ih = star-true (suc depth) body voc is
     go (Some found) k l ih =
-        always_bind (IsBoth voc.columns found.first) (IsTrueOf body) (phased depth voc found.first) (λ a. phased depth voc found.second >>= λ b. in_turn voc a b)
-        (always_both (IsPhased voc.columns) (IsTrueOf found.first) (phased depth voc found.first) (phased-small depth voc found.first k.0) (ih found.first k.0 l.first_canonical)) (λ a h.
-        always_bind (IsBoth voc.columns found.second) (IsTrueOf body) (phased depth voc found.second) (λ b. in_turn voc a b)
-        (always_both (IsPhased voc.columns) (IsTrueOf found.second) (phased depth voc found.second) (phased-small depth voc found.second k.1) (ih found.second k.1 l.second_canonical)) (λ b m.
+        always_bind (IsBoth voc.columns found.first) (IsTrueOf body) (phased_star depth voc found.first) (λ a. phased_star depth voc found.second >>= λ b. in_turn voc a b)
+        (always_both (IsPhased voc.columns) (IsTrueOf found.first) (phased_star depth voc found.first) (phased-small depth voc found.first k.0) (ih found.first k.0 l.first_canonical)) (λ a h.
+        always_bind (IsBoth voc.columns found.second) (IsTrueOf body) (phased_star depth voc found.second) (λ b. in_turn voc a b)
+        (always_both (IsPhased voc.columns) (IsTrueOf found.second) (phased_star depth voc found.second) (phased-small depth voc found.second k.1) (ih found.second k.1 l.second_canonical)) (λ b m.
         let both_are = in_turn-ready (suc depth) voc body a b is h.0 m.0 in
         always_weaker (IsWider voc a b both_are) (IsTrueOf body) (in_turn voc a b)
         (λ g wide. (
@@ -247,10 +247,10 @@ phasable-roomy body voc is = record {
 pub phases-hold : PhasesHold
 unfolding phases_of
 phases-hold body voc is canonical =
-    always_weaker (IsTrueOf body) (HoldsOfChains body) (phased most_depth voc body) (λ g k. k.0)
+    always_weaker (IsTrueOf body) (HoldsOfChains body) (phased_star most_depth voc body) (λ g k. k.0)
     (phased-true most_depth voc body (phasable-roomy body voc is) (formula-canonical body canonical))
 
 pub phases-fit : PhasesFit
 unfolding phases_of
 phases-fit body voc is =
-    subst (λ n. Always (IsPhased n) (phased most_depth voc body)) is.starred.same_columns (phased-small most_depth voc body (phasable-roomy body voc is))
+    subst (λ n. Always (IsPhased n) (phased_star most_depth voc body)) is.starred.same_columns (phased-small most_depth voc body (phasable-roomy body voc is))

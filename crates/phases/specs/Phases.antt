@@ -4,19 +4,19 @@ use Rattle.std.specs.Prelude.{ℕ, zero, suc, List, [], ◌∷◌, ◌++◌, len
 use Rattle.linear_terms.specs.declared.row.Row.{Row}
 use Rattle.linear_terms.specs.declared.row.Case.{Case}
 use Rattle.linear_terms.specs.Expressions.{Made}
-use Rattle.linear_terms.specs.Operations.{substituted}
+use Rattle.linear_terms.specs.Operations.{substituted_polynomial}
 use Rattle.linear_terms.specs.Polynomial.{Polynomial}
 use Rattle.linear_terms.specs.Replacement.{put_in}
-use Rattle.transition_formula.specs.Composition.{sequence_of, lost_in_sequence}
-use Rattle.transition_formula.specs.Loss.{noted}
+use Rattle.transition_formula.specs.Composition.{sequence_of, losses_in_sequence}
+use Rattle.transition_formula.specs.Loss.{error_losses}
 use Rattle.transition_formula.specs.Rounds.{Ordered, in_order}
 use Rattle.transition_formula.specs.Transition.{Transition}
 use Rattle.farkas_check.specs.declared.question.Question.TheVariants.{Infeasible}
 use Rattle.posing.specs.Logs.{loss_notes}
 use Rattle.posing.specs.Posing.{Posing, Done, Noted, answer_to, ◌>>=◌}
 use Rattle.polyhedra.specs.Infeasibility.{is_yes}
-use Rattle.polyhedra.specs.Settle.{settled}
-use Rattle.polyhedra.specs.Squash.{fitted}
+use Rattle.polyhedra.specs.Settle.{settled_formula}
+use Rattle.polyhedra.specs.Squash.{fitted_formula}
 use Rattle.polyhedra.specs.Vocabulary.{Vocabulary}
 use Rattle.recurrence.specs.Star.{star_of}
 use Rattle.phases.specs.declared.halving.Halves.{Halves}
@@ -41,7 +41,7 @@ body_where p body = record {
 
 -- these turns, settled
 unfoldable pub turns_where : Polynomial → Transition → Posing Transition
-turns_where p body = settled (body_where p body)
+turns_where p body = settled_formula (body_where p body)
 
 -- ---- whether no turn ends where an inequality is true
 
@@ -60,11 +60,11 @@ order_excludes order = Noted (loss_notes order.losses) (left_excludes order.left
 
 abbrev pub case_excludes_by : Case → Made → Posing Bool
 case_excludes_by case (Ok q) = order_excludes (in_order (case_where q case))
-case_excludes_by case (Err e) = Noted (loss_notes (noted e)) (Done false)
+case_excludes_by case (Err e) = Noted (loss_notes (error_losses e)) (Done false)
 
 -- a case with the inequality on its posts, in order; losses are noted before the question
 unfoldable pub case_excludes : Polynomial → Case → Posing Bool
-case_excludes q case = case_excludes_by case (substituted (put_in case.post []) q)
+case_excludes q case = case_excludes_by case (substituted_polynomial (put_in case.post []) q)
 
 -- case by case; the first that does not ends it
 abbrev pub cases_exclude : Polynomial → List Case → Posing Bool
@@ -129,18 +129,18 @@ split body = if nat_lt (length body.cases) 2 then Done None else first_halves bo
 -- one formula and then another; losses are noted before the first question
 unfoldable pub in_turn : Vocabulary → Transition → Transition → Posing Transition
 in_turn voc a b =
-    Noted (loss_notes (lost_in_sequence a b)) (settled (sequence_of a b) >>= λ g. fitted g voc voc)
+    Noted (loss_notes (losses_in_sequence a b)) (settled_formula (sequence_of a b) >>= λ g. fitted_formula g voc voc)
 
-abbrev pub phased_by : (Transition → Posing Transition) → Vocabulary → Transition → Option Halves
+abbrev pub star_by_halves : (Transition → Posing Transition) → Vocabulary → Transition → Option Halves
     → Posing Transition
-phased_by phases voc body None = star_of body voc
-phased_by phases voc body (Some found) =
+star_by_halves phases voc body None = star_of body voc
+star_by_halves phases voc body (Some found) =
     phases found.first >>= λ a. phases found.second >>= λ b. in_turn voc a b
 
 -- both halves so deep, one and then the other; star where no split stands
-abbrev pub phased : ℕ → Vocabulary → Transition → Posing Transition
-phased zero voc body = star_of body voc
-phased (suc depth) voc body = split body >>= phased_by (phased depth voc) voc body
+abbrev pub phased_star : ℕ → Vocabulary → Transition → Posing Transition
+phased_star zero voc body = star_of body voc
+phased_star (suc depth) voc body = split body >>= star_by_halves (phased_star depth voc) voc body
 
 unfoldable pub phases_of : Transition → Vocabulary → Posing Transition
-phases_of body voc = phased most_depth voc body
+phases_of body voc = phased_star most_depth voc body

@@ -9,7 +9,7 @@ use Rattle.linear_terms.specs.declared.row.Normal.{Normal}
 use Rattle.linear_terms.specs.declared.row.Normal.TheVariants.{Constant, Kept}
 use Rattle.linear_terms.specs.declared.row.Row.{Row}
 use Rattle.linear_terms.specs.Equality.{poly_eq}
-use Rattle.linear_terms.specs.Expressions.{Made, ◌⊞◌, all_of, turned, whole}
+use Rattle.linear_terms.specs.Expressions.{Made, ◌⊞◌, all_of, negative_of, whole}
 use Rattle.linear_terms.specs.Polynomial.{Polynomial}
 use Rattle.linear_terms.specs.Row.{normal_form}
 use Rattle.transition_formula.specs.Transition.{Transition, every_column, is_below}
@@ -22,13 +22,13 @@ inequality p = record { poly = p; kind = AtMost }
 
 -- -p + 1, which is at most 0 exactly where p is not
 abbrev pub contrary : Polynomial → Made
-contrary p = turned (Ok p) ⊞ whole (pos 1)
+contrary p = negative_of (Ok p) ⊞ whole (pos 1)
 
 -- what a row offers: p <= 0 itself and its contrary, and p = 0 its two halves, each with its
 -- contrary
 abbrev pub offers : Kind → Polynomial → Result (List Polynomial) TermError
 offers AtMost p = all_of (Ok p ∷ contrary p ∷ [])
-offers Equal p = all_of (Ok p ∷ contrary p ∷ turned (Ok p) ∷ (Ok p ⊞ whole (pos 1)) ∷ [])
+offers Equal p = all_of (Ok p ∷ contrary p ∷ negative_of (Ok p) ∷ (Ok p ⊞ whole (pos 1)) ∷ [])
 
 -- the polynomial of a row in normal form; none where the row is constant
 abbrev pub polynomial_in : Result Normal TermError → Option Polynomial

@@ -3,7 +3,7 @@ ghost use Rattle.std.specs.List.{AllByRecursion};
 ghost use Rattle.items.specs.Gives.{Gives};
 ghost use Rattle.linear_terms.specs.TermError.{cause};
 ghost use Rattle.linear_terms.specs.Expressions.{Made};
-ghost use Rattle.transition_formula.specs.Loss.{noted};
+ghost use Rattle.transition_formula.specs.Loss.{error_losses};
 ghost use Rattle.transition_formula.specs.Rounds.{in_order};
 ghost use Rattle.transition_formula.specs.Transition.{IsSolvable};
 ghost use Rattle.posing.specs.Follows.{Follows};
@@ -290,7 +290,7 @@ fn excludes_by<O: Oracle>(
 
 /// Notes an operation that has no answer; want of memory is an error here too.
 fn note_lost(alloc: Global, error: TermError, log: &mut Log) -> Result<(), FormulaError>
-    ensures noted { Adds (loss_notes (noted error)) log.old log.new result }
+    ensures noted { Adds (loss_notes (error_losses error)) log.old log.new result }
     ensures told { IfOk result (λ _. cause error ≡ Some error) }
 {
     let mut losses = Items::new(alloc);

@@ -3,7 +3,7 @@ ghost use Rattle.transition_formula.specs.Meaning.{HoldsOfChains};
 ghost use Rattle.posing.specs.Follows.{Follows};
 ghost use Rattle.polyhedra.specs.Laws.{HaveCanonicalRows};
 ghost use Rattle.phases.specs.Law.{IsPhasable, IsPhased};
-ghost use Rattle.phases.specs.Phases.{in_turn, phased, phases_of};
+ghost use Rattle.phases.specs.Phases.{in_turn, phased_star, phases_of};
 ghost use Rattle.phases.specs.Words.{AreInTurn, IsRoomy};
 
 use crate::halving::split;
@@ -41,7 +41,7 @@ pub fn star<O: Oracle>(
     ensures fits { IfOk result (IsPhased body.now.to) }
 {
     see_cases(body.cases());
-    phased(alloc, body, voc, MOST_DEPTH, oracle, log)
+    phased_star(alloc, body, voc, MOST_DEPTH, oracle, log)
 }
 
 /// Each case's rows have their monomials in print order, each once, with numbers that are not zero.
@@ -55,7 +55,7 @@ fn see_cases(cases: &[Case])
 }
 
 /// Phases that split no deeper than that.
-fn phased<O: Oracle>(
+fn phased_star<O: Oracle>(
     alloc: Global,
     body: &Formula,
     voc: &Vocabulary,
@@ -65,7 +65,7 @@ fn phased<O: Oracle>(
 ) -> Result<Formula, WorkError>
     requires { IsRoomy depth body.now voc.now }
     ensures { Follows O.asking oracle.old oracle.new log.old log.new result
-        (phased depth voc.now body.now) }
+        (phased_star depth voc.now body.now) }
 {
     if depth == 0 {
         return recurrence::star(alloc, body, voc, oracle, log);
@@ -73,8 +73,8 @@ fn phased<O: Oracle>(
     match split(alloc, body, oracle, log)? {
         None => recurrence::star(alloc, body, voc, oracle, log),
         Some(found) => {
-            let first = phased(alloc, &found.first, voc, depth - 1, oracle, log)?;
-            let second = phased(alloc, &found.second, voc, depth - 1, oracle, log)?;
+            let first = phased_star(alloc, &found.first, voc, depth - 1, oracle, log)?;
+            let second = phased_star(alloc, &found.second, voc, depth - 1, oracle, log)?;
             in_turn(alloc, &first, &second, voc, oracle, log)
         }
     }

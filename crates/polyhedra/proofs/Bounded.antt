@@ -26,7 +26,7 @@ use Rattle.posing.proofs.Paths.{always_bind}
 use Rattle.linear_terms.specs.Expressions.{Made, whole, put_into}
 use Rattle.polyhedra.specs.Vocabulary.{IsDirection}
 use Rattle.polyhedra.specs.Changes.{poly_at, change}
-use Rattle.polyhedra.specs.Bounds.{for_entries, goals_of, bound_in, bound_by, bound_of, with_row, with_row_for, bounded, before_row, put_in_for, after_row, so_often, change_row, bounded_before, bounded_after, bounded_change}
+use Rattle.polyhedra.specs.Bounds.{for_entries, goals_of, bound_in, bound_by, bound_of, with_row, with_row_for, rows_with_bound, before_row, put_in_for, after_row, so_often, change_row, rows_with_entry_bound, rows_with_exit_bound, bounded_change}
 use Rattle.linear_terms.proofs.Worth.{IsWorth, IsTrueIfMade, IsWorth-Ok, IsWorth-same, IsWorth-whole, IsWorth-difference, IsTrueIfMade-at_most, IsWorth-put_into}
 use Rattle.polyhedra.proofs.Shaped.{with_row-keeps, each-keeps}
 use Rattle.polyhedra.proofs.Turns.{number_in, Reads, post-worth, change-worth, by_some, IsRunOf}
@@ -137,8 +137,8 @@ module _ (body : Transition) (steps : ℕ) (states : ℕ → List ℤ) (run : Is
 
   -- a bound's row is true where the bound says so
   pub bounded-true : (at : Valuation) (objective : Case → Made) (row : ℤ → Result Row TermError) (quantity : ℕ → ℤ) (rows : List Row) → IsWorthAlong objective quantity
-      → ((most : ℤ) → IsBelow quantity most → IsTrueIfMade at (row most)) → RowsHold at rows → Always (RowsHold at) (bounded body.cases objective row rows)
-  unfolding bounded
+      → ((most : ℤ) → IsBelow quantity most → IsTrueIfMade at (row most)) → RowsHold at rows → Always (RowsHold at) (rows_with_bound body.cases objective row rows)
+  unfolding rows_with_bound
   bounded-true at objective row quantity rows worth tells h =
       always_bind (IsBounded quantity) (RowsHold at) (bound_of body.cases objective) (λ most. with_row_for rows row most) (bound_of-bounds objective quantity worth) go
     where
@@ -214,7 +214,7 @@ module _ (body : Transition) (steps : ℕ) (states : ℕ → List ℤ) (run : Is
     below : (x c : ℤ) → x ≤ℤ c → (x -ℤ c) ≤ℤ pos 0
     below x c e = omega (arith, ints)
 
-    pub before-true : (rows : List Row) (d : Polynomial) → IsDirection d → RowsHold at rows → Always (RowsHold at) (bounded_before body.cases rows d)
+    pub before-true : (rows : List Row) (d : Polynomial) → IsDirection d → RowsHold at rows → Always (RowsHold at) (rows_with_entry_bound body.cases rows d)
     before-true rows d direction h =
         bounded-true at (λ case. Ok d) (before_row d) (along d) rows (before-worth d direction)
         (λ most bound. IsTrueIfMade-at_most (IsWorth-difference (IsWorth-same (direction-same at (of_state (states 0)) d direction over.starts.each) (IsWorth-Ok at d)) (IsWorth-whole at most))
@@ -224,7 +224,7 @@ module _ (body : Transition) (steps : ℕ) (states : ℕ → List ℤ) (run : Is
     after-reads (At v) = IsWorth-same (over.ends v) (IsWorth-Ok at (poly_at after v))
     after-reads (Aux n) = IsWorth-whole at (pos 0)
 
-    pub after-true : (rows : List Row) (d : Polynomial) → RowsHold at rows → Always (RowsHold at) (bounded_after body.cases after rows d)
+    pub after-true : (rows : List Row) (d : Polynomial) → RowsHold at rows → Always (RowsHold at) (rows_with_exit_bound body.cases after rows d)
     after-true rows d h =
         bounded-true at (λ case. put_in_for case.post d) (after_row after d) (λ i. along d (i + 1)) rows (after-worth d)
         (λ most bound. IsTrueIfMade-at_most (IsWorth-difference (IsWorth-put_into at (for_entries (λ v. Ok (poly_at after v))) (of_state (states steps)) (record { each = after-reads }) d) (IsWorth-whole at most))

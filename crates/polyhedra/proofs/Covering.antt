@@ -16,7 +16,7 @@ use Rattle.transition_formula.specs.Transition.{Transition, is_below, fits, IsTr
 use Rattle.transition_formula.proofs.Fitting.{fitting, true-below}
 use Rattle.farkas_check.specs.Relations.{has_count, have_equally_many}
 use Rattle.polyhedra.specs.Bounds.{IsCovered, IsCoveredByPosts}
-use Rattle.polyhedra.specs.Changes.{change, is_modified, modified, moving, changes_in, changes_of}
+use Rattle.polyhedra.specs.Changes.{change, is_modified, modified_variables, moving, changes_in, changes_of}
 use Rattle.polyhedra.specs.Directions.{directions}
 use Rattle.polyhedra.specs.Vocabulary.{Vocabulary, IsDirectionOver, IsVocabulary}
 use Rattle.polyhedra.proofs.Directed.{directions-over}
@@ -67,7 +67,7 @@ pub range-long : (a n : ℕ) → length (range_with_len a n) ≡ n
 range-long a zero = refl
 range-long a (suc n) = let rest = range-long (a + 1) n in omega arith
 
-pub modified-few : (one : Bool) (f : Transition) → length (modified one f) ≤ f.to
+pub modified-few : (one : Bool) (f : Transition) → length (modified_variables one f) ≤ f.to
 modified-few one f = let short = filter-short (is_modified one f.cases) (range_with_len 0 f.to) in let long = range-long 0 f.to in omega arith
 
 -- each case has as many terms as the first

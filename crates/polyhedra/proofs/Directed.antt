@@ -12,14 +12,14 @@ use Rattle.items.proofs.Each.{each-append, each-map, each-flat_map, each-more, e
 use Rattle.linear_terms.specs.declared.col.Col.{Col}
 use Rattle.linear_terms.specs.declared.col.Col.TheVariants.{At}
 use Rattle.linear_terms.specs.Equality.{poly_eq}
-use Rattle.linear_terms.specs.Expressions.{Made, ◌⊟◌, column, turned}
+use Rattle.linear_terms.specs.Expressions.{Made, ◌⊟◌, column, negative_of}
 use Rattle.linear_terms.specs.Mono.{mono_cmp}
 use Rattle.linear_terms.specs.Polynomial.{Terms, Polynomial, IsCanonical, column_of}
 use Rattle.linear_terms.proofs.Canonical.{IsCanonical-column, IsCanonical-put_all, IsCanonical-times_each}
-use Rattle.linear_terms.specs.Operations.{kept, put, put_all, sum_of_polys, times_each, multiple_of}
+use Rattle.linear_terms.specs.Operations.{with_term, put, put_all, sum_of_polys, times_each, multiple_of}
 use Rattle.linear_terms.specs.TermError.{plus, times}
 use Rattle.linear_terms.proofs.Values.{plus-value, times-value}
-use Rattle.transition_formula.specs.Loss.{answered}
+use Rattle.transition_formula.specs.Loss.{answer_of}
 use Rattle.transition_formula.specs.Transition.{is_below}
 use Rattle.transition_formula.proofs.Fitting.{below-true, true-below}
 use Rattle.polyhedra.specs.Vocabulary.{Vocabulary, IsDirection, IsDirectionOver, IsVocabulary}
@@ -45,7 +45,7 @@ module _ (P : List Col → Type 0) where
   abbrev Each : Terms → Type 0
   Each ts = AllByRecursion (λ t. P t.0) ts
 
-  kept-each : (m : List Col) (c : ℤ) (ts : Terms) → P m → Each ts → Each (kept m c ts)
+  kept-each : (m : List Col) (c : ℤ) (ts : Terms) → P m → Each ts → Each (with_term m c ts)
   kept-each m c ts p h = go (int_eq c (pos 0))
     where
       go : (b : Bool) → AllByRecursion (λ t. P t.0) (if b then ts else (m, c) ∷ ts)
@@ -53,12 +53,12 @@ module _ (P : List Col → Type 0) where
       go false = (p, h)
 
   put-each : (m : List Col) (c : ℤ) (ts made : Terms) → put m c ts ≡ Ok made → P m → Each ts → Each made
-  put-each m c [] made e p h = let same : kept m c [] ≡ made = cc in subst Each same (kept-each m c [] p tt)
+  put-each m c [] made e p h = let same : with_term m c [] ≡ made = cc in subst Each same (kept-each m c [] p tt)
   put-each m c (t ∷ ts) made e p h = go (mono_cmp m t.0) e (λ more f. put-each m c ts more f p h.1)
     where
-      go : (o : Ordering) → match_ordering o (Ok (kept m c (t ∷ ts))) (plus t.1 c >>= λ s. Ok (kept t.0 s ts)) (put m c ts >>= λ more. Ok (t ∷ more)) ≡ Ok made → ((more : Terms) → put m c ts ≡ Ok more → AllByRecursion (λ t. P t.0) more) → AllByRecursion (λ t. P t.0) made
-      go Less f ih = let same : kept m c (t ∷ ts) ≡ made = cc in subst (λ (us : Terms). AllByRecursion (λ t. P t.0) us) same (kept-each m c (t ∷ ts) p h)
-      go Equal f ih = on_ok (plus t.1 c) (λ s. Ok (kept t.0 s ts)) made f (λ s g k. let same : kept t.0 s ts ≡ made = cc in subst (λ (us : Terms). AllByRecursion (λ t. P t.0) us) same (kept-each t.0 s ts h.0 h.1))
+      go : (o : Ordering) → match_ordering o (Ok (with_term m c (t ∷ ts))) (plus t.1 c >>= λ s. Ok (with_term t.0 s ts)) (put m c ts >>= λ more. Ok (t ∷ more)) ≡ Ok made → ((more : Terms) → put m c ts ≡ Ok more → AllByRecursion (λ t. P t.0) more) → AllByRecursion (λ t. P t.0) made
+      go Less f ih = let same : with_term m c (t ∷ ts) ≡ made = cc in subst (λ (us : Terms). AllByRecursion (λ t. P t.0) us) same (kept-each m c (t ∷ ts) p h)
+      go Equal f ih = on_ok (plus t.1 c) (λ s. Ok (with_term t.0 s ts)) made f (λ s g k. let same : with_term t.0 s ts ≡ made = cc in subst (λ (us : Terms). AllByRecursion (λ t. P t.0) us) same (kept-each t.0 s ts h.0 h.1))
       go Greater f ih = on_ok (put m c ts) (λ more. Ok (t ∷ more)) made f (λ more g k. let same : t ∷ more ≡ made = cc in subst (λ (us : Terms). AllByRecursion (λ t. P t.0) us) same (h.0, ih more g))
 
   put_all-each : (more ts made : Terms) → put_all ts more ≡ Ok made → Each ts → Each more → Each made
@@ -68,9 +68,9 @@ module _ (P : List Col → Type 0) where
   times_each-each : (ts : Terms) (by : ℤ) (made : Terms) → times_each ts by ≡ Ok made → Each ts → Each made
   times_each-each [] by made e h = let same : [] ≡ made = cc in subst Each same tt
   times_each-each (t ∷ ts) by made e h =
-      on_ok (times t.1 by) (λ c. times_each ts by >>= λ more. Ok (kept t.0 c more)) made e (λ c f g.
-      on_ok (times_each ts by) (λ more. Ok (kept t.0 c more)) made g (λ more k l.
-      let same : kept t.0 c more ≡ made = cc in subst Each same (kept-each t.0 c more h.0 (times_each-each ts by more k h.1))))
+      on_ok (times t.1 by) (λ c. times_each ts by >>= λ more. Ok (with_term t.0 c more)) made e (λ c f g.
+      on_ok (times_each ts by) (λ more. Ok (with_term t.0 c more)) made g (λ more k l.
+      let same : with_term t.0 c more ≡ made = cc in subst Each same (kept-each t.0 c more h.0 (times_each-each ts by more k h.1))))
 
 -- ---- directions
 
@@ -121,22 +121,22 @@ module _ (columns : ℕ) where
   column-made : (v : ℕ) → v < columns → IsPlainIfMade (column (At v))
   column-made v lt = given (column_of (At v)) (record { single = ((v, (refl, lt)), tt); plain = refl; canonical = IsCanonical-column (At v ∷ []) })
 
-  turned-made : (m : Made) → IsPlainIfMade m → IsPlainIfMade (turned m)
+  turned-made : (m : Made) → IsPlainIfMade m → IsPlainIfMade (negative_of m)
   turned-made m h = record { as_made = λ p e. on_ok m (λ a. multiple_of a (negsuc 0)) p e (λ a f g. multiple-plain a (negsuc 0) p g (h.as_made a f)) }
 
   difference-made : (a b : Made) → IsPlainIfMade a → IsPlainIfMade b → IsPlainIfMade (a ⊟ b)
   difference-made a b of_a of_b = record {
     as_made = λ r e.
-        on_ok a (λ p. b >>= λ q. multiple_of q (negsuc 0) >>= λ turned. sum_of_polys p turned) r e (λ p f g.
-        on_ok b (λ q. multiple_of q (negsuc 0) >>= λ turned. sum_of_polys p turned) r g (λ q h l.
-        on_ok (multiple_of q (negsuc 0)) (λ turned. sum_of_polys p turned) r l (λ t m n.
+        on_ok a (λ p. b >>= λ q. multiple_of q (negsuc 0) >>= λ negative_of. sum_of_polys p negative_of) r e (λ p f g.
+        on_ok b (λ q. multiple_of q (negsuc 0) >>= λ negative_of. sum_of_polys p negative_of) r g (λ q h l.
+        on_ok (multiple_of q (negsuc 0)) (λ negative_of. sum_of_polys p negative_of) r l (λ t m n.
         sum-plain p t r n (of_a.as_made p f) (multiple-plain q (negsuc 0) t m (of_b.as_made q h)))));
   }
 
   both_signs-made : (m : Made) → IsPlainIfMade m → AllByRecursion IsPlainIfMade (both_signs m)
   both_signs-made m h = (h, (turned-made m h, tt))
 
-  answered-plain : (ms : List Made) → AllByRecursion IsPlainIfMade ms → AllByRecursion IsPlain (filter_map answered ms)
+  answered-plain : (ms : List Made) → AllByRecursion IsPlainIfMade ms → AllByRecursion IsPlain (filter_map answer_of ms)
   answered-plain [] h = tt
   answered-plain (Ok p ∷ ms) h = (h.0.as_made p refl, answered-plain ms h.1)
   answered-plain (Err e ∷ ms) h = answered-plain ms h.1
@@ -182,7 +182,7 @@ candidates-plain voc is =
 all-plain : (voc : Vocabulary) → IsVocabulary voc → AllByRecursion (IsPlain voc.columns) (directions voc)
 unfolding directions
 all-plain voc is =
-    each-distinct (IsPlain voc.columns) poly_eq (filter_map answered (candidates voc)) (answered-plain voc.columns (candidates voc) (candidates-plain voc is))
+    each-distinct (IsPlain voc.columns) poly_eq (filter_map answer_of (candidates voc)) (answered-plain voc.columns (candidates voc) (candidates-plain voc is))
 
 -- ---- the law
 

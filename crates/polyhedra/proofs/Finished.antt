@@ -10,7 +10,7 @@ use Rattle.linear_terms.specs.Auxiliaries.{is_numbered}
 use Rattle.linear_terms.specs.Row.{RowsHold, AreCanonical}
 use Rattle.linear_terms.specs.Value.{Valuation}
 use Rattle.transition_formula.specs.Meaning.{numbers}
-use Rattle.transition_formula.specs.Rounds.{in_order, solved, Stays}
+use Rattle.transition_formula.specs.Rounds.{in_order, solved_answer, Stays}
 use Rattle.transition_formula.specs.Transition.{every_column, every_column_of, is_below, fits}
 use Rattle.transition_formula.proofs.Covered.{both, both_true}
 use Rattle.transition_formula.proofs.Fitting.{fitting, from_fitting}
@@ -18,9 +18,9 @@ use Rattle.transition_formula.proofs.Kept.{kept-fits}
 use Rattle.transition_formula.proofs.Ordering.{in_order-holds}
 use Rattle.posing.specs.Posing.{Done, ◌>>=◌, Always}
 use Rattle.posing.proofs.Paths.{always_bind}
-use Rattle.polyhedra.specs.Finish.{cut_case, cut, finished_left, finished}
+use Rattle.polyhedra.specs.Finish.{cut_case, cut, finished_left, finish_of_case}
 use Rattle.polyhedra.specs.Laws.{IsWider}
-use Rattle.polyhedra.specs.Thin.{thinned}
+use Rattle.polyhedra.specs.Thin.{thinned_case}
 use Rattle.polyhedra.proofs.Settled.{KeepsLeft}
 use Rattle.polyhedra.proofs.Thinned.{IsThinned, thinned-covers, thinned-tested}
 
@@ -34,14 +34,14 @@ first_true at (suc n) (row ∷ rows) h = (h.0, first_true at n rows h.1)
 cut-wider : (case : Case) → IsWider case (cut_case case)
 cut-wider case before after (aux, h) = (aux, record { rows = first_true (numbers before aux) 64 case.rows h.rows; posts = h.posts })
 
-pub finished-covers : (case : Case) → AreCanonical case.rows → IsTrue (every_column_of (is_numbered case.aux) case) → Always (KeepsLeft case) (finished case)
-unfolding finished cut ◌>>=◌
+pub finished-covers : (case : Case) → AreCanonical case.rows → IsTrue (every_column_of (is_numbered case.aux) case) → Always (KeepsLeft case) (finish_of_case case)
+unfolding finish_of_case cut ◌>>=◌
 finished-covers case canonical numbered = go (in_order case).left (in_order-holds case canonical numbered)
   where
     go : (o : Option Case) → KeepsLeft case o → Always (KeepsLeft case) (finished_left o)
     go None keeps = keeps
     go (Some left) keeps =
-        always_bind (IsWider left) (KeepsLeft case) (thinned left) (λ thin. cut thin >>= λ kept. Done (Some kept)) (thinned-covers left)
+        always_bind (IsWider left) (KeepsLeft case) (thinned_case left) (λ thin. cut thin >>= λ kept. Done (Some kept)) (thinned-covers left)
         (λ thin wider before after h. cut-wider thin before after (wider before after (keeps before after h)))
 
 -- ---- what is left fits where the case fits, and has at most 64 rows and no more auxiliaries than
@@ -84,13 +84,13 @@ module _ (from to most : ℕ) (left : Case) (fit : IsTrue (fits from to left)) (
   pub left-finished : Always (FinishedLeft from to most) (finished_left (Some left))
   unfolding cut ◌>>=◌
   left-finished =
-      always_bind (IsThinned test left) (FinishedLeft from to most) (thinned left) (λ thin. cut thin >>= λ kept. Done (Some kept))
+      always_bind (IsThinned test left) (FinishedLeft from to most) (thinned_case left) (λ thin. cut thin >>= λ kept. Done (Some kept))
       (thinned-tested test left (fitting from to left fit).rows_are) (λ thin is. cut-finished thin is)
 
-pub finished-fits : (from to most : ℕ) (case : Case) → IsTrue (fits from to case) → Stays (λ left. left.aux ≤ most) (solved (in_order case).left) → Always (FinishedLeft from to most) (finished case)
-unfolding finished
-finished-fits from to most case fit few = go (in_order case).left (kept-fits from to case (solved (in_order case).left) fit refl) few
+pub finished-fits : (from to most : ℕ) (case : Case) → IsTrue (fits from to case) → Stays (λ left. left.aux ≤ most) (solved_answer (in_order case).left) → Always (FinishedLeft from to most) (finish_of_case case)
+unfolding finish_of_case
+finished-fits from to most case fit few = go (in_order case).left (kept-fits from to case (solved_answer (in_order case).left) fit refl) few
   where
-    go : (o : Option Case) → Stays (λ c. IsTrue (fits from to c)) (solved o) → Stays (λ c. c.aux ≤ most) (solved o) → Always (FinishedLeft from to most) (finished_left o)
+    go : (o : Option Case) → Stays (λ c. IsTrue (fits from to c)) (solved_answer o) → Stays (λ c. c.aux ≤ most) (solved_answer o) → Always (FinishedLeft from to most) (finished_left o)
     go None stays few = tt
     go (Some left) stays few = left-finished from to most left stays few

@@ -13,13 +13,13 @@ use Rattle.linear_terms.specs.declared.col.Col.TheVariants.{At, Aux}
 use Rattle.linear_terms.specs.declared.row.Row.{Row}
 use Rattle.linear_terms.specs.declared.row.Case.{Case}
 use Rattle.linear_terms.specs.Auxiliaries.{is_numbered}
-use Rattle.linear_terms.specs.Expressions.{◌⊟◌, whole, column, weighted, put_into}
+use Rattle.linear_terms.specs.Expressions.{◌⊟◌, whole, column, weighted_sum, put_into}
 use Rattle.linear_terms.specs.Polynomial.{Polynomial, IsCanonical, column_of}
 use Rattle.linear_terms.specs.Row.{AreCanonical}
 use Rattle.linear_terms.specs.Value.{value_of}
 use Rattle.linear_terms.proofs.Canonical.{IsCanonical-column}
 use Rattle.transition_formula.specs.Meaning.{numbers, HoldsCase, HoldsSome, Holds, Covers}
-use Rattle.transition_formula.specs.Rounds.{in_order, solved, Stays}
+use Rattle.transition_formula.specs.Rounds.{in_order, solved_answer, Stays}
 use Rattle.transition_formula.specs.Transition.{Transition, every_column, every_column_of, is_below, fits, IsTransition, is_fitted, IsSolvable}
 use Rattle.transition_formula.proofs.Fitted.{fits-solvable}
 use Rattle.transition_formula.proofs.Covered.{both, both_true, more_columns, test_from_columns}
@@ -27,12 +27,12 @@ use Rattle.transition_formula.proofs.Fitting.{fitting, from_fitting, below-true,
 use Rattle.farkas_check.specs.declared.stratum.Relation.{Relation}
 use Rattle.posing.specs.Posing.{Posing, Done, Noted, Asked, ◌>>=◌, each, Always}
 use Rattle.posing.proofs.Paths.{always_bind, always_any, always_weaker}
-use Rattle.polyhedra.specs.Bounds.{bounded_before, bounded_after, bounded_change, before_row, after_row, change_row, put_in_for, for_entries}
-use Rattle.polyhedra.specs.Changes.{change, is_modified, is_exact, modified, moving, changes_of, occurring, occurs_in}
+use Rattle.polyhedra.specs.Bounds.{rows_with_entry_bound, rows_with_exit_bound, bounded_change, before_row, after_row, change_row, put_in_for, for_entries}
+use Rattle.polyhedra.specs.Changes.{change, is_modified, is_exact, modified_variables, moving, changes_of, occurring, occurs_in}
 use Rattle.polyhedra.specs.Directions.{directions}
-use Rattle.polyhedra.specs.Finish.{finished}
+use Rattle.polyhedra.specs.Finish.{finish_of_case}
 use Rattle.polyhedra.specs.Relations.{relations_of}
-use Rattle.polyhedra.specs.Squash.{unmodified, after_from, change_after, posts_after, changes_after, entries_of, relation_row, with_relation, with_relations, related, with_differences, with_bounds, squash_rows, squash_case, squashed_case, are_same, squashed, noted_squash, fitted}
+use Rattle.polyhedra.specs.Squash.{unmodified_post, after_from, change_after, posts_after, changes_after, entries_of, relation_row, with_relation, with_relations, change_relations, with_differences, with_bounds, squash_rows, squash_case, squashed_case, are_same, squashed_formula, noted_squash, fitted_formula}
 use Rattle.polyhedra.specs.Vocabulary.{Vocabulary, IsDirectionOver, IsVocabulary}
 use Rattle.polyhedra.specs.Laws.{IsBetween, FittingCovers, IsSmall, FittingFits}
 use Rattle.polyhedra.proofs.Covering.{modified-few}
@@ -101,7 +101,7 @@ stands one test a (suc k) n j lt = go (test a) j lt (stands one test (a + 1) k)
 
 module _ (one : Bool) (f : Transition) (same : one ≡ true → f.from ≡ f.to) where
   abbrev us : List ℕ
-  us = modified one f
+  us = modified_variables one f
 
   abbrev many : ℕ
   many = length us
@@ -113,7 +113,7 @@ module _ (one : Bool) (f : Transition) (same : one ≡ true → f.from ≡ f.to)
   at-passes : (v : ℕ) → v < f.from → IsSound test (column_of (At v))
   at-passes v lt = record { canonical = IsCanonical-column (At v ∷ []); passes = ((below-true v f.from lt, tt), tt) }
 
-  unmodified-sound : (b : Bool) → b ≡ one → (v : ℕ) → v < f.to → IsSound test (unmodified b v)
+  unmodified-sound : (b : Bool) → b ≡ one → (v : ℕ) → v < f.to → IsSound test (unmodified_post b v)
   unmodified-sound true e v lt = at-passes v (omega (arith, same (sym e)))
   unmodified-sound false e v lt = constant-sound test (pos 0)
 
@@ -164,9 +164,9 @@ module _ (one : Bool) (f : Transition) (same : one ≡ true → f.from ≡ f.to)
   relation-sound : (rows : List Row) (r : Relation) → AreSound rows → Always AreSound (with_relation terms lower rows r)
   relation-sound rows r h =
       with_row-keeps (IsSoundRow test) rows (relation_row terms lower r)
-      (equation-sound test (weighted r.a terms ⊟ weighted r.b lower ⊟ whole r.c)
-      (difference-sound test (weighted r.a terms ⊟ weighted r.b lower) (whole r.c)
-      (difference-sound test (weighted r.a terms) (weighted r.b lower) (weighted-sound test r.a terms terms-sound) (weighted-sound test r.b lower lower-sound)) (whole-sound test r.c))) h
+      (equation-sound test (weighted_sum r.a terms ⊟ weighted_sum r.b lower ⊟ whole r.c)
+      (difference-sound test (weighted_sum r.a terms ⊟ weighted_sum r.b lower) (whole r.c)
+      (difference-sound test (weighted_sum r.a terms) (weighted_sum r.b lower) (weighted-sound test r.a terms terms-sound) (weighted-sound test r.b lower lower-sound)) (whole-sound test r.c))) h
 
   with_relations-sound : (found : Option (List Relation)) → Always AreSound (with_relations terms lower found)
   with_relations-sound None = tt
@@ -176,8 +176,8 @@ module _ (one : Bool) (f : Transition) (same : one ≡ true → f.from ≡ f.to)
       each-any [] = tt
       each-any (r ∷ rs) = (tt, each-any rs)
 
-  related-sound : Always AreSound (related one f)
-  unfolding related
+  related-sound : Always AreSound (change_relations one f)
+  unfolding change_relations
   related-sound = always_bind (λ found. Unit {0}) AreSound (relations_of (changes_of one f) lower) (with_relations terms lower) (always_any (λ found. Unit {0}) (relations_of (changes_of one f) lower) (λ found. tt)) (λ found any. with_relations-sound found)
 
   module _ (from to : Vocabulary) (is_from : IsVocabulary from) (is_to : IsVocabulary to) (starts : from.columns ≡ f.from) where
@@ -191,12 +191,12 @@ module _ (one : Bool) (f : Transition) (same : one ≡ true → f.from ≡ f.to)
         column (At v) k = below-true v f.from (omega (arith, true-below v from.columns k, starts))
         column (Aux n) k = absurd (let lt = true-below n 0 k in omega arith)
 
-    before-sound : (rows : List Row) (d : Polynomial) → IsDirectionOver from.columns d → AreSound rows → Always AreSound (bounded_before f.cases rows d)
+    before-sound : (rows : List Row) (d : Polynomial) → IsDirectionOver from.columns d → AreSound rows → Always AreSound (rows_with_entry_bound f.cases rows d)
     before-sound rows d over h =
         bounded-keeps (IsSoundRow test) f.cases (λ case. Ok d) (before_row d) rows
         (λ most. at_most-sound test (Ok d ⊟ whole most) (difference-sound test (Ok d) (whole most) (sound-Ok test d (within d over)) (whole-sound test most))) h
 
-    after-sound : (rows : List Row) (d : Polynomial) → AreSound rows → Always AreSound (bounded_after f.cases (posts_after one f) rows d)
+    after-sound : (rows : List Row) (d : Polynomial) → AreSound rows → Always AreSound (rows_with_exit_bound f.cases (posts_after one f) rows d)
     after-sound rows d h =
         bounded-keeps (IsSoundRow test) f.cases (λ case. put_in_for case.post d) (after_row (posts_after one f) d) rows
         (λ most. at_most-sound test (put_in_for (posts_after one f) d ⊟ whole most) (difference-sound test (put_in_for (posts_after one f) d) (whole most) (put_in_for-sound test (posts_after one f) d posts-sound) (whole-sound test most))) h
@@ -218,13 +218,13 @@ module _ (one : Bool) (f : Transition) (same : one ≡ true → f.from ≡ f.to)
     rows-sound : Always AreSound (squash_rows one f from to)
     unfolding squash_rows with_bounds
     rows-sound =
-        always_bind AreSound AreSound (related one f)
+        always_bind AreSound AreSound (change_relations one f)
         (with_bounds one f from to) related-sound
-        (λ equations h. always_bind AreSound AreSound (each (bounded_before f.cases) equations (directions from))
-        (λ rows. each (bounded_after f.cases (posts_after one f)) rows (directions to) >>= λ both. with_differences one f from both)
-        (each-keeps (IsSoundRow test) (IsDirectionOver from.columns) (bounded_before f.cases) equations (directions from) (λ made d over k. before-sound made d over k) (directions-over from is_from) h)
-        (λ rows k. always_bind AreSound AreSound (each (bounded_after f.cases (posts_after one f)) rows (directions to)) (λ both. with_differences one f from both)
-        (each-keeps (IsSoundRow test) (IsDirectionOver to.columns) (bounded_after f.cases (posts_after one f)) rows (directions to) (λ made d over l. after-sound made d l) (directions-over to is_to) k)
+        (λ equations h. always_bind AreSound AreSound (each (rows_with_entry_bound f.cases) equations (directions from))
+        (λ rows. each (rows_with_exit_bound f.cases (posts_after one f)) rows (directions to) >>= λ both. with_differences one f from both)
+        (each-keeps (IsSoundRow test) (IsDirectionOver from.columns) (rows_with_entry_bound f.cases) equations (directions from) (λ made d over k. before-sound made d over k) (directions-over from is_from) h)
+        (λ rows k. always_bind AreSound AreSound (each (rows_with_exit_bound f.cases (posts_after one f)) rows (directions to)) (λ both. with_differences one f from both)
+        (each-keeps (IsSoundRow test) (IsDirectionOver to.columns) (rows_with_exit_bound f.cases (posts_after one f)) rows (directions to) (λ made d over l. after-sound made d l) (directions-over to is_to) k)
         (λ both l. differences-sound both l)))
 
   -- ---- the case fits, and each of its auxiliaries is a post by itself
@@ -256,8 +256,8 @@ module _ (one : Bool) (f : Transition) (same : one ≡ true → f.from ≡ f.to)
         (test_from_each (λ (row : Row). every_column (owns [] (posts_after one f)) row.poly) (IsSoundRow test) (λ row h. more_columns test (owns [] (posts_after one f)) is-owned row.poly h.passes) rows sound)
         (test_from_each (every_column (owns [] (posts_after one f))) (IsSound test) (λ p h. more_columns test (owns [] (posts_after one f)) is-owned p (test_from_columns test p h.passes)) (posts_after one f) posts-sound)
 
-    case-few : Stays (λ left. left.aux ≤ f.to) (solved (in_order made).left)
-    case-few = subst (λ n. Stays (λ left. left.aux ≤ n) (solved (in_order made).left)) (alone _ ∙ length-map-range_with_len (after_from one 0 us) 0 f.to) (in_order-few [] made case-owned)
+    case-few : Stays (λ left. left.aux ≤ f.to) (solved_answer (in_order made).left)
+    case-few = subst (λ n. Stays (λ left. left.aux ≤ n) (solved_answer (in_order made).left)) (alone _ ∙ length-map-range_with_len (after_from one 0 us) 0 f.to) (in_order-few [] made case-owned)
       where
         alone : (n : ℕ) → 0 + n ≡ n
         alone n = omega arith
@@ -310,7 +310,7 @@ module _ (f : Transition) (from to : Vocabulary) (is : IsBetween f from to) wher
   pub record IsSquash (case : Case) : Type 0 where
     rows : List Row
     shape : case ≡ squash_case one f rows
-    sound : AllByRecursion (IsSoundRow (is_below f.from (length (modified one f)))) rows
+    sound : AllByRecursion (IsSoundRow (is_below f.from (length (modified_variables one f)))) rows
 
   abbrev Holding : List ℤ → List ℤ → Case → Type 0
   Holding before after case = IsSquash case × HoldsCase case before after
@@ -318,7 +318,7 @@ module _ (f : Transition) (from to : Vocabulary) (is : IsBetween f from to) wher
   pub case-squash : Always IsSquash (squashed_case one f from to)
   unfolding squashed_case
   case-squash =
-      always_bind (AllByRecursion (IsSoundRow (is_below f.from (length (modified one f))))) IsSquash (squash_rows one f from to) (λ rows. Done (squash_case one f rows))
+      always_bind (AllByRecursion (IsSoundRow (is_below f.from (length (modified_variables one f))))) IsSquash (squash_rows one f from to) (λ rows. Done (squash_case one f rows))
       (rows-sound one f equal_ends from to is.from_is is.to_is is.starts) (λ rows sound. record { rows = rows; shape = refl; sound = sound })
 
   case-holds : (before after : List ℤ) → Holds f before after → Always (λ case. HoldsCase case before after) (squashed_case one f from to)
@@ -327,17 +327,17 @@ module _ (f : Transition) (from to : Vocabulary) (is : IsBetween f from to) wher
       always_bind (λ rows. HoldsCase (squash_case one f rows) before after) (λ case. HoldsCase case before after) (squash_rows one f from to) (λ rows. Done (squash_case one f rows))
       (squash_rows-hold one f before after h (ends-length f.from f.to f.cases is.fits before after h.some) (λ e. h.enters ∙ equal_ends e) from to is.from_is is.to_is) (λ rows k. k)
 
-  finish-covers : (case : Case) → IsSquash case → Always (KeepsLeft case) (finished case)
+  finish-covers : (case : Case) → IsSquash case → Always (KeepsLeft case) (finish_of_case case)
   finish-covers case s =
-      subst (λ (c : Case). Always (KeepsLeft c) (finished c)) (sym s.shape)
+      subst (λ (c : Case). Always (KeepsLeft c) (finish_of_case c)) (sym s.shape)
       (finished-covers (squash_case one f s.rows) (case-canonical one f equal_ends s.rows s.sound) (case-numbered one f equal_ends s.rows s.sound))
 
-  squashed-pair : (before after : List ℤ) → Holds f before after → Always (λ g. Holds g before after) (squashed f from to)
-  unfolding squashed
+  squashed-pair : (before after : List ℤ) → Holds f before after → Always (λ g. Holds g before after) (squashed_formula f from to)
+  unfolding squashed_formula
   squashed-pair before after h =
-      always_bind (Holding before after) (λ g. Holds g before after) (squashed_case one f from to) (λ case. finished case >>= λ left. Done record { from = f.from; to = f.to; cases = option_to_list left })
+      always_bind (Holding before after) (λ g. Holds g before after) (squashed_case one f from to) (λ case. finish_of_case case >>= λ left. Done record { from = f.from; to = f.to; cases = option_to_list left })
       (always_both IsSquash (λ case. HoldsCase case before after) (squashed_case one f from to) case-squash (case-holds before after h))
-      (λ case both. always_bind (KeepsLeft case) (λ g. Holds g before after) (finished case) (λ left. Done record { from = f.from; to = f.to; cases = option_to_list left }) (finish-covers case both.0)
+      (λ case both. always_bind (KeepsLeft case) (λ g. Holds g before after) (finish_of_case case) (λ left. Done record { from = f.from; to = f.to; cases = option_to_list left }) (finish-covers case both.0)
       (λ left keeps. record { enters = h.enters; some = of_left left before after (keeps before after both.1) }))
 
   -- two states of which it holds
@@ -346,10 +346,10 @@ module _ (f : Transition) (from to : Vocabulary) (is : IsBetween f from to) wher
     after : List ℤ
     holds : Holds f before after
 
-  squashed-covers : Always (λ g. Covers g f) (squashed f from to)
+  squashed-covers : Always (λ g. Covers g f) (squashed_formula f from to)
   squashed-covers =
-      always_weaker (λ g. (pair : Pair) → Holds g pair.before pair.after) (λ g. Covers g f) (squashed f from to) (λ g all before after h. all (record { before = before; after = after; holds = h }))
-      (always_all (λ pair g. Holds g pair.before pair.after) (squashed f from to) (λ (pair : Pair). squashed-pair pair.before pair.after pair.holds))
+      always_weaker (λ g. (pair : Pair) → Holds g pair.before pair.after) (λ g. Covers g f) (squashed_formula f from to) (λ g all before after h. all (record { before = before; after = after; holds = h }))
+      (always_all (λ pair g. Holds g pair.before pair.after) (squashed_formula f from to) (λ (pair : Pair). squashed-pair pair.before pair.after pair.holds))
 
   at_most_true : (a b : ℕ) → a ≤ b → IsTrue (nat_le a b)
   at_most_true a b le = grind arith
@@ -370,20 +370,20 @@ module _ (f : Transition) (from to : Vocabulary) (is : IsBetween f from to) wher
       subst IsSolvable (sym s.shape)
       (fits-solvable f.from f.to (squash_case one f s.rows) (case-fits one f equal_ends s.rows s.sound) (let few = modified-few one f in let most = is.few_after in omega arith))
 
-  pub squash-left : (case : Case) → IsSquash case → Always (FinishedLeft f.from f.to f.to) (finished case)
+  pub squash-left : (case : Case) → IsSquash case → Always (FinishedLeft f.from f.to f.to) (finish_of_case case)
   squash-left case s =
-      subst (λ (c : Case). Always (FinishedLeft f.from f.to f.to) (finished c)) (sym s.shape)
+      subst (λ (c : Case). Always (FinishedLeft f.from f.to f.to) (finish_of_case c)) (sym s.shape)
       (finished-fits f.from f.to f.to (squash_case one f s.rows) (case-fits one f equal_ends s.rows s.sound) (case-few one f equal_ends s.rows s.sound))
 
-  squashed-small : Always (IsSmall f) (squashed f from to)
-  unfolding squashed
+  squashed-small : Always (IsSmall f) (squashed_formula f from to)
+  unfolding squashed_formula
   squashed-small =
-      always_bind IsSquash (IsSmall f) (squashed_case one f from to) (λ case. finished case >>= λ left. Done record { from = f.from; to = f.to; cases = option_to_list left }) case-squash
-      (λ case s. always_bind (FinishedLeft f.from f.to f.to) (IsSmall f) (finished case) (λ left. Done record { from = f.from; to = f.to; cases = option_to_list left })
+      always_bind IsSquash (IsSmall f) (squashed_case one f from to) (λ case. finish_of_case case >>= λ left. Done record { from = f.from; to = f.to; cases = option_to_list left }) case-squash
+      (λ case s. always_bind (FinishedLeft f.from f.to f.to) (IsSmall f) (finish_of_case case) (λ left. Done record { from = f.from; to = f.to; cases = option_to_list left })
       (squash-left case s) left-small)
 
 pub fitted-covers : FittingCovers
-unfolding fitted noted_squash
+unfolding fitted_formula noted_squash
 fitted-covers f from to is = go (is_fitted f.cases)
   where
     go : (b : Bool) → Always (λ g. Covers g f) (if b then Done f else noted_squash f from to)
@@ -391,7 +391,7 @@ fitted-covers f from to is = go (is_fitted f.cases)
     go false = squashed-covers f from to is
 
 pub fitted-small : FittingFits
-unfolding fitted noted_squash
+unfolding fitted_formula noted_squash
 fitted-small f from to is = go (is_fitted f.cases) refl
   where
     go : (b : Bool) → is_fitted f.cases ≡ b → Always (IsSmall f) (if b then Done f else noted_squash f from to)

@@ -18,7 +18,7 @@ use Rattle.linear_terms.specs.Equality.{poly_eq}
 use Rattle.linear_terms.specs.Expressions.{Made}
 use Rattle.linear_terms.specs.MonoOrder.{mono_cmp_total}
 use Rattle.linear_terms.specs.Polynomial.{Polynomial}
-use Rattle.transition_formula.specs.Loss.{answered}
+use Rattle.transition_formula.specs.Loss.{answer_of}
 use Rattle.transition_formula.specs.Places.{term_cmp}
 use Rattle.transition_formula.proofs.AtPlaces.{terms-tie}
 use Rattle.polyhedra.specs.Directions.{with_new}
@@ -84,7 +84,7 @@ module _ (known : BTreeSet Key) (made : List Polynomial) (d : Polynomial) (tells
 -- ---- candidates one after another
 
 pub with_each-append : (made : List Polynomial) (xs ys : List Made) → with_each made (xs ++ ys) ≡ with_each (with_each made xs) ys
-with_each-append made xs ys = ap (λ ds. fold (with_new poly_eq) made ds) (filter_map-append answered xs ys) ∙ fold-append (with_new poly_eq) made (filter_map answered xs) (filter_map answered ys)
+with_each-append made xs ys = ap (λ ds. fold (with_new poly_eq) made ds) (filter_map-append answer_of xs ys) ∙ fold-append (with_new poly_eq) made (filter_map answer_of xs) (filter_map answer_of ys)
 
 -- what an element gives, and then what those behind it give
 pub with_each-next : {X : Type 0} (f : X → List Made) (made : List Polynomial) (xs : List X) (i : ℕ) (x : X) → i < length xs → with_each made (flat_map f (drop i xs)) ≡ with_each (with_each made (f (get_or xs i x))) (flat_map f (drop (i + 1) xs))

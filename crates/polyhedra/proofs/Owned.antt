@@ -13,15 +13,15 @@ use Rattle.linear_terms.specs.declared.row.Row.{Row}
 use Rattle.linear_terms.specs.declared.row.Case.{Case}
 use Rattle.linear_terms.specs.Auxiliaries.{is_auxiliary, has_auxiliary, occurs, without, put_for}
 use Rattle.linear_terms.specs.Equality.{poly_eq, poly_eq_equiv}
-use Rattle.linear_terms.specs.Operations.{multiple_of, substituted}
+use Rattle.linear_terms.specs.Operations.{multiple_of, substituted_polynomial}
 use Rattle.linear_terms.specs.Polynomial.{Terms, Polynomial, column_of, coefficient_in}
 use Rattle.linear_terms.proofs.Columns.{EachColumn, multiple_of-each}
-use Rattle.transition_formula.specs.Composition.{Operation, filled, posts_by, rows_by}
-use Rattle.transition_formula.specs.Loss.{answered}
+use Rattle.transition_formula.specs.Composition.{Operation, filled_posts, posts_by, rows_by}
+use Rattle.transition_formula.specs.Loss.{answer_of}
 use Rattle.transition_formula.specs.Order.{first_equation, solution, with_solution}
 use Rattle.transition_formula.specs.Renumbering.{occurs_in, count_below, renumbered_case}
-use Rattle.transition_formula.specs.Rounds.{with_rows, with_solved, solved_at, solved_first, round, rounds, in_order, solved, Stays}
-use Rattle.transition_formula.specs.Rows.{tidied}
+use Rattle.transition_formula.specs.Rounds.{with_rows, with_solved, round_at, solved_first, round, rounds, in_order, solved_answer, Stays}
+use Rattle.transition_formula.specs.Rows.{tidied_rows}
 use Rattle.transition_formula.specs.Transition.{every_column, every_column_of}
 use Rattle.transition_formula.proofs.Carried.{tidied-passes}
 use Rattle.transition_formula.proofs.Covered.{both, both_true, columns_from_test, test_from_columns, more_columns, Carries, substituted-carries, rows_by-covered, posts_by-length}
@@ -150,7 +150,7 @@ module _ (test : Col → Bool) (n : ℕ) where
       go : (p q : Polynomial) → with_solution n sol p ≡ Ok q → IsTrue (every_column test p) → IsTrue (every_column t q)
       go p q f k = split (occurs n p) refl f
         where
-          split : (b : Bool) → occurs n p ≡ b → cond b (substituted (put_for n sol) p) (Ok p) ≡ Ok q → IsTrue (every_column t q)
+          split : (b : Bool) → occurs n p ≡ b → cond b (substituted_polynomial (put_for n sol) p) (Ok p) ≡ Ok q → IsTrue (every_column t q)
           split true e g = (substituted-carries (put_for n sol) test t covers).to p q g k
           split false e g =
               let same : p ≡ q = cc in
@@ -168,15 +168,15 @@ one_post p m n h k = ap (λ (q : Polynomial). number_of q.terms) (polys_same (co
 -- a post that the operation leaves as it is stays a post
 kept_post : (f : Operation) (m : ℕ) → f (column_of (Aux m)) ≡ Ok (column_of (Aux m)) → (next : ℕ) (posts : List Polynomial) → IsTrue (list_any (is_post m) posts) → IsTrue (list_any (is_post m) (posts_by f next posts))
 kept_post f m stays next [] h = h
-kept_post f m stays next (p ∷ posts) h = either (is_post m p) (list_any (is_post m) posts) h first (λ k. later (answered (f p)) (kept_post f m stays next posts k) (kept_post f m stays (next + 1) posts k))
+kept_post f m stays next (p ∷ posts) h = either (is_post m p) (list_any (is_post m) posts) h first (λ k. later (answer_of (f p)) (kept_post f m stays next posts k) (kept_post f m stays (next + 1) posts k))
   where
     first : IsTrue (is_post m p) → IsTrue (list_any (is_post m) (posts_by f next (p ∷ posts)))
     first k =
         let same = polys_same (column_of (Aux m)) p k in
-        let done : answered (f p) ≡ Some p = ap (λ q. answered (f q)) (sym same) ∙ ap answered stays ∙ ap (λ (q : Polynomial). Some q) same in
-        subst (λ o. IsTrue (list_any (is_post m) (filled next (o ∷ map (λ q. answered (f q)) posts)))) (sym done) (or_left (is_post m p) (list_any (is_post m) (posts_by f next posts)) k)
+        let done : answer_of (f p) ≡ Some p = ap (λ q. answer_of (f q)) (sym same) ∙ ap answer_of stays ∙ ap (λ (q : Polynomial). Some q) same in
+        subst (λ o. IsTrue (list_any (is_post m) (filled_posts next (o ∷ map (λ q. answer_of (f q)) posts)))) (sym done) (or_left (is_post m p) (list_any (is_post m) (posts_by f next posts)) k)
 
-    later : (o : Option Polynomial) → IsTrue (list_any (is_post m) (posts_by f next posts)) → IsTrue (list_any (is_post m) (posts_by f (next + 1) posts)) → IsTrue (list_any (is_post m) (filled next (o ∷ map (λ q. answered (f q)) posts)))
+    later : (o : Option Polynomial) → IsTrue (list_any (is_post m) (posts_by f next posts)) → IsTrue (list_any (is_post m) (posts_by f (next + 1) posts)) → IsTrue (list_any (is_post m) (filled_posts next (o ∷ map (λ q. answer_of (f q)) posts)))
     later None h k = or_right (is_post m (column_of (Aux next))) (list_any (is_post m) (posts_by f (next + 1) posts)) k
     later (Some q) h k = or_right (is_post m q) (list_any (is_post m) (posts_by f next posts)) h
 
@@ -188,9 +188,9 @@ posts_by-owned f s t carries next (p ∷ posts) own h =
     let parts = both (every_column s p) (list_all (every_column s) posts) h in
     go (f p) refl parts.0 own (λ n more. posts_by-owned f s t carries n posts more parts.1)
   where
-    go : (r : Result Polynomial TermError) → f p ≡ r → IsTrue (every_column s p) → ((k : ℕ) → IsTrue (list_any (is_post k) (filled next (answered r ∷ map (λ q. answered (f q)) posts))) → IsTrue (t (Aux k)))
+    go : (r : Result Polynomial TermError) → f p ≡ r → IsTrue (every_column s p) → ((k : ℕ) → IsTrue (list_any (is_post k) (filled_posts next (answer_of r ∷ map (λ q. answer_of (f q)) posts))) → IsTrue (t (Aux k)))
         → ((n : ℕ) → ((k : ℕ) → IsTrue (list_any (is_post k) (posts_by f n posts)) → IsTrue (t (Aux k))) → IsTrue (list_all (every_column t) (posts_by f n posts)))
-        → IsTrue (list_all (every_column t) (filled next (answered r ∷ map (λ q. answered (f q)) posts)))
+        → IsTrue (list_all (every_column t) (filled_posts next (answer_of r ∷ map (λ q. answer_of (f q)) posts)))
     go (Ok q) e k mine rest =
         both_true (every_column t q) (list_all (every_column t) (posts_by f next posts)) (carries.to p q e k)
         (rest next (λ j l. mine j (or_right (is_post j q) (list_any (is_post j) (posts_by f next posts)) l)))
@@ -242,7 +242,7 @@ module _ (spare : List ℕ) where
   other_post : (sol : Polynomial) (m n : ℕ) → (m == n) ≡ false → with_solution n sol (column_of (Aux m)) ≡ Ok (column_of (Aux m))
   other_post sol m n e = go (m == n) e
     where
-      go : (b : Bool) → b ≡ false → cond ((b || false) || false) (substituted (put_for n sol) (column_of (Aux m))) (Ok (column_of (Aux m))) ≡ Ok (column_of (Aux m))
+      go : (b : Bool) → b ≡ false → cond ((b || false) || false) (substituted_polynomial (put_for n sol) (column_of (Aux m))) (Ok (column_of (Aux m))) ≡ Ok (column_of (Aux m))
       go true f = cc
       go false f = refl
 
@@ -277,7 +277,7 @@ module _ (spare : List ℕ) where
 
   module _ (many : ℕ) where
     abbrev Few : Option Case → Type 0
-    Few o = Stays (λ left. left.aux ≤ length spare + many) (solved o)
+    Few o = Stays (λ left. left.aux ≤ length spare + many) (solved_answer o)
 
     record IsLeft (case : Case) : Type 0 where
       owned_all : IsOwned case
@@ -296,9 +296,9 @@ module _ (spare : List ℕ) where
 
     rounds-few : (n : ℕ) (case : Case) → IsLeft case → Few (rounds n case).left
     rounds-few zero case h = renumbered-left case h
-    rounds-few (suc n) case h = go (tidied case.rows).rows refl (λ next k. rounds-few n next k)
+    rounds-few (suc n) case h = go (tidied_rows case.rows).rows refl (λ next k. rounds-few n next k)
       where
-        at : (left : Case) (place m : ℕ) (o : Option Row) → o ≡ slice_get left.rows place → IsLeft left → ((next : Case) → IsLeft next → Few (rounds n next).left) → Few (solved_at (rounds n) (with_rows left (remove left.rows place)) m o).left
+        at : (left : Case) (place m : ℕ) (o : Option Row) → o ≡ slice_get left.rows place → IsLeft left → ((next : Case) → IsLeft next → Few (rounds n next).left) → Few (round_at (rounds n) (with_rows left (remove left.rows place)) m o).left
         at left place m None e k ih = renumbered-left (with_rows left (remove left.rows place)) (rows-left left (remove left.rows place) (test_removed (λ row. every_column (owns left.post) row.poly) left.rows place (rows-of left k)) k)
         at left place m (Some row) e k ih =
             let rest = with_rows left (remove left.rows place) in
@@ -311,11 +311,11 @@ module _ (spare : List ℕ) where
         first left None k ih = renumbered-left left k
         first left (Some found) k ih = at left found.0 found.1 (slice_get left.rows found.0) refl k ih
 
-        go : (o : Option (List Row)) → (tidied case.rows).rows ≡ o → ((next : Case) → IsLeft next → Few (rounds n next).left) → Few (round (rounds n) case o).left
+        go : (o : Option (List Row)) → (tidied_rows case.rows).rows ≡ o → ((next : Case) → IsLeft next → Few (rounds n next).left) → Few (round (rounds n) case o).left
         go None e ih = tt
         go (Some rows) e ih = first (with_rows case rows) (first_equation rows) (rows-left case rows (tidied-passes (owns case.post) case.rows rows e (rows-of case h)) h) ih
 
 -- what is left of a case whose auxiliaries are posts or spared has no more than there are posts and
 -- spared ones
-pub in_order-few : (spare : List ℕ) (case : Case) → IsOwned spare case → Stays (λ left. left.aux ≤ length spare + length case.post) (solved (in_order case).left)
+pub in_order-few : (spare : List ℕ) (case : Case) → IsOwned spare case → Stays (λ left. left.aux ≤ length spare + length case.post) (solved_answer (in_order case).left)
 in_order-few spare case h = rounds-few spare (length case.post) (length case.rows) case (record { owned_all = h; posts = refl })

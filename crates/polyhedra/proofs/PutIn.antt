@@ -3,7 +3,7 @@ use Rattle.std.proofs.Common.{◌≡◌, List, [], ◌∷◌, Ok, refl, ◌∙�
 use Rattle.linear_terms.specs.declared.col.Col.{Col}
 use Rattle.linear_terms.specs.declared.col.Col.TheVariants.{At, Aux}
 use Rattle.linear_terms.specs.Expressions.{Made, or_zero, when_made, when_all_made}
-use Rattle.linear_terms.specs.Operations.{substituted}
+use Rattle.linear_terms.specs.Operations.{substituted_polynomial}
 use Rattle.linear_terms.specs.Polynomial.{Terms, Polynomial}
 use Rattle.linear_terms.specs.Replacement.{put_in}
 use Rattle.polyhedra.specs.Changes.{poly_at}
@@ -27,5 +27,5 @@ module _ (polys : List Polynomial) where
   same_column (Aux n) = refl
 
   -- where each can be made it is a substitution
-  pub put_in_for-substituted : (d : Polynomial) → put_in_for polys d ≡ substituted (put_in polys []) d
-  put_in_for-substituted d = all-terms-made d.terms (substituted (λ c. or_zero (values c)) d) ∙ (λ i. substituted (λ c. same_column c i) d)
+  pub put_in_for-substituted : (d : Polynomial) → put_in_for polys d ≡ substituted_polynomial (put_in polys []) d
+  put_in_for-substituted d = all-terms-made d.terms (substituted_polynomial (λ c. or_zero (values c)) d) ∙ (λ i. substituted_polynomial (λ c. same_column c i) d)

@@ -7,7 +7,7 @@ use Rattle.farkas_check.specs.Asking.{Asking}
 use Rattle.farkas_check.specs.declared.stratum.Relation.{Relation}
 use Rattle.linear_terms.specs.Polynomial.{Polynomial}
 use Rattle.linear_terms.specs.declared.row.Row.{Row}
-use Rattle.transition_formula.specs.Loss.{answered, losses_of}
+use Rattle.transition_formula.specs.Loss.{answer_of, losses_of}
 use Rattle.transition_formula.specs.declared.loss.Loss.{Loss}
 use Rattle.posing.specs.Follows.{Follows}
 use Rattle.posing.specs.Logs.{with_notes, HasNoted, loss_notes}
@@ -39,8 +39,8 @@ module _ (terms lower : List Polynomial) where
       subst (λ log. Follows O state state before log (Ok (rows ++ relation_rows terms lower (r ∷ relations))) (each (with_relation terms lower) rows (r ∷ relations)))
       (sym (split before (losses_of made) (relation_losses terms lower relations)))
       (subst (λ rs. Follows O state state before (with_notes between (loss_notes (relation_losses terms lower relations))) (Ok rs) (each (with_relation terms lower) rows (r ∷ relations)))
-      (sym (onto rows (answered made) (relation_rows terms lower relations)))
-      (notes_first (record { is = refl }) refl (noted_from O state (rows ++ option_to_list (answered made)) relations between)))
+      (sym (onto rows (answer_of made) (relation_rows terms lower relations)))
+      (notes_first (record { is = refl }) refl (noted_from O state (rows ++ option_to_list (answer_of made)) relations between)))
 
   -- the rows, where their losses were noted
   pub noted_rows : {S : Type 0} (O : Asking S) (state : S) (relations : List Relation) (before after : Log) (made : List Row) → HasNoted before after (loss_notes (relation_losses terms lower relations)) → made ≡ relation_rows terms lower relations

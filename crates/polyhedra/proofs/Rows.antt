@@ -10,8 +10,8 @@ use Rattle.linear_terms.specs.declared.col.Col.{Col}
 use Rattle.linear_terms.specs.declared.col.Col.TheVariants.{At, Aux}
 use Rattle.linear_terms.specs.declared.row.Kind.TheVariants.{AtMost, Equal}
 use Rattle.linear_terms.specs.declared.row.Row.{Row}
-use Rattle.linear_terms.specs.Expressions.{Made, ◌⊟◌, whole, weighted, sum_from, or_zero, at_most, equation}
-use Rattle.linear_terms.specs.Operations.{multiple_of, sum_of_polys, product_of_polys, substituted}
+use Rattle.linear_terms.specs.Expressions.{Made, ◌⊟◌, whole, weighted_sum, sum_from, or_zero, at_most, equation}
+use Rattle.linear_terms.specs.Operations.{multiple_of, sum_of_polys, product_of_polys, substituted_polynomial}
 use Rattle.linear_terms.specs.Polynomial.{Polynomial, IsCanonical, constant_of}
 use Rattle.linear_terms.specs.Replacement.{put_in}
 use Rattle.linear_terms.proofs.Canonical.{IsCanonical-nil, IsCanonical-sum_of_polys, IsCanonical-substituted}
@@ -69,7 +69,7 @@ module _ (test : Col → Bool) where
         (sum_from-sound next ns ps (sum-sound total q next m h (product_of_polys-each (λ c. IsTrue (test c)) (constant_of n) p q l tt k.0.passes)) k.1).as_made r g));
   }
 
-  pub weighted-sound : (ns : List ℤ) (ps : List Polynomial) → AllByRecursion IsSound ps → IsSoundIfMade (weighted ns ps)
+  pub weighted-sound : (ns : List ℤ) (ps : List Polynomial) → AllByRecursion IsSound ps → IsSoundIfMade (weighted_sum ns ps)
   weighted-sound ns ps h = sum_from-sound (constant_of (pos 0)) ns ps (constant-sound (pos 0)) h
 
   found-passes : (polys : List Polynomial) (v : ℕ) → AllByRecursion IsSound polys → Passes (unwrap_or (slice_get polys v) (constant_of (pos 0)))
@@ -80,7 +80,7 @@ module _ (test : Col → Bool) where
   pub put_in_for-sound : (polys : List Polynomial) (d : Polynomial) → AllByRecursion IsSound polys → IsSoundIfMade (put_in_for polys d)
   put_in_for-sound polys d h = record {
     as_made = λ p e.
-        let done : substituted (put_in polys []) d ≡ Ok p = sym (put_in_for-substituted polys d) ∙ e in
+        let done : substituted_polynomial (put_in polys []) d ≡ Ok p = sym (put_in_for-substituted polys d) ∙ e in
         record {
           canonical = IsCanonical-substituted (put_in polys []) d p done;
           passes = substituted-each (λ c. Unit {0}) (λ c. IsTrue (test c)) (put_in polys []) (λ c any. put c) d p done (each-any (λ t. AllByRecursion (λ c. Unit {0}) t.0) (λ t. each-any (λ c. Unit {0}) (λ c. tt) t.0) d.terms);

@@ -8,7 +8,7 @@ use Rattle.linear_terms.specs.Value.{Valuation}
 use Rattle.linear_terms.specs.declared.row.Row.{Row}
 use Rattle.linear_terms.specs.declared.row.Case.{Case}
 use Rattle.transition_formula.specs.Meaning.{numbers, HoldsCase, HoldsLeft, HoldsSome, Covers}
-use Rattle.transition_formula.specs.Rounds.{in_order, solved, Stays}
+use Rattle.transition_formula.specs.Rounds.{in_order, solved_answer, Stays}
 use Rattle.transition_formula.specs.Transition.{fits, IsTransition, IsSolvable}
 use Rattle.transition_formula.proofs.Covered.{both, both_true}
 use Rattle.transition_formula.proofs.Kept.{kept-fits}
@@ -20,7 +20,7 @@ use Rattle.farkas_check.specs.Meaning.{IsTrueAnswer}
 use Rattle.posing.specs.Posing.{Done, ◌>>=◌, Always}
 use Rattle.posing.proofs.Paths.{always_bind, always_weaker, always_each}
 use Rattle.polyhedra.specs.Infeasibility.{is_yes, assent, infeasible}
-use Rattle.polyhedra.specs.Settle.{unless, feasible_by, feasible, feasible_left, settled_case, with_settled, settled_cases, settled}
+use Rattle.polyhedra.specs.Settle.{unless, feasible_by, feasible, feasible_left, settled_case, with_settled, settled_cases, settled_formula}
 use Rattle.polyhedra.specs.Laws.{SettlingCovers}
 
 -- rows that the answer calls infeasible hold under no numbers
@@ -118,7 +118,7 @@ all_ready [] h k = tt
 all_ready (case ∷ cases) h k = (record { canonical = h.0; solvable = k.0 }, all_ready cases h.1 k.1)
 
 pub settled-covers : SettlingCovers
-unfolding settled
+unfolding settled_formula
 settled-covers f canonical solvable =
     always_bind (λ made. (before after : List ℤ) → HoldsSome f.cases before after → HoldsSome made before after) (λ g. Covers g f)
     (settled_cases f.cases) (λ cases. Done record { from = f.from; to = f.to; cases = cases })
@@ -146,9 +146,9 @@ module _ (from to : ℕ) where
 
   settled_case-fits : (case : Case) → IsTrue (fits from to case) → Always FitsLeft (settled_case case)
   unfolding settled_case
-  settled_case-fits case h = go (in_order case).left (kept-fits from to case (solved (in_order case).left) h refl)
+  settled_case-fits case h = go (in_order case).left (kept-fits from to case (solved_answer (in_order case).left) h refl)
     where
-      go : (o : Option Case) → Stays (λ c. IsTrue (fits from to c)) (solved o) → Always FitsLeft (feasible_left o)
+      go : (o : Option Case) → Stays (λ c. IsTrue (fits from to c)) (solved_answer o) → Always FitsLeft (feasible_left o)
       go None stays = refl
       go (Some left) stays = feasible-fits left stays
 

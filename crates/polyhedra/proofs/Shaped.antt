@@ -10,7 +10,7 @@ use Rattle.linear_terms.specs.declared.row.Case.{Case}
 use Rattle.linear_terms.specs.Expressions.{Made}
 use Rattle.posing.specs.Posing.{Posing, each, Always}
 use Rattle.posing.proofs.Paths.{always_bind, always_any, always_each, always_weaker}
-use Rattle.polyhedra.specs.Bounds.{bound_of, with_row, with_row_for, bounded}
+use Rattle.polyhedra.specs.Bounds.{bound_of, with_row, with_row_for, rows_with_bound}
 
 module _ (Q : Row → Type 0) where
   abbrev pub HaveAll : List Row → Type 0
@@ -25,8 +25,8 @@ module _ (Q : Row → Type 0) where
   with_row-keeps rows (Ok r) has h = each-append Q rows (r ∷ []) h (has r refl, tt)
   with_row-keeps rows (Err e) has h = each-append Q rows [] h tt
 
-  pub bounded-keeps : (cases : List Case) (objective : Case → Made) (row : ℤ → Result Row TermError) (rows : List Row) → ((most : ℤ) → HasIfMade (row most)) → HaveAll rows → Always HaveAll (bounded cases objective row rows)
-  unfolding bounded
+  pub bounded-keeps : (cases : List Case) (objective : Case → Made) (row : ℤ → Result Row TermError) (rows : List Row) → ((most : ℤ) → HasIfMade (row most)) → HaveAll rows → Always HaveAll (rows_with_bound cases objective row rows)
+  unfolding rows_with_bound
   bounded-keeps cases objective row rows has h =
       always_bind (λ most. Unit {0}) HaveAll (bound_of cases objective) (λ most. with_row_for rows row most) (always_any (λ most. Unit {0}) (bound_of cases objective) (λ most. tt)) (λ most any. go most)
     where

@@ -23,11 +23,11 @@ use Rattle.farkas_check.specs.Relations.{term_count}
 use Rattle.std.proofs.lemmas.List.{length-map}
 use Rattle.posing.specs.Posing.{◌>>=◌, each, Always}
 use Rattle.posing.proofs.Paths.{always_bind, always_weaker}
-use Rattle.polyhedra.specs.Bounds.{bounded_before, bounded_after, bounded_change}
-use Rattle.polyhedra.specs.Changes.{poly_at, change, is_modified, is_exact, modified, moving, changes_in, changes_of, occurring}
+use Rattle.polyhedra.specs.Bounds.{rows_with_entry_bound, rows_with_exit_bound, bounded_change}
+use Rattle.polyhedra.specs.Changes.{poly_at, change, is_modified, is_exact, modified_variables, moving, changes_in, changes_of, occurring}
 use Rattle.polyhedra.specs.Directions.{directions}
 use Rattle.polyhedra.specs.Relations.{relations_of}
-use Rattle.polyhedra.specs.Squash.{unmodified, after_from, change_after, posts_after, changes_after, entries_of, relation_row, with_relation, with_relations, related, with_differences, with_bounds, squash_rows, squash_case}
+use Rattle.polyhedra.specs.Squash.{unmodified_post, after_from, change_after, posts_after, changes_after, entries_of, relation_row, with_relation, with_relations, change_relations, with_differences, with_bounds, squash_rows, squash_case}
 use Rattle.polyhedra.specs.Vocabulary.{Vocabulary, IsDirection, IsDirectionOver, IsVocabulary}
 use Rattle.polyhedra.proofs.Bounded.{IsOver, before-true, after-true, change-true, with_row-true, each-true}
 use Rattle.polyhedra.proofs.Directed.{directions-over}
@@ -72,7 +72,7 @@ change_after-less at us v =
 
 module _ (one : Bool) (f : Transition) (before after : List ℤ) (holds : Holds f before after) (long : length after ≡ f.to) (same : one ≡ true → length before ≡ f.to) where
   abbrev us : List ℕ
-  us = modified one f
+  us = modified_variables one f
 
   -- the auxiliaries have the numbers of the modified variables afterwards
   abbrev auxes : ℕ → ℤ
@@ -85,7 +85,7 @@ module _ (one : Bool) (f : Transition) (before after : List ℤ) (holds : Holds 
   moved v = moved_by one (number_in before v) (number_in after v)
 
   after-value : (n : ℕ) (vs : List ℕ) → ((k u : ℕ) → slice_get vs k ≡ Some u → auxes (n + k) ≡ number_in after u) → (v : ℕ)
-      → (list_any (λ u. u == v) vs ≡ false → value_of here (unmodified one v) ≡ number_in after v) → value_of here (after_from one n vs v) ≡ number_in after v
+      → (list_any (λ u. u == v) vs ≡ false → value_of here (unmodified_post one v) ≡ number_in after v) → value_of here (after_from one n vs v) ≡ number_in after v
   after-value n [] known v other = other refl
   after-value n (u ∷ vs) known v other = go (u == v) refl (λ same_form none. after-value (n + 1) vs same_form v none)
     where
@@ -99,18 +99,18 @@ module _ (one : Bool) (f : Transition) (before after : List ℤ) (holds : Holds 
       next n k = omega arith
 
       go : (b : Bool) → (u == v) ≡ b
-          → (((k w : ℕ) → slice_get vs k ≡ Some w → auxes (n + 1 + k) ≡ number_in after w) → (list_any (λ w. w == v) vs ≡ false → value_of here (unmodified one v) ≡ number_in after v) → value_of here (after_from one (n + 1) vs v) ≡ number_in after v)
+          → (((k w : ℕ) → slice_get vs k ≡ Some w → auxes (n + 1 + k) ≡ number_in after w) → (list_any (λ w. w == v) vs ≡ false → value_of here (unmodified_post one v) ≡ number_in after v) → value_of here (after_from one (n + 1) vs v) ≡ number_in after v)
           → value_of here (if b then column_of (Aux n) else after_from one (n + 1) vs v) ≡ number_in after v
       go true e rest = let is : u ≡ v = grind arith in column_of-value here (Aux n) ∙ first ∙ ap (number_in after) is
       go false e rest = rest (λ k w g. ap auxes (next n k) ∙ known (suc k) w g) (λ none. other (ap (λ b. b || list_any (λ w. w == v) vs) e ∙ none))
 
-  unmodified-value : (v : ℕ) → v < f.to → list_any (λ u. u == v) us ≡ false → value_of here (unmodified one v) ≡ number_in after v
+  unmodified-value : (v : ℕ) → v < f.to → list_any (λ u. u == v) us ≡ false → value_of here (unmodified_post one v) ≡ number_in after v
   unmodified-value v lt none = go one (unmodified-unmoved one f.cases before after v (unfound (is_modified one f.cases) v 0 f.to none (omega arith) (omega arith)) holds.some)
     where
       equal : (x y : ℤ) → x -ℤ y ≡ pos 0 → y ≡ x
       equal x y e = omega (arith, ints)
 
-      go : (b : Bool) → moved_by b (number_in before v) (number_in after v) ≡ pos 0 → value_of here (unmodified b v) ≡ number_in after v
+      go : (b : Bool) → moved_by b (number_in before v) (number_in after v) ≡ pos 0 → value_of here (unmodified_post b v) ≡ number_in after v
       go true e = column_of-value here (At v) ∙ equal (number_in after v) (number_in before v) e
       go false e = sym e
 
@@ -217,8 +217,8 @@ module _ (one : Bool) (f : Transition) (before after : List ℤ) (holds : Holds 
       go [] = tt
       go (case ∷ cases) = each-long case (case ∷ cases)
 
-  related-true : Always (RowsHold here) (related one f)
-  unfolding related
+  related-true : Always (RowsHold here) (change_relations one f)
+  unfolding change_relations
   related-true =
       always_bind (AreTrueRelations (changes_of one f) lower) (RowsHold here) (relations_of (changes_of one f) lower) (with_relations terms lower)
       (relations-true (changes_of one f) lower counted) with_relations-true
@@ -300,22 +300,22 @@ module _ (one : Bool) (f : Transition) (before after : List ℤ) (holds : Holds 
                 at : (b : Bool) → nat_lt v f.to ≡ b → value_of here (poly_at (changes_after true f) v) ≡ number_in after v -ℤ number_in before v
                 at true g =
                     let lt : v < f.to = grind arith in
-                    ap (λ b. value_of here (poly_at (map (change_after b (modified b f)) (range_with_len 0 f.to)) v)) e
+                    ap (λ b. value_of here (poly_at (map (change_after b (modified_variables b f)) (range_with_len 0 f.to)) v)) e
                     ∙ ap (value_of here) (poly_at-first (change_after one us) f.to v lt) ∙ moved-value v lt ∙ ap (λ b. moved_by b (number_in before v) (number_in after v)) (sym e)
                 at false g =
                     let le : f.to ≤ v = grind arith in
-                    ap (value_of here) (poly_at-past (change_after true (modified true f)) 0 f.to v le) ∙ past-less v (omega (arith, same (sym e))) (omega (arith, long))
+                    ap (value_of here) (poly_at-past (change_after true (modified_variables true f)) 0 f.to v le) ∙ past-less v (omega (arith, same (sym e))) (omega (arith, long))
 
     rows-true : Always (RowsHold here) (squash_rows one f from to)
     unfolding squash_rows with_bounds
     rows-true =
-        always_bind (RowsHold here) (RowsHold here) (related one f)
+        always_bind (RowsHold here) (RowsHold here) (change_relations one f)
         (with_bounds one f from to) related-true
-        (λ equations h. always_bind (RowsHold here) (RowsHold here) (each (bounded_before f.cases) equations (directions from))
-        (λ rows. each (bounded_after f.cases (posts_after one f)) rows (directions to) >>= λ both. with_differences one f from both)
-        (each-true IsDirection here (bounded_before f.cases) equations (directions from) (λ made d direction k. before-true f 1 states run here (posts_after one f) as_numbers None (over as_numbers numbers-value) made d direction k) (straight from is_from) h)
-        (λ rows k. always_bind (RowsHold here) (RowsHold here) (each (bounded_after f.cases (posts_after one f)) rows (directions to)) (λ both. with_differences one f from both)
-        (each-true IsDirection here (bounded_after f.cases (posts_after one f)) rows (directions to) (λ made d direction l. after-true f 1 states run here (posts_after one f) as_numbers None (over as_numbers numbers-value) made d l) (straight to is_to) k)
+        (λ equations h. always_bind (RowsHold here) (RowsHold here) (each (rows_with_entry_bound f.cases) equations (directions from))
+        (λ rows. each (rows_with_exit_bound f.cases (posts_after one f)) rows (directions to) >>= λ both. with_differences one f from both)
+        (each-true IsDirection here (rows_with_entry_bound f.cases) equations (directions from) (λ made d direction k. before-true f 1 states run here (posts_after one f) as_numbers None (over as_numbers numbers-value) made d direction k) (straight from is_from) h)
+        (λ rows k. always_bind (RowsHold here) (RowsHold here) (each (rows_with_exit_bound f.cases (posts_after one f)) rows (directions to)) (λ both. with_differences one f from both)
+        (each-true IsDirection here (rows_with_exit_bound f.cases (posts_after one f)) rows (directions to) (λ made d direction l. after-true f 1 states run here (posts_after one f) as_numbers None (over as_numbers numbers-value) made d l) (straight to is_to) k)
         (λ both l. differences-true both l)))
 
     pub squash_rows-hold : Always (λ rows. HoldsCase (squash_case one f rows) before after) (squash_rows one f from to)

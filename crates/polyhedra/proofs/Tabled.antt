@@ -13,7 +13,7 @@ use Rattle.linear_terms.specs.declared.error.TermError.{TermError}
 use Rattle.linear_terms.specs.declared.error.TermError.TheVariants as error
 use Rattle.linear_terms.specs.declared.row.Case.{Case}
 use Rattle.linear_terms.specs.Expressions.{Made, or_zero, when_made, when_all_made, put_into}
-use Rattle.linear_terms.specs.Operations.{product_of_polys, product_on, product_in, multiple_of, replaced, sum_of_polys, add_substituted, substituted}
+use Rattle.linear_terms.specs.Operations.{product_of_polys, product_on, product_in, multiple_of, substituted_monomial, sum_of_polys, add_substituted, substituted_polynomial}
 use Rattle.linear_terms.specs.Polynomial.{Terms, Polynomial, constant_of}
 use Rattle.linear_terms.specs.Replacement.{IsBelow, put_in}
 use Rattle.linear_terms.specs.TermError.{plus, cause}
@@ -48,9 +48,9 @@ module _ (f g : Col → Polynomial) where
   add_substituted-same (t ∷ ts) sum h =
       ap (λ product. (product >>= λ p. multiple_of p t.1) >>= λ term. sum_of_polys sum term >>= λ made. add_substituted f ts made) (product_in-same t.0 h.0)
       ∙ same_then (λ term. sum_of_polys sum term >>= λ made. add_substituted f ts made) (λ term. sum_of_polys sum term >>= λ made. add_substituted g ts made)
-      (λ term. same_then (λ made. add_substituted f ts made) (λ made. add_substituted g ts made) (λ made. add_substituted-same ts made h.1) (sum_of_polys sum term)) (replaced g t.0 t.1)
+      (λ term. same_then (λ made. add_substituted f ts made) (λ made. add_substituted g ts made) (λ made. add_substituted-same ts made h.1) (sum_of_polys sum term)) (substituted_monomial g t.0 t.1)
 
-  substituted-same : (d : Polynomial) → AllByRecursion (λ t. AreSame t.0) d.terms → substituted f d ≡ substituted g d
+  substituted-same : (d : Polynomial) → AllByRecursion (λ t. AreSame t.0) d.terms → substituted_polynomial f d ≡ substituted_polynomial g d
   substituted-same d h = ap (λ r. r >>= λ sum. plus sum.rest d.rest >>= λ n. Ok record { terms = sum.terms; rest = n }) (add_substituted-same d.terms (constant_of (pos 0)) h)
 
 -- ---- a list of numbers' values
@@ -120,18 +120,18 @@ module _ (one : Bool) (case : Case) (n : ℕ) (moves : Moves) (table : moves ≡
   columns : AllByRecursion (λ t. AllByRecursion (IsBelow n 0) t.0) d.terms
   columns = each-more (λ t. All (IsBelow n 0) t.0) (λ t. AllByRecursion (IsBelow n 0) t.0) (λ t h. recursion_from_All (IsBelow n 0) t.0 h) d.terms (recursion_from_All (λ t. All (IsBelow n 0) t.0) d.terms covered)
 
-  put_into-told : put_into values d ≡ unless_fault (first_fault moves.faults d.terms) (substituted (put_in moves.polys []) d)
+  put_into-told : put_into values d ≡ unless_fault (first_fault moves.faults d.terms) (substituted_polynomial (put_in moves.polys []) d)
   put_into-told =
-      when_all_made-told moves.faults values d.terms (substituted (λ c. or_zero (values c)) d)
+      when_all_made-told moves.faults values d.terms (substituted_polynomial (λ c. or_zero (values c)) d)
       (each-more (λ t. AllByRecursion (IsBelow n 0) t.0) (λ t. AllByRecursion (λ c. fault_at moves.faults c ≡ fault_of (values c)) t.0) (λ t h. each-more (IsBelow n 0) (λ c. fault_at moves.faults c ≡ fault_of (values c)) column-told t.0 h) d.terms columns)
       ∙ ap (unless_fault (first_fault moves.faults d.terms)) (substituted-same (λ c. or_zero (values c)) (put_in moves.polys []) d
       (each-more (λ t. AllByRecursion (IsBelow n 0) t.0) (λ t. AllByRecursion (λ c. or_zero (values c) ≡ put_in moves.polys [] c) t.0) (λ t h. each-more (IsBelow n 0) (λ c. or_zero (values c) ≡ put_in moves.polys [] c) column-same t.0 h) d.terms columns))
 
   pub put_into-fault : (e : TermError) → first_fault moves.faults d.terms ≡ Some e → put_into values d ≡ Err e
-  put_into-fault e f = put_into-told ∙ ap (λ o. unless_fault o (substituted (put_in moves.polys []) d)) f
+  put_into-fault e f = put_into-told ∙ ap (λ o. unless_fault o (substituted_polynomial (put_in moves.polys []) d)) f
 
-  pub put_into-made : first_fault moves.faults d.terms ≡ None → put_into values d ≡ substituted (put_in moves.polys []) d
-  put_into-made f = put_into-told ∙ ap (λ o. unless_fault o (substituted (put_in moves.polys []) d)) f
+  pub put_into-made : first_fault moves.faults d.terms ≡ None → put_into values d ≡ substituted_polynomial (put_in moves.polys []) d
+  put_into-made f = put_into-told ∙ ap (λ o. unless_fault o (substituted_polynomial (put_in moves.polys []) d)) f
 
 -- an error that says why there is no answer
 pub fails_by-same : (e : TermError) (stated : Made) → stated ≡ Err e → FailsBy (cause e) stated

@@ -16,7 +16,7 @@ use Rattle.transition_formula.specs.Transition.{Transition}
 use Rattle.transition_formula.proofs.Telling.{Tells, difference_of_polys-tells}
 use Rattle.farkas_check.specs.declared.stratum.Change.{Change}
 use Rattle.polyhedra.specs.declared.changes.Moves.{Moves}
-use Rattle.polyhedra.specs.Changes.{poly_at, change, is_zero, is_modified, is_exact, modified, moving, changes_in, changes_of}
+use Rattle.polyhedra.specs.Changes.{poly_at, change, is_zero, is_modified, is_exact, modified_variables, moving, changes_in, changes_of}
 use Rattle.polyhedra.specs.Tables.{fault_of, fault_at, or_else, table_of, is_moved, is_moved_in, is_made, is_made_in, first_of, losses_at, change_of, changes_from}
 use Rattle.polyhedra.proofs.Lists.{each-filter}
 use Rattle.polyhedra.proofs.Tabled.{first_got}
@@ -78,14 +78,14 @@ each-below : (b a n : ℕ) (P : ℕ → Type 0) → a + n ≤ b → ((v : ℕ) �
 each-below b a zero P few h = tt
 each-below b a (suc n) P few h = (h a (omega arith), each-below b (a + 1) n P (omega arith) h)
 
-pub modified-tables : (one : Bool) (f : Transition) → filter (is_moved_in (map (table_of one f.to) f.cases)) (range_with_len 0 f.to) ≡ modified one f
+pub modified-tables : (one : Bool) (f : Transition) → filter (is_moved_in (map (table_of one f.to) f.cases)) (range_with_len 0 f.to) ≡ modified_variables one f
 modified-tables one f =
     filter-same (is_moved_in (map (table_of one f.to) f.cases)) (is_modified one f.cases) (range_with_len 0 f.to)
     (each-below f.to 0 f.to (λ v. is_moved_in (map (table_of one f.to) f.cases) v ≡ is_modified one f.cases v) (omega arith) (λ v low. is_modified-tables one f.to v low f.cases))
 
-pub moving-tables : (one : Bool) (f : Transition) → filter (is_made_in (map (table_of one f.to) f.cases)) (modified one f) ≡ moving one f
+pub moving-tables : (one : Bool) (f : Transition) → filter (is_made_in (map (table_of one f.to) f.cases)) (modified_variables one f) ≡ moving one f
 moving-tables one f =
-    filter-same (is_made_in (map (table_of one f.to) f.cases)) (is_exact one f.cases) (modified one f)
+    filter-same (is_made_in (map (table_of one f.to) f.cases)) (is_exact one f.cases) (modified_variables one f)
     (each-filter (λ v. is_made_in (map (table_of one f.to) f.cases) v ≡ is_exact one f.cases v) (is_modified one f.cases) (range_with_len 0 f.to)
     (each-below f.to 0 f.to (λ v. is_made_in (map (table_of one f.to) f.cases) v ≡ is_exact one f.cases v) (omega arith) (λ v low. is_exact-tables one f.to v low f.cases)))
 
@@ -126,15 +126,15 @@ filtered-without test n made e fails = e ∙ sym (first-more test n ∙ ap (λ b
 
 -- ---- losses and terms
 
-modified-below : (one : Bool) (f : Transition) → AllByRecursion (λ v. v < f.to) (modified one f)
+modified-below : (one : Bool) (f : Transition) → AllByRecursion (λ v. v < f.to) (modified_variables one f)
 modified-below one f = each-filter (λ v. v < f.to) (is_modified one f.cases) (range_with_len 0 f.to) (each-below f.to 0 f.to (λ v. v < f.to) (omega arith) (λ v low. low))
 
 moving-below : (one : Bool) (f : Transition) → AllByRecursion (λ v. v < f.to) (moving one f)
-moving-below one f = each-filter (λ v. v < f.to) (is_exact one f.cases) (modified one f) (modified-below one f)
+moving-below one f = each-filter (λ v. v < f.to) (is_exact one f.cases) (modified_variables one f) (modified-below one f)
 
 pub losses-tables : (one : Bool) (f : Transition)
-    → flat_map (λ v. losses_at (first_of (map (table_of one f.to) f.cases) v)) (modified one f) ≡ flat_map (λ v. take 1 (flat_map (λ case. losses_of (change one case v)) f.cases)) (modified one f)
-losses-tables one f = go (modified one f) (modified-below one f)
+    → flat_map (λ v. losses_at (first_of (map (table_of one f.to) f.cases) v)) (modified_variables one f) ≡ flat_map (λ v. take 1 (flat_map (λ case. losses_of (change one case v)) f.cases)) (modified_variables one f)
+losses-tables one f = go (modified_variables one f) (modified-below one f)
   where
     go : (vs : List ℕ) → AllByRecursion (λ v. v < f.to) vs
         → flat_map (λ v. losses_at (first_of (map (table_of one f.to) f.cases) v)) vs ≡ flat_map (λ v. take 1 (flat_map (λ case. losses_of (change one case v)) f.cases)) vs

@@ -9,7 +9,7 @@ use Rattle.linear_terms.specs.declared.row.Case.{Case}
 use Rattle.linear_terms.specs.Expressions.{Made, ◌⊟◌, ◌⊠◌, whole, column, at_most, put_into}
 use Rattle.linear_terms.specs.Polynomial.{Polynomial}
 use Rattle.linear_terms.specs.Replacement.{IsBelow}
-use Rattle.transition_formula.specs.Loss.{noted, answered, losses_of}
+use Rattle.transition_formula.specs.Loss.{error_losses, answer_of, losses_of}
 use Rattle.farkas_check.specs.declared.answer.Answer.{Answer}
 use Rattle.farkas_check.specs.declared.answer.Answer.TheVariants as answer
 use Rattle.farkas_check.specs.declared.question.Goal.{Goal}
@@ -60,7 +60,7 @@ bound_in (answer.Limit limit) = None
 unfoldable pub bound_by : Result (List Goal) TermError → Posing (Option ℤ)
 bound_by (Ok goals) = answer_to (Sup goals) >>= λ answer. Noted (limits_of answer)
     (Done (bound_in answer))
-bound_by (Err e) = Noted (loss_notes (noted e)) (Done None)
+bound_by (Err e) = Noted (loss_notes (error_losses e)) (Done None)
 
 -- the greatest value of an objective over all cases, if it is known. An objective that cannot be
 -- made in some case is not asked: its loss is noted. A limit is noted too.
@@ -70,30 +70,30 @@ bound_of cases objective = bound_by (goals_of objective cases)
 -- one more row where it can be made; else its loss is noted
 unfoldable pub with_row : List Row → Result Row TermError → Posing (List Row)
 with_row rows made =
-    Noted (loss_notes (losses_of made)) (Done (rows ++ option_to_list (answered made)))
+    Noted (loss_notes (losses_of made)) (Done (rows ++ option_to_list (answer_of made)))
 
 abbrev pub with_row_for : List Row → (ℤ → Result Row TermError) → Option ℤ → Posing (List Row)
 with_row_for rows row None = Done rows
 with_row_for rows row (Some most) = with_row rows (row most)
 
 -- the bound of an objective is asked; where there is one, it gives a row
-unfoldable pub bounded : List Case → (Case → Made) → (ℤ → Result Row TermError) → List Row
+unfoldable pub rows_with_bound : List Case → (Case → Made) → (ℤ → Result Row TermError) → List Row
     → Posing (List Row)
-bounded cases objective row rows = bound_of cases objective >>= λ most. with_row_for rows row most
+rows_with_bound cases objective row rows = bound_of cases objective >>= λ most. with_row_for rows row most
 
 -- the bound before: of a direction on the entry columns
 abbrev pub before_row : Polynomial → ℤ → Result Row TermError
 before_row d most = at_most (Ok d ⊟ whole most)
 
-abbrev pub bounded_before : List Case → List Row → Polynomial → Posing (List Row)
-bounded_before cases rows d = bounded cases (λ case. Ok d) (before_row d) rows
+abbrev pub rows_with_entry_bound : List Case → List Row → Polynomial → Posing (List Row)
+rows_with_entry_bound cases rows d = rows_with_bound cases (λ case. Ok d) (before_row d) rows
 
 -- the bound after: of a direction on the posts; `after` has what stands for each post in the row
 abbrev pub after_row : List Polynomial → Polynomial → ℤ → Result Row TermError
 after_row after d most = at_most (put_in_for after d ⊟ whole most)
 
-abbrev pub bounded_after : List Case → List Polynomial → List Row → Polynomial → Posing (List Row)
-bounded_after cases after rows d = bounded cases (λ case. put_in_for case.post d)
+abbrev pub rows_with_exit_bound : List Case → List Polynomial → List Row → Polynomial → Posing (List Row)
+rows_with_exit_bound cases after rows d = rows_with_bound cases (λ case. put_in_for case.post d)
     (after_row after d) rows
 
 -- the bound on differences: of a direction on the changes, where both ends have one vocabulary.
@@ -109,5 +109,5 @@ change_row moved turns d most = at_most (put_in_for moved d ⊟ so_often turns (
 abbrev pub bounded_change : List Case → List Polynomial → Option Col → List Row → Polynomial
     → Posing (List Row)
 bounded_change cases moved turns rows d =
-    bounded cases (λ case. put_into (for_entries (change true case)) d) (change_row moved turns d)
+    rows_with_bound cases (λ case. put_into (for_entries (change true case)) d) (change_row moved turns d)
     rows

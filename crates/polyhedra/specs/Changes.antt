@@ -36,18 +36,18 @@ is_modified one cases v = list_any (λ case. not (is_zero (change one case v))) 
 abbrev pub is_exact : Bool → List Case → ℕ → Bool
 is_exact one cases v = list_all (λ case. is_ok (change one case v)) cases
 
-abbrev pub modified : Bool → Transition → List ℕ
-modified one f = filter (is_modified one f.cases) (range_with_len 0 f.to)
+abbrev pub modified_variables : Bool → Transition → List ℕ
+modified_variables one f = filter (is_modified one f.cases) (range_with_len 0 f.to)
 
 -- the modified variables whose change can be made in each case
 abbrev pub moving : Bool → Transition → List ℕ
-moving one f = filter (is_exact one f.cases) (modified one f)
+moving one f = filter (is_exact one f.cases) (modified_variables one f)
 
 -- of each other modified variable the loss in the first case that has one
 abbrev pub lost_changes : Bool → Transition → List Note
 lost_changes one f =
     loss_notes (flat_map (λ v. take 1 (flat_map (λ case. losses_of (change one case v)) f.cases))
-    (modified one f))
+    (modified_variables one f))
 
 -- ---- the terms of a stratum question
 

@@ -3,9 +3,9 @@ use Rattle.std.specs.Prelude.{ℕ, List, [], ◌∷◌, ◌++◌, map, fold, Boo
 use Rattle.std.specs.List.{list_any, filter, filter_map, flat_map}
 use Rattle.linear_terms.specs.declared.col.Col.TheVariants.{At}
 use Rattle.linear_terms.specs.Equality.{poly_eq}
-use Rattle.linear_terms.specs.Expressions.{Made, ◌⊟◌, column, turned}
+use Rattle.linear_terms.specs.Expressions.{Made, ◌⊟◌, column, negative_of}
 use Rattle.linear_terms.specs.Polynomial.{Polynomial}
-use Rattle.transition_formula.specs.Loss.{answered}
+use Rattle.transition_formula.specs.Loss.{answer_of}
 use Rattle.polyhedra.specs.Vocabulary.{Vocabulary}
 
 -- ---- each element where it first stands
@@ -19,7 +19,7 @@ distinct same xs = fold (with_new same) [] xs
 -- ---- directions
 
 abbrev pub both_signs : Made → List Made
-both_signs a = a ∷ turned a ∷ []
+both_signs a = a ∷ negative_of a ∷ []
 
 -- a column less each of the others
 abbrev pub less_others : List ℕ → ℕ → List Made
@@ -35,4 +35,4 @@ candidates voc =
 
 -- those that can be made, each once
 unfoldable pub directions : Vocabulary → List Polynomial
-directions voc = distinct poly_eq (filter_map answered (candidates voc))
+directions voc = distinct poly_eq (filter_map answer_of (candidates voc))

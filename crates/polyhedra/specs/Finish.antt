@@ -6,7 +6,7 @@ use Rattle.posing.specs.declared.note.Note.{Note}
 use Rattle.posing.specs.declared.note.Note.TheVariants.{Cut}
 use Rattle.posing.specs.Logs.{loss_notes}
 use Rattle.posing.specs.Posing.{Posing, Done, Noted, ◌>>=◌}
-use Rattle.polyhedra.specs.Thin.{thinned}
+use Rattle.polyhedra.specs.Thin.{thinned_case}
 
 -- the greatest number that a note tells is 2^32 - 1
 abbrev pub told_count : ℕ → ℕ
@@ -24,8 +24,8 @@ cut case = Noted (cut_notes (length case.rows)) (Done (cut_case case))
 
 abbrev pub finished_left : Option Case → Posing (Option Case)
 finished_left None = Done None
-finished_left (Some case) = thinned case >>= λ left. cut left >>= λ kept. Done (Some kept)
+finished_left (Some case) = thinned_case case >>= λ left. cut left >>= λ kept. Done (Some kept)
 
 -- what is left of the case, in order; losses are noted before the first question
-unfoldable pub finished : Case → Posing (Option Case)
-finished case = Noted (loss_notes (in_order case).losses) (finished_left (in_order case).left)
+unfoldable pub finish_of_case : Case → Posing (Option Case)
+finish_of_case case = Noted (loss_notes (in_order case).losses) (finished_left (in_order case).left)

@@ -9,7 +9,7 @@ use Rattle.std.specs.declared.cmp.Ordering.{Ordering}
 use Rattle.linear_terms.specs.Equality.{poly_eq}
 use Rattle.linear_terms.specs.Expressions.{Made}
 use Rattle.linear_terms.specs.Polynomial.{Terms, Polynomial}
-use Rattle.transition_formula.specs.Loss.{answered}
+use Rattle.transition_formula.specs.Loss.{answer_of}
 use Rattle.transition_formula.specs.Places.{term_cmp}
 use Rattle.polyhedra.specs.Directions.{with_new}
 
@@ -30,4 +30,4 @@ TellsMade known made = (key : Key) → tree.contains key_cmp known key
 
 -- those made, and then each candidate that can be made and is new
 abbrev pub with_each : List Polynomial → List Made → List Polynomial
-with_each made candidates = fold (with_new poly_eq) made (filter_map answered candidates)
+with_each made candidates = fold (with_new poly_eq) made (filter_map answer_of candidates)

@@ -5,9 +5,9 @@ use Rattle.linear_terms.specs.Row.{AreCanonical}
 use Rattle.transition_formula.specs.Meaning.{HoldsCase, Covers}
 use Rattle.transition_formula.specs.Transition.{Transition, IsTransition, IsFitted, AreSolvable}
 use Rattle.posing.specs.Posing.{Always}
-use Rattle.polyhedra.specs.Settle.{settled}
-use Rattle.polyhedra.specs.Squash.{fitted}
-use Rattle.polyhedra.specs.Thin.{thinned}
+use Rattle.polyhedra.specs.Settle.{settled_formula}
+use Rattle.polyhedra.specs.Squash.{fitted_formula}
+use Rattle.polyhedra.specs.Thin.{thinned_case}
 use Rattle.polyhedra.specs.Vocabulary.{Vocabulary, IsVocabulary}
 
 -- each case's rows have their monomials in print order, each once, as their types keep them
@@ -22,11 +22,11 @@ IsWider case made = (before after : List ℤ) → HoldsCase case before after
 -- a settled formula holds of all that the formula holds of
 abbrev pub SettlingCovers : Type 0
 SettlingCovers = (f : Transition) → HaveCanonicalRows f.cases → AreSolvable f.cases
-    → Always (λ g. Covers g f) (settled f)
+    → Always (λ g. Covers g f) (settled_formula f)
 
 -- a thinned case holds of all that the case holds of
 abbrev pub ThinningCovers : Type 0
-ThinningCovers = (case : Case) → Always (IsWider case) (thinned case)
+ThinningCovers = (case : Case) → Always (IsWider case) (thinned_case case)
 
 -- the formula goes from the columns of one vocabulary to those of another, at most 63 each
 pub record IsBetween (f : Transition) (from to : Vocabulary) : Type 0 where
@@ -41,7 +41,7 @@ pub record IsBetween (f : Transition) (from to : Vocabulary) : Type 0 where
 -- what comes of fitting a formula holds of all that the formula holds of
 abbrev pub FittingCovers : Type 0
 FittingCovers = (f : Transition) (from to : Vocabulary) → IsBetween f from to
-    → Always (λ g. Covers g f) (fitted f from to)
+    → Always (λ g. Covers g f) (fitted_formula f from to)
 
 -- it goes between the same columns, by at most 16 cases of at most 64 rows and 64 auxiliaries
 pub record IsSmall (f g : Transition) : Type 0 where
@@ -52,4 +52,4 @@ pub record IsSmall (f g : Transition) : Type 0 where
 
 abbrev pub FittingFits : Type 0
 FittingFits = (f : Transition) (from to : Vocabulary) → IsBetween f from to
-    → Always (IsSmall f) (fitted f from to)
+    → Always (IsSmall f) (fitted_formula f from to)

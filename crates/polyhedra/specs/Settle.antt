@@ -35,8 +35,8 @@ with_settled made case = settled_case case >>= λ left. Done (made ++ option_to_
 abbrev pub settled_cases : List Case → Posing (List Case)
 settled_cases cases = each with_settled [] cases
 
-unfoldable pub settled : Transition → Posing Transition
-settled f = settled_cases f.cases >>= λ cases. Done record {
+unfoldable pub settled_formula : Transition → Posing Transition
+settled_formula f = settled_cases f.cases >>= λ cases. Done record {
   from = f.from;
   to = f.to;
   cases = cases;

@@ -10,7 +10,7 @@ use Rattle.linear_terms.specs.Expressions.{Made, or_zero}
 use Rattle.linear_terms.specs.Equality.{poly_eq}
 use Rattle.linear_terms.specs.Polynomial.{Terms, Polynomial, constant_of}
 use Rattle.transition_formula.specs.declared.loss.Loss.{Loss}
-use Rattle.transition_formula.specs.Loss.{noted}
+use Rattle.transition_formula.specs.Loss.{error_losses}
 use Rattle.farkas_check.specs.declared.stratum.Change.{Change}
 use Rattle.polyhedra.specs.declared.changes.Moves.{Moves}
 use Rattle.polyhedra.specs.Bounds.{IsCovered}
@@ -84,7 +84,7 @@ first_of (moves ∷ tables) v = or_else (fault_at moves.faults (At v)) (first_of
 
 abbrev pub losses_at : Option TermError → List Loss
 losses_at None = []
-losses_at (Some e) = noted e
+losses_at (Some e) = error_losses e
 
 -- the changes of some variables, over the rows of a case
 abbrev pub change_of : List ℕ → Case → Moves → Change

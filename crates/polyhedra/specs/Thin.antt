@@ -8,7 +8,7 @@ use Rattle.linear_terms.specs.declared.row.Kind.{Kind}
 use Rattle.linear_terms.specs.declared.row.Kind.TheVariants.{AtMost, Equal}
 use Rattle.linear_terms.specs.Expressions.{negation}
 use Rattle.linear_terms.specs.Polynomial.{Polynomial}
-use Rattle.transition_formula.specs.Loss.{noted}
+use Rattle.transition_formula.specs.Loss.{error_losses}
 use Rattle.posing.specs.Logs.{loss_notes}
 use Rattle.posing.specs.Posing.{Posing, Done, Noted, ◌>>=◌, down}
 use Rattle.polyhedra.specs.Infeasibility.{infeasible}
@@ -17,32 +17,32 @@ abbrev pub without_if : Bool → ℕ → List Row → List Row
 without_if drops place rows = if drops then remove rows place else rows
 
 -- the row is left out where the others exclude its negation
-unfoldable pub thinned_with : Row → ℕ → List Row → Posing (List Row)
-thinned_with negation place rows = infeasible (remove rows place ++ negation ∷ [])
+unfoldable pub thinning_with : Row → ℕ → List Row → Posing (List Row)
+thinning_with negation place rows = infeasible (remove rows place ++ negation ∷ [])
     >>= λ drops. Done (without_if drops place rows)
 
 -- where the negation is lost, that is noted and the row stays
-unfoldable pub thinned_by : Result Row TermError → ℕ → List Row → Posing (List Row)
-thinned_by (Ok negation) place rows = thinned_with negation place rows
-thinned_by (Err e) place rows = Noted (loss_notes (noted e)) (Done rows)
+unfoldable pub thinning_by : Result Row TermError → ℕ → List Row → Posing (List Row)
+thinning_by (Ok negation) place rows = thinning_with negation place rows
+thinning_by (Err e) place rows = Noted (loss_notes (error_losses e)) (Done rows)
 
 -- an equation stays
-abbrev pub thinned_of : Kind → Polynomial → ℕ → List Row → Posing (List Row)
-thinned_of AtMost poly place rows = thinned_by (negation poly) place rows
-thinned_of Equal poly place rows = Done rows
+abbrev pub thinning_of : Kind → Polynomial → ℕ → List Row → Posing (List Row)
+thinning_of AtMost poly place rows = thinning_by (negation poly) place rows
+thinning_of Equal poly place rows = Done rows
 
 abbrev pub thinned_found : Option Row → ℕ → List Row → Posing (List Row)
 thinned_found None place rows = Done rows
-thinned_found (Some row) place rows = thinned_of row.kind row.poly place rows
+thinned_found (Some row) place rows = thinning_of row.kind row.poly place rows
 
-unfoldable pub thinned_at : List Row → ℕ → Posing (List Row)
-thinned_at rows place = thinned_found (slice_get rows place) place rows
+unfoldable pub thinning_at : List Row → ℕ → Posing (List Row)
+thinning_at rows place = thinned_found (slice_get rows place) place rows
 
 abbrev pub thinned_rows : List Row → Posing (List Row)
-thinned_rows rows = down thinned_at rows (length rows)
+thinned_rows rows = down thinning_at rows (length rows)
 
-unfoldable pub thinned : Case → Posing Case
-thinned case = thinned_rows case.rows >>= λ rows. Done record {
+unfoldable pub thinned_case : Case → Posing Case
+thinned_case case = thinned_rows case.rows >>= λ rows. Done record {
   aux = case.aux;
   rows = rows;
   post = case.post;

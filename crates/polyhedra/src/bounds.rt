@@ -5,13 +5,13 @@ ghost use Rattle.linear_terms.specs.declared.row.Row.{Row};
 ghost use Rattle.linear_terms.specs.declared.error.TermError.{TermError};
 ghost use Rattle.linear_terms.specs.Expressions.{Made, ◌⊟◌, at_most, put_into};
 ghost use Rattle.linear_terms.specs.TermError.{cause};
-ghost use Rattle.transition_formula.specs.Loss.{answered, losses_of};
+ghost use Rattle.transition_formula.specs.Loss.{answer_of, losses_of};
 ghost use Rattle.farkas_check.specs.declared.question.Goal.{Goal};
 ghost use Rattle.farkas_check.specs.declared.question.Question.TheVariants.{Sup};
 ghost use Rattle.posing.specs.Follows.{Follows};
 ghost use Rattle.posing.specs.Logs.{Adds, loss_notes};
 ghost use Rattle.posing.specs.Posing.{each};
-ghost use Rattle.polyhedra.specs.Bounds.{put_in_for, bound_of, bound_by, bound_in, before_row, after_row, bounded_before, bounded_after, so_often, change_row, bounded_change, IsCovered, IsCoveredByPosts, for_entries};
+ghost use Rattle.polyhedra.specs.Bounds.{put_in_for, bound_of, bound_by, bound_in, before_row, after_row, rows_with_entry_bound, rows_with_exit_bound, so_often, change_row, bounded_change, IsCovered, IsCoveredByPosts, for_entries};
 ghost use Rattle.polyhedra.specs.Changes.{change};
 ghost use Rattle.polyhedra.specs.Kept.{AreOver, with_objectives, objectives_of};
 ghost use Rattle.polyhedra.specs.Tables.{AreTables};
@@ -127,7 +127,7 @@ pub fn with_row(
     ensures noted { (stated : Result Row TermError) → Gives cause (λ r. r) made stated →
         Adds (loss_notes (losses_of stated)) log.old log.new result }
     ensures exact { (stated : Result Row TermError) → Gives cause (λ r. r) made stated →
-        IfOk result (λ all. all ≡ rows ++ option_to_list (answered stated)) }
+        IfOk result (λ all. all ≡ rows ++ option_to_list (answer_of stated)) }
 {
     let mut all = rows;
     match made {
@@ -173,7 +173,7 @@ pub fn bounds_before<O: Oracle>(
     log: &mut Log,
 ) -> Result<Items<Row>, WorkError>
     ensures { Follows O.asking oracle.old oracle.new log.old log.new result
-        (each (bounded_before cases.now) rows directions.now) }
+        (each (rows_with_entry_bound cases.now) rows directions.now) }
 {
     let mut goals = goals_over(alloc, cases)?;
     let mut made = rows;
@@ -194,7 +194,7 @@ fn bound_before<O: Oracle>(
 ) -> Result<Items<Row>, WorkError>
     requires { AreOver cases.now goals.old }
     ensures follows { Follows O.asking oracle.old oracle.new log.old log.new result
-        (bounded_before cases.now rows d.now) }
+        (rows_with_entry_bound cases.now rows d.now) }
     ensures goals { AreOver cases.now goals.new }
 {
     let objectives = objectives_before(alloc, cases, d);
@@ -240,7 +240,7 @@ pub fn bounds_after<O: Oracle>(
     requires posts { All (IsCoveredByPosts cases.now) directions.now }
     requires rows { All (IsCovered (length after.now)) directions.now }
     ensures { Follows O.asking oracle.old oracle.new log.old log.new result
-        (each (bounded_after cases.now after.now) rows directions.now) }
+        (each (rows_with_exit_bound cases.now after.now) rows directions.now) }
 {
     let mut goals = goals_over(alloc, cases)?;
     let mut made = rows;
@@ -264,7 +264,7 @@ fn bound_after<O: Oracle>(
     requires rows { IsCovered (length after.now) d.now }
     requires goals { AreOver cases.now goals.old }
     ensures follows { Follows O.asking oracle.old oracle.new log.old log.new result
-        (bounded_after cases.now after.now rows d.now) }
+        (rows_with_exit_bound cases.now after.now rows d.now) }
     ensures goals { AreOver cases.now goals.new }
 {
     let objectives = objectives_after(alloc, cases, d);

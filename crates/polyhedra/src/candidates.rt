@@ -27,9 +27,9 @@ pub fn directions(alloc: Global, voc: &Vocabulary) -> Result<Items<Poly>, AllocE
 {
     let mut made = Vec::new(alloc);
     let mut known = BTreeSet::new(alloc);
-    add_columns(alloc, &mut made, &mut known, voc.named())?;
-    add_differences(alloc, &mut made, &mut known, voc.named())?;
-    add_terms(alloc, &mut made, &mut known, voc.harvested())?;
+    add_columns(alloc, &mut made, &mut known, voc.named_columns())?;
+    add_differences(alloc, &mut made, &mut known, voc.named_columns())?;
+    add_terms(alloc, &mut made, &mut known, voc.harvested_terms())?;
     Ok(Items::from_vec(made))
 }
 

@@ -2,7 +2,7 @@ ghost use Rattle.std.specs.Prelude.{◌≡◌, length, take, IfOk};
 ghost use Rattle.transition_formula.specs.Transition.{IsSolvable};
 ghost use Rattle.posing.specs.Follows.{Follows};
 ghost use Rattle.posing.specs.Logs.{Adds};
-ghost use Rattle.polyhedra.specs.Finish.{told_count, cut_notes, cut_case, cut, finished};
+ghost use Rattle.polyhedra.specs.Finish.{told_count, cut_notes, cut_case, cut, finish_of_case};
 
 use crate::settling::solve_noted;
 use crate::thinning::thin_case;
@@ -13,7 +13,7 @@ use linear_terms::{Case, Row};
 use std::alloc::{AllocError, Global};
 
 /// What is left of a case that is put in order, thinned and cut, if anything is.
-#[tactic(auto, using(posing::proofs::Following::following), unfolding(crate::specs::Finish::finished))]
+#[tactic(auto, using(posing::proofs::Following::following), unfolding(crate::specs::Finish::finish_of_case))]
 pub fn finish<O: Oracle>(
     alloc: Global,
     case: &Case,
@@ -21,7 +21,7 @@ pub fn finish<O: Oracle>(
     log: &mut Log,
 ) -> Result<Option<Case>, WorkError>
     requires { IsSolvable case.now }
-    ensures { Follows O.asking oracle.old oracle.new log.old log.new result (finished case.now) }
+    ensures { Follows O.asking oracle.old oracle.new log.old log.new result (finish_of_case case.now) }
 {
     match solve_noted(alloc, case, log)? {
         None => Ok(None),

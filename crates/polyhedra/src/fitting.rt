@@ -8,11 +8,11 @@ ghost use Rattle.posing.specs.Follows.{Follows};
 ghost use Rattle.posing.specs.Logs.{Adds, loss_notes};
 ghost use Rattle.posing.specs.Posing.{each};
 ghost use Rattle.posing.specs.declared.note.Note.TheVariants as note;
-ghost use Rattle.polyhedra.specs.Bounds.{bounded_after};
+ghost use Rattle.polyhedra.specs.Bounds.{rows_with_exit_bound};
 ghost use Rattle.polyhedra.specs.Changes as changes;
 ghost use Rattle.polyhedra.specs.Finish.{told_count};
 ghost use Rattle.polyhedra.specs.Laws.{IsBetween, IsSmall, FittingCovers, FittingFits};
-ghost use Rattle.polyhedra.specs.Squash.{are_same, change_after, entries_of, posts_after, relation_rows, relation_losses, related, with_differences, with_bounds, squash_rows, squashed_case, squashed, noted_squash, fitted};
+ghost use Rattle.polyhedra.specs.Squash.{are_same, change_after, entries_of, posts_after, relation_rows, relation_losses, change_relations, with_differences, with_bounds, squash_rows, squashed_case, squashed_formula, noted_squash, fitted_formula};
 
 use crate::after::{changes_after, changes_of_some, entries_of, posts_after};
 use crate::finishing::told_count;
@@ -39,11 +39,11 @@ pub fn fit<O: Oracle>(
 ) -> Result<Formula, WorkError>
     requires { IsBetween f.now from.now to.now }
     ensures follows { Follows O.asking oracle.old oracle.new log.old log.new result
-        (fitted f.now from.now to.now) }
+        (fitted_formula f.now from.now to.now) }
     ensures covers { IfOk result (λ g. Covers g f.now) }
     ensures small { IfOk result (IsSmall f.now) }
 {
-    fitted(alloc, f, from, to, oracle, log)
+    fitted_formula(alloc, f, from, to, oracle, log)
 }
 
 /// What comes of fitting a formula holds of all that the formula holds of, whatever true answers
@@ -59,7 +59,7 @@ pub fn size_of_fitting()
 
 /// The formula itself if it is small enough, else squashed.
 #[tactic(auto, using(posing::proofs::Following::stops))]
-fn fitted<O: Oracle>(
+fn fitted_formula<O: Oracle>(
     alloc: Global,
     f: &Formula,
     from: &Vocabulary,
@@ -69,7 +69,7 @@ fn fitted<O: Oracle>(
 ) -> Result<Formula, WorkError>
     requires { IsBetween f.now from.now to.now }
     ensures { Follows O.asking oracle.old oracle.new log.old log.new result
-        (fitted f.now from.now to.now) }
+        (fitted_formula f.now from.now to.now) }
 {
     if f.is_fitted() {
         let copy = f.clone()?;
@@ -106,7 +106,7 @@ fn squash_notes(alloc: Global, cases: usize) -> Result<Items<Note>, AllocError>
 }
 
 /// One case for all cases of the formula, if it is left in order.
-#[tactic(auto, using(posing::proofs::Following::following), unfolding(crate::specs::Squash::squashed))]
+#[tactic(auto, using(posing::proofs::Following::following), unfolding(crate::specs::Squash::squashed_formula))]
 fn squash<O: Oracle>(
     alloc: Global,
     f: &Formula,
@@ -117,7 +117,7 @@ fn squash<O: Oracle>(
 ) -> Result<Formula, WorkError>
     requires { IsBetween f.now from.now to.now }
     ensures { Follows O.asking oracle.old oracle.new log.old log.new result
-        (squashed f.now from.now to.now) }
+        (squashed_formula f.now from.now to.now) }
 {
     let one = from.same(to);
     let case = squashed_case(alloc, one, f, from, to, oracle, log)?;
@@ -206,7 +206,7 @@ fn squash_rows<O: Oracle>(
         cases,
         occurring,
     } = movement;
-    let equations = related(
+    let equations = change_relations(
         alloc,
         one,
         f,
@@ -231,8 +231,8 @@ fn squash_rows<O: Oracle>(
 }
 
 /// Relations between the changes of variables that can be made and the entry columns that occur.
-#[tactic(auto, using(posing::proofs::Following::following), unfolding(crate::specs::Squash::related))]
-fn related<O: Oracle>(
+#[tactic(auto, using(posing::proofs::Following::following), unfolding(crate::specs::Squash::change_relations))]
+fn change_relations<O: Oracle>(
     alloc: Global,
     one: bool,
     f: &Formula,
@@ -248,7 +248,7 @@ fn related<O: Oracle>(
     requires moving { moving.now ≡ changes.moving one f.now }
     requires cases { cases ≡ changes.changes_of one f.now }
     requires occurring { occurring.now ≡ changes.occurring one f.now }
-    ensures { Follows O.asking oracle.old oracle.new log.old log.new result (related one f.now) }
+    ensures { Follows O.asking oracle.old oracle.new log.old log.new result (change_relations one f.now) }
 {
     let lower = entries_of(alloc, occurring)?;
     let found = relations_of(alloc, stratum_of(cases, lower), oracle, log)?;
@@ -347,7 +347,7 @@ fn exit_bounds<O: Oracle>(
     requires few { length modified.now < 2 ^ 32 }
     requires modified { modified.now ≡ changes.modified one f.now }
     ensures { Follows O.asking oracle.old oracle.new log.old log.new result
-        (each (bounded_after f.now.cases (posts_after one f.now)) rows (directions to.now)) }
+        (each (rows_with_exit_bound f.now.cases (posts_after one f.now)) rows (directions to.now)) }
 {
     let posts = posts_after(alloc, one, modified, f.to())?;
     let exit = directions(alloc, to)?;

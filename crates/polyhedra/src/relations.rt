@@ -5,12 +5,12 @@ ghost use Rattle.farkas_check.specs.Relations.{term_count};
 ghost use Rattle.farkas_check.specs.Stratum.{has_unknowns};
 ghost use Rattle.farkas_check.specs.declared.stratum.Change.{Change};
 ghost use Rattle.farkas_check.specs.declared.stratum.Relation.{Relation};
-ghost use Rattle.linear_terms.specs.Expressions.{◌⊟◌, weighted};
+ghost use Rattle.linear_terms.specs.Expressions.{◌⊟◌, weighted_sum};
 ghost use Rattle.linear_terms.specs.Polynomial.{Polynomial};
 ghost use Rattle.linear_terms.specs.TermError.{cause};
 ghost use Rattle.linear_terms.specs.declared.error.TermError.{TermError};
 ghost use Rattle.linear_terms.specs.declared.row.Row.{Row};
-ghost use Rattle.transition_formula.specs.Loss.{answered, losses_of};
+ghost use Rattle.transition_formula.specs.Loss.{answer_of, losses_of};
 ghost use Rattle.posing.specs.Logs.{Adds, loss_notes};
 ghost use Rattle.posing.specs.Follows.{Follows};
 ghost use Rattle.polyhedra.specs.Relations.{relations_of, relations_in};
@@ -137,7 +137,7 @@ fn less_lower(
     relation: &Relation,
 ) -> Result<Poly, TermError>
     ensures { Gives cause (λ p. p) result
-        (weighted relation.now.a terms.now ⊟ weighted relation.now.b lower.now) }
+        (weighted_sum relation.now.a terms.now ⊟ weighted_sum relation.now.b lower.now) }
 {
     let of_terms = combination(alloc, relation.a.as_slice(), terms)?;
     let of_lower = combination(alloc, relation.b.as_slice(), lower)?;
@@ -151,7 +151,7 @@ pub fn add_row(
     made: Result<Row, TermError>,
 ) -> Result<(), AllocError>
     ensures rows { (stated : Result Row TermError) → Gives cause (λ r. r) made stated
-        → OnOk result (rows.new ≡ rows.old ++ option_to_list (answered stated)) }
+        → OnOk result (rows.new ≡ rows.old ++ option_to_list (answer_of stated)) }
     ensures losses { (stated : Result Row TermError) → Gives cause (λ r. r) made stated
         → OnOk result (losses.new ≡ losses.old ++ losses_of stated) }
 {

@@ -6,7 +6,7 @@ ghost use Rattle.transition_formula.specs.Transition.{IsSolvable, AreSolvable};
 ghost use Rattle.posing.specs.Follows.{Follows};
 ghost use Rattle.posing.specs.Logs.{Adds, loss_notes};
 ghost use Rattle.polyhedra.specs.Infeasibility.{infeasible};
-ghost use Rattle.polyhedra.specs.Settle.{settled, settled_cases, with_settled, settled_case, feasible, unless};
+ghost use Rattle.polyhedra.specs.Settle.{settled_formula, settled_cases, with_settled, settled_case, feasible, unless};
 ghost use Rattle.polyhedra.specs.Laws.{HaveCanonicalRows, SettlingCovers};
 
 use crate::infeasible::assent;
@@ -27,7 +27,7 @@ pub fn settle<O: Oracle>(
 ) -> Result<Formula, WorkError>
     requires { AreSolvable f.now.cases }
     ensures follows { Follows O.asking oracle.old oracle.new log.old log.new result
-        (settled f.now) }
+        (settled_formula f.now) }
     ensures covers { IfOk result (λ g. Covers g f.now) }
 {
     let given = f.cases();

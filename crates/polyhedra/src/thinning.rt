@@ -6,7 +6,7 @@ ghost use Rattle.linear_terms.specs.declared.error.TermError.{TermError};
 ghost use Rattle.linear_terms.specs.declared.row.Row.{Row};
 ghost use Rattle.linear_terms.specs.TermError.{cause};
 ghost use Rattle.posing.specs.Follows.{Follows};
-ghost use Rattle.polyhedra.specs.Thin.{thinned_with, thinned_by, thinned_at, thinned_rows, thinned};
+ghost use Rattle.polyhedra.specs.Thin.{thinning_with, thinning_by, thinning_at, thinned_rows, thinned_case};
 ghost use Rattle.polyhedra.specs.Laws.{IsWider, ThinningCovers};
 
 use crate::infeasible::assent;
@@ -27,7 +27,7 @@ pub fn thin<O: Oracle>(
     log: &mut Log,
 ) -> Result<Case, WorkError>
     ensures follows { Follows O.asking oracle.old oracle.new log.old log.new result
-        (thinned case.now) }
+        (thinned_case case.now) }
     ensures covers { IfOk result (IsWider case.now) }
 {
     let copy = case.clone()?;
@@ -39,14 +39,14 @@ pub fn coverage_of_thinning()
     ensures { ThinningCovers }
 {}
 
-#[tactic(auto, using(posing::proofs::Following::following), unfolding(crate::specs::Thin::thinned))]
+#[tactic(auto, using(posing::proofs::Following::following), unfolding(crate::specs::Thin::thinned_case))]
 pub(crate) fn thin_case<O: Oracle>(
     alloc: Global,
     case: Case,
     oracle: &mut O,
     log: &mut Log,
 ) -> Result<Case, WorkError>
-    ensures { Follows O.asking oracle.old oracle.new log.old log.new result (thinned case) }
+    ensures { Follows O.asking oracle.old oracle.new log.old log.new result (thinned_case case) }
 {
     let Case { aux, rows, post } = case;
     let rows = thin_rows(alloc, rows, oracle, log)?;
@@ -71,7 +71,7 @@ fn thin_rows<O: Oracle>(
 }
 
 /// The rows without the one at a place, if it is an inequality that the others entail.
-#[tactic(auto, using(posing::proofs::Following::following), unfolding(crate::specs::Thin::thinned_at))]
+#[tactic(auto, using(posing::proofs::Following::following), unfolding(crate::specs::Thin::thinning_at))]
 fn thin_at<O: Oracle>(
     alloc: Global,
     rows: Items<Row>,
@@ -80,7 +80,7 @@ fn thin_at<O: Oracle>(
     log: &mut Log,
 ) -> Result<Items<Row>, WorkError>
     ensures { Follows O.asking oracle.old oracle.new log.old log.new result
-        (thinned_at rows place) }
+        (thinning_at rows place) }
 {
     if place >= rows.len() {
         return Ok(rows);
@@ -107,7 +107,7 @@ fn thin_by<O: Oracle>(
     requires { place < length rows }
     ensures { (stated : Result Row TermError) → Gives cause (λ r. r) negation stated
         → Follows O.asking oracle.old oracle.new log.old log.new result
-        (thinned_by stated place rows) }
+        (thinning_by stated place rows) }
 {
     match negation {
         Ok(row) => thin_with(alloc, rows, place, row, oracle, log),
@@ -119,7 +119,7 @@ fn thin_by<O: Oracle>(
 }
 
 /// The rows are moved into the question and back.
-#[tactic(auto, using(posing::proofs::Following::following), unfolding(crate::specs::Thin::thinned_with))]
+#[tactic(auto, using(posing::proofs::Following::following), unfolding(crate::specs::Thin::thinning_with))]
 fn thin_with<O: Oracle>(
     alloc: Global,
     rows: Items<Row>,
@@ -130,9 +130,9 @@ fn thin_with<O: Oracle>(
 ) -> Result<Items<Row>, WorkError>
     requires { place < length rows }
     ensures { Follows O.asking oracle.old oracle.new log.old log.new result
-        (thinned_with negation place rows) }
+        (thinning_with negation place rows) }
 {
-    let (others, row) = parted(rows, place);
+    let (others, row) = row_and_others(rows, place);
     let question = question_of(others, negation)?;
     let drops = assent(alloc, &question, oracle, log)?;
     let others = others_of(alloc, question);
@@ -140,7 +140,7 @@ fn thin_with<O: Oracle>(
 }
 
 /// The rows without the one at a place, and that row.
-fn parted(rows: Items<Row>, place: usize) -> (Items<Row>, Row)
+fn row_and_others(rows: Items<Row>, place: usize) -> (Items<Row>, Row)
     requires { place < length rows }
     ensures others { result.0 ≡ remove rows place }
     ensures row { slice_get rows place ≡ Some result.1 }

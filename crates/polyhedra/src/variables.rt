@@ -4,7 +4,7 @@ ghost use Rattle.linear_terms.specs.Auxiliaries.{has_entry};
 ghost use Rattle.linear_terms.specs.Equality.{poly_eq};
 ghost use Rattle.linear_terms.specs.Polynomial.{constant_of};
 ghost use Rattle.posing.specs.Logs.{loss_notes};
-ghost use Rattle.polyhedra.specs.Changes.{poly_at, modified, moving, lost_changes, changes_of, occurs_in, occurring};
+ghost use Rattle.polyhedra.specs.Changes.{poly_at, modified_variables, moving, lost_changes, changes_of, occurs_in, occurring};
 ghost use Rattle.polyhedra.specs.Tables.{is_moved, is_moved_in, is_made, is_made_in, first_of, losses_at, change_of, changes_from};
 
 use crate::changes::{Moves, fault_at, tables_of};
@@ -31,14 +31,14 @@ pub struct Movement {
 
 /// What a formula changes; `one` says whether both ends have one vocabulary.
 pub fn movement_of(alloc: Global, one: bool, f: &Formula) -> Result<Movement, AllocError>
-    ensures modified { IfOk result (λ c. c.modified ≡ modified one f.now) }
+    ensures modified { IfOk result (λ c. c.modified ≡ modified_variables one f.now) }
     ensures moving { IfOk result (λ c. c.moving ≡ moving one f.now) }
     ensures lost { IfOk result (λ c. loss_notes c.lost ≡ lost_changes one f.now) }
     ensures cases { IfOk result (λ c. c.cases ≡ changes_of one f.now) }
     ensures occurring { IfOk result (λ c. c.occurring ≡ occurring one f.now) }
 {
     let tables = tables_of(alloc, one, f.cases(), f.to())?;
-    let modified = modified(alloc, tables.as_slice(), f.to())?;
+    let modified = modified_variables(alloc, tables.as_slice(), f.to())?;
     let moving = moving(alloc, tables.as_slice(), modified.as_slice())?;
     let lost = lost_changes(alloc, tables.as_slice(), modified.as_slice())?;
     let cases = changes_of(alloc, moving.as_slice(), f.cases(), tables.as_slice())?;
@@ -53,7 +53,7 @@ pub fn movement_of(alloc: Global, one: bool, f: &Formula) -> Result<Movement, Al
 }
 
 /// The variables whose change is not zero, or cannot be made, in some case.
-fn modified(alloc: Global, tables: &[Moves], to: u32) -> Result<Items<u32>, AllocError>
+fn modified_variables(alloc: Global, tables: &[Moves], to: u32) -> Result<Items<u32>, AllocError>
     ensures { IfOk result
         (λ variables. variables ≡ filter (is_moved_in tables.now) (range_with_len 0 to)) }
 {

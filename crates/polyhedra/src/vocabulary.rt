@@ -86,14 +86,14 @@ impl Vocabulary {
     }
 
     /// The columns that are named, in ascending order.
-    pub fn named(&self) -> &[u32]
+    pub fn named_columns(&self) -> &[u32]
         ensures { result.now ≡ self.now.named }
     {
         self.named.as_slice()
     }
 
     /// The linear terms that the text compares.
-    pub fn harvested(&self) -> &[Poly]
+    pub fn harvested_terms(&self) -> &[Poly]
         ensures { result.now ≡ self.now.harvested }
     {
         self.harvested.as_slice()

@@ -4,7 +4,7 @@ use std::num::ParseIntError;
 
 /// Why a text is not read.
 #[derive(Clone, Copy, Debug, PartialEq, Eq)]
-pub enum TextError {
+pub enum PolynomialError {
     /// It is no polynomial, row or case.
     Malformed,
     /// A number leaves 128 bits, or a product has more than four columns.
@@ -12,26 +12,26 @@ pub enum TextError {
     Memory,
 }
 
-impl From<TermError> for TextError {
-    fn from(e: TermError) -> TextError {
-        TextError::Term(e)
+impl From<TermError> for PolynomialError {
+    fn from(e: TermError) -> PolynomialError {
+        PolynomialError::Term(e)
     }
 }
 
-impl From<ParseIntError> for TextError {
-    fn from(_e: ParseIntError) -> TextError {
-        TextError::Malformed
+impl From<ParseIntError> for PolynomialError {
+    fn from(_e: ParseIntError) -> PolynomialError {
+        PolynomialError::Malformed
     }
 }
 
-impl From<AllocError> for TextError {
-    fn from(_e: AllocError) -> TextError {
-        TextError::Memory
+impl From<AllocError> for PolynomialError {
+    fn from(_e: AllocError) -> PolynomialError {
+        PolynomialError::Memory
     }
 }
 
-impl<T: Drop> From<AllocFailed<T>> for TextError {
-    fn from(_e: AllocFailed<T>) -> TextError {
-        TextError::Memory
+impl<T: Drop> From<AllocFailed<T>> for PolynomialError {
+    fn from(_e: AllocFailed<T>) -> PolynomialError {
+        PolynomialError::Memory
     }
 }

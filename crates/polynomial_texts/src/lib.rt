@@ -7,5 +7,5 @@
 mod error;
 mod reader;
 
-pub use error::TextError;
+pub use error::PolynomialError;
 pub use reader::{case, poly, row};

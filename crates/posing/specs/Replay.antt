@@ -18,8 +18,8 @@ pub record IsReplay {S : Type 0} (O : Asking S) : Type 0 where
       → O.declines state question → IsMissing question left
 
 -- the number of the question at which it stopped, from 0
-abbrev pub stopped_at : List Answer → List Answer → ℕ
-stopped_at all left = length all - length left
+abbrev pub stop_number : List Answer → List Answer → ℕ
+stop_number all left = length all - length left
 
 -- notes and answers that were kept lead a computation to its value, each answer good for its
 -- question

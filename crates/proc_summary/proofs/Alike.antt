@@ -12,10 +12,10 @@ use Rattle.syntax_tree.specs.Code.{Statement, Guard, Code, code_of}
 use Rattle.syntax_tree.specs.Nodes.{code_nodes, statement_nodes}
 use Rattle.syntax_tree.specs.WellFormed.{has_name, width_of}
 use Rattle.flow_graph.specs.FlowGraph.{Arc, CheckPlace, arc, checks_at, code_arcs, code_checks_at, exit_of, inside, outermost, skip, statement_arcs, unless}
-use Rattle.leaf_cases.specs.Edges.{known_call, leaf_of, lost_in_known_call, lost_in_leaf}
+use Rattle.leaf_cases.specs.Edges.{known_call, leaf_of, losses_in_known_call, losses_in_leaf}
 use Rattle.transition_formula.specs.Transition.{Transition}
-use Rattle.vocabularies.specs.Harvest.{compared, compared_by, compared_in, harvest_of, most_terms}
-use Rattle.vocabularies.specs.Ends.{entry_of, full_of, named_from, named_if, pair_of, terms_below, value_width}
+use Rattle.vocabularies.specs.Harvest.{compared_terms, compared_by, compared_in, harvest_of, most_terms}
+use Rattle.vocabularies.specs.Ends.{entry_of, full_of, named_columns_from, named_if, pair_of, terms_below, value_width}
 use Rattle.vocabularies.specs.Ends as ends
 use Rattle.proc_summary.specs.Alike.{AlikeProcsAreOne, AreAlike, AreAlikeProcs, AreAlikeStatements, AreKnownAlike, alike_anys, alike_breaks, alike_calls, alike_checks, alike_continues, alike_ends, alike_guards, alike_ifs, alike_loops, alike_more, alike_returns, alike_sets}
 use Rattle.proc_summary.specs.Subject.{call_node, call_nodes, check_nodes, link_of, own_graph}
@@ -240,9 +240,9 @@ module _ (same : ℕ → ℕ → Type 0) where
     statement-compares _ _ (alike_calls proc other args into h) = refl
     statement-compares _ _ (alike_guards cond) = refl
     statement-compares _ _ (alike_checks number other cond) = refl
-    statement-compares _ _ (alike_ifs cond a b c d h k) = λ i. compared cond ++ (code-compares a c h i ++ code-compares b d k i)
+    statement-compares _ _ (alike_ifs cond a b c d h k) = λ i. compared_terms cond ++ (code-compares a c h i ++ code-compares b d k i)
     statement-compares _ _ (alike_loops pre pre' cond body step body' step' first h k l) =
-        λ i. code-compares pre pre' h i ++ (compared cond ++ (code-compares body body' k i ++ code-compares step step' l i))
+        λ i. code-compares pre pre' h i ++ (compared_terms cond ++ (code-compares body body' k i ++ code-compares step step' l i))
     statement-compares _ _ alike_breaks = refl
     statement-compares _ _ alike_continues = refl
     statement-compares _ _ alike_returns = refl
@@ -288,10 +288,10 @@ module _ (columns globals : ℕ) (known others : List (Option Transition)) where
   leaf-alike _ _ alike_continues = refl
   leaf-alike _ _ alike_returns = refl
 
-  lost-alike : (s o : Statement) → AreAlikeStatements (AreKnownAlike known others) s o → lost_in_leaf columns globals known s ≡ lost_in_leaf columns globals others o
+  lost-alike : (s o : Statement) → AreAlikeStatements (AreKnownAlike known others) s o → losses_in_leaf columns globals known s ≡ losses_in_leaf columns globals others o
   lost-alike _ _ (alike_sets col value) = refl
   lost-alike _ _ (alike_anys col) = refl
-  lost-alike _ _ (alike_calls proc other args into h) = ap (lost_in_known_call columns globals args into) h
+  lost-alike _ _ (alike_calls proc other args into h) = ap (losses_in_known_call columns globals args into) h
   lost-alike _ _ (alike_guards cond) = refl
   lost-alike _ _ (alike_checks number other cond) = refl
   lost-alike _ _ (alike_ifs cond a b e g h k) = refl
@@ -306,13 +306,13 @@ module _ (columns globals : ℕ) (known others : List (Option Transition)) where
   leaves-alike _ _ (more_arcs a b xs bs one h) = λ i. leaf-alike a.act b.act one.act i ∷ leaves-alike xs bs h i
 
   losses-alike : (xs bs : List Arc) → AreAlikeArcs (AreKnownAlike known others) xs bs
-      → flat_map (λ (way : Arc). lost_in_leaf columns globals known way.act) xs ≡ flat_map (λ (way : Arc). lost_in_leaf columns globals others way.act) bs
+      → flat_map (λ (way : Arc). losses_in_leaf columns globals known way.act) xs ≡ flat_map (λ (way : Arc). losses_in_leaf columns globals others way.act) bs
   losses-alike _ _ no_arcs = refl
   losses-alike _ _ (more_arcs a b xs bs one h) = λ i. lost-alike a.act b.act one.act i ++ losses-alike xs bs h i
 
 -- ---- vocabularies
 
-named-alike : (n m : ℕ) (xs ys : List Column) → n ≡ m → map has_name xs ≡ map has_name ys → named_from n xs ≡ named_from m ys
+named-alike : (n m : ℕ) (xs ys : List Column) → n ≡ m → map has_name xs ≡ map has_name ys → named_columns_from n xs ≡ named_columns_from m ys
 named-alike n m [] [] e h = refl
 named-alike n m [] (y ∷ ys) e h = absurd (cc h)
 named-alike n m (x ∷ xs) [] e h = absurd (cc h)
@@ -395,7 +395,7 @@ alike_procs_are_one program other p q known others h =
       (λ i. record {
         links = links-alike same (own_graph p).arcs (own_graph q).arcs arcs i;
         leaves = ((λ j. map (λ (way : Arc). leaf_of (wide j) (h.globals j) known way.act) (own_graph p).arcs) ∙ leaves-alike (width_of other q) (length other.globals) known others (own_graph p).arcs (own_graph q).arcs arcs) i;
-        lost = ((λ j. flat_map (λ (way : Arc). lost_in_leaf (wide j) (h.globals j) known way.act) (own_graph p).arcs) ∙ losses-alike (width_of other q) (length other.globals) known others (own_graph p).arcs (own_graph q).arcs arcs) i;
+        lost = ((λ j. flat_map (λ (way : Arc). losses_in_leaf (wide j) (h.globals j) known way.act) (own_graph p).arcs) ∙ losses-alike (width_of other q) (length other.globals) known others (own_graph p).arcs (own_graph q).arcs arcs) i;
         nodes = replicate (f i) (full-alike same program other p q h i);
         exit = e i;
         checks = code-checks same 0 0 (code_of p.body) (code_of q.body) refl h.body i;

@@ -29,7 +29,7 @@ use Rattle.leaf_cases.specs.Summaries.{AreMet, KnowsCallee}
 use Rattle.vocabularies.specs.Ends.{full_of}
 use Rattle.checked_tree.specs.Graph.{vocabulary_at}
 use Rattle.checked_tree.specs.Law.{AreFittedCells, FitsCell, HoldsCell}
-use Rattle.proc_summary.specs.declared.stop.Stop.{Stop}
+use Rattle.proc_summary.specs.declared.stop.NodeFormula.{NodeFormula}
 use Rattle.proc_summary.specs.Subject.{call_node, call_nodes, check_nodes, graph_by, own_graph, subject_of}
 use Rattle.proc_summary.specs.Flow.{columns_of, flow_in, formula_of, stop_at}
 use Rattle.proc_summary.specs.Claims.{FitsFlow, FitsIf, FitsStop, FlowHolds, HoldsIf, HoldsOfWalks, IsBetweenStates, KnowsCallees, StopHolds, nodes_of}
@@ -39,7 +39,7 @@ use Rattle.proc_summary.proofs.Below.{identity-fits, identity-holds, met_edges_a
 
 -- ---- the same flow by the graph and by the subject
 
-nodes-map : {X : Type 0} (stop : X → Stop) (node : X → ℕ) → ((x : X) → (stop x).node ≡ node x) → (xs : List X) → nodes_of (map stop xs) ≡ map node xs
+nodes-map : {X : Type 0} (stop : X → NodeFormula) (node : X → ℕ) → ((x : X) → (stop x).node ≡ node x) → (xs : List X) → nodes_of (map stop xs) ≡ map node xs
 nodes-map stop node same [] = refl
 nodes-map stop node same (x ∷ xs) = λ i. same x i ∷ nodes-map stop node same xs i
 

@@ -29,15 +29,15 @@ use Rattle.flow_graph.specs.FlowGraph.{Arc, FlowGraph, arc, body_of, code_arcs, 
 use Rattle.flow_graph.specs.Plain.{arc_of, plain, statement_of_act}
 use Rattle.flow_graph.specs.Walks.{EdgeRelates, Stride, Walks}
 use Rattle.leaf_cases.specs.Conditions.{AreKnown, IsActOf, KnownCalls, columns_at, columns_in}
-use Rattle.leaf_cases.specs.Edges.{known_call, leaf_of, lost_in_leaf}
+use Rattle.leaf_cases.specs.Edges.{known_call, leaf_of, losses_in_leaf}
 use Rattle.vocabularies.specs.Ends.{full_of}
 use Rattle.checked_tree.specs.Graph.{leaf_at, link_at, vocabulary_at}
 use Rattle.checked_tree.specs.Graph as graphs
 use Rattle.checked_tree.specs.Law.{CellsHold, IsEnd, IsEvaluated, IsLeaf, IsRun}
-use Rattle.proc_summary.specs.Subject.{Subject, arc_leaf, graph_by, link_of, lost_in_arc, own_graph, subject_of}
+use Rattle.proc_summary.specs.Subject.{Subject, arc_leaf, graph_by, link_of, losses_in_arc, own_graph, subject_of}
 use Rattle.proc_summary.specs.Claims.{HoldsOfWalks}
 use Rattle.proc_summary.specs.declared.edges.Parts.{Parts}
-use Rattle.proc_summary.specs.Parts.{AreActsOf, ArePartsOf, IsFit, IsGraphOf, edge_leaf, edge_link, graph_of_parts, lost_in_edge}
+use Rattle.proc_summary.specs.Parts.{AreActsOf, ArePartsOf, IsFit, IsGraphOf, edge_leaf, edge_link, graph_of_parts, losses_in_edge}
 use Rattle.proc_summary.proofs.Below.{IsVocabulary-full, act-fits, act_of_edge, all_get, fits-solvable, leaf_few, leaf_holds, some_at}
 
 -- ---- lists of edges
@@ -212,10 +212,10 @@ module _ (program : Program) (proc : ℕ) (p : Proc) (known : List (Option Trans
         map-arcs (edge_leaf program proc known) (arc_leaf program p known) (λ edge. λ i. leaf_of (columns-is i) (length program.globals) known (statement_of_act edge.act)) g.edges
         ∙ ap (map (arc_leaf program p known)) arcs-are
 
-    pub losses-are : flat_map (lost_in_edge program proc known) g.edges ≡ (subject_of program p known).lost
+    pub losses-are : flat_map (losses_in_edge program proc known) g.edges ≡ (subject_of program p known).lost
     losses-are =
-        flat-arcs (lost_in_edge program proc known) (lost_in_arc program p known) (λ edge. λ i. lost_in_leaf (columns-is i) (length program.globals) known (statement_of_act edge.act)) g.edges
-        ∙ ap (flat_map (lost_in_arc program p known)) arcs-are
+        flat-arcs (losses_in_edge program proc known) (losses_in_arc program p known) (λ edge. λ i. losses_in_leaf (columns-is i) (length program.globals) known (statement_of_act edge.act)) g.edges
+        ∙ ap (flat_map (losses_in_arc program p known)) arcs-are
 
   module _ (formed : IsWellFormed program) (are : AreKnown program known) where
     abbrev s : Subject

@@ -14,7 +14,7 @@ use Rattle.items.proofs.Each.{each-append, each-more}
 use Rattle.linear_terms.specs.declared.row.Case.{Case}
 use Rattle.transition_formula.specs.Composition.{by}
 use Rattle.transition_formula.specs.Hiding.{hidden, hidden_case, hiding}
-use Rattle.transition_formula.specs.Loss.{answered}
+use Rattle.transition_formula.specs.Loss.{answer_of}
 use Rattle.transition_formula.specs.Meaning.{Covers, Holds}
 use Rattle.transition_formula.specs.Posts.{case_with_posts, numbers_at, with_posts}
 use Rattle.transition_formula.specs.Transition.{Transition, IsTransition, IsFitted, IsSolvable, AreSolvable, fits, is_fitted}
@@ -36,7 +36,7 @@ use Rattle.vocabularies.specs.Ends as ends
 use Rattle.checked_tree.specs.Law.{IsBetweenEnds, IsEnd, IsFrom}
 use Rattle.proc_summary.specs.declared.stop.Flow.{Flow}
 use Rattle.proc_summary.specs.Claims.{FitsFlow, FitsIf, FlowHolds, HoldsIf, IsBetweenStates}
-use Rattle.proc_summary.specs.Summary.{Ends, ends_of, exit_formula, exit_places, told_of, value_place}
+use Rattle.proc_summary.specs.Summary.{Ends, ends_of, exit_formula, exit_places, projection_of, value_place}
 use Rattle.proc_summary.specs.Parts.{IsFit, IsToldBy, IsToldFrom}
 use Rattle.proc_summary.proofs.Graphs.{few-solvable, full-columns, length-after, narrow, post-length, proc-fit}
 use Rattle.proc_summary.proofs.Below.{IsVocabulary-below, hidden-fits, hidden-holds, returns_are_walks, some_at, with_posts-fits, with_posts-holds}
@@ -58,7 +58,7 @@ fitted-cases cases h = leb-true (length cases) 16 (and_parts (nat_le (length cas
 -- hiding adds an auxiliary for each entry column that it hides, and for each post that is lost
 hidden-aux : (n from to : ℕ) (case : Case) → from ≤ 63 → to ≤ 63 → length case.post ≡ to → case.aux ≤ 64 → (hidden_case n from case).aux < 2 ^ 31
 hidden-aux n from to case few small long le =
-    let lost = count_by-le-length (λ p. is_none (answered (hiding n from case p))) case.post in omega arith
+    let lost = count_by-le-length (λ p. is_none (answer_of (hiding n from case p))) case.post in omega arith
 
 told-few : (n from to : ℕ) (places : List ℕ) (cases : List Case) → from ≤ 63 → to ≤ 63 → IsTransition from to cases → AllByRecursion (λ (case : Case). case.aux ≤ 64) cases
     → AllByRecursion (λ (case : Case). case.aux < 2 ^ 31) (map (case_with_posts places) (map (hidden_case n from) cases))
@@ -88,17 +88,17 @@ hidden-few entry places f told =
     (each-more (λ (case : Case). case.aux ≤ 64) (λ (case : Case). case.aux + (f.from - entry) + f.to < 2 ^ 32) (λ case le. omega (arith, le, few, small)) f.cases (fitted-few f.cases told.fitted))
 
 module _ (entry : ℕ) (places : List ℕ) (f : Transition) (told : IsToldBy entry places f) (fit : IsFit f) where
-  pub told-fit : IsFit (told_of entry places f)
+  pub told-fit : IsFit (projection_of entry places f)
   told-fit = with_posts-fits places (hidden entry f) told.there (hidden-fits entry f.from f.to f.cases told.fewer fit)
 
-  pub told-solvable : AreSolvable (told_of entry places f).cases
+  pub told-solvable : AreSolvable (projection_of entry places f).cases
   told-solvable =
       let short = told.short in
-      few-solvable entry (length places) (told_of entry places f).cases (omega (arith, short)) told-fit
-      (All-from_recursion (λ (case : Case). case.aux < 2 ^ 31) (told_of entry places f).cases
+      few-solvable entry (length places) (projection_of entry places f).cases (omega (arith, short)) told-fit
+      (All-from_recursion (λ (case : Case). case.aux < 2 ^ 31) (projection_of entry places f).cases
       (told-few entry f.from f.to places f.cases told.from_few told.to_few fit (fitted-few f.cases told.fitted)))
 
-  pub told-holds : (before after : State) → Holds f before after → Holds (told_of entry places f) (take entry before) (numbers_at places after)
+  pub told-holds : (before after : State) → Holds f before after → Holds (projection_of entry places f) (take entry before) (numbers_at places after)
   told-holds before after h = with_posts-holds places (hidden entry f) (take entry before) after (hidden-holds entry f told.fewer fit before after h)
 
 -- ---- the numbers that are told
@@ -208,7 +208,7 @@ module _ (program : Program) (proc : ℕ) (p : Proc) (formed : IsWellFormed prog
   exit-fit (Some f) h = h.fits
 
   -- it goes from the vocabulary of the entry to that of the exit
-  pub told-between : (exit : Option Transition) → FitsIf (width_of program p) exit → IsFrom (entry_of program p) (ends.exit_of program p) (told_of (entry_width program p) places (exit_formula (width_of program p) exit))
+  pub told-between : (exit : Option Transition) → FitsIf (width_of program p) exit → IsFrom (entry_of program p) (ends.exit_of program p) (projection_of (entry_width program p) places (exit_formula (width_of program p) exit))
   told-between exit h = record {
     from_is = sym entry-columns;
     to_is = places-length ∙ sym exit-columns;
@@ -224,10 +224,10 @@ module _ (program : Program) (proc : ℕ) (p : Proc) (formed : IsWellFormed prog
         (subst (λ n. IsToldFrom (width_of program p) n given exit) (sym first)
         (subst (λ all. IsToldFrom (width_of program p) (entry_width program p) all exit) (sym same) (told-from exit fits)))
 
-    pub told-is : told_of entry given (exit_formula columns exit) ≡ told_of (entry_width program p) places (exit_formula (width_of program p) exit)
-    told-is = λ i. told_of (first i) (same i) (exit_formula (wide i) exit)
+    pub told-is : projection_of entry given (exit_formula columns exit) ≡ projection_of (entry_width program p) places (exit_formula (width_of program p) exit)
+    told-is = λ i. projection_of (first i) (same i) (exit_formula (wide i) exit)
 
-  pub told-solved : (exit : Option Transition) → FitsIf (width_of program p) exit → AreSolvable (told_of (entry_width program p) places (exit_formula (width_of program p) exit)).cases
+  pub told-solved : (exit : Option Transition) → FitsIf (width_of program p) exit → AreSolvable (projection_of (entry_width program p) places (exit_formula (width_of program p) exit)).cases
   told-solved exit h = told-solvable (entry_width program p) places (exit_formula (width_of program p) exit) (told-from exit h) (exit-fit exit h)
 
   -- ---- the summary
@@ -248,7 +248,7 @@ module _ (program : Program) (proc : ℕ) (p : Proc) (formed : IsWellFormed prog
   -- what the exit holds of is told
   pub exit-told : (exit : Option Transition) → FitsIf (width_of program p) exit → (globals args others final after : State) (value : ℤ) → length globals ≡ length program.globals → length args ≡ p.params
       → HoldsIf exit (globals ++ (args ++ others)) final → take (length program.globals) final ≡ after → last_of final ≡ value
-      → Holds (told_of (entry_width program p) places (exit_formula (width_of program p) exit)) (globals ++ args) (exit_values p after value)
+      → Holds (projection_of (entry_width program p) places (exit_formula (width_of program p) exit)) (globals ++ args) (exit_values p after value)
   exit-told None h globals args others final after value long params holds taken last = absurd holds
   exit-told (Some f) h globals args others final after value long params holds taken last =
       let all = length-append globals args in
@@ -257,12 +257,12 @@ module _ (program : Program) (proc : ℕ) (p : Proc) (formed : IsWellFormed prog
       ap (take (entry_width program p)) (sym (append_assoc globals args others)) ∙ (λ i. take (sym same i) ((globals ++ args) ++ others)) ∙ take-append_seam (globals ++ args) others in
       let wide : length final ≡ (full_of program p).columns = length-after f (globals ++ (args ++ others)) final h.fits holds ∙ h.to ∙ sym (full-columns program p) in
       let told = numbers-told p.returns (length program.globals) (full_of program p).columns final after value wide (subst (λ n. length program.globals ≤ n) (sym (full-columns program p)) (omega arith)) taken last in
-      subst (λ b. Holds (told_of (entry_width program p) places f) b (exit_values p after value)) before
-      (subst (λ a. Holds (told_of (entry_width program p) places f) (take (entry_width program p) (globals ++ (args ++ others))) a) told
+      subst (λ b. Holds (projection_of (entry_width program p) places f) b (exit_values p after value)) before
+      (subst (λ a. Holds (projection_of (entry_width program p) places f) (take (entry_width program p) (globals ++ (args ++ others))) a) told
       (told-holds (entry_width program p) places f (told-from (Some f) h) (exit-fit (Some f) h) (globals ++ (args ++ others)) final holds))
 
   pub summary-met : (flow : Flow) (g : Transition) → FitsFlow program p flow → FlowHolds program proc flow
-      → Covers g (told_of (entry_width program p) places (exit_formula (width_of program p) flow.exit.formula)) → SummaryIsMet program proc g
+      → Covers g (projection_of (entry_width program p) places (exit_formula (width_of program p) flow.exit.formula)) → SummaryIsMet program proc g
   summary-met flow g fits holds covers q there globals args after value returns =
       let walked = (returns_are_walks program proc globals args after value).0 returns in
       let final = walked.0 in

@@ -15,7 +15,7 @@ use Rattle.leaf_cases.specs.Conditions.{KnownCalls}
 use Rattle.leaf_cases.specs.Summaries.{KnowsCallee}
 use Rattle.checked_tree.specs.Law.{HoldsCell}
 use Rattle.proc_summary.specs.declared.stop.Flow.{Flow}
-use Rattle.proc_summary.specs.declared.stop.Stop.{Stop}
+use Rattle.proc_summary.specs.declared.stop.NodeFormula.{NodeFormula}
 use Rattle.proc_summary.specs.Subject.{own_graph, call_nodes, check_nodes}
 
 -- ---- what is asked
@@ -37,10 +37,10 @@ abbrev pub FitsIf : ℕ → Option Transition → Type 0
 FitsIf columns None = Unit {0}
 FitsIf columns (Some f) = IsBetweenStates columns f
 
-abbrev pub FitsStop : ℕ → Stop → Type 0
+abbrev pub FitsStop : ℕ → NodeFormula → Type 0
 FitsStop columns stop = FitsIf columns stop.formula
 
-abbrev pub nodes_of : List Stop → List ℕ
+abbrev pub nodes_of : List NodeFormula → List ℕ
 nodes_of stops = map (λ stop. stop.node) stops
 
 -- it has the nodes of the procedure's exit, assertions and calls, in the order of its graph
@@ -61,7 +61,7 @@ HoldsIf (Some f) before after = Holds f before after
 
 -- it holds of each activation that comes to the node, whatever was in its other columns at the
 -- entry
-abbrev pub StopHolds : Program → ℕ → Stop → Type 0
+abbrev pub StopHolds : Program → ℕ → NodeFormula → Type 0
 StopHolds program proc stop =
     (globals args final : State) → (walk : WalksTo program proc globals args stop.node final) →
     HoldsIf stop.formula (globals ++ (args ++ walk.others)) final

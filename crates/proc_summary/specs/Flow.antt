@@ -8,10 +8,10 @@ use Rattle.transition_formula.specs.Composition.{identity_of}
 use Rattle.transition_formula.specs.Transition.{Transition}
 use Rattle.posing.specs.Logs.{loss_notes}
 use Rattle.posing.specs.Posing.{Posing, Done, Noted, ◌>>=◌}
-use Rattle.checked_tree.specs.Evaluation.{evaluated}
+use Rattle.checked_tree.specs.Evaluation.{evaluated_cells}
 use Rattle.checked_tree.specs.Graph.{vocabulary_at}
 use Rattle.proc_summary.specs.declared.stop.Flow.{Flow}
-use Rattle.proc_summary.specs.declared.stop.Stop.{Stop}
+use Rattle.proc_summary.specs.declared.stop.NodeFormula.{NodeFormula}
 use Rattle.proc_summary.specs.Subject.{Subject, graph_by}
 
 -- ---- all nodes
@@ -19,7 +19,7 @@ use Rattle.proc_summary.specs.Subject.{Subject, graph_by}
 -- what stands at each node, from a source: what was lost in the leaves is noted before the first
 -- question
 unfoldable pub cells_from : Subject → ℕ → Posing (List (Cell Transition))
-cells_from s source = Noted (loss_notes s.lost) (evaluated (graph_by s) source)
+cells_from s source = Noted (loss_notes s.lost) (evaluated_cells (graph_by s) source)
 
 -- ---- the nodes that count
 
@@ -33,7 +33,7 @@ formula_of columns (known.Item f) = Some f
 abbrev pub formula_at : ℕ → List (Cell Transition) → ℕ → Option Transition
 formula_at columns cells node = formula_of columns (unwrap_or (slice_get cells node) known.Zero)
 
-abbrev pub stop_at : ℕ → List (Cell Transition) → ℕ → Stop
+abbrev pub stop_at : ℕ → List (Cell Transition) → ℕ → NodeFormula
 stop_at columns cells node = record { node = node; formula = formula_at columns cells node }
 
 -- how many columns the states have

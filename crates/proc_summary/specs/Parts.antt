@@ -9,7 +9,7 @@ use Rattle.flow_graph.specs.declared.parts.Graph.{Graph}
 use Rattle.flow_graph.specs.FlowGraph.{graph_of}
 use Rattle.flow_graph.specs.Plain.{plain, statement_of_act}
 use Rattle.leaf_cases.specs.Conditions.{columns_at, IsActOf}
-use Rattle.leaf_cases.specs.Edges.{leaf_of, lost_in_leaf}
+use Rattle.leaf_cases.specs.Edges.{leaf_of, losses_in_leaf}
 use Rattle.path_expr.specs.declared.cell.Cell.{Cell}
 use Rattle.path_expr.specs.declared.link.Link.{Link}
 use Rattle.syntax_tree.specs.declared.program.Program.{Program}
@@ -18,7 +18,7 @@ use Rattle.transition_formula.specs.Transition.{Transition, IsTransition, IsFitt
 use Rattle.checked_tree.specs.Graph as graphs
 use Rattle.proc_summary.specs.declared.edges.Parts.{Parts}
 use Rattle.proc_summary.specs.declared.stop.Flow.{Flow}
-use Rattle.proc_summary.specs.declared.stop.Stop.{Stop}
+use Rattle.proc_summary.specs.declared.stop.NodeFormula.{NodeFormula}
 use Rattle.proc_summary.specs.Subject.{Subject}
 use Rattle.proc_summary.specs.Flow.{stop_at}
 use Rattle.proc_summary.specs.Summary.{exit_formula}
@@ -38,9 +38,9 @@ abbrev pub edge_leaf : Program → ℕ → List (Option Transition) → Edge →
 edge_leaf program proc known edge = leaf_of (columns_at program proc) (length program.globals) known
     (statement_of_act edge.act)
 
-abbrev pub lost_in_edge : Program → ℕ → List (Option Transition) → Edge → List Loss
-lost_in_edge program proc known edge =
-    lost_in_leaf (columns_at program proc) (length program.globals) known
+abbrev pub losses_in_edge : Program → ℕ → List (Option Transition) → Edge → List Loss
+losses_in_edge program proc known edge =
+    losses_in_leaf (columns_at program proc) (length program.globals) known
     (statement_of_act edge.act)
 
 -- each edge does what an edge of the procedure's graph does
@@ -64,14 +64,14 @@ graph_of_parts parts = graphs.graph_of parts.links parts.leaves parts.nodes
 -- ---- the nodes that count, by the graph that was made
 
 -- the stop of an edge that is a call
-abbrev pub act_stop : ℕ → List (Cell Transition) → ℕ → Act → List Stop
+abbrev pub act_stop : ℕ → List (Cell Transition) → ℕ → Act → List NodeFormula
 act_stop columns cells from (act.Call proc args into) = stop_at columns cells from ∷ []
 act_stop columns cells from _ = []
 
-abbrev pub call_stop : ℕ → List (Cell Transition) → Edge → List Stop
+abbrev pub call_stop : ℕ → List (Cell Transition) → Edge → List NodeFormula
 call_stop columns cells edge = act_stop columns cells edge.from edge.act
 
-abbrev pub check_stop : ℕ → List (Cell Transition) → CheckNode → Stop
+abbrev pub check_stop : ℕ → List (Cell Transition) → CheckNode → NodeFormula
 check_stop columns cells check = stop_at columns cells check.node
 
 abbrev pub graph_flow : ℕ → List (Cell Transition) → Graph → Flow

@@ -11,7 +11,7 @@ use Rattle.syntax_tree.specs.WellFormed.{width_of}
 use Rattle.transition_formula.specs.declared.loss.Loss.{Loss}
 use Rattle.transition_formula.specs.Transition.{Transition}
 use Rattle.flow_graph.specs.FlowGraph.{Arc, CheckPlace, FlowGraph, exit_of, flow_of}
-use Rattle.leaf_cases.specs.Edges.{leaf_of, lost_in_leaf}
+use Rattle.leaf_cases.specs.Edges.{leaf_of, losses_in_leaf}
 use Rattle.checked_tree.specs.Graph.{Graph, graph_of}
 use Rattle.vocabularies.specs.Ends.{full_of}
 
@@ -49,8 +49,8 @@ own_graph p = flow_of (code_of p.body)
 abbrev pub arc_leaf : Program → Proc → List (Option Transition) → Arc → Transition
 arc_leaf program p known way = leaf_of (width_of program p) (length program.globals) known way.act
 
-abbrev pub lost_in_arc : Program → Proc → List (Option Transition) → Arc → List Loss
-lost_in_arc program p known way = lost_in_leaf (width_of program p) (length program.globals) known
+abbrev pub losses_in_arc : Program → Proc → List (Option Transition) → Arc → List Loss
+losses_in_arc program p known way = losses_in_leaf (width_of program p) (length program.globals) known
     way.act
 
 -- the subject that a procedure is, by the known formulas of procedures
@@ -59,7 +59,7 @@ subject_of program p known =
     record {
       links = map link_of (own_graph p).arcs;
       leaves = map (arc_leaf program p known) (own_graph p).arcs;
-      lost = flat_map (lost_in_arc program p known) (own_graph p).arcs;
+      lost = flat_map (losses_in_arc program p known) (own_graph p).arcs;
       nodes = replicate (own_graph p).nodes (full_of program p);
       exit = exit_of (code_of p.body);
       checks = check_nodes (own_graph p).checks;

@@ -4,7 +4,7 @@ use Rattle.std.specs.Prelude.{ℕ, ◌-◌, Bool, true, false, List, [], ◌∷�
 use Rattle.std.specs.List.{range_with_len}
 use Rattle.syntax_tree.specs.declared.program.Proc.{Proc}
 use Rattle.syntax_tree.specs.declared.program.Program.{Program}
-use Rattle.transition_formula.specs.Hiding.{hidden, lost_in_hiding}
+use Rattle.transition_formula.specs.Hiding.{hidden, losses_in_hiding}
 use Rattle.transition_formula.specs.Posts.{with_posts}
 use Rattle.transition_formula.specs.Transition.{Transition}
 use Rattle.posing.specs.Logs.{loss_notes}
@@ -48,12 +48,12 @@ exit_formula columns (Some f) = f
 
 -- the entry's other columns become auxiliaries, and the posts at some of the exit's columns alone
 -- stay
-abbrev pub told_of : ℕ → List ℕ → Transition → Transition
-told_of entry places f = with_posts places (hidden entry f)
+abbrev pub projection_of : ℕ → List ℕ → Transition → Transition
+projection_of entry places f = with_posts places (hidden entry f)
 
 -- it is settled and fitted
 unfoldable pub summary_from : Ends → Option Transition → Posing Transition
 summary_from ends exit =
     let f : Transition = exit_formula ends.full.columns exit in
-    Noted (loss_notes (lost_in_hiding ends.entry.columns f))
-    (settled_and_fitted (told_of ends.entry.columns (exit_places ends) f) ends.entry ends.exit)
+    Noted (loss_notes (losses_in_hiding ends.entry.columns f))
+    (settled_and_fitted (projection_of ends.entry.columns (exit_places ends) f) ends.entry ends.exit)

@@ -4,7 +4,7 @@ ghost use Rattle.syntax_tree.specs.WellFormed.{IsWellFormed};
 ghost use Rattle.syntax_tree.specs.declared.program.Proc.{Proc as Procedure};
 ghost use Rattle.leaf_cases.specs.Conditions.{AreKnown};
 ghost use Rattle.proc_summary.specs.Subject.{subject_of};
-ghost use Rattle.proc_summary.specs.Parts.{IsGraphOf, edge_link, edge_leaf, lost_in_edge, AreActsOf, IsFit, ArePartsOf};
+ghost use Rattle.proc_summary.specs.Parts.{IsGraphOf, edge_link, edge_leaf, losses_in_edge, AreActsOf, IsFit, ArePartsOf};
 
 use flow_graph::{Edge, Graph, graph};
 use items::Items;
@@ -97,7 +97,7 @@ fn leaves_of(
     ensures made { IfOk result
         (λ leaves. leaves ≡ map (edge_leaf program.now proc known.now) edges.now) }
     ensures noted { OnOk result
-        (lost.new ≡ lost.old ++ flat_map (lost_in_edge program.now proc known.now) edges.now) }
+        (lost.new ≡ lost.old ++ flat_map (losses_in_edge program.now proc known.now) edges.now) }
 {
     let mut leaves = Items::new(alloc);
     for edge in edges {

@@ -13,6 +13,6 @@ mod summary;
 
 pub use laws::law_of_alike_procedures;
 pub use nodes::{cells, trees};
-pub use stop::{Flow, Stop};
+pub use stop::{Flow, NodeFormula};
 pub use stops::{flow, formula_at};
 pub use summary::{exit_summary, project};

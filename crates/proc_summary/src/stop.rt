@@ -4,7 +4,7 @@ use transition_formula::Formula;
 /// A node of a procedure's graph, and what holds between the entry and there: nothing where no way
 /// leads to it.
 #[derive(Debug, Drop)]
-pub struct Stop {
+pub struct NodeFormula {
     pub node: u32,
     pub formula: Option<Formula>,
 }
@@ -13,7 +13,7 @@ pub struct Stop {
 /// lead from, in the order of the edges.
 #[derive(Debug, Drop)]
 pub struct Flow {
-    pub exit: Stop,
-    pub checks: Items<Stop>,
-    pub calls: Items<Stop>,
+    pub exit: NodeFormula,
+    pub checks: Items<NodeFormula>,
+    pub calls: Items<NodeFormula>,
 }

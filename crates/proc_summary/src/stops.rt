@@ -13,7 +13,7 @@ ghost use Rattle.proc_summary.specs.Parts.{call_stop, check_stop, graph_flow};
 use crate::columns::columns_of;
 use crate::edges::graph_of;
 use crate::nodes::cells_of;
-use crate::stop::{Flow, Stop};
+use crate::stop::{Flow, NodeFormula};
 use farkas_check::Oracle;
 use flow_graph::{Act, CheckNode, Edge, Graph};
 use items::Items;
@@ -77,7 +77,7 @@ fn check_stops(
     columns: u32,
     cells: &[Cell<Formula>],
     checks: &[CheckNode],
-) -> Result<Items<Stop>, FormulaError>
+) -> Result<Items<NodeFormula>, FormulaError>
     ensures { IfOk result (λ stops. stops ≡ map (check_stop columns cells.now) checks.now) }
 {
     let mut stops = Items::new(alloc);
@@ -92,7 +92,7 @@ fn call_stops(
     columns: u32,
     cells: &[Cell<Formula>],
     edges: &[Edge],
-) -> Result<Items<Stop>, FormulaError>
+) -> Result<Items<NodeFormula>, FormulaError>
     ensures { IfOk result (λ stops. stops ≡ flat_map (call_stop columns cells.now) edges.now) }
 {
     let mut stops = Items::new(alloc);
@@ -108,7 +108,7 @@ fn add_call_stop(
     columns: u32,
     cells: &[Cell<Formula>],
     edge: &Edge,
-    stops: &mut Items<Stop>,
+    stops: &mut Items<NodeFormula>,
 ) -> Result<(), FormulaError>
     ensures { OnOk result (stops.new ≡ stops.old ++ call_stop columns cells.now edge.now) }
 {
@@ -126,11 +126,11 @@ fn stop_at(
     columns: u32,
     cells: &[Cell<Formula>],
     node: u32,
-) -> Result<Stop, FormulaError>
+) -> Result<NodeFormula, FormulaError>
     ensures { IfOk result (λ stop. stop ≡ stop_at columns cells.now node) }
 {
     let formula = formula_at(alloc, columns, cells, node)?;
-    Ok(Stop { node, formula })
+    Ok(NodeFormula { node, formula })
 }
 
 /// The formula at a node, by what stands at each: over so many columns, and none where no way

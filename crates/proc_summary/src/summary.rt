@@ -2,7 +2,7 @@ ghost use Rattle.std.specs.Prelude.{◌≡◌, ◌<◌, ◌++◌, Some, length, 
 ghost use Rattle.syntax_tree.specs.WellFormed.{IsWellFormed, width_of};
 ghost use Rattle.vocabularies.specs.Ends.{entry_width};
 ghost use Rattle.syntax_tree.specs.declared.program.Proc.{Proc as Procedure};
-ghost use Rattle.transition_formula.specs.Hiding.{lost_in_hiding};
+ghost use Rattle.transition_formula.specs.Hiding.{losses_in_hiding};
 ghost use Rattle.transition_formula.specs.Meaning.{Covers};
 ghost use Rattle.transition_formula.specs.Transition.{AreSolvable};
 ghost use Rattle.posing.specs.Follows.{Follows};
@@ -10,7 +10,7 @@ ghost use Rattle.leaf_cases.specs.Conditions.{IsKnown};
 ghost use Rattle.leaf_cases.specs.Summaries.{SummaryIsMet};
 ghost use Rattle.checked_tree.specs.Evaluation.{settled_and_fitted};
 ghost use Rattle.checked_tree.specs.Law.{IsBetweenEnds, IsEnd, IsFrom};
-ghost use Rattle.proc_summary.specs.Summary.{ends_of, exit_formula, exit_places, summary_from, told_of};
+ghost use Rattle.proc_summary.specs.Summary.{ends_of, exit_formula, exit_places, summary_from, projection_of};
 ghost use Rattle.proc_summary.specs.Claims.{FitsFlow, FitsIf, FlowHolds};
 ghost use Rattle.proc_summary.specs.Parts.{IsToldBy, IsToldFrom};
 
@@ -72,7 +72,7 @@ pub fn exit_summary<O: Oracle>(
     ensures covers { (p : Procedure) → slice_get program.now.procs proc ≡ Some p
         → IfOk result
         (λ f. Covers f
-        (told_of (entry_width program.now p) (exit_places (ends_of program.now p))
+        (projection_of (entry_width program.now p) (exit_places (ends_of program.now p))
         (exit_formula (width_of program.now p) exit.now))) }
 {
     let start = entry(alloc, program, proc)?;
@@ -80,7 +80,7 @@ pub fn exit_summary<O: Oracle>(
     let columns = columns_of(program, proc);
     let places = exit_places(alloc, program, proc)?;
     let mut lost = Items::new(alloc);
-    let told = told_of(
+    let told = exit_projection(
         alloc,
         columns,
         start.columns(),
@@ -94,7 +94,7 @@ pub fn exit_summary<O: Oracle>(
 
 /// What an exit's formula tells: the entry's columns past the first so many become auxiliaries, and
 /// the posts at some of the exit's columns alone stay. An exit that no way leads to has no case.
-fn told_of(
+fn exit_projection(
     alloc: Global,
     columns: u32,
     entry: u32,
@@ -104,20 +104,20 @@ fn told_of(
 ) -> Result<Formula, FormulaError>
     requires { IsToldFrom columns entry places.now exit.now }
     ensures made { IfOk result
-        (λ told. told ≡ told_of entry places.now (exit_formula columns exit.now)) }
+        (λ told. told ≡ projection_of entry places.now (exit_formula columns exit.now)) }
     ensures noted { OnOk result
-        (lost.new ≡ lost.old ++ lost_in_hiding entry (exit_formula columns exit.now)) }
+        (lost.new ≡ lost.old ++ losses_in_hiding entry (exit_formula columns exit.now)) }
 {
     match exit {
-        Some(f) => told_by(alloc, entry, places, f, lost),
+        Some(f) => projection_of(alloc, entry, places, f, lost),
         None => {
             let nothing = Formula::from_cases(columns, columns, Items::new(alloc));
-            told_by(alloc, entry, places, &nothing, lost)
+            projection_of(alloc, entry, places, &nothing, lost)
         }
     }
 }
 
-fn told_by(
+fn projection_of(
     alloc: Global,
     entry: u32,
     places: &[u32],
@@ -125,8 +125,8 @@ fn told_by(
     lost: &mut Items<Loss>,
 ) -> Result<Formula, FormulaError>
     requires { IsToldBy entry places.now f.now }
-    ensures made { IfOk result (λ told. told ≡ told_of entry places.now f.now) }
-    ensures noted { OnOk result (lost.new ≡ lost.old ++ lost_in_hiding entry f.now) }
+    ensures made { IfOk result (λ told. told ≡ projection_of entry places.now f.now) }
+    ensures noted { OnOk result (lost.new ≡ lost.old ++ losses_in_hiding entry f.now) }
 {
     let hidden = hidden(alloc, f, entry, lost)?;
     with_posts(alloc, &hidden, places)

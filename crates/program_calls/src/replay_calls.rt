@@ -3,7 +3,7 @@ ghost use Rattle.replay.specs.Chosen.{IsTrace};
 ghost use Rattle.replay.specs.TraceText.{trace_text};
 ghost use Rattle.syntax_tree.specs.WellFormed.{IsWellFormed};
 
-use replay::{Place, Trace};
+use replay::{LineColumn, Trace};
 use std::alloc::{AllocError, Global};
 use syntax_tree::Program;
 
@@ -24,7 +24,7 @@ pub fn follow(
 pub fn print(
     alloc: Global,
     program: &Program,
-    place: Place,
+    place: LineColumn,
     trace: &Trace,
 ) -> Result<Vec<u8>, AllocError>
     ensures { IfOk result (λ text. text.items ≡ trace_text program.now place trace.now) }

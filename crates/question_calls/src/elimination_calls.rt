@@ -27,9 +27,12 @@ pub fn narrow(alloc: Global, question: &Question) -> Result<bool, AllocError>
 }
 
 /// The reduced row echelon basis of a few small rows.
-pub fn reduced(alloc: Global, rows: &[Items<Ratio>]) -> Result<Items<Items<Ratio>>, AllocError>
+pub fn reduced_basis(
+    alloc: Global,
+    rows: &[Items<Ratio>],
+) -> Result<Items<Items<Ratio>>, AllocError>
     requires { AreSmallRatios rows.now }
     ensures { IfOk result (λ lines. IsReducedOf rows.now lines) }
 {
-    elimination::reduced(alloc, rows)
+    elimination::reduced_basis(alloc, rows)
 }

@@ -8,7 +8,7 @@ ghost use Rattle.wire.specs.Written.{IsWritable, certificate_data};
 
 use items::Items;
 use std::alloc::{AllocError, Global};
-use wire::{Certificate, Script, Text, WireError};
+use wire::{Certificate, FileText, Script, WireError};
 
 /// A certificate file of either version.
 pub fn read_certificate(alloc: Global, bytes: &[u8]) -> Result<Certificate, WireError>
@@ -19,7 +19,7 @@ pub fn read_certificate(alloc: Global, bytes: &[u8]) -> Result<Certificate, Wire
 }
 
 /// The text of a certificate file.
-pub fn write_certificate(alloc: Global, file: &Certificate) -> Result<Text, AllocError>
+pub fn write_certificate(alloc: Global, file: &Certificate) -> Result<FileText, AllocError>
     requires { IsWritable file.now }
     ensures written { IfOk result (λ text. text ≡ compact_text (certificate_data file.now)) }
     ensures back { IfOk result (λ text. certificate_of text ≡ Ok file.now) }
@@ -28,7 +28,7 @@ pub fn write_certificate(alloc: Global, file: &Certificate) -> Result<Text, Allo
 }
 
 /// The texts of a script.
-pub fn texts(alloc: Global, script: &Script) -> Result<Items<Text>, WireError>
+pub fn texts(alloc: Global, script: &Script) -> Result<Items<FileText>, WireError>
     requires { length script.now.edits < 2 ^ 32 }
     ensures { Gives fault (λ x. x) result (texts_of script.now) }
 {

@@ -14,7 +14,7 @@ use Rattle.transition_formula.specs.Meaning.{numbers, HoldsAt}
 use Rattle.transition_formula.specs.Transition.{Transition}
 use Rattle.linear_terms.specs.Expressions.{or_zero}
 use Rattle.farkas_check.specs.declared.stratum.Relation.{Relation}
-use Rattle.polyhedra.specs.Changes.{change, is_modified, is_exact, modified, moving, changes_in, changes_of}
+use Rattle.polyhedra.specs.Changes.{change, is_modified, is_exact, modified_variables, moving, changes_in, changes_of}
 use Rattle.polyhedra.proofs.Lists.{each-unmap, filter-passes, each-tested}
 use Rattle.polyhedra.proofs.Related.{IsTrueIn, IsTrueRelation}
 use Rattle.items.proofs.Each.{each-any}
@@ -169,7 +169,7 @@ module _ (body : Transition) (steps : ℕ) (states : ℕ → List ℤ) (run : Is
       by_some body.cases (states i) (states (i + 1)) _
       (λ case known (aux, holds).
       let here : Valuation = numbers (states i) aux in
-      ap (dot r.a) (sym (changes-are case (states i) (states (i + 1)) aux holds (moving true body) (exact-in case body.cases known (moving true body) (filter-passes (is_exact true body.cases) (modified true body)))))
+      ap (dot r.a) (sym (changes-are case (states i) (states (i + 1)) aux holds (moving true body) (exact-in case body.cases known (moving true body) (filter-passes (is_exact true body.cases) (modified_variables true body)))))
       ∙ known (λ c. IsTrueIn (map (λ (l : Recurrence). l.start) rs) r (changes_in true (moving true body) c)) (each-unmap (IsTrueIn (map (λ (l : Recurrence). l.start) rs) r) (changes_in true (moving true body)) body.cases told) here holds.rows
       ∙ ap (λ xs. dot r.b xs +ℤ r.c) (starts d i (omega arith) here (reads-numbers (states i) aux) rs ls along)) (run.links i within).some
 

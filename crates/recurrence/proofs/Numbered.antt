@@ -26,8 +26,8 @@ use Rattle.closed_form.specs.ClosedRow.{closed_row, sum_row}
 use Rattle.farkas_check.specs.declared.stratum.Relation.{Relation}
 use Rattle.polyhedra.specs.Vocabulary.{Vocabulary}
 use Rattle.polyhedra.specs.Directions.{directions}
-use Rattle.polyhedra.specs.Changes.{change, is_modified, is_exact, modified, moving, occurs_in, changes_of, occurring}
-use Rattle.polyhedra.specs.Bounds.{for_entries, put_in_for, with_row, before_row, after_row, change_row, bounded_before, bounded_after, bounded_change}
+use Rattle.polyhedra.specs.Changes.{change, is_modified, is_exact, modified_variables, moving, occurs_in, changes_of, occurring}
+use Rattle.polyhedra.specs.Bounds.{for_entries, put_in_for, with_row, before_row, after_row, change_row, rows_with_entry_bound, rows_with_exit_bound, bounded_change}
 use Rattle.polyhedra.specs.Relations.{relations_of}
 use Rattle.polyhedra.proofs.Lists.{each-filter}
 use Rattle.polyhedra.proofs.Owned.{is_post, same_post, owns, IsOwned}
@@ -39,7 +39,7 @@ use Rattle.recurrence.specs.declared.terms.Term.{Term}
 use Rattle.recurrence.specs.declared.terms.Strata.{Strata}
 use Rattle.recurrence.specs.Strata.{steady, term_of, has_terms, stratum, steady_columns, over, stratum_if, is_short, has_grown, strata, all_terms}
 use Rattle.recurrence.specs.Progressions.{Progression, progressions, excess, progression_row, bounded_progression}
-use Rattle.recurrence.specs.Star.{after_from, after, count, moved, posts, moves, same_term, term_row, terms_once, some_turn, rows_of, turns}
+use Rattle.recurrence.specs.Star.{after_from, after, count, change_over_turns, posts, moves, same_term, term_row, terms_once, some_turn, rows_of, turns}
 use Rattle.recurrence.proofs.Progressed.{each-progression}
 use Rattle.recurrence.proofs.Within.{IsWithin, within-Ok, within-whole, within-column, within-product, within-difference, within-or_zero, within-put_in_for, within-coefficients, IsRowWithin, within-at_most, within-closed_row, within-sum_row, IsRecurrenceWithin, steady-within, recurrence-within}
 
@@ -123,10 +123,10 @@ stands test a (suc k) n j lt = go (test a) j lt (stands test (a + 1) k)
 
 module _ (body : Transition) where
   aux : ℕ
-  aux = length (modified true body) + 1
+  aux = length (modified_variables true body) + 1
 
   abbrev pub Below : Col → Type 0
-  Below c = IsTrue (is_below body.to (length (modified true body) + 1) c)
+  Below c = IsTrue (is_below body.to (length (modified_variables true body) + 1) c)
 
   -- an entry column
   abbrev pub Entry : Col → Type 0
@@ -136,17 +136,17 @@ module _ (body : Transition) where
   pub record IsFit (case : Case) : Type 0 where
     pub fits : IsTrue (fits body.to body.to case)
     pub numbered : IsTrue (every_column_of (is_numbered case.aux) case)
-    pub owned : IsOwned (length (modified true body) ∷ []) case
+    pub owned : IsOwned (length (modified_variables true body) ∷ []) case
     pub posts_are : length case.post ≡ body.to
 
   entry-below : (c : Col) → Entry c → Below c
-  entry-below c h = is_below-more body.to 0 (length (modified true body) + 1) (omega arith) c h
+  entry-below c h = is_below-more body.to 0 (length (modified_variables true body) + 1) (omega arith) c h
 
-  modified-below : AllByRecursion (λ v. v < body.to) (modified true body)
+  modified-below : AllByRecursion (λ v. v < body.to) (modified_variables true body)
   modified-below = each-filter (λ v. v < body.to) (is_modified true body.cases) (range_with_len 0 body.to) (range-below body.to 0 body.to (omega arith))
 
   moving-below : AllByRecursion (λ v. v < body.to) (moving true body)
-  moving-below = each-filter (λ v. v < body.to) (is_exact true body.cases) (modified true body) modified-below
+  moving-below = each-filter (λ v. v < body.to) (is_exact true body.cases) (modified_variables true body) modified-below
 
   steady-below : body.from ≡ body.to → AllByRecursion (λ v. v < body.to) (steady_columns body)
   steady-below same =
@@ -157,12 +157,12 @@ module _ (body : Transition) where
   column-below v h = below-true v body.to h
 
   after-below : (v : ℕ) → v < body.to → Below (after body v)
-  after-below v h = after_from-below body.to (length (modified true body) + 1) 0 (modified true body) v h (omega arith)
+  after-below v h = after_from-below body.to (length (modified_variables true body) + 1) 0 (modified_variables true body) v h (omega arith)
 
   count-below : Below (count body)
-  count-below = below-true (length (modified true body)) (length (modified true body) + 1) (omega arith)
+  count-below = below-true (length (modified_variables true body)) (length (modified_variables true body) + 1) (omega arith)
 
-  moved-within : (v : ℕ) → v < body.to → IsWithin Below (moved body v)
+  moved-within : (v : ℕ) → v < body.to → IsWithin Below (change_over_turns body v)
   moved-within v h = within-difference Below (column (after body v)) (column (At v)) (within-column Below (after body v) (after-below v h)) (within-column Below (At v) (column-below v h))
 
   -- ---- strata
@@ -211,9 +211,9 @@ module _ (body : Transition) where
     unfolding strata
     strata-within =
         always_bind OfSome AreWithin (stratum body []) _ (stratum-within [] tt) (λ v1 h1.
-        always_bind OfSome AreWithin (stratum_if (is_short (length (modified true body)) v1) body (over body v1)) _ (stratum_if-within (is_short (length (modified true body)) v1) (over body v1) (over-within v1 h1)) (λ v2 h2.
-        always_bind OfSome AreWithin (stratum_if (has_grown v1 v2 && is_short (length (modified true body)) v2) body (over body v2)) _
-        (stratum_if-within (has_grown v1 v2 && is_short (length (modified true body)) v2) (over body v2) (over-within v2 h2)) (λ v3 h3.
+        always_bind OfSome AreWithin (stratum_if (is_short (length (modified_variables true body)) v1) body (over body v1)) _ (stratum_if-within (is_short (length (modified_variables true body)) v1) (over body v1) (over-within v1 h1)) (λ v2 h2.
+        always_bind OfSome AreWithin (stratum_if (has_grown v1 v2 && is_short (length (modified_variables true body)) v2) body (over body v2)) _
+        (stratum_if-within (has_grown v1 v2 && is_short (length (modified_variables true body)) v2) (over body v2) (over-within v2 h2)) (λ v3 h3.
         record { first = of_unwrapped v1 h1; second = of_unwrapped v2 h2; third = of_unwrapped v3 h3 })))
 
     -- ---- rows
@@ -238,19 +238,19 @@ module _ (body : Transition) where
     abbrev ProgressionWithin : Progression → Type 0
     ProgressionWithin p = (p.variable < body.to) × TermWithin p.term
 
-    progression_row-within : (p : Progression) (most : ℤ) → ProgressionWithin p → IsRowWithin Below (progression_row (moved body) (count body) p most)
+    progression_row-within : (p : Progression) (most : ℤ) → ProgressionWithin p → IsRowWithin Below (progression_row (change_over_turns body) (count body) p most)
     progression_row-within p most h = record {
       as_made = λ r e.
-          on_ok (whole p.up ⊠ moved body p.variable) (λ d. times p.by p.term.relation.c >>= λ g. (whole p.by ⊠ Ok p.term.recurrence.start) >>= λ s. sum_row d s g most (count body)) r e (λ d e1 f.
+          on_ok (whole p.up ⊠ change_over_turns body p.variable) (λ d. times p.by p.term.relation.c >>= λ g. (whole p.by ⊠ Ok p.term.recurrence.start) >>= λ s. sum_row d s g most (count body)) r e (λ d e1 f.
           on_ok (times p.by p.term.relation.c) (λ g. (whole p.by ⊠ Ok p.term.recurrence.start) >>= λ s. sum_row d s g most (count body)) r f (λ g e2 k.
           on_ok (whole p.by ⊠ Ok p.term.recurrence.start) (λ s. sum_row d s g most (count body)) r k (λ s e3 l.
           (within-sum_row Below d s g most (count body)
-          ((within-product Below (whole p.up) (moved body p.variable) (within-whole Below p.up) (moved-within p.variable h.0)).as_made d e1)
+          ((within-product Below (whole p.up) (change_over_turns body p.variable) (within-whole Below p.up) (moved-within p.variable h.0)).as_made d e1)
           ((within-product Below (whole p.by) (Ok p.term.recurrence.start) (within-whole Below p.by) (within-Ok Below p.term.recurrence.start h.1.start)).as_made s e3) count-below).as_made r l)));
     }
 
     progressions-within : (voc : Vocabulary) (s : Strata) → AreWithin s → AllByRecursion ProgressionWithin (progressions body voc s)
-    progressions-within voc s are = each-progression body voc s TermWithin (λ v. v < body.to) are.first (each-filter (λ v. v < body.to) _ (modified true body) modified-below)
+    progressions-within voc s are = each-progression body voc s TermWithin (λ v. v < body.to) are.first (each-filter (λ v. v < body.to) _ (modified_variables true body) modified-below)
 
     posts-within : AllByRecursion (λ (p : Polynomial). EachColumn Below p.terms) (posts body)
     posts-within =
@@ -258,7 +258,7 @@ module _ (body : Transition) where
 
     moves-within : AllByRecursion (λ (p : Polynomial). EachColumn Below p.terms) (moves body)
     moves-within =
-        each-map (λ v. v < body.to) (λ (p : Polynomial). EachColumn Below p.terms) (λ v. or_zero (moved body v)) (λ v low. within-or_zero Below (moved body v) (moved-within v low)) (range_with_len 0 body.to) (range-below body.to 0 body.to (omega arith))
+        each-map (λ v. v < body.to) (λ (p : Polynomial). EachColumn Below p.terms) (λ v. or_zero (change_over_turns body v)) (λ v low. within-or_zero Below (change_over_turns body v) (moved-within v low)) (range_with_len 0 body.to) (range-below body.to 0 body.to (omega arith))
 
     module _ (voc : Vocabulary) (within : AllByRecursion (λ (d : Polynomial). EachColumn Entry d.terms) (directions voc)) where
       each-below : (d : Polynomial) → EachColumn Entry d.terms → EachColumn Below d.terms
@@ -271,12 +271,12 @@ module _ (body : Transition) where
           (each-keeps RowWithin TermWithin (λ rows t. with_row rows (term_row body t)) [] (terms_once s) (λ rows t k fine. with_row-keeps RowWithin rows (term_row body t) (term_row-within t k).as_made fine)
           (each-distinct TermWithin same_term (all_terms s)
           (each-append TermWithin (s.first ++ s.second) s.third (each-append TermWithin s.first s.second are.first are.second) are.third)) tt) (λ equations h1.
-          always_bind RowsWithin RowsWithin (each (bounded_before body.cases) (equations ++ some_turn body ∷ []) (directions voc)) _
-          (each-keeps RowWithin (λ (d : Polynomial). EachColumn Entry d.terms) (bounded_before body.cases) (equations ++ some_turn body ∷ []) (directions voc)
+          always_bind RowsWithin RowsWithin (each (rows_with_entry_bound body.cases) (equations ++ some_turn body ∷ []) (directions voc)) _
+          (each-keeps RowWithin (λ (d : Polynomial). EachColumn Entry d.terms) (rows_with_entry_bound body.cases) (equations ++ some_turn body ∷ []) (directions voc)
           (λ rows d k fine. bounded-keeps RowWithin body.cases (λ case. Ok d) (before_row d) rows (λ most. (within-at_most Below (Ok d ⊟ whole most) (within-difference Below (Ok d) (whole most) (within-Ok Below d (each-below d k)) (within-whole Below most))).as_made) fine)
           within (each-append (λ r. EachColumn Below r.poly.terms) equations (some_turn body ∷ []) h1 (((count-below, tt), tt), tt))) (λ before h2.
-          always_bind RowsWithin RowsWithin (each (bounded_after body.cases (posts body)) before (directions voc)) _
-          (each-keeps RowWithin (λ d. Unit {0}) (bounded_after body.cases (posts body)) before (directions voc)
+          always_bind RowsWithin RowsWithin (each (rows_with_exit_bound body.cases (posts body)) before (directions voc)) _
+          (each-keeps RowWithin (λ d. Unit {0}) (rows_with_exit_bound body.cases (posts body)) before (directions voc)
           (λ rows d k fine. bounded-keeps RowWithin body.cases (λ case. put_in_for case.post d) (after_row (posts body) d) rows
           (λ most. (within-at_most Below (put_in_for (posts body) d ⊟ whole most) (within-difference Below (put_in_for (posts body) d) (whole most) (within-put_in_for Below (posts body) d posts-within) (within-whole Below most))).as_made) fine)
           (each-any (λ d. Unit {0}) (λ d. tt) (directions voc)) h2) (λ after_too h3.
@@ -286,8 +286,8 @@ module _ (body : Transition) where
           (λ most. (within-at_most Below (put_in_for (moves body) d ⊟ whole most ⊠ column (count body)) (within-difference Below (put_in_for (moves body) d) (whole most ⊠ column (count body))
           (within-put_in_for Below (moves body) d moves-within) (within-product Below (whole most) (column (count body)) (within-whole Below most) (within-column Below (count body) count-below)))).as_made) fine)
           (each-any (λ d. Unit {0}) (λ d. tt) (directions voc ++ voc.extra)) h3) (λ changes h4.
-          each-keeps RowWithin ProgressionWithin (bounded_progression body.cases (moved body) (count body)) changes (progressions body voc s)
-          (λ rows p k fine. bounded-keeps RowWithin body.cases (excess p) (progression_row (moved body) (count body) p) rows (λ most. (progression_row-within p most k).as_made) fine)
+          each-keeps RowWithin ProgressionWithin (bounded_progression body.cases (change_over_turns body) (count body)) changes (progressions body voc s)
+          (λ rows p k fine. bounded-keeps RowWithin body.cases (excess p) (progression_row (change_over_turns body) (count body) p) rows (λ most. (progression_row-within p most k).as_made) fine)
           (progressions-within voc s are) h4))))
 
       rows-tested : (test : Col → Bool) → ((c : Col) → Below c → IsTrue (test c)) → (rows : List Row) → RowsWithin rows → IsTrue (list_all (λ row. every_column test row.poly) rows)
@@ -300,33 +300,33 @@ module _ (body : Transition) where
       posts-tested test more = test_from_each (every_column test) (λ (p : Polynomial). EachColumn Below p.terms)
           (λ p k. test_from_columns test p (each-more (λ t. AllByRecursion Below t.0) (λ t. AllByRecursion (λ c. IsTrue (test c)) t.0) (λ t l. each-more Below (λ c. IsTrue (test c)) more t.0 l) p.terms k)) (posts body) posts-within
 
-      numbered : (c : Col) → Below c → IsTrue (is_numbered (length (modified true body) + 1) c)
+      numbered : (c : Col) → Below c → IsTrue (is_numbered (length (modified_variables true body) + 1) c)
       numbered (At v) h = refl
       numbered (Aux n) h = h
 
       -- each auxiliary is the number of turns or a post by itself
-      is-owned : (c : Col) → Below c → IsTrue (owns (length (modified true body) ∷ []) (posts body) c)
+      is-owned : (c : Col) → Below c → IsTrue (owns (length (modified_variables true body) ∷ []) (posts body) c)
       is-owned (At v) h = refl
-      is-owned (Aux n) h = go (length (modified true body) == n) refl
+      is-owned (Aux n) h = go (length (modified_variables true body) == n) refl
         where
           alone : (n : ℕ) → 0 + n ≡ n
           alone n = omega arith
 
-          posted : n < length (modified true body) → IsTrue (list_any (is_post n) (posts body))
+          posted : n < length (modified_variables true body) → IsTrue (list_any (is_post n) (posts body))
           posted low =
               let s = stands (is_modified true body.cases) 0 body.to 0 n low in
               any-range (is_post n) (λ v. column_of (after body v)) 0 body.to s.at s.low s.high
               (subst (λ c. IsTrue (is_post n (column_of c))) (sym (s.is ∙ ap (λ m. Aux m) (alone n))) (same_post (column_of (Aux n))))
 
-          below : n < length (modified true body) + 1
-          below = true-below n (length (modified true body) + 1) h
+          below : n < length (modified_variables true body) + 1
+          below = true-below n (length (modified_variables true body) + 1) h
 
           apart : (k : ℕ) → n < k + 1 → (k == n) ≡ false → n < k
           apart k low differs = grind arith
 
-          go : (b : Bool) → (length (modified true body) == n) ≡ b → IsTrue ((b || false) || list_any (is_post n) (posts body))
+          go : (b : Bool) → (length (modified_variables true body) == n) ≡ b → IsTrue ((b || false) || list_any (is_post n) (posts body))
           go true e = refl
-          go false e = posted (apart (length (modified true body)) below e)
+          go false e = posted (apart (length (modified_variables true body)) below e)
 
       pub turns-fit : Always IsFit (turns body voc)
       unfolding turns ◌>>>◌
@@ -335,11 +335,11 @@ module _ (body : Transition) where
           always_bind RowsWithin IsFit (rows_of body voc s) _ (rows-within s are) (λ rows h.
           record {
             fits = both_true (length (posts body) == body.to) _ ((Decides-eqb _ body.to).1 (length-map-range_with_len (λ v. column_of (after body v)) 0 body.to))
-                (both_true (list_all (λ row. every_column (is_below body.to (length (modified true body) + 1)) row.poly) rows) _ (rows-tested (is_below body.to (length (modified true body) + 1)) (λ c k. k) rows h)
-                (posts-tested (is_below body.to (length (modified true body) + 1)) (λ c k. k)));
-            numbered = both_true (list_all (λ row. every_column (is_numbered (length (modified true body) + 1)) row.poly) rows) _ (rows-tested (is_numbered (length (modified true body) + 1)) numbered rows h)
-                (posts-tested (is_numbered (length (modified true body) + 1)) numbered);
-            owned = both_true (list_all (λ row. every_column (owns (length (modified true body) ∷ []) (posts body)) row.poly) rows) _ (rows-tested (owns (length (modified true body) ∷ []) (posts body)) is-owned rows h)
-                (posts-tested (owns (length (modified true body) ∷ []) (posts body)) is-owned);
+                (both_true (list_all (λ row. every_column (is_below body.to (length (modified_variables true body) + 1)) row.poly) rows) _ (rows-tested (is_below body.to (length (modified_variables true body) + 1)) (λ c k. k) rows h)
+                (posts-tested (is_below body.to (length (modified_variables true body) + 1)) (λ c k. k)));
+            numbered = both_true (list_all (λ row. every_column (is_numbered (length (modified_variables true body) + 1)) row.poly) rows) _ (rows-tested (is_numbered (length (modified_variables true body) + 1)) numbered rows h)
+                (posts-tested (is_numbered (length (modified_variables true body) + 1)) numbered);
+            owned = both_true (list_all (λ row. every_column (owns (length (modified_variables true body) ∷ []) (posts body)) row.poly) rows) _ (rows-tested (owns (length (modified_variables true body) ∷ []) (posts body)) is-owned rows h)
+                (posts-tested (owns (length (modified_variables true body) ∷ []) (posts body)) is-owned);
             posts_are = length-map-range_with_len (λ v. column_of (after body v)) 0 body.to;
           }))

@@ -13,7 +13,7 @@ use Rattle.linear_terms.specs.declared.row.Case.{Case}
 use Rattle.linear_terms.specs.Expressions.{◌⊟◌, column, or_zero}
 use Rattle.linear_terms.specs.Polynomial.{Polynomial, column_of}
 use Rattle.transition_formula.specs.declared.loss.Loss.{Loss}
-use Rattle.transition_formula.specs.Loss.{answered, losses_of}
+use Rattle.transition_formula.specs.Loss.{answer_of, losses_of}
 use Rattle.transition_formula.specs.Transition.{Transition}
 use Rattle.farkas_check.specs.Asking.{Asking}
 use Rattle.posing.specs.Follows.{Follows}
@@ -23,8 +23,8 @@ use Rattle.posing.specs.declared.log.Log.{Log}
 use Rattle.posing.specs.declared.note.Note.TheVariants as note
 use Rattle.posing.proofs.Paths.{bind-assoc}
 use Rattle.posing.proofs.Steps.{at_end, notes_first}
-use Rattle.polyhedra.specs.Bounds.{IsCovered, with_row, bounded_before, bounded_after, bounded_change}
-use Rattle.polyhedra.specs.Changes.{modified}
+use Rattle.polyhedra.specs.Bounds.{IsCovered, with_row, rows_with_entry_bound, rows_with_exit_bound, bounded_change}
+use Rattle.polyhedra.specs.Changes.{modified_variables}
 use Rattle.polyhedra.specs.Directions.{directions}
 use Rattle.polyhedra.specs.Squash as squash
 use Rattle.polyhedra.specs.Vocabulary.{Vocabulary, IsDirectionOver}
@@ -34,10 +34,10 @@ use Rattle.recurrence.specs.Law.{IsStarred}
 use Rattle.recurrence.specs.declared.terms.Term.{Term}
 use Rattle.recurrence.specs.declared.terms.Strata.{Strata}
 use Rattle.recurrence.specs.Progressions.{signs, open_variables, progressions_of, progressions, bounded_progression}
-use Rattle.transition_formula.specs.Composition.{identity_of, joined}
-use Rattle.polyhedra.specs.Finish.{finished}
-use Rattle.recurrence.specs.Star.{after_from, count, moved, posts, moves, term_row, terms_once, some_turn, rows_of, turns, star_by, star_of}
-use Rattle.recurrence.specs.Words.{bounded_over, by_term, by_variable, bound_rows}
+use Rattle.transition_formula.specs.Composition.{identity_of, union_of}
+use Rattle.polyhedra.specs.Finish.{finish_of_case}
+use Rattle.recurrence.specs.Star.{after_from, count, change_over_turns, posts, moves, term_row, terms_once, some_turn, rows_of, turns, star_by, star_of}
+use Rattle.recurrence.specs.Words.{rows_with_progression_bound, by_term, by_variable, bound_rows}
 
 -- ---- steps for lists that are put together
 
@@ -57,8 +57,8 @@ each-flat step f made (x ∷ xs) = each-append step made (f x) (flat_map f xs) �
 pub variable-parts : (cases : List Case) (us : List ℕ) (terms : List Term) (rows : List Row) (v : ℕ)
     → each (by_term cases us v (pos 1)) rows terms >>= (λ upward. each (by_term cases us v (negsuc 0)) upward terms >>= (λ both. Done both)) ≡ by_variable cases us terms rows v
 variable-parts cases us terms rows v =
-    sym (each-flat (bounded_over cases us) (λ up. flat_map (λ (t : Term). map (λ by. record { variable = v; up = up; term = t; by = by }) signs) terms) rows signs
-    ∙ (λ i. each (λ m up. each-flat (bounded_over cases us) (λ (t : Term). map (λ by. record { variable = v; up = up; term = t; by = by }) signs) m terms i) rows signs))
+    sym (each-flat (rows_with_progression_bound cases us) (λ up. flat_map (λ (t : Term). map (λ by. record { variable = v; up = up; term = t; by = by }) signs) terms) rows signs
+    ∙ (λ i. each (λ m up. each-flat (rows_with_progression_bound cases us) (λ (t : Term). map (λ by. record { variable = v; up = up; term = t; by = by }) signs) m terms i) rows signs))
 
 not_more : (r : ℕ) → r ≤ 1 → nat_lt 1 r ≡ false
 not_more r h = grind arith
@@ -67,36 +67,36 @@ is_more : (r : ℕ) → 1 < r → nat_lt 1 r ≡ true
 is_more r h = grind arith
 
 pub no-progressions : (body : Transition) (voc : Vocabulary) (s : Strata) (rows : List Row) → voc.rule ≤ 1
-    → Done rows ≡ each (bounded_progression body.cases (moved body) (count body)) rows (progressions body voc s)
+    → Done rows ≡ each (bounded_progression body.cases (change_over_turns body) (count body)) rows (progressions body voc s)
 no-progressions body voc s rows e =
-    ap (λ b. each (bounded_progression body.cases (moved body) (count body)) rows (if b then flat_map (progressions_of s.first) (open_variables body voc s) else [])) (sym (not_more voc.rule e))
+    ap (λ b. each (bounded_progression body.cases (change_over_turns body) (count body)) rows (if b then flat_map (progressions_of s.first) (open_variables body voc s) else [])) (sym (not_more voc.rule e))
 
 pub all-progressions : (body : Transition) (voc : Vocabulary) (s : Strata) (rows : List Row) → 1 < voc.rule
-    → each (by_variable body.cases (modified true body) s.first) rows (open_variables body voc s) ≡ each (bounded_progression body.cases (moved body) (count body)) rows (progressions body voc s)
+    → each (by_variable body.cases (modified_variables true body) s.first) rows (open_variables body voc s) ≡ each (bounded_progression body.cases (change_over_turns body) (count body)) rows (progressions body voc s)
 all-progressions body voc s rows e =
-    sym (each-flat (bounded_progression body.cases (moved body) (count body)) (progressions_of s.first) rows (open_variables body voc s))
-    ∙ ap (λ b. each (bounded_progression body.cases (moved body) (count body)) rows (if b then flat_map (progressions_of s.first) (open_variables body voc s) else [])) (sym (is_more voc.rule e))
+    sym (each-flat (bounded_progression body.cases (change_over_turns body) (count body)) (progressions_of s.first) rows (open_variables body voc s))
+    ∙ ap (λ b. each (bounded_progression body.cases (change_over_turns body) (count body)) rows (if b then flat_map (progressions_of s.first) (open_variables body voc s) else [])) (sym (is_more voc.rule e))
 
 -- ---- rows
 
 -- bounds stand between the rows of terms and those of progressions
 pub rows-parts : (body : Transition) (voc : Vocabulary) (s : Strata)
     → each (λ rows t. with_row rows (term_row body t)) [] (terms_once s) >>= (λ equations. bound_rows body voc (equations ++ some_turn body ∷ [])
-    >>= (λ changes. each (bounded_progression body.cases (moved body) (count body)) changes (progressions body voc s))) ≡ rows_of body voc s
+    >>= (λ changes. each (bounded_progression body.cases (change_over_turns body) (count body)) changes (progressions body voc s))) ≡ rows_of body voc s
 unfolding rows_of bound_rows
 rows-parts body voc s =
     λ i. each (λ rows t. with_row rows (term_row body t)) [] (terms_once s) >>= (λ equations. (
-    bind-assoc (each (bounded_before body.cases) (equations ++ some_turn body ∷ []) (directions voc)) (λ before. each (bounded_after body.cases (posts body)) before (directions voc)
-    >>= (λ both. each (bounded_change body.cases (moves body) (Some (count body))) both (directions voc ++ voc.extra))) (λ changes. each (bounded_progression body.cases (moved body) (count body)) changes (progressions body voc s))
-    ∙ (λ j. each (bounded_before body.cases) (equations ++ some_turn body ∷ []) (directions voc) >>= (λ before.
-    bind-assoc (each (bounded_after body.cases (posts body)) before (directions voc)) (λ both. each (bounded_change body.cases (moves body) (Some (count body))) both (directions voc ++ voc.extra))
-    (λ changes. each (bounded_progression body.cases (moved body) (count body)) changes (progressions body voc s)) j))) i)
+    bind-assoc (each (rows_with_entry_bound body.cases) (equations ++ some_turn body ∷ []) (directions voc)) (λ before. each (rows_with_exit_bound body.cases (posts body)) before (directions voc)
+    >>= (λ both. each (bounded_change body.cases (moves body) (Some (count body))) both (directions voc ++ voc.extra))) (λ changes. each (bounded_progression body.cases (change_over_turns body) (count body)) changes (progressions body voc s))
+    ∙ (λ j. each (rows_with_entry_bound body.cases) (equations ++ some_turn body ∷ []) (directions voc) >>= (λ before.
+    bind-assoc (each (rows_with_exit_bound body.cases (posts body)) before (directions voc)) (λ both. each (bounded_change body.cases (moves body) (Some (count body))) both (directions voc ++ voc.extra))
+    (λ changes. each (bounded_progression body.cases (change_over_turns body) (count body)) changes (progressions body voc s)) j))) i)
 
 -- ---- rows whose losses are noted all at once
 
 module _ {X : Type 0} (f : X → Result Row TermError) where
   abbrev made_of : List X → List Row
-  made_of xs = filter_map (λ x. answered (f x)) xs
+  made_of xs = filter_map (λ x. answer_of (f x)) xs
 
   abbrev lost_of : List X → List Loss
   lost_of xs = flat_map (λ x. losses_of (f x)) xs
@@ -120,10 +120,10 @@ module _ {X : Type 0} (f : X → Result Row TermError) where
       subst (λ log. Follows O state state before log (Ok (rows ++ made_of (x ∷ xs))) (each (λ rs y. with_row rs (f y)) rows (x ∷ xs)))
       (sym (split before (losses_of (f x)) (lost_of xs)))
       (subst (λ rs. Follows O state state before (with_notes between (loss_notes (lost_of xs))) (Ok rs) (each (λ us y. with_row us (f y)) rows (x ∷ xs)))
-      (sym (onto rows (answered (f x)) (made_of xs)))
-      (notes_first (record { is = refl }) refl (noted_from O state (rows ++ option_to_list (answered (f x))) xs between)))
+      (sym (onto rows (answer_of (f x)) (made_of xs)))
+      (notes_first (record { is = refl }) refl (noted_from O state (rows ++ option_to_list (answer_of (f x))) xs between)))
 
-  pub noted_rows : {S : Type 0} (O : Asking S) (state : S) (xs : List X) (before after : Log) (made : List Row) → HasNoted before after (loss_notes (flat_map (λ x. losses_of (f x)) xs)) → made ≡ filter_map (λ x. answered (f x)) xs
+  pub noted_rows : {S : Type 0} (O : Asking S) (state : S) (xs : List X) (before after : Log) (made : List Row) → HasNoted before after (loss_notes (flat_map (λ x. losses_of (f x)) xs)) → made ≡ filter_map (λ x. answer_of (f x)) xs
       → Follows O state state before after (Ok made) (each (λ rs x. with_row rs (f x)) [] xs)
   noted_rows O state xs before after made noted is =
       subst (λ log. Follows O state state before log (Ok made) (each (λ rs x. with_row rs (f x)) [] xs)) (sym noted.is)
@@ -141,10 +141,10 @@ post-same n (u ∷ us) v = go (u == v) (post-same (n + 1) us v)
     go false rest = rest
 
 pub posts-same : (body : Transition) → squash.posts_after true body ≡ posts body
-posts-same body = λ i. map (λ v. post-same 0 (modified true body) v i) (range_with_len 0 body.to)
+posts-same body = λ i. map (λ v. post-same 0 (modified_variables true body) v i) (range_with_len 0 body.to)
 
 pub moves-same : (body : Transition) → squash.changes_after true body ≡ moves body
-moves-same body = λ i. map (λ v. or_zero (Ok (post-same 0 (modified true body) v i) ⊟ column (At v))) (range_with_len 0 body.to)
+moves-same body = λ i. map (λ v. or_zero (Ok (post-same 0 (modified_variables true body) v i) ⊟ column (At v))) (range_with_len 0 body.to)
 
 -- ---- star
 
@@ -153,14 +153,14 @@ unfolding star_of
 no-turns body voc e = ap (star_by body voc) (sym e)
 
 pub some-turns : (body : Transition) (voc : Vocabulary) → body.cases ≢ []
-    → turns body voc >>= (λ case. finished case >>= (λ left. Done (joined (identity_of body.from) record { from = body.from; to = body.to; cases = option_to_list left }))) ≡ star_of body voc
+    → turns body voc >>= (λ case. finish_of_case case >>= (λ left. Done (union_of (identity_of body.from) record { from = body.from; to = body.to; cases = option_to_list left }))) ≡ star_of body voc
 unfolding star_of
 some-turns body voc some = go body.cases some
   where
     go : (cases : List Case) → cases ≢ []
-        → turns body voc >>= (λ case. finished case >>= (λ left. Done (joined (identity_of body.from) record { from = body.from; to = body.to; cases = option_to_list left }))) ≡ star_by body voc cases
+        → turns body voc >>= (λ case. finish_of_case case >>= (λ left. Done (union_of (identity_of body.from) record { from = body.from; to = body.to; cases = option_to_list left }))) ≡ star_by body voc cases
     go [] ne = absurd (ne refl)
-    go (case ∷ cases) ne = sym (bind-assoc (turns body voc) finished (λ left. Done (joined (identity_of body.from) record { from = body.from; to = body.to; cases = option_to_list left })))
+    go (case ∷ cases) ne = sym (bind-assoc (turns body voc) finish_of_case (λ left. Done (union_of (identity_of body.from) record { from = body.from; to = body.to; cases = option_to_list left })))
 
 -- ---- what bounds ask
 

@@ -27,7 +27,7 @@ use Rattle.polyhedra.proofs.Bounded.{IsWorthAlong, IsBelow, bounded-true}
 use Rattle.recurrence.specs.declared.terms.Term.{Term}
 use Rattle.recurrence.specs.declared.terms.Strata.{Strata}
 use Rattle.recurrence.specs.Progressions.{Progression, signs, open_variables, progressions_of, progressions, excess, progression_row, bounded_progression}
-use Rattle.recurrence.specs.Star.{after, count, moved}
+use Rattle.recurrence.specs.Star.{after, count, change_over_turns}
 use Rattle.recurrence.proofs.Stratified.{IsFirstTerm, IsAfter}
 
 apart : (u x y : ℤ) → u *ℤ (x -ℤ y) ≡ u *ℤ x -ℤ u *ℤ y
@@ -67,11 +67,11 @@ module _ (body : Transition) (steps : ℕ) (states : ℕ → List ℤ) (run : Is
       below u x y s most e = let split = apart u x y in omega (arith, ints)
 
   module _ (at : Valuation) (over : IsAfter body steps states run at) where
-    row-true : (p : Progression) (h : IsFirstTerm body steps states run p.term) (most : ℤ) → IsBelow body steps states run (over_term p h) most → IsTrueIfMade at (progression_row (moved body) (count body) p most)
+    row-true : (p : Progression) (h : IsFirstTerm body steps states run p.term) (most : ℤ) → IsBelow body steps states run (over_term p h) most → IsTrueIfMade at (progression_row (change_over_turns body) (count body) p most)
     unfolding climb_of
     row-true p h most bound = record {
       holds = λ r e.
-          on_ok (whole p.up ⊠ moved body p.variable) (λ d. gives.◌>>=◌ (times p.by p.term.relation.c) (λ g. gives.◌>>=◌ (whole p.by ⊠ Ok p.term.recurrence.start) (λ s. sum_row d s g most (count body)))) r e (λ d e1 f.
+          on_ok (whole p.up ⊠ change_over_turns body p.variable) (λ d. gives.◌>>=◌ (times p.by p.term.relation.c) (λ g. gives.◌>>=◌ (whole p.by ⊠ Ok p.term.recurrence.start) (λ s. sum_row d s g most (count body)))) r e (λ d e1 f.
           on_ok (times p.by p.term.relation.c) (λ g. gives.◌>>=◌ (whole p.by ⊠ Ok p.term.recurrence.start) (λ s. sum_row d s g most (count body))) r f (λ g e2 k.
           on_ok (whole p.by ⊠ Ok p.term.recurrence.start) (λ s. sum_row d s g most (count body)) r k (λ s e3 l.
           sum_row-climb at (climb_of p h most) d s g most (count body) r l (is_climb p h most bound)
@@ -84,7 +84,7 @@ module _ (body : Transition) (steps : ℕ) (states : ℕ → List ℤ) (run : Is
           }))));
     }
       where
-        change_is : IsWorth at (whole p.up ⊠ moved body p.variable) (p.up *ℤ (number_in (states steps) p.variable -ℤ number_in (states 0) p.variable))
+        change_is : IsWorth at (whole p.up ⊠ change_over_turns body p.variable) (p.up *ℤ (number_in (states steps) p.variable -ℤ number_in (states 0) p.variable))
         change_is = IsWorth-product (IsWorth-whole at p.up)
             (IsWorth-difference (IsWorth-same (over.ends p.variable) (IsWorth-column at (after body p.variable))) (IsWorth-same (over.starts.each p.variable) (IsWorth-column at (At p.variable))))
 
@@ -92,8 +92,8 @@ module _ (body : Transition) (steps : ℕ) (states : ℕ → List ℤ) (run : Is
         start_is = IsWorth-product (IsWorth-whole at p.by) (IsWorth-same (h.term.along.start 0 (omega arith) at over.starts) (IsWorth-Ok at p.term.recurrence.start))
 
     pub progression-true : (rows : List Row) (p : Progression) → IsFirstTerm body steps states run p.term → RowsHold at rows
-        → Always (RowsHold at) (bounded_progression body.cases (moved body) (count body) rows p)
-    progression-true rows p h hold = bounded-true body steps states run at (excess p) (progression_row (moved body) (count body) p) (over_term p h) rows (excess-worth p h) (row-true p h) hold
+        → Always (RowsHold at) (bounded_progression body.cases (change_over_turns body) (count body) rows p)
+    progression-true rows p h hold = bounded-true body steps states run at (excess p) (progression_row (change_over_turns body) (count body) p) (over_term p h) rows (excess-worth p h) (row-true p h) hold
 
 pub each-progression : (body : Transition) (voc : Vocabulary) (s : Strata) (P : Term → Type 0) (Q : ℕ → Type 0) → AllByRecursion P s.first → AllByRecursion Q (open_variables body voc s)
     → AllByRecursion (λ (p : Progression). Q p.variable × P p.term) (progressions body voc s)

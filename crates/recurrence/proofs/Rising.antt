@@ -11,7 +11,7 @@ use Rattle.linear_terms.specs.declared.col.Col.{Col}
 use Rattle.linear_terms.specs.declared.col.Col.TheVariants.{At, Aux}
 use Rattle.linear_terms.specs.Mono.{mono_cmp}
 use Rattle.transition_formula.specs.Transition.{Transition}
-use Rattle.polyhedra.specs.Changes.{is_modified, is_exact, modified, moving, occurs_in, changes_of, occurring}
+use Rattle.polyhedra.specs.Changes.{is_modified, is_exact, modified_variables, moving, occurs_in, changes_of, occurring}
 use Rattle.polyhedra.proofs.Lists.{each-filter, filter-passes, unfound, same_number}
 use Rattle.recurrence.specs.Star.{after_from, after}
 use Rattle.recurrence.specs.Strata.{steady_columns}
@@ -35,11 +35,11 @@ filter-rises test (v ∷ vs) h = go (test v) (filter-rises test vs h.1)
     go true rest = (each-filter (λ w. v < w) test vs h.0, rest)
     go false rest = rest
 
-pub modified-rises : (body : Transition) → Rise (modified true body)
+pub modified-rises : (body : Transition) → Rise (modified_variables true body)
 modified-rises body = filter-rises (is_modified true body.cases) (range_with_len 0 body.to) (range-rises 0 body.to)
 
 pub moving-rises : (body : Transition) → Rise (moving true body)
-moving-rises body = filter-rises (is_exact true body.cases) (modified true body) (modified-rises body)
+moving-rises body = filter-rises (is_exact true body.cases) (modified_variables true body) (modified-rises body)
 
 -- ---- columns before
 
@@ -115,7 +115,7 @@ after-ascends test n (u ∷ us) h = go (test u) (after-ascends test (n + 1) us h
     go false k = rest k
 
 pub moving-ascends : (body : Transition) → Ascend (map (after body) (moving true body))
-moving-ascends body = after-ascends (is_exact true body.cases) 0 (modified true body) (modified-rises body)
+moving-ascends body = after-ascends (is_exact true body.cases) 0 (modified_variables true body) (modified-rises body)
 
 -- ---- columns that are not modified
 
@@ -143,11 +143,11 @@ range-below : (b a n : ℕ) → a + n ≤ b → AllByRecursion (λ v. v < b) (ra
 range-below b a zero h = tt
 range-below b a (suc n) h = (omega arith, range-below b (a + 1) n (omega arith))
 
-pub steady-same : (body : Transition) → body.from ≡ body.to → filter (λ v. not (is_among (modified true body) v)) (occurring true body) ≡ steady_columns body
+pub steady-same : (body : Transition) → body.from ≡ body.to → filter (λ v. not (is_among (modified_variables true body) v)) (occurring true body) ≡ steady_columns body
 steady-same body same =
-    filters-same (λ v. not (is_among (modified true body) v)) (λ v. not (is_modified true body.cases v)) (occurring true body)
-    (each-more (λ v. v < body.to) (λ v. not (is_among (modified true body) v) ≡ not (is_modified true body.cases v)) (λ v low. ap not (among-passes (is_modified true body.cases) body.to v low)) (occurring true body)
+    filters-same (λ v. not (is_among (modified_variables true body) v)) (λ v. not (is_modified true body.cases v)) (occurring true body)
+    (each-more (λ v. v < body.to) (λ v. not (is_among (modified_variables true body) v) ≡ not (is_modified true body.cases v)) (λ v low. ap not (among-passes (is_modified true body.cases) body.to v low)) (occurring true body)
     (each-filter (λ v. v < body.to) (occurs_in (changes_of true body)) (range_with_len 0 body.from) (range-below body.to 0 body.from (let e = same in omega arith))))
 
-pub modified-below : (body : Transition) → AllByRecursion (λ v. v < body.to) (modified true body)
+pub modified-below : (body : Transition) → AllByRecursion (λ v. v < body.to) (modified_variables true body)
 modified-below body = each-filter (λ v. v < body.to) (is_modified true body.cases) (range_with_len 0 body.to) (range-below body.to 0 body.to (omega arith))

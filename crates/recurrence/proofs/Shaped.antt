@@ -10,7 +10,7 @@ use Rattle.linear_terms.specs.declared.error.TermError.{TermError}
 use Rattle.linear_terms.specs.declared.row.Kind.TheVariants.{AtMost, Equal}
 use Rattle.linear_terms.specs.declared.row.Row.{Row}
 use Rattle.linear_terms.specs.Expressions.{Made, ◌⊠◌, ◌⊟◌, whole, column, at_most, or_zero, when_made, when_all_made, put_into, linear}
-use Rattle.linear_terms.specs.Operations.{product_of_polys, difference_of_polys, substituted}
+use Rattle.linear_terms.specs.Operations.{product_of_polys, difference_of_polys, substituted_polynomial}
 use Rattle.linear_terms.specs.Polynomial.{Terms, Polynomial, IsCanonical, column_of}
 use Rattle.linear_terms.specs.TermError.{times}
 use Rattle.linear_terms.proofs.Canonical.{IsCanonical-nil, IsCanonical-cons, IsCanonical-column, IsCanonical-difference_of_polys, IsCanonical-product_of_polys, IsCanonical-substituted}
@@ -22,11 +22,11 @@ use Rattle.polyhedra.specs.Vocabulary.{Vocabulary}
 use Rattle.polyhedra.proofs.Shaped.{with_row-keeps, bounded-keeps, each-keeps}
 use Rattle.polyhedra.specs.Directions.{directions}
 use Rattle.polyhedra.specs.Changes.{poly_at, change, moving}
-use Rattle.polyhedra.specs.Bounds.{for_entries, put_in_for, with_row, before_row, after_row, change_row, bounded_before, bounded_after, bounded_change}
+use Rattle.polyhedra.specs.Bounds.{for_entries, put_in_for, with_row, before_row, after_row, change_row, rows_with_entry_bound, rows_with_exit_bound, bounded_change}
 use Rattle.recurrence.specs.declared.terms.Term.{Term}
 use Rattle.recurrence.specs.Strata.{strata}
 use Rattle.recurrence.specs.Progressions.{Progression, excess, progression_row, progressions, bounded_progression}
-use Rattle.recurrence.specs.Star.{after, count, moved, posts, moves, term_row, terms_once, some_turn, rows_of, turns}
+use Rattle.recurrence.specs.Star.{after, count, change_over_turns, posts, moves, term_row, terms_once, some_turn, rows_of, turns}
 
 -- ---- expressions
 
@@ -62,7 +62,7 @@ when_all-next values [] next p e = e
 when_all-next values (t ∷ ts) next p e = when_all-next values ts next p (when-next values t.0 (when_all_made values ts next) p e)
 
 pub canonical-put_into : (values : Col → Made) (d : Polynomial) → IsCanonicalIfMade (put_into values d)
-canonical-put_into values d = record { as_made = λ p e. IsCanonical-substituted (λ c. or_zero (values c)) d p (when_all-next values d.terms (substituted (λ c. or_zero (values c)) d) p e) }
+canonical-put_into values d = record { as_made = λ p e. IsCanonical-substituted (λ c. or_zero (values c)) d p (when_all-next values d.terms (substituted_polynomial (λ c. or_zero (values c)) d) p e) }
 
 pub canonical-put_in_for : (polys : List Polynomial) (d : Polynomial) → IsCanonicalIfMade (put_in_for polys d)
 canonical-put_in_for polys d = canonical-put_into (for_entries (λ v. Ok (poly_at polys v))) d
@@ -122,10 +122,10 @@ sum_row-canonical d s g most k =
     (canonical-difference (whole (pos 2) ⊠ Ok d ⊟ whole (pos 2) ⊠ column k ⊠ Ok s) (whole g ⊠ column k ⊠ (column k ⊟ whole (pos 1)))
     (canonical-difference (whole (pos 2) ⊠ Ok d) (whole (pos 2) ⊠ column k ⊠ Ok s) (canonical-product (whole (pos 2)) (Ok d)))))
 
-progression_row-canonical : (moved : ℕ → Made) (k : Col) (p : Progression) (most : ℤ) → IsCanonicalRow (progression_row moved k p most)
-progression_row-canonical moved k p most = record {
+progression_row-canonical : (change_over_turns : ℕ → Made) (k : Col) (p : Progression) (most : ℤ) → IsCanonicalRow (progression_row change_over_turns k p most)
+progression_row-canonical change_over_turns k p most = record {
   as_made = λ r e.
-      on_ok (whole p.up ⊠ moved p.variable) (λ d. times p.by p.term.relation.c >>= λ g. (whole p.by ⊠ Ok p.term.recurrence.start) >>= λ s. sum_row d s g most k) r e (λ d e1 f.
+      on_ok (whole p.up ⊠ change_over_turns p.variable) (λ d. times p.by p.term.relation.c >>= λ g. (whole p.by ⊠ Ok p.term.recurrence.start) >>= λ s. sum_row d s g most k) r e (λ d e1 f.
       on_ok (times p.by p.term.relation.c) (λ g. (whole p.by ⊠ Ok p.term.recurrence.start) >>= λ s. sum_row d s g most k) r f (λ g e2 h.
       on_ok (whole p.by ⊠ Ok p.term.recurrence.start) (λ s. sum_row d s g most k) r h (λ s e3 l. (sum_row-canonical d s g most k).as_made r l)));
 }
@@ -141,12 +141,12 @@ turns-canonical body voc canonical =
     always_bind RowsAreCanonical (λ case. RowsAreCanonical case.rows) (rows_of body voc s) _
     (always_bind RowsAreCanonical RowsAreCanonical (each (λ rows t. with_row rows (term_row body t)) [] (terms_once s)) _
     (each-keeps Canonical (λ t. Unit {0}) (λ rows t. with_row rows (term_row body t)) [] (terms_once s) (λ rows t k fine. with_row-keeps Canonical rows (term_row body t) (term_row-canonical body t).as_made fine) (each-any (λ t. Unit {0}) (λ t. tt) (terms_once s)) tt) (λ equations h1.
-    always_bind RowsAreCanonical RowsAreCanonical (each (bounded_before body.cases) (equations ++ some_turn body ∷ []) (directions voc)) _
-    (each-keeps Canonical (λ d. IsCanonical d.terms) (bounded_before body.cases) (equations ++ some_turn body ∷ []) (directions voc)
+    always_bind RowsAreCanonical RowsAreCanonical (each (rows_with_entry_bound body.cases) (equations ++ some_turn body ∷ []) (directions voc)) _
+    (each-keeps Canonical (λ d. IsCanonical d.terms) (rows_with_entry_bound body.cases) (equations ++ some_turn body ∷ []) (directions voc)
     (λ rows d k fine. bounded-keeps Canonical body.cases (λ case. Ok d) (before_row d) rows (λ most. (canonical-at_most (Ok d ⊟ whole most) (canonical-difference (Ok d) (whole most) (canonical-Ok d k))).as_made) fine)
     canonical (each-append (λ r. IsCanonical r.poly.terms) equations (some_turn body ∷ []) h1 (some_turn-canonical body, tt))) (λ before h2.
-    always_bind RowsAreCanonical RowsAreCanonical (each (bounded_after body.cases (posts body)) before (directions voc)) _
-    (each-keeps Canonical (λ d. Unit {0}) (bounded_after body.cases (posts body)) before (directions voc)
+    always_bind RowsAreCanonical RowsAreCanonical (each (rows_with_exit_bound body.cases (posts body)) before (directions voc)) _
+    (each-keeps Canonical (λ d. Unit {0}) (rows_with_exit_bound body.cases (posts body)) before (directions voc)
     (λ rows d k fine. bounded-keeps Canonical body.cases (λ case. put_in_for case.post d) (after_row (posts body) d) rows
     (λ most. (canonical-at_most (put_in_for (posts body) d ⊟ whole most) (canonical-difference (put_in_for (posts body) d) (whole most) (canonical-put_in_for (posts body) d))).as_made) fine)
     (each-any (λ d. Unit {0}) (λ d. tt) (directions voc)) h2) (λ after_too h3.
@@ -155,7 +155,7 @@ turns-canonical body voc canonical =
     (λ rows d k fine. bounded-keeps Canonical body.cases (λ case. put_into (for_entries (change true case)) d) (change_row (moves body) (Some (count body)) d) rows
     (λ most. (canonical-at_most (put_in_for (moves body) d ⊟ whole most ⊠ column (count body)) (canonical-difference (put_in_for (moves body) d) (whole most ⊠ column (count body)) (canonical-put_in_for (moves body) d))).as_made) fine)
     (each-any (λ d. Unit {0}) (λ d. tt) (directions voc ++ voc.extra)) h3) (λ changes h4.
-    each-keeps Canonical (λ p. Unit {0}) (bounded_progression body.cases (moved body) (count body)) changes (progressions body voc s)
-    (λ rows p k fine. bounded-keeps Canonical body.cases (excess p) (progression_row (moved body) (count body) p) rows (λ most. (progression_row-canonical (moved body) (count body) p most).as_made) fine)
+    each-keeps Canonical (λ p. Unit {0}) (bounded_progression body.cases (change_over_turns body) (count body)) changes (progressions body voc s)
+    (λ rows p k fine. bounded-keeps Canonical body.cases (excess p) (progression_row (change_over_turns body) (count body) p) rows (λ most. (progression_row-canonical (change_over_turns body) (count body) p most).as_made) fine)
     (each-any (λ p. Unit {0}) (λ p. tt) (progressions body voc s)) h4)))))
     (λ rows h. h))

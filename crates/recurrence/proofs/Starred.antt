@@ -17,7 +17,7 @@ use Rattle.linear_terms.specs.declared.row.Case.{Case}
 use Rattle.linear_terms.specs.Auxiliaries.{is_numbered}
 use Rattle.linear_terms.specs.Expressions.{Made, ◌⊟◌, column, or_zero}
 use Rattle.linear_terms.specs.Mono.{mono_cmp}
-use Rattle.linear_terms.specs.Operations.{kept, put, put_all}
+use Rattle.linear_terms.specs.Operations.{with_term, put, put_all}
 use Rattle.linear_terms.specs.Polynomial.{Polynomial, constant_of, column_of}
 use Rattle.linear_terms.specs.TermError.{plus}
 use Rattle.linear_terms.specs.Row.{RowHolds, RowsHold, AreCanonical}
@@ -32,9 +32,9 @@ use Rattle.posing.specs.Posing.{Posing, Done, Noted, Asked, ◌>>=◌, each, Alw
 use Rattle.posing.proofs.Paths.{always_bind, always_weaker, always_any}
 use Rattle.polyhedra.specs.Vocabulary.{Vocabulary, IsDirection}
 use Rattle.polyhedra.specs.Directions.{directions}
-use Rattle.polyhedra.specs.Changes.{poly_at, is_modified, modified}
-use Rattle.polyhedra.specs.Bounds.{with_row, bounded_before, bounded_after, bounded_change}
-use Rattle.polyhedra.specs.Finish.{finished}
+use Rattle.polyhedra.specs.Changes.{poly_at, is_modified, modified_variables}
+use Rattle.polyhedra.specs.Bounds.{with_row, rows_with_entry_bound, rows_with_exit_bound, bounded_change}
+use Rattle.polyhedra.specs.Finish.{finish_of_case}
 use Rattle.polyhedra.proofs.Lists.{same_number, unfound}
 use Rattle.polyhedra.proofs.Directed.{each-distinct}
 use Rattle.polyhedra.proofs.Settled.{KeepsLeft}
@@ -44,7 +44,7 @@ use Rattle.polyhedra.proofs.Bounded.{IsOver, each-true, with_row-true, before-tr
 use Rattle.recurrence.specs.declared.terms.Strata.{Strata}
 use Rattle.recurrence.specs.Strata.{strata, all_terms}
 use Rattle.recurrence.specs.Progressions.{open_variables, progressions, bounded_progression}
-use Rattle.recurrence.specs.Star.{after_from, after, count, moved, posts, moves, term_row, same_term, terms_once, some_turn, rows_of, turns, star_by, star_of}
+use Rattle.recurrence.specs.Star.{after_from, after, count, change_over_turns, posts, moves, term_row, same_term, terms_once, some_turn, rows_of, turns, star_by, star_of}
 use Rattle.recurrence.proofs.Stratified.{IsTermAlong, IsFirstTerm, AreStrata, strata-along, all-along, IsAfter, term_row-true}
 use Rattle.recurrence.proofs.Progressed.{progression-true, each-progression}
 use Rattle.items.proofs.Each.{each-any}
@@ -123,7 +123,7 @@ mapped-past f n v past = ap (λ o. unwrap_or o (constant_of (pos 0))) (slice_get
 -- the difference of two columns, by their order
 abbrev by_order : Col → Col → Ordering → Made
 by_order c d o =
-    gives.◌>>=◌ (gives.◌>>=◌ (match_ordering o (Ok (kept (d ∷ []) (negsuc 0) ((c ∷ [], pos 1) ∷ []))) (gives.◌>>=◌ (plus (pos 1) (negsuc 0)) (λ n. Ok (kept (c ∷ []) n [])))
+    gives.◌>>=◌ (gives.◌>>=◌ (match_ordering o (Ok (with_term (d ∷ []) (negsuc 0) ((c ∷ [], pos 1) ∷ []))) (gives.◌>>=◌ (plus (pos 1) (negsuc 0)) (λ n. Ok (with_term (c ∷ []) n [])))
     (gives.◌>>=◌ (put (d ∷ []) (negsuc 0) []) (λ made. Ok ((c ∷ [], pos 1) ∷ made)))) (λ made. put_all made []))
     (λ ts. gives.◌>>=◌ (plus (pos 0) (pos 0)) (λ r. Ok record { terms = ts; rest = r }))
 
@@ -150,7 +150,7 @@ module _ (body : Transition) (steps : ℕ) (states : ℕ → List ℤ) (run : Is
     pub last : length (states steps) ≡ body.to
 
   auxiliaries : ℕ → ℤ
-  auxiliaries = held (number_in (states steps)) (modified true body) (pos steps)
+  auxiliaries = held (number_in (states steps)) (modified_variables true body) (pos steps)
 
   over_run : Valuation
   over_run = numbers (states 0) auxiliaries
@@ -159,15 +159,15 @@ module _ (body : Transition) (steps : ℕ) (states : ℕ → List ℤ) (run : Is
   unfolding over_run auxiliaries
   is_after ends = record {
     starts = record { each = λ v. refl };
-    ends = λ v. after_from-value (number_in (states steps)) (pos steps) over_run v 0 (modified true body) (λ i. ap auxiliaries (none i)) (λ unmodified. stays v unmodified (nat_lt v body.to) refl);
-    turns = held-count (number_in (states steps)) (modified true body) (pos steps);
+    ends = λ v. after_from-value (number_in (states steps)) (pos steps) over_run v 0 (modified_variables true body) (λ i. ap auxiliaries (none i)) (λ unmodified. stays v unmodified (nat_lt v body.to) refl);
+    turns = held-count (number_in (states steps)) (modified_variables true body) (pos steps);
     some = ends.some;
   }
     where
       none : (i : ℕ) → 0 + i ≡ i
       none i = omega arith
 
-      stays : (v : ℕ) → list_any (λ u. u == v) (modified true body) ≡ false → (b : Bool) → nat_lt v body.to ≡ b → number_in (states 0) v ≡ number_in (states steps) v
+      stays : (v : ℕ) → list_any (λ u. u == v) (modified_variables true body) ≡ false → (b : Bool) → nat_lt v body.to ≡ b → number_in (states 0) v ≡ number_in (states steps) v
       stays v other true e = sym (unmodified-along body steps states run v (unfound (is_modified true body.cases) v 0 body.to other (omega arith) (grind arith)) steps (omega arith))
       stays v other false e =
           let past : body.to ≤ v = grind arith in
@@ -197,7 +197,7 @@ module _ (body : Transition) (steps : ℕ) (states : ℕ → List ℤ) (run : Is
           let past : body.to ≤ v = grind arith in
           ap (value_of over_run) (mapped-past (λ k. column_of (after body k)) body.to v past) ∙ at_zero ∙ sym (last_past v past)
 
-      moved-value : (v : ℕ) → value_of over_run (or_zero (moved body v)) ≡ number_in (states steps) v -ℤ number_in (states 0) v
+      moved-value : (v : ℕ) → value_of over_run (or_zero (change_over_turns body v)) ≡ number_in (states steps) v -ℤ number_in (states 0) v
       moved-value v =
           let made = columns-made (after body v) (At v) in
           ap (λ m. value_of over_run (or_zero m)) made.1
@@ -207,15 +207,15 @@ module _ (body : Transition) (steps : ℕ) (states : ℕ → List ℤ) (run : Is
       none x y e f = omega (arith, ints)
 
       changed : (v : ℕ) (b : Bool) → nat_lt v body.to ≡ b → value_of over_run (poly_at (moves body) v) ≡ number_in (states steps) v -ℤ number_in (states 0) v
-      changed v true e = ap (value_of over_run) (mapped-first (λ k. or_zero (moved body k)) body.to v (grind arith)) ∙ moved-value v
+      changed v true e = ap (value_of over_run) (mapped-first (λ k. or_zero (change_over_turns body k)) body.to v (grind arith)) ∙ moved-value v
       changed v false e =
           let past : body.to ≤ v = grind arith in
-          ap (value_of over_run) (mapped-past (λ k. or_zero (moved body k)) body.to v past) ∙ at_zero ∙ none (number_in (states steps) v) (number_in (states 0) v) (last_past v past) (first_past v past)
+          ap (value_of over_run) (mapped-past (λ k. or_zero (change_over_turns body k)) body.to v past) ∙ at_zero ∙ none (number_in (states steps) v) (number_in (states 0) v) (last_past v past) (first_past v past)
 
   module _ (voc : Vocabulary) (straight : AllByRecursion IsDirection (directions voc)) (more_straight : AllByRecursion IsDirection voc.extra) (ends : HasEnds) where
     some_turn-true : RowHolds over_run (some_turn body)
     unfolding over_run auxiliaries
-    some_turn-true = low (over_run (count body)) (pos steps) (held-count (number_in (states steps)) (modified true body) (pos steps)) (at_least steps ends.some)
+    some_turn-true = low (over_run (count body)) (pos steps) (held-count (number_in (states steps)) (modified_variables true body) (pos steps)) (at_least steps ends.some)
       where
         at_least : (n : ℕ) → 0 < n → pos 1 ≤ℤ pos n
         at_least n e = omega (arith, ints)
@@ -231,17 +231,17 @@ module _ (body : Transition) (steps : ℕ) (states : ℕ → List ℤ) (run : Is
         (each-true (IsTermAlong body steps states run 3) over_run (λ rows t. with_row rows (term_row body t)) [] (terms_once s)
         (λ rows t h hold. with_row-true over_run rows (term_row body t) (term_row-true body steps states run over_run (is_after ends) t h) hold)
         (each-distinct (IsTermAlong body steps states run 3) same_term (all_terms s) (all-along body steps states run s are)) tt) (λ equations h1.
-        always_bind (RowsHold over_run) (RowsHold over_run) (each (bounded_before body.cases) (equations ++ some_turn body ∷ []) (directions voc)) _
-        (each-true IsDirection over_run (bounded_before body.cases) (equations ++ some_turn body ∷ []) (directions voc)
+        always_bind (RowsHold over_run) (RowsHold over_run) (each (rows_with_entry_bound body.cases) (equations ++ some_turn body ∷ []) (directions voc)) _
+        (each-true IsDirection over_run (rows_with_entry_bound body.cases) (equations ++ some_turn body ∷ []) (directions voc)
         (λ rows d direction. before-true body steps states run over_run (posts body) (moves body) (Some (count body)) over rows d direction) straight
         (each-append (RowHolds over_run) equations (some_turn body ∷ []) h1 (some_turn-true, tt))) (λ before h2.
-        always_bind (RowsHold over_run) (RowsHold over_run) (each (bounded_after body.cases (posts body)) before (directions voc)) _
-        (each-true IsDirection over_run (bounded_after body.cases (posts body)) before (directions voc)
+        always_bind (RowsHold over_run) (RowsHold over_run) (each (rows_with_exit_bound body.cases (posts body)) before (directions voc)) _
+        (each-true IsDirection over_run (rows_with_exit_bound body.cases (posts body)) before (directions voc)
         (λ rows d direction. after-true body steps states run over_run (posts body) (moves body) (Some (count body)) over rows d) straight h2) (λ after_too h3.
         always_bind (RowsHold over_run) (RowsHold over_run) (each (bounded_change body.cases (moves body) (Some (count body))) after_too (directions voc ++ voc.extra)) _
         (each-true IsDirection over_run (bounded_change body.cases (moves body) (Some (count body))) after_too (directions voc ++ voc.extra)
         (λ rows d direction. change-true body steps states run over_run (posts body) (moves body) (Some (count body)) over rows d direction) (each-append IsDirection (directions voc) voc.extra straight more_straight) h3) (λ changes h4.
-        each-true (λ p. Unit {0} × IsFirstTerm body steps states run p.term) over_run (bounded_progression body.cases (moved body) (count body)) changes (progressions body voc s)
+        each-true (λ p. Unit {0} × IsFirstTerm body steps states run p.term) over_run (bounded_progression body.cases (change_over_turns body) (count body)) changes (progressions body voc s)
         (λ rows p h. progression-true body steps states run over_run (is_after ends) rows p h.1)
         (each-progression body voc s (IsFirstTerm body steps states run) (λ v. Unit {0}) are.first (each-any (λ v. Unit {0}) (λ v. tt) (open_variables body voc s))) h4))))
 
@@ -308,10 +308,10 @@ module _ (body : Transition) (voc : Vocabulary)
       go : (cases : List Case) → HoldsSome cases (states 0) (states (0 + 1)) → Always (λ g. Holds g (states 0) (states steps)) (star_by body voc cases)
       go [] none = absurd none
       go (case ∷ cases) some =
-          always_bind (λ left. HoldsLeft left (states 0) (states steps)) (λ g. Holds g (states 0) (states steps)) (turns body voc >>= finished) _
-          (always_bind (λ c. HoldsCase c (states 0) (states steps) × IsReady c) (λ left. HoldsLeft left (states 0) (states steps)) (turns body voc) finished
+          always_bind (λ left. HoldsLeft left (states 0) (states steps)) (λ g. Holds g (states 0) (states steps)) (turns body voc >>= finish_of_case) _
+          (always_bind (λ c. HoldsCase c (states 0) (states steps) × IsReady c) (λ left. HoldsLeft left (states 0) (states steps)) (turns body voc) finish_of_case
           (always_both (λ c. HoldsCase c (states 0) (states steps)) IsReady (turns body voc) (turns-hold body steps states run voc straight more_straight ends) ready)
-          (λ c both. always_weaker (KeepsLeft c) (λ left. HoldsLeft left (states 0) (states steps)) (finished c) (λ left keeps. keeps (states 0) (states steps) both.0) (finished-covers c both.1.canonical both.1.numbered)))
+          (λ c both. always_weaker (KeepsLeft c) (λ left. HoldsLeft left (states 0) (states steps)) (finish_of_case c) (λ left keeps. keeps (states 0) (states steps) both.0) (finished-covers c both.1.canonical both.1.numbered)))
           (λ left h. joined-right (identity_of body.from) record { from = body.from; to = body.to; cases = option_to_list left } (states 0) (states steps) refl
           (record { enters = ends.first ∙ sym same_ends; some = of_left left (states 0) (states steps) h }))
 
@@ -323,7 +323,7 @@ module _ (body : Transition) (voc : Vocabulary)
       go : (cases : List Case) → Always (λ g. Holds g state state) (star_by body voc cases)
       go [] = identity-holds body.from state state refl long
       go (case ∷ cases) =
-          always_bind (λ left. Unit {0}) (λ g. Holds g state state) (turns body voc >>= finished) _ (always_any (λ left. Unit {0}) (turns body voc >>= finished) (λ left. tt))
+          always_bind (λ left. Unit {0}) (λ g. Holds g state state) (turns body voc >>= finish_of_case) _ (always_any (λ left. Unit {0}) (turns body voc >>= finish_of_case) (λ left. tt))
           (λ left any. joined-left (identity_of body.from) record { from = body.from; to = body.to; cases = option_to_list left } state state (identity-holds body.from state state refl long))
 
   chain-holds : (first : List ℤ) (more : List (List ℤ)) → length first ≡ body.from → IsChain body first more → Always (λ g. Holds g first (last_of first more)) (star_of body voc)

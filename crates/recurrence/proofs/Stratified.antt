@@ -21,7 +21,7 @@ use Rattle.linear_terms.specs.Expressions.{or_zero, linear}
 use Rattle.farkas_check.specs.declared.stratum.Change.{Change}
 use Rattle.farkas_check.specs.declared.stratum.Relation.{Relation}
 use Rattle.farkas_check.specs.Relations.{term_count}
-use Rattle.polyhedra.specs.Changes.{change, is_modified, modified, moving, changes_in, changes_of, occurring}
+use Rattle.polyhedra.specs.Changes.{change, is_modified, modified_variables, moving, changes_in, changes_of, occurring}
 use Rattle.polyhedra.specs.Relations.{relations_of}
 use Rattle.polyhedra.proofs.Lists.{each-filter, filter-passes}
 use Rattle.polyhedra.proofs.Related.{IsTrueRelation, AreTrueRelations, relations-true}
@@ -134,10 +134,10 @@ module _ (body : Transition) (steps : ℕ) (states : ℕ → List ℤ) (run : Is
   unfolding strata
   strata-along =
       always_bind (OfSome IsFirstTerm) AreStrata (stratum body []) _ first-along (λ v1 h1.
-      always_bind (OfSome (IsTermAlong 2)) AreStrata (stratum_if (is_short (length (modified true body)) v1) body (over body v1)) _
-      (next-along 1 (over body v1) (over-along 1 (omega arith) v1 (firsts v1 h1)) (is_short (length (modified true body)) v1)) (λ v2 h2.
-      always_bind (OfSome (IsTermAlong 3)) AreStrata (stratum_if (has_grown v1 v2 && is_short (length (modified true body)) v2) body (over body v2)) _
-      (next-along 2 (over body v2) (over-along 2 (omega arith) v2 h2) (has_grown v1 v2 && is_short (length (modified true body)) v2)) (λ v3 h3.
+      always_bind (OfSome (IsTermAlong 2)) AreStrata (stratum_if (is_short (length (modified_variables true body)) v1) body (over body v1)) _
+      (next-along 1 (over body v1) (over-along 1 (omega arith) v1 (firsts v1 h1)) (is_short (length (modified_variables true body)) v1)) (λ v2 h2.
+      always_bind (OfSome (IsTermAlong 3)) AreStrata (stratum_if (has_grown v1 v2 && is_short (length (modified_variables true body)) v2) body (over body v2)) _
+      (next-along 2 (over body v2) (over-along 2 (omega arith) v2 h2) (has_grown v1 v2 && is_short (length (modified_variables true body)) v2)) (λ v3 h3.
       record { first = of_unwrapped IsFirstTerm v1 h1; second = of_unwrapped (IsTermAlong 2) v2 h2; third = of_unwrapped (IsTermAlong 3) v3 h3 })))
 
   pub all-along : (s : Strata) → AreStrata s → AllByRecursion (IsTermAlong 3) (all_terms s)

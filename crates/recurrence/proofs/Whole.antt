@@ -9,8 +9,8 @@ use Rattle.linear_terms.specs.declared.row.Row.{Row}
 use Rattle.linear_terms.specs.declared.row.Case.{Case}
 use Rattle.linear_terms.specs.Polynomial.{Polynomial, IsCanonical, column_of}
 use Rattle.linear_terms.proofs.Columns.{EachColumn}
-use Rattle.transition_formula.specs.Composition.{identity_of, joined}
-use Rattle.transition_formula.specs.Rounds.{in_order, solved, Stays}
+use Rattle.transition_formula.specs.Composition.{identity_of, union_of}
+use Rattle.transition_formula.specs.Rounds.{in_order, solved_answer, Stays}
 use Rattle.transition_formula.specs.Transition.{Transition, IsTransition, IsSolvable, is_below, fits}
 use Rattle.transition_formula.proofs.Covered.{both, both_true}
 use Rattle.transition_formula.proofs.Fitting.{identity-fits}
@@ -18,9 +18,9 @@ use Rattle.posing.specs.Posing.{Always, ◌>>=◌}
 use Rattle.posing.proofs.Paths.{always_weaker, always_any, always_bind}
 use Rattle.polyhedra.specs.Vocabulary.{Vocabulary, IsDirection, IsDirectionOver}
 use Rattle.polyhedra.specs.Directions.{directions}
-use Rattle.polyhedra.specs.Finish.{finished}
+use Rattle.polyhedra.specs.Finish.{finish_of_case}
 use Rattle.polyhedra.proofs.Directed.{directions-over}
-use Rattle.polyhedra.specs.Changes.{modified}
+use Rattle.polyhedra.specs.Changes.{modified_variables}
 use Rattle.polyhedra.proofs.Owned.{in_order-few}
 use Rattle.polyhedra.proofs.Finished.{FinishedLeft, finished-fits}
 use Rattle.polyhedra.proofs.Covering.{modified-few}
@@ -46,11 +46,11 @@ module _ (body : Transition) (voc : Vocabulary) (starred : IsStarred body voc) w
       (turns-canonical body voc (each-more (IsDirectionOver voc.columns) (λ d. IsCanonical d.terms) (λ d k. k.canonical) (directions voc) (directions-over voc starred.vocabulary))))
 
   -- one auxiliary more than modified variables
-  turns-aux : Always (λ (case : Case). case.aux ≡ length (modified true body) + 1) (turns body voc)
+  turns-aux : Always (λ (case : Case). case.aux ≡ length (modified_variables true body) + 1) (turns body voc)
   unfolding turns ◌>>=◌
   turns-aux =
-      always_bind (λ s. Unit {0}) (λ (case : Case). case.aux ≡ length (modified true body) + 1) (strata body) _ (always_any (λ s. Unit {0}) (strata body) (λ s. tt)) (λ s any.
-      always_bind (λ rows. Unit {0}) (λ (case : Case). case.aux ≡ length (modified true body) + 1) (rows_of body voc s) _ (always_any (λ rows. Unit {0}) (rows_of body voc s) (λ rows. tt)) (λ rows all. refl))
+      always_bind (λ s. Unit {0}) (λ (case : Case). case.aux ≡ length (modified_variables true body) + 1) (strata body) _ (always_any (λ s. Unit {0}) (strata body) (λ s. tt)) (λ s any.
+      always_bind (λ rows. Unit {0}) (λ (case : Case). case.aux ≡ length (modified_variables true body) + 1) (rows_of body voc s) _ (always_any (λ rows. Unit {0}) (rows_of body voc s) (λ rows. tt)) (λ rows all. refl))
 
   pub record IsPut (case : Case) : Type 0 where
     pub fit : IsFit body case
@@ -59,10 +59,10 @@ module _ (body : Transition) (voc : Vocabulary) (starred : IsStarred body voc) w
   -- the second case fits, and can be put in order
   pub turns-put : Always IsPut (turns body voc)
   turns-put =
-      always_weaker (λ (case : Case). IsFit body case × (case.aux ≡ length (modified true body) + 1)) IsPut (turns body voc) (λ case made. record { fit = made.0; solvable = solvable case made.0 made.1 })
-      (always_both (IsFit body) (λ (case : Case). case.aux ≡ length (modified true body) + 1) (turns body voc) turns-are-fit turns-aux)
+      always_weaker (λ (case : Case). IsFit body case × (case.aux ≡ length (modified_variables true body) + 1)) IsPut (turns body voc) (λ case made. record { fit = made.0; solvable = solvable case made.0 made.1 })
+      (always_both (IsFit body) (λ (case : Case). case.aux ≡ length (modified_variables true body) + 1) (turns body voc) turns-are-fit turns-aux)
     where
-      solvable : (case : Case) → IsFit body case → case.aux ≡ length (modified true body) + 1 → IsSolvable case
+      solvable : (case : Case) → IsFit body case → case.aux ≡ length (modified_variables true body) + 1 → IsSolvable case
       solvable case fit few = record {
         numbered = fit.numbered;
         few = let long = fit.posts_are in let short = modified-few true body in let small = starred.few in omega arith;
@@ -82,10 +82,10 @@ pub left-fits : (n : ℕ) (o : Option Case) → SmallLeft n o → IsTransition n
 left-fits n None h = refl
 left-fits n (Some case) h = both_true (fits n n case) true h.fit refl
 
-pub finished-small : (body : Transition) (case : Case) → IsFit body case → Always (SmallLeft body.to) (finished case)
+pub finished-small : (body : Transition) (case : Case) → IsFit body case → Always (SmallLeft body.to) (finish_of_case case)
 finished-small body case is =
     finished-fits body.to body.to (body.to + 1) case is.fits
-    (subst (λ m. Stays (λ left. left.aux ≤ m) (solved (in_order case).left)) (next (length case.post) body.to is.posts_are) (in_order-few (length (modified true body) ∷ []) case is.owned))
+    (subst (λ m. Stays (λ left. left.aux ≤ m) (solved_answer (in_order case).left)) (next (length case.post) body.to is.posts_are) (in_order-few (length (modified_variables true body) ∷ []) case is.owned))
   where
     next : (m n : ℕ) → m ≡ n → 1 + m ≡ n + 1
     next m n e = omega arith
@@ -97,7 +97,7 @@ star-fits body voc starred = go body.cases
     same_here : IsTransition body.to body.to (identity_of body.from).cases
     same_here = subst (λ m. IsTransition m m (identity_of body.from).cases) starred.same_ends (identity-fits body.from)
 
-    with_left : (o : Option Case) → SmallLeft body.to o → IsStar body.to (joined (identity_of body.from) record { from = body.from; to = body.to; cases = option_to_list o })
+    with_left : (o : Option Case) → SmallLeft body.to o → IsStar body.to (union_of (identity_of body.from) record { from = body.from; to = body.to; cases = option_to_list o })
     with_left None h = record { fits = same_here; two = omega arith; rows = (omega arith, tt); auxiliaries = (omega arith, tt) }
     with_left (Some case) h = record {
       fits = let parts = both (fits body.to body.to record { aux = 0; rows = []; post = map (λ n. column_of (At n)) (range_with_len 0 body.from) }) true same_here in
@@ -110,5 +110,5 @@ star-fits body voc starred = go body.cases
     go : (cases : List Case) → Always (IsStar body.to) (star_by body voc cases)
     go [] = record { fits = same_here; two = omega arith; rows = (omega arith, tt); auxiliaries = (omega arith, tt) }
     go (case ∷ cases) =
-        always_bind (SmallLeft body.to) (IsStar body.to) (turns body voc >>= finished) _
-        (always_bind (IsFit body) (SmallLeft body.to) (turns body voc) finished (turns-are-fit body voc starred) (λ c k. finished-small body c k)) with_left
+        always_bind (SmallLeft body.to) (IsStar body.to) (turns body voc >>= finish_of_case) _
+        (always_bind (IsFit body) (SmallLeft body.to) (turns body voc) finish_of_case (turns-are-fit body voc starred) (λ c k. finished-small body c k)) with_left

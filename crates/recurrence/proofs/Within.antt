@@ -11,8 +11,8 @@ use Rattle.linear_terms.specs.declared.col.Col.TheVariants.{At, Aux}
 use Rattle.linear_terms.specs.declared.error.TermError.{TermError}
 use Rattle.linear_terms.specs.declared.row.Kind.TheVariants.{AtMost, Equal}
 use Rattle.linear_terms.specs.declared.row.Row.{Row}
-use Rattle.linear_terms.specs.Expressions.{Made, ◌⊠◌, ◌⊞◌, ◌⊟◌, whole, column, turned, at_most, or_zero, all_of, coefficients, sum_from, combination, when_made, when_all_made, put_into}
-use Rattle.linear_terms.specs.Operations.{sum_of_polys, multiple_of, difference_of_polys, product_of_polys, substituted}
+use Rattle.linear_terms.specs.Expressions.{Made, ◌⊠◌, ◌⊞◌, ◌⊟◌, whole, column, negative_of, at_most, or_zero, all_of, coefficients, sum_from, combination, when_made, when_all_made, put_into}
+use Rattle.linear_terms.specs.Operations.{sum_of_polys, multiple_of, difference_of_polys, product_of_polys, substituted_polynomial}
 use Rattle.linear_terms.specs.Polynomial.{Terms, Polynomial, constant_of, column_of}
 use Rattle.linear_terms.proofs.Columns.{EachColumn, sum_of_polys-each, multiple_of-each, product_of_polys-each, substituted-each}
 use Rattle.closed_form.specs.ClosedRow.{closed_poly, closed_row, sum_row}
@@ -37,7 +37,7 @@ module _ (P : Col → Type 0) where
   pub within-column : (c : Col) → P c → IsWithin (column c)
   within-column c h = within-Ok (column_of c) ((h, tt), tt)
 
-  pub within-turned : (m : Made) → IsWithin m → IsWithin (turned m)
+  pub within-turned : (m : Made) → IsWithin m → IsWithin (negative_of m)
   within-turned m h = record { as_made = λ p e. on_ok m (λ a. multiple_of a (negsuc 0)) p e (λ a f g. multiple_of-each P a (negsuc 0) p g (h.as_made a f)) }
 
   pub within-product : (a b : Made) → IsWithin a → IsWithin b → IsWithin (a ⊠ b)
@@ -59,7 +59,7 @@ module _ (P : Col → Type 0) where
     as_made = λ r e.
         on_ok a (λ p. b >>= λ q. difference_of_polys p q) r e (λ p f g.
         on_ok b (λ q. difference_of_polys p q) r g (λ q h l.
-        on_ok (multiple_of q (negsuc 0)) (λ turned. sum_of_polys p turned) r l (λ t m n. sum_of_polys-each P p t r n (of_a.as_made p f) (multiple_of-each P q (negsuc 0) t m (of_b.as_made q h)))));
+        on_ok (multiple_of q (negsuc 0)) (λ negative_of. sum_of_polys p negative_of) r l (λ t m n. sum_of_polys-each P p t r n (of_a.as_made p f) (multiple_of-each P q (negsuc 0) t m (of_b.as_made q h)))));
   }
 
   pub within-or_zero : (m : Made) → IsWithin m → EachColumn P (or_zero m).terms
@@ -76,7 +76,7 @@ module _ (P : Col → Type 0) where
 
   pub within-put_into : (Q : Col → Type 0) (values : Col → Made) (d : Polynomial) → ((c : Col) → Q c → IsWithin (values c)) → EachColumn Q d.terms → IsWithin (put_into values d)
   within-put_into Q values d fine h = record {
-    as_made = λ p e. substituted-each Q P (λ c. or_zero (values c)) (λ c q. within-or_zero (values c) (fine c q)) d p (when_all-next values d.terms (substituted (λ c. or_zero (values c)) d) p e) h;
+    as_made = λ p e. substituted-each Q P (λ c. or_zero (values c)) (λ c q. within-or_zero (values c) (fine c q)) d p (when_all-next values d.terms (substituted_polynomial (λ c. or_zero (values c)) d) p e) h;
   }
 
   -- polynomials put in for the columns of a direction

@@ -14,8 +14,8 @@ use Rattle.transition_formula.specs.Transition.{Transition}
 use Rattle.posing.specs.Posing.{Posing}
 use Rattle.closed_form.specs.ClosedRow.{sum_row}
 use Rattle.polyhedra.specs.Vocabulary.{Vocabulary}
-use Rattle.polyhedra.specs.Changes.{change, modified, moving}
-use Rattle.polyhedra.specs.Bounds.{bounded}
+use Rattle.polyhedra.specs.Changes.{change, modified_variables, moving}
+use Rattle.polyhedra.specs.Bounds.{rows_with_bound}
 use Rattle.recurrence.specs.declared.terms.Term.{Term}
 use Rattle.recurrence.specs.declared.terms.Strata.{Strata}
 use Rattle.recurrence.specs.Strata.{all_terms}
@@ -46,7 +46,7 @@ is_term moving terms v = list_any (λ (t : Term). is_alone moving t.relation.a v
 abbrev pub open_variables : Transition → Vocabulary → Strata → List ℕ
 open_variables body voc strata =
     filter (λ v. list_any (λ u. u == v) voc.named
-    && not (is_term (moving true body) (all_terms strata) v)) (modified true body)
+    && not (is_term (moving true body) (all_terms strata) v)) (modified_variables true body)
 
 -- of one variable: by sign, term of the first stratum, and sign
 abbrev pub progressions_of : List Term → ℕ → List Progression
@@ -77,4 +77,4 @@ progression_row moved count p most =
 abbrev pub bounded_progression : List Case → (ℕ → Made) → Col → List Row → Progression
     → Posing (List Row)
 bounded_progression cases moved count rows p =
-    bounded cases (excess p) (progression_row moved count p) rows
+    rows_with_bound cases (excess p) (progression_row moved count p) rows

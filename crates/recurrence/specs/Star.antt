@@ -12,15 +12,15 @@ use Rattle.linear_terms.specs.declared.row.Row.{Row}
 use Rattle.linear_terms.specs.declared.row.Case.{Case}
 use Rattle.linear_terms.specs.Expressions.{Made, ◌⊟◌, column, linear, or_zero}
 use Rattle.linear_terms.specs.Polynomial.{Polynomial, column_of}
-use Rattle.transition_formula.specs.Composition.{identity_of, joined}
+use Rattle.transition_formula.specs.Composition.{identity_of, union_of}
 use Rattle.transition_formula.specs.Transition.{Transition}
 use Rattle.posing.specs.Posing.{Posing, Done, Noted, ◌>>=◌, each}
 use Rattle.closed_form.specs.ClosedRow.{closed_row}
 use Rattle.polyhedra.specs.Vocabulary.{Vocabulary}
 use Rattle.polyhedra.specs.Directions.{distinct, directions}
-use Rattle.polyhedra.specs.Changes.{modified, moving, lost_changes}
-use Rattle.polyhedra.specs.Bounds.{with_row, bounded_before, bounded_after, bounded_change}
-use Rattle.polyhedra.specs.Finish.{finished}
+use Rattle.polyhedra.specs.Changes.{modified_variables, moving, lost_changes}
+use Rattle.polyhedra.specs.Bounds.{with_row, rows_with_entry_bound, rows_with_exit_bound, bounded_change}
+use Rattle.polyhedra.specs.Finish.{finish_of_case}
 use Rattle.recurrence.specs.declared.terms.Term.{Term}
 use Rattle.recurrence.specs.declared.terms.Strata.{Strata}
 use Rattle.recurrence.specs.Strata.{strata, all_terms}
@@ -35,21 +35,21 @@ after_from n [] v = At v
 after_from n (u ∷ us) v = if u == v then Aux n else after_from (n + 1) us v
 
 abbrev pub after : Transition → ℕ → Col
-after body v = after_from 0 (modified true body) v
+after body v = after_from 0 (modified_variables true body) v
 
 -- the column for the number of turns
 abbrev pub count : Transition → Col
-count body = Aux (length (modified true body))
+count body = Aux (length (modified_variables true body))
 
 -- a variable's change over the turns
-abbrev pub moved : Transition → ℕ → Made
-moved body v = column (after body v) ⊟ column (At v)
+abbrev pub change_over_turns : Transition → ℕ → Made
+change_over_turns body v = column (after body v) ⊟ column (At v)
 
 abbrev pub posts : Transition → List Polynomial
 posts body = map (λ v. column_of (after body v)) (range_with_len 0 body.to)
 
 abbrev pub moves : Transition → List Polynomial
-moves body = map (λ v. or_zero (moved body v)) (range_with_len 0 body.to)
+moves body = map (λ v. or_zero (change_over_turns body v)) (range_with_len 0 body.to)
 
 -- ---- rows of the second case
 
@@ -80,12 +80,12 @@ some_turn body = record {
 unfoldable pub rows_of : Transition → Vocabulary → Strata → Posing (List Row)
 rows_of body voc strata =
     each (λ rows t. with_row rows (term_row body t)) [] (terms_once strata) >>= λ equations.
-    each (bounded_before body.cases) (equations ++ some_turn body ∷ []) (directions voc)
+    each (rows_with_entry_bound body.cases) (equations ++ some_turn body ∷ []) (directions voc)
     >>= λ before.
-    each (bounded_after body.cases (posts body)) before (directions voc) >>= λ both.
+    each (rows_with_exit_bound body.cases (posts body)) before (directions voc) >>= λ both.
     each (bounded_change body.cases (moves body) (Some (count body))) both
     (directions voc ++ voc.extra) >>= λ changes.
-    each (bounded_progression body.cases (moved body) (count body)) changes
+    each (bounded_progression body.cases (change_over_turns body) (count body)) changes
     (progressions body voc strata)
 
 -- the second case as it is put together; changes that are lost are noted before the first question
@@ -93,15 +93,15 @@ unfoldable pub turns : Transition → Vocabulary → Posing Case
 turns body voc =
     Noted (lost_changes true body) (strata body) >>= λ strata.
     rows_of body voc strata >>= λ rows.
-    Done record { aux = length (modified true body) + 1; rows = rows; post = posts body }
+    Done record { aux = length (modified_variables true body) + 1; rows = rows; post = posts body }
 
 -- ---- star
 
 abbrev pub star_by : Transition → Vocabulary → List Case → Posing Transition
 star_by body voc [] = Done (identity_of body.from)
 star_by body voc (case ∷ cases) =
-    turns body voc >>= finished >>= λ left.
-    Done (joined (identity_of body.from) record {
+    turns body voc >>= finish_of_case >>= λ left.
+    Done (union_of (identity_of body.from) record {
       from = body.from;
       to = body.to;
       cases = option_to_list left;

@@ -12,18 +12,18 @@ use Rattle.linear_terms.specs.Polynomial.{column_of}
 use Rattle.transition_formula.specs.Transition.{Transition}
 use Rattle.farkas_check.specs.declared.stratum.Relation.{Relation}
 use Rattle.posing.specs.Posing.{Posing, Done, ◌>>=◌}
-use Rattle.polyhedra.specs.Changes.{is_modified, modified, moving, changes_of, occurring}
+use Rattle.polyhedra.specs.Changes.{is_modified, modified_variables, moving, changes_of, occurring}
 use Rattle.polyhedra.specs.Relations.{relations_of}
 use Rattle.recurrence.specs.declared.terms.Recurrence.{Recurrence}
 use Rattle.recurrence.specs.declared.terms.Term.{Term}
 use Rattle.recurrence.specs.declared.terms.Strata.{Strata}
-use Rattle.recurrence.specs.declared.terms.Part.{Part}
-use Rattle.recurrence.specs.declared.terms.Part.TheVariants.{Start, First, Second}
+use Rattle.recurrence.specs.declared.terms.RecurrencePart.{RecurrencePart}
+use Rattle.recurrence.specs.declared.terms.RecurrencePart.TheVariants.{Start, First, Second}
 
 -- ---- difference equations
 
 -- the number of a sequence, or its first or second difference, where the turns start
-abbrev pub part : Part → Recurrence → Made
+abbrev pub part : RecurrencePart → Recurrence → Made
 part Start r = Ok r.start
 part First r = r.first
 part Second r = r.second
@@ -90,8 +90,8 @@ has_grown first second = nat_lt (length (unwrap_or first [])) (length (unwrap_or
 unfoldable pub strata : Transition → Posing Strata
 strata body =
     stratum body [] >>= λ v1.
-    stratum_if (is_short (length (modified true body)) v1) body (over body v1) >>= λ v2.
-    stratum_if (has_grown v1 v2 && is_short (length (modified true body)) v2) body (over body v2)
+    stratum_if (is_short (length (modified_variables true body)) v1) body (over body v1) >>= λ v2.
+    stratum_if (has_grown v1 v2 && is_short (length (modified_variables true body)) v2) body (over body v2)
     >>= λ v3.
     Done record { first = unwrap_or v1 []; second = unwrap_or v2 []; third = unwrap_or v3 [] }
 

@@ -7,7 +7,7 @@ use Rattle.linear_terms.specs.Mono.{mono_cmp}
 use Rattle.linear_terms.specs.Polynomial.{Polynomial}
 use Rattle.transition_formula.specs.Transition.{Transition}
 use Rattle.polyhedra.specs.declared.variables.Movement.{Movement}
-use Rattle.polyhedra.specs.Changes.{modified, moving, changes_of, occurring}
+use Rattle.polyhedra.specs.Changes.{modified_variables, moving, changes_of, occurring}
 use Rattle.linear_terms.specs.declared.row.Row.{Row}
 use Rattle.linear_terms.specs.declared.row.Case.{Case}
 use Rattle.posing.specs.Posing.{Posing, ◌>>=◌, each}
@@ -23,7 +23,7 @@ use Rattle.items.specs.Gives as gives
 use Rattle.closed_form.specs.ClosedRow.{closed_row}
 use Rattle.polyhedra.specs.Vocabulary.{Vocabulary}
 use Rattle.polyhedra.specs.Directions.{directions}
-use Rattle.polyhedra.specs.Bounds.{bounded_before, bounded_after, bounded_change}
+use Rattle.polyhedra.specs.Bounds.{rows_with_entry_bound, rows_with_exit_bound, bounded_change}
 
 -- each number is less than those behind it
 abbrev pub Rise : List ℕ → Type 0
@@ -40,28 +40,28 @@ is_among numbers v = list_any (λ u. u == v) numbers
 
 -- what a body changes, where both ends have one vocabulary
 pub record IsMovement (body : Transition) (m : Movement) : Type 0 where
-  pub modified : m.modified ≡ modified true body
+  pub modified : m.modified ≡ modified_variables true body
   pub moving : m.moving ≡ moving true body
   pub cases : m.cases ≡ changes_of true body
   pub occurring : m.occurring ≡ occurring true body
 
 -- the modified variables, few enough to be numbered
 pub record AreModified (body : Transition) (variables : List ℕ) : Type 0 where
-  pub are : variables ≡ modified true body
+  pub are : variables ≡ modified_variables true body
   pub few : length variables < 2 ^ 32
 
 -- ---- progressions, one part after another
 
 -- a variable's change over the turns, by the modified variables
-abbrev pub moved_by : List ℕ → ℕ → Made
-moved_by modified v = column (after_from 0 modified v) ⊟ column (At v)
+abbrev pub change_over_turns_by : List ℕ → ℕ → Made
+change_over_turns_by modified_variables v = column (after_from 0 modified_variables v) ⊟ column (At v)
 
-abbrev pub bounded_over : List Case → List ℕ → List Row → Progression → Posing (List Row)
-bounded_over cases modified = bounded_progression cases (moved_by modified) (Aux (length modified))
+abbrev pub rows_with_progression_bound : List Case → List ℕ → List Row → Progression → Posing (List Row)
+rows_with_progression_bound cases modified_variables = bounded_progression cases (change_over_turns_by modified_variables) (Aux (length modified_variables))
 
 -- of one variable and one sign, over both signs of a term
 abbrev pub by_term : List Case → List ℕ → ℕ → ℤ → List Row → Term → Posing (List Row)
-by_term cases modified v up rows t = each (bounded_over cases modified) rows (map (λ by. record {
+by_term cases modified_variables v up rows t = each (rows_with_progression_bound cases modified_variables) rows (map (λ by. record {
   variable = v;
   up = up;
   term = t;
@@ -70,18 +70,18 @@ by_term cases modified v up rows t = each (bounded_over cases modified) rows (ma
 
 -- of one variable
 abbrev pub by_variable : List Case → List ℕ → List Term → List Row → ℕ → Posing (List Row)
-by_variable cases modified terms rows v =
-    each (bounded_over cases modified) rows (progressions_of terms v)
+by_variable cases modified_variables terms rows v =
+    each (rows_with_progression_bound cases modified_variables) rows (progressions_of terms v)
 
 -- ---- rows
 
 -- the row of a term, by the modified variables and those whose change can be made
 abbrev pub row_of_term : List ℕ → List ℕ → Term → Result Row TermError
-row_of_term modified moving t =
+row_of_term modified_variables moving t =
     gives.◌>>=◌ t.recurrence.first
     (λ d1. gives.◌>>=◌ t.recurrence.second (λ d2. gives.◌>>=◌ t.recurrence.third (λ d3.
-    closed_row (linear t.relation.a (map (after_from 0 modified) moving)) t.recurrence.start d1 d2
-    d3 (Aux (length modified)))))
+    closed_row (linear t.relation.a (map (after_from 0 modified_variables) moving)) t.recurrence.start d1 d2
+    d3 (Aux (length modified_variables)))))
 
 -- a column is at least 1
 abbrev pub turn_row : Col → Row
@@ -93,8 +93,8 @@ turn_row c = record {
 -- bounds before, after and on changes, behind other rows
 unfoldable pub bound_rows : Transition → Vocabulary → List Row → Posing (List Row)
 bound_rows body voc rows =
-    each (bounded_before body.cases) rows (directions voc) >>= λ before.
-    each (bounded_after body.cases (posts body)) before (directions voc) >>= λ both.
+    each (rows_with_entry_bound body.cases) rows (directions voc) >>= λ before.
+    each (rows_with_exit_bound body.cases (posts body)) before (directions voc) >>= λ both.
     each (bounded_change body.cases (moves body) (Some (count body))) both
     (directions voc ++ voc.extra)
 
@@ -105,5 +105,5 @@ rows_by_strata body voc = strata body >>= rows_of body voc
 -- bounds before and after, behind other rows
 unfoldable pub bounds_at_ends : List Case → List Polynomial → List Polynomial → List Row
     → Posing (List Row)
-bounds_at_ends cases after along rows = each (bounded_before cases) rows along
-    >>= λ before. each (bounded_after cases after) before along
+bounds_at_ends cases after along rows = each (rows_with_entry_bound cases) rows along
+    >>= λ before. each (rows_with_exit_bound cases after) before along

@@ -10,9 +10,9 @@ ghost use Rattle.posing.specs.Posing.{each};
 ghost use Rattle.polyhedra.specs.Changes.{change};
 ghost use Rattle.polyhedra.specs.Bounds.{bound_of, goals_of};
 ghost use Rattle.recurrence.specs.Progressions.{signs, is_alone, is_term, progressions, excess, progression_row, bounded_progression};
-ghost use Rattle.recurrence.specs.Star.{after_from, count, moved};
+ghost use Rattle.recurrence.specs.Star.{after_from, count, change_over_turns};
 ghost use Rattle.recurrence.specs.Strata.{all_terms};
-ghost use Rattle.recurrence.specs.Words.{is_among, IsMovement, moved_by, bounded_over, by_term, by_variable};
+ghost use Rattle.recurrence.specs.Words.{is_among, IsMovement, change_over_turns_by, rows_with_progression_bound, by_term, by_variable};
 
 use crate::stratifying::is_among;
 use crate::terms::{Strata, Term};
@@ -47,9 +47,9 @@ pub(crate) fn turn_count(modified: &[u32]) -> Col
 }
 
 /// A variable's change over the turns.
-fn moved(alloc: Global, modified: &[u32], v: u32) -> Result<Poly, TermError>
+fn change_over_turns(alloc: Global, modified: &[u32], v: u32) -> Result<Poly, TermError>
     requires { length modified.now < 2 ^ 32 }
-    ensures { Gives cause (λ p. p) result (moved_by modified.now v) }
+    ensures { Gives cause (λ p. p) result (change_over_turns_by modified.now v) }
 {
     let last = Poly::column(alloc, after(modified, v))?;
     let first = Poly::column(alloc, Col::At(v))?;
@@ -143,7 +143,7 @@ fn with_progression<O: Oracle>(
     requires few { length modified.now < 2 ^ 32 }
     requires low { v < to }
     ensures { Follows O.asking oracle.old oracle.new log.old log.new result
-        (bounded_over cases.now modified.now rows
+        (rows_with_progression_bound cases.now modified.now rows
         (record { variable = v; up = up.now; term = term.now; by = by.now })) }
 {
     let bound = bound_over(alloc, cases, to, v, up, term, by, oracle, log)?;
@@ -256,7 +256,7 @@ fn progression_row(
 ) -> Result<Row, TermError>
     requires { length modified.now < 2 ^ 32 }
     ensures { Gives cause (λ r. r) result
-        (progression_row (moved_by modified.now) (Aux (length modified.now))
+        (progression_row (change_over_turns_by modified.now) (Aux (length modified.now))
         (record { variable = v; up = up.now; term = term.now; by = by.now }) most.now) }
 {
     let change = moved_so_often(alloc, modified, v, up)?;
@@ -268,9 +268,9 @@ fn progression_row(
 /// `up` times a variable's change over the turns.
 fn moved_so_often(alloc: Global, modified: &[u32], v: u32, up: &i128) -> Result<Poly, TermError>
     requires { length modified.now < 2 ^ 32 }
-    ensures { Gives cause (λ p. p) result (whole up.now ⊠ moved_by modified.now v) }
+    ensures { Gives cause (λ p. p) result (whole up.now ⊠ change_over_turns_by modified.now v) }
 {
-    let change = moved(alloc, modified, v)?;
+    let change = change_over_turns(alloc, modified, v)?;
     multiple(alloc, up, &change)
 }
 
@@ -394,13 +394,13 @@ pub(crate) fn with_progressions<O: Oracle>(
     requires movement { IsMovement body.now movement.now }
     requires few { body.now.to < 2 ^ 31 }
     ensures { Follows O.asking oracle.old oracle.new log.old log.new result
-        (each (bounded_progression body.now.cases (moved body.now) (count body.now)) rows
+        (each (bounded_progression body.now.cases (change_over_turns body.now) (count body.now)) rows
         (progressions body.now voc.now strata.now)) }
 {
     if voc.rule() <= 1 {
         return Ok(rows);
     }
-    let variables = open_variables(alloc, voc.named(), movement, strata)?;
+    let variables = open_variables(alloc, voc.named_columns(), movement, strata)?;
     let modified = movement.modified.as_slice();
     let terms = strata.first.as_slice();
     let cases = body.cases();

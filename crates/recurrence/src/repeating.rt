@@ -1,5 +1,5 @@
 ghost use Rattle.std.specs.Prelude.{◌≡◌, IfOk, option_to_list};
-ghost use Rattle.transition_formula.specs.Composition.{identity_of, joined};
+ghost use Rattle.transition_formula.specs.Composition.{identity_of, union_of};
 ghost use Rattle.transition_formula.specs.Meaning.{HoldsOfChains};
 ghost use Rattle.transition_formula.specs.Transition.{IsTransition};
 ghost use Rattle.posing.specs.Follows.{Follows};
@@ -33,13 +33,13 @@ pub fn star<O: Oracle>(
     ensures holds { IfOk result (HoldsOfChains body.now) }
     ensures fits { IfOk result (IsStar body.now.to) }
 {
-    repeated(alloc, body, voc, oracle, log)
+    repeated_body(alloc, body, voc, oracle, log)
 }
 
 /// The identity where the body has no case; else the identity, and what is left of the second case
 /// in order, thinned and cut.
 #[tactic(auto, using(posing::proofs::Following::following), unfolding(crate::specs::Star::star_of))]
-fn repeated<O: Oracle>(
+fn repeated_body<O: Oracle>(
     alloc: Global,
     body: &Formula,
     voc: &Vocabulary,
@@ -64,7 +64,7 @@ fn with_identity(alloc: Global, body: &Formula, left: Option<Case>) -> Result<Fo
     requires ends { body.now.from ≡ body.now.to }
     requires fits { IsTransition body.now.from body.now.to (option_to_list left) }
     ensures { IfOk result
-        (λ g. g ≡ joined (identity_of body.now.from)
+        (λ g. g ≡ union_of (identity_of body.now.from)
         (record { from = body.now.from; to = body.now.to; cases = option_to_list left })) }
 {
     let none = identity(alloc, body.from())?;

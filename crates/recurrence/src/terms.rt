@@ -41,7 +41,7 @@ pub(crate) struct Strata {
 
 /// Parts of a recurrence.
 #[derive(Clone, Copy)]
-pub(crate) enum Part {
+pub(crate) enum RecurrencePart {
     Start,
     First,
     Second,
@@ -140,9 +140,19 @@ fn recurrence_of(
     ensures { IfOk result (λ r. r ≡ (term_of variables.now lower.now relation.now).recurrence) }
 {
     let start = start_of(alloc, variables, relation.a.as_slice())?;
-    let first = settled(first_of(alloc, lower, relation))?;
-    let second = settled(combined(alloc, Part::First, lower, relation.b.as_slice()))?;
-    let third = settled(combined(alloc, Part::Second, lower, relation.b.as_slice()))?;
+    let first = term_or_step(first_of(alloc, lower, relation))?;
+    let second = term_or_step(combined_part(
+        alloc,
+        RecurrencePart::First,
+        lower,
+        relation.b.as_slice(),
+    ))?;
+    let third = term_or_step(combined_part(
+        alloc,
+        RecurrencePart::Second,
+        lower,
+        relation.b.as_slice(),
+    ))?;
     Ok(Recurrence {
         start,
         first,
@@ -191,7 +201,7 @@ pub(crate) fn linear(alloc: Global, numbers: &[i128], columns: &[Poly]) -> Resul
 }
 
 /// What is made, or the step that cannot be made; want of memory is an error here.
-fn settled(made: Result<Poly, TermError>) -> Result<Result<Poly, TermError>, AllocError>
+fn term_or_step(made: Result<Poly, TermError>) -> Result<Result<Poly, TermError>, AllocError>
     ensures { (stated : Made) → Gives cause (λ p. p) made stated
         → IfOk result (λ kept. kept ≡ stated) }
 {
@@ -207,14 +217,14 @@ fn first_of(alloc: Global, lower: &[Recurrence], relation: &Relation) -> Result<
     ensures { Gives cause (λ p. p) result
         (combination relation.now.b (map (λ l. Ok l.start) lower.now) ⊞ whole relation.now.c) }
 {
-    let of_lower = combined(alloc, Part::Start, lower, relation.b.as_slice())?;
+    let of_lower = combined_part(alloc, RecurrencePart::Start, lower, relation.b.as_slice())?;
     add(alloc, &of_lower, &Poly::constant(alloc, relation.c))
 }
 
 /// Numbers times a part of each lower term.
-fn combined(
+fn combined_part(
     alloc: Global,
-    which: Part,
+    which: RecurrencePart,
     lower: &[Recurrence],
     numbers: &[i128],
 ) -> Result<Poly, TermError>
@@ -224,7 +234,11 @@ fn combined(
     combination(alloc, numbers, parts.as_slice())
 }
 
-fn parts_of(alloc: Global, which: Part, lower: &[Recurrence]) -> Result<Items<Poly>, TermError>
+fn parts_of(
+    alloc: Global,
+    which: RecurrencePart,
+    lower: &[Recurrence],
+) -> Result<Items<Poly>, TermError>
     ensures { Gives cause (λ ps. ps) result (all_of (map (part which) lower.now)) }
 {
     let mut parts = Items::new(alloc);
@@ -234,16 +248,16 @@ fn parts_of(alloc: Global, which: Part, lower: &[Recurrence]) -> Result<Items<Po
     Ok(parts)
 }
 
-fn part_of(which: Part, recurrence: &Recurrence) -> Result<Poly, TermError>
+fn part_of(which: RecurrencePart, recurrence: &Recurrence) -> Result<Poly, TermError>
     ensures { Gives cause (λ p. p) result (part which recurrence.now) }
 {
     match which {
-        Part::Start => {
+        RecurrencePart::Start => {
             let start = recurrence.start.clone()?;
             Ok(start)
         }
-        Part::First => copy_of(&recurrence.first)?,
-        Part::Second => copy_of(&recurrence.second)?,
+        RecurrencePart::First => copy_of(&recurrence.first)?,
+        RecurrencePart::Second => copy_of(&recurrence.second)?,
     }
 }
 

@@ -4,11 +4,11 @@ ghost use Rattle.items.specs.Gives.{Gives};
 ghost use Rattle.linear_terms.specs.declared.col.Col.TheVariants.{Aux};
 ghost use Rattle.linear_terms.specs.Polynomial.{column_of};
 ghost use Rattle.linear_terms.specs.TermError.{cause};
-ghost use Rattle.transition_formula.specs.Loss.{answered, losses_of};
+ghost use Rattle.transition_formula.specs.Loss.{answer_of, losses_of};
 ghost use Rattle.posing.specs.Follows.{Follows};
 ghost use Rattle.posing.specs.Logs.{Adds, loss_notes};
 ghost use Rattle.polyhedra.specs.Bounds.{IsCovered, IsCoveredByPosts};
-ghost use Rattle.polyhedra.specs.Changes.{lost_changes, modified};
+ghost use Rattle.polyhedra.specs.Changes.{lost_changes, modified_variables};
 ghost use Rattle.polyhedra.specs.Directions.{with_new};
 ghost use Rattle.recurrence.specs.Law.{IsStarred};
 ghost use Rattle.recurrence.specs.Star.{after_from, term_row, same_term, terms_once, posts, rows_of, turns};
@@ -74,7 +74,7 @@ fn noted_posts(
     log: &mut Log,
 ) -> Result<Items<Poly>, AllocError>
     requires few { length movement.now.modified < 2 ^ 32 }
-    requires modified { movement.now.modified ≡ modified true body.now }
+    requires modified { movement.now.modified ≡ modified_variables true body.now }
     requires lost { loss_notes movement.now.lost ≡ lost_changes true body.now }
     ensures noted { Adds (lost_changes true body.now) log.old log.new result }
     ensures exact { IfOk result (λ made. made ≡ posts body.now) }
@@ -181,13 +181,13 @@ fn equations(
     moving: &[u32],
     log: &mut Log,
 ) -> Result<Items<Row>, AllocError>
-    requires few { length modified.now < 2 ^ 32 }
-    requires ascending { Ascend (map (after_from 0 modified.now) moving.now) }
+    requires few { length modified_variables.now < 2 ^ 32 }
+    requires ascending { Ascend (map (after_from 0 modified_variables.now) moving.now) }
     ensures noted { Adds
-        (loss_notes (flat_map (λ t. losses_of (row_of_term modified.now moving.now t)) terms.now))
+        (loss_notes (flat_map (λ t. losses_of (row_of_term modified_variables.now moving.now t)) terms.now))
         log.old log.new result }
     ensures exact { IfOk result
-        (λ rows. rows ≡ filter_map (λ t. answered (row_of_term modified.now moving.now t))
+        (λ rows. rows ≡ filter_map (λ t. answer_of (row_of_term modified_variables.now moving.now t))
         terms.now) }
 {
     let columns = columns_after(alloc, modified, moving)?;
@@ -207,9 +207,9 @@ fn columns_after(
     modified: &[u32],
     variables: &[u32],
 ) -> Result<Items<Poly>, AllocError>
-    requires { length modified.now < 2 ^ 32 }
+    requires { length modified_variables.now < 2 ^ 32 }
     ensures { IfOk result
-        (λ columns. columns ≡ map column_of (map (after_from 0 modified.now) variables.now)) }
+        (λ columns. columns ≡ map column_of (map (after_from 0 modified_variables.now) variables.now)) }
 {
     let mut columns = Items::new(alloc);
     for v in variables {
@@ -225,14 +225,14 @@ fn term_row(
     columns: &[Poly],
     modified: &[u32],
 ) -> Result<Row, TermError>
-    requires { length modified.now < 2 ^ 32 }
-    ensures { (moving : List ℕ) → Ascend (map (after_from 0 modified.now) moving)
-        → columns.now ≡ map column_of (map (after_from 0 modified.now) moving) →
-        Gives cause (λ r. r) result (row_of_term modified.now moving term.now) }
+    requires { length modified_variables.now < 2 ^ 32 }
+    ensures { (moving : List ℕ) → Ascend (map (after_from 0 modified_variables.now) moving)
+        → columns.now ≡ map column_of (map (after_from 0 modified_variables.now) moving) →
+        Gives cause (λ r. r) result (row_of_term modified_variables.now moving term.now) }
 {
-    let first = made(&term.recurrence.first)?;
-    let second = made(&term.recurrence.second)?;
-    let third = made(&term.recurrence.third)?;
+    let first = made_part(&term.recurrence.first)?;
+    let second = made_part(&term.recurrence.second)?;
+    let third = made_part(&term.recurrence.third)?;
     let last = linear(alloc, term.relation.a.as_slice(), columns)?;
     row(
         alloc,
@@ -246,7 +246,7 @@ fn term_row(
 }
 
 /// What is made, or the step that cannot be made.
-fn made(part: &Result<Poly, TermError>) -> Result<&Poly, TermError>
+fn made_part(part: &Result<Poly, TermError>) -> Result<&Poly, TermError>
     ensures { Gives cause (λ p. p.now) result part.now }
 {
     match part {
@@ -261,8 +261,8 @@ fn with_some_turn(
     rows: Items<Row>,
     modified: &[u32],
 ) -> Result<Items<Row>, AllocError>
-    requires { length modified.now < 2 ^ 32 }
-    ensures { IfOk result (λ all. all ≡ rows ++ turn_row (Aux (length modified.now)) ∷ []) }
+    requires { length modified_variables.now < 2 ^ 32 }
+    ensures { IfOk result (λ all. all ≡ rows ++ turn_row (Aux (length modified_variables.now)) ∷ []) }
 {
     let mut all = rows;
     let poly = one_less(alloc, turn_count(modified))?;
@@ -305,7 +305,7 @@ fn bound_rows<O: Oracle>(
     log: &mut Log,
 ) -> Result<Items<Row>, WorkError>
     requires starred { IsStarred body.now voc.now }
-    requires modified { AreModified body.now modified.now }
+    requires modified { AreModified body.now modified_variables.now }
     ensures { Follows O.asking oracle.old oracle.new log.old log.new result
         (bound_rows body.now voc.now rows) }
 {

@@ -21,7 +21,7 @@ use Rattle.execution.specs.Runnable.{ConfigCanRun}
 use Rattle.execution.proofs.Chosen.{chosen_begins, chosen_steps, steps_can_run}
 use Rattle.execution.proofs.Stops.{passed_at}
 use Rattle.execution.proofs.Joining.{runs_join}
-use Rattle.replay.specs.Chosen.{Reached, chosen, further, shown_after, step_on, taken_after}
+use Rattle.replay.specs.Chosen.{Reached, chosen, further, events_after, step_on, count_after}
 use Rattle.replay.specs.Laws.{ChoicesTakeValues, ChosenIsExecution, IsExecution, numbers_taken}
 
 -- ---- one step more
@@ -144,7 +144,7 @@ abbrev AsTaken : List ℤ → ℕ → ℕ → List Event → Type 0
 AsTaken values steps taken events = (numbers_taken events ≡ take taken values) × (taken ≤ length values) × (taken ≤ steps)
 
 one_more : (values : List ℤ) (steps taken : ℕ) (events : List Event) (shown : Option Event) → OfChoice (slice_get values taken) shown
-    → AsTaken values steps taken events → AsTaken values (suc steps) (taken_after shown taken) (shown_after shown events)
+    → AsTaken values steps taken events → AsTaken values (suc steps) (count_after shown taken) (events_after shown events)
 one_more values steps taken events None choice so_far = let few = so_far.2 in (so_far.0, so_far.1, omega arith)
 one_more values steps taken events (Some (event.Any v)) choice so_far =
     let there = choice v refl in

@@ -11,8 +11,8 @@ use Rattle.execution.specs.declared.outcome.Stop.TheVariants as why
 use Rattle.execution.specs.Machine.{Config}
 use Rattle.execution.specs.Chosen.{Stepped, chosen_start, chosen_step}
 use Rattle.execution.specs.Stops.{StopsAt}
-use Rattle.replay.specs.declared.trace.Stop.{Stop as TraceStop}
-use Rattle.replay.specs.declared.trace.Stop.TheVariants as stop
+use Rattle.replay.specs.declared.trace.TraceStop.{Stop as TraceStop}
+use Rattle.replay.specs.declared.trace.TraceStop.TheVariants as stop
 use Rattle.replay.specs.declared.trace.Trace.{Trace}
 
 -- a configuration, how many values were taken on the way there, and what the steps showed
@@ -21,19 +21,19 @@ pub record Reached : Type 0 where
   pub taken : ℕ
   pub events : List Event
 
-abbrev pub taken_after : Option Event → ℕ → ℕ
-taken_after (Some (event.Any v)) taken = taken + 1
-taken_after _ taken = taken
+abbrev pub count_after : Option Event → ℕ → ℕ
+count_after (Some (event.Any v)) taken = taken + 1
+count_after _ taken = taken
 
-abbrev pub shown_after : Option Event → List Event → List Event
-shown_after None events = events
-shown_after (Some shown) events = events ++ shown ∷ []
+abbrev pub events_after : Option Event → List Event → List Event
+events_after None events = events
+events_after (Some shown) events = events ++ shown ∷ []
 
 abbrev pub further : Reached → Stepped → Reached
 further here stepped = record {
   config = stepped.next;
-  taken = taken_after stepped.event here.taken;
-  events = shown_after stepped.event here.events;
+  taken = count_after stepped.event here.taken;
+  events = events_after stepped.event here.events;
 }
 
 -- one step more

@@ -4,12 +4,12 @@ use Rattle.execution.specs.declared.outcome.Stop.{Stop}
 use Rattle.execution.specs.declared.outcome.Stop.TheVariants as why
 use Rattle.execution.specs.Interpreter.{machine_config}
 use Rattle.replay.specs.declared.turns.Run.{Run}
-use Rattle.replay.specs.declared.trace.Stop.{Stop as TraceStop}
-use Rattle.replay.specs.declared.trace.Stop.TheVariants as stop
+use Rattle.replay.specs.declared.trace.TraceStop.{Stop as TraceStop}
+use Rattle.replay.specs.declared.trace.TraceStop.TheVariants as stop
 use Rattle.replay.specs.Chosen.{Reached}
 
-abbrev pub reached_of : Run → Reached
-reached_of run = record {
+abbrev pub reached_state : Run → Reached
+reached_state run = record {
   config = machine_config run.machine;
   taken = run.taken;
   events = run.events;

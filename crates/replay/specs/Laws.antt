@@ -6,7 +6,7 @@ use Rattle.execution.specs.declared.outcome.Event.{Event}
 use Rattle.execution.specs.declared.outcome.Event.TheVariants as event
 use Rattle.execution.specs.Machine.{Config}
 use Rattle.execution.specs.Execution.{Begins, Fails, Runs, initial_globals}
-use Rattle.replay.specs.declared.trace.Stop.TheVariants as stop
+use Rattle.replay.specs.declared.trace.TraceStop.TheVariants as stop
 use Rattle.replay.specs.declared.trace.Trace.{Trace}
 use Rattle.replay.specs.Chosen.{IsTrace, Reached, chosen}
 

@@ -9,9 +9,9 @@ use Rattle.syntax_tree.specs.declared.program.Proc.{Proc}
 use Rattle.syntax_tree.specs.declared.program.Program.{Program}
 use Rattle.execution.specs.declared.outcome.Event.{Event}
 use Rattle.execution.specs.declared.outcome.Event.TheVariants as event
-use Rattle.replay.specs.declared.printing.Place.{Place}
-use Rattle.replay.specs.declared.trace.Stop.{Stop}
-use Rattle.replay.specs.declared.trace.Stop.TheVariants as stop
+use Rattle.replay.specs.declared.printing.LineColumn.{LineColumn}
+use Rattle.replay.specs.declared.trace.TraceStop.{TraceStop}
+use Rattle.replay.specs.declared.trace.TraceStop.TheVariants as stop
 use Rattle.replay.specs.declared.trace.Trace.{Trace}
 
 -- ---- procedures, by their places in the program
@@ -58,7 +58,7 @@ op_text op.And = codes "&&"
 op_text op.Or = codes "||"
 
 -- the cause, where a failed assertion stands at a place
-abbrev pub cause_text : Program → Place → Stop → List ℕ
+abbrev pub cause_text : Program → LineColumn → TraceStop → List ℕ
 cause_text program place (stop.Done value) =
     codes "main returned" ++ returned_text (slice_get program.procs program.main) value
 cause_text program place (stop.Failed number) =
@@ -71,21 +71,21 @@ cause_text program place (stop.Wide left right op) = codes "wide " ++ signed_dec
     ++ codes " " ++ op_text op ++ codes " " ++ signed_decimal right
 cause_text program place stop.Spent = codes "turns spent"
 
-abbrev pub last_line : Program → Place → Trace → List ℕ
+abbrev pub last_line : Program → LineColumn → Trace → List ℕ
 last_line program place trace =
     codes "stopped: " ++ cause_text program place trace.stop ++ codes " after "
     ++ decimal trace.steps ++ codes " steps\n"
 
-abbrev pub trace_text : Program → Place → Trace → List ℕ
+abbrev pub trace_text : Program → LineColumn → Trace → List ℕ
 trace_text program place trace = flat_map (event_line program) trace.events ++ last_line program
     place trace
 
 -- where the assertion that failed stands in the text of the program, by its byte; 0 where none
 -- failed
-abbrev pub failed_at : Program → Stop → ℕ
-failed_at program (stop.Failed number) = slice_index_or program.checks (number - 1) 0
-failed_at program _ = 0
+abbrev pub failure_place : Program → TraceStop → ℕ
+failure_place program (stop.Failed number) = slice_index_or program.checks (number - 1) 0
+failure_place program _ = 0
 
-abbrev pub is_failed : Stop → Bool
+abbrev pub is_failed : TraceStop → Bool
 is_failed (stop.Failed number) = true
 is_failed _ = false

@@ -11,6 +11,6 @@ mod turns;
 pub use laws::{
     choices_take_values, chosen_is_an_execution, failed_stop_fails, traces_are_determined,
 };
-pub use printing::{Place, failed_at, is_failed, print};
-pub use trace::{Stop, Trace};
+pub use printing::{LineColumn, failure_place, is_failed, print};
+pub use trace::{Trace, TraceStop};
 pub use turns::follow;

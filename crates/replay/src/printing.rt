@@ -1,14 +1,14 @@
 ghost use Rattle.std.specs.Prelude.{◌≡◌, ◌-◌, IfOk, slice_index_or};
-ghost use Rattle.replay.specs.TraceText.{failed_at, is_failed, trace_text};
+ghost use Rattle.replay.specs.TraceText.{failure_place, is_failed, trace_text};
 
-use crate::text::Text;
-use crate::trace::{Stop, Trace};
+use crate::text::TraceText;
+use crate::trace::{Trace, TraceStop};
 use std::alloc::{AllocError, Global};
 use syntax_tree::Program;
 
 /// A place of a text: its line and its column, both from 1.
 #[derive(Debug, Clone, Copy, PartialEq, Eq)]
-pub struct Place {
+pub struct LineColumn {
     pub line: u32,
     pub column: u32,
 }
@@ -26,20 +26,20 @@ fn check_at(checks: &[u32], number: u32) -> u32
 
 /// The byte at which the assertion that failed stands in the text of the program; 0 where none
 /// failed.
-pub fn failed_at(program: &Program, stop: Stop) -> u32
-    ensures { result ≡ failed_at program.now stop }
+pub fn failure_place(program: &Program, stop: TraceStop) -> u32
+    ensures { result ≡ failure_place program.now stop }
 {
     match stop {
-        Stop::Failed(number) => check_at(program.checks.as_slice(), number),
+        TraceStop::Failed(number) => check_at(program.checks.as_slice(), number),
         _ => 0,
     }
 }
 
 /// Whether an assertion failed.
-pub fn is_failed(stop: Stop) -> bool
+pub fn is_failed(stop: TraceStop) -> bool
     ensures { result ≡ is_failed stop }
 {
-    matches!(stop, Stop::Failed(_))
+    matches!(stop, TraceStop::Failed(_))
 }
 
 /// The text of a trace, where an assertion that failed stands at a place: a line for each call,
@@ -47,16 +47,16 @@ pub fn is_failed(stop: Stop) -> bool
 pub fn print(
     alloc: Global,
     program: &Program,
-    place: Place,
+    place: LineColumn,
     trace: &Trace,
 ) -> Result<Vec<u8>, AllocError>
     ensures { IfOk result (λ text. text.items ≡ trace_text program.now place trace.now) }
 {
-    let mut text = Text {
+    let mut text = TraceText {
         bytes: Vec::new(alloc),
     };
     text.put_events(program, &trace.events)?;
     text.put_last_line(program, place, trace)?;
-    let Text { bytes } = text;
+    let TraceText { bytes } = text;
     Ok(bytes)
 }

@@ -5,8 +5,8 @@ ghost use Rattle.execution.specs.declared.outcome.Event.TheVariants.{Call};
 ghost use Rattle.replay.specs.Appends.{Appends};
 ghost use Rattle.replay.specs.TraceText.{cause_text, event_line, event_text, last_line, name_of, op_text, returned_text};
 
-use crate::printing::Place;
-use crate::trace::{Stop, Trace};
+use crate::printing::LineColumn;
+use crate::trace::{Trace, TraceStop};
 use execution::Event;
 use itoa::Buffer;
 use std::alloc::AllocError;
@@ -14,7 +14,7 @@ use syntax_tree::{Op, Proc, Program};
 
 /// A text that is being made.
 #[derive(Debug, Drop)]
-pub(crate) struct Text {
+pub(crate) struct TraceText {
     pub(crate) bytes: Vec<u8>,
 }
 
@@ -39,7 +39,7 @@ fn spelling(op: Op) -> &'static [u8]
     }
 }
 
-impl Text {
+impl TraceText {
     fn put(&mut self, bytes: &[u8]) -> Result<(), AllocError>
         ensures { Appends self.old self.new result bytes.now }
     {
@@ -151,7 +151,7 @@ impl Text {
         self.put_returned(program, program.main, value)
     }
 
-    fn put_failure(&mut self, number: u32, place: Place) -> Result<(), AllocError>
+    fn put_failure(&mut self, number: u32, place: LineColumn) -> Result<(), AllocError>
         ensures { Appends self.old self.new result
             (codes "assertion " ++ decimal number ++ codes " failed at "
             ++ decimal place.line ++ codes ":" ++ decimal place.column) }
@@ -177,24 +177,29 @@ impl Text {
         self.put_number(right)
     }
 
-    fn put_cause(&mut self, program: &Program, place: Place, stop: Stop) -> Result<(), AllocError>
+    fn put_cause(
+        &mut self,
+        program: &Program,
+        place: LineColumn,
+        stop: TraceStop,
+    ) -> Result<(), AllocError>
         ensures { Appends self.old self.new result (cause_text program.now place stop) }
     {
         match stop {
-            Stop::Done(value) => self.put_done(program, value),
-            Stop::Failed(number) => self.put_failure(number, place),
-            Stop::Guard => self.put(b"guard"),
-            Stop::Zero => self.put(b"division by zero"),
-            Stop::Dry => self.put(b"no value left"),
-            Stop::Wide { left, right, op } => self.put_wide(left, right, op),
-            Stop::Spent => self.put(b"turns spent"),
+            TraceStop::Done(value) => self.put_done(program, value),
+            TraceStop::Failed(number) => self.put_failure(number, place),
+            TraceStop::Guard => self.put(b"guard"),
+            TraceStop::Zero => self.put(b"division by zero"),
+            TraceStop::Dry => self.put(b"no value left"),
+            TraceStop::Wide { left, right, op } => self.put_wide(left, right, op),
+            TraceStop::Spent => self.put(b"turns spent"),
         }
     }
 
     pub(crate) fn put_last_line(
         &mut self,
         program: &Program,
-        place: Place,
+        place: LineColumn,
         trace: &Trace,
     ) -> Result<(), AllocError>
         ensures { Appends self.old self.new result (last_line program.now place trace.now) }

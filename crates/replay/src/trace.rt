@@ -4,7 +4,7 @@ use syntax_tree::Op;
 
 /// Why a trace ends.
 #[derive(Debug, Clone, Copy, PartialEq, Eq)]
-pub enum Stop {
+pub enum TraceStop {
     /// `main` returned this value.
     Done(i128),
     /// The assertion with this number failed.
@@ -26,5 +26,5 @@ pub enum Stop {
 pub struct Trace {
     pub events: Items<Event>,
     pub steps: u32,
-    pub stop: Stop,
+    pub stop: TraceStop,
 }

@@ -5,9 +5,9 @@ ghost use Rattle.execution.specs.Chosen.{cause};
 ghost use Rattle.execution.specs.Interpreter.{machine_config};
 ghost use Rattle.execution.specs.Runnable.{ConfigCanRun};
 ghost use Rattle.replay.specs.Chosen.{IsTrace, chosen, step_on};
-ghost use Rattle.replay.specs.Follow.{reached_of, stop_of};
+ghost use Rattle.replay.specs.Follow.{reached_state, stop_of};
 
-use crate::trace::{Stop, Trace};
+use crate::trace::{Trace, TraceStop};
 use execution::{Event, Machine, Stop as Cause};
 use items::Items;
 use std::alloc::{AllocError, Global};
@@ -25,19 +25,19 @@ pub(crate) struct Run<'p> {
 #[derive(Debug, Clone, Copy)]
 pub(crate) struct End {
     pub(crate) steps: u32,
-    pub(crate) stop: Stop,
+    pub(crate) stop: TraceStop,
 }
 
-fn ended(steps: u32, cause: Cause) -> Result<End, AllocError>
+fn end_of(steps: u32, cause: Cause) -> Result<End, AllocError>
     ensures { IfOk result (λ end. (end.steps ≡ steps) × (stop_of cause ≡ Some end.stop)) }
 {
     let stop = match cause {
-        Cause::Done(value) => Stop::Done(value),
-        Cause::Failed(number) => Stop::Failed(number),
-        Cause::Guard => Stop::Guard,
-        Cause::Zero => Stop::Zero,
-        Cause::Dry => Stop::Dry,
-        Cause::Wide(wide) => Stop::Wide {
+        Cause::Done(value) => TraceStop::Done(value),
+        Cause::Failed(number) => TraceStop::Failed(number),
+        Cause::Guard => TraceStop::Guard,
+        Cause::Zero => TraceStop::Zero,
+        Cause::Dry => TraceStop::Dry,
+        Cause::Wide(wide) => TraceStop::Wide {
             left: wide.left,
             right: wide.right,
             op: wide.op,
@@ -59,11 +59,11 @@ impl<'p> Run<'p> {
         requires well_formed { IsWellFormed program.now }
         requires can_run { ConfigCanRun program.now (machine_config self.old.machine) }
         requires few { self.old.taken < 2 ^ 63 }
-        ensures went { OnOk result (step_on program.now values.now (reached_of self.old)
-            ≡ Ok (reached_of self.new)) }
+        ensures went { OnOk result (step_on program.now values.now (reached_state self.old)
+            ≡ Ok (reached_state self.new)) }
         ensures kept { IfErr result (λ e. self.new.events ≡ self.old.events) }
         ensures stopped { IfErr result
-            (λ e. FailsBy (cause e) (step_on program.now values.now (reached_of self.old))) }
+            (λ e. FailsBy (cause e) (step_on program.now values.now (reached_state self.old))) }
     {
         let number = number_at(values, self.taken);
         if let Some(event) = self.machine.step(alloc, program, number)? {
@@ -84,22 +84,22 @@ impl<'p> Run<'p> {
         turns: u32,
     ) -> Result<End, AllocError>
         requires well_formed { IsWellFormed program.now }
-        requires begun { chosen program.now values.now 0 ≡ Ok (reached_of self.old) }
+        requires begun { chosen program.now values.now 0 ≡ Ok (reached_state self.old) }
         ensures { IfOk result (λ end. IsTrace program.now values.now turns
             (record { events = self.new.events; steps = end.steps; stop = end.stop })) }
     {
         for steps in 0..turns {
             if let Err(cause) = self.advance(alloc, program, values) {
-                return ended(steps, cause);
+                return end_of(steps, cause);
             }
         }
         let number = number_at(values, self.taken);
         if let Err(cause) = self.machine.step(alloc, program, number) {
-            return ended(turns, cause);
+            return end_of(turns, cause);
         }
         Ok(End {
             steps: turns,
-            stop: Stop::Spent,
+            stop: TraceStop::Spent,
         })
     }
 }

@@ -176,13 +176,13 @@ proc_text blocks block =
 -- ---- assertions
 
 -- the name of the i-th shown column
-abbrev pub shown_at : Names → List ℕ → ℕ → List ℕ
-shown_at named shown i = shown_name named (slice_index_or shown i 0) i
+abbrev pub shown_name_at : Names → List ℕ → ℕ → List ℕ
+shown_name_at named shown i = shown_name named (slice_index_or shown i 0) i
 
 -- a case in which an assertion would fail: in it columns are auxiliaries
 abbrev pub refuting_text : Names → List ℕ → Case → List ℕ
 refuting_text named shown case = flat_map (row_line []) case.rows ++ post_lines []
-    (shown_at named shown) 0 case.post
+    (shown_name_at named shown) 0 case.post
 
 abbrev pub verdict_text : Names → List ℕ → Verdict → List ℕ
 verdict_text named shown Proved = codes " proved\n"
@@ -200,9 +200,9 @@ judged_text blocks number j =
     ++ verdict_text j.named j.shown j.verdict ++ flat_map (note_line blocks) j.notes
 
 -- the assertions, of which the first has a number
-abbrev pub judged_from : List ProcBlock → ℕ → List Judged → List ℕ
-judged_from blocks number [] = []
-judged_from blocks number (j ∷ js) = judged_text blocks number j ++ judged_from blocks (number + 1)
+abbrev pub assertions_text_from : List ProcBlock → ℕ → List Judged → List ℕ
+assertions_text_from blocks number [] = []
+assertions_text_from blocks number (j ∷ js) = judged_text blocks number j ++ assertions_text_from blocks (number + 1)
     js
 
 -- ---- the whole
@@ -226,4 +226,4 @@ total_text js =
 abbrev pub text_of : Report → List ℕ
 text_of report =
     flat_map (proc_text report.procs) report.procs ++ flat_map (note_line report.procs) report.notes
-    ++ judged_from report.procs 1 report.judged ++ total_text report.judged
+    ++ assertions_text_from report.procs 1 report.judged ++ total_text report.judged

@@ -8,12 +8,12 @@ ghost use Rattle.report.specs.Appends.{Appends};
 
 use crate::ProcBlock;
 use crate::names::{column_names, letters};
-use crate::text::Text;
+use crate::text::ReportText;
 use cost_bounds::Cost;
 use linear_terms::Poly;
 use std::alloc::{AllocError, Global};
 
-impl Text {
+impl ReportText {
     /// A factor before a name; 1 is left out.
     fn put_factor(&mut self, scale: i128) -> Result<(), AllocError>
         ensures { Appends self.old self.new result (factor_text scale) }
@@ -41,7 +41,7 @@ impl Text {
     }
 
     #[tactic(auto, unfolding(crate::specs::Costs::at_most_text))]
-    fn put_at_most(&mut self, names: &[Text], by: &Poly) -> Result<(), AllocError>
+    fn put_at_most(&mut self, names: &[ReportText], by: &Poly) -> Result<(), AllocError>
         ensures { Appends self.old self.new result (at_most_text names.now by.now) }
     {
         self.put("change <= ")?;
@@ -50,7 +50,7 @@ impl Text {
     }
 
     #[tactic(auto, unfolding(crate::specs::Costs::bound_line))]
-    fn put_bound(&mut self, names: &[Text], scale: i128, by: &Poly) -> Result<(), AllocError>
+    fn put_bound(&mut self, names: &[ReportText], scale: i128, by: &Poly) -> Result<(), AllocError>
         ensures { Appends self.old self.new result (bound_line names.now scale by.now) }
     {
         self.put("  ")?;
@@ -68,7 +68,7 @@ impl Text {
     }
 
     /// By how much a case changes the global.
-    fn put_cost(&mut self, names: &[Text], cost: &Cost) -> Result<(), AllocError>
+    fn put_cost(&mut self, names: &[ReportText], cost: &Cost) -> Result<(), AllocError>
         ensures { Appends self.old self.new result (cost_lines names.now cost.now) }
     {
         match cost {
@@ -98,7 +98,7 @@ impl Text {
     /// A case with its number.
     fn put_case_cost(
         &mut self,
-        names: &[Text],
+        names: &[ReportText],
         number: usize,
         cost: &Cost,
     ) -> Result<(), AllocError>
@@ -110,7 +110,7 @@ impl Text {
         self.put_cost(names, cost)
     }
 
-    fn put_costs(&mut self, names: &[Text], costs: &[Cost]) -> Result<(), AllocError>
+    fn put_costs(&mut self, names: &[ReportText], costs: &[Cost]) -> Result<(), AllocError>
         ensures { Appends self.old self.new result (costs_text names.now costs.now) }
     {
         if costs.is_empty() {
@@ -129,7 +129,7 @@ pub fn print_costs(alloc: Global, block: &ProcBlock, costs: &[Cost]) -> Result<V
     ensures utf8 { IfOk result (λ text. IsUtf8 text.items) }
 {
     let names = column_names(alloc, block)?;
-    let mut text = Text::new(alloc);
+    let mut text = ReportText::new(alloc);
     text.put("procedure ")?;
     text.put(letters(&block.name))?;
     text.put("\n")?;

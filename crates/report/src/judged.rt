@@ -1,16 +1,16 @@
 ghost use Rattle.std.specs.Prelude.{◌++◌, [], codes, decimal};
-ghost use Rattle.report.specs.Text.{judged_text, point_text, post_lines, refuting_text, shown_at, verdict_text};
+ghost use Rattle.report.specs.Text.{judged_text, point_text, post_lines, refuting_text, shown_name_at, verdict_text};
 ghost use Rattle.report.specs.Appends.{Appends};
 ghost use Rattle.farkas_check.specs.Columns.{columns};
 
-use crate::text::Text;
+use crate::text::ReportText;
 use crate::{Judged, ProcBlock, Verdict};
 use farkas_check::{Ratio, case_columns};
 use linear_terms::{Case, Poly, Row};
 use std::alloc::{AllocError, Global};
 use syntax_tree::Name;
 
-impl Text {
+impl ReportText {
     fn put_shown_posts(
         &mut self,
         named: &[Name],
@@ -18,7 +18,7 @@ impl Text {
         posts: &[Poly],
     ) -> Result<(), AllocError>
         ensures { Appends self.old self.new result
-            (post_lines [] (shown_at named.now shown.now) 0 posts.now) }
+            (post_lines [] (shown_name_at named.now shown.now) 0 posts.now) }
     {
         for (i, post) in posts.iter().enumerate() {
             self.put("  ")?;

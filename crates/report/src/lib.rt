@@ -16,5 +16,5 @@ mod verdict;
 
 pub use blocks::{Judged, ProcBlock, Report};
 pub use costs::print_costs;
-pub use printing::{print, proved, unproved};
+pub use printing::{print, proved_assertions, unproved_assertions};
 pub use verdict::Verdict;

@@ -1,11 +1,11 @@
 ghost use Rattle.std.specs.Prelude.{◌≡◌, ◌++◌, IfOk, codes, slice_index_or};
 ghost use Rattle.std.specs.List.{list_any};
 ghost use Rattle.std.specs.Str.{bytes_eq};
-ghost use Rattle.report.specs.Text.{column_names, entry_names, exit_name, exit_names, names_of, shown_at, shown_name, stands_before};
+ghost use Rattle.report.specs.Text.{column_names, entry_names, exit_name, exit_names, names_of, shown_name_at, shown_name, stands_before};
 ghost use Rattle.report.specs.Appends.{Appends};
 
 use crate::ProcBlock;
-use crate::text::Text;
+use crate::text::ReportText;
 use items::Items;
 use std::alloc::{AllocError, Global};
 use std::str;
@@ -22,7 +22,7 @@ pub(crate) fn letters(name: &Name) -> &str
     }
 }
 
-impl Text {
+impl ReportText {
     /// A column's name, with its number where an earlier column has the same name.
     pub(crate) fn put_shown(
         &mut self,
@@ -61,7 +61,7 @@ impl Text {
         shown: &[u32],
         i: usize,
     ) -> Result<(), AllocError>
-        ensures { Appends self.old self.new result (shown_at named.now shown.now i) }
+        ensures { Appends self.old self.new result (shown_name_at named.now shown.now i) }
     {
         self.put_shown(named, number_at(shown, i) as usize, i)
     }
@@ -95,15 +95,20 @@ fn stands_before(names: &[Name], i: usize) -> bool
     is_among(&names[..i], &names[i])
 }
 
-fn shown_name(alloc: Global, names: &[Name], number: usize, i: usize) -> Result<Text, AllocError>
+fn shown_name(
+    alloc: Global,
+    names: &[Name],
+    number: usize,
+    i: usize,
+) -> Result<ReportText, AllocError>
     ensures { IfOk result (λ name. name ≡ shown_name names.now number i) }
 {
-    let mut text = Text::new(alloc);
+    let mut text = ReportText::new(alloc);
     text.put_shown(names, number, i)?;
     Ok(text)
 }
 
-fn entry_names(alloc: Global, before: &[Name]) -> Result<Items<Text>, AllocError>
+fn entry_names(alloc: Global, before: &[Name]) -> Result<Items<ReportText>, AllocError>
     ensures { IfOk result (λ names. names ≡ entry_names before.now) }
 {
     let mut names = Items::new(alloc);
@@ -114,20 +119,20 @@ fn entry_names(alloc: Global, before: &[Name]) -> Result<Items<Text>, AllocError
 }
 
 /// A global's name at the exit.
-fn primed(alloc: Global, name: &Name) -> Result<Text, AllocError>
+fn primed_name(alloc: Global, name: &Name) -> Result<ReportText, AllocError>
     ensures { IfOk result (λ primed. primed ≡ name.now ++ codes "'") }
 {
-    let mut primed = Text::new(alloc);
+    let mut primed = ReportText::new(alloc);
     primed.put(letters(name))?;
     primed.put("'")?;
     Ok(primed)
 }
 
 /// The name of the returned value.
-fn returned(alloc: Global) -> Result<Text, AllocError>
+fn returned_name(alloc: Global) -> Result<ReportText, AllocError>
     ensures { IfOk result (λ name. name ≡ codes "$ret") }
 {
-    let mut name = Text::new(alloc);
+    let mut name = ReportText::new(alloc);
     name.put("$ret")?;
     Ok(name)
 }
@@ -135,22 +140,25 @@ fn returned(alloc: Global) -> Result<Text, AllocError>
 /// The names, and behind them those of the columns at the exit.
 fn with_exit_names(
     alloc: Global,
-    names: Items<Text>,
+    names: Items<ReportText>,
     after: &[Name],
-) -> Result<Items<Text>, AllocError>
+) -> Result<Items<ReportText>, AllocError>
     ensures { IfOk result (λ all. all ≡ names ++ exit_names after.now) }
 {
     let mut all = names;
     for name in after {
-        all.push(primed(alloc, name)?)?;
+        all.push(primed_name(alloc, name)?)?;
     }
-    all.push(returned(alloc)?)?;
+    all.push(returned_name(alloc)?)?;
     Ok(all)
 }
 
 /// The names that a procedure's rows have: its columns at the entry, and behind these those at the
 /// exit.
-pub(crate) fn column_names(alloc: Global, block: &ProcBlock) -> Result<Items<Text>, AllocError>
+pub(crate) fn column_names(
+    alloc: Global,
+    block: &ProcBlock,
+) -> Result<Items<ReportText>, AllocError>
     ensures { IfOk result (λ names. names ≡ column_names block.now) }
 {
     let names = entry_names(alloc, &block.before)?;
@@ -162,7 +170,7 @@ pub(crate) fn names_of(
     alloc: Global,
     blocks: &[ProcBlock],
     proc: u32,
-) -> Result<Items<Text>, AllocError>
+) -> Result<Items<ReportText>, AllocError>
     ensures { IfOk result (λ names. names ≡ names_of blocks.now proc) }
 {
     match blocks.get(proc as usize) {

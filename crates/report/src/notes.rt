@@ -5,14 +5,14 @@ ghost use Rattle.report.specs.Appends.{Appends};
 
 use crate::ProcBlock;
 use crate::names::names_of;
-use crate::text::Text;
+use crate::text::ReportText;
 use farkas_check::Limit;
 use linear_terms::Row;
 use posing::{Note, Witness};
 use std::alloc::{AllocError, Global};
 use transition_formula::Loss;
 
-impl Text {
+impl ReportText {
     pub(crate) fn put_limit(&mut self, limit: &Limit) -> Result<(), AllocError>
         ensures { Appends self.old self.new result (limit_text limit.now) }
     {
@@ -34,7 +34,7 @@ impl Text {
         }
     }
 
-    fn put_witness(&mut self, names: &[Text], by: &Witness) -> Result<(), AllocError>
+    fn put_witness(&mut self, names: &[ReportText], by: &Witness) -> Result<(), AllocError>
         ensures { Appends self.old self.new result (witness_text names.now by.now) }
     {
         match by {
@@ -44,7 +44,12 @@ impl Text {
     }
 
     #[tactic(auto, unfolding(crate::specs::Text::dropped_text))]
-    fn put_dropped(&mut self, names: &[Text], row: &Row, by: &Witness) -> Result<(), AllocError>
+    fn put_dropped(
+        &mut self,
+        names: &[ReportText],
+        row: &Row,
+        by: &Witness,
+    ) -> Result<(), AllocError>
         ensures { Appends self.old self.new result (dropped_text names.now row.now by.now) }
     {
         self.put("dropped ")?;

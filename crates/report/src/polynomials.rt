@@ -3,13 +3,13 @@ ghost use Rattle.linear_terms.specs.Texts.{constant_text, mono_text, poly_text, 
 ghost use Rattle.report.specs.Text.{column_text, name_at, point_text, more_values, value_text};
 ghost use Rattle.report.specs.Appends.{Appends};
 
-use crate::text::Text;
+use crate::text::ReportText;
 use farkas_check::Ratio;
 use linear_terms::{Col, Kind, Mono, Poly, Row};
 use std::alloc::AllocError;
 
-impl Text {
-    pub(crate) fn put_name(&mut self, names: &[Text], i: usize) -> Result<(), AllocError>
+impl ReportText {
+    pub(crate) fn put_name(&mut self, names: &[ReportText], i: usize) -> Result<(), AllocError>
         ensures { Appends self.old self.new result (name_at names.now i) }
     {
         match names.get(i) {
@@ -18,7 +18,7 @@ impl Text {
         }
     }
 
-    fn put_column(&mut self, names: &[Text], col: Col) -> Result<(), AllocError>
+    fn put_column(&mut self, names: &[ReportText], col: Col) -> Result<(), AllocError>
         ensures { Appends self.old self.new result (column_text names.now col) }
     {
         match col {
@@ -30,7 +30,7 @@ impl Text {
         }
     }
 
-    fn put_mono(&mut self, names: &[Text], columns: &[Col]) -> Result<(), AllocError>
+    fn put_mono(&mut self, names: &[ReportText], columns: &[Col]) -> Result<(), AllocError>
         ensures { Appends self.old self.new result (mono_text (column_text names.now) columns.now) }
     {
         let Some((first, more)) = columns.split_first() else {
@@ -68,7 +68,7 @@ impl Text {
 
     fn put_term(
         &mut self,
-        names: &[Text],
+        names: &[ReportText],
         first: bool,
         columns: &[Col],
         number: i128,
@@ -88,7 +88,7 @@ impl Text {
         self.put_count(number.unsigned_abs())
     }
 
-    fn put_terms(&mut self, names: &[Text], terms: &[(Mono, i128)]) -> Result<(), AllocError>
+    fn put_terms(&mut self, names: &[ReportText], terms: &[(Mono, i128)]) -> Result<(), AllocError>
         ensures { Appends self.old self.new result (terms_text (column_text names.now) terms.now) }
     {
         let Some(((mono, number), more)) = terms.split_first() else {
@@ -113,14 +113,14 @@ impl Text {
         }
     }
 
-    pub(crate) fn put_poly(&mut self, names: &[Text], poly: &Poly) -> Result<(), AllocError>
+    pub(crate) fn put_poly(&mut self, names: &[ReportText], poly: &Poly) -> Result<(), AllocError>
         ensures { Appends self.old self.new result (poly_text (column_text names.now) poly.now) }
     {
         self.put_terms(names, poly.terms())?;
         self.put_rest(poly.terms(), poly.rest())
     }
 
-    pub(crate) fn put_row(&mut self, names: &[Text], row: &Row) -> Result<(), AllocError>
+    pub(crate) fn put_row(&mut self, names: &[ReportText], row: &Row) -> Result<(), AllocError>
         ensures { Appends self.old self.new result (row_text (column_text names.now) row.now) }
     {
         self.put_poly(names, &row.poly)?;
@@ -130,7 +130,12 @@ impl Text {
         })
     }
 
-    fn put_value(&mut self, names: &[Text], mono: &Mono, value: &Ratio) -> Result<(), AllocError>
+    fn put_value(
+        &mut self,
+        names: &[ReportText],
+        mono: &Mono,
+        value: &Ratio,
+    ) -> Result<(), AllocError>
         ensures { Appends self.old self.new result (value_text names.now mono.now value.now) }
     {
         self.put_mono(names, mono.columns())?;
@@ -140,7 +145,7 @@ impl Text {
 
     fn put_more_values(
         &mut self,
-        names: &[Text],
+        names: &[ReportText],
         of: &[Mono],
         at: &[Ratio],
     ) -> Result<(), AllocError>
@@ -156,7 +161,7 @@ impl Text {
     /// A point: a number for each monomial.
     pub(crate) fn put_point(
         &mut self,
-        names: &[Text],
+        names: &[ReportText],
         of: &[Mono],
         at: &[Ratio],
     ) -> Result<(), AllocError>

@@ -1,13 +1,13 @@
 ghost use Rattle.std.specs.Prelude.{◌≡◌, ◌-◌, ◌++◌, ◌+◌, IfOk, IsUtf8, length};
 ghost use Rattle.std.specs.List.{count_by, flat_map};
-ghost use Rattle.report.specs.Text.{is_proof, is_proved, judged_from, proc_text, proved_count, text_of, total_text};
+ghost use Rattle.report.specs.Text.{is_proof, is_proved, assertions_text_from, proc_text, proved_count, text_of, total_text};
 ghost use Rattle.report.specs.Appends.{Appends};
 
-use crate::text::Text;
+use crate::text::ReportText;
 use crate::{Judged, ProcBlock, Report, Verdict};
 use std::alloc::{AllocError, Global};
 
-impl Text {
+impl ReportText {
     fn put_procs(&mut self, alloc: Global, blocks: &[ProcBlock]) -> Result<(), AllocError>
         ensures { Appends self.old self.new result (flat_map (proc_text blocks.now) blocks.now) }
     {
@@ -23,7 +23,7 @@ impl Text {
         blocks: &[ProcBlock],
         judged: &[Judged],
     ) -> Result<(), AllocError>
-        ensures { Appends self.old self.new result (judged_from blocks.now 1 judged.now) }
+        ensures { Appends self.old self.new result (assertions_text_from blocks.now 1 judged.now) }
     {
         for (i, judged) in judged.iter().enumerate() {
             self.put_judged(alloc, blocks, i + 1, judged)?;
@@ -65,14 +65,14 @@ fn proved_count(judged: &[Judged]) -> usize
 }
 
 /// How many assertions are proved.
-pub fn proved(report: &Report) -> usize
+pub fn proved_assertions(report: &Report) -> usize
     ensures { result ≡ proved_count report.now.judged }
 {
     proved_count(&report.judged)
 }
 
 /// How many are not.
-pub fn unproved(report: &Report) -> usize
+pub fn unproved_assertions(report: &Report) -> usize
     ensures { result ≡ length report.now.judged - proved_count report.now.judged }
 {
     report.judged.len() - proved_count(&report.judged)
@@ -83,7 +83,7 @@ pub fn print(alloc: Global, report: &Report) -> Result<Vec<u8>, AllocError>
     ensures bytes { IfOk result (λ text. text.items ≡ text_of report.now) }
     ensures utf8 { IfOk result (λ text. IsUtf8 text.items) }
 {
-    let mut text = Text::new(alloc);
+    let mut text = ReportText::new(alloc);
     text.put_procs(alloc, &report.procs)?;
     text.put_notes(alloc, &report.procs, &report.notes)?;
     text.put_assertions(alloc, &report.procs, &report.judged)?;

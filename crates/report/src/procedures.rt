@@ -6,14 +6,14 @@ ghost use Rattle.report.specs.Appends.{Appends};
 
 use crate::ProcBlock;
 use crate::names::{column_names, letters};
-use crate::text::Text;
+use crate::text::ReportText;
 use linear_terms::{Case, Poly, Row};
 use std::alloc::{AllocError, Global};
 use syntax_tree::Name;
 
-impl Text {
+impl ReportText {
     /// A line for each row.
-    pub(crate) fn put_rows(&mut self, names: &[Text], rows: &[Row]) -> Result<(), AllocError>
+    pub(crate) fn put_rows(&mut self, names: &[ReportText], rows: &[Row]) -> Result<(), AllocError>
         ensures { Appends self.old self.new result (flat_map (row_line names.now) rows.now) }
     {
         for row in rows {
@@ -25,7 +25,7 @@ impl Text {
     }
 
     /// The end of a post's line, behind its name.
-    pub(crate) fn put_post(&mut self, names: &[Text], poly: &Poly) -> Result<(), AllocError>
+    pub(crate) fn put_post(&mut self, names: &[ReportText], poly: &Poly) -> Result<(), AllocError>
         ensures { Appends self.old self.new result
             (codes " = " ++ poly_text (column_text names.now) poly.now ++ codes "\n") }
     {
@@ -36,7 +36,7 @@ impl Text {
 
     fn put_exits(
         &mut self,
-        names: &[Text],
+        names: &[ReportText],
         after: &[Name],
         posts: &[Poly],
     ) -> Result<(), AllocError>
@@ -53,7 +53,7 @@ impl Text {
 
     fn put_case(
         &mut self,
-        names: &[Text],
+        names: &[ReportText],
         after: &[Name],
         number: usize,
         case: &Case,
@@ -69,7 +69,7 @@ impl Text {
 
     fn put_cases(
         &mut self,
-        names: &[Text],
+        names: &[ReportText],
         after: &[Name],
         cases: &[Case],
     ) -> Result<(), AllocError>

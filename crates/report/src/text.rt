@@ -10,11 +10,11 @@ use std::marker::Model;
 
 /// A text that is being made, which contracts see as its bytes.
 #[derive(Debug, Drop)]
-pub(crate) struct Text {
+pub(crate) struct ReportText {
     inner: String,
 }
 
-impl Model for Text {
+impl Model for ReportText {
     ghost use Rattle.std.specs.Prelude.{List, ℕ, string_bytes};
 
     ghost Value = { List ℕ };
@@ -22,11 +22,11 @@ impl Model for Text {
     ghost view = { λ t. string_bytes t.inner };
 }
 
-impl Text {
-    pub(crate) fn new(alloc: Global) -> Text
+impl ReportText {
+    pub(crate) fn new(alloc: Global) -> ReportText
         ensures { result ≡ [] }
     {
-        Text {
+        ReportText {
             inner: String::new(alloc),
         }
     }

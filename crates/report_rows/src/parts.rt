@@ -79,7 +79,7 @@ fn half() -> Result<Ratio, Fail> {
 }
 
 /// A row over entry and exit columns that a point drops, and one that a limit drops.
-fn dropped(alloc: Global) -> Result<Items<Note>, Fail> {
+fn drop_notes(alloc: Global) -> Result<Items<Note>, Fail> {
     let mut of = Items::new(alloc);
     let mut at = Items::new(alloc);
     of.push(column(2)?)?;
@@ -116,13 +116,13 @@ fn notes(alloc: Global) -> Result<Items<Note>, Fail> {
         right: -2,
         times: false,
     }))?;
-    notes.append(dropped(alloc)?)?;
+    notes.append(drop_notes(alloc)?)?;
     notes.push(Note::Facets)?;
     Ok(notes)
 }
 
 /// One note of a squashed formula.
-pub(crate) fn squashed(alloc: Global, cases: u32) -> Result<Items<Note>, Fail> {
+pub(crate) fn squash_notes(alloc: Global, cases: u32) -> Result<Items<Note>, Fail> {
     let mut notes = Items::new(alloc);
     notes.push(Note::Squash(cases))?;
     Ok(notes)
@@ -156,7 +156,7 @@ fn verdicts(alloc: Global) -> Result<Items<Verdict>, Fail> {
 }
 
 /// An assertion for each verdict, in which the third shown column has the name of the first.
-pub(crate) fn judged(alloc: Global) -> Result<Items<Judged>, Fail> {
+pub(crate) fn judgements(alloc: Global) -> Result<Items<Judged>, Fail> {
     let mut all = Items::new(alloc);
     for verdict in verdicts(alloc)? {
         let mut shown = Items::new(alloc);
@@ -170,7 +170,7 @@ pub(crate) fn judged(alloc: Global) -> Result<Items<Judged>, Fail> {
             named: names(alloc, "g x g")?,
             shown,
             verdict,
-            notes: squashed(alloc, 20)?,
+            notes: squash_notes(alloc, 20)?,
         })?;
     }
     Ok(all)

@@ -83,7 +83,7 @@ fn verdict(alloc: Global, fields: &[&str]) -> Result<Verdict, Fail> {
     }
 }
 
-fn shown(alloc: Global, text: &str) -> Result<Items<u32>, Fail> {
+fn shown_columns(alloc: Global, text: &str) -> Result<Items<u32>, Fail> {
     let mut made = Items::new(alloc);
     for part in text.split_whitespace() {
         made.push(number(part)?)?;
@@ -91,7 +91,7 @@ fn shown(alloc: Global, text: &str) -> Result<Items<u32>, Fail> {
     Ok(made)
 }
 
-fn judged(alloc: Global, text: &str) -> Result<Judged, Fail> {
+fn judgement(alloc: Global, text: &str) -> Result<Judged, Fail> {
     let fields = text.split('@').collect::<Vec<&str>>(alloc)?;
     let [place, named, columns, ..] = fields.as_slice() else {
         return Err("no assertion".into());
@@ -103,7 +103,7 @@ fn judged(alloc: Global, text: &str) -> Result<Judged, Fail> {
         line: number(line)?,
         column: number(column)?,
         named: names(alloc, named)?,
-        shown: shown(alloc, columns)?,
+        shown: shown_columns(alloc, columns)?,
         verdict,
         notes: Items::new(alloc),
     })
@@ -117,7 +117,7 @@ fn report(alloc: Global, text: &str) -> Result<Report, Fail> {
             procs.push(block(alloc, rest.trim())?)?;
         }
         if let Some(rest) = part.strip_prefix("assertion ") {
-            all.push(judged(alloc, rest)?)?;
+            all.push(judgement(alloc, rest)?)?;
         }
     }
     Ok(Report {

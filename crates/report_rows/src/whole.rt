@@ -1,7 +1,7 @@
 //! The whole text.
 
-use crate::parts::{blocks, judged, squashed};
-use report::{Report, print, proved, unproved};
+use crate::parts::{blocks, judgements, squash_notes};
+use report::{Report, print, proved_assertions, unproved_assertions};
 use std::test::Fail;
 
 /// Each form of line.
@@ -57,11 +57,14 @@ fn every_form_of_line(rt: HostRuntime) -> Result<(), Fail> {
     let alloc = rt.alloc();
     let report = Report {
         procs: blocks(alloc)?,
-        notes: squashed(alloc, 33)?,
-        judged: judged(alloc)?,
+        notes: squash_notes(alloc, 33)?,
+        judged: judgements(alloc)?,
     };
     let text = print(alloc, &report)?;
     assert_eq!(rt; str::from_utf8(&text)?, TEXT);
-    assert_eq!(rt; (proved(&report), unproved(&report)), (1, 3));
+    assert_eq!(rt;
+        (proved_assertions(&report), unproved_assertions(&report)),
+        (1, 3)
+    );
     Ok(())
 }

@@ -15,7 +15,7 @@ use Rattle.linear_terms.specs.declared.row.Row.{Row}
 use Rattle.linear_terms.specs.declared.row.Normal.{Normal}
 use Rattle.linear_terms.specs.declared.row.Normal.TheVariants.{Constant, Kept}
 use Rattle.linear_terms.specs.Col.{col_cmp}
-use Rattle.linear_terms.specs.Expressions.{Made, ◌⊠◌, ◌⊞◌, column, turned}
+use Rattle.linear_terms.specs.Expressions.{Made, ◌⊠◌, ◌⊞◌, column, negative_of}
 use Rattle.linear_terms.specs.Operations.{difference_of_polys, multiple_of, product_of_polys, sum_of_polys}
 use Rattle.linear_terms.specs.Polynomial.{IsCanonical, Polynomial, column_of}
 use Rattle.linear_terms.specs.Row.{IsWithin, RowHolds, RowsHold, normal_form}
@@ -64,7 +64,7 @@ product-not_negative u v h k = turn (neg_ℤ u *ℤ neg_ℤ v) (u *ℤ v) (*ℤ-
 abbrev CanonicalIfMade : Made → Type 0
 CanonicalIfMade made = (p : Polynomial) → made ≡ Ok p → IsCanonical p.terms
 
-turned-canonical : (a : Made) → CanonicalIfMade a → CanonicalIfMade (turned a)
+turned-canonical : (a : Made) → CanonicalIfMade a → CanonicalIfMade (negative_of a)
 turned-canonical a canonical p e = on_ok a (λ q. multiple_of q (negsuc 0)) p e (λ q f g. IsCanonical-multiple_of q (negsuc 0) p g (canonical q f))
 
 below_square-canonical : (x : Col) → CanonicalIfMade (below_square x)

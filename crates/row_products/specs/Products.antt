@@ -13,7 +13,7 @@ use Rattle.linear_terms.specs.declared.row.Normal.{Normal}
 use Rattle.linear_terms.specs.declared.row.Normal.TheVariants.{Constant, Kept}
 use Rattle.linear_terms.specs.Col.{col_cmp}
 use Rattle.linear_terms.specs.Equality.{poly_eq}
-use Rattle.linear_terms.specs.Expressions.{Made, ◌⊠◌, ◌⊞◌, ◌⊟◌, column, turned, at_most}
+use Rattle.linear_terms.specs.Expressions.{Made, ◌⊠◌, ◌⊞◌, ◌⊟◌, column, negative_of, at_most}
 use Rattle.linear_terms.specs.Mono.{mono_cmp}
 use Rattle.linear_terms.specs.Polynomial.{Terms, Polynomial, constant_of}
 use Rattle.linear_terms.specs.Row.{normal_form}
@@ -63,7 +63,7 @@ abbrev pub below_square : Col → Made
 below_square x = column x ⊟ column x ⊠ column x
 
 abbrev pub above_square : Col → Made
-above_square x = turned (column x ⊠ column x ⊞ column x)
+above_square x = negative_of (column x ⊠ column x ⊞ column x)
 
 -- of a monomial that is a square `x*x`: `x - x*x <= 0`, then `-x*x - x <= 0`
 abbrev pub square_rows : List Col → List (Option Row)
@@ -90,7 +90,7 @@ factors monos rows = map (λ row. row.poly) (filter (is_factor monos) rows)
 
 -- minus the product
 abbrev pub minus_product : Polynomial → Polynomial → Made
-minus_product p q = turned (Ok p ⊠ Ok q)
+minus_product p q = negative_of (Ok p ⊠ Ok q)
 
 -- the row, if it has one of the monomials
 abbrev pub with_one_of : List (List Col) → Option Row → Option Row

@@ -29,7 +29,7 @@ use Rattle.farkas_check.proofs.Spreads.{is_among, AreAmong, same_mono, itself, s
 use Rattle.farkas_check.proofs.Walks.{IsOrdered}
 use Rattle.simplex.specs.Differences.{IsDifferenceOf}
 use Rattle.simplex.specs.Raise.{sign_of}
-use Rattle.simplex.specs.Spots.{values_of, AreSideValues, paired, IsApart}
+use Rattle.simplex.specs.Spots.{values_of, AreSideValues, inner_product, IsApart}
 use Rattle.simplex.proofs.Certificates.{sum_below-first}
 use Rattle.simplex.proofs.Denominators.{AreLowest, AreNumerators, numerators_of, denominator-positive}
 use Rattle.simplex.proofs.Exchanges.{times_zero, zero_factor}
@@ -149,7 +149,7 @@ dots-none : (ns : List ℤ) (k : ℕ) → sum_below k (λ j. entry ns j *ℤ ent
 dots-none ns zero = refl
 dots-none ns (suc k) = ap (λ z. z +ℤ entry ns k *ℤ pos 0) (dots-none ns k) ∙ ap (λ z. pos 0 +ℤ z) (times_zero (entry ns k))
 
-dots-is : (ns line : List ℤ) → paired (length ns) ns line ≡ dots ns line
+dots-is : (ns line : List ℤ) → inner_product (length ns) ns line ≡ dots ns line
 dots-is [] line = refl
 dots-is (n ∷ ns) [] = dots-none (n ∷ ns) (suc (length ns))
 dots-is (n ∷ ns) (z ∷ line) = sum_below-first (length ns) (λ j. entry (n ∷ ns) j *ℤ entry (z ∷ line) j) ∙ ap (λ x. n *ℤ z +ℤ x) (dots-is ns line)

@@ -16,7 +16,7 @@ use Rattle.farkas_check.specs.Parts.{and_then}
 use Rattle.farkas_check.specs.Points.{ratio_at, ratio_value, meets}
 use Rattle.farkas_check.specs.Ratios.{Fraction, whole, common_multiple, ratio_product, ratio_sum}
 use Rattle.farkas_check.specs.Relations.{Changes, Side, Term, Lower, One, sides, numbers_of, stratum_columns, unknown_count, with_side, with_sides, coefficient_at, rest_of, difference_numbers, difference_form, is_reduced, free_places}
-use Rattle.farkas_check.specs.Stratum.{all_of, multiples_of, multiple_of, scaled_up, scaled_down, tested_multiple, tested_half, tested_tie, tested_relation, rows_of, spot_value, tested_spot, minus_value, ratio_side_at, spots_from, is_exactly, unit_at, tested_at, tested_unit, tested_free, spot_side, has_unknowns, tested_basis, terms_of}
+use Rattle.farkas_check.specs.Stratum.{all_of, multiples_of, multiple_of, scale_times, minus_scale_times, tested_multiple, tested_half, tested_tie, tested_relation, rows_of, spot_value, tested_spot, minus_value, ratio_side_at, spots_from, is_exactly, unit_at, unit_test_at, tested_unit, tested_free, spot_side, has_unknowns, tested_basis, terms_of}
 use Rattle.farkas_check.specs.Tested.{outcome}
 use Rattle.farkas_check.specs.declared.answer.Answer.{Answer}
 use Rattle.farkas_check.specs.declared.answer.Answer.TheVariants as answer
@@ -119,9 +119,9 @@ tested_half-leaves scaled cs rows form scale by w t d e =
 
 tested_tie-leaves : (cs : List (List Col)) (lower : List Polynomial) (numbers : List ℤ) (case : Change) (tie : Tie) (w : Step.Wide) → tested_tie cs lower numbers case tie ≡ Err w → LeavesBits w
 tested_tie-leaves cs lower numbers case tie w e =
-    and_then-leaves (tested_half scaled_up cs case.rows form tie.up_scale tie.up) (tested_half scaled_down cs case.rows form tie.down_scale tie.down) w
-    (λ f. tested_half-leaves scaled_up cs case.rows form tie.up_scale tie.up w (λ z g. product-leaves tie.up_scale z w g) form_leaves f)
-    (λ f. tested_half-leaves scaled_down cs case.rows form tie.down_scale tie.down w (λ z g. on_err (product_of tie.down_scale z) (λ part. product_of part (negsuc 0)) w g (λ h. product-leaves tie.down_scale z w h) (λ part h k. product-leaves part (negsuc 0) w k)) form_leaves f) e
+    and_then-leaves (tested_half scale_times cs case.rows form tie.up_scale tie.up) (tested_half minus_scale_times cs case.rows form tie.down_scale tie.down) w
+    (λ f. tested_half-leaves scale_times cs case.rows form tie.up_scale tie.up w (λ z g. product-leaves tie.up_scale z w g) form_leaves f)
+    (λ f. tested_half-leaves minus_scale_times cs case.rows form tie.down_scale tie.down w (λ z g. on_err (product_of tie.down_scale z) (λ part. product_of part (negsuc 0)) w g (λ h. product-leaves tie.down_scale z w h) (λ part h k. product-leaves part (negsuc 0) w k)) form_leaves f) e
   where
     form : Result Form Step.Wide
     form = difference_form numbers (sides case.terms lower) cs
@@ -156,7 +156,7 @@ spots_from-leaves value total (spot ∷ spots) (r ∷ by) w f e =
     (λ v g h. on_err (ratio_product v r) (λ part. ratio_sum total part >>= λ next. spots_from value next spots by) w h (λ k. ratio_product-leaves v r w k)
     (λ part k l. on_err (ratio_sum total part) (λ next. spots_from value next spots by) w l (λ m. ratio_sum-leaves total part w m) (λ next m n. spots_from-leaves value next spots by w f n)))
 
-tested_at-leaves : (value : Spot → ℕ → Result Fraction Step.Wide) (spots : List Spot) (place : ℕ) (by : List Fraction) (other : ℕ) (w : Step.Wide) → ((spot : Spot) (p : ℕ) → value spot p ≡ Err w → LeavesBits w) → tested_at value spots place by other ≡ Err w → LeavesBits w
+tested_at-leaves : (value : Spot → ℕ → Result Fraction Step.Wide) (spots : List Spot) (place : ℕ) (by : List Fraction) (other : ℕ) (w : Step.Wide) → ((spot : Spot) (p : ℕ) → value spot p ≡ Err w → LeavesBits w) → unit_test_at value spots place by other ≡ Err w → LeavesBits w
 tested_at-leaves value spots place by other w f e =
     on_err (spots_from (λ spot. value spot other) (whole (pos 0)) spots by) (λ total. is_exactly total (unit_at place other)) w e (λ g. spots_from-leaves (λ spot. value spot other) (whole (pos 0)) spots by w (λ spot h. f spot other h) g)
     (λ total g h. on_err (product_of (unit_at place other) total.den) (λ right. bool_ok (int_eq total.num right)) w h (λ k. product-leaves (unit_at place other) total.den w k) (λ right k l. cc))
@@ -165,8 +165,8 @@ tested_free-leaves : (value : Spot → ℕ → Result Fraction Step.Wide) (spots
 tested_free-leaves value spots others free w f e =
     and_then-leaves (bool_ok (length free == length others)) (all_of (λ p. tested_unit value spots others p.0 p.1) (zip others free)) w (λ g. cc)
     (λ g. all_of-leaves (λ (p : ℕ × List Fraction). tested_unit value spots others p.0 p.1) (zip others free) w
-    (λ p h. and_then-leaves (bool_ok (length p.1 == length spots)) (all_of (tested_at value spots p.0 p.1) others) w (λ k. cc)
-    (λ k. all_of-leaves (tested_at value spots p.0 p.1) others w (λ other l. tested_at-leaves value spots p.0 p.1 other w f l) k) h) g) e
+    (λ p h. and_then-leaves (bool_ok (length p.1 == length spots)) (all_of (unit_test_at value spots p.0 p.1) others) w (λ k. cc)
+    (λ k. all_of-leaves (unit_test_at value spots p.0 p.1) others w (λ other l. tested_at-leaves value spots p.0 p.1 other w f l) k) h) g) e
 
 spot_side-leaves : (cs : List (List Col)) (cases : List Change) (lower : List Polynomial) (spot : Spot) (place : ℕ) (w : Step.Wide) → spot_side cs cases lower spot place ≡ Err w → LeavesBits w
 unfolding spot_side

@@ -19,14 +19,14 @@ use Rattle.linear_terms.specs.declared.row.Kind.TheVariants.{AtMost}
 use Rattle.linear_terms.specs.declared.row.Row.{Row}
 use Rattle.linear_terms.specs.Polynomial.{Terms, Polynomial, coefficient_in}
 use Rattle.farkas_check.specs.Frames.{sum_below}
-use Rattle.farkas_check.specs.Multiples.{Form, number_at as coefficient_at, constant_in, is_multiplier, are_multipliers, sum_of_multiples, same_form, scaled_at, scaled_less, scaled_form}
+use Rattle.farkas_check.specs.Multiples.{Form, number_at as coefficient_at, constant_in, is_multiplier, are_multipliers, sum_of_multiples, same_form, scaled_coefficients, scaled_less, scaled_form}
 use Rattle.farkas_check.specs.Relations.{entry}
 use Rattle.farkas_check.specs.Tested.{goal_columns, tested_sum}
 use Rattle.farkas_check.specs.declared.question.Goal.{Goal}
 use Rattle.farkas_check.specs.declared.answer.Cert.{Cert}
 use Rattle.farkas_check.proofs.Farkas.{bool_ok, total, sums, form_of, on_sum}
 use Rattle.simplex.specs.Exchange.{numbers_of, choices_of, line_multiple, IsTableauOf}
-use Rattle.simplex.specs.Rows.{kinds_of, kind_at, framed}
+use Rattle.simplex.specs.Rows.{kinds_of, kind_at, framed_tableau}
 use Rattle.simplex.specs.Suprema.{with_goal, frame_over, goal_frame, certificate_of, IsTopped}
 use Rattle.simplex.specs.declared.tableau.Tableau.{Tableau}
 use Rattle.simplex.proofs.Certificates.{each_of, total-is, all_multipliers, framed-column, framed-constant}
@@ -69,14 +69,14 @@ each_goal : (number : Row → ℤ) (rows : List Row) (p : Polynomial) → each_o
 each_goal number [] p = refl
 each_goal number (row ∷ rows) p = each_goal number rows p
 
-pub cert_total : (cs : List (List Col)) (rows : List Row) (p : Polynomial) (t : Tableau) (cert : Cert) (number : Row → ℤ) (j : ℕ) → IsTableauOf (length cs + 1) (numbers_of (framed cs (with_goal rows p))) t → length t.lines ≡ length rows + 1 → IsCertificate (length cs) (length rows) (get_or t.lines (length rows) []) cert → length cert.by ≡ length rows
-    → j < length cs + 1 + length t.lines → ((l : ℕ) → numbers_of (framed cs (with_goal rows p)) l j ≡ each_of number (with_goal rows p) l)
+pub cert_total : (cs : List (List Col)) (rows : List Row) (p : Polynomial) (t : Tableau) (cert : Cert) (number : Row → ℤ) (j : ℕ) → IsTableauOf (length cs + 1) (numbers_of (framed_tableau cs (with_goal rows p))) t → length t.lines ≡ length rows + 1 → IsCertificate (length cs) (length rows) (get_or t.lines (length rows) []) cert → length cert.by ≡ length rows
+    → j < length cs + 1 + length t.lines → ((l : ℕ) → numbers_of (framed_tableau cs (with_goal rows p)) l j ≡ each_of number (with_goal rows p) l)
     → total number rows cert.by ≡ cert.scale *ℤ number (record { poly = p; kind = AtMost }) -ℤ numbers_of t (length rows) j
 cert_total cs rows p t cert number j s many c each h f =
     total-is number rows cert.by each
-    ∙ sum_below-same m (λ l. get_or cert.by l (pos 0) *ℤ each_of number rows l) (λ l. get_or cert.by l (pos 0) *ℤ numbers_of (framed cs (with_goal rows p)) l j) (λ l g. ap (λ z. get_or cert.by l (pos 0) *ℤ z) (sym (f l ∙ each_before number rows p l g)))
-    ∙ weighted_multiple m (λ l. numbers_of t m (length cs + 1 + l)) (λ l. get_or cert.by l (pos 0)) (λ l. numbers_of (framed cs (with_goal rows p)) l j) (negsuc 0) (λ l g. c.by l g ∙ turn (numbers_of t m (length cs + 1 + l)))
-    ∙ finish (sum_below m (λ l. numbers_of t m (length cs + 1 + l) *ℤ numbers_of (framed cs (with_goal rows p)) l j)) (cert.scale *ℤ number (record { poly = p; kind = AtMost })) (numbers_of t m j) whole
+    ∙ sum_below-same m (λ l. get_or cert.by l (pos 0) *ℤ each_of number rows l) (λ l. get_or cert.by l (pos 0) *ℤ numbers_of (framed_tableau cs (with_goal rows p)) l j) (λ l g. ap (λ z. get_or cert.by l (pos 0) *ℤ z) (sym (f l ∙ each_before number rows p l g)))
+    ∙ weighted_multiple m (λ l. numbers_of t m (length cs + 1 + l)) (λ l. get_or cert.by l (pos 0)) (λ l. numbers_of (framed_tableau cs (with_goal rows p)) l j) (negsuc 0) (λ l g. c.by l g ∙ turn (numbers_of t m (length cs + 1 + l)))
+    ∙ finish (sum_below m (λ l. numbers_of t m (length cs + 1 + l) *ℤ numbers_of (framed_tableau cs (with_goal rows p)) l j)) (cert.scale *ℤ number (record { poly = p; kind = AtMost })) (numbers_of t m j) whole
   where
     m : ℕ
     m = length rows
@@ -87,20 +87,20 @@ cert_total cs rows p t cert number j s many c each h f =
     finish : (a b c : ℤ) → c ≡ a +ℤ b → negsuc 0 *ℤ a ≡ b -ℤ c
     finish a b c e = omega (arith, ints, e)
 
-    whole : numbers_of t (length rows) j ≡ sum_below (length rows) (λ l. numbers_of t (length rows) (length cs + 1 + l) *ℤ numbers_of (framed cs (with_goal rows p)) l j) +ℤ cert.scale *ℤ number (record { poly = p; kind = AtMost })
+    whole : numbers_of t (length rows) j ≡ sum_below (length rows) (λ l. numbers_of t (length rows) (length cs + 1 + l) *ℤ numbers_of (framed_tableau cs (with_goal rows p)) l j) +ℤ cert.scale *ℤ number (record { poly = p; kind = AtMost })
     whole =
         s.is.combination m (subst (λ (n : ℕ). m < n) (sym many) (omega arith)) j h
-        ∙ ap (λ (n : ℕ). sum_below n (λ l. numbers_of t m (length cs + 1 + l) *ℤ numbers_of (framed cs (with_goal rows p)) l j)) (many ∙ (let e : length rows + 1 ≡ suc (length rows) = omega arith in e))
-        ∙ ap (λ z. sum_below m (λ l. numbers_of t m (length cs + 1 + l) *ℤ numbers_of (framed cs (with_goal rows p)) l j) +ℤ numbers_of t m (length cs + 1 + m) *ℤ z) (f m ∙ each_goal number rows p)
-        ∙ ap (λ z. sum_below m (λ l. numbers_of t m (length cs + 1 + l) *ℤ numbers_of (framed cs (with_goal rows p)) l j) +ℤ z *ℤ number (record { poly = p; kind = AtMost })) (sym c.scale)
+        ∙ ap (λ (n : ℕ). sum_below n (λ l. numbers_of t m (length cs + 1 + l) *ℤ numbers_of (framed_tableau cs (with_goal rows p)) l j)) (many ∙ (let e : length rows + 1 ≡ suc (length rows) = omega arith in e))
+        ∙ ap (λ z. sum_below m (λ l. numbers_of t m (length cs + 1 + l) *ℤ numbers_of (framed_tableau cs (with_goal rows p)) l j) +ℤ numbers_of t m (length cs + 1 + m) *ℤ z) (f m ∙ each_goal number rows p)
+        ∙ ap (λ z. sum_below m (λ l. numbers_of t m (length cs + 1 + l) *ℤ numbers_of (framed_tableau cs (with_goal rows p)) l j) +ℤ z *ℤ number (record { poly = p; kind = AtMost })) (sym c.scale)
 
 -- ---- the test of the sum
 
-scaled_value : (scale : ℤ) (terms : Terms) (cs : List (List Col)) (ns : List ℤ) → scaled_at scale terms cs ≡ Ok ns → ns ≡ map (λ c. scale *ℤ coefficient_in terms c) cs
+scaled_value : (scale : ℤ) (terms : Terms) (cs : List (List Col)) (ns : List ℤ) → scaled_coefficients scale terms cs ≡ Ok ns → ns ≡ map (λ c. scale *ℤ coefficient_in terms c) cs
 scaled_value scale terms [] ns e = cc
 scaled_value scale terms (c ∷ cs) ns e =
-    on_ok (product_of scale (coefficient_in terms c)) (λ s. scaled_at scale terms cs >>= λ more. numbers_ok (s ∷ more)) ns e
-    (λ s f g. on_ok (scaled_at scale terms cs) (λ more. numbers_ok (s ∷ more)) ns g
+    on_ok (product_of scale (coefficient_in terms c)) (λ s. scaled_coefficients scale terms cs >>= λ more. numbers_ok (s ∷ more)) ns e
+    (λ s f g. on_ok (scaled_coefficients scale terms cs) (λ more. numbers_ok (s ∷ more)) ns g
     (λ more h k. let same : s ∷ more ≡ ns = cc in sym same ∙ ap (λ (z : ℤ). z ∷ more) (product_of-value scale (coefficient_in terms c) s f) ∙ ap (λ (zs : List ℤ). (scale *ℤ coefficient_in terms c) ∷ zs) (scaled_value scale terms cs more h)))
   where
     numbers_ok : List ℤ → Result (List ℤ) Step.Wide
@@ -124,7 +124,7 @@ sum_honest goal cert b at_columns at_constant e =
     on_ok (sum_of_multiples goal.rows cert.by (goal_columns goal)) (λ left. scaled_form cert.scale cert.sum goal.objective (goal_columns goal) >>= λ right. bool_ok (same_form left right)) b e
     (λ left f g. on_ok (scaled_form cert.scale cert.sum goal.objective (goal_columns goal)) (λ right. bool_ok (same_form left right)) b g
     (λ right h k. on_sum goal.rows cert.by (goal_columns goal) left f
-    (λ is. on_ok (scaled_at cert.scale goal.objective.terms (goal_columns goal)) (λ numbers. scaled_less cert.scale goal.objective.rest cert.sum >>= λ rest. form_ok (form_of numbers rest)) right h
+    (λ is. on_ok (scaled_coefficients cert.scale goal.objective.terms (goal_columns goal)) (λ numbers. scaled_less cert.scale goal.objective.rest cert.sum >>= λ rest. form_ok (form_of numbers rest)) right h
     (λ numbers l m. on_ok (scaled_less cert.scale goal.objective.rest cert.sum) (λ rest. form_ok (form_of numbers rest)) right m
     (λ rest n o. made left right numbers rest is (scaled_value cert.scale goal.objective.terms (goal_columns goal) numbers l) (less_value cert.scale goal.objective.rest cert.sum rest n) (cc) k)))))
   where
@@ -166,7 +166,7 @@ certified_over cs rows p enters t cert top e = record {
   constant = at_constant;
 }
   where
-    s : IsTableauOf (length cs + 1) (numbers_of (framed cs (with_goal rows p))) t
+    s : IsTableauOf (length cs + 1) (numbers_of (framed_tableau cs (with_goal rows p))) t
     s = top.met.placed.marked.sized.tableau
 
     many : length t.lines ≡ length rows + 1

@@ -20,7 +20,7 @@ use Rattle.farkas_check.specs.Columns.{monos_of}
 use Rattle.farkas_check.specs.Calm.{IsCalmGoal}
 use Rattle.farkas_check.specs.Frames.{IsCalmUpTo, frame_of}
 use Rattle.farkas_check.specs.Kept.{IsCanonicalGoal}
-use Rattle.farkas_check.specs.Multiples.{Form, number_at as coefficient_at, constant_in, sums_at, constant_sum, sum_of_multiples, are_multipliers, scaled_at, scaled_less, scaled_form, same_form}
+use Rattle.farkas_check.specs.Multiples.{Form, number_at as coefficient_at, constant_in, sums_at, constant_sum, sum_of_multiples, are_multipliers, scaled_coefficients, scaled_less, scaled_form, same_form}
 use Rattle.farkas_check.specs.Parts.{and_then}
 use Rattle.farkas_check.specs.Points.{ratio_at, ratio_value, slope_at, meets}
 use Rattle.farkas_check.specs.Rational.{terms_at}
@@ -36,7 +36,7 @@ use Rattle.simplex.specs.Calm.{HasSmallLines}
 use Rattle.simplex.specs.Exchange.{numbers_of, choices_of, IsTableauOf}
 use Rattle.simplex.specs.Raise.{sign_of}
 use Rattle.simplex.specs.Refusal.{IsSmallFrame}
-use Rattle.simplex.specs.Rows.{kinds_of, framed}
+use Rattle.simplex.specs.Rows.{kinds_of, framed_tableau}
 use Rattle.simplex.specs.Search.{IsMet, IsCornerOf}
 use Rattle.simplex.specs.Suprema.{with_goal, goal_frame, IsOpened, SlopeAt, IsRayOf}
 use Rattle.simplex.specs.declared.tableau.Tableau.{Tableau}
@@ -65,7 +65,7 @@ goal_calm goal c = subst (λ ps. IsCalmUpTo 1099511627776 (frame_of (goal_column
 pub goal_small : (goal : Goal) → IsCalmGoal goal → IsSmallFrame 1099511627776 (goal_frame goal) (length goal.rows + 1)
 goal_small goal c = subst (λ (n : ℕ). IsSmallFrame 1099511627776 (goal_frame goal) n) (more_rows goal.rows goal.objective) (small_frame 1099511627776 (goal_columns goal) (with_goal goal.rows goal.objective) (goal_calm goal c))
 
-own_lines : (goal : Goal) → IsCalmGoal goal → HasSmallLines 1099511627776 (framed (goal_columns goal) (with_goal goal.rows goal.objective))
+own_lines : (goal : Goal) → IsCalmGoal goal → HasSmallLines 1099511627776 (framed_tableau (goal_columns goal) (with_goal goal.rows goal.objective))
 own_lines goal c = own_small 1099511627776 (goal_columns goal) (with_goal goal.rows goal.objective) (small_frame 1099511627776 (goal_columns goal) (with_goal goal.rows goal.objective) (goal_calm goal c))
 
 all_before : (P : Row → Type 0) (rows : List Row) (p : Polynomial) → AllByRecursion P (with_goal rows p) → AllByRecursion P rows
@@ -98,17 +98,17 @@ cert_small n constants goal t cert small c each = record {
   by = all_entries (λ z. unsigned_abs z ≤ n) cert.by (λ l h. subst (λ (z : ℤ). unsigned_abs z ≤ n) (sym (c.by l (subst (λ (x : ℕ). l < x) each h))) (subst (λ (x : ℕ). x ≤ n) (sym (unsigned_abs-mul (numbers_of t goal (constants + 1 + l)) (negsuc 0) ∙ mul-one (unsigned_abs (numbers_of t goal (constants + 1 + l))))) (small goal (constants + 1 + l))));
 }
 
-pub scaled_at-fits : (n : ℕ) (scale : ℤ) (terms : Terms) (cs : List (List Col)) → unsigned_abs scale ≤ n → ((j : ℕ) → j < length cs → unsigned_abs (coefficient_in terms (get_or cs j [])) ≤ n) → n * n < 2 ^ 127 → HasValue (scaled_at scale terms cs)
+pub scaled_at-fits : (n : ℕ) (scale : ℤ) (terms : Terms) (cs : List (List Col)) → unsigned_abs scale ≤ n → ((j : ℕ) → j < length cs → unsigned_abs (coefficient_in terms (get_or cs j [])) ≤ n) → n * n < 2 ^ 127 → HasValue (scaled_coefficients scale terms cs)
 scaled_at-fits n scale terms [] s f h = ([], refl)
 scaled_at-fits n scale terms (c ∷ cs) s f h =
-    bind_value (product_of scale (coefficient_in terms c)) (λ z. scaled_at scale terms cs >>= λ more. numbers_ok (z ∷ more)) (scale *ℤ coefficient_in terms c, product_of-fits scale (coefficient_in terms c) (let g : unsigned_abs (scale *ℤ coefficient_in terms c) ≤ n * n = product-small n n scale (coefficient_in terms c) s (f 0 (omega arith)) in omega (arith, g, h)))
+    bind_value (product_of scale (coefficient_in terms c)) (λ z. scaled_coefficients scale terms cs >>= λ more. numbers_ok (z ∷ more)) (scale *ℤ coefficient_in terms c, product_of-fits scale (coefficient_in terms c) (let g : unsigned_abs (scale *ℤ coefficient_in terms c) ≤ n * n = product-small n n scale (coefficient_in terms c) s (f 0 (omega arith)) in omega (arith, g, h)))
     (λ z e. rest z (scaled_at-fits n scale terms cs s (λ j g. f (suc j) (omega (arith, g))) h))
   where
     numbers_ok : List ℤ → Result (List ℤ) Step.Wide
     numbers_ok ns = Ok ns
 
-    rest : (z : ℤ) → HasValue (scaled_at scale terms cs) → HasValue (scaled_at scale terms cs >>= λ more. numbers_ok (z ∷ more))
-    rest z v = bind_value (scaled_at scale terms cs) (λ more. numbers_ok (z ∷ more)) v (λ more e. (z ∷ more, refl))
+    rest : (z : ℤ) → HasValue (scaled_coefficients scale terms cs) → HasValue (scaled_coefficients scale terms cs >>= λ more. numbers_ok (z ∷ more))
+    rest z v = bind_value (scaled_coefficients scale terms cs) (λ more. numbers_ok (z ∷ more)) v (λ more e. (z ∷ more, refl))
 
 pub scaled_less-fits : (scale rest less : ℤ) → unsigned_abs scale ≤ 1099511627776 → unsigned_abs rest ≤ 1099511627776 → unsigned_abs less ≤ 1099511627776 → HasValue (scaled_less scale rest less)
 scaled_less-fits scale rest less s r l =
@@ -170,7 +170,7 @@ sum-fits goal cert c s =
 
     multiple : HasValue (scaled_form cert.scale cert.sum goal.objective (goal_columns goal))
     multiple =
-        bind_value (scaled_at cert.scale goal.objective.terms (goal_columns goal)) (λ numbers. scaled_less cert.scale goal.objective.rest cert.sum >>= λ rest. form_ok (record { numbers = numbers; rest = rest }))
+        bind_value (scaled_coefficients cert.scale goal.objective.terms (goal_columns goal)) (λ numbers. scaled_less cert.scale goal.objective.rest cert.sum >>= λ rest. form_ok (record { numbers = numbers; rest = rest }))
         (scaled_at-fits 1099511627776 cert.scale goal.objective.terms (goal_columns goal) s.scale
         (λ j h. all_at (λ (row : Row). unsigned_abs (coefficient_at (get_or (goal_columns goal) j []) row) ≤ 1099511627776) (with_goal goal.rows goal.objective) (length goal.rows) (record { poly = goal.objective; kind = AtMost }) (numbers_at j h) (slice_goal goal.rows goal.objective)) (omega arith))
         (λ numbers e. bind_value (scaled_less cert.scale goal.objective.rest cert.sum) (λ rest. form_ok (record { numbers = numbers; rest = rest }))
@@ -195,7 +195,7 @@ point-fits goal enters t point l row calm k c here canonical among = with_value
     many : length t.lines ≡ length (with_goal goal.rows goal.objective)
     many = sym k.placed.marked.sized.many ∙ kinds-length (with_goal goal.rows goal.objective)
 
-    s : IsTableauOf (length (goal_columns goal) + 1) (numbers_of (framed (goal_columns goal) (with_goal goal.rows goal.objective))) t
+    s : IsTableauOf (length (goal_columns goal) + 1) (numbers_of (framed_tableau (goal_columns goal) (with_goal goal.rows goal.objective))) t
     s = k.placed.marked.sized.tableau
 
     column : HasSmallColumn 1099511627776 t (length (goal_columns goal))
@@ -261,19 +261,19 @@ sign_small false z n h = subst (λ (x : ℕ). x ≤ n) (sym (unsigned_abs-mul (n
 abbrev ray_part : (n : ℕ) (t : Tableau) (column : ℕ) → Bool → HasSmallColumn n t column → ℕ → ℤ
 ray_part n t column up c j = sign_of up *ℤ cond (nat_eq j column) c.bottom (moved_part n t column c j)
 
-ray_part-is : (n : ℕ) (goal : Goal) (t : Tableau) (column : ℕ) (up : Bool) (j : ℕ) (c : HasSmallColumn n t column) → IsTableauOf (length (goal_columns goal) + 1) (numbers_of (framed (goal_columns goal) (with_goal goal.rows goal.objective))) t → ((k : ℕ) → k < length t.lines → choices_of t k ≢ column) → ray_part n t column up c j *ℤ c.common ≡ ray_shift t column up j
+ray_part-is : (n : ℕ) (goal : Goal) (t : Tableau) (column : ℕ) (up : Bool) (j : ℕ) (c : HasSmallColumn n t column) → IsTableauOf (length (goal_columns goal) + 1) (numbers_of (framed_tableau (goal_columns goal) (with_goal goal.rows goal.objective))) t → ((k : ℕ) → k < length t.lines → choices_of t k ≢ column) → ray_part n t column up c j *ℤ c.common ≡ ray_shift t column up j
 ray_part-is n goal t column up j c s free =
     *ℤ_assoc (sign_of up) (cond (nat_eq j column) c.bottom (moved_part n t column c j)) c.common
     ∙ ap (λ z. sign_of up *ℤ z)
     (⊎_elim (λ (same : j ≡ column). ap (λ (b : Bool). cond b c.bottom (moved_part n t column c j) *ℤ c.common) (eq-eqb j column same) ∙ c.bottom_is ∙ sym (ap (moved (length t.lines) (numbers_of t) (choices_of t) column) same ∙ shift_own t column free))
     (λ apart. ap (λ (b : Bool). cond b c.bottom (moved_part n t column c j) *ℤ c.common) (ne_eqb j column apart) ∙ (moved_parts n (goal_frame goal) t column j c s (λ e. apart (sym e))).is) (cases_eq j column))
 
-ray_part-small : (n : ℕ) (goal : Goal) (t : Tableau) (column : ℕ) (up : Bool) (j : ℕ) (c : HasSmallColumn n t column) → IsTableauOf (length (goal_columns goal) + 1) (numbers_of (framed (goal_columns goal) (with_goal goal.rows goal.objective))) t → unsigned_abs (ray_part n t column up c j) ≤ n
+ray_part-small : (n : ℕ) (goal : Goal) (t : Tableau) (column : ℕ) (up : Bool) (j : ℕ) (c : HasSmallColumn n t column) → IsTableauOf (length (goal_columns goal) + 1) (numbers_of (framed_tableau (goal_columns goal) (with_goal goal.rows goal.objective))) t → unsigned_abs (ray_part n t column up c j) ≤ n
 ray_part-small n goal t column up j c s = sign_small up (cond (nat_eq j column) c.bottom (moved_part n t column c j)) n
     (⊎_elim (λ (same : j ≡ column). subst (λ (b : Bool). unsigned_abs (cond b c.bottom (moved_part n t column c j)) ≤ n) (sym (eq-eqb j column same)) c.bottom_small)
     (λ apart. subst (λ (b : Bool). unsigned_abs (cond b c.bottom (moved_part n t column c j)) ≤ n) (sym (ne_eqb j column apart)) (moved_parts n (goal_frame goal) t column j c s (λ e. apart (sym e))).small) (cases_eq j column))
 
-ray_ratio : (n : ℕ) (goal : Goal) (t : Tableau) (column : ℕ) (up : Bool) (j : ℕ) (r : Fraction) (c : HasSmallColumn n t column) → IsTableauOf (length (goal_columns goal) + 1) (numbers_of (framed (goal_columns goal) (with_goal goal.rows goal.objective))) t → ((k : ℕ) → k < length t.lines → choices_of t k ≢ column) → SlopeAt t column up j r → IsRatio r (ray_part n t column up c j) c.bottom
+ray_ratio : (n : ℕ) (goal : Goal) (t : Tableau) (column : ℕ) (up : Bool) (j : ℕ) (r : Fraction) (c : HasSmallColumn n t column) → IsTableauOf (length (goal_columns goal) + 1) (numbers_of (framed_tableau (goal_columns goal) (with_goal goal.rows goal.objective))) t → ((k : ℕ) → k < length t.lines → choices_of t k ≢ column) → SlopeAt t column up j r → IsRatio r (ray_part n t column up c j) c.bottom
 ray_ratio n goal t column up j r c s free k = record {
   stands = record {
     same = *ℤ_cancel (r.num *ℤ c.bottom) (ray_part n t column up c j *ℤ r.den) c.common c.above
@@ -292,7 +292,7 @@ slope-fits goal enters t column up ray l row calm o r here canonical among = wit
     k : IsRayColumn goal t column
     k = ray_column goal enters t column up o
 
-    s : IsTableauOf (length (goal_columns goal) + 1) (numbers_of (framed (goal_columns goal) (with_goal goal.rows goal.objective))) t
+    s : IsTableauOf (length (goal_columns goal) + 1) (numbers_of (framed_tableau (goal_columns goal) (with_goal goal.rows goal.objective))) t
     s = o.met.placed.marked.sized.tableau
 
     c : HasSmallColumn 1099511627776 t column

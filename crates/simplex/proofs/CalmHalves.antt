@@ -25,9 +25,9 @@ use Rattle.simplex.specs.Refusal.{IsSmallFrame, IsRefusalIn}
 use Rattle.simplex.specs.Spots.{sums_of}
 use Rattle.simplex.specs.Strata.{IsAsked, IsCaseOf}
 use Rattle.simplex.specs.Suprema.{with_goal, frame_over, IsSupremumOver}
-use Rattle.simplex.specs.declared.differences.Strata.{Strata}
-use Rattle.simplex.specs.declared.stop.Stop.{Stop}
-use Rattle.simplex.specs.declared.stop.Stop.TheVariants.{Wide, Memory}
+use Rattle.simplex.specs.declared.differences.StrataQuestion.{StrataQuestion}
+use Rattle.simplex.specs.declared.stop.SearchStop.{SearchStop}
+use Rattle.simplex.specs.declared.stop.SearchStop.TheVariants.{Wide, Memory}
 use Rattle.simplex.specs.declared.supremum.Supremum.TheVariants as supremum
 use Rattle.simplex.proofs.Apart.{difference-among}
 use Rattle.simplex.proofs.CalmDifferences.{difference_small}
@@ -88,10 +88,10 @@ signed_small (z ∷ ns) up h = joined (signed_small ns up h.1)
 
 -- ---- the terms of a case
 
-pub case_terms_small : (s : Strata) (case : Change) → IsAsked s → IsCaseOf s case → IsCalmAsked s → AllByRecursion IsSmallTerm case.terms
+pub case_terms_small : (s : StrataQuestion) (case : Change) → IsAsked s → IsCaseOf s case → IsCalmAsked s → AllByRecursion IsSmallTerm case.terms
 case_terms_small s case is of calm = all_below case.terms (λ p o u. record { canonical = o.canonical; up_to = u }) (terms_of_sides s.columns.now case.terms (map Lower s.lower.now ++ One ∷ []) (case_given s case is of).over).0 (at_place (λ (c : Change). AllByRecursion (HasNumbersUpTo 1048576) c.terms) s.cases.now of.place case calm.calm.terms of.is)
 
-pub lower_terms_small : (s : Strata) (case : Change) → IsAsked s → IsCaseOf s case → IsCalmAsked s → AllByRecursion IsSmallTerm s.lower.now
+pub lower_terms_small : (s : StrataQuestion) (case : Change) → IsAsked s → IsCaseOf s case → IsCalmAsked s → AllByRecursion IsSmallTerm s.lower.now
 lower_terms_small s case is of calm = all_below s.lower.now (λ p o u. record { canonical = o.canonical; up_to = u }) (lower_of_sides s.columns.now s.lower.now (terms_of_sides s.columns.now case.terms (map Lower s.lower.now ++ One ∷ []) (case_given s case is of).over).1) calm.calm.lower_terms
 
 -- nothing is below any number
@@ -100,19 +100,19 @@ zero_below p e = subst (IsBelow 0) (sym e) (record { canonical = IsCanonical-nil
 
 -- ---- the supremum of the difference
 
-frame_at : (s : Strata) (case : Change) (numbers : List ℤ) → IsCaseOf s case → IsCalmRelation s numbers → IsCalmAsked s → IsCalmUpTo 1048576 (difference_frame s.columns.now s.lower.now numbers case)
+frame_at : (s : StrataQuestion) (case : Change) (numbers : List ℤ) → IsCaseOf s case → IsCalmRelation s numbers → IsCalmAsked s → IsCalmUpTo 1048576 (difference_frame s.columns.now s.lower.now numbers case)
 frame_at s case numbers of r calm = at_place (λ (c : Change). IsCalmUpTo 1048576 (difference_frame s.columns.now s.lower.now numbers c)) s.cases.now of.place case (r.frames calm) of.is
 
-half_small : (s : Strata) (case : Change) (numbers : List ℤ) (up : Bool) (p : Polynomial) → IsCaseOf s case → IsCalmRelation s numbers → IsDifferenceOf case.terms s.lower.now numbers up p → IsCalmAsked s → IsSmallFrame 1048576 (frame_over s.columns.now case.rows p) (length case.rows + 1)
+half_small : (s : StrataQuestion) (case : Change) (numbers : List ℤ) (up : Bool) (p : Polynomial) → IsCaseOf s case → IsCalmRelation s numbers → IsDifferenceOf case.terms s.lower.now numbers up p → IsCalmAsked s → IsSmallFrame 1048576 (frame_over s.columns.now case.rows p) (length case.rows + 1)
 half_small s case numbers up p of r d calm = difference_small 1048576 s.columns.now s.lower.now numbers case up p d (frame_at s case numbers of r calm)
 
-pub half_refusal : {X : Type 0} (s : Strata) (case : Change) (numbers : List ℤ) (up : Bool) (p : Polynomial) (r : Result X Stop) → IsCaseOf s case → IsCalmRelation s numbers → IsDifferenceOf case.terms s.lower.now numbers up p → IfErr r (IsRefusalIn (frame_over s.columns.now case.rows p) (length case.rows + 1)) → IfErr r (IsRefusalOf s)
+pub half_refusal : {X : Type 0} (s : StrataQuestion) (case : Change) (numbers : List ℤ) (up : Bool) (p : Polynomial) (r : Result X SearchStop) → IsCaseOf s case → IsCalmRelation s numbers → IsDifferenceOf case.terms s.lower.now numbers up p → IfErr r (IsRefusalIn (frame_over s.columns.now case.rows p) (length case.rows + 1)) → IfErr r (IsRefusalOf s)
 half_refusal s case numbers up p (Ok x) of r d o = tt
 half_refusal s case numbers up p (Err (Wide step)) of r d o = record { leaves = o.leaves; great = λ calm. o.great 1048576 (omega arith) (half_small s case numbers up p of r d calm) }
 half_refusal s case numbers up p (Err Memory) of r d o = tt
 
 -- the objective's own numbers are small
-objective_small : (s : Strata) (case : Change) (numbers : List ℤ) (up : Bool) (p : Polynomial) → IsAsked s → IsCaseOf s case → IsCalmRelation s numbers → IsDifferenceOf case.terms s.lower.now numbers up p → IsCalmAsked s → IsSmallPoly 1048576 s.columns.now p
+objective_small : (s : StrataQuestion) (case : Change) (numbers : List ℤ) (up : Bool) (p : Polynomial) → IsAsked s → IsCaseOf s case → IsCalmRelation s numbers → IsDifferenceOf case.terms s.lower.now numbers up p → IsCalmAsked s → IsSmallPoly 1048576 s.columns.now p
 objective_small s case numbers up p is of r d calm =
     small_poly 1048576 s.columns.now (with_goal case.rows p) (length case.rows) (record { poly = p; kind = AtMost }) given.ordered
     (own_small 1048576 s.columns.now (with_goal case.rows p) (subst (λ (n : ℕ). IsSmallFrame 1048576 (frame_over s.columns.now case.rows p) n) (sym (more_rows case.rows p)) (half_small s case numbers up p of r d calm)))
@@ -121,11 +121,11 @@ objective_small s case numbers up p is of r d calm =
     given : IsGiven s.columns.now case.rows case.terms s.lower.now
     given = case_given s case is of
 
-rows_calm : (s : Strata) (case : Change) → IsCaseOf s case → IsCalmAsked s → IsCalmUpTo 1048576 (row_frame s.columns.now case.rows)
+rows_calm : (s : StrataQuestion) (case : Change) → IsCaseOf s case → IsCalmAsked s → IsCalmUpTo 1048576 (row_frame s.columns.now case.rows)
 rows_calm s case of calm = at_place (λ (c : Change). IsCalmUpTo 1048576 (row_frame s.columns.now c.rows)) s.cases.now of.place case calm.calm.rows of.is
 
 -- the objective at the corner from which it grows without end
-pub growing_value : (s : Strata) (case : Change) (numbers : List ℤ) (up : Bool) (p : Polynomial) (budget : ℕ) (point ray : List Fraction) → IsAsked s → length s.columns.now < 2 ^ 64 → IsCaseOf s case → IsCalmRelation s numbers → IsDifferenceOf case.terms s.lower.now numbers up p → IsSupremumOver s.columns.now case.rows p budget (supremum.Unbounded point ray) → IsCalmAsked s
+pub growing_value : (s : StrataQuestion) (case : Change) (numbers : List ℤ) (up : Bool) (p : Polynomial) (budget : ℕ) (point ray : List Fraction) → IsAsked s → length s.columns.now < 2 ^ 64 → IsCaseOf s case → IsCalmRelation s numbers → IsDifferenceOf case.terms s.lower.now numbers up p → IsSupremumOver s.columns.now case.rows p budget (supremum.Unbounded point ray) → IsCalmAsked s
     → (v : Fraction) × (ratio_value (ratio_at s.columns.now point) p ≡ Ok v)
 growing_value s case numbers up p budget point ray is few of r d u calm = value_of (value_below s.columns.now point p given.ordered few (more_room s.columns.now point (corner_small s.columns.now case.rows p u.1.0 u.0 u.1.1.1.1.0.met (rows_calm s case of calm) point u.1.1.1.1.1))
     (record { canonical = d.canonical; among = difference-among s.columns.now case.terms s.lower.now numbers up p given.over d }) (record { terms = small.terms; rest = small.rest }))
@@ -140,7 +140,7 @@ growing_value s case numbers up p budget point ray is few of r d u calm = value_
     value_of v = (v.0, v.1.0)
 
 -- the corner and the ray together
-pub growing_sums : (s : Strata) (case : Change) (p : Polynomial) (budget : ℕ) (point ray : List Fraction) → IsCaseOf s case → IsSupremumOver s.columns.now case.rows p budget (supremum.Unbounded point ray) → IsCalmAsked s → (zs : List Fraction) × (sums_of point ray ≡ Ok zs)
+pub growing_sums : (s : StrataQuestion) (case : Change) (p : Polynomial) (budget : ℕ) (point ray : List Fraction) → IsCaseOf s case → IsSupremumOver s.columns.now case.rows p budget (supremum.Unbounded point ray) → IsCalmAsked s → (zs : List Fraction) × (sums_of point ray ≡ Ok zs)
 growing_sums s case p budget point ray of u calm = ray_sums s.columns.now case.rows p u.1.0 u.0 u.1.1.0 u.1.1.1.0 u.1.1.1.1.0 (rows_calm s case of calm) point ray u.1.1.1.1.1 u.1.1.1.1.2
 
 -- ---- the difference, step by step
@@ -165,7 +165,7 @@ signed_made ns ms up h e = again (signed_small ns up h)
         same zs f = let g : Ok zs ≡ Ok ms = sym f ∙ e in cc
 
 -- what is known of a relation whose difference is made
-pub record IsReady (s : Strata) (case : Change) (numbers : List ℤ) : Type 0 where
+pub record IsReady (s : StrataQuestion) (case : Change) (numbers : List ℤ) : Type 0 where
   pub asked : IsAsked s
   pub of : IsCaseOf s case
   pub many : length numbers ≡ s.count
@@ -173,7 +173,7 @@ pub record IsReady (s : Strata) (case : Change) (numbers : List ℤ) : Type 0 wh
   pub calm : IsCalmAsked s
   pub small : AllByRecursion (λ z. unsigned_abs z ≤ 1048576) numbers
 
-pub first_sum : (s : Strata) (case : Change) (numbers own : List ℤ) (up : Bool) (zero_poly : Polynomial) → IsReady s case numbers → zero_poly ≡ constant_of (pos 0) → line_multiple (take s.terms numbers) (sign_of up) ≡ Ok own
+pub first_sum : (s : StrataQuestion) (case : Change) (numbers own : List ℤ) (up : Bool) (zero_poly : Polynomial) → IsReady s case numbers → zero_poly ≡ constant_of (pos 0) → line_multiple (take s.terms numbers) (sign_of up) ≡ Ok own
     → (p : Polynomial) × ((with_multiples zero_poly own case.terms ≡ Ok p) × IsBelow (0 + length own * 1099511627776) p)
 first_sum s case numbers own up zero_poly k e f = multiples-below 0 zero_poly own case.terms (zero_below zero_poly e) m.0 (case_terms_small s case k.asked k.of k.calm)
     (let g : length own ≡ length (take s.terms numbers) = m.1 in let h : length (take s.terms numbers) ≤ length numbers = first_length s.terms numbers in let i : length numbers ≡ s.count = k.many in let j : s.count < 2 ^ 61 = k.few in omega (arith, g, h, i, j))
@@ -181,7 +181,7 @@ first_sum s case numbers own up zero_poly k e f = multiples-below 0 zero_poly ow
     m : AreSmallNumbers own × (length own ≡ length (take s.terms numbers))
     m = signed_made (take s.terms numbers) own up (first_small s.terms numbers k.small) f
 
-pub second_sum : (s : Strata) (case : Change) (numbers own others : List ℤ) (up : Bool) (zero_poly terms : Polynomial) → IsReady s case numbers → zero_poly ≡ constant_of (pos 0) → line_multiple (take s.terms numbers) (sign_of up) ≡ Ok own → line_multiple (drop s.terms numbers) (sign_of (not up)) ≡ Ok others → with_multiples zero_poly own case.terms ≡ Ok terms
+pub second_sum : (s : StrataQuestion) (case : Change) (numbers own others : List ℤ) (up : Bool) (zero_poly terms : Polynomial) → IsReady s case numbers → zero_poly ≡ constant_of (pos 0) → line_multiple (take s.terms numbers) (sign_of up) ≡ Ok own → line_multiple (drop s.terms numbers) (sign_of (not up)) ≡ Ok others → with_multiples zero_poly own case.terms ≡ Ok terms
     → (p : Polynomial) × ((with_multiples terms others s.lower.now ≡ Ok p) × IsBelow (2 ^ 110) p)
 second_sum s case numbers own others up zero_poly terms k e f g t = wider (multiples-below (0 + length own * 1099511627776) terms others s.lower.now below n.0 (lower_terms_small s case k.asked k.of k.calm) (omega (arith, room)))
   where
@@ -214,7 +214,7 @@ entry_small [] j h = omega arith
 entry_small (z ∷ ns) zero h = h.0
 entry_small (z ∷ ns) (suc j) h = entry_small ns j h.1
 
-pub third_sum : (s : Strata) (case : Change) (numbers own others : List ℤ) (up : Bool) (zero_poly terms sides : Polynomial) (last : ℤ) (place : ℕ) → IsReady s case numbers → zero_poly ≡ constant_of (pos 0) → line_multiple (take s.terms numbers) (sign_of up) ≡ Ok own → line_multiple (drop s.terms numbers) (sign_of (not up)) ≡ Ok others → with_multiples zero_poly own case.terms ≡ Ok terms → with_multiples terms others s.lower.now ≡ Ok sides → last ≡ entry others place
+pub third_sum : (s : StrataQuestion) (case : Change) (numbers own others : List ℤ) (up : Bool) (zero_poly terms sides : Polynomial) (last : ℤ) (place : ℕ) → IsReady s case numbers → zero_poly ≡ constant_of (pos 0) → line_multiple (take s.terms numbers) (sign_of up) ≡ Ok own → line_multiple (drop s.terms numbers) (sign_of (not up)) ≡ Ok others → with_multiples zero_poly own case.terms ≡ Ok terms → with_multiples terms others s.lower.now ≡ Ok sides → last ≡ entry others place
     → (p : Polynomial) × (sum_of_polys sides (constant_of last) ≡ Ok p)
 third_sum s case numbers own others up zero_poly terms sides last place k e f g t u is = made (sum-below (2 ^ 110) 1048576 sides (constant_of last) below (record { canonical = IsCanonical-nil; terms = λ m. omega (arith, ints); rest = subst (λ z. unsigned_abs z ≤ 1048576) (sym is) (entry_small others place n.0) }) (omega arith))
   where

@@ -18,8 +18,8 @@ use Rattle.simplex.specs.CalmStrata.{HasSmallScales, IsCalmAsked, IsCalmRelation
 use Rattle.simplex.specs.Points.{IsSpotAt, IsPointAt}
 use Rattle.simplex.specs.Spots.{AreSpotLines, frame_of_lines, IsSpotTableau, IsRelationOf, IsUnchosen, spots_framed}
 use Rattle.simplex.specs.Strata.{IsAsked, AreKnown}
-use Rattle.simplex.specs.declared.differences.Strata.{Strata}
-use Rattle.simplex.specs.declared.strata.Known.{Known}
+use Rattle.simplex.specs.declared.differences.StrataQuestion.{StrataQuestion}
+use Rattle.simplex.specs.declared.strata.KnownRelations.{KnownRelations}
 use Rattle.simplex.proofs.CalmPoints.{IsFramedPoint, point_framed}
 use Rattle.simplex.proofs.CalmRelations.{relation_framed, relation_small}
 use Rattle.simplex.proofs.CalmSpots.{small_spots}
@@ -33,19 +33,19 @@ use Rattle.simplex.proofs.SpotPoints.{spot_positive}
 use Rattle.simplex.proofs.Units.{IsPositiveAt, sides-lowest}
 
 -- the spots' points in the words of calm questions
-record AreFramed (s : Strata) (spots : List Spot) (lines : List (List ℤ)) : Type 0 where
+record AreFramed (s : StrataQuestion) (spots : List Spot) (lines : List (List ℤ)) : Type 0 where
   pub points : List SpotPoint
   pub many : length points ≡ length lines
   pub are : AllByRecursion (IsSpotOf s.columns.now s.cases.now) points
   pub lines_are : lines ≡ map (spot_line s.columns.now s.cases.now s.lower.now) points
 
-abbrev AreSpotsAt : Strata → List Spot → Type 0
+abbrev AreSpotsAt : StrataQuestion → List Spot → Type 0
 AreSpotsAt s spots = AllByRecursion (IsSpotAt s.columns.now s.cases.now) spots
 
-given_at : (s : Strata) (spot : Spot) → IsAsked s → (at : IsSpotAt s.columns.now s.cases.now spot) → IsGiven s.columns.now at.case.rows (terms_of s.cases.now spot.case) s.lower.now
+given_at : (s : StrataQuestion) (spot : Spot) → IsAsked s → (at : IsSpotAt s.columns.now s.cases.now spot) → IsGiven s.columns.now at.case.rows (terms_of s.cases.now spot.case) s.lower.now
 given_at s spot is at = subst (λ (ts : List Polynomial). IsGiven s.columns.now at.case.rows ts s.lower.now) (sym (terms_found s.cases.now spot.case at.case at.is)) (case_given s at.case is (record { place = spot.case; is = at.is }))
 
-framed : (s : Strata) (spots : List Spot) (lines : List (List ℤ)) (scales : List ℤ) → IsAsked s → AreSpotsAt s spots → AreSpotLines s.columns.now s.cases.now s.lower.now spots lines scales → AreFramed s spots lines
+framed : (s : StrataQuestion) (spots : List Spot) (lines : List (List ℤ)) (scales : List ℤ) → IsAsked s → AreSpotsAt s spots → AreSpotLines s.columns.now s.cases.now s.lower.now spots lines scales → AreFramed s spots lines
 framed s [] lines scales is at a = record { points = []; many = sym (ap length a.0); are = tt; lines_are = a.0 }
 framed s (spot ∷ spots) [] scales is at a = absurd a
 framed s (spot ∷ spots) (line ∷ lines) [] is at a = absurd a
@@ -60,7 +60,7 @@ framed s (spot ∷ spots) (line ∷ lines) (scale ∷ scales) is at a = joined (
           ∙ ap (λ (ls : List (List ℤ)). spot_line s.columns.now s.cases.now s.lower.now (record { case = spot.case; over = f.over; numbers = f.numbers }) ∷ ls) rest.lines_are;
     }
 
-frame_is : (s : Strata) (spots : List Spot) (lines : List (List ℤ)) → IsAsked s → s.count ≡ s.terms + length s.lower.now + 1 → (f : AreFramed s spots lines) → spot_frame s.columns.now s.cases.now s.lower.now f.points ≡ frame_of_lines s.count lines
+frame_is : (s : StrataQuestion) (spots : List Spot) (lines : List (List ℤ)) → IsAsked s → s.count ≡ s.terms + length s.lower.now + 1 → (f : AreFramed s spots lines) → spot_frame s.columns.now s.cases.now s.lower.now f.points ≡ frame_of_lines s.count lines
 frame_is s spots lines is count f =
     ap (λ (ls : List (List ℤ)). frame ls (unknown_count s.cases.now s.lower.now)) (sym f.lines_are)
     ∙ ap (λ (n : ℕ). frame lines n) (ap (λ (n : ℕ). n + length s.lower.now + 1) (sym is.terms) ∙ sym count)
@@ -68,22 +68,22 @@ frame_is s spots lines is count f =
     frame : List (List ℤ) → ℕ → Frame
     frame ls n = record { lines = ls; units = n }
 
-few_points : (s : Strata) (spots : List Spot) (lines : List (List ℤ)) → IsAsked s → s.count ≡ s.terms + length s.lower.now + 1 → length lines ≤ s.count → (f : AreFramed s spots lines) → length f.points ≤ unknown_count s.cases.now s.lower.now
+few_points : (s : StrataQuestion) (spots : List Spot) (lines : List (List ℤ)) → IsAsked s → s.count ≡ s.terms + length s.lower.now + 1 → length lines ≤ s.count → (f : AreFramed s spots lines) → length f.points ≤ unknown_count s.cases.now s.lower.now
 few_points s spots lines is count few f = subst (λ (n : ℕ). length f.points ≤ n) (count ∙ ap (λ (n : ℕ). n + length s.lower.now + 1) is.terms) (let e : length f.points ≡ length lines = f.many in omega (arith, e, few))
 
 -- the frame of the lines of spots
-pub lines_calm : (s : Strata) (spots : List Spot) (lines : List (List ℤ)) (scales : List ℤ) → IsAsked s → s.count ≡ s.terms + length s.lower.now + 1 → AllByRecursion (IsSpotAt s.columns.now s.cases.now) spots → AreSpotLines s.columns.now s.cases.now s.lower.now spots lines scales → length lines ≤ s.count → IsCalmAsked s → IsCalmUpTo 1048576 (frame_of_lines s.count lines)
+pub lines_calm : (s : StrataQuestion) (spots : List Spot) (lines : List (List ℤ)) (scales : List ℤ) → IsAsked s → s.count ≡ s.terms + length s.lower.now + 1 → AllByRecursion (IsSpotAt s.columns.now s.cases.now) spots → AreSpotLines s.columns.now s.cases.now s.lower.now spots lines scales → length lines ≤ s.count → IsCalmAsked s → IsCalmUpTo 1048576 (frame_of_lines s.count lines)
 lines_calm s spots lines scales is count at a few calm =
     subst (IsCalmUpTo 1048576) (frame_is s spots lines is count f) (calm.calm.spots f.points (few_points s spots lines is count few f) f.are)
   where
     f : AreFramed s spots lines
     f = framed s spots lines scales is at a
 
-pub known_calm : (s : Strata) (known : Known) → IsAsked s → s.count ≡ s.terms + length s.lower.now + 1 → AreKnown s known → IsCalmAsked s → IsCalmUpTo 1048576 (frame_of_lines s.count known.spots.lines)
+pub known_calm : (s : StrataQuestion) (known : KnownRelations) → IsAsked s → s.count ≡ s.terms + length s.lower.now + 1 → AreKnown s known → IsCalmAsked s → IsCalmUpTo 1048576 (frame_of_lines s.count known.spots.lines)
 known_calm s known is count k calm = lines_calm s known.spots.spots known.spots.lines known.spots.scales is count k.points k.lines (few_spots s.count known.spots k.spots) calm
 
 -- a relation that is read off
-pub relation_calm : (s : Strata) (known : Known) (u : ℕ) (numbers : List ℤ) → IsAsked s → s.count ≡ s.terms + length s.lower.now + 1 → AreKnown s known → u < s.count → IsUnchosen known.spots.tableau u → IsRelationOf s.count known.spots.tableau u numbers → IsCalmRelation s numbers
+pub relation_calm : (s : StrataQuestion) (known : KnownRelations) (u : ℕ) (numbers : List ℤ) → IsAsked s → s.count ≡ s.terms + length s.lower.now + 1 → AreKnown s known → u < s.count → IsUnchosen known.spots.tableau u → IsRelationOf s.count known.spots.tableau u numbers → IsCalmRelation s numbers
 relation_calm s known u numbers is count k here free r = record {
   small = λ calm. relation_small s.count known.spots.lines known.spots.tableau u numbers k.spots.tableau k.spots.chosen here free r (known_calm s known is count k calm);
   frames = λ calm. calm.calm.relations f.points numbers (few_points s known.spots.spots known.spots.lines is count (few_spots s.count known.spots k.spots) f) f.are
@@ -95,7 +95,7 @@ relation_calm s known u numbers is count k here free r = record {
 
 -- ---- a new spot
 
-pub new_spot_calm : (s : Strata) (known : Known) (u place : ℕ) (at : List Fraction) → IsAsked s → s.count ≡ s.terms + length s.lower.now + 1 → length s.columns.now < 2 ^ 64 → AreKnown s known → u < s.count → IsUnchosen known.spots.tableau u → IsPointAt s.columns.now s.cases.now place at → IsCalmSpot s (terms_of s.cases.now place) at known.spots.lines
+pub new_spot_calm : (s : StrataQuestion) (known : KnownRelations) (u place : ℕ) (at : List Fraction) → IsAsked s → s.count ≡ s.terms + length s.lower.now + 1 → length s.columns.now < 2 ^ 64 → AreKnown s known → u < s.count → IsUnchosen known.spots.tableau u → IsPointAt s.columns.now s.cases.now place at → IsCalmSpot s (terms_of s.cases.now place) at known.spots.lines
 new_spot_calm s known u place at is count few k here free point = record {
   made = λ calm. subst (λ (ts : List Polynomial). HasSpotLine s.columns.now at ts s.lower.now) (sym (terms_found s.cases.now place point.case point.is)) (spot_line_made s point.case at is (record { place = place; is = point.is }) few point.point calm);
   frame = λ calm line scale own. lines_calm s (known.spots.spots ++ spot ∷ []) (known.spots.lines ++ line ∷ []) (known.spots.scales ++ scale ∷ []) is count
@@ -123,7 +123,7 @@ own_lines count lines calm = small_lines count lines (λ l h j g. subst (λ z. u
     own : IsSpotTableau count lines (spots_framed count lines)
     own = spots_framed-is count lines (spots_framed count lines) refl
 
-scales_small : (s : Strata) (spots : List Spot) (lines : List (List ℤ)) (scales : List ℤ) → IsAsked s → AreSpotsAt s spots → AreSpotLines s.columns.now s.cases.now s.lower.now spots lines scales → AllByRecursion (λ (line : List ℤ). length line ≡ s.count) lines → AllByRecursion (IsSmallTo s.count) lines → AllByRecursion (λ z. unsigned_abs z ≤ 1048576) scales
+scales_small : (s : StrataQuestion) (spots : List Spot) (lines : List (List ℤ)) (scales : List ℤ) → IsAsked s → AreSpotsAt s spots → AreSpotLines s.columns.now s.cases.now s.lower.now spots lines scales → AllByRecursion (λ (line : List ℤ). length line ≡ s.count) lines → AllByRecursion (IsSmallTo s.count) lines → AllByRecursion (λ z. unsigned_abs z ≤ 1048576) scales
 scales_small s [] lines scales is at a long small = subst (λ (ks : List ℤ). AllByRecursion (λ z. unsigned_abs z ≤ 1048576) ks) (sym a.1) tt
 scales_small s (spot ∷ spots) [] scales is at a long small = absurd a
 scales_small s (spot ∷ spots) (line ∷ lines) [] is at a long small = absurd a
@@ -139,7 +139,7 @@ scales_small s (spot ∷ spots) (line ∷ lines) (scale ∷ scales) is at a long
     by_last : HasLastNumber line scale → unsigned_abs scale ≤ 1048576
     by_last l = subst (λ z. unsigned_abs z ≤ 1048576) l.is (subst (λ (n : ℕ). n ≤ 1048576) (sym (turned (entry line l.place))) (small.0 l.place (subst (λ (n : ℕ). l.place < n) long.0 l.within)))
 
-pub known_scales : (s : Strata) (known : Known) → IsAsked s → s.count ≡ s.terms + length s.lower.now + 1 → AreKnown s known → HasSmallScales s.count known.spots
+pub known_scales : (s : StrataQuestion) (known : KnownRelations) → IsAsked s → s.count ≡ s.terms + length s.lower.now + 1 → AreKnown s known → HasSmallScales s.count known.spots
 known_scales s known is count k = record {
   small = λ calm. scales_small s known.spots.spots known.spots.lines known.spots.scales is k.points k.lines (lines_long s known.spots.spots known.spots.lines known.spots.scales is count k.points k.lines) (own_lines s.count known.spots.lines calm);
 }

@@ -23,7 +23,7 @@ use Rattle.farkas_check.proofs.PointValues.{Stands}
 use Rattle.simplex.specs.Exchange.{numbers_of, choices_of, IsTableauOf}
 use Rattle.simplex.specs.Points.{IsCornerPoint, IsRayPoint, IsPointOf}
 use Rattle.simplex.specs.Raise.{sign_of, enters_at}
-use Rattle.simplex.specs.Rows.{kinds_of, framed}
+use Rattle.simplex.specs.Rows.{kinds_of, framed_tableau}
 use Rattle.simplex.specs.Search.{IsMet, IsUnit}
 use Rattle.simplex.specs.Suprema.{with_goal, frame_over, IsOpened}
 use Rattle.simplex.specs.declared.tableau.Tableau.{Tableau}
@@ -47,7 +47,7 @@ module _ (cs : List (List Col)) (rows : List Row) (p : Polynomial) (enters : Lis
   many : length t.lines ≡ length rows + 1
   many = sym k.placed.marked.sized.many ∙ kinds-length (with_goal rows p) ∙ more_rows rows p
 
-  pub tableau_is : IsTableauOf (length cs + 1) (numbers_of (framed cs (with_goal rows p))) t
+  pub tableau_is : IsTableauOf (length cs + 1) (numbers_of (framed_tableau cs (with_goal rows p))) t
   tableau_is = k.placed.marked.sized.tableau
 
   pub row-inside : (i : ℕ) → i < length rows → i < length t.lines
@@ -98,7 +98,7 @@ module _ (cs : List (List Col)) (rows : List Row) (p : Polynomial) (enters : Lis
   big_many = many ∙ sym (lines-length cs (with_goal rows p) ∙ more_rows rows p)
 
   big : IsTableau (frame_of cs (row_polys (with_goal rows p) [])) t.chosen (whole_over t) (multiple_of t)
-  big = is_tableau (frame_of cs (row_polys (with_goal rows p) [])) (numbers_of (framed cs (with_goal rows p))) t (row_numbers cs (with_goal rows p)) big_many tableau_is
+  big = is_tableau (frame_of cs (row_polys (with_goal rows p) [])) (numbers_of (framed_tableau cs (with_goal rows p))) t (row_numbers cs (with_goal rows p)) big_many tableau_is
 
   abbrev big_part : ℕ → ℕ → ℕ → ℤ
   big_part l j i = multiple_of t i j *ℤ number_in (frame_of cs (row_polys (with_goal rows p) [])) l (choices_of t i)

@@ -23,9 +23,9 @@ use Rattle.simplex.specs.Exchange.{cause}
 use Rattle.simplex.specs.Refusal.{LeavesBits, IsRefusal}
 use Rattle.simplex.specs.Spots.{values_of, AreSideValues, common_denominator, numerators_over, frame_of_lines}
 use Rattle.simplex.specs.Strata.{IsAsked, IsCaseOf}
-use Rattle.simplex.specs.declared.differences.Strata.{Strata}
-use Rattle.simplex.specs.declared.stop.Stop.{Stop}
-use Rattle.simplex.specs.declared.stop.Stop.TheVariants.{Wide, Memory}
+use Rattle.simplex.specs.declared.differences.StrataQuestion.{StrataQuestion}
+use Rattle.simplex.specs.declared.stop.SearchStop.{SearchStop}
+use Rattle.simplex.specs.declared.stop.SearchStop.TheVariants.{Wide, Memory}
 use Rattle.simplex.proofs.Cases.{at_place}
 use Rattle.simplex.proofs.Further.{IsGiven, case_given}
 use Rattle.simplex.proofs.Memory.{only_memory, never}
@@ -38,21 +38,21 @@ use Rattle.farkas_check.proofs.PointValues.{Stands-whole}
 
 -- ---- errors
 
-pub under_error : {X : Type 0} (s : Strata) (count : ℕ) (lines : List (List ℤ)) (r : Result X Stop) → IfErr r (IsRefusalUnder count lines) → (IsCalmAsked s → IsCalmUpTo 1048576 (frame_of_lines count lines)) → IfErr r (IsRefusalOf s)
+pub under_error : {X : Type 0} (s : StrataQuestion) (count : ℕ) (lines : List (List ℤ)) (r : Result X SearchStop) → IfErr r (IsRefusalUnder count lines) → (IsCalmAsked s → IsCalmUpTo 1048576 (frame_of_lines count lines)) → IfErr r (IsRefusalOf s)
 under_error s count lines (Ok x) h calm = tt
 under_error s count lines (Err (Wide step)) h calm = record { leaves = h.leaves; great = λ c. h.great (calm c) }
 under_error s count lines (Err Memory) h calm = tt
 
-pub refusal_error : {X : Type 0} (s : Strata) (r : Result X Stop) → IfErr r IsRefusal → (IsCalmAsked s → IfErr r IsMemory) → IfErr r (IsRefusalOf s)
+pub refusal_error : {X : Type 0} (s : StrataQuestion) (r : Result X SearchStop) → IfErr r IsRefusal → (IsCalmAsked s → IfErr r IsMemory) → IfErr r (IsRefusalOf s)
 refusal_error s (Ok x) h calm = tt
 refusal_error s (Err (Wide step)) h calm = record { leaves = h; great = calm }
 refusal_error s (Err Memory) h calm = tt
 
-pub step_error : {X : Type 0} (s : Strata) (r : Result X Step.Wide) → IfErr r LeavesBits → (IsCalmAsked s → IfErr r (λ _. ⊥)) → IfErr r (IsStray s)
+pub step_error : {X : Type 0} (s : StrataQuestion) (r : Result X Step.Wide) → IfErr r LeavesBits → (IsCalmAsked s → IfErr r (λ _. ⊥)) → IfErr r (IsStray s)
 step_error s (Ok x) h calm = tt
 step_error s (Err step) h calm = record { leaves = h; great = calm }
 
-pub error_under : {X : Type 0} (count : ℕ) (lines : List (List ℤ)) (r : Result X Stop) → IfErr r IsRefusal → (IsCalmUpTo 1048576 (frame_of_lines count lines) → IfErr r IsMemory) → IfErr r (IsRefusalUnder count lines)
+pub error_under : {X : Type 0} (count : ℕ) (lines : List (List ℤ)) (r : Result X SearchStop) → IfErr r IsRefusal → (IsCalmUpTo 1048576 (frame_of_lines count lines) → IfErr r IsMemory) → IfErr r (IsRefusalUnder count lines)
 error_under count lines (Ok x) h calm = tt
 error_under count lines (Err (Wide step)) h calm = record { leaves = h; great = calm }
 error_under count lines (Err Memory) h calm = tt
@@ -62,16 +62,16 @@ step_under count lines (Ok x) h calm = tt
 step_under count lines (Err step) h calm = record { leaves = h; great = calm }
 
 -- a call whose stated answer is a value fails by want of memory alone
-pub gives_memory : {X Y : Type 0} (view : X → Y) (r : Result X Stop) (stated : Result Y Step.Wide) → Gives cause view r stated → HasValue stated → IfErr r IsMemory
+pub gives_memory : {X Y : Type 0} (view : X → Y) (r : Result X SearchStop) (stated : Result Y Step.Wide) → Gives cause view r stated → HasValue stated → IfErr r IsMemory
 gives_memory view (Ok x) stated g v = tt
 gives_memory view (Err e) stated g v = only_memory e stated g v
 
-pub plain_error : {X : Type 0} (s : Strata) (r : Result X Stop) → IfErr r (IsRefusalOf s) → IfErr r IsRefusal
+pub plain_error : {X : Type 0} (s : StrataQuestion) (r : Result X SearchStop) → IfErr r (IsRefusalOf s) → IfErr r IsRefusal
 plain_error s (Ok x) h = tt
 plain_error s (Err (Wide step)) h = h.leaves
 plain_error s (Err Memory) h = tt
 
-pub calm_error : {X : Type 0} (s : Strata) (r : Result X Stop) → IfErr r (IsRefusalOf s) → IsCalmAsked s → IfErr r IsMemory
+pub calm_error : {X : Type 0} (s : StrataQuestion) (r : Result X SearchStop) → IfErr r (IsRefusalOf s) → IsCalmAsked s → IfErr r IsMemory
 calm_error s (Ok x) h calm = tt
 calm_error s (Err (Wide step)) h calm = h.great calm
 calm_error s (Err Memory) h calm = tt
@@ -104,7 +104,7 @@ less_one d above small = record { number = negsuc 0 *ℤ d; is = record { stands
         same d = omega (arith, ints)
 
 -- a spot at a point that the search meets has a line, where the question is calm
-pub spot_line_made : (s : Strata) (case : Change) (at : List Fraction) → IsAsked s → IsCaseOf s case → length s.columns.now < 2 ^ 64 → IsPointOf s.columns.now case.rows at → IsCalmAsked s → HasSpotLine s.columns.now at case.terms s.lower.now
+pub spot_line_made : (s : StrataQuestion) (case : Change) (at : List Fraction) → IsAsked s → IsCaseOf s case → length s.columns.now < 2 ^ 64 → IsPointOf s.columns.now case.rows at → IsCalmAsked s → HasSpotLine s.columns.now at case.terms s.lower.now
 spot_line_made s case at is of few point calm = with_own (values-with (IsRatioBelow (2 ^ 126) h.over) (ratio_value (ratio_at s.columns.now at)) case.terms terms_fit)
   where
     given : IsGiven s.columns.now case.rows case.terms s.lower.now
@@ -172,6 +172,6 @@ pub never_is : {X : Type 0} (r stated : Result X Step.Wide) → r ≡ stated →
 never_is {X = X} r stated e v = subst (λ (q : Result X Step.Wide). IfErr q (λ _. ⊥)) (sym e) (never stated v)
 
 -- a case past the last that is counted is none of a calm question
-pub far_error : {X : Type 0} (s : Strata) (place : ℕ) (r : Result X Step.Wide) → IfErr r (λ step. LeavesBits step × (2 ^ 32 ≤ place)) → place < length s.cases.now → IfErr r (IsStray s)
+pub far_error : {X : Type 0} (s : StrataQuestion) (place : ℕ) (r : Result X Step.Wide) → IfErr r (λ step. LeavesBits step × (2 ^ 32 ≤ place)) → place < length s.cases.now → IfErr r (IsStray s)
 far_error s place (Ok x) h here = tt
 far_error s place (Err step) h here = record { leaves = h.0; great = λ calm. let few : length s.cases.now ≤ 4294967296 = calm.few_cases in let far : 2 ^ 32 ≤ place = h.1 in omega (arith, few, far, here) }

@@ -16,7 +16,7 @@ use Rattle.farkas_check.specs.Multiples.{Form, are_multipliers, sum_of_multiples
 use Rattle.farkas_check.specs.Parts.{and_then}
 use Rattle.farkas_check.specs.Relations.{Side, Term, Lower, One, sides, numbers_of, term_count, unknown_count, with_side, with_sides, coefficient_at, rest_of, difference_numbers, difference_form}
 use Rattle.farkas_check.specs.Sizes.{HasNumbersUpTo}
-use Rattle.farkas_check.specs.Stratum.{all_of, multiples_of, multiple_of, scaled_up, scaled_down, tested_multiple, tested_half, tested_tie, tested_relation, has_unknowns}
+use Rattle.farkas_check.specs.Stratum.{all_of, multiples_of, multiple_of, scale_times, minus_scale_times, tested_multiple, tested_half, tested_tie, tested_relation, has_unknowns}
 use Rattle.farkas_check.specs.declared.stratum.Change.{Change}
 use Rattle.farkas_check.specs.declared.stratum.Relation.{Relation}
 use Rattle.farkas_check.specs.declared.stratum.Tie.{Tie}
@@ -168,10 +168,10 @@ multiple_of-fits times most form f h k = both (multiples_of-fits times most form
         (then-value (times form.rest) (λ last. form_ok (record { numbers = numbers.0; rest = last })) rest.0 rest.1 (record { numbers = numbers.0; rest = rest.0 }, refl))
 
 -- a number that is no greater than a difference, times a scale
-scaled_up-fits : (scale z : ℤ) (most : ℕ) → unsigned_abs scale ≤ 1048576 → unsigned_abs z ≤ most → 1048576 * most < 2 ^ 127 → HasSize (scaled_up scale z) (1048576 * most)
+scaled_up-fits : (scale z : ℤ) (most : ℕ) → unsigned_abs scale ≤ 1048576 → unsigned_abs z ≤ most → 1048576 * most < 2 ^ 127 → HasSize (scale_times scale z) (1048576 * most)
 scaled_up-fits scale z most s h room = product-size scale z (1048576 * most) (product-small 1048576 most scale z s h) room
 
-scaled_down-fits : (scale z : ℤ) (most : ℕ) → unsigned_abs scale ≤ 1048576 → unsigned_abs z ≤ most → 1048576 * most < 2 ^ 127 → HasSize (scaled_down scale z) (1048576 * most)
+scaled_down-fits : (scale z : ℤ) (most : ℕ) → unsigned_abs scale ≤ 1048576 → unsigned_abs z ≤ most → 1048576 * most < 2 ^ 127 → HasSize (minus_scale_times scale z) (1048576 * most)
 scaled_down-fits scale z most s h room =
     then-size (product_of scale z) (λ part. product_of part (negsuc 0)) (1048576 * most) (1048576 * most) (scaled_up-fits scale z most s h room) (λ part k. minus-size part (1048576 * most) k room)
 
@@ -230,9 +230,9 @@ half-fits scaled cs lower numbers case scale by times k l m few b = second-fits 
 
 pub tie-fits : (cs : List (List Col)) (lower : List Polynomial) (numbers : List ℤ) (case : Change) (tie : Tie) → IsSmallCase cs case → AllByRecursion (HasNumbersUpTo 1048576) lower → AreAtMost 1048576 numbers → length numbers < 2 ^ 61 → IsSmallTie tie → HasValue (tested_tie cs lower numbers case tie)
 tie-fits cs lower numbers case tie k l m few t =
-    both-fit (tested_half scaled_up cs case.rows (difference_form numbers (sides case.terms lower) cs) tie.up_scale tie.up) (tested_half scaled_down cs case.rows (difference_form numbers (sides case.terms lower) cs) tie.down_scale tie.down)
-    (half-fits scaled_up cs lower numbers case tie.up_scale tie.up (λ z h. scaled_up-fits tie.up_scale z (length numbers * 1099511627776) t.up_scale h (omega (arith, few))) k l m few t.up)
-    (half-fits scaled_down cs lower numbers case tie.down_scale tie.down (λ z h. scaled_down-fits tie.down_scale z (length numbers * 1099511627776) t.down_scale h (omega (arith, few))) k l m few t.down)
+    both-fit (tested_half scale_times cs case.rows (difference_form numbers (sides case.terms lower) cs) tie.up_scale tie.up) (tested_half minus_scale_times cs case.rows (difference_form numbers (sides case.terms lower) cs) tie.down_scale tie.down)
+    (half-fits scale_times cs lower numbers case tie.up_scale tie.up (λ z h. scaled_up-fits tie.up_scale z (length numbers * 1099511627776) t.up_scale h (omega (arith, few))) k l m few t.up)
+    (half-fits minus_scale_times cs lower numbers case tie.down_scale tie.down (λ z h. scaled_down-fits tie.down_scale z (length numbers * 1099511627776) t.down_scale h (omega (arith, few))) k l m few t.down)
 
 ties-fit : (cs : List (List Col)) (lower : List Polynomial) (numbers : List ℤ) (cases : List Change) (ties : List Tie) → AllByRecursion (IsSmallCase cs) cases → AllByRecursion (HasNumbersUpTo 1048576) lower → AreAtMost 1048576 numbers → length numbers < 2 ^ 61 → AllByRecursion IsSmallTie ties
     → AllByRecursion (λ (p : Change × Tie). HasValue (tested_tie cs lower numbers p.0 p.1)) (zip cases ties)

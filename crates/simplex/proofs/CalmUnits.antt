@@ -22,7 +22,7 @@ use Rattle.farkas_check.specs.Points.{ratio_at, ratio_value, meets}
 use Rattle.farkas_check.specs.Rational.{terms_at}
 use Rattle.farkas_check.specs.Ratios.{Fraction, IsLowest, whole, lowest_terms, ratio_product, ratio_sum}
 use Rattle.farkas_check.specs.Relations.{entry, stratum_columns, case_monos}
-use Rattle.farkas_check.specs.Stratum.{all_of, rows_of, terms_of, spot_value, tested_spot, spot_side, spots_from, is_exactly, unit_at, tested_at, tested_unit, tested_free}
+use Rattle.farkas_check.specs.Stratum.{all_of, rows_of, terms_of, spot_value, tested_spot, spot_side, spots_from, is_exactly, unit_at, unit_test_at, tested_unit, tested_free}
 use Rattle.farkas_check.specs.declared.stratum.Change.{Change}
 use Rattle.farkas_check.specs.declared.stratum.Spot.{Spot}
 use Rattle.farkas_check.proofs.Farkas.{bool_ok, both_true}
@@ -275,16 +275,16 @@ pub record AreSmallSpots (cs : List (List Col)) (cases : List Change) (lower : L
 unit-fits : (cs : List (List Col)) (cases : List Change) (lower : List Polynomial) (count : ℕ) (spots : List Spot) (lines : List (List ℤ)) (scales : List ℤ) (others : List ℕ) (place : ℕ) (by : List Fraction) → AreSmallSpots cs cases lower spots lines scales → IsSmallUnitList count scales by
     → HasValue (tested_unit (spot_side cs cases lower) spots others place by)
 unit-fits cs cases lower count spots lines scales others place by k u =
-    second-fits (length by == length spots) (all_of (tested_at (spot_side cs cases lower) spots place by) others) (λ e. all_of-fits (tested_at (spot_side cs cases lower) spots place by) others (each others))
+    second-fits (length by == length spots) (all_of (unit_test_at (spot_side cs cases lower) spots place by) others) (λ e. all_of-fits (unit_test_at (spot_side cs cases lower) spots place by) others (each others))
   where
-    at : (other : ℕ) → HasValue (tested_at (spot_side cs cases lower) spots place by other)
+    at : (other : ℕ) → HasValue (unit_test_at (spot_side cs cases lower) spots place by other)
     at other = after (units-fit cs cases lower other count u.line u.own (pos 0) 0 (whole (pos 0)) spots lines scales by u.above u.own_small u.line_small k.positive k.are k.lines_small k.scales_small u.is (IsRatio-nothing u.own) (omega arith) (let few : length spots < 2 ^ 61 = k.few in omega (arith, few)))
       where
-        after : HasSmallBottom (spots_from (λ spot. spot_side cs cases lower spot other) (whole (pos 0)) spots by) → HasValue (tested_at (spot_side cs cases lower) spots place by other)
+        after : HasSmallBottom (spots_from (λ spot. spot_side cs cases lower spot other) (whole (pos 0)) spots by) → HasValue (unit_test_at (spot_side cs cases lower) spots place by other)
         after total =
             then-value (spots_from (λ spot. spot_side cs cases lower spot other) (whole (pos 0)) spots by) (λ sum. is_exactly sum (unit_at place other)) total.0 total.1.0 (exactly-fits total.0 (unit_at place other) total.1.1 (unit_at-small place other))
 
-    each : (xs : List ℕ) → AllByRecursion (λ (other : ℕ). HasValue (tested_at (spot_side cs cases lower) spots place by other)) xs
+    each : (xs : List ℕ) → AllByRecursion (λ (other : ℕ). HasValue (unit_test_at (spot_side cs cases lower) spots place by other)) xs
     each [] = tt
     each (x ∷ xs) = (at x, each xs)
 

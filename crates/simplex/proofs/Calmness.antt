@@ -22,7 +22,7 @@ use Rattle.farkas_check.specs.Sizes.{row_polys}
 use Rattle.simplex.specs.Exchange.{numbers_of, choices_of, IsTableauOf}
 use Rattle.simplex.specs.Raise.{Framed}
 use Rattle.simplex.specs.Refusal.{IsSmallFrame}
-use Rattle.simplex.specs.Rows.{coefficients, units_to, lines_from, framed, framed_by}
+use Rattle.simplex.specs.Rows.{coefficients, units_to, lines_from, framed_tableau, frame_of_rows}
 use Rattle.simplex.specs.declared.tableau.Tableau.{Tableau}
 use Rattle.simplex.proofs.Corners.{over, share, part, moved, moved-sum, moved-solves}
 use Rattle.simplex.proofs.Eliminations.{choose_apart}
@@ -75,29 +75,29 @@ same_number cs count place (row ∷ rows) zero j h =
     ∙ sym (at_front (coefficients row cs ++ row.poly.rest ∷ []) (units_to count place) (pos 0) j (subst (λ (n : ℕ). j < n) (sym (front-length cs row)) h))
 same_number cs count place (row ∷ rows) (suc l) j h = same_number cs count (place + 1) rows l j h
 
-pub frame_numbers : (cs : List (List Col)) (rows : List Row) (l j : ℕ) → l < length rows → j < length cs + 1 + length rows → number_in (frame_of cs (row_polys rows [])) l j ≡ numbers_of (framed cs rows) l j
+pub frame_numbers : (cs : List (List Col)) (rows : List Row) (l j : ℕ) → l < length rows → j < length cs + 1 + length rows → number_in (frame_of cs (row_polys rows [])) l j ≡ numbers_of (framed_tableau cs rows) l j
 frame_numbers cs rows l j h k = ⊎_elim (λ (a : j < length cs + 1). before a) (λ (b : length cs + 1 ≤ j). behind b) (cases_lt j (length cs + 1))
   where
     own : ℤ
     own = entry (get_or (map (line_of cs) (row_polys rows [])) l []) j
 
-    before : j < length cs + 1 → cond (nat_lt j (length cs + 1)) own (cond (j == length cs + 1 + l) (pos 1) (pos 0)) ≡ numbers_of (framed cs rows) l j
+    before : j < length cs + 1 → cond (nat_lt j (length cs + 1)) own (cond (j == length cs + 1 + l) (pos 1) (pos 0)) ≡ numbers_of (framed_tableau cs rows) l j
     before a = ap (λ (b : Bool). cond b own (cond (j == length cs + 1 + l) (pos 1) (pos 0))) (lt-ltb j (length cs + 1) a) ∙ same_number cs (length rows) 0 rows l j a
 
     not_before : (a b : ℕ) → b ≤ a → (q : Bool) → nat_lt a b ≡ q → q ≡ false
     not_before a b m true e = absurd (let h : a < b = ltb-true a b e in omega (arith, m, h))
     not_before a b m false e = refl
 
-    behind : length cs + 1 ≤ j → cond (nat_lt j (length cs + 1)) own (cond (j == length cs + 1 + l) (pos 1) (pos 0)) ≡ numbers_of (framed cs rows) l j
+    behind : length cs + 1 ≤ j → cond (nat_lt j (length cs + 1)) own (cond (j == length cs + 1 + l) (pos 1) (pos 0)) ≡ numbers_of (framed_tableau cs rows) l j
     behind b =
         ap (λ (q : Bool). cond q own (cond (j == length cs + 1 + l) (pos 1) (pos 0))) (not_before j (length cs + 1) b (nat_lt j (length cs + 1)) refl)
         ∙ at_unit (j - (length cs + 1)) (omega (arith, b))
       where
-        at_unit : (u : ℕ) → j ≡ length cs + 1 + u → cond (nat_eq j (length cs + 1 + l)) (pos 1) (pos 0) ≡ numbers_of (framed cs rows) l j
+        at_unit : (u : ℕ) → j ≡ length cs + 1 + u → cond (nat_eq j (length cs + 1 + l)) (pos 1) (pos 0) ≡ numbers_of (framed_tableau cs rows) l j
         at_unit u e =
             ⊎_elim (λ (same : u ≡ l). ap (λ (q : Bool). cond q (pos 1) (pos 0)) (eq-eqb j (length cs + 1 + l) (omega (arith, e, same)) ∙ sym (eq-eqb u l same)))
             (λ other. ap (λ (q : Bool). cond q (pos 1) (pos 0)) (ne_eqb j (length cs + 1 + l) (λ f. other (omega (arith, e, f))) ∙ sym (ne_eqb u l other))) (cases_eq u l)
-            ∙ sym (ap (numbers_of (framed cs rows) l) e ∙ numbers-unit cs rows l u h (omega (arith, e, k)))
+            ∙ sym (ap (numbers_of (framed_tableau cs rows) l) e ∙ numbers-unit cs rows l u h (omega (arith, e, k)))
 
 -- ---- a tableau of the code as rational multiples over one denominator
 
@@ -147,7 +147,7 @@ is_tableau f frame t numbers many s = record {
         ∙ ap (λ (n : ℕ). sum_below n (λ i. multiple_of t i j *ℤ number_in f l (get_or t.chosen i 0))) many
 
 -- the frame of rows
-pub row_numbers : (cs : List (List Col)) (rows : List Row) → HasNumbers (frame_of cs (row_polys rows [])) (numbers_of (framed cs rows))
+pub row_numbers : (cs : List (List Col)) (rows : List Row) → HasNumbers (frame_of cs (row_polys rows [])) (numbers_of (framed_tableau cs rows))
 row_numbers cs rows l j h k = frame_numbers cs rows l j (subst (λ (n : ℕ). l < n) (lines-length cs rows) h) (subst (λ (n : ℕ). j < length cs + 1 + n) (lines-length cs rows) k)
 
 -- ---- lines
@@ -210,8 +210,8 @@ small_frame_of n f frame rows same calm t many s primitive i j =
         divides : common ∣ (gcd_of_all (get_or t.lines i []) * unsigned_abs (share_of t i))
         divides = divides_all common (unsigned_abs (share_of t i)) (get_or t.lines i []) size_above each
 
-pub small_frame : (n : ℕ) (cs : List (List Col)) (rows : List Row) → IsCalmUpTo n (frame_of cs (row_polys rows [])) → IsSmallFrame n (framed_by cs rows) (length rows)
-small_frame n cs rows calm = subst (λ (count : ℕ). IsSmallFrame n (framed_by cs rows) count) (lines-length cs rows) (small_frame_of n (frame_of cs (row_polys rows [])) (numbers_of (framed cs rows)) (length rows) (row_numbers cs rows) calm)
+pub small_frame : (n : ℕ) (cs : List (List Col)) (rows : List Row) → IsCalmUpTo n (frame_of cs (row_polys rows [])) → IsSmallFrame n (frame_of_rows cs rows) (length rows)
+small_frame n cs rows calm = subst (λ (count : ℕ). IsSmallFrame n (frame_of_rows cs rows) count) (lines-length cs rows) (small_frame_of n (frame_of cs (row_polys rows [])) (numbers_of (framed_tableau cs rows)) (length rows) (row_numbers cs rows) calm)
 
 -- ---- columns
 
@@ -265,8 +265,8 @@ small_column_of n f frame t column same calm all_lines s inside = record {
     below : (q z : ℤ) → q *ℤ pos common ≡ z → unsigned_abs z ≤ n * common → unsigned_abs q ≤ n
     below q z e h = smaller (unsigned_abs q) common common n common_above (subst (λ (x : ℕ). x ≤ n * common) (ap unsigned_abs (sym e) ∙ unsigned_abs-mul q (pos common)) h) (omega arith)
 
-pub small_column : (n : ℕ) (cs : List (List Col)) (rows : List Row) (t : Tableau) (column : ℕ) → IsCalmUpTo n (frame_of cs (row_polys rows [])) → length t.lines ≡ length rows → IsTableauOf (length cs + 1) (numbers_of (framed cs rows)) t → column < length cs + 1 + length t.lines → HasSmallColumn n t column
-small_column n cs rows t column calm many s inside = small_column_of n (frame_of cs (row_polys rows [])) (numbers_of (framed cs rows)) t column (row_numbers cs rows) calm (many ∙ sym (lines-length cs rows)) s inside
+pub small_column : (n : ℕ) (cs : List (List Col)) (rows : List Row) (t : Tableau) (column : ℕ) → IsCalmUpTo n (frame_of cs (row_polys rows [])) → length t.lines ≡ length rows → IsTableauOf (length cs + 1) (numbers_of (framed_tableau cs rows)) t → column < length cs + 1 + length t.lines → HasSmallColumn n t column
+small_column n cs rows t column calm many s inside = small_column_of n (frame_of cs (row_polys rows [])) (numbers_of (framed_tableau cs rows)) t column (row_numbers cs rows) calm (many ∙ sym (lines-length cs rows)) s inside
 
 -- what the point or the ray of a column has at a column that it does not grow, over the least
 -- common denominator

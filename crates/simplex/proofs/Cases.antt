@@ -30,8 +30,8 @@ use Rattle.simplex.specs.Rows.{kinds_of}
 use Rattle.simplex.specs.Suprema.{with_goal, goal_frame, IsSupremumOf}
 use Rattle.simplex.specs.declared.goals.Bounds.{Bounds}
 use Rattle.simplex.specs.declared.goals.Reach.{Reach}
-use Rattle.simplex.specs.declared.stop.Stop.{Stop}
-use Rattle.simplex.specs.declared.stop.Stop.TheVariants.{Wide, Memory}
+use Rattle.simplex.specs.declared.stop.SearchStop.{SearchStop}
+use Rattle.simplex.specs.declared.stop.SearchStop.TheVariants.{Wide, Memory}
 use Rattle.simplex.specs.declared.tableau.Tableau.{Tableau}
 use Rattle.simplex.specs.declared.supremum.Supremum.{Supremum}
 use Rattle.simplex.specs.declared.supremum.Supremum.TheVariants as supremum
@@ -316,12 +316,12 @@ goals_calm goals budget (answer.Bound at certs case point) w k c h e =
 
 -- ---- stops
 
-pub refusal_among : {X : Type 0} (goals : List Goal) (place : ℕ) (goal : Goal) (r : Result X Stop) → slice_get goals place ≡ Some goal → IfErr r (IsRefusalIn (goal_frame goal) (length goal.rows + 1)) → IfErr r (IsRefusalAmong goals)
+pub refusal_among : {X : Type 0} (goals : List Goal) (place : ℕ) (goal : Goal) (r : Result X SearchStop) → slice_get goals place ≡ Some goal → IfErr r (IsRefusalIn (goal_frame goal) (length goal.rows + 1)) → IfErr r (IsRefusalAmong goals)
 refusal_among goals place goal (Ok x) is h = tt
 refusal_among goals place goal (Err (Wide step)) is h = (h.leaves, λ c. h.great 1099511627776 fits_twice (goal_small goal (at_place IsCalmGoal goals place goal c.cases is)))
 refusal_among goals place goal (Err Memory) is h = tt
 
-pub supremum_at : (budget : ℕ) (goals : List Goal) (place : ℕ) (goal : Goal) (r : Result Supremum Stop) → slice_get goals place ≡ Some goal → IfOk r (λ found. IsSupremumOf goal budget found) → IfOk r (λ found. IsSupremumAt budget goals place found)
+pub supremum_at : (budget : ℕ) (goals : List Goal) (place : ℕ) (goal : Goal) (r : Result Supremum SearchStop) → slice_get goals place ≡ Some goal → IfOk r (λ found. IsSupremumOf goal budget found) → IfOk r (λ found. IsSupremumAt budget goals place found)
 supremum_at budget goals place goal (Ok found) is h = record { goal = goal; is = is; supremum = h }
 supremum_at budget goals place goal (Err stop) is h = tt
 

@@ -23,7 +23,7 @@ use Rattle.simplex.specs.Answers.{IsMultipliers}
 use Rattle.simplex.specs.Exchange.{numbers_of}
 use Rattle.farkas_check.specs.Relations.{entry}
 use Rattle.farkas_check.specs.Frames.{sum_below}
-use Rattle.simplex.specs.Rows.{kinds_of, kind_at, whole_line, lines_from, framed, framed_by}
+use Rattle.simplex.specs.Rows.{kinds_of, kind_at, whole_line, lines_from, framed_tableau, frame_of_rows}
 use Rattle.simplex.specs.Search.{IsRefuted}
 use Rattle.simplex.proofs.Exchanges.{times_zero, factor_positive}
 use Rattle.simplex.proofs.Framing.{whole_line-column, whole_line-constant, kinds-length}
@@ -56,10 +56,10 @@ lines_from-number cs count place [] number j f l = refl
 lines_from-number cs count place (row ∷ rows) number j f zero = f place row
 lines_from-number cs count place (row ∷ rows) number j f (suc l) = lines_from-number cs count (place + 1) rows number j f l
 
-pub framed-column : (cs : List (List Col)) (rows : List Row) (j l : ℕ) → j < length cs → numbers_of (framed cs rows) l j ≡ each_of (coefficient_at (get_or cs j [])) rows l
+pub framed-column : (cs : List (List Col)) (rows : List Row) (j l : ℕ) → j < length cs → numbers_of (framed_tableau cs rows) l j ≡ each_of (coefficient_at (get_or cs j [])) rows l
 framed-column cs rows j l h = lines_from-number cs (length rows) 0 rows (coefficient_at (get_or cs j [])) j (λ p row. whole_line-column cs (length rows) p row j h) l
 
-pub framed-constant : (cs : List (List Col)) (rows : List Row) (l : ℕ) → numbers_of (framed cs rows) l (length cs) ≡ each_of constant_in rows l
+pub framed-constant : (cs : List (List Col)) (rows : List Row) (l : ℕ) → numbers_of (framed_tableau cs rows) l (length cs) ≡ each_of constant_in rows l
 framed-constant cs rows l = lines_from-number cs (length rows) 0 rows constant_in (length cs) (λ p row. whole_line-constant cs (length rows) p row) l
 
 -- a sum from its first part on
@@ -103,7 +103,7 @@ all_zeros f (c ∷ cs) h = both (is_zero (f c)) ((Decides-int_eq (f c) (pos 0)).
 
 -- ---- the test
 
-pub yes-honest : (rows : List Row) (t : Tableau) (line : ℕ) (by : List ℤ) (b : Bool) → IsRefuted (framed_by (columns rows []) rows) (length (columns rows [])) (kinds_of rows) t line → IsMultipliers (length (columns rows [])) t line by → tested_yes rows by ≡ Ok b → b ≡ true
+pub yes-honest : (rows : List Row) (t : Tableau) (line : ℕ) (by : List ℤ) (b : Bool) → IsRefuted (frame_of_rows (columns rows []) rows) (length (columns rows [])) (kinds_of rows) t line → IsMultipliers (length (columns rows [])) t line by → tested_yes rows by ≡ Ok b → b ≡ true
 yes-honest rows t line by b r m e = after_multipliers (are_multipliers rows by) multipliers e
   where
     many : length t.lines ≡ length rows
@@ -116,12 +116,12 @@ yes-honest rows t line by b r m e = after_multipliers (are_multipliers rows by) 
     in_t l h = subst (λ (n : ℕ). l < n) (sym many) h
 
     -- the sum at a column of the frame is the line's number there, with the sign
-    sum_at : (number : Row → ℤ) (j : ℕ) → j < length (columns rows []) + 1 + length t.lines → ((l : ℕ) → numbers_of (framed (columns rows []) rows) l j ≡ each_of number rows l) → total number rows by ≡ m.sign *ℤ numbers_of t line j
+    sum_at : (number : Row → ℤ) (j : ℕ) → j < length (columns rows []) + 1 + length t.lines → ((l : ℕ) → numbers_of (framed_tableau (columns rows []) rows) l j ≡ each_of number rows l) → total number rows by ≡ m.sign *ℤ numbers_of t line j
     sum_at number j h f =
         total-is number rows by lines_by
         ∙ ap (λ n. sum_below n (λ l. get_or by l (pos 0) *ℤ each_of number rows l)) (sym many)
-        ∙ sum_below-same (length t.lines) (λ l. get_or by l (pos 0) *ℤ each_of number rows l) (λ l. get_or by l (pos 0) *ℤ numbers_of (framed (columns rows []) rows) l j) (λ l g. ap (λ z. get_or by l (pos 0) *ℤ z) (sym (f l)))
-        ∙ weighted_multiple (length t.lines) (λ l. numbers_of t line (length (columns rows []) + 1 + l)) (λ l. get_or by l (pos 0)) (λ l. numbers_of (framed (columns rows []) rows) l j) m.sign (λ l g. m.upright l g)
+        ∙ sum_below-same (length t.lines) (λ l. get_or by l (pos 0) *ℤ each_of number rows l) (λ l. get_or by l (pos 0) *ℤ numbers_of (framed_tableau (columns rows []) rows) l j) (λ l g. ap (λ z. get_or by l (pos 0) *ℤ z) (sym (f l)))
+        ∙ weighted_multiple (length t.lines) (λ l. numbers_of t line (length (columns rows []) + 1 + l)) (λ l. get_or by l (pos 0)) (λ l. numbers_of (framed_tableau (columns rows []) rows) l j) m.sign (λ l g. m.upright l g)
         ∙ ap (λ z. m.sign *ℤ z) (sym (r.sized.tableau.is.combination line r.here j h))
 
     signs : (l : ℕ) → l < length rows → kind_at (kinds_of rows) l ≡ AtMost → pos 0 ≤ℤ get_or by l (pos 0)

@@ -13,12 +13,12 @@ use Rattle.linear_terms.specs.declared.col.Col.{Col}
 use Rattle.linear_terms.specs.declared.error.TermError.{TermError}
 use Rattle.linear_terms.specs.TermError.{plus, times}
 use Rattle.linear_terms.specs.Mono.{mono_cmp}
-use Rattle.linear_terms.specs.Operations.{kept, put, put_all, sum_of_polys, times_each, multiple_of}
+use Rattle.linear_terms.specs.Operations.{with_term, put, put_all, sum_of_polys, times_each, multiple_of}
 use Rattle.linear_terms.specs.Polynomial.{Terms, Polynomial, coefficient_in, IsCanonical}
 use Rattle.linear_terms.proofs.Canonical.{Before, Before-trans, first_before, IsCanonical-tail, IsCanonical-put, IsCanonical-sum_of_polys, IsCanonical-multiple_of}
 use Rattle.linear_terms.proofs.Values.{plus-value, times-value}
 use Rattle.farkas_check.proofs.Spreads.{same_mono}
-use Rattle.simplex.specs.Differences.{with_multiple, with_multiples, weighted}
+use Rattle.simplex.specs.Differences.{with_multiple, with_multiples, weighted_value}
 use Rattle.simplex.proofs.Tame.{coefficient-before}
 
 -- ---- one term
@@ -35,7 +35,7 @@ chosen_sum false c x f = omega (arith, ints)
 pub none_before : (m n : List Col) (ts : Terms) → Before m ts → eq_by_cmp mono_cmp m n ≡ true → coefficient_in ts n ≡ pos 0
 none_before m n ts b e = ap (coefficient_in ts) (sym (same_mono m n e)) ∙ coefficient-before m ts b
 
-kept-coefficient : (m n : List Col) (c : ℤ) (ts : Terms) → (eq_by_cmp mono_cmp m n ≡ true → c ≡ pos 0 → coefficient_in ts n ≡ pos 0) → coefficient_in (kept m c ts) n ≡ cond (eq_by_cmp mono_cmp m n) c (coefficient_in ts n)
+kept-coefficient : (m n : List Col) (c : ℤ) (ts : Terms) → (eq_by_cmp mono_cmp m n ≡ true → c ≡ pos 0 → coefficient_in ts n ≡ pos 0) → coefficient_in (with_term m c ts) n ≡ cond (eq_by_cmp mono_cmp m n) c (coefficient_in ts n)
 kept-coefficient m n c ts f = go (int_eq c (pos 0)) refl
   where
     level : (q : Bool) → (q ≡ true → coefficient_in ts n ≡ pos 0) → c ≡ pos 0 → coefficient_in ts n ≡ cond q c (coefficient_in ts n)
@@ -52,7 +52,7 @@ same_terms : (ts made : Terms) (z : ℤ) (n : List Col) → (let r : Result Term
 same_terms ts made z n e f = let same : ts ≡ made = cc in ap (λ (x : Terms). coefficient_in x n) (sym same) ∙ f
 
 pub put-coefficient : (m n : List Col) (c : ℤ) (ts made : Terms) → IsCanonical ts → put m c ts ≡ Ok made → coefficient_in made n ≡ coefficient_in ts n +ℤ at_mono m c n
-put-coefficient m n c [] made k e = same_terms (kept m c []) made (pos 0 +ℤ at_mono m c n) n e (kept-coefficient m n c [] (λ g h. refl) ∙ chosen_sum (eq_by_cmp mono_cmp m n) c (pos 0) (λ g. refl))
+put-coefficient m n c [] made k e = same_terms (with_term m c []) made (pos 0 +ℤ at_mono m c n) n e (kept-coefficient m n c [] (λ g h. refl) ∙ chosen_sum (eq_by_cmp mono_cmp m n) c (pos 0) (λ g. refl))
 put-coefficient m n c (t ∷ ts) made k e = go (mono_cmp m t.0) refl e (λ more f. put-coefficient m n c ts more (IsCanonical-tail t ts k) f)
   where
     sum : ℤ
@@ -69,14 +69,14 @@ put-coefficient m n c (t ∷ ts) made k e = go (mono_cmp m t.0) refl e (λ more 
         plain z = omega (arith, ints)
     later false r x y f g = g
 
-    go : (o : Ordering) → mono_cmp m t.0 ≡ o → match_ordering o (Ok (kept m c (t ∷ ts))) (plus t.1 c >>= λ s. Ok (kept t.0 s ts)) (put m c ts >>= λ more. Ok (t ∷ more)) ≡ Ok made → ((more : Terms) → put m c ts ≡ Ok more → coefficient_in more n ≡ coefficient_in ts n +ℤ at_mono m c n) → coefficient_in made n ≡ coefficient_in (t ∷ ts) n +ℤ at_mono m c n
-    go Less o f ih = same_terms (kept m c (t ∷ ts)) made sum n f
+    go : (o : Ordering) → mono_cmp m t.0 ≡ o → match_ordering o (Ok (with_term m c (t ∷ ts))) (plus t.1 c >>= λ s. Ok (with_term t.0 s ts)) (put m c ts >>= λ more. Ok (t ∷ more)) ≡ Ok made → ((more : Terms) → put m c ts ≡ Ok more → coefficient_in more n ≡ coefficient_in ts n +ℤ at_mono m c n) → coefficient_in made n ≡ coefficient_in (t ∷ ts) n +ℤ at_mono m c n
+    go Less o f ih = same_terms (with_term m c (t ∷ ts)) made sum n f
         (kept-coefficient m n c (t ∷ ts) (λ g h. before g) ∙ chosen_sum (eq_by_cmp mono_cmp m n) c (coefficient_in (t ∷ ts) n) before)
       where
         before : eq_by_cmp mono_cmp m n ≡ true → coefficient_in (t ∷ ts) n ≡ pos 0
         before g = none_before m n (t ∷ ts) (o, Before-trans m t.0 ts o (first_before t ts k)) g
-    go Equal o f ih = on_ok (plus t.1 c) (λ s. Ok (kept t.0 s ts)) made f
-        (λ s g l. same_terms (kept t.0 s ts) made sum n l
+    go Equal o f ih = on_ok (plus t.1 c) (λ s. Ok (with_term t.0 s ts)) made f
+        (λ s g l. same_terms (with_term t.0 s ts) made sum n l
         (kept-coefficient t.0 n s ts (λ p h. none_before t.0 n ts (first_before t ts k) p)
         ∙ shared (eq_by_cmp mono_cmp t.0 n) s (coefficient_in ts n) (plus-value t.1 c s g)
         ∙ ap (λ (x : List Col). coefficient_in (t ∷ ts) n +ℤ at_mono x c n) (sym (same_mono m t.0 (ap is_eq o)))))
@@ -102,9 +102,9 @@ put_all-coefficient n (t ∷ more) ts made k l e =
 times_each-coefficient : (n : List Col) (by : ℤ) (ts made : Terms) → IsCanonical ts → times_each ts by ≡ Ok made → coefficient_in made n ≡ coefficient_in ts n *ℤ by
 times_each-coefficient n by [] made k e = same_terms [] made (pos 0 *ℤ by) n e (sym (zero-*ℤ by))
 times_each-coefficient n by (t ∷ ts) made k e =
-    on_ok (times t.1 by) (λ c. times_each ts by >>= λ more. Ok (kept t.0 c more)) made e
-    (λ c f g. on_ok (times_each ts by) (λ more. Ok (kept t.0 c more)) made g
-    (λ more h l. same_terms (kept t.0 c more) made (coefficient_in (t ∷ ts) n *ℤ by) n l
+    on_ok (times t.1 by) (λ c. times_each ts by >>= λ more. Ok (with_term t.0 c more)) made e
+    (λ c f g. on_ok (times_each ts by) (λ more. Ok (with_term t.0 c more)) made g
+    (λ more h l. same_terms (with_term t.0 c more) made (coefficient_in (t ∷ ts) n *ℤ by) n l
     (kept-coefficient t.0 n c more (λ p z. times_each-coefficient n by ts more (IsCanonical-tail t ts k) h ∙ ap (λ x. x *ℤ by) (none_before t.0 n ts (first_before t ts k) p) ∙ zero-*ℤ by)
     ∙ both (eq_by_cmp mono_cmp t.0 n) c (coefficient_in more n) (times-value t.1 by c f) (times_each-coefficient n by ts more (IsCanonical-tail t ts k) h))))
   where
@@ -153,8 +153,8 @@ multiple-rest a p by e =
 -- what a polynomial is that is another one with multiples of polynomials
 pub record IsWeightedSum (total p : Polynomial) (ns : List ℤ) (ps : List Polynomial) : Type 0 where
   pub canonical : IsCanonical p.terms
-  pub coefficient : (n : List Col) → coefficient_in p.terms n ≡ coefficient_in total.terms n +ℤ weighted (λ (q : Polynomial). coefficient_in q.terms n) ns ps
-  pub rest : p.rest ≡ total.rest +ℤ weighted (λ (q : Polynomial). q.rest) ns ps
+  pub coefficient : (n : List Col) → coefficient_in p.terms n ≡ coefficient_in total.terms n +ℤ weighted_value (λ (q : Polynomial). coefficient_in q.terms n) ns ps
+  pub rest : p.rest ≡ total.rest +ℤ weighted_value (λ (q : Polynomial). q.rest) ns ps
 
 pub weighted_sum : (total p : Polynomial) (ns : List ℤ) (ps : List Polynomial) → IsCanonical total.terms → AllByRecursion (λ (q : Polynomial). IsCanonical q.terms) ps → with_multiples total ns ps ≡ Ok p → IsWeightedSum total p ns ps
 weighted_sum total p [] ps k l e = unchanged total p k (cc)
@@ -179,7 +179,7 @@ weighted_sum total p (n ∷ ns) (q ∷ qs) k l e =
     step : (part next : Polynomial) → multiple_of q n ≡ Ok part → sum_of_polys total part ≡ Ok next → IsWeightedSum next p ns qs → IsWeightedSum total p (n ∷ ns) (q ∷ qs)
     step part next f h w = record {
       canonical = w.canonical;
-      coefficient = λ m. grouped (coefficient_in total.terms m) (coefficient_in q.terms m *ℤ n) (weighted (λ (r : Polynomial). coefficient_in r.terms m) ns qs) (w.coefficient m)
+      coefficient = λ m. grouped (coefficient_in total.terms m) (coefficient_in q.terms m *ℤ n) (weighted_value (λ (r : Polynomial). coefficient_in r.terms m) ns qs) (w.coefficient m)
           (sum-coefficient total part next m k (IsCanonical-multiple_of q n part f l.0) h ∙ ap (λ z. coefficient_in total.terms m +ℤ z) (multiple-coefficient q part n m l.0 f));
-      rest = grouped total.rest (q.rest *ℤ n) (weighted (λ (r : Polynomial). r.rest) ns qs) w.rest (sum-rest total part next h ∙ ap (λ z. total.rest +ℤ z) (multiple-rest q part n f));
+      rest = grouped total.rest (q.rest *ℤ n) (weighted_value (λ (r : Polynomial). r.rest) ns qs) w.rest (sum-rest total part next h ∙ ap (λ z. total.rest +ℤ z) (multiple-rest q part n f));
     }

@@ -26,15 +26,15 @@ use Rattle.farkas_check.specs.declared.stratum.Spot.{Spot}
 use Rattle.farkas_check.specs.declared.stratum.Tie.{Tie}
 use Rattle.simplex.specs.Exchange.{choices_of, numbers_of as numbers_of_frame}
 use Rattle.simplex.specs.Search.{IsLineChoosing}
-use Rattle.simplex.specs.Spots.{values_of, IsSpotLine, AreSpotLines, HasMoreLine, IsNewPoint, IsUnchosen, paired, AreSpots, IsRelationOf, AreRelations, AreUnitLists, chosen_below, spots_framed, spots_frame}
+use Rattle.simplex.specs.Spots.{values_of, IsSpotLine, AreSpotLines, HasMoreLine, IsNewPoint, IsUnchosen, inner_product, AreSpots, IsRelationOf, AreRelations, AreUnitLists, chosen_below, spots_framed, spots_frame}
 use Rattle.simplex.specs.Points.{IsPointAt, IsSpotAt}
 use Rattle.simplex.specs.Relations.{IsRelationWith, HasCounts}
 use Rattle.simplex.specs.SmallBasis.{HasSmallTies}
 use Rattle.simplex.specs.Strata.{IsAsked, AreKnown, turns_left, IsApartAt, IsTiedRelation, IsHonestRelation, IsHonestFree, IsBasisOver}
 use Rattle.simplex.specs.Ties.{AreTies}
-use Rattle.simplex.specs.declared.differences.Strata.{Strata}
+use Rattle.simplex.specs.declared.differences.StrataQuestion.{StrataQuestion}
 use Rattle.simplex.specs.declared.spots.Spots.{Spots}
-use Rattle.simplex.specs.declared.strata.Known.{Known}
+use Rattle.simplex.specs.declared.strata.KnownRelations.{KnownRelations}
 use Rattle.simplex.specs.declared.tableau.Tableau.{Tableau}
 use Rattle.simplex.proofs.Echelons.{no_relations, relations-skip, relations-more, relations-reduced}
 use Rattle.simplex.proofs.Eliminations.{choose_apart}
@@ -52,21 +52,21 @@ pub all_more : {A : Type 0} (P : A → Type 0) (xs : List A) (x : A) → AllByRe
 all_more P [] x h p = (p, tt)
 all_more P (y ∷ xs) x h p = (h.0, all_more P xs x h.1 p)
 
-abbrev AreTied : Strata → List Relation → Type 0
+abbrev AreTied : StrataQuestion → List Relation → Type 0
 AreTied s relations = AllByRecursion (IsTiedRelation s) relations
 
-abbrev AreSpotsAt : Strata → List Spot → Type 0
+abbrev AreSpotsAt : StrataQuestion → List Spot → Type 0
 AreSpotsAt s spots = AllByRecursion (IsSpotAt s.columns.now s.cases.now) spots
 
 -- the lines of the spots
-abbrev HasLines : Strata → List Spot → List (List ℤ) → List ℤ → Type 0
+abbrev HasLines : StrataQuestion → List Spot → List (List ℤ) → List ℤ → Type 0
 HasLines s spots lines scales = AreSpotLines s.columns.now s.cases.now s.lower.now spots lines scales
 
 -- before the first unknown there are no relations
-none_yet : (count : ℕ) (known : Known) → known.next ≡ 0 → known.relations ≡ [] → AreRelations count known.spots.tableau known.next (map numbers_of known.relations)
+none_yet : (count : ℕ) (known : KnownRelations) → known.next ≡ 0 → known.relations ≡ [] → AreRelations count known.spots.tableau known.next (map numbers_of known.relations)
 none_yet count known next empty = subst (λ (n : ℕ). AreRelations count known.spots.tableau n (map numbers_of known.relations)) (sym next) (subst (λ (rs : List Relation). AreRelations count known.spots.tableau 0 (map numbers_of rs)) (sym empty) (no_relations count known.spots.tableau))
 
-pub known-first : (s : Strata) (known : Known) → AreSpots s.count known.spots → known.spots.spots ≡ [] → known.spots.lines ≡ [] → known.spots.scales ≡ [] → known.relations ≡ [] → known.next ≡ 0 → known.start ≡ 0 → AreKnown s known
+pub known-first : (s : StrataQuestion) (known : KnownRelations) → AreSpots s.count known.spots → known.spots.spots ≡ [] → known.spots.lines ≡ [] → known.spots.scales ≡ [] → known.relations ≡ [] → known.next ≡ 0 → known.start ≡ 0 → AreKnown s known
 known-first s known are none lines scales empty next start = record {
   spots = are;
   points = subst (AreSpotsAt s) (sym none) tt;
@@ -78,7 +78,7 @@ known-first s known are none lines scales empty next start = record {
 }
 
 -- other relations of the same spots
-with_relations : (s : Strata) (known made : Known) → AreKnown s known → made.spots ≡ known.spots → AreTied s made.relations → made.next ≤ s.count → made.start ≤ length known.spots.lines → (made.start ≡ length known.spots.lines → AreRelations s.count known.spots.tableau made.next (map numbers_of made.relations)) → AreKnown s made
+with_relations : (s : StrataQuestion) (known made : KnownRelations) → AreKnown s known → made.spots ≡ known.spots → AreTied s made.relations → made.next ≤ s.count → made.start ≤ length known.spots.lines → (made.start ≡ length known.spots.lines → AreRelations s.count known.spots.tableau made.next (map numbers_of made.relations)) → AreKnown s made
 with_relations s known made k same tied next start round = record {
   spots = subst (AreSpots s.count) (sym same) k.spots;
   points = subst (λ (x : Spots). AreSpotsAt s x.spots) (sym same) k.points;
@@ -90,11 +90,11 @@ with_relations s known made k same tied next start round = record {
 }
 
 -- what a turn leaves: what is known, and fewer turns
-abbrev IsLess : Strata → Known → Known → Type 0
+abbrev IsLess : StrataQuestion → KnownRelations → KnownRelations → Type 0
 IsLess s known made = AreKnown s made × (turns_left s.count made < turns_left s.count known)
 
 -- the next unknown has had its turn
-fewer_next : (count : ℕ) (known made : Known) → known.next < count → made.next ≡ known.next + 1 → made.start ≡ known.start → made.spots ≡ known.spots → turns_left count made < turns_left count known
+fewer_next : (count : ℕ) (known made : KnownRelations) → known.next < count → made.next ≡ known.next + 1 → made.start ≡ known.start → made.spots ≡ known.spots → turns_left count made < turns_left count known
 fewer_next count known made here next start same =
     let lines : length made.spots.lines ≡ length known.spots.lines = ap (λ (x : Spots). length x.lines) same in
     let rest : (count - made.start) * (count + 1) ≡ (count - known.start) * (count + 1) = ap (λ (n : ℕ). (count - n) * (count + 1)) start in
@@ -103,7 +103,7 @@ fewer_next count known made here next start same =
     smaller : (a b c d e f : ℕ) → a < b → c ≡ d → e ≡ f → a + c + 1 + e < b + d + 1 + f
     smaller a b c d e f p q r = omega (arith, p, q, r)
 
-pub known-same : (s : Strata) (known made : Known) (line : ℕ) → AreKnown s known → known.next < s.count → line < length known.spots.tableau.lines → choices_of known.spots.tableau line ≡ known.next → made.next ≡ known.next + 1 → made.start ≡ known.start → made.spots ≡ known.spots → made.relations ≡ known.relations → IsLess s known made
+pub known-same : (s : StrataQuestion) (known made : KnownRelations) (line : ℕ) → AreKnown s known → known.next < s.count → line < length known.spots.tableau.lines → choices_of known.spots.tableau line ≡ known.next → made.next ≡ known.next + 1 → made.start ≡ known.start → made.spots ≡ known.spots → made.relations ≡ known.relations → IsLess s known made
 known-same s known made line k here inside own next start same all = (
   with_relations s known made k same (subst (AreTied s) (sym all) k.relations) (omega (arith, here, next)) (subst (λ (n : ℕ). n ≤ length known.spots.lines) (sym start) k.start)
       (λ e. subst (λ (n : ℕ). AreRelations s.count known.spots.tableau n (map numbers_of made.relations)) (sym next) (subst (λ (rs : List Relation). AreRelations s.count known.spots.tableau (known.next + 1) (map numbers_of rs)) (sym all)
@@ -115,7 +115,7 @@ map_more : (rs : List Relation) (r : Relation) → map numbers_of (rs ++ r ∷ [
 map_more [] r = refl
 map_more (q ∷ rs) r = ap (λ (ns : List (List ℤ)). numbers_of q ∷ ns) (map_more rs r)
 
-pub known-relation : (s : Strata) (known made : Known) (numbers : List ℤ) (ties : List Tie) (relation : Relation) → AreKnown s known → known.next < s.count → IsUnchosen known.spots.tableau known.next → IsRelationOf s.count known.spots.tableau known.next numbers → IsRelationWith s.terms (length s.lower.now) numbers ties relation
+pub known-relation : (s : StrataQuestion) (known made : KnownRelations) (numbers : List ℤ) (ties : List Tie) (relation : Relation) → AreKnown s known → known.next < s.count → IsUnchosen known.spots.tableau known.next → IsRelationOf s.count known.spots.tableau known.next numbers → IsRelationWith s.terms (length s.lower.now) numbers ties relation
     → AreTies s.columns.now s.lower.now numbers s.cases.now (length s.cases.now) ties → HasSmallTies s ties → made.next ≡ known.next + 1 → made.start ≡ known.start → made.spots ≡ known.spots → made.relations ≡ known.relations ++ relation ∷ [] → IsLess s known made
 known-relation s known made numbers ties relation k here free own r t small next start same more = (
   with_relations s known made k same (subst (AreTied s) (sym more) (all_more (IsTiedRelation s) known.relations relation k.relations tied)) (omega (arith, here, next)) (subst (λ (n : ℕ). n ≤ length known.spots.lines) (sym start) k.start)
@@ -188,7 +188,7 @@ fewer_spots count spots u a here free =
     inside (suc i) h = choices_below count spots a i (omega (arith, h))
 
 -- the unknowns have their turns anew
-pub known-again : (s : Strata) (known made : Known) → AreKnown s known → (known.start ≡ length known.spots.lines → ⊥) → made.spots ≡ known.spots → made.relations ≡ [] → made.next ≡ 0 → made.start ≡ length known.spots.lines → IsLess s known made
+pub known-again : (s : StrataQuestion) (known made : KnownRelations) → AreKnown s known → (known.start ≡ length known.spots.lines → ⊥) → made.spots ≡ known.spots → made.relations ≡ [] → made.next ≡ 0 → made.start ≡ length known.spots.lines → IsLess s known made
 known-again s known made k more same none next start = (
   with_relations s known made k same (subst (AreTied s) (sym none) tt) (omega (arith, next)) (omega (arith, start)) (λ e. subst (λ (x : Spots). AreRelations s.count x.tableau made.next (map numbers_of made.relations)) same (none_yet s.count made next none)),
   fewer,
@@ -221,7 +221,7 @@ terms_found [] l case e = cc
 terms_found (c ∷ cases) zero case e = let same : c ≡ case = cc in ap (λ (x : Change). x.terms) same
 terms_found (c ∷ cases) (suc l) case e = terms_found cases l case e
 
-pub known-spot : (s : Strata) (known made : Known) (spot : Spot) (case : Change) (place : ℕ) → AreKnown s known → AreSpots s.count made.spots → spot.case ≡ place → slice_get s.cases.now place ≡ Some case → IsPointAt s.columns.now s.cases.now place spot.at → HasMoreLine s.columns.now spot.at case.terms s.lower.now known.spots made.spots
+pub known-spot : (s : StrataQuestion) (known made : KnownRelations) (spot : Spot) (case : Change) (place : ℕ) → AreKnown s known → AreSpots s.count made.spots → spot.case ≡ place → slice_get s.cases.now place ≡ Some case → IsPointAt s.columns.now s.cases.now place spot.at → HasMoreLine s.columns.now spot.at case.terms s.lower.now known.spots made.spots
     → made.spots.spots ≡ known.spots.spots ++ spot ∷ [] → made.relations ≡ known.relations → made.next ≡ known.next → made.start ≡ known.start → IsLess s known made
 known-spot s known made spot case place k are own there at line more same next start = (
   record {
@@ -251,7 +251,7 @@ known-spot s known made spot case place k are own there at line more same next s
         smaller : (a b c d e f : ℕ) → a ≡ b → c < d → e ≡ f → a + c + 1 + e < b + d + 1 + f
         smaller a b c d e f p q r = omega (arith, p, q, r)
 
-pub apart_point : (s : Strata) (numbers : List ℤ) (place : ℕ) (at : List Fraction) → IsApartAt s numbers place at → IsPointAt s.columns.now s.cases.now place at
+pub apart_point : (s : StrataQuestion) (numbers : List ℤ) (place : ℕ) (at : List Fraction) → IsApartAt s numbers place at → IsPointAt s.columns.now s.cases.now place at
 apart_point s numbers place at a = record { case = a.case; is = a.is; point = a.point.point }
 
 pub unchosen : (count : ℕ) (known : Spots) (u : ℕ) (found : Option ℕ) → AreSpots count known → IsLineChoosing known.tableau.chosen u found → found ≡ None → IsUnchosen known.tableau u
@@ -265,17 +265,17 @@ unchosen count known u found k l e = record { none = λ i h. at i (subst (λ (n 
 
 -- a spot at which the difference of the next relation is not 0 has a line that is independent of
 -- the others
-pub apart_line : (s : Strata) (known : Known) (numbers : List ℤ) (place : ℕ) (at : List Fraction) → AreKnown s known → known.next < s.count → IsUnchosen known.spots.tableau known.next → length numbers ≡ s.count → IsRelationOf s.count known.spots.tableau known.next numbers → IsApartAt s numbers place at
+pub apart_line : (s : StrataQuestion) (known : KnownRelations) (numbers : List ℤ) (place : ℕ) (at : List Fraction) → AreKnown s known → known.next < s.count → IsUnchosen known.spots.tableau known.next → length numbers ≡ s.count → IsRelationOf s.count known.spots.tableau known.next numbers → IsApartAt s numbers place at
     → IsNewPoint s.columns.now at (terms_of s.cases.now place) s.lower.now s.count known.spots.lines
 apart_line s known numbers place at k here free many r a = record {
   any = λ line scale is. independent_more s.count known.spots.lines line numbers k.spots.independent
       (relation_level s.count known.spots.lines known.spots.tableau known.next numbers k.spots.tableau (λ i h. k.spots.chosen i (subst (λ (n : ℕ). i < n) k.spots.tableau.many h)) here free.none r)
-      (λ e. a.point.apart line scale (subst (λ (ts : List Polynomial). IsSpotLine s.columns.now at ts s.lower.now line scale) (terms_found s.cases.now place a.case a.is) is) (ap (λ (n : ℕ). paired n numbers line) many ∙ e));
+      (λ e. a.point.apart line scale (subst (λ (ts : List Polynomial). IsSpotLine s.columns.now at ts s.lower.now line scale) (terms_found s.cases.now place a.case a.is) is) (ap (λ (n : ℕ). inner_product n numbers line) many ∙ e));
 }
 
 -- ---- the turns
 
-pub turns_first : (count : ℕ) (known : Known) → known.next ≡ 0 → known.start ≡ 0 → known.spots.lines ≡ [] → turns_left count known + 0 ≤ (count + 2) * (count + 2)
+pub turns_first : (count : ℕ) (known : KnownRelations) → known.next ≡ 0 → known.start ≡ 0 → known.spots.lines ≡ [] → turns_left count known + 0 ≤ (count + 2) * (count + 2)
 turns_first count known next start none =
     let few : length known.spots.lines ≡ 0 = ap length none in
     let last : (count - known.start) * (count + 1) ≡ count * (count + 1) = (let e : count - known.start ≡ count = omega (arith, start) in ap (λ (n : ℕ). n * (count + 1)) e) in
@@ -323,7 +323,7 @@ line-length cs at terms lower line scale is =
     let g : length is.are.others ≡ length lower = values-length (minus_value (ratio_value (ratio_at cs at))) lower is.are.others is.are.others_is in
     omega (arith, e, f, g))
 
-pub lines_long : (s : Strata) (spots : List Spot) (lines : List (List ℤ)) (scales : List ℤ) → IsAsked s → s.count ≡ s.terms + length s.lower.now + 1 → AreSpotsAt s spots → HasLines s spots lines scales → AllByRecursion (λ (line : List ℤ). length line ≡ s.count) lines
+pub lines_long : (s : StrataQuestion) (spots : List Spot) (lines : List (List ℤ)) (scales : List ℤ) → IsAsked s → s.count ≡ s.terms + length s.lower.now + 1 → AreSpotsAt s spots → HasLines s spots lines scales → AllByRecursion (λ (line : List ℤ). length line ≡ s.count) lines
 lines_long s [] lines scales is count at a = subst (λ (ls : List (List ℤ)). AllByRecursion (λ (line : List ℤ). length line ≡ s.count) ls) (sym a.0) tt
 lines_long s (spot ∷ spots) [] scales is count at a = absurd a
 lines_long s (spot ∷ spots) (line ∷ lines) [] is count at a = absurd a
@@ -335,14 +335,14 @@ lines_long s (spot ∷ spots) (line ∷ lines) (scale ∷ scales) is count at a 
     one : length line ≡ s.count
     one = line-length s.columns.now spot.at (terms_of s.cases.now spot.case) s.lower.now line scale a.0 ∙ ap (λ (n : ℕ). n + length s.lower.now + 1) many ∙ sym count
 
-all_positive : (s : Strata) (spots : List Spot) → IsAsked s → AreSpotsAt s spots → AllByRecursion (λ (spot : Spot). IsPositiveAt (ratio_at s.columns.now spot.at)) spots
+all_positive : (s : StrataQuestion) (spots : List Spot) → IsAsked s → AreSpotsAt s spots → AllByRecursion (λ (spot : Spot). IsPositiveAt (ratio_at s.columns.now spot.at)) spots
 all_positive s [] is at = tt
 all_positive s (spot ∷ spots) is at = (
   subst (λ (cs : List (List Col)). IsPositiveAt (ratio_at cs spot.at)) (sym is.columns) (spot_positive s.cases.now s.lower.now spot is.canonical (subst (λ (cs : List (List Col)). IsSpotAt cs s.cases.now spot) is.columns at.0)),
   all_positive s spots is at.1,
 )
 
-known-units : (s : Strata) (known : Known) → IsAsked s → s.count ≡ s.terms + length s.lower.now + 1 → AreKnown s known → HasUnits s.columns.now s.cases.now s.lower.now s.count known.spots
+known-units : (s : StrataQuestion) (known : KnownRelations) → IsAsked s → s.count ≡ s.terms + length s.lower.now + 1 → AreKnown s known → HasUnits s.columns.now s.cases.now s.lower.now s.count known.spots
 known-units s known is count k = record {
   are = k.spots;
   lines = k.lines;
@@ -350,7 +350,7 @@ known-units s known is count k = record {
   long = lines_long s known.spots.spots known.spots.lines known.spots.scales is count k.points k.lines;
 }
 
-pub basis_of_known : (s : Strata) (known : Known) (relations : List Relation) (spots : List Spot) (free : List (List Fraction)) → IsAsked s → s.count ≡ s.terms + length s.lower.now + 1 → AreKnown s known → AreRelations s.count known.spots.tableau s.count (map numbers_of known.relations)
+pub basis_of_known : (s : StrataQuestion) (known : KnownRelations) (relations : List Relation) (spots : List Spot) (free : List (List Fraction)) → IsAsked s → s.count ≡ s.terms + length s.lower.now + 1 → AreKnown s known → AreRelations s.count known.spots.tableau s.count (map numbers_of known.relations)
     → AreUnitLists s.count known.spots (chosen_below known.spots.tableau s.count) free → relations ≡ known.relations → spots ≡ known.spots.spots → IsBasisOver s.columns.now s.cases.now s.lower.now relations spots free
 basis_of_known s known relations spots free is count k every lists all points = record {
   counts = subst (λ (xs : List Relation). list_all (has_unknowns s.cases.now s.lower.now) xs ≡ true) (sym all) (all_counted s.cases.now s.lower.now known.relations (each_relation known.relations (λ r t. subst (λ (n : ℕ). HasCounts n (length s.lower.now) r) is.terms t.counts) k.relations));

@@ -15,7 +15,7 @@ use Rattle.whole_numbers.specs.declared.wide.Wide as Step
 use Rattle.whole_numbers.proofs.CommonDivisors.{DividesEach, DividesEach-gcd_of_all}
 use Rattle.whole_numbers.proofs.Quotients.{gcd_of_all-reduced}
 use Rattle.simplex.specs.declared.tableau.Tableau.{Tableau}
-use Rattle.simplex.specs.Exchange.{sum_of_lines, line_multiple, reduced, upright_line, line_without, line_without_at, lines_without, exchange, numbers_of, choices_of, IsTableauOf, ArePrimitive}
+use Rattle.simplex.specs.Exchange.{sum_of_lines, line_multiple, reduced_line, upright_line, line_without, line_without_at, lines_without, exchange, numbers_of, choices_of, IsTableauOf, ArePrimitive}
 use Rattle.farkas_check.specs.Relations.{entry}
 use Rattle.simplex.proofs.Numbers.{AreCleared, lines_without-is, product_of-value, exchange-keeps, tableau_ok}
 
@@ -53,7 +53,7 @@ all_zero (z ∷ line) h zero = zero_size z (eq-zero_of_zero-dvd h.0)
     zero_size z e = omega (arith, ints, e)
 all_zero (z ∷ line) h (suc j) = all_zero line h.1 j
 
-reduced-primitive : (line : List ℤ) (j : ℕ) → (entry (reduced line) j ≡ pos 0 → ⊥) → gcd_of_all (reduced line) ≡ 1
+reduced-primitive : (line : List ℤ) (j : ℕ) → (entry (reduced_line line) j ≡ pos 0 → ⊥) → gcd_of_all (reduced_line line) ≡ 1
 reduced-primitive line j n = go (nat_eq (gcd_of_all line) 0) refl n
   where
     some : (d : ℕ) → nat_eq d 0 ≡ false → 0 < d
@@ -70,12 +70,12 @@ reduced-primitive line j n = go (nat_eq (gcd_of_all line) 0) refl n
 pub line_without-primitive : (column : ℕ) (pivot line made : List ℤ) (j : ℕ) → gcd_of_all line ≡ 1 → line_without column pivot line ≡ Ok made → (entry made j ≡ pos 0 → ⊥) → gcd_of_all made ≡ 1
 line_without-primitive column pivot line made j p e n = go (int_eq (entry line column) (pos 0)) e
   where
-    go : (b : Bool) → cond b (lines_ok line) (product_of (entry line column) (negsuc 0) >>= λ q. sum_of_lines (entry pivot column) line q pivot >>= λ zs. lines_ok (reduced zs)) ≡ Ok made → gcd_of_all made ≡ 1
+    go : (b : Bool) → cond b (lines_ok line) (product_of (entry line column) (negsuc 0) >>= λ q. sum_of_lines (entry pivot column) line q pivot >>= λ zs. lines_ok (reduced_line zs)) ≡ Ok made → gcd_of_all made ≡ 1
     go true g = let same : line ≡ made = cc in ap gcd_of_all (sym same) ∙ p
     go false g =
-        on_ok (product_of (entry line column) (negsuc 0)) (λ q. sum_of_lines (entry pivot column) line q pivot >>= λ zs. lines_ok (reduced zs)) made g
-        (λ q h k. on_ok (sum_of_lines (entry pivot column) line q pivot) (λ zs. lines_ok (reduced zs)) made k
-        (λ zs m o. let same : reduced zs ≡ made = cc in ap gcd_of_all (sym same) ∙ reduced-primitive zs j (λ z. n (ap (λ ys. entry ys j) (sym same) ∙ z))))
+        on_ok (product_of (entry line column) (negsuc 0)) (λ q. sum_of_lines (entry pivot column) line q pivot >>= λ zs. lines_ok (reduced_line zs)) made g
+        (λ q h k. on_ok (sum_of_lines (entry pivot column) line q pivot) (λ zs. lines_ok (reduced_line zs)) made k
+        (λ zs m o. let same : reduced_line zs ≡ made = cc in ap gcd_of_all (sym same) ∙ reduced-primitive zs j (λ z. n (ap (λ ys. entry ys j) (sym same) ∙ z))))
 
 -- ---- an exchange
 

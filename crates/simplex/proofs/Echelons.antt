@@ -11,7 +11,7 @@ use Rattle.farkas_check.specs.Multiples.{is_zero}
 use Rattle.farkas_check.specs.Ratios.{Fraction, IsLowest, whole}
 use Rattle.farkas_check.specs.Relations.{entry, pivot, is_primitive, is_beyond, rises_after, is_rising, is_alone, is_reduced}
 use Rattle.items.specs.Gives.{Gives}
-use Rattle.simplex.specs.declared.stop.Stop.{Stop}
+use Rattle.simplex.specs.declared.stop.SearchStop.{SearchStop}
 use Rattle.simplex.specs.Exchange.{cause, numbers_of, choices_of, exchange, IsTableauOf}
 use Rattle.simplex.specs.Frames.{IsCleared, is_chosen}
 use Rattle.simplex.specs.Search.{IsLineChoosing}
@@ -266,7 +266,7 @@ relations-reduced count t relations a =
 
 -- ---- what the code makes
 
-pub relation-given : (r : Result (List ℤ) Stop) (count : ℕ) (t : Tableau) (unknown : ℕ) (rs : List Fraction) (m : ℤ) → unknown < count → IsRayOf t unknown true count rs → common_denominator rs ≡ Ok m → Gives cause (λ (made : List ℤ). made) r (numerators_over m rs) → IfOk r (λ ns. IsRelationOf count t unknown ns)
+pub relation-given : (r : Result (List ℤ) SearchStop) (count : ℕ) (t : Tableau) (unknown : ℕ) (rs : List Fraction) (m : ℤ) → unknown < count → IsRayOf t unknown true count rs → common_denominator rs ≡ Ok m → Gives cause (λ (made : List ℤ). made) r (numerators_over m rs) → IfOk r (λ ns. IsRelationOf count t unknown ns)
 relation-given (Ok ns) count t unknown rs m here ray e g = relation-is count t unknown rs m ns here ray e g
 relation-given (Err stop) count t unknown rs m here ray e g = tt
 

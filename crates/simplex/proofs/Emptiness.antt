@@ -24,7 +24,7 @@ use Rattle.farkas_check.proofs.Lowest.{positive_product}
 use Rattle.farkas_check.proofs.Spreads.{RowsAmong, rows_among, spread, spread-zero}
 use Rattle.farkas_check.proofs.Walks.{IsOrdered, IsOrdered-columns}
 use Rattle.simplex.specs.Exchange.{numbers_of, IsTableauOf}
-use Rattle.simplex.specs.Rows.{kinds_of, kind_at, framed}
+use Rattle.simplex.specs.Rows.{kinds_of, kind_at, framed_tableau}
 use Rattle.simplex.specs.Search.{IsRefuted}
 use Rattle.simplex.specs.Suprema.{with_goal, frame_over, goal_frame}
 use Rattle.simplex.specs.declared.tableau.Tableau.{Tableau}
@@ -65,14 +65,14 @@ no_point_over cs rows p t line ordered canonical among r has = by_sign (int_lt (
     many : length t.lines ≡ length rows + 1
     many = sym r.sized.many ∙ kinds-length (with_goal rows p) ∙ more_rows rows p
 
-    s : IsTableauOf (length cs + 1) (numbers_of (framed cs (with_goal rows p))) t
+    s : IsTableauOf (length cs + 1) (numbers_of (framed_tableau cs (with_goal rows p))) t
     s = r.sized.tableau
 
     unit : ℕ → ℤ
     unit l = numbers_of t line (length cs + 1 + l)
 
     own : ℕ → ℕ → ℤ
-    own l j = numbers_of (framed cs (with_goal rows p)) l j
+    own l j = numbers_of (framed_tableau cs (with_goal rows p)) l j
 
     last_zero : (a b z : ℤ) → z ≡ pos 0 → a +ℤ z *ℤ b ≡ a
     last_zero a b z e = ap (λ x. a +ℤ x *ℤ b) e ∙ ap (λ x. a +ℤ x) (zero-*ℤ b) ∙ alone a

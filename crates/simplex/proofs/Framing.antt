@@ -14,7 +14,7 @@ use Rattle.simplex.specs.declared.tableau.Tableau.{Tableau}
 use Rattle.simplex.specs.Exchange.{numbers_of, choices_of, IsTableauOf, ArePrimitive}
 use Rattle.farkas_check.specs.Relations.{entry}
 use Rattle.simplex.specs.Frames.{IsWholeTableau}
-use Rattle.simplex.specs.Rows.{kinds_of, coefficients, units_to, whole_line, lines_from, units_from, framed, framed_by}
+use Rattle.simplex.specs.Rows.{kinds_of, coefficients, units_to, whole_line, lines_from, units_from, framed_tableau, frame_of_rows}
 use Rattle.simplex.specs.Search.{IsSolving}
 use Rattle.simplex.proofs.Divisors.{one-primitive}
 use Rattle.simplex.proofs.Corners.{none, single}
@@ -119,14 +119,14 @@ at_line P cs count place (row ∷ rows) (suc l) h f = at_line P cs count (place 
 
 -- ---- the tableau
 
-pub numbers-unit : (cs : List (List Col)) (rows : List Row) (i k : ℕ) → i < length rows → k < length rows → numbers_of (framed cs rows) i (length cs + 1 + k) ≡ cond (nat_eq k i) (pos 1) (pos 0)
+pub numbers-unit : (cs : List (List Col)) (rows : List Row) (i k : ℕ) → i < length rows → k < length rows → numbers_of (framed_tableau cs rows) i (length cs + 1 + k) ≡ cond (nat_eq k i) (pos 1) (pos 0)
 numbers-unit cs rows i k h g = at_line (λ line. entry line (length cs + 1 + k) ≡ cond (nat_eq k i) (pos 1) (pos 0)) cs (length rows) 0 rows i h (λ row. whole_line-unit cs (length rows) (0 + i) row k g ∙ (let e : 0 + i ≡ i = omega arith in ap (λ (n : ℕ). cond (nat_eq k n) (pos 1) (pos 0)) e))
 
-pub framed-is : (cs : List (List Col)) (rows : List Row) → IsTableauOf (length cs + 1) (numbers_of (framed cs rows)) (framed cs rows)
+pub framed-is : (cs : List (List Col)) (rows : List Row) → IsTableauOf (length cs + 1) (numbers_of (framed_tableau cs rows)) (framed_tableau cs rows)
 framed-is cs rows = record {
   shape = record { wide = λ i h. at_line (λ line. length line ≡ length cs + 1 + length (lines_from cs (length rows) 0 rows)) cs (length rows) 0 rows i (in_rows i h) (λ row. whole_line-length cs (length rows) (0 + i) row ∙ ap (λ (n : ℕ). length cs + 1 + n) (sym many)); choices = units_from-length (length cs + 1) (length rows) ∙ sym many };
-  is = subst (λ (n : ℕ). IsWholeTableau n (length cs + 1) (length cs + 1 + n) (numbers_of (framed cs rows)) (numbers_of (framed cs rows)) (choices_of (framed cs rows))) (sym many) is;
-  within = λ i h. subst (λ (n : ℕ). choices_of (framed cs rows) i < length cs + 1 + n) (sym many) (let e : choices_of (framed cs rows) i ≡ length cs + 1 + i = units_from-at (length cs + 1) (length rows) i (in_rows i h) in let g : i < length rows = in_rows i h in omega (arith, e, g));
+  is = subst (λ (n : ℕ). IsWholeTableau n (length cs + 1) (length cs + 1 + n) (numbers_of (framed_tableau cs rows)) (numbers_of (framed_tableau cs rows)) (choices_of (framed_tableau cs rows))) (sym many) is;
+  within = λ i h. subst (λ (n : ℕ). choices_of (framed_tableau cs rows) i < length cs + 1 + n) (sym many) (let e : choices_of (framed_tableau cs rows) i ≡ length cs + 1 + i = units_from-at (length cs + 1) (length rows) i (in_rows i h) in let g : i < length rows = in_rows i h in omega (arith, e, g));
 }
   where
     many : length (lines_from cs (length rows) 0 rows) ≡ length rows
@@ -135,45 +135,45 @@ framed-is cs rows = record {
     in_rows : (i : ℕ) → i < length (lines_from cs (length rows) 0 rows) → i < length rows
     in_rows i h = subst (λ (n : ℕ). i < n) (lines_from-length cs (length rows) 0 rows) h
 
-    at_choice : (i k : ℕ) → i < length rows → k < length rows → numbers_of (framed cs rows) i (choices_of (framed cs rows) k) ≡ cond (nat_eq k i) (pos 1) (pos 0)
-    at_choice i k h g = ap (numbers_of (framed cs rows) i) (units_from-at (length cs + 1) (length rows) k g) ∙ numbers-unit cs rows i k h g
+    at_choice : (i k : ℕ) → i < length rows → k < length rows → numbers_of (framed_tableau cs rows) i (choices_of (framed_tableau cs rows) k) ≡ cond (nat_eq k i) (pos 1) (pos 0)
+    at_choice i k h g = ap (numbers_of (framed_tableau cs rows) i) (units_from-at (length cs + 1) (length rows) k g) ∙ numbers-unit cs rows i k h g
 
     times_unit : (a : ℤ) (b : Bool) → b ≡ false → cond b (pos 1) (pos 0) *ℤ a ≡ pos 0
     times_unit a true e = cc
     times_unit a false e = zero-*ℤ a
 
-    is : IsWholeTableau (length rows) (length cs + 1) (length cs + 1 + length rows) (numbers_of (framed cs rows)) (numbers_of (framed cs rows)) (choices_of (framed cs rows))
+    is : IsWholeTableau (length rows) (length cs + 1) (length cs + 1 + length rows) (numbers_of (framed_tableau cs rows)) (numbers_of (framed_tableau cs rows)) (choices_of (framed_tableau cs rows))
     is = record {
       own = λ i h. subst (λ (z : ℤ). pos 0 <ℤ z) (sym (at_choice i i h h ∙ ap (λ (b : Bool). cond b (pos 1) (pos 0)) (eq-eqb i i refl))) (omega (arith, ints));
       others = λ i k h g other. at_choice i k h g ∙ ap (λ (b : Bool). cond b (pos 1) (pos 0)) (ne_eqb k i (λ e. other (sym e)));
       combination = λ i h j m. sym (
-          single (length rows) (λ l. numbers_of (framed cs rows) i (length cs + 1 + l) *ℤ numbers_of (framed cs rows) l j) i h
-          (λ l g other. ap (λ z. z *ℤ numbers_of (framed cs rows) l j) (numbers-unit cs rows i l h g) ∙ times_unit (numbers_of (framed cs rows) l j) (nat_eq l i) (ne_eqb l i other))
-          ∙ ap (λ z. z *ℤ numbers_of (framed cs rows) i j) (numbers-unit cs rows i i h h ∙ ap (λ (b : Bool). cond b (pos 1) (pos 0)) (eq-eqb i i refl)) ∙ one-*ℤ (numbers_of (framed cs rows) i j));
-      determined = λ w c zero_at j m. c j m ∙ none (length rows) (λ l. w (length cs + 1 + l) *ℤ numbers_of (framed cs rows) l j)
-          (λ l g. ap (λ z. z *ℤ numbers_of (framed cs rows) l j) (ap w (sym (units_from-at (length cs + 1) (length rows) l g)) ∙ zero_at l g) ∙ zero-*ℤ (numbers_of (framed cs rows) l j));
+          single (length rows) (λ l. numbers_of (framed_tableau cs rows) i (length cs + 1 + l) *ℤ numbers_of (framed_tableau cs rows) l j) i h
+          (λ l g other. ap (λ z. z *ℤ numbers_of (framed_tableau cs rows) l j) (numbers-unit cs rows i l h g) ∙ times_unit (numbers_of (framed_tableau cs rows) l j) (nat_eq l i) (ne_eqb l i other))
+          ∙ ap (λ z. z *ℤ numbers_of (framed_tableau cs rows) i j) (numbers-unit cs rows i i h h ∙ ap (λ (b : Bool). cond b (pos 1) (pos 0)) (eq-eqb i i refl)) ∙ one-*ℤ (numbers_of (framed_tableau cs rows) i j));
+      determined = λ w c zero_at j m. c j m ∙ none (length rows) (λ l. w (length cs + 1 + l) *ℤ numbers_of (framed_tableau cs rows) l j)
+          (λ l g. ap (λ z. z *ℤ numbers_of (framed_tableau cs rows) l j) (ap w (sym (units_from-at (length cs + 1) (length rows) l g)) ∙ zero_at l g) ∙ zero-*ℤ (numbers_of (framed_tableau cs rows) l j));
       solutions = λ x e. e;
     }
 
 pub kinds-length : (rows : List Row) → length (kinds_of rows) ≡ length rows
 kinds-length rows = length-map rows (λ (row : Row). row.kind)
 
-pub framed-primitive : (cs : List (List Col)) (rows : List Row) → ArePrimitive (framed cs rows)
+pub framed-primitive : (cs : List (List Col)) (rows : List Row) → ArePrimitive (framed_tableau cs rows)
 framed-primitive cs rows i h = one-primitive (get_or (lines_from cs (length rows) 0 rows) i []) (length cs + 1 + i) (numbers-unit cs rows i i inside inside ∙ ap (λ (b : Bool). cond b (pos 1) (pos 0)) (eq-eqb i i refl))
   where
     inside : i < length rows
     inside = subst (λ (n : ℕ). i < n) (lines_from-length cs (length rows) 0 rows) h
 
-pub solving : (cs : List (List Col)) (rows : List Row) → IsSolving (framed_by cs rows) (length cs) (kinds_of rows) 0 (framed cs rows)
+pub solving : (cs : List (List Col)) (rows : List Row) → IsSolving (frame_of_rows cs rows) (length cs) (kinds_of rows) 0 (framed_tableau cs rows)
 solving cs rows = record {
-  sized = record { tableau = framed-is cs rows; units = refl; many = kinds-length rows ∙ sym (lines_from-length cs (length rows) 0 rows); apart = λ i h same. let e : choices_of (framed cs rows) i ≡ length cs + 1 + i = units_from-at (length cs + 1) (length rows) i (subst (λ (n : ℕ). i < n) (lines_from-length cs (length rows) 0 rows) h) in absurd (omega (arith, e, same)); primitive = framed-primitive cs rows; inside = subst (λ (n : ℕ). length rows ≤ n) (sym (lines_from-length cs (length rows) 0 rows)) (omega arith); goals = λ l h k. let g : l < length rows = subst (λ (n : ℕ). l < n) (lines_from-length cs (length rows) 0 rows) k in absurd (omega (arith, h, g)) };
+  sized = record { tableau = framed-is cs rows; units = refl; many = kinds-length rows ∙ sym (lines_from-length cs (length rows) 0 rows); apart = λ i h same. let e : choices_of (framed_tableau cs rows) i ≡ length cs + 1 + i = units_from-at (length cs + 1) (length rows) i (subst (λ (n : ℕ). i < n) (lines_from-length cs (length rows) 0 rows) h) in absurd (omega (arith, e, same)); primitive = framed-primitive cs rows; inside = subst (λ (n : ℕ). length rows ≤ n) (sym (lines_from-length cs (length rows) 0 rows)) (omega arith); goals = λ l h k. let g : l < length rows = subst (λ (n : ℕ). l < n) (lines_from-length cs (length rows) 0 rows) k in absurd (omega (arith, h, g)) };
   own = λ l h k. units_from-at (length cs + 1) (length rows) l (subst (λ (n : ℕ). l < n) (lines_from-length cs (length rows) 0 rows) h);
   done = λ l h. absurd (omega (arith, h));
 }
 
-pub solving-at : (cs : List (List Col)) (rows : List Row) (constants count : ℕ) (kinds : List Kind) (t : Tableau) → constants ≡ length cs → count ≡ length rows → t ≡ framed cs rows → kinds ≡ kinds_of rows → IsSolving (record { units = constants + 1; rows = count; frame = numbers_of t }) constants kinds 0 t
+pub solving-at : (cs : List (List Col)) (rows : List Row) (constants count : ℕ) (kinds : List Kind) (t : Tableau) → constants ≡ length cs → count ≡ length rows → t ≡ framed_tableau cs rows → kinds ≡ kinds_of rows → IsSolving (record { units = constants + 1; rows = count; frame = numbers_of t }) constants kinds 0 t
 solving-at cs rows constants count kinds t e d f g =
     subst (λ (n : ℕ). IsSolving (record { units = n + 1; rows = count; frame = numbers_of t }) n kinds 0 t) (sym e)
     (subst (λ (n : ℕ). IsSolving (record { units = length cs + 1; rows = n; frame = numbers_of t }) (length cs) kinds 0 t) (sym d)
     (subst (λ (u : Tableau). IsSolving (record { units = length cs + 1; rows = length rows; frame = numbers_of u }) (length cs) kinds 0 u) (sym f)
-    (subst (λ (ks : List Kind). IsSolving (record { units = length cs + 1; rows = length rows; frame = numbers_of (framed cs rows) }) (length cs) ks 0 (framed cs rows)) (sym g) (solving cs rows))))
+    (subst (λ (ks : List Kind). IsSolving (record { units = length cs + 1; rows = length rows; frame = numbers_of (framed_tableau cs rows) }) (length cs) ks 0 (framed_tableau cs rows)) (sym g) (solving cs rows))))

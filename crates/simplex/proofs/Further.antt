@@ -32,7 +32,7 @@ use Rattle.simplex.specs.Search.{IsMet}
 use Rattle.simplex.specs.Spots.{IsApart, sums_of}
 use Rattle.simplex.specs.Strata.{IsAsked, IsCaseOf, IsFurther}
 use Rattle.simplex.specs.Suprema.{with_goal, frame_over, IsOpened, IsSupremumOver}
-use Rattle.simplex.specs.declared.differences.Strata.{Strata}
+use Rattle.simplex.specs.declared.differences.StrataQuestion.{StrataQuestion}
 use Rattle.simplex.specs.declared.supremum.Supremum.TheVariants as supremum
 use Rattle.simplex.specs.declared.tableau.Tableau.{Tableau}
 use Rattle.simplex.proofs.Apart.{difference-among, apart_at}
@@ -56,7 +56,7 @@ pub record IsGiven (cs : List (List Col)) (rows : List Row) (terms lower : List 
   pub among : AllByRecursion (λ (r : Row). AreAmong (keys_of r.poly.terms) cs) rows
   pub over : AreSidesOver cs (sides terms lower)
 
-pub case_given : (s : Strata) (case : Change) → IsAsked s → IsCaseOf s case → IsGiven s.columns.now case.rows case.terms s.lower.now
+pub case_given : (s : StrataQuestion) (case : Change) → IsAsked s → IsCaseOf s case → IsGiven s.columns.now case.rows case.terms s.lower.now
 case_given s case is of = subst (λ (cs : List (List Col)). IsGiven cs case.rows case.terms s.lower.now) (sym is.columns) (record {
   ordered = IsOrdered-columns (case_monos s.cases.now s.lower.now);
   canonical = recursion_from_All (λ (r : Row). IsCanonical r.poly.terms) case.rows canonical.rows;

@@ -19,19 +19,19 @@ use Rattle.farkas_check.specs.declared.question.Question.TheVariants.{Infeasible
 use Rattle.farkas_check.proofs.Farkas.{bool_ok}
 use Rattle.simplex.specs.Answers.{AnswerOf, IsHonestOf, IsFoundFor, IsRefusalFor, IsRowsAnswer, PivotsOf, IsWide}
 use Rattle.simplex.specs.Refusal.{LeavesBits, IsRefusalIn}
-use Rattle.simplex.specs.declared.stop.Stop.TheVariants as stop
+use Rattle.simplex.specs.declared.stop.SearchStop.TheVariants as stop
 use Rattle.simplex.proofs.Framing.{kinds-length}
 use Rattle.simplex.proofs.Calmness.{small_frame}
 use Rattle.simplex.proofs.Tame.{fits_twice, calm_found, more_choices}
 use Rattle.simplex.proofs.Leaves.{outcome-leaves, limit_of}
 use Rattle.simplex.specs.Exchange.{numbers_of}
-use Rattle.simplex.specs.Rows.{kinds_of, framed, framed_by}
-use Rattle.simplex.specs.declared.stop.Stop.{Stop}
+use Rattle.simplex.specs.Rows.{kinds_of, framed_tableau, frame_of_rows}
+use Rattle.simplex.specs.declared.stop.SearchStop.{SearchStop}
 use Rattle.simplex.specs.declared.tableau.Tableau.{Tableau}
 use Rattle.simplex.proofs.Certificates.{yes-honest}
 use Rattle.simplex.proofs.Standing.{no-honest}
 
-honest : (rows : List Row) (budget : ℕ) (a : Answer) → AreCanonical rows → AnswerOf (framed_by (columns rows []) rows) (length (columns rows [])) (kinds_of rows) budget a → IsHonestOf rows a
+honest : (rows : List Row) (budget : ℕ) (a : Answer) → AreCanonical rows → AnswerOf (frame_of_rows (columns rows []) rows) (length (columns rows [])) (kinds_of rows) budget a → IsHonestOf rows a
 honest rows budget (answer.Yes by) k h b e = yes-honest rows h.0 h.1.0 by b h.1.1.0 h.1.1.1 e
 honest rows budget (answer.No point) k h b e = no-honest rows h.0 h.1.0 point b k h.1.1.0 h.1.1.1 e
 honest rows budget (answer.Bound at certs case point) k h b e = absurd h
@@ -44,23 +44,23 @@ honest rows budget (answer.Limit (limit.Wide left right times)) k h b e = absurd
     not_pivots f = cc
 
 -- what a search says of its frame, said of the rows
-pub found_at : (rows : List Row) (budget constants count : ℕ) (cs : List (List Col)) (kinds : List Kind) (t : Tableau) (r : Result Answer Stop) → cs ≡ columns rows [] → constants ≡ length cs → count ≡ length rows → kinds ≡ kinds_of rows → t ≡ framed cs rows
+pub found_at : (rows : List Row) (budget constants count : ℕ) (cs : List (List Col)) (kinds : List Kind) (t : Tableau) (r : Result Answer SearchStop) → cs ≡ columns rows [] → constants ≡ length cs → count ≡ length rows → kinds ≡ kinds_of rows → t ≡ framed_tableau cs rows
     → IfOk r (λ a. AnswerOf (record { units = constants + 1; rows = count; frame = numbers_of t }) constants kinds budget a) → IfOk r (λ a. IsFoundFor budget rows a)
 found_at rows budget constants count cs kinds t (Err s) e f d g u h = tt
 found_at rows budget constants count cs kinds t (Ok a) e f d g u h =
-    subst (λ (ds : List (List Col)). AnswerOf (framed_by ds rows) (length ds) (kinds_of rows) budget a) e
-    (subst (λ (ks : List Kind). AnswerOf (framed_by cs rows) (length cs) ks budget a) g
+    subst (λ (ds : List (List Col)). AnswerOf (frame_of_rows ds rows) (length ds) (kinds_of rows) budget a) e
+    (subst (λ (ks : List Kind). AnswerOf (frame_of_rows cs rows) (length cs) ks budget a) g
     (subst (λ (v : Tableau). AnswerOf (record { units = length cs + 1; rows = length rows; frame = numbers_of v }) (length cs) kinds budget a) u
     (subst (λ (n : ℕ). AnswerOf (record { units = length cs + 1; rows = n; frame = numbers_of t }) (length cs) kinds budget a) d
     (subst (λ (n : ℕ). AnswerOf (record { units = n + 1; rows = count; frame = numbers_of t }) n kinds budget a) f h))))
 
-pub refusal_at : (rows : List Row) (constants count : ℕ) (cs : List (List Col)) (kinds : List Kind) (t : Tableau) (r : Result Answer Stop) → cs ≡ columns rows [] → constants ≡ length cs → count ≡ length rows → kinds ≡ kinds_of rows → t ≡ framed cs rows
+pub refusal_at : (rows : List Row) (constants count : ℕ) (cs : List (List Col)) (kinds : List Kind) (t : Tableau) (r : Result Answer SearchStop) → cs ≡ columns rows [] → constants ≡ length cs → count ≡ length rows → kinds ≡ kinds_of rows → t ≡ framed_tableau cs rows
     → IfErr r (IsRefusalIn (record { units = constants + 1; rows = count; frame = numbers_of t }) (length kinds)) → IfErr r (λ s. IsRefusalFor rows s)
 refusal_at rows constants count cs kinds t (Ok a) e f d g u h = tt
 refusal_at rows constants count cs kinds t (Err s) e f d g u h =
-    subst (λ (n : ℕ). IsRefusalIn (framed_by (columns rows []) rows) n s) (kinds-length rows)
-    (subst (λ (ds : List (List Col)). IsRefusalIn (framed_by ds rows) (length (kinds_of rows)) s) e
-    (subst (λ (ks : List Kind). IsRefusalIn (framed_by cs rows) (length ks) s) g
+    subst (λ (n : ℕ). IsRefusalIn (frame_of_rows (columns rows []) rows) n s) (kinds-length rows)
+    (subst (λ (ds : List (List Col)). IsRefusalIn (frame_of_rows ds rows) (length (kinds_of rows)) s) e
+    (subst (λ (ks : List Kind). IsRefusalIn (frame_of_rows cs rows) (length ks) s) g
     (subst (λ (v : Tableau). IsRefusalIn (record { units = length cs + 1; rows = length rows; frame = numbers_of v }) (length kinds) s) u
     (subst (λ (n : ℕ). IsRefusalIn (record { units = length cs + 1; rows = n; frame = numbers_of t }) (length kinds) s) d
     (subst (λ (n : ℕ). IsRefusalIn (record { units = n + 1; rows = count; frame = numbers_of t }) (length kinds) s) f h)))))

@@ -18,7 +18,7 @@ use Rattle.farkas_check.specs.Multiples.{Form, number_at as coefficient_at, cons
 use Rattle.farkas_check.specs.Parts.{and_then}
 use Rattle.farkas_check.specs.Ratios.{Fraction}
 use Rattle.farkas_check.specs.Relations.{Side, sides, numbers_of, difference_form}
-use Rattle.farkas_check.specs.Stratum.{multiple_of, scaled_up, scaled_down, tested_multiple, tested_half, tested_tie, tested_relation, all_of}
+use Rattle.farkas_check.specs.Stratum.{multiple_of, scale_times, minus_scale_times, tested_multiple, tested_half, tested_tie, tested_relation, all_of}
 use Rattle.farkas_check.specs.declared.answer.Cert.{Cert}
 use Rattle.farkas_check.specs.declared.stratum.Change.{Change}
 use Rattle.farkas_check.specs.declared.stratum.Relation.{Relation}
@@ -90,13 +90,13 @@ half_honest scaled sign cs rows p ns ss cert b m c none columns rest e = after (
     after true f g = multiple_honest (scaled cert.scale) (cert.scale *ℤ sign) cs rows ns ss cert.by b m is g
     after false f g = cc
 
-scaled_up-sign : (scale : ℤ) → Multiplies (scaled_up scale) (scale *ℤ pos 1)
+scaled_up-sign : (scale : ℤ) → Multiplies (scale_times scale) (scale *ℤ pos 1)
 scaled_up-sign scale z next e = scaled_up-value scale z next e ∙ ap (λ x. x *ℤ z) (once scale)
   where
     once : (x : ℤ) → x ≡ x *ℤ pos 1
     once x = omega (arith, ints)
 
-scaled_down-sign : (scale : ℤ) → Multiplies (scaled_down scale) (scale *ℤ negsuc 0)
+scaled_down-sign : (scale : ℤ) → Multiplies (minus_scale_times scale) (scale *ℤ negsuc 0)
 scaled_down-sign scale z next e = scaled_down-value scale z next e ∙ ap (λ x. x *ℤ z) (turned scale)
   where
     turned : (x : ℤ) → neg_ℤ x ≡ x *ℤ negsuc 0
@@ -105,19 +105,19 @@ scaled_down-sign scale z next e = scaled_down-value scale z next e ∙ ap (λ x.
 pub tied_half : (cs : List (List Col)) (lower : List Polynomial) (numbers : List ℤ) (case : Change) (budget : ℕ) (p : Polynomial) (cert : Cert) (point : List Fraction) (up : Bool)
     → IsDifferenceOf case.terms lower numbers up p → IsSupremumOver cs case.rows p budget (supremum.Bound cert point) → cert.sum ≡ pos 0 → IsHonestHalf cs lower numbers case up cert
 tied_half cs lower numbers case budget p cert point true d s none =
-    λ b e. half_honest scaled_up (pos 1) cs case.rows p numbers (sides case.terms lower) cert b (scaled_up-sign cert.scale) (certified_over cs case.rows p s.1.0 s.0 cert s.1.1.0 s.1.1.1) none d.coefficient d.rest e
+    λ b e. half_honest scale_times (pos 1) cs case.rows p numbers (sides case.terms lower) cert b (scaled_up-sign cert.scale) (certified_over cs case.rows p s.1.0 s.0 cert s.1.1.0 s.1.1.1) none d.coefficient d.rest e
 tied_half cs lower numbers case budget p cert point false d s none =
-    λ b e. half_honest scaled_down (negsuc 0) cs case.rows p numbers (sides case.terms lower) cert b (scaled_down-sign cert.scale) (certified_over cs case.rows p s.1.0 s.0 cert s.1.1.0 s.1.1.1) none d.coefficient d.rest e
+    λ b e. half_honest minus_scale_times (negsuc 0) cs case.rows p numbers (sides case.terms lower) cert b (scaled_down-sign cert.scale) (certified_over cs case.rows p s.1.0 s.0 cert s.1.1.0 s.1.1.1) none d.coefficient d.rest e
 
 pub tie_honest : (cs : List (List Col)) (lower : List Polynomial) (numbers : List ℤ) (case : Change) (up down : Cert) (tie : Tie) → IsHonestHalf cs lower numbers case true up → IsHonestHalf cs lower numbers case false down → tie.up_scale ≡ up.scale → tie.up ≡ up.by → tie.down_scale ≡ down.scale → tie.down ≡ down.by → IsHonestTie cs lower numbers case tie
-tie_honest cs lower numbers case up down tie u d e f g h b i = go (half scaled_up tie.up_scale tie.up) refl i
+tie_honest cs lower numbers case up down tie u d e f g h b i = go (half scale_times tie.up_scale tie.up) refl i
   where
     half : (ℤ → ℤ → Result ℤ Step.Wide) → ℤ → List ℤ → Result Bool Step.Wide
     half scaled scale by = tested_half scaled cs case.rows (difference_form numbers (sides case.terms lower) cs) scale by
 
-    go : (r : Result Bool Step.Wide) → half scaled_up tie.up_scale tie.up ≡ r → and_then r (half scaled_down tie.down_scale tie.down) ≡ Ok b → b ≡ true
-    go (Ok true) j k = d b (sym (ap (λ z. half scaled_down z tie.down) g ∙ ap (λ zs. half scaled_down down.scale zs) h) ∙ k)
-    go (Ok false) j k = absurd (no (u false (sym (ap (λ z. half scaled_up z tie.up) e ∙ ap (λ zs. half scaled_up up.scale zs) f) ∙ j)))
+    go : (r : Result Bool Step.Wide) → half scale_times tie.up_scale tie.up ≡ r → and_then r (half minus_scale_times tie.down_scale tie.down) ≡ Ok b → b ≡ true
+    go (Ok true) j k = d b (sym (ap (λ z. half minus_scale_times z tie.down) g ∙ ap (λ zs. half minus_scale_times down.scale zs) h) ∙ k)
+    go (Ok false) j k = absurd (no (u false (sym (ap (λ z. half scale_times z tie.up) e ∙ ap (λ zs. half scale_times up.scale zs) f) ∙ j)))
       where
         no : false ≡ true → ⊥
         no l = cc

@@ -8,7 +8,7 @@ use Rattle.whole_numbers.proofs.Ring.{ring, *ℤ_assoc}
 use Rattle.farkas_check.specs.Frames.{sum_below}
 use Rattle.farkas_check.specs.Relations.{entry}
 use Rattle.simplex.specs.Exchange.{numbers_of, choices_of}
-use Rattle.simplex.specs.Spots.{IsRelationOf, IsSpotTableau, AreIndependent, paired, spots_framed}
+use Rattle.simplex.specs.Spots.{IsRelationOf, IsSpotTableau, AreIndependent, inner_product, spots_framed}
 use Rattle.simplex.specs.declared.tableau.Tableau.{Tableau}
 use Rattle.simplex.proofs.Corners.{none, single, plus, swapped, factored}
 use Rattle.simplex.proofs.Exchanges.{times_zero, zero_factor}
@@ -23,7 +23,7 @@ independent_none count lines e = record { all_zero = λ w h l g. absurd (let f :
 -- ---- one more line
 
 -- a line on which a relation of all others is not 0
-more_zero : (count : ℕ) (lines : List (List ℤ)) (line ns : List ℤ) → AreIndependent count lines → ((l : ℕ) → l < length lines → paired count ns (get_or lines l []) ≡ pos 0) → paired count ns line ≢ pos 0
+more_zero : (count : ℕ) (lines : List (List ℤ)) (line ns : List ℤ) → AreIndependent count lines → ((l : ℕ) → l < length lines → inner_product count ns (get_or lines l []) ≡ pos 0) → inner_product count ns line ≢ pos 0
     → (w : ℕ → ℤ) → ((j : ℕ) → j < count → sum_below (length (lines ++ line ∷ [])) (λ l. w l *ℤ entry (get_or (lines ++ line ∷ []) l []) j) ≡ pos 0) → (l : ℕ) → l < length (lines ++ line ∷ []) → w l ≡ pos 0
 more_zero count lines line ns before level apart w h = each
   where
@@ -61,7 +61,7 @@ more_zero count lines line ns before level apart w h = each
         together : (a b c : ℤ) → a *ℤ b +ℤ a *ℤ c ≡ a *ℤ (b +ℤ c)
         together a b c = simp ring (omega (arith, ints))
 
-    last_product : w (length lines) *ℤ paired count ns line ≡ pos 0
+    last_product : w (length lines) *ℤ inner_product count ns line ≡ pos 0
     last_product =
         factored count (w m) (λ j. entry ns j *ℤ entry line j)
         ∙ left (sum_below count (λ j. w m *ℤ (entry ns j *ℤ entry line j)))
@@ -79,7 +79,7 @@ more_zero count lines line ns before level apart w h = each
             (λ l k. sym (factored count (w l) (λ j. entry ns j *ℤ entry (get_or lines l []) j)) ∙ ap (λ z. w l *ℤ z) (level l k) ∙ times_zero (w l))
 
     last : w (length lines) ≡ pos 0
-    last = zero_factor (w m) (paired count ns line) last_product apart
+    last = zero_factor (w m) (inner_product count ns line) last_product apart
 
     others : (l : ℕ) → l < length lines → w l ≡ pos 0
     others = before.all_zero w (λ j g. no_last (sum_below m (λ l. w l *ℤ entry (get_or lines l []) j)) (w m) (entry line j) last (split j g))
@@ -93,7 +93,7 @@ more_zero count lines line ns before level apart w h = each
     each : (l : ℕ) → l < length (lines ++ line ∷ []) → w l ≡ pos 0
     each l g = ⊎_elim (λ (k : l < length lines). others l k) (λ (k : length lines ≤ l). let e : l ≡ length lines = omega (arith, longer, g, k) in ap w e ∙ last) (cases_lt l (length lines))
 
-pub independent_more : (count : ℕ) (lines : List (List ℤ)) (line ns : List ℤ) → AreIndependent count lines → ((l : ℕ) → l < length lines → paired count ns (get_or lines l []) ≡ pos 0) → paired count ns line ≢ pos 0 → AreIndependent count (lines ++ line ∷ [])
+pub independent_more : (count : ℕ) (lines : List (List ℤ)) (line ns : List ℤ) → AreIndependent count lines → ((l : ℕ) → l < length lines → inner_product count ns (get_or lines l []) ≡ pos 0) → inner_product count ns line ≢ pos 0 → AreIndependent count (lines ++ line ∷ [])
 independent_more count lines line ns before level apart = record { all_zero = more_zero count lines line ns before level apart }
 
 -- ---- a relation of the tableau is 0 on each line
@@ -130,7 +130,7 @@ shortened n (suc k) f e =
     right z = omega (arith, ints)
 
 pub relation_level : (count : ℕ) (lines : List (List ℤ)) (t : Tableau) (unknown : ℕ) (ns : List ℤ) → IsSpotTableau count lines t → ((i : ℕ) → i < length t.lines → choices_of t i < count) → unknown < count → ((k : ℕ) → k < length t.lines → choices_of t k ≢ unknown) → IsRelationOf count t unknown ns
-    → (l : ℕ) → l < length lines → paired count ns (get_or lines l []) ≡ pos 0
+    → (l : ℕ) → l < length lines → inner_product count ns (get_or lines l []) ≡ pos 0
 relation_level count lines t unknown ns s chosen here apart r l g =
     sum_below-same count (λ j. entry ns j *ℤ entry (get_or lines l []) j) (λ j. numbers_of (spots_framed count lines) l j *ℤ entry ns j) (λ j h. *ℤ_comm (entry ns j) (entry (get_or lines l []) j) ∙ ap (λ z. z *ℤ entry ns j) (sym (framed-number count lines l j g h)))
     ∙ sym (shortened count (length t.lines) (λ j. numbers_of (spots_framed count lines) l j *ℤ entry ns j) (λ j h. beyond (numbers_of (spots_framed count lines) l j) j h))

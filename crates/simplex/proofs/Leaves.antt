@@ -11,7 +11,7 @@ use Rattle.whole_numbers.specs.Divisors.{gcd_of}
 use Rattle.whole_numbers.specs.Fits.{fits, sum_of, product_of}
 use Rattle.whole_numbers.specs.declared.wide.Wide as Step
 use Rattle.farkas_check.specs.Columns.{columns}
-use Rattle.farkas_check.specs.Multiples.{Form, sum_from, number_at, constant_in, sums_at, constant_sum, sum_of_multiples, are_multipliers, is_positive_constant, scaled_at, scaled_less, scaled_form, same_form}
+use Rattle.farkas_check.specs.Multiples.{Form, sum_from, number_at, constant_in, sums_at, constant_sum, sum_of_multiples, are_multipliers, is_positive_constant, scaled_coefficients, scaled_less, scaled_form, same_form}
 use Rattle.farkas_check.specs.Parts.{and_then}
 use Rattle.farkas_check.specs.Points.{ratio_at, value_from, slope_at, ratio_value, meets}
 use Rattle.farkas_check.specs.Ratios.{Fraction, whole, lowest_terms, common_multiple, ratio_product, ratio_sum, is_at_least}
@@ -127,11 +127,11 @@ outcome-leaves rows (answer.Basis relations spots free) w e = cc
 
 -- ---- goals
 
-scaled_at-leaves : (scale : ℤ) (terms : Terms) (cs : List (List Col)) (w : Step.Wide) → scaled_at scale terms cs ≡ Err w → LeavesBits w
+scaled_at-leaves : (scale : ℤ) (terms : Terms) (cs : List (List Col)) (w : Step.Wide) → scaled_coefficients scale terms cs ≡ Err w → LeavesBits w
 scaled_at-leaves scale terms [] w e = cc
 scaled_at-leaves scale terms (c ∷ cs) w e =
-    on_err (product_of scale (coefficient_in terms c)) (λ s. scaled_at scale terms cs >>= λ more. numbers_ok (s ∷ more)) w e (λ f. product-leaves scale (coefficient_in terms c) w f)
-    (λ s f g. on_err (scaled_at scale terms cs) (λ more. numbers_ok (s ∷ more)) w g (λ h. scaled_at-leaves scale terms cs w h) (λ more h k. cc))
+    on_err (product_of scale (coefficient_in terms c)) (λ s. scaled_coefficients scale terms cs >>= λ more. numbers_ok (s ∷ more)) w e (λ f. product-leaves scale (coefficient_in terms c) w f)
+    (λ s f g. on_err (scaled_coefficients scale terms cs) (λ more. numbers_ok (s ∷ more)) w g (λ h. scaled_at-leaves scale terms cs w h) (λ more h k. cc))
 
 scaled_less-leaves : (scale rest less : ℤ) (w : Step.Wide) → scaled_less scale rest less ≡ Err w → LeavesBits w
 scaled_less-leaves scale rest less w e =
@@ -140,7 +140,7 @@ scaled_less-leaves scale rest less w e =
 
 scaled_form-leaves : (scale less : ℤ) (p : Polynomial) (cs : List (List Col)) (w : Step.Wide) → scaled_form scale less p cs ≡ Err w → LeavesBits w
 scaled_form-leaves scale less p cs w e =
-    on_err (scaled_at scale p.terms cs) (λ numbers. scaled_less scale p.rest less >>= λ rest. form_ok (record { numbers = numbers; rest = rest })) w e (λ f. scaled_at-leaves scale p.terms cs w f)
+    on_err (scaled_coefficients scale p.terms cs) (λ numbers. scaled_less scale p.rest less >>= λ rest. form_ok (record { numbers = numbers; rest = rest })) w e (λ f. scaled_at-leaves scale p.terms cs w f)
     (λ numbers f g. on_err (scaled_less scale p.rest less) (λ rest. form_ok (record { numbers = numbers; rest = rest })) w g (λ h. scaled_less-leaves scale p.rest less w h) (λ rest h k. cc))
 
 tested_sum-leaves : (goal : Goal) (cert : Cert) (w : Step.Wide) → tested_sum goal cert ≡ Err w → LeavesBits w

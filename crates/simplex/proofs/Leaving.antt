@@ -14,7 +14,7 @@ use Rattle.whole_numbers.specs.Fits.{product_of}
 use Rattle.items.specs.Gives.{◌>>=◌}
 use Rattle.items.proofs.Gives.{on_ok}
 use Rattle.simplex.specs.declared.tableau.Tableau.{Tableau}
-use Rattle.simplex.specs.Frames.{seen, IsLexPositive}
+use Rattle.simplex.specs.Frames.{lexical_view, IsLexPositive}
 use Rattle.simplex.specs.Exchange.{numbers_of}
 use Rattle.farkas_check.specs.Relations.{entry}
 use Rattle.simplex.specs.Raise.{order_at, comes_before, behind_of, leaves_at, IsLexNotNegative, NoneLeaves, IsLeast, LeavingOf}
@@ -62,13 +62,13 @@ ranked_of upright_line x y o e = subst (Ranked upright_line x y) (sym e) (ranked
 
 -- ---- what the comparison tells
 
-products : (constants column : ℕ) (line other : List ℤ) (c : ℕ) → seen constants (behind_of column other line) c ≡ cond (nat_eq c constants) (neg_ℤ (entry other c *ℤ entry line column -ℤ entry line c *ℤ entry other column)) (entry other c *ℤ entry line column -ℤ entry line c *ℤ entry other column)
+products : (constants column : ℕ) (line other : List ℤ) (c : ℕ) → lexical_view constants (behind_of column other line) c ≡ cond (nat_eq c constants) (neg_ℤ (entry other c *ℤ entry line column -ℤ entry line c *ℤ entry other column)) (entry other c *ℤ entry line column -ℤ entry line c *ℤ entry other column)
 products constants column line other c = ap (λ z. cond (nat_eq c constants) (neg_ℤ z) z) (swap (entry line column) (entry other c) (entry other column) (entry line c))
   where
     swap : (p a q b : ℤ) → p *ℤ a -ℤ q *ℤ b ≡ a *ℤ p -ℤ b *ℤ q
     swap p a q b = rw (*ℤ_comm p a, *ℤ_comm q b) refl
 
-opposite : (constants column : ℕ) (line other : List ℤ) (c : ℕ) → seen constants (behind_of column other line) c ≡ pos 0 → seen constants (behind_of column line other) c ≡ pos 0
+opposite : (constants column : ℕ) (line other : List ℤ) (c : ℕ) → lexical_view constants (behind_of column other line) c ≡ pos 0 → lexical_view constants (behind_of column line other) c ≡ pos 0
 opposite constants column line other c e = go (nat_eq c constants) e
   where
     turn : (p a q b : ℤ) → p *ℤ a -ℤ q *ℤ b ≡ pos 0 → q *ℤ b -ℤ p *ℤ a ≡ pos 0
@@ -84,7 +84,7 @@ opposite constants column line other c e = go (nat_eq c constants) e
     go true e = ap neg_ℤ (turn (entry line column) (entry other c) (entry other column) (entry line c) (unturned (behind_of column other line c) e))
     go false e = turn (entry line column) (entry other c) (entry other column) (entry line c) e
 
-pub comes_before-true : (constants column : ℕ) (line other : List ℤ) (keys : List ℕ) → comes_before constants column line other keys ≡ Ok true → IsLexPositive (seen constants (behind_of column other line)) keys
+pub comes_before-true : (constants column : ℕ) (line other : List ℤ) (keys : List ℕ) → comes_before constants column line other keys ≡ Ok true → IsLexPositive (lexical_view constants (behind_of column other line)) keys
 comes_before-true constants column line other [] e = let same : false ≡ true = cc in absurd (false≢true same)
 comes_before-true constants column line other (c ∷ cs) e =
     on_ok (order_at (nat_eq c constants) (entry line c) (entry other column) (entry other c) (entry line column)) (λ order. match_ordering order (Ok true) (comes_before constants column line other cs) (Ok false)) true e
@@ -92,12 +92,12 @@ comes_before-true constants column line other (c ∷ cs) e =
   where
     go : (o : Ordering) → match_ordering o (Ok true) (comes_before constants column line other cs) (Ok false) ≡ Ok true
         → Ranked (nat_eq c constants) (entry line c *ℤ entry other column) (entry other c *ℤ entry line column) o
-        → (comes_before constants column line other cs ≡ Ok true → IsLexPositive (seen constants (behind_of column other line)) cs) → IsLexPositive (seen constants (behind_of column other line)) (c ∷ cs)
+        → (comes_before constants column line other cs ≡ Ok true → IsLexPositive (lexical_view constants (behind_of column other line)) cs) → IsLexPositive (lexical_view constants (behind_of column other line)) (c ∷ cs)
     go Less g r rest = inl (subst (λ (z : ℤ). pos 0 <ℤ z) (sym (products constants column line other c)) r)
     go Equal g r rest = inr (products constants column line other c ∙ r, rest g)
     go Greater g r rest = let same : false ≡ true = cc in absurd (false≢true same)
 
-pub comes_before-false : (constants column : ℕ) (line other : List ℤ) (keys : List ℕ) → comes_before constants column line other keys ≡ Ok false → IsLexNotNegative (seen constants (behind_of column line other)) keys
+pub comes_before-false : (constants column : ℕ) (line other : List ℤ) (keys : List ℕ) → comes_before constants column line other keys ≡ Ok false → IsLexNotNegative (lexical_view constants (behind_of column line other)) keys
 comes_before-false constants column line other [] e = inr tt
 comes_before-false constants column line other (c ∷ cs) e =
     on_ok (order_at (nat_eq c constants) (entry line c) (entry other column) (entry other c) (entry line column)) (λ order. match_ordering order (Ok true) (comes_before constants column line other cs) (Ok false)) false e
@@ -105,10 +105,10 @@ comes_before-false constants column line other (c ∷ cs) e =
   where
     go : (o : Ordering) → match_ordering o (Ok true) (comes_before constants column line other cs) (Ok false) ≡ Ok false
         → Ranked (nat_eq c constants) (entry line c *ℤ entry other column) (entry other c *ℤ entry line column) o
-        → (comes_before constants column line other cs ≡ Ok false → IsLexNotNegative (seen constants (behind_of column line other)) cs) → IsLexNotNegative (seen constants (behind_of column line other)) (c ∷ cs)
+        → (comes_before constants column line other cs ≡ Ok false → IsLexNotNegative (lexical_view constants (behind_of column line other)) cs) → IsLexNotNegative (lexical_view constants (behind_of column line other)) (c ∷ cs)
     go Less g r rest = let same : true ≡ false = cc in absurd (false≢true (sym same))
     go Equal g r rest =
-        let zero : seen constants (behind_of column line other) c ≡ pos 0 = opposite constants column line other c (products constants column line other c ∙ r) in
+        let zero : lexical_view constants (behind_of column line other) c ≡ pos 0 = opposite constants column line other c (products constants column line other c ∙ r) in
         ⊎_elim (λ h. inl (inr (zero, h))) (λ h. inr (zero, h)) (rest g)
     go Greater g r rest = inl (inl (subst (λ (z : ℤ). pos 0 <ℤ z) (sym (products constants column other line c)) r))
 
@@ -145,21 +145,21 @@ lex_sum_weak keys u v w a b factor p q r e h k =
     both_zero (c ∷ cs) y z = (vanishes factor (w c) r (drop_right (factor *ℤ w c) (a *ℤ u c) (v c) (e c) z.0 ∙ ap (λ n. a *ℤ n) y.0 ∙ times_zero a), both_zero cs y.1 z.1)
 
 -- a line is not before itself
-same_lines : (constants column : ℕ) (line : List ℤ) (keys : List ℕ) → IsLexNotNegative (seen constants (behind_of column line line)) keys
+same_lines : (constants column : ℕ) (line : List ℤ) (keys : List ℕ) → IsLexNotNegative (lexical_view constants (behind_of column line line)) keys
 same_lines constants column line keys = inr (every keys)
   where
     level : (x : ℤ) → x -ℤ x ≡ pos 0
     level x = omega (arith, ints)
 
-    every : (cs : List ℕ) → AllByRecursion (λ j. seen constants (behind_of column line line) j ≡ pos 0) cs
+    every : (cs : List ℕ) → AllByRecursion (λ j. lexical_view constants (behind_of column line line) j ≡ pos 0) cs
     every [] = tt
     every (c ∷ cs) = (seen-zero constants (behind_of column line line) c (level (entry line column *ℤ entry line c)), every cs)
 
 -- k is behind i, and m behind k: so m is behind i
 through : (constants column : ℕ) (first second third : List ℤ) (keys : List ℕ) → pos 0 <ℤ entry first column → pos 0 <ℤ entry second column → pos 0 <ℤ entry third column
-    → IsLexNotNegative (seen constants (behind_of column second first)) keys → IsLexNotNegative (seen constants (behind_of column third second)) keys → IsLexNotNegative (seen constants (behind_of column third first)) keys
+    → IsLexNotNegative (lexical_view constants (behind_of column second first)) keys → IsLexNotNegative (lexical_view constants (behind_of column third second)) keys → IsLexNotNegative (lexical_view constants (behind_of column third first)) keys
 through constants column first second third keys p q r h k =
-    lex_sum_weak keys (seen constants (behind_of column third second)) (seen constants (behind_of column second first)) (seen constants (behind_of column third first)) (entry first column) (entry third column) (entry second column) p r q
+    lex_sum_weak keys (lexical_view constants (behind_of column third second)) (lexical_view constants (behind_of column second first)) (lexical_view constants (behind_of column third first)) (entry first column) (entry third column) (entry second column) p r q
     (λ j. seen-sum constants (behind_of column third second) (behind_of column second first) (behind_of column third first) (entry first column) (entry third column) (entry second column) j
     (plain (entry first column) (entry second column) (entry third column) (entry first j) (entry second j) (entry third j))) k h
   where
@@ -190,7 +190,7 @@ LeavingOf-first count enters constants keys column t none leaves positive = reco
   leaves = leaves;
   positive = positive;
   least = λ i k e p. below_more i count k (λ below. absurd (clash (numbers_of t i column) p (none i below e)))
-      (λ (same : i ≡ count). subst (λ n. IsLexNotNegative (seen constants (behind_of column (get_or t.lines n []) (get_or t.lines count []))) keys) (sym same) (same_lines constants column (get_or t.lines count []) keys));
+      (λ (same : i ≡ count). subst (λ n. IsLexNotNegative (lexical_view constants (behind_of column (get_or t.lines n []) (get_or t.lines count []))) keys) (sym same) (same_lines constants column (get_or t.lines count []) keys));
 }
 
 pub LeavingOf-better : (count : ℕ) (enters : List Bool) (constants : ℕ) (keys : List ℕ) (column : ℕ) (t : Tableau) (line : ℕ) → IsLeast count enters constants keys column t line
@@ -201,7 +201,7 @@ LeavingOf-better count enters constants keys column t line h leaves positive bef
   positive = positive;
   least = λ i k e p. below_more i count k
       (λ below. through constants column (get_or t.lines count []) (get_or t.lines line []) (get_or t.lines i []) keys positive h.positive p (inl (comes_before-true constants column (get_or t.lines count []) (get_or t.lines line []) keys before)) (h.least i below e p))
-      (λ (same : i ≡ count). subst (λ n. IsLexNotNegative (seen constants (behind_of column (get_or t.lines n []) (get_or t.lines count []))) keys) (sym same) (same_lines constants column (get_or t.lines count []) keys));
+      (λ (same : i ≡ count). subst (λ n. IsLexNotNegative (lexical_view constants (behind_of column (get_or t.lines n []) (get_or t.lines count []))) keys) (sym same) (same_lines constants column (get_or t.lines count []) keys));
 }
 
 pub LeavingOf-worse : (count : ℕ) (enters : List Bool) (constants : ℕ) (keys : List ℕ) (column : ℕ) (t : Tableau) (line : ℕ) → IsLeast count enters constants keys column t line
@@ -211,7 +211,7 @@ LeavingOf-worse count enters constants keys column t line h before = record {
   leaves = h.leaves;
   positive = h.positive;
   least = λ i k e p. below_more i count k (λ below. h.least i below e p)
-      (λ (same : i ≡ count). subst (λ n. IsLexNotNegative (seen constants (behind_of column (get_or t.lines n []) (get_or t.lines line []))) keys) (sym same) (comes_before-false constants column (get_or t.lines count []) (get_or t.lines line []) keys before));
+      (λ (same : i ≡ count). subst (λ n. IsLexNotNegative (lexical_view constants (behind_of column (get_or t.lines n []) (get_or t.lines line []))) keys) (sym same) (comes_before-false constants column (get_or t.lines count []) (get_or t.lines line []) keys before));
 }
 
 pub ruleset running_least = (LeavingOf-skip, LeavingOf-first, LeavingOf-better, LeavingOf-worse)

@@ -13,7 +13,7 @@ use Rattle.whole_numbers.specs.declared.wide.Wide as Step
 use Rattle.whole_numbers.proofs.CommonDivisors.{gcd_of_assoc, gcd_of-zero, gcd_of-unique, zero-gcd_of}
 use Rattle.whole_numbers.proofs.Quotients.{int_div-*ℤ}
 use Rattle.whole_numbers.proofs.Ring.{*ℤ-one}
-use Rattle.simplex.specs.Exchange.{sum_of_products, line_multiple, reduced, upright_line}
+use Rattle.simplex.specs.Exchange.{sum_of_products, line_multiple, reduced_line, upright_line}
 use Rattle.farkas_check.specs.Relations.{entry}
 
 -- ---- the greatest common divisor
@@ -49,7 +49,7 @@ quotients-one (z ∷ line) = cc_of (quotient-one z) (quotients-one line)
     cc_of e f = cc
 
 -- a line whose divisor is 1, or that is 0, stays as it is
-pub reduced-short : (line : List ℤ) → gcd_of_all line ≤ 1 → line ≡ reduced line
+pub reduced-short : (line : List ℤ) → gcd_of_all line ≤ 1 → line ≡ reduced_line line
 reduced-short line h = go (gcd_of_all line) refl h
   where
     go : (d : ℕ) → gcd_of_all line ≡ d → d ≤ 1 → line ≡ cond (nat_eq d 0) line (map (λ z. int_div z (pos d)) line)

@@ -16,26 +16,26 @@ use Rattle.items.specs.Gives.{FailsBy, Gives}
 use Rattle.whole_numbers.specs.declared.wide.Wide as Step
 use Rattle.simplex.specs.Calm.{HasSquares, IsSmallLine, HasSmallLines, IsMemory}
 use Rattle.simplex.specs.Exchange.{cause, line_multiple, upright_line, exchange}
-use Rattle.simplex.specs.declared.stop.Stop.{Stop}
-use Rattle.simplex.specs.declared.stop.Stop.TheVariants.{Wide, Memory}
+use Rattle.simplex.specs.declared.stop.SearchStop.{SearchStop}
+use Rattle.simplex.specs.declared.stop.SearchStop.TheVariants.{Wide, Memory}
 use Rattle.simplex.specs.declared.tableau.Tableau.{Tableau}
 use Rattle.simplex.proofs.Small.{HasValue, line_multiple-fits, product_of-fits, bind_value, negative-fits, upright-fits, exchange-fits}
 
-pub only_memory : {X : Type 0} (e : Stop) (r : Result X Step.Wide) → FailsBy (cause e) r → HasValue r → IsMemory e
+pub only_memory : {X : Type 0} (e : SearchStop) (r : Result X Step.Wide) → FailsBy (cause e) r → HasValue r → IsMemory e
 only_memory {X = X} (Wide step) r f v = clash v.0 v.1
   where
     clash : (x : X) → r ≡ Ok x → ⊥
     clash x g = cc
 only_memory Memory r f v = tt
 
-pub exchange-calm : (t : Tableau) (line column : ℕ) (r : Result Tableau Stop) → Gives cause (λ u. u) r (exchange t line column) → (n : ℕ) → HasSquares n → HasSmallLines n t → IfErr r IsMemory
+pub exchange-calm : (t : Tableau) (line column : ℕ) (r : Result Tableau SearchStop) → Gives cause (λ u. u) r (exchange t line column) → (n : ℕ) → HasSquares n → HasSmallLines n t → IfErr r IsMemory
 exchange-calm t line column (Ok u) g n room small = tt
 exchange-calm t line column (Err e) g n room small = only_memory e (exchange t line column) g (exchange-fits n t line column room (λ i j. small i j))
 
 lines_ok : List ℤ → Result (List ℤ) Step.Wide
 lines_ok zs = Ok zs
 
-pub multipliers-calm : (constants : ℕ) (line : List ℤ) (r : Result (List ℤ) Stop) → Gives cause (λ by. by) r (multipliers_of constants line) → (n : ℕ) → HasSquares n → IsSmallLine n line → IfErr r IsMemory
+pub multipliers-calm : (constants : ℕ) (line : List ℤ) (r : Result (List ℤ) SearchStop) → Gives cause (λ by. by) r (multipliers_of constants line) → (n : ℕ) → HasSquares n → IsSmallLine n line → IfErr r IsMemory
 multipliers-calm constants line (Ok by) g n room small = tt
 multipliers-calm constants line (Err e) g n room small =
     only_memory e (multipliers_of constants line) g
@@ -70,7 +70,7 @@ taken_small n [] (suc k) small j = omega arith
 taken_small n (z ∷ line) (suc k) small zero = small 0
 taken_small n (z ∷ line) (suc k) small (suc j) = taken_small n line k (λ i. small (suc i)) j
 
-pub certificate-calm : (constants goal : ℕ) (line : List ℤ) (r : Result Cert Stop) → Gives cause (λ cert. cert) r (certificate_of constants goal line) → (n : ℕ) → HasSquares n → IsSmallLine n line → IfErr r IsMemory
+pub certificate-calm : (constants goal : ℕ) (line : List ℤ) (r : Result Cert SearchStop) → Gives cause (λ cert. cert) r (certificate_of constants goal line) → (n : ℕ) → HasSquares n → IsSmallLine n line → IfErr r IsMemory
 certificate-calm constants goal line (Ok by) g n room small = tt
 certificate-calm constants goal line (Err e) g n room small =
     only_memory e (certificate_of constants goal line) g

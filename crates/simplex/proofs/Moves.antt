@@ -20,7 +20,7 @@ use Rattle.simplex.specs.declared.tableau.Tableau.{Tableau}
 use Rattle.simplex.specs.Exchange.{numbers_of, choices_of, IsTableauOf}
 use Rattle.farkas_check.specs.Frames.{sum_below}
 use Rattle.simplex.specs.Raise.{Framed, enters_at}
-use Rattle.simplex.specs.Rows.{kind_at, framed}
+use Rattle.simplex.specs.Rows.{kind_at, framed_tableau}
 use Rattle.simplex.specs.Search.{IsMet}
 use Rattle.simplex.proofs.Certificates.{framed-column, framed-constant}
 use Rattle.simplex.proofs.Corners.{single, over, share, part, moved, moved-solves}
@@ -33,7 +33,7 @@ use Rattle.simplex.proofs.Standing.{numbered, spread-numbered, sum_below-plus, a
 abbrev pub shift : Tableau → ℕ → ℕ → ℤ
 shift t c j = moved (length t.lines) (numbers_of t) (choices_of t) c j
 
-pub moved_row : (cs : List (List Col)) (rows : List Row) (t : Tableau) (c l : ℕ) (row : Row) → IsOrdered cs → IsCanonical row.poly.terms → AreAmong (keys_of row.poly.terms) cs → length t.lines ≡ length rows → IsTableauOf (length cs + 1) (numbers_of (framed cs rows)) t → c < length cs + 1 + length t.lines → slice_get rows l ≡ Some row
+pub moved_row : (cs : List (List Col)) (rows : List Row) (t : Tableau) (c l : ℕ) (row : Row) → IsOrdered cs → IsCanonical row.poly.terms → AreAmong (keys_of row.poly.terms) cs → length t.lines ≡ length rows → IsTableauOf (length cs + 1) (numbers_of (framed_tableau cs rows)) t → c < length cs + 1 + length t.lines → slice_get rows l ≡ Some row
     → terms_at (numbered cs (shift t c)) row.poly.terms +ℤ row.poly.rest *ℤ shift t c (length cs) ≡ pos 0 -ℤ shift t c (length cs + 1 + l)
 moved_row cs rows t c l row ordered canonical among many s within here = level (terms_at (numbered cs (shift t c)) row.poly.terms) (row.poly.rest *ℤ shift t c (length cs)) (shift t c (length cs + 1 + l)) balance
   where
@@ -44,7 +44,7 @@ moved_row cs rows t c l row ordered canonical among many s within here = level (
     in_t = subst (λ (z : ℕ). l < z) (sym many) inside
 
     f : ℕ → ℤ
-    f j = numbers_of (framed cs rows) l j *ℤ shift t c j
+    f j = numbers_of (framed_tableau cs rows) l j *ℤ shift t c j
 
     terms_are : terms_at (numbered cs (shift t c)) row.poly.terms ≡ sum_below (length cs) f
     terms_are =
@@ -70,7 +70,7 @@ moved_row cs rows t c l row ordered canonical among many s within here = level (
         ∙ ap (λ z. sum_below (length cs) f +ℤ f (length cs) +ℤ z) (sym units_are)
         ∙ ap (λ z. z +ℤ sum_below (length t.lines) (λ i. f (length cs + 1 + i))) (let e : suc (length cs) ≡ length cs + 1 = omega arith in ap (λ z. sum_below z f) e)
         ∙ sym (sum_below-plus (length cs + 1) (length t.lines) f)
-        ∙ moved-solves (length t.lines) (length cs + 1) (length cs + 1 + length t.lines) (numbers_of (framed cs rows)) (numbers_of t) (choices_of t) c s.is within (λ i h. s.within i h) l in_t
+        ∙ moved-solves (length t.lines) (length cs + 1) (length cs + 1 + length t.lines) (numbers_of (framed_tableau cs rows)) (numbers_of t) (choices_of t) c s.is within (λ i h. s.within i h) l in_t
 
     level : (x y z : ℤ) → x +ℤ y +ℤ z ≡ pos 0 → x +ℤ y ≡ pos 0 -ℤ z
     level x y z e = omega (arith, ints, e)

@@ -16,7 +16,7 @@ use Rattle.whole_numbers.proofs.CommonDivisors.{DividesEach, DividesEach-gcd_of_
 use Rattle.whole_numbers.proofs.Quotients.{int_div-*ℤ}
 use Rattle.whole_numbers.proofs.Ring.{neg_ℤ-*ℤ, one-*ℤ}
 use Rattle.simplex.specs.declared.tableau.Tableau.{Tableau}
-use Rattle.simplex.specs.Exchange.{sum_of_products, sum_of_lines, line_multiple, reduced, upright_line, line_without, line_without_at, lines_without, exchange, numbers_of, choices_of, HasShape, IsTableauOf}
+use Rattle.simplex.specs.Exchange.{sum_of_products, sum_of_lines, line_multiple, reduced_line, upright_line, line_without, line_without_at, lines_without, exchange, numbers_of, choices_of, HasShape, IsTableauOf}
 use Rattle.farkas_check.specs.Relations.{entry}
 use Rattle.simplex.specs.Frames.{IsCleared, IsExchange, IsChanged, IsWholeTableau}
 use Rattle.simplex.proofs.Exchanges.{times_zero, exchanged_is}
@@ -83,7 +83,7 @@ record IsReduced (line made : List ℤ) : Type 0 where
   positive : pos 0 <ℤ factor
   is : (j : ℕ) → factor *ℤ entry made j ≡ entry line j
 
-reduced-number : (line : List ℤ) → IsReduced line (reduced line)
+reduced-number : (line : List ℤ) → IsReduced line (reduced_line line)
 reduced-number line = go (nat_eq (gcd_of_all line) 0) refl
   where
     some : (d : ℕ) → nat_eq d 0 ≡ false → pos 0 <ℤ pos d
@@ -108,17 +108,17 @@ line_without-is column pivot line made l p e = go (int_eq (entry line column) (p
         plain : (x : ℤ) → x ≡ x -ℤ pos 0
         plain x = omega (arith, ints)
 
-    go : (b : Bool) → int_eq (entry line column) (pos 0) ≡ b → cond b (lines_ok line) (product_of (entry line column) (negsuc 0) >>= λ q. sum_of_lines (entry pivot column) line q pivot >>= λ zs. lines_ok (reduced zs)) ≡ Ok made → IsCleared (entry line) (entry pivot) (entry made) column
+    go : (b : Bool) → int_eq (entry line column) (pos 0) ≡ b → cond b (lines_ok line) (product_of (entry line column) (negsuc 0) >>= λ q. sum_of_lines (entry pivot column) line q pivot >>= λ zs. lines_ok (reduced_line zs)) ≡ Ok made → IsCleared (entry line) (entry pivot) (entry made) column
     go true f g =
         let same : line ≡ made = cc in
         subst (λ zs. IsCleared (entry line) (entry pivot) (entry zs) column) same
         (record { factor = entry pivot column; positive = p; is = λ j. at_zero (entry line column) (entry pivot column) (entry line j) (entry pivot j) ((Decides-int_eq (entry line column) (pos 0)).0 f) })
     go false f g =
-        on_ok (product_of (entry line column) (negsuc 0)) (λ q. sum_of_lines (entry pivot column) line q pivot >>= λ zs. lines_ok (reduced zs)) made g
-        (λ q h k. on_ok (sum_of_lines (entry pivot column) line q pivot) (λ zs. lines_ok (reduced zs)) made k
-        (λ zs m n. let same : reduced zs ≡ made = cc in subst (λ ys. IsCleared (entry line) (entry pivot) (entry ys) column) same (whole q zs (product_of-value (entry line column) (negsuc 0) q h) m (reduced-number zs))))
+        on_ok (product_of (entry line column) (negsuc 0)) (λ q. sum_of_lines (entry pivot column) line q pivot >>= λ zs. lines_ok (reduced_line zs)) made g
+        (λ q h k. on_ok (sum_of_lines (entry pivot column) line q pivot) (λ zs. lines_ok (reduced_line zs)) made k
+        (λ zs m n. let same : reduced_line zs ≡ made = cc in subst (λ ys. IsCleared (entry line) (entry pivot) (entry ys) column) same (whole q zs (product_of-value (entry line column) (negsuc 0) q h) m (reduced-number zs))))
       where
-        whole : (q : ℤ) (zs : List ℤ) → q ≡ entry line column *ℤ negsuc 0 → sum_of_lines (entry pivot column) line q pivot ≡ Ok zs → IsReduced zs (reduced zs) → IsCleared (entry line) (entry pivot) (entry (reduced zs)) column
+        whole : (q : ℤ) (zs : List ℤ) → q ≡ entry line column *ℤ negsuc 0 → sum_of_lines (entry pivot column) line q pivot ≡ Ok zs → IsReduced zs (reduced_line zs) → IsCleared (entry line) (entry pivot) (entry (reduced_line zs)) column
         whole q zs h m r = record {
           factor = r.factor;
           positive = r.positive;
@@ -247,7 +247,7 @@ sum_of_lines-length p (a ∷ line) q (b ∷ bs) made l e =
     (λ z f g. on_ok (sum_of_lines p line q bs) (λ more. lines_ok (z ∷ more)) made g
     (λ more h k. let is : z ∷ more ≡ made = cc in let n : length more ≡ length line = sum_of_lines-length p line q bs more (omega arith) h in let m : length (z ∷ more) ≡ length made = ap length is in omega arith))
 
-reduced-length : (line : List ℤ) → length (reduced line) ≡ length line
+reduced-length : (line : List ℤ) → length (reduced_line line) ≡ length line
 reduced-length line = go (nat_eq (gcd_of_all line) 0)
   where
     go : (b : Bool) → length (cond b line (map (λ z. int_div z (pos (gcd_of_all line))) line)) ≡ length line
@@ -257,12 +257,12 @@ reduced-length line = go (nat_eq (gcd_of_all line) 0)
 pub line_without-length : (column : ℕ) (pivot line made : List ℤ) → length line ≡ length pivot → line_without column pivot line ≡ Ok made → length made ≡ length line
 line_without-length column pivot line made l e = go (int_eq (entry line column) (pos 0)) e
   where
-    go : (b : Bool) → cond b (lines_ok line) (product_of (entry line column) (negsuc 0) >>= λ q. sum_of_lines (entry pivot column) line q pivot >>= λ zs. lines_ok (reduced zs)) ≡ Ok made → length made ≡ length line
+    go : (b : Bool) → cond b (lines_ok line) (product_of (entry line column) (negsuc 0) >>= λ q. sum_of_lines (entry pivot column) line q pivot >>= λ zs. lines_ok (reduced_line zs)) ≡ Ok made → length made ≡ length line
     go true g = let same : line ≡ made = cc in ap length (sym same)
     go false g =
-        on_ok (product_of (entry line column) (negsuc 0)) (λ q. sum_of_lines (entry pivot column) line q pivot >>= λ zs. lines_ok (reduced zs)) made g
-        (λ q h k. on_ok (sum_of_lines (entry pivot column) line q pivot) (λ zs. lines_ok (reduced zs)) made k
-        (λ zs m n. let same : reduced zs ≡ made = cc in ap length (sym same) ∙ reduced-length zs ∙ sum_of_lines-length (entry pivot column) line q pivot zs l m))
+        on_ok (product_of (entry line column) (negsuc 0)) (λ q. sum_of_lines (entry pivot column) line q pivot >>= λ zs. lines_ok (reduced_line zs)) made g
+        (λ q h k. on_ok (sum_of_lines (entry pivot column) line q pivot) (λ zs. lines_ok (reduced_line zs)) made k
+        (λ zs m n. let same : reduced_line zs ≡ made = cc in ap length (sym same) ∙ reduced-length zs ∙ sum_of_lines-length (entry pivot column) line q pivot zs l m))
 
 line_without_at-length : (column : ℕ) (pivot : List ℤ) (place i : ℕ) (line made : List ℤ) → length line ≡ length pivot → line_without_at column pivot place i line ≡ Ok made → length made ≡ length line
 line_without_at-length column pivot place i line made l e = go (nat_eq i place) e

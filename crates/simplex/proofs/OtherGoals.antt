@@ -11,11 +11,11 @@ use Rattle.linear_terms.specs.declared.row.Kind.TheVariants.{AtMost, Equal}
 use Rattle.linear_terms.specs.declared.row.Row.{Row}
 use Rattle.linear_terms.specs.Polynomial.{Polynomial}
 use Rattle.farkas_check.specs.Relations.{entry}
-use Rattle.simplex.specs.Endings.{cleared, IsFront, IsMetFor}
+use Rattle.simplex.specs.Endings.{cleared_line, IsFront, IsMetFor}
 use Rattle.simplex.specs.Exchange.{line_without, numbers_of, choices_of, HasShape, IsTableauOf, ArePrimitive}
 use Rattle.simplex.specs.Frames.{IsOwnCombination, IsWholeTableau, IsCleared}
 use Rattle.simplex.specs.Raise.{Framed, enters_at, leaves_at}
-use Rattle.simplex.specs.Rows.{kinds_of, kind_at, whole_line, lines_from, framed}
+use Rattle.simplex.specs.Rows.{kinds_of, kind_at, whole_line, lines_from, framed_tableau}
 use Rattle.simplex.specs.Search.{IsFixed, IsMet}
 use Rattle.simplex.specs.Suprema.{with_goal, frame_over}
 use Rattle.simplex.specs.declared.tableau.Tableau.{Tableau}
@@ -38,14 +38,14 @@ record IsGoalLine (lines goal units columns : ℕ) (other numbers : ℕ → ℕ 
 goal_line-cleared : (goal units : ℕ) (frame other : ℕ → ℕ → ℤ) (t : Tableau) → HasGoal (length t.lines) goal units (units + length t.lines) frame other (numbers_of t) (choices_of t) → HasShape (units + length t.lines) t
     → (pivots : List (List ℤ)) (place : ℕ) (line made : List ℤ) → place + length pivots ≡ goal → ((i : ℕ) → i < length pivots → get_or pivots i [] ≡ get_or t.lines (place + i) [])
     → length line ≡ units + length t.lines → gcd_of_all line ≡ 1 → IsClearedTo (length t.lines) goal units (units + length t.lines) other (numbers_of t) (choices_of t) place (entry line)
-    → cleared pivots t.chosen place line ≡ Ok made → IsGoalLine (length t.lines) goal units (units + length t.lines) other (numbers_of t) (choices_of t) made
+    → cleared_line pivots t.chosen place line ≡ Ok made → IsGoalLine (length t.lines) goal units (units + length t.lines) other (numbers_of t) (choices_of t) made
 goal_line-cleared goal units frame other t s shape [] place line made at there wide primitive c e =
     let same : line ≡ made = cc in
     let last : place ≡ goal = omega (arith, at) in
     subst (λ zs. IsGoalLine (length t.lines) goal units (units + length t.lines) other (numbers_of t) (choices_of t) zs) same
     (record { wide = wide; primitive = primitive; is = subst (λ (n : ℕ). IsClearedTo (length t.lines) goal units (units + length t.lines) other (numbers_of t) (choices_of t) n (entry line)) last c })
 goal_line-cleared goal units frame other t s shape (pivot ∷ pivots) place line made at there wide primitive c e =
-    on_ok (line_without (choices_of t place) pivot line) (λ w. cleared pivots t.chosen (place + 1) w) made e
+    on_ok (line_without (choices_of t place) pivot line) (λ w. cleared_line pivots t.chosen (place + 1) w) made e
     (λ w f g. goal_line-cleared goal units frame other t s shape pivots (place + 1) w made (omega (arith, at)) there_next (wide_next w f) (primitive_next w f) (cleared_next w f) g)
   where
     before : place < goal
@@ -76,8 +76,8 @@ goal_line-cleared goal units frame other t s shape (pivot ∷ pivots) place line
     primitive_next w f = line_without-primitive (choices_of t place) pivot line w (units + goal) primitive f (not_zero (entry w (units + goal)) (cleared_next w f).own)
 
 -- one step of the code
-pub cleared-next : (lines : List (List ℤ)) (chosen : List ℕ) (place : ℕ) (pivot line made : List ℤ) → drop place lines ≡ pivot ∷ drop (place + 1) lines → line_without (get_or chosen place 0) pivot line ≡ Ok made → cleared (drop (place + 1) lines) chosen (place + 1) made ≡ cleared (drop place lines) chosen place line
-cleared-next lines chosen place pivot line made e f = sym (ap (λ ls. cleared ls chosen place line) e ∙ ap (λ r. r >>= λ w. cleared (drop (place + 1) lines) chosen (place + 1) w) f)
+pub cleared-next : (lines : List (List ℤ)) (chosen : List ℕ) (place : ℕ) (pivot line made : List ℤ) → drop place lines ≡ pivot ∷ drop (place + 1) lines → line_without (get_or chosen place 0) pivot line ≡ Ok made → cleared_line (drop (place + 1) lines) chosen (place + 1) made ≡ cleared_line (drop place lines) chosen place line
+cleared-next lines chosen place pivot line made e f = sym (ap (λ ls. cleared_line ls chosen place line) e ∙ ap (λ r. r >>= λ w. cleared_line (drop (place + 1) lines) chosen (place + 1) w) f)
 
 -- ---- the frames of two objectives
 
@@ -98,7 +98,7 @@ module _ (cs : List (List Col)) (rows : List Row) where
   goal_line p = whole_line cs (length rows + 1) (length rows) (goal_row p)
 
   abbrev frame_of : Polynomial → Tableau
-  frame_of p = framed cs (with_goal rows p)
+  frame_of p = framed_tableau cs (with_goal rows p)
 
   frame-lines : (p : Polynomial) → (frame_of p).lines ≡ row_lines ++ goal_line p ∷ []
   frame-lines p =
@@ -256,10 +256,10 @@ kinds-goal [] p q = refl
 kinds-goal (row ∷ rows) p q = ap (λ ks. row.kind ∷ ks) (kinds-goal rows p q)
 
 pub met_turned : (cs : List (List Col)) (rows : List Row) (p q : Polynomial) (enters : List Bool) (t : Tableau) (pivots : List (List ℤ)) (made : List ℤ) → IsMetFor cs rows p enters t → IsFront t.lines pivots
-    → cleared pivots t.chosen 0 (whole_line cs (length rows + 1) (length rows) (goal_row q)) ≡ Ok made → IsMetFor cs rows q enters (record { lines = pivots ++ made ∷ []; chosen = t.chosen })
+    → cleared_line pivots t.chosen 0 (whole_line cs (length rows + 1) (length rows) (goal_row q)) ≡ Ok made → IsMetFor cs rows q enters (record { lines = pivots ++ made ∷ []; chosen = t.chosen })
 met_turned cs rows p q enters t pivots made met front e =
     subst (λ (ks : List Kind). IsMet (frame_over cs rows q) (length cs) ks enters (record { lines = pivots ++ made ∷ []; chosen = t.chosen })) (kinds-goal rows p q)
-    (met_now (frame_over cs rows p) (numbers_of (framed cs (with_goal rows q))) (length cs) (kinds_of (with_goal rows p)) enters t (pivots ++ made ∷ []) met all each rows_same tableau primitive)
+    (met_now (frame_over cs rows p) (numbers_of (framed_tableau cs (with_goal rows q))) (length cs) (kinds_of (with_goal rows p)) enters t (pivots ++ made ∷ []) met all each rows_same tableau primitive)
   where
     all : length t.lines ≡ length rows + 1
     all = many cs rows p q enters t met
@@ -282,17 +282,17 @@ met_turned cs rows p q enters t pivots made met front e =
     goal_there : get_or (pivots ++ made ∷ []) (length rows) [] ≡ made
     goal_there = let z : length rows ≡ length pivots + 0 = (let a : length pivots ≡ length rows = few in omega (arith, a)) in ap (λ (n : ℕ). get_or (pivots ++ made ∷ []) n []) z ∙ after_front pivots (made ∷ []) [] 0
 
-    s : HasGoal (length t.lines) (length rows) (length cs + 1) (length cs + 1 + length t.lines) (numbers_of (framed cs (with_goal rows p))) (numbers_of (framed cs (with_goal rows q))) (numbers_of t) (choices_of t)
+    s : HasGoal (length t.lines) (length rows) (length cs + 1) (length cs + 1 + length t.lines) (numbers_of (framed_tableau cs (with_goal rows p))) (numbers_of (framed_tableau cs (with_goal rows q))) (numbers_of t) (choices_of t)
     s = has_goal cs rows p q enters t met
 
-    begins : IsClearedTo (length t.lines) (length rows) (length cs + 1) (length cs + 1 + length t.lines) (numbers_of (framed cs (with_goal rows q))) (numbers_of t) (choices_of t) 0 (entry (goal_line cs rows q))
+    begins : IsClearedTo (length t.lines) (length rows) (length cs + 1) (length cs + 1 + length t.lines) (numbers_of (framed_tableau cs (with_goal rows q))) (numbers_of t) (choices_of t) 0 (entry (goal_line cs rows q))
     begins =
-        subst (λ zs. IsClearedTo (length t.lines) (length rows) (length cs + 1) (length cs + 1 + length t.lines) (numbers_of (framed cs (with_goal rows q))) (numbers_of t) (choices_of t) 0 (entry zs)) (frame-goal cs rows q)
-        (cleared_first (length t.lines) (length rows) (length cs + 1) (length cs + 1 + length t.lines) (numbers_of (framed cs (with_goal rows p))) (numbers_of (framed cs (with_goal rows q))) (numbers_of t) (choices_of t) s)
+        subst (λ zs. IsClearedTo (length t.lines) (length rows) (length cs + 1) (length cs + 1 + length t.lines) (numbers_of (framed_tableau cs (with_goal rows q))) (numbers_of t) (choices_of t) 0 (entry zs)) (frame-goal cs rows q)
+        (cleared_first (length t.lines) (length rows) (length cs + 1) (length cs + 1 + length t.lines) (numbers_of (framed_tableau cs (with_goal rows p))) (numbers_of (framed_tableau cs (with_goal rows q))) (numbers_of t) (choices_of t) s)
 
-    line : IsGoalLine (length t.lines) (length rows) (length cs + 1) (length cs + 1 + length t.lines) (numbers_of (framed cs (with_goal rows q))) (numbers_of t) (choices_of t) made
+    line : IsGoalLine (length t.lines) (length rows) (length cs + 1) (length cs + 1 + length t.lines) (numbers_of (framed_tableau cs (with_goal rows q))) (numbers_of t) (choices_of t) made
     line =
-        goal_line-cleared (length rows) (length cs + 1) (numbers_of (framed cs (with_goal rows p))) (numbers_of (framed cs (with_goal rows q))) t s met.placed.marked.sized.tableau.shape pivots 0 (goal_line cs rows q) made
+        goal_line-cleared (length rows) (length cs + 1) (numbers_of (framed_tableau cs (with_goal rows p))) (numbers_of (framed_tableau cs (with_goal rows q))) t s met.placed.marked.sized.tableau.shape pivots 0 (goal_line cs rows q) made
         (let a : length pivots ≡ length rows = few in omega (arith, a)) (λ i h. at i h ∙ (let z : i ≡ 0 + i = omega arith in ap (λ (n : ℕ). get_or t.lines n []) z))
         (goal_line-long cs rows q ∙ ap (λ (n : ℕ). length cs + 1 + n) (sym all)) (goal_line-primitive cs rows q) begins e
 
@@ -302,15 +302,15 @@ met_turned cs rows p q enters t pivots made met front e =
     row_of : (i : ℕ) → i < length t.lines → i ≢ length rows → i < length rows
     row_of i h apart = let b : length t.lines ≡ length rows + 1 = all in omega (arith, b, h, apart)
 
-    tableau : IsTableauOf (length cs + 1) (numbers_of (framed cs (with_goal rows q))) (with_last pivots made t)
+    tableau : IsTableauOf (length cs + 1) (numbers_of (framed_tableau cs (with_goal rows q))) (with_last pivots made t)
     tableau = record {
       shape = record {
         wide = λ i h. ⊎_elim (λ (is : i ≡ length rows). ap (λ (k : ℕ). length (get_or (pivots ++ made ∷ []) k [])) is ∙ ap length goal_there ∙ line.wide)
             (λ apart. ap length (rows_same i (row_of i (in_t i h) apart)) ∙ met.placed.marked.sized.tableau.shape.wide i (in_t i h)) (cases_eq i (length rows)) ∙ ap (λ (n : ℕ). length cs + 1 + n) (sym each);
         choices = met.placed.marked.sized.tableau.shape.choices ∙ sym each;
       };
-      is = subst (λ (n : ℕ). IsWholeTableau n (length cs + 1) (length cs + 1 + n) (numbers_of (framed cs (with_goal rows q))) (numbers_of (with_last pivots made t)) (choices_of (with_last pivots made t))) (sym each)
-          (swapped_is (length t.lines) (length rows) (length cs + 1) (length cs + 1 + length t.lines) (numbers_of (framed cs (with_goal rows p))) (numbers_of (framed cs (with_goal rows q))) (numbers_of t) (choices_of t) s (numbers_of (with_last pivots made t)) (entry made) all line.is
+      is = subst (λ (n : ℕ). IsWholeTableau n (length cs + 1) (length cs + 1 + n) (numbers_of (framed_tableau cs (with_goal rows q))) (numbers_of (with_last pivots made t)) (choices_of (with_last pivots made t))) (sym each)
+          (swapped_is (length t.lines) (length rows) (length cs + 1) (length cs + 1 + length t.lines) (numbers_of (framed_tableau cs (with_goal rows p))) (numbers_of (framed_tableau cs (with_goal rows q))) (numbers_of t) (choices_of t) s (numbers_of (with_last pivots made t)) (entry made) all line.is
           (λ i h apart. ap entry (rows_same i (row_of i h apart))) (ap entry goal_there));
       within = λ i h. subst (λ (n : ℕ). choices_of t i < length cs + 1 + n) (sym each) (met.placed.marked.sized.tableau.within i (in_t i h));
     }

@@ -25,11 +25,11 @@ use Rattle.simplex.specs.Rows.{kinds_of}
 use Rattle.simplex.specs.Search.{IsMet, IsCornerOf}
 use Rattle.simplex.specs.Strata.{IsAsked, IsCaseOf}
 use Rattle.simplex.specs.Suprema.{frame_over, IsSupremumOver}
-use Rattle.simplex.specs.Wider.{widened, unit_ray, widened_supremum, IsBesides, AreColumnsOf}
-use Rattle.simplex.specs.declared.differences.Strata.{Strata}
+use Rattle.simplex.specs.Wider.{widened_numbers, unit_ray, widened_supremum, IsBesides, AreColumnsOf}
+use Rattle.simplex.specs.declared.differences.StrataQuestion.{StrataQuestion}
 use Rattle.simplex.specs.declared.gauss.Stage.{Stage}
-use Rattle.simplex.specs.declared.search.Found.TheVariants as found
-use Rattle.simplex.specs.declared.stop.Stop.{Stop}
+use Rattle.simplex.specs.declared.search.SearchEnd.TheVariants as found
+use Rattle.simplex.specs.declared.stop.SearchStop.{SearchStop}
 use Rattle.simplex.specs.declared.supremum.Supremum.{Supremum}
 use Rattle.simplex.specs.declared.supremum.Supremum.TheVariants as supremum
 use Rattle.simplex.specs.declared.tableau.Tableau.{Tableau}
@@ -94,7 +94,7 @@ among-in m (x ∷ ms) cs a h = go (eq_by_cmp mono_cmp m x) refl h (λ k. among-i
     go false e k ih = ih k
 
 module _ (rows : List Row) (p : Polynomial) (cs own : List (List Col)) (a : AreColumnsOf cs rows p) (is : own ≡ columns rows []) where
-  pub refused_over : {X : Type 0} (r : Result X Stop) → IfErr r (IsRefusalIn (frame_over own rows p) (length rows + 1)) → IfErr r (IsRefusalIn (frame_over cs rows p) (length rows + 1))
+  pub refused_over : {X : Type 0} (r : Result X SearchStop) → IfErr r (IsRefusalIn (frame_over own rows p) (length rows + 1)) → IfErr r (IsRefusalIn (frame_over cs rows p) (length rows + 1))
   refused_over (Ok x) h = tt
   refused_over (Err stop) h = refusal_over rows p cs stop a (subst (λ (ds : List (List Col)). IsRefusalIn (frame_over ds rows p) (length rows + 1) stop) is h)
 
@@ -110,9 +110,9 @@ module _ (rows : List Row) (p : Polynomial) (cs own : List (List Col)) (a : AreC
       (found_over rows p budget cs r a (subst (λ (ds : List (List Col)). AreAmong (keys_of p.terms) ds) is b) (subst (λ (ds : List (List Col)). IsSupremumOver ds rows p budget r) is h))
 
   pub opened_wide : (budget : ℕ) (mono : List Col) (up : Bool) (enters : List Bool) (t : Tableau) (point : List Fraction) → IsBesides own p.terms mono up → IsMetFor own rows p enters t → IsCornerOf t (length own) (length own) point
-      → IsSupremumOver cs rows p budget (supremum.Unbounded (widened own cs point) (unit_ray mono up cs))
+      → IsSupremumOver cs rows p budget (supremum.Unbounded (widened_numbers own cs point) (unit_ray mono up cs))
   opened_wide budget mono up enters t point b met corner =
-      subst (λ (ds : List (List Col)). IsSupremumOver cs rows p budget (supremum.Unbounded (widened ds cs point) (unit_ray mono up cs))) (sym is)
+      subst (λ (ds : List (List Col)). IsSupremumOver cs rows p budget (supremum.Unbounded (widened_numbers ds cs point) (unit_ray mono up cs))) (sym is)
       (opened_over rows p budget mono up b.grows cs point a (among-in mono (keys_of p.terms) cs a.objective b.here) (subst (λ (ds : List (List Col)). is_among mono ds ≡ false) is b.apart)
       (subst (λ (ds : List (List Col)). HasCorner ds rows p point) is (record { enters = enters; tableau = t; met = met; corner = corner })))
 
@@ -125,7 +125,7 @@ left_ends over kinds cs rows p (Err w) e f h = tt
 
 -- ---- the difference of a relation
 
-pub difference_columns : (s : Strata) (case : Change) (numbers : List ℤ) (up : Bool) (p : Polynomial) → IsAsked s → IsCaseOf s case → IsDifferenceOf case.terms s.lower.now numbers up p → AreColumnsOf s.columns.now case.rows p
+pub difference_columns : (s : StrataQuestion) (case : Change) (numbers : List ℤ) (up : Bool) (p : Polynomial) → IsAsked s → IsCaseOf s case → IsDifferenceOf case.terms s.lower.now numbers up p → AreColumnsOf s.columns.now case.rows p
 difference_columns s case numbers up p is of d =
     let given = case_given s case is of in
     record { ordered = given.ordered; own = given.among; objective = difference-among s.columns.now case.terms s.lower.now numbers up p given.over d }

@@ -7,7 +7,7 @@ use Rattle.std.proofs.lemmas.Int.{ints, by_lt_z}
 use Rattle.std.proofs.lemmas.Bool.{cases_eq, false≢true}
 use Rattle.std.proofs.Math.IntN.{*ℤ_comm}
 use Rattle.whole_numbers.proofs.Ring.{ring, one-*ℤ, neg_ℤ-*ℤ}
-use Rattle.simplex.specs.Frames.{IsWholeTableau, IsCleared, IsExchange, IsChanged, seen, IsLexPositive}
+use Rattle.simplex.specs.Frames.{IsWholeTableau, IsCleared, IsExchange, IsChanged, lexical_view, IsLexPositive}
 use Rattle.simplex.proofs.Exchanges.{product, times_zero, factor_positive, difference, IsCombination-difference}
 use Rattle.simplex.proofs.Growth.{lex_sum, lex_multiple}
 use Rattle.simplex.specs.History.{IsRaising}
@@ -20,14 +20,14 @@ pub record Leaves (lines constants : ℕ) (slack : ℕ → Bool) (keys : List �
   pub is_slack : slack line ≡ true
   pub positive : pos 0 <ℤ numbers line column
   pub least : (i : ℕ) → i < lines → slack i ≡ true → i ≢ line → pos 0 <ℤ numbers i column
-      → IsLexPositive (seen constants (difference (numbers line column) (numbers i) (numbers i column) (numbers line))) keys
+      → IsLexPositive (lexical_view constants (difference (numbers line column) (numbers i) (numbers i column) (numbers line))) keys
 
 -- two lines of slacks do not agree at all keys
 pub no_tie : (lines units columns constants : ℕ) (frame : ℕ → ℕ → ℤ) (slack : ℕ → Bool) (first : ℕ → ℕ) (keys : List ℕ) (numbers : ℕ → ℕ → ℤ) (chosen : ℕ → ℕ) (start : ℕ → ℕ → ℤ) (p q : ℤ) (i line : ℕ)
     → IsRaising lines units columns constants frame slack first keys numbers chosen → IsWholeTableau lines units columns frame start first
-    → ((w : ℕ → ℤ) → AllByRecursion (λ j. seen constants w j ≡ pos 0) keys → (k : ℕ) → k < lines → slack k ≡ true → w (first k) ≡ pos 0)
+    → ((w : ℕ → ℤ) → AllByRecursion (λ j. lexical_view constants w j ≡ pos 0) keys → (k : ℕ) → k < lines → slack k ≡ true → w (first k) ≡ pos 0)
     → i < lines → line < lines → slack i ≡ true → slack line ≡ true → i ≢ line → chosen i < columns → pos 0 <ℤ p
-    → AllByRecursion (λ j. seen constants (difference p (numbers i) q (numbers line)) j ≡ pos 0) keys → ⊥
+    → AllByRecursion (λ j. lexical_view constants (difference p (numbers i) q (numbers line)) j ≡ pos 0) keys → ⊥
 no_tie lines units columns constants frame slack first keys numbers chosen start p q i line r s covers h g is_slack is_slack_too apart within positive tie =
     clash (p *ℤ numbers i (chosen i)) (q *ℤ numbers line (chosen i)) (product p (numbers i (chosen i)) positive (r.tableau.own i h))
     (ap (λ z. q *ℤ z) (r.tableau.others line i g h (λ e. apart (sym e))) ∙ times_zero q)
@@ -59,29 +59,29 @@ not_turned x y sign p q e = factor_positive x sign p (subst (λ (z : ℤ). pos 0
 
 pub ahead_after : (lines units columns constants : ℕ) (frame : ℕ → ℕ → ℤ) (slack : ℕ → Bool) (first : ℕ → ℕ) (keys : List ℕ) (before after : ℕ → ℕ → ℤ) (old : ℕ → ℕ) (line column : ℕ)
     → IsRaising lines units columns constants frame slack first keys before old → AllByRecursion (λ c. c < columns) keys → Leaves lines constants slack keys before line column → IsExchange lines before after line column
-    → (i : ℕ) → i < lines → slack i ≡ true → IsLexPositive (seen constants (after i)) keys
+    → (i : ℕ) → i < lines → slack i ≡ true → IsLexPositive (lexical_view constants (after i)) keys
 ahead_after lines units columns constants frame slack first keys before after old line column r within l x i h is_slack =
-    ⊎_elim (λ (e : i ≡ line). subst (λ k. IsLexPositive (seen constants (after k)) keys) (sym e) at_line) (λ other. elsewhere other (x.line_without i h other)) (cases_eq i line)
+    ⊎_elim (λ (e : i ≡ line). subst (λ k. IsLexPositive (lexical_view constants (after k)) keys) (sym e) at_line) (λ other. elsewhere other (x.line_without i h other)) (cases_eq i line)
   where
     sign_positive : pos 0 <ℤ x.sign
     sign_positive = not_turned (before line column) (after line column) x.sign l.positive x.positive (x.upright column)
 
-    at_line : IsLexPositive (seen constants (after line)) keys
+    at_line : IsLexPositive (lexical_view constants (after line)) keys
     at_line =
-        lex_multiple keys (seen constants (before line)) (seen constants (after line)) x.sign (pos 1) sign_positive (omega (arith, ints))
-        (all_below columns keys (λ j. pos 1 *ℤ seen constants (after line) j ≡ x.sign *ℤ seen constants (before line) j) within
+        lex_multiple keys (lexical_view constants (before line)) (lexical_view constants (after line)) x.sign (pos 1) sign_positive (omega (arith, ints))
+        (all_below columns keys (λ j. pos 1 *ℤ lexical_view constants (after line) j ≡ x.sign *ℤ lexical_view constants (before line) j) within
         (λ j k. seen-multiple constants (before line) (after line) x.sign (pos 1) j (one-*ℤ (after line j) ∙ x.upright j)))
         (r.ahead line l.here l.is_slack)
 
-    elsewhere : i ≢ line → IsCleared (before i) (after line) (after i) column → IsLexPositive (seen constants (after i)) keys
+    elsewhere : i ≢ line → IsCleared (before i) (after line) (after i) column → IsLexPositive (lexical_view constants (after i)) keys
     elsewhere other s =
         by_lt_z (pos 0) (before i column) (λ p. at_positive p)
         (λ p. by_lt_z (before i column) (pos 0) (λ q. at_negative q) (λ q. at_zero (omega (arith, ints))))
       where
-        at_positive : pos 0 <ℤ before i column → IsLexPositive (seen constants (after i)) keys
+        at_positive : pos 0 <ℤ before i column → IsLexPositive (lexical_view constants (after i)) keys
         at_positive p =
-            lex_multiple keys (seen constants (difference (before line column) (before i) (before i column) (before line))) (seen constants (after i)) x.sign s.factor sign_positive s.positive
-            (all_below columns keys (λ j. s.factor *ℤ seen constants (after i) j ≡ x.sign *ℤ seen constants (difference (before line column) (before i) (before i column) (before line)) j) within
+            lex_multiple keys (lexical_view constants (difference (before line column) (before i) (before i column) (before line))) (lexical_view constants (after i)) x.sign s.factor sign_positive s.positive
+            (all_below columns keys (λ j. s.factor *ℤ lexical_view constants (after i) j ≡ x.sign *ℤ lexical_view constants (difference (before line column) (before i) (before i column) (before line)) j) within
             (λ j k. seen-multiple constants (difference (before line column) (before i) (before i column) (before line)) (after i) x.sign s.factor j
             (s.is j ∙ rw (x.upright column, x.upright j) (together x.sign (before line column) (before i j) (before i column) (before line j)))))
             (l.least i h is_slack other p)
@@ -89,18 +89,18 @@ ahead_after lines units columns constants frame slack first keys before after ol
             together : (s p a q b : ℤ) → s *ℤ p *ℤ a -ℤ q *ℤ (s *ℤ b) ≡ s *ℤ (p *ℤ a -ℤ q *ℤ b)
             together s p a q b = simp ring (omega (arith, ints))
 
-        at_negative : before i column <ℤ pos 0 → IsLexPositive (seen constants (after i)) keys
+        at_negative : before i column <ℤ pos 0 → IsLexPositive (lexical_view constants (after i)) keys
         at_negative q =
-            lex_sum keys (seen constants (before i)) (seen constants (after line)) (seen constants (after i)) (after line column) (neg_ℤ (before i column)) s.factor x.positive (omega (arith, ints)) s.positive
-            (all_below columns keys (λ j. s.factor *ℤ seen constants (after i) j ≡ after line column *ℤ seen constants (before i) j +ℤ neg_ℤ (before i column) *ℤ seen constants (after line) j) within
+            lex_sum keys (lexical_view constants (before i)) (lexical_view constants (after line)) (lexical_view constants (after i)) (after line column) (neg_ℤ (before i column)) s.factor x.positive (omega (arith, ints)) s.positive
+            (all_below columns keys (λ j. s.factor *ℤ lexical_view constants (after i) j ≡ after line column *ℤ lexical_view constants (before i) j +ℤ neg_ℤ (before i column) *ℤ lexical_view constants (after line) j) within
             (λ j k. seen-sum constants (before i) (after line) (after i) (after line column) (neg_ℤ (before i column)) s.factor j
             (s.is j ∙ ap (λ z. after line column *ℤ before i j +ℤ z) (sym (neg_ℤ-*ℤ (before i column) (after line j))))))
             (r.ahead i h is_slack) at_line
 
-        at_zero : before i column ≡ pos 0 → IsLexPositive (seen constants (after i)) keys
+        at_zero : before i column ≡ pos 0 → IsLexPositive (lexical_view constants (after i)) keys
         at_zero e =
-            lex_multiple keys (seen constants (before i)) (seen constants (after i)) (after line column) s.factor x.positive s.positive
-            (all_below columns keys (λ j. s.factor *ℤ seen constants (after i) j ≡ after line column *ℤ seen constants (before i) j) within
+            lex_multiple keys (lexical_view constants (before i)) (lexical_view constants (after i)) (after line column) s.factor x.positive s.positive
+            (all_below columns keys (λ j. s.factor *ℤ lexical_view constants (after i) j ≡ after line column *ℤ lexical_view constants (before i) j) within
             (λ j k. seen-multiple constants (before i) (after i) (after line column) s.factor j
             (s.is j ∙ rw e (alone (after line column *ℤ before i j) (after line j)))))
             (r.ahead i h is_slack)

@@ -12,15 +12,15 @@ use Rattle.simplex.specs.Calm.{HasSquares, HasSmallLines, IsMemory}
 use Rattle.simplex.specs.Exchange.{IsTableauOf, ArePrimitive}
 use Rattle.simplex.specs.Raise.{Framed, enters_at, Improves, IsOpen}
 use Rattle.simplex.specs.Refusal.{LeavesBits, IsRefusal, IsOverrun, IsRefusalIn}
-use Rattle.simplex.specs.declared.stop.Stop.{Stop}
-use Rattle.simplex.specs.declared.stop.Stop.TheVariants.{Wide, Memory}
+use Rattle.simplex.specs.declared.stop.SearchStop.{SearchStop}
+use Rattle.simplex.specs.declared.stop.SearchStop.TheVariants.{Wide, Memory}
 use Rattle.simplex.specs.declared.tableau.Tableau.{Tableau}
 
 pub overrun : (over : Framed) (count : ℕ) (t : Tableau) (step : Step.Wide) → IsTableauOf over.units over.frame t → ArePrimitive t → length t.lines ≡ count → LeavesBits step → ((n : ℕ) → HasSquares n → HasSmallLines n t → ⊥) → IsOverrun over count step
 overrun over count t step tableau primitive many leaves never =
     record { leaves = leaves; great = λ n room small. never n room (small t many tableau primitive) }
 
-pub refused : {X : Type 0} (over : Framed) (count : ℕ) (t : Tableau) (r : Result X Stop) → IsTableauOf over.units over.frame t → ArePrimitive t → length t.lines ≡ count → IfErr r IsRefusal → ((n : ℕ) → HasSquares n → HasSmallLines n t → IfErr r IsMemory) → IfErr r (IsRefusalIn over count)
+pub refused : {X : Type 0} (over : Framed) (count : ℕ) (t : Tableau) (r : Result X SearchStop) → IsTableauOf over.units over.frame t → ArePrimitive t → length t.lines ≡ count → IfErr r IsRefusal → ((n : ℕ) → HasSquares n → HasSmallLines n t → IfErr r IsMemory) → IfErr r (IsRefusalIn over count)
 refused over count t (Ok x) tableau primitive many leaves never = tt
 refused over count t (Err (Wide step)) tableau primitive many leaves never = overrun over count t step tableau primitive many leaves never
 refused over count t (Err Memory) tableau primitive many leaves never = tt
@@ -42,7 +42,7 @@ came_moved_at enters constants keys sign until goal column before after (turn.Op
     (m.0, u, subst (λ (j : ℕ). IsOpen enters sign goal j before) (sym m.1) (i, m.2))
 came_moved_at enters constants keys sign until goal column before after turn.Moved u i m = (column, (m.0, (i, m.1.0, m.1.1)))
 
-pub came_moved : (enters : List Bool) (constants : ℕ) (keys : List ℕ) (sign : ℤ) (until : Bool) (goal column : ℕ) (before : Tableau) (line other : List ℤ) (r : Result (Tableau × Turn) Stop)
+pub came_moved : (enters : List Bool) (constants : ℕ) (keys : List ℕ) (sign : ℤ) (until : Bool) (goal column : ℕ) (before : Tableau) (line other : List ℤ) (r : Result (Tableau × Turn) SearchStop)
     → line ≡ get_or before.lines goal [] → other ≡ get_or before.lines goal [] → until && int_le (entry line constants) (pos 0) ≡ false
     → (column < length other) × (enters_at enters column ≡ true) × ((sign *ℤ entry other column) <ℤ pos 0) → length enters ≡ length other
     → IfOk r (λ x. MovedTo enters constants keys column before x.0 x.1) → IfOk r (λ x. CameTo enters constants keys sign until goal before x.0 x.1)

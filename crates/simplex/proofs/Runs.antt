@@ -9,7 +9,7 @@ use Rattle.std.proofs.lemmas.Map.Steps.{length-le_from_distinct_below}
 use Rattle.whole_numbers.proofs.Ring.{ring}
 use Rattle.simplex.specs.Choices.{count_to, rank}
 use Rattle.farkas_check.specs.Frames.{choose}
-use Rattle.simplex.specs.Frames.{IsWholeTableau, is_chosen, seen, IsLexPositive}
+use Rattle.simplex.specs.Frames.{IsWholeTableau, is_chosen, lexical_view, IsLexPositive}
 use Rattle.simplex.specs.History.{lead, with_sign, HasRun}
 use Rattle.simplex.proofs.Exchanges.{product, times_zero}
 use Rattle.simplex.proofs.Growth.{lex_sum, lex_multiple, not_lex_zero}
@@ -18,7 +18,7 @@ use Rattle.simplex.proofs.Ranks.{rank-below, rank-same}
 
 -- ---- what the lexicographic order sees of sums
 
-pub seen-sum : (constants : ℕ) (u v w : ℕ → ℤ) (a b factor : ℤ) (j : ℕ) → factor *ℤ w j ≡ a *ℤ u j +ℤ b *ℤ v j → factor *ℤ seen constants w j ≡ a *ℤ seen constants u j +ℤ b *ℤ seen constants v j
+pub seen-sum : (constants : ℕ) (u v w : ℕ → ℤ) (a b factor : ℤ) (j : ℕ) → factor *ℤ w j ≡ a *ℤ u j +ℤ b *ℤ v j → factor *ℤ lexical_view constants w j ≡ a *ℤ lexical_view constants u j +ℤ b *ℤ lexical_view constants v j
 seen-sum constants u v w a b factor j e = go (nat_eq j constants)
   where
     flip : (x y z : ℤ) → factor *ℤ z ≡ a *ℤ x +ℤ b *ℤ y → factor *ℤ neg_ℤ z ≡ a *ℤ neg_ℤ x +ℤ b *ℤ neg_ℤ y
@@ -34,7 +34,7 @@ seen-sum constants u v w a b factor j e = go (nat_eq j constants)
     go true = flip (u j) (v j) (w j) e
     go false = e
 
-pub seen-multiple : (constants : ℕ) (v w : ℕ → ℤ) (b factor : ℤ) (j : ℕ) → factor *ℤ w j ≡ b *ℤ v j → factor *ℤ seen constants w j ≡ b *ℤ seen constants v j
+pub seen-multiple : (constants : ℕ) (v w : ℕ → ℤ) (b factor : ℤ) (j : ℕ) → factor *ℤ w j ≡ b *ℤ v j → factor *ℤ lexical_view constants w j ≡ b *ℤ lexical_view constants v j
 seen-multiple constants v w b factor j e = go (nat_eq j constants)
   where
     flip : (x z : ℤ) → factor *ℤ z ≡ b *ℤ x → factor *ℤ neg_ℤ z ≡ b *ℤ neg_ℤ x
@@ -47,7 +47,7 @@ seen-multiple constants v w b factor j e = go (nat_eq j constants)
     go true = flip (v j) (w j) e
     go false = e
 
-pub seen-zero : (constants : ℕ) (w : ℕ → ℤ) (j : ℕ) → w j ≡ pos 0 → seen constants w j ≡ pos 0
+pub seen-zero : (constants : ℕ) (w : ℕ → ℤ) (j : ℕ) → w j ≡ pos 0 → lexical_view constants w j ≡ pos 0
 seen-zero constants w j e = go (nat_eq j constants)
   where
     go : (t : Bool) → cond t (neg_ℤ (w j)) (w j) ≡ pos 0
@@ -72,7 +72,7 @@ pub record Grows (constants goal : ℕ) (sign : ℤ) (keys : List ℕ) (before a
   pub line : (j : ℕ) → factor *ℤ with_sign sign (after goal) j ≡ keeps *ℤ with_sign sign (before goal) j +ℤ adds *ℤ pivot j
   pub number : factor *ℤ after goal (new goal) ≡ keeps *ℤ before goal (old goal)
   pub same : new goal ≡ old goal
-  pub ahead : IsLexPositive (seen constants pivot) keys
+  pub ahead : IsLexPositive (lexical_view constants pivot) keys
 
 distinct_choices : (lines units columns : ℕ) (frame numbers : ℕ → ℕ → ℤ) (chosen : ℕ → ℕ) → IsWholeTableau lines units columns frame numbers chosen → (i k : ℕ) → i < lines → k < lines → i ≢ k → chosen i ≢ chosen k
 distinct_choices lines units columns frame numbers chosen t i k h g apart e = clash (numbers i (chosen i)) (t.own i h) (ap (numbers i) e ∙ t.others i k h g apart)
@@ -144,8 +144,8 @@ own_fresh lines units columns constants goal sign frame keys numbers chosen turn
     fresh : (b : Bool) → list_any (nat_eq (rank columns lines (is_chosen lines chosen))) run.ranks ≡ b → list_any (nat_eq (rank columns lines (is_chosen lines chosen))) run.ranks ≡ false
     fresh true e =
         absurd
-        (not_lex_zero keys (seen constants (lead (with_sign sign (numbers goal)) (numbers goal (chosen goal)) (with_sign sign (numbers goal)) (numbers goal (chosen goal))))
-        (all_below columns keys (λ j. seen constants (lead (with_sign sign (numbers goal)) (numbers goal (chosen goal)) (with_sign sign (numbers goal)) (numbers goal (chosen goal))) j ≡ pos 0) within
+        (not_lex_zero keys (lexical_view constants (lead (with_sign sign (numbers goal)) (numbers goal (chosen goal)) (with_sign sign (numbers goal)) (numbers goal (chosen goal))))
+        (all_below columns keys (λ j. lexical_view constants (lead (with_sign sign (numbers goal)) (numbers goal (chosen goal)) (with_sign sign (numbers goal)) (numbers goal (chosen goal))) j ≡ pos 0) within
         (λ j h. seen-zero constants (lead (with_sign sign (numbers goal)) (numbers goal (chosen goal)) (with_sign sign (numbers goal)) (numbers goal (chosen goal))) j (level (numbers goal (chosen goal)) (with_sign sign (numbers goal) j))))
         (run.older numbers chosen t refl ranges e))
     fresh false e = e
@@ -169,25 +169,25 @@ HasRun-more lines units columns constants goal sign frame keys before after old 
     counted = count_to-chosen columns lines old ranges (distinct_choices lines units columns frame before old t)
 
     behind_older : (then : ℕ → ℕ → ℤ) (choice : ℕ → ℕ) → IsWholeTableau lines units columns frame then choice
-        → IsLexPositive (seen constants (lead (with_sign sign (before goal)) (before goal (old goal)) (with_sign sign (then goal)) (then goal (choice goal)))) keys
-        → IsLexPositive (seen constants (lead (with_sign sign (after goal)) (after goal (new goal)) (with_sign sign (then goal)) (then goal (choice goal)))) keys
+        → IsLexPositive (lexical_view constants (lead (with_sign sign (before goal)) (before goal (old goal)) (with_sign sign (then goal)) (then goal (choice goal)))) keys
+        → IsLexPositive (lexical_view constants (lead (with_sign sign (after goal)) (after goal (new goal)) (with_sign sign (then goal)) (then goal (choice goal)))) keys
     behind_older then choice u h =
         let now = lead (with_sign sign (before goal)) (before goal (old goal)) (with_sign sign (then goal)) (then goal (choice goal)) in
         let next = lead (with_sign sign (after goal)) (after goal (new goal)) (with_sign sign (then goal)) (then goal (choice goal)) in
-        lex_sum keys (seen constants now) (seen constants s.pivot) (seen constants next) s.keeps (then goal (choice goal) *ℤ s.adds) s.factor
+        lex_sum keys (lexical_view constants now) (lexical_view constants s.pivot) (lexical_view constants next) s.keeps (then goal (choice goal) *ℤ s.adds) s.factor
         s.keeps_positive (product (then goal (choice goal)) s.adds (u.own goal here) s.adds_positive) s.factor_positive
-        (all_below columns keys (λ j. s.factor *ℤ seen constants next j ≡ s.keeps *ℤ seen constants now j +ℤ (then goal (choice goal) *ℤ s.adds) *ℤ seen constants s.pivot j) within
+        (all_below columns keys (λ j. s.factor *ℤ lexical_view constants next j ≡ s.keeps *ℤ lexical_view constants now j +ℤ (then goal (choice goal) *ℤ s.adds) *ℤ lexical_view constants s.pivot j) within
         (λ j k. seen-sum constants now s.pivot next s.keeps (then goal (choice goal) *ℤ s.adds) s.factor j (ahead_of constants goal sign keys before after then old new choice s j)))
         h s.ahead
 
     behind_here : (then : ℕ → ℕ → ℤ) (choice : ℕ → ℕ) → IsWholeTableau lines units columns frame then choice → choice goal ≡ old goal → ((k : ℕ) → k < lines → choice k < columns)
         → rank columns lines (is_chosen lines choice) ≡ rank columns lines (is_chosen lines old)
-        → IsLexPositive (seen constants (lead (with_sign sign (after goal)) (after goal (new goal)) (with_sign sign (then goal)) (then goal (choice goal)))) keys
+        → IsLexPositive (lexical_view constants (lead (with_sign sign (after goal)) (after goal (new goal)) (with_sign sign (then goal)) (then goal (choice goal)))) keys
     behind_here then choice u same r e =
         let next = lead (with_sign sign (after goal)) (after goal (new goal)) (with_sign sign (then goal)) (then goal (choice goal)) in
-        lex_multiple keys (seen constants s.pivot) (seen constants next) (then goal (choice goal) *ℤ s.adds) s.factor
+        lex_multiple keys (lexical_view constants s.pivot) (lexical_view constants next) (then goal (choice goal) *ℤ s.adds) s.factor
         (product (then goal (choice goal)) s.adds (u.own goal here) s.adds_positive) s.factor_positive
-        (all_below columns keys (λ j. s.factor *ℤ seen constants next j ≡ (then goal (choice goal) *ℤ s.adds) *ℤ seen constants s.pivot j) within
+        (all_below columns keys (λ j. s.factor *ℤ lexical_view constants next j ≡ (then goal (choice goal) *ℤ s.adds) *ℤ lexical_view constants s.pivot j) within
         (λ j k. seen-multiple constants s.pivot next (then goal (choice goal) *ℤ s.adds) s.factor j
         (ahead_of constants goal sign keys before after then old new choice s j
         ∙ drop_left s.keeps (lead (with_sign sign (before goal)) (before goal (old goal)) (with_sign sign (then goal)) (then goal (choice goal)) j) ((then goal (choice goal) *ℤ s.adds) *ℤ s.pivot j)

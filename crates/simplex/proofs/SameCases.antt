@@ -9,7 +9,7 @@ use Rattle.linear_terms.specs.Polynomial.{Polynomial}
 use Rattle.simplex.specs.Endings.{StandsAt}
 use Rattle.simplex.specs.Exchange.{numbers_of}
 use Rattle.simplex.specs.Raise.{Framed}
-use Rattle.simplex.specs.Rows.{kinds_of, framed}
+use Rattle.simplex.specs.Rows.{kinds_of, framed_tableau}
 use Rattle.simplex.specs.Search.{IsMet}
 use Rattle.simplex.specs.Suprema.{with_goal, frame_over}
 use Rattle.simplex.specs.declared.gauss.Stage.{Stage}
@@ -29,11 +29,11 @@ pub from_case : (P : Framed → List Kind → Type 0) (over : Framed) (kinds : L
 from_case P over kinds cs rows p e f h = subst (λ (o : Framed). P o kinds) (sym e) (subst (λ (ks : List Kind). P (frame_over cs rows p) ks) (sym (f ∙ goal_kinds rows p)) h)
 
 -- the same where the frame is that of the tableau at its beginning
-pub of_beginning : (P : Framed → ℕ → List Kind → Type 0) (cs : List (List Col)) (rows all : List Row) (p : Polynomial) (constants count : ℕ) (kinds : List Kind) (t : Tableau) → all ≡ with_goal rows p → constants ≡ length cs → count ≡ length rows → t ≡ framed cs all → kinds ≡ kinds_of all
+pub of_beginning : (P : Framed → ℕ → List Kind → Type 0) (cs : List (List Col)) (rows all : List Row) (p : Polynomial) (constants count : ℕ) (kinds : List Kind) (t : Tableau) → all ≡ with_goal rows p → constants ≡ length cs → count ≡ length rows → t ≡ framed_tableau cs all → kinds ≡ kinds_of all
     → P (record { units = constants + 1; rows = count; frame = numbers_of t }) constants kinds → P (frame_over cs rows p) (length cs) (kinds_of (with_goal rows p))
 of_beginning P cs rows all p constants count kinds t a e d f g h =
     subst (λ (ks : List Kind). P (frame_over cs rows p) (length cs) ks) (g ∙ ap kinds_of a)
-    (subst (λ (u : Tableau). P (record { units = length cs + 1; rows = length rows; frame = numbers_of u }) (length cs) kinds) (f ∙ ap (framed cs) a)
+    (subst (λ (u : Tableau). P (record { units = length cs + 1; rows = length rows; frame = numbers_of u }) (length cs) kinds) (f ∙ ap (framed_tableau cs) a)
     (subst (λ (n : ℕ). P (record { units = length cs + 1; rows = n; frame = numbers_of t }) (length cs) kinds) d
     (subst (λ (n : ℕ). P (record { units = n + 1; rows = count; frame = numbers_of t }) n kinds) e h)))
 

@@ -10,7 +10,7 @@ use Rattle.linear_terms.specs.declared.row.Kind.{Kind}
 use Rattle.linear_terms.specs.declared.row.Kind.TheVariants.{AtMost, Equal}
 use Rattle.simplex.specs.declared.tableau.Tableau.{Tableau}
 use Rattle.simplex.specs.Exchange.{numbers_of, choices_of, exchange}
-use Rattle.simplex.specs.Frames.{IsCleared, seen, IsLexPositive}
+use Rattle.simplex.specs.Frames.{IsCleared, lexical_view, IsLexPositive}
 use Rattle.simplex.specs.History.{Raises, IsUnmet}
 use Rattle.simplex.specs.Raise.{Framed, enters_at, leaves_at, keys_of, Begins, IsBest, IsOpen}
 use Rattle.simplex.specs.Rows.{kind_at}
@@ -61,7 +61,7 @@ equation_out over kinds count enters l entering k = go (enters_at enters (over.u
     go false e = e
 
 -- a corner by the first key
-first_key : (constants : ℕ) (w : ℕ → ℤ) (keys : List ℕ) → IsLexPositive (seen constants w) (constants ∷ keys) → w constants ≤ℤ pos 0
+first_key : (constants : ℕ) (w : ℕ → ℤ) (keys : List ℕ) → IsLexPositive (lexical_view constants w) (constants ∷ keys) → w constants ≤ℤ pos 0
 first_key constants w keys (inl p) = let q : pos 0 <ℤ neg_ℤ (w constants) = subst (λ (b : Bool). pos 0 <ℤ cond b (neg_ℤ (w constants)) (w constants)) (eq-eqb constants constants refl) p in omega (arith, ints, q)
 first_key constants w keys (inr p) = let q : neg_ℤ (w constants) ≡ pos 0 = subst (λ (b : Bool). cond b (neg_ℤ (w constants)) (w constants) ≡ pos 0) (eq-eqb constants constants refl) p.0 in omega (arith, ints, q)
 

@@ -15,7 +15,7 @@ use Rattle.linear_terms.specs.Row.{AreCanonical}
 use Rattle.linear_terms.specs.Polynomial.{Terms, Polynomial, coefficient_in}
 use Rattle.farkas_check.specs.Kept.{IsCanonicalGoal, HasPositive}
 use Rattle.farkas_check.specs.Columns.{columns}
-use Rattle.farkas_check.specs.Multiples.{number_at as coefficient_at, constant_in, sums_at, constant_sum, sum_of_multiples, are_multipliers, scaled_at, scaled_less, scaled_form, same_form, is_positive_constant}
+use Rattle.farkas_check.specs.Multiples.{number_at as coefficient_at, constant_in, sums_at, constant_sum, sum_of_multiples, are_multipliers, scaled_coefficients, scaled_less, scaled_form, same_form, is_positive_constant}
 use Rattle.farkas_check.specs.Parts.{and_then}
 use Rattle.farkas_check.specs.Points.{ratio_at, ratio_value, slope_at, meets}
 use Rattle.farkas_check.specs.Rational.{terms_at}
@@ -93,7 +93,7 @@ sum_fits goal cert g s =
   where
     multiple : HasValue (scaled_form cert.scale cert.sum goal.objective (goal_columns goal))
     multiple =
-        bind_value (scaled_at cert.scale goal.objective.terms (goal_columns goal)) (λ numbers. scaled_less cert.scale goal.objective.rest cert.sum >>= λ rest. form_ok (record { numbers = numbers; rest = rest }))
+        bind_value (scaled_coefficients cert.scale goal.objective.terms (goal_columns goal)) (λ numbers. scaled_less cert.scale goal.objective.rest cert.sum >>= λ rest. form_ok (record { numbers = numbers; rest = rest }))
         (scaled_at-fits 1099511627776 cert.scale goal.objective.terms (goal_columns goal) s.scale (λ j h. coefficient_small 1099511627776 (get_or (goal_columns goal) j []) goal.objective.terms (terms_of goal.objective g.objective)) (omega arith))
         (λ numbers e. bind_value (scaled_less cert.scale goal.objective.rest cert.sum) (λ rest. form_ok (record { numbers = numbers; rest = rest }))
         (scaled_less-fits cert.scale goal.objective.rest cert.sum s.scale g.objective.rest s.sum) (λ rest f. (record { numbers = numbers; rest = rest }, refl)))

@@ -16,21 +16,21 @@ use Rattle.linear_terms.proofs.Canonical.{IsCanonical-nil, IsCanonical-sum_of_po
 use Rattle.farkas_check.specs.Kept.{IsCanonicalChange}
 use Rattle.farkas_check.specs.declared.stratum.Change.{Change}
 use Rattle.farkas_check.specs.Relations.{has_count, term_count, entry, Side, Term, Lower, One, sides, difference, coefficient_at, rest_of}
-use Rattle.simplex.specs.Differences.{with_multiples, weighted, IsDifferenceOf}
+use Rattle.simplex.specs.Differences.{with_multiples, weighted_value, IsDifferenceOf}
 use Rattle.simplex.specs.Exchange.{line_multiple}
 use Rattle.simplex.specs.Raise.{sign_of}
 use Rattle.simplex.proofs.Coefficients.{IsWeightedSum, weighted_sum, sum-coefficient, sum-rest}
 use Rattle.farkas_check.proofs.Farkas.{numbers_ok, both_true}
 use Rattle.simplex.specs.Strata.{IsAsked, IsCaseOf}
-use Rattle.simplex.specs.declared.differences.Strata.{Strata}
+use Rattle.simplex.specs.declared.differences.StrataQuestion.{StrataQuestion}
 use Rattle.simplex.proofs.Cases.{at_place}
 
 -- the parts of the terms, which are added
 terms_part : (value : Polynomial → ℤ) (one sign : ℤ) (first own last : List ℤ) (terms : List Polynomial) (ss : List Side) → length first ≡ length terms → line_multiple first sign ≡ Ok own
-    → sign *ℤ difference value one (first ++ last) (map Term terms ++ ss) ≡ weighted value own terms +ℤ sign *ℤ difference value one last ss
+    → sign *ℤ difference value one (first ++ last) (map Term terms ++ ss) ≡ weighted_value value own terms +ℤ sign *ℤ difference value one last ss
 terms_part value one sign [] own last [] ss h e =
     let none : [] ≡ own = cc in
-    plain (sign *ℤ difference value one last ss) ∙ ap (λ (ns : List ℤ). weighted value ns [] +ℤ sign *ℤ difference value one last ss) none
+    plain (sign *ℤ difference value one last ss) ∙ ap (λ (ns : List ℤ). weighted_value value ns [] +ℤ sign *ℤ difference value one last ss) none
   where
     plain : (z : ℤ) → z ≡ pos 0 +ℤ z
     plain z = omega (arith, ints)
@@ -47,22 +47,22 @@ terms_part value one sign (n ∷ first) own last (t ∷ terms) ss h e =
     group : (a b c : ℤ) → a +ℤ (b +ℤ c) ≡ a +ℤ b +ℤ c
     group a b c = omega (arith, ints)
 
-    step : (z : ℤ) (made : List ℤ) → z ≡ n *ℤ sign → sign *ℤ difference value one (first ++ last) (map Term terms ++ ss) ≡ weighted value made terms +ℤ sign *ℤ difference value one last ss → z ∷ made ≡ own
-        → sign *ℤ (n *ℤ value t +ℤ difference value one (first ++ last) (map Term terms ++ ss)) ≡ weighted value own (t ∷ terms) +ℤ sign *ℤ difference value one last ss
+    step : (z : ℤ) (made : List ℤ) → z ≡ n *ℤ sign → sign *ℤ difference value one (first ++ last) (map Term terms ++ ss) ≡ weighted_value value made terms +ℤ sign *ℤ difference value one last ss → z ∷ made ≡ own
+        → sign *ℤ (n *ℤ value t +ℤ difference value one (first ++ last) (map Term terms ++ ss)) ≡ weighted_value value own (t ∷ terms) +ℤ sign *ℤ difference value one last ss
     step z made f ih same =
         regroup (value t) (difference value one (first ++ last) (map Term terms ++ ss))
         ∙ ap (λ x. value t *ℤ x +ℤ sign *ℤ difference value one (first ++ last) (map Term terms ++ ss)) (sym f)
         ∙ ap (λ x. value t *ℤ z +ℤ x) ih
-        ∙ group (value t *ℤ z) (weighted value made terms) (sign *ℤ difference value one last ss)
-        ∙ ap (λ (ns : List ℤ). weighted value ns (t ∷ terms) +ℤ sign *ℤ difference value one last ss) same
+        ∙ group (value t *ℤ z) (weighted_value value made terms) (sign *ℤ difference value one last ss)
+        ∙ ap (λ (ns : List ℤ). weighted_value value ns (t ∷ terms) +ℤ sign *ℤ difference value one last ss) same
 
 -- the parts of the lower terms and of 1, which are subtracted
 lower_part : (value : Polynomial → ℤ) (one sign : ℤ) (last others : List ℤ) (lower : List Polynomial) → length last ≡ length lower + 1 → line_multiple last (neg_ℤ sign) ≡ Ok others
-    → sign *ℤ difference value one last (map Lower lower ++ One ∷ []) ≡ weighted value others lower +ℤ entry others (length lower) *ℤ one
+    → sign *ℤ difference value one last (map Lower lower ++ One ∷ []) ≡ weighted_value value others lower +ℤ entry others (length lower) *ℤ one
 lower_part value one sign [] others lower h e = absurd (omega (arith, h))
 lower_part value one sign (n ∷ []) others [] h e =
     on_ok (product_of n (neg_ℤ sign)) (λ z. line_multiple [] (neg_ℤ sign) >>= λ made. numbers_ok (z ∷ made)) others e
-    (λ z f g. let same : z ∷ [] ≡ others = cc in last_one ∙ ap (λ x. pos 0 +ℤ x *ℤ one) (sym (product_of-value n (neg_ℤ sign) z f)) ∙ ap (λ (ns : List ℤ). weighted value ns [] +ℤ entry ns 0 *ℤ one) same)
+    (λ z f g. let same : z ∷ [] ≡ others = cc in last_one ∙ ap (λ x. pos 0 +ℤ x *ℤ one) (sym (product_of-value n (neg_ℤ sign) z f)) ∙ ap (λ (ns : List ℤ). weighted_value value ns [] +ℤ entry ns 0 *ℤ one) same)
   where
     last_one : sign *ℤ (n *ℤ neg_ℤ one +ℤ pos 0) ≡ pos 0 +ℤ n *ℤ neg_ℤ sign *ℤ one
     last_one = simp ring (omega (arith, ints))
@@ -78,14 +78,14 @@ lower_part value one sign (n ∷ last) others (t ∷ lower) h e =
     group : (a b c : ℤ) → a +ℤ (b +ℤ c) ≡ a +ℤ b +ℤ c
     group a b c = omega (arith, ints)
 
-    step : (z : ℤ) (made : List ℤ) → z ≡ n *ℤ neg_ℤ sign → sign *ℤ difference value one last (map Lower lower ++ One ∷ []) ≡ weighted value made lower +ℤ entry made (length lower) *ℤ one → z ∷ made ≡ others
-        → sign *ℤ (n *ℤ neg_ℤ (value t) +ℤ difference value one last (map Lower lower ++ One ∷ [])) ≡ weighted value others (t ∷ lower) +ℤ entry others (suc (length lower)) *ℤ one
+    step : (z : ℤ) (made : List ℤ) → z ≡ n *ℤ neg_ℤ sign → sign *ℤ difference value one last (map Lower lower ++ One ∷ []) ≡ weighted_value value made lower +ℤ entry made (length lower) *ℤ one → z ∷ made ≡ others
+        → sign *ℤ (n *ℤ neg_ℤ (value t) +ℤ difference value one last (map Lower lower ++ One ∷ [])) ≡ weighted_value value others (t ∷ lower) +ℤ entry others (suc (length lower)) *ℤ one
     step z made f ih same =
         regroup (value t) (difference value one last (map Lower lower ++ One ∷ []))
         ∙ ap (λ x. value t *ℤ x +ℤ sign *ℤ difference value one last (map Lower lower ++ One ∷ [])) (sym f)
         ∙ ap (λ x. value t *ℤ z +ℤ x) ih
-        ∙ group (value t *ℤ z) (weighted value made lower) (entry made (length lower) *ℤ one)
-        ∙ ap (λ (ns : List ℤ). weighted value ns (t ∷ lower) +ℤ entry ns (suc (length lower)) *ℤ one) same
+        ∙ group (value t *ℤ z) (weighted_value value made lower) (entry made (length lower) *ℤ one)
+        ∙ ap (λ (ns : List ℤ). weighted_value value ns (t ∷ lower) +ℤ entry ns (suc (length lower)) *ℤ one) same
 
 -- how the code makes the polynomial: multiples of the terms, of the lower terms, and a constant
 pub record IsMadeOf (count : ℕ) (terms lower : List Polynomial) (numbers : List ℤ) (up : Bool) (p : Polynomial) : Type 0 where
@@ -124,15 +124,15 @@ is_difference terms lower numbers up p k l h m = record {
     turned true = refl
     turned false = refl
 
-    whole : (value : Polynomial → ℤ) (one : ℤ) → sign_of up *ℤ difference value one numbers (sides terms lower) ≡ weighted value m.own terms +ℤ (weighted value m.others lower +ℤ entry m.others (length lower) *ℤ one)
+    whole : (value : Polynomial → ℤ) (one : ℤ) → sign_of up *ℤ difference value one numbers (sides terms lower) ≡ weighted_value value m.own terms +ℤ (weighted_value value m.others lower +ℤ entry m.others (length lower) *ℤ one)
     whole value one =
         ap (λ (ns : List ℤ). sign_of up *ℤ difference value one ns (sides terms lower)) (sym (take-append-drop (length terms) numbers))
         ∙ terms_part value one (sign_of up) (take (length terms) numbers) m.own (drop (length terms) numbers) terms (map Lower lower ++ One ∷ []) (length-take-le (length terms) numbers (omega (arith, h))) m.own_is
-        ∙ ap (λ z. weighted value m.own terms +ℤ z)
+        ∙ ap (λ z. weighted_value value m.own terms +ℤ z)
         (lower_part value one (sign_of up) (drop (length terms) numbers) m.others lower (length-drop (length terms) numbers ∙ (omega (arith, h))) (subst (λ z. line_multiple (drop (length terms) numbers) z ≡ Ok m.others) (turned up) m.others_is))
 
-    both : (value : Polynomial → ℤ) (one x y z w : ℤ) → y ≡ pos 0 +ℤ weighted value m.own terms → z ≡ y +ℤ weighted value m.others lower → entry m.others (length lower) *ℤ one ≡ w → z +ℤ w ≡ sign_of up *ℤ difference value one numbers (sides terms lower)
-    both value one x y z w f g e = joined (weighted value m.own terms) (weighted value m.others lower) f g e (whole value one)
+    both : (value : Polynomial → ℤ) (one x y z w : ℤ) → y ≡ pos 0 +ℤ weighted_value value m.own terms → z ≡ y +ℤ weighted_value value m.others lower → entry m.others (length lower) *ℤ one ≡ w → z +ℤ w ≡ sign_of up *ℤ difference value one numbers (sides terms lower)
+    both value one x y z w f g e = joined (weighted_value value m.own terms) (weighted_value value m.others lower) f g e (whole value one)
       where
         joined : (a b : ℤ) {c d : ℤ} → y ≡ pos 0 +ℤ a → z ≡ y +ℤ b → c ≡ w → d ≡ a +ℤ (b +ℤ c) → z +ℤ w ≡ d
         joined a b f g e k = omega (arith, ints, f, g, e, k)
@@ -143,7 +143,7 @@ terms_at count l [] case h e = cc
 terms_at count zero (c ∷ cases) case h e = let same : c ≡ case = cc in subst (λ (x : Change). length x.terms ≡ count) same (eqb-true (length c.terms) count (both_true (has_count count c) (list_all (has_count count) cases) h).0)
 terms_at count (suc l) (c ∷ cases) case h e = terms_at count l cases case (both_true (has_count count c) (list_all (has_count count) cases) h).1 e
 
-pub asked_difference : (s : Strata) (case : Change) (numbers : List ℤ) (up : Bool) (p : Polynomial) → IsAsked s → IsCaseOf s case → s.count ≡ s.terms + length s.lower.now + 1 → length numbers ≡ s.count → IsMadeOf s.terms case.terms s.lower.now numbers up p → IsDifferenceOf case.terms s.lower.now numbers up p
+pub asked_difference : (s : StrataQuestion) (case : Change) (numbers : List ℤ) (up : Bool) (p : Polynomial) → IsAsked s → IsCaseOf s case → s.count ≡ s.terms + length s.lower.now + 1 → length numbers ≡ s.count → IsMadeOf s.terms case.terms s.lower.now numbers up p → IsDifferenceOf case.terms s.lower.now numbers up p
 asked_difference s case numbers up p is of count h m =
     is_difference case.terms s.lower.now numbers up p (recursion_from_All (λ (q : Polynomial). IsCanonical q.terms) case.terms canonical.terms) (recursion_from_All (λ (q : Polynomial). IsCanonical q.terms) s.lower.now is.canonical.lower_too) (h ∙ count ∙ ap (λ (n : ℕ). n + length s.lower.now + 1) (sym many))
     (subst (λ (n : ℕ). IsMadeOf n case.terms s.lower.now numbers up p) (sym many) m)

@@ -11,7 +11,7 @@ use Rattle.whole_numbers.specs.declared.wide.Wide as Step
 use Rattle.simplex.specs.declared.tableau.Tableau.{Tableau}
 use Rattle.simplex.specs.Calm.{HasSquares}
 use Rattle.simplex.proofs.Numbers.{line_multiple-number, tableau_ok}
-use Rattle.simplex.specs.Exchange.{sum_of_products, sum_of_lines, line_multiple, reduced, upright_line, line_without, line_without_at, lines_without, exchange}
+use Rattle.simplex.specs.Exchange.{sum_of_products, sum_of_lines, line_multiple, reduced_line, upright_line, line_without, line_without_at, lines_without, exchange}
 use Rattle.farkas_check.specs.Relations.{entry}
 
 -- each number is at most n in size
@@ -100,10 +100,10 @@ line_without-fits n column pivot line room h k = go (int_eq (entry line column) 
     sizes : (a : ℤ) → unsigned_abs (a *ℤ negsuc 0) ≡ unsigned_abs a
     sizes a = omega (arith, ints)
 
-    go : (b : Bool) → HasValue (cond b (Ok line) (product_of (entry line column) (negsuc 0) >>= λ q. sum_of_lines (entry pivot column) line q pivot >>= λ made. Ok (reduced made)))
+    go : (b : Bool) → HasValue (cond b (Ok line) (product_of (entry line column) (negsuc 0) >>= λ q. sum_of_lines (entry pivot column) line q pivot >>= λ made. Ok (reduced_line made)))
     go true = (line, refl)
     go false =
-        bind_value (product_of (entry line column) (negsuc 0)) (λ q. sum_of_lines (entry pivot column) line q pivot >>= λ made. Ok (reduced made)) (entry line column *ℤ negsuc 0, negative-fits n (entry line column) room (h column))
+        bind_value (product_of (entry line column) (negsuc 0)) (λ q. sum_of_lines (entry pivot column) line q pivot >>= λ made. Ok (reduced_line made)) (entry line column *ℤ negsuc 0, negative-fits n (entry line column) room (h column))
         (λ q e. rest q (sum_of_lines-fits n (entry pivot column) line q pivot room (k column) (small q e) h k))
       where
         small : (q : ℤ) → product_of (entry line column) (negsuc 0) ≡ Ok q → unsigned_abs q ≤ n
@@ -112,8 +112,8 @@ line_without-fits n column pivot line room h k = go (int_eq (entry line column) 
             let size : unsigned_abs q ≡ unsigned_abs (entry line column) = ap unsigned_abs (sym same) ∙ sizes (entry line column) in
             let known : unsigned_abs (entry line column) ≤ n = h column in omega arith
 
-        rest : (q : ℤ) → HasValue (sum_of_lines (entry pivot column) line q pivot) → HasValue (sum_of_lines (entry pivot column) line q pivot >>= λ made. Ok (reduced made))
-        rest q v = bind_value (sum_of_lines (entry pivot column) line q pivot) (λ made. Ok (reduced made)) v (λ made e. (reduced made, refl))
+        rest : (q : ℤ) → HasValue (sum_of_lines (entry pivot column) line q pivot) → HasValue (sum_of_lines (entry pivot column) line q pivot >>= λ made. Ok (reduced_line made))
+        rest q v = bind_value (sum_of_lines (entry pivot column) line q pivot) (λ made. Ok (reduced_line made)) v (λ made e. (reduced_line made, refl))
 
 upright-small : (n column : ℕ) (line made : List ℤ) → AreSmall n line → upright_line column line ≡ Ok made → AreSmall n made
 upright-small n column line made h e = go (int_lt (entry line column) (pos 0)) e

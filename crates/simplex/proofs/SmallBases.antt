@@ -21,10 +21,10 @@ use Rattle.simplex.specs.Points.{IsSpotAt}
 use Rattle.simplex.specs.SmallBasis.{AreAtMost, IsSmallRelation, IsSmallSpot, IsSmallUnitList, IsSmallIn, IsSmallOver}
 use Rattle.simplex.specs.Spots.{AreSpotLines, IsSpotTableau, AreRelations, AreUnitLists, chosen_below, spots_framed, frame_of_lines}
 use Rattle.simplex.specs.Strata.{IsAsked, IsTiedRelation, AreKnown}
-use Rattle.simplex.specs.declared.differences.Strata.{Strata}
+use Rattle.simplex.specs.declared.differences.StrataQuestion.{StrataQuestion}
 use Rattle.simplex.specs.declared.spots.Spots.{Spots}
-use Rattle.simplex.specs.declared.stop.Stop.{Stop}
-use Rattle.simplex.specs.declared.strata.Known.{Known}
+use Rattle.simplex.specs.declared.stop.SearchStop.{SearchStop}
+use Rattle.simplex.specs.declared.strata.KnownRelations.{KnownRelations}
 use Rattle.simplex.proofs.CalmKnown.{known_calm, known_scales, relation_calm}
 use Rattle.simplex.proofs.CalmSpots.{small_spots}
 use Rattle.simplex.proofs.Cases.{at_place}
@@ -34,7 +34,7 @@ use Rattle.simplex.proofs.SpotFrames.{framed-number, spots_framed-is}
 
 -- ---- spots
 
-spot_small : (s : Strata) (spot : Spot) → IsCalmAsked s → IsSpotAt s.columns.now s.cases.now spot → IsSmallSpot spot
+spot_small : (s : StrataQuestion) (spot : Spot) → IsCalmAsked s → IsSpotAt s.columns.now s.cases.now spot → IsSmallSpot spot
 spot_small s spot calm at = of_point (point_small s.columns.now at.case.rows spot.at (at_place (λ (c : Change). IsCalmUpTo 1048576 (row_frame s.columns.now c.rows)) s.cases.now spot.case at.case calm.calm.rows at.is) at.point)
   where
     of_point : IsSmallPoint s.columns.now 1099511627776 spot.at → IsSmallSpot spot
@@ -50,7 +50,7 @@ spot_small s spot calm at = of_point (point_small s.columns.now at.case.rows spo
         inside : (j : ℕ) → j < length spot.at → j < length s.columns.now
         inside j h = subst (λ (n : ℕ). j < n) p.each h
 
-spots_small : (s : Strata) (spots : List Spot) → IsCalmAsked s → AllByRecursion (IsSpotAt s.columns.now s.cases.now) spots → AllByRecursion IsSmallSpot spots
+spots_small : (s : StrataQuestion) (spots : List Spot) → IsCalmAsked s → AllByRecursion (IsSpotAt s.columns.now s.cases.now) spots → AllByRecursion IsSmallSpot spots
 spots_small s [] calm at = tt
 spots_small s (spot ∷ spots) calm at = (spot_small s spot calm at.0, spots_small s spots calm at.1)
 
@@ -111,13 +111,13 @@ numbers_small : (relations : List Relation) → ((i : ℕ) → i < length (map r
 numbers_small [] f = tt
 numbers_small (r ∷ relations) f = (f 0 (omega arith), numbers_small relations (λ i h. f (suc i) (omega (arith, h))))
 
-both_small : (s : Strata) (relations : List Relation) → IsCalmAsked s → AllByRecursion (λ (r : Relation). AreAtMost 1048576 (relation_numbers r)) relations → AllByRecursion (IsTiedRelation s) relations → AllByRecursion IsSmallRelation relations
+both_small : (s : StrataQuestion) (relations : List Relation) → IsCalmAsked s → AllByRecursion (λ (r : Relation). AreAtMost 1048576 (relation_numbers r)) relations → AllByRecursion (IsTiedRelation s) relations → AllByRecursion IsSmallRelation relations
 both_small s [] calm n t = tt
 both_small s (r ∷ relations) calm n t = (record { numbers = n.0; ties = t.0.small.small calm }, both_small s relations calm n.1 t.1)
 
 -- ---- the basis
 
-pub basis_small : (s : Strata) (known : Known) (relations : List Relation) (spots : List Spot) (free : List (List Fraction)) → IsAsked s → s.count ≡ s.terms + length s.lower.now + 1 → s.count < 2 ^ 61 → AreKnown s known → AreRelations s.count known.spots.tableau s.count (map relation_numbers known.relations)
+pub basis_small : (s : StrataQuestion) (known : KnownRelations) (relations : List Relation) (spots : List Spot) (free : List (List Fraction)) → IsAsked s → s.count ≡ s.terms + length s.lower.now + 1 → s.count < 2 ^ 61 → AreKnown s known → AreRelations s.count known.spots.tableau s.count (map relation_numbers known.relations)
     → AreUnitLists s.count known.spots (chosen_below known.spots.tableau s.count) free → relations ≡ known.relations → spots ≡ known.spots.spots → IsSmallIn s (answer.Basis relations spots free)
 basis_small s known relations spots free is count few k every lists all points = record {
   small = λ calm. record {
@@ -151,9 +151,9 @@ basis_small s known relations spots free is count few k every lists all points =
 
 -- ---- the question
 
-pub small_over : (s : Strata) (a : Answer) → IsSmallIn s a → IsSmallOver s.columns.now s.cases.now s.lower.now a
+pub small_over : (s : StrataQuestion) (a : Answer) → IsSmallIn s a → IsSmallOver s.columns.now s.cases.now s.lower.now a
 small_over s a h = record { small = λ few calm. h.small (record { few_cases = few; calm = calm }) }
 
-pub over_result : (s : Strata) (r : Result Answer Stop) → IfOk r (IsSmallIn s) → IfOk r (IsSmallOver s.columns.now s.cases.now s.lower.now)
+pub over_result : (s : StrataQuestion) (r : Result Answer SearchStop) → IfOk r (IsSmallIn s) → IfOk r (IsSmallOver s.columns.now s.cases.now s.lower.now)
 over_result s (Ok a) h = small_over s a h
 over_result s (Err stop) h = tt

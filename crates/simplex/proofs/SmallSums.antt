@@ -7,13 +7,13 @@ use Rattle.std.specs.declared.cmp.Ordering.{Ordering}
 use Rattle.std.specs.declared.cmp.Ordering.TheVariants.{Less, Equal, Greater}
 use Rattle.std.proofs.lemmas.Int.{ints}
 use Rattle.std.proofs.lemmas.Bool.{false≢true}
-use Rattle.items.specs.Gives.{◌>>=◌, lifted}
+use Rattle.items.specs.Gives.{◌>>=◌, err_map}
 use Rattle.whole_numbers.proofs.Ring.{unsigned_abs-+ℤ}
 use Rattle.linear_terms.specs.declared.col.Col.{Col}
 use Rattle.linear_terms.specs.declared.error.TermError.{TermError}
 use Rattle.linear_terms.specs.TermError.{wide, plus, times}
 use Rattle.linear_terms.specs.Mono.{mono_cmp}
-use Rattle.linear_terms.specs.Operations.{kept, put, put_all, sum_of_polys, times_each, multiple_of}
+use Rattle.linear_terms.specs.Operations.{with_term, put, put_all, sum_of_polys, times_each, multiple_of}
 use Rattle.linear_terms.specs.Polynomial.{Terms, Polynomial, coefficient_in, IsCanonical}
 use Rattle.linear_terms.proofs.Canonical.{first_before, IsCanonical-tail, IsCanonical-put, IsCanonical-sum_of_polys, IsCanonical-multiple_of}
 use Rattle.farkas_check.specs.Sizes.{HasNumbersUpTo}
@@ -27,15 +27,15 @@ abbrev HasMade : {X : Type 0} → Result X TermError → Type 0
 HasMade {X} r = (x : X) × (r ≡ Ok x)
 
 plus-fits : (a b : ℤ) → unsigned_abs (a +ℤ b) < 2 ^ 127 → plus a b ≡ Ok (a +ℤ b)
-plus-fits a b h = ap (lifted wide) (sum_of-fits a b h)
+plus-fits a b h = ap (err_map wide) (sum_of-fits a b h)
 
 times-fits : (a b : ℤ) → unsigned_abs (a *ℤ b) < 2 ^ 127 → times a b ≡ Ok (a *ℤ b)
-times-fits a b h = ap (lifted wide) (product_of-fits a b h)
+times-fits a b h = ap (err_map wide) (product_of-fits a b h)
 
 -- ---- sums
 
 put-fits : (m : List Col) (c : ℤ) (ts : Terms) → IsCanonical ts → unsigned_abs (coefficient_in ts m +ℤ c) < 2 ^ 127 → HasMade (put m c ts)
-put-fits m c [] k h = (kept m c [], refl)
+put-fits m c [] k h = (with_term m c [], refl)
 put-fits m c (t ∷ ts) k h = go (mono_cmp m t.0) refl (λ g. put-fits m c ts (IsCanonical-tail t ts k) g)
   where
     terms_ok : Terms → Result Terms TermError
@@ -48,9 +48,9 @@ put-fits m c (t ∷ ts) k h = go (mono_cmp m t.0) refl (λ g. put-fits m c ts (I
     later true e f g = absurd (false≢true (sym (ap is_eq f) ∙ ap (λ (x : List Col). eq_by_cmp mono_cmp m x) (same_mono t.0 m e) ∙ itself m))
     later false e f g = g
 
-    go : (o : Ordering) → mono_cmp m t.0 ≡ o → (unsigned_abs (coefficient_in ts m +ℤ c) < 2 ^ 127 → HasMade (put m c ts)) → HasMade (match_ordering o (Ok (kept m c (t ∷ ts))) (plus t.1 c >>= λ s. Ok (kept t.0 s ts)) (put m c ts >>= λ made. Ok (t ∷ made)))
-    go Less e ih = (kept m c (t ∷ ts), refl)
-    go Equal e ih = (kept t.0 (t.1 +ℤ c) ts, ap (λ (r : Result ℤ TermError). r >>= λ s. terms_ok (kept t.0 s ts)) (plus-fits t.1 c (subst (λ z. unsigned_abs (z +ℤ c) < 2 ^ 127) (own (same_mono m t.0 (ap is_eq e))) h)))
+    go : (o : Ordering) → mono_cmp m t.0 ≡ o → (unsigned_abs (coefficient_in ts m +ℤ c) < 2 ^ 127 → HasMade (put m c ts)) → HasMade (match_ordering o (Ok (with_term m c (t ∷ ts))) (plus t.1 c >>= λ s. Ok (with_term t.0 s ts)) (put m c ts >>= λ made. Ok (t ∷ made)))
+    go Less e ih = (with_term m c (t ∷ ts), refl)
+    go Equal e ih = (with_term t.0 (t.1 +ℤ c) ts, ap (λ (r : Result ℤ TermError). r >>= λ s. terms_ok (with_term t.0 s ts)) (plus-fits t.1 c (subst (λ z. unsigned_abs (z +ℤ c) < 2 ^ 127) (own (same_mono m t.0 (ap is_eq e))) h)))
     go Greater e ih = with_more (ih (later (eq_by_cmp mono_cmp t.0 m) refl e h))
       where
         with_more : HasMade (put m c ts) → HasMade (put m c ts >>= λ made. Ok (t ∷ made))
@@ -135,9 +135,9 @@ times_each-fits n k by (t ∷ ts) small room h = joined (times_each-fits n k by 
 
     joined : HasMade (times_each ts by) → HasMade (times_each (t ∷ ts) by)
     joined more = (
-      kept t.0 (t.1 *ℤ by) more.0,
-      ap (λ (r : Result ℤ TermError). r >>= λ c. times_each ts by >>= λ made. terms_ok (kept t.0 c made)) (times-fits t.1 by (let g : unsigned_abs (t.1 *ℤ by) ≤ n * k = product-small n k t.1 by h.0 small in omega (arith, g, room)))
-          ∙ ap (λ (r : Result Terms TermError). r >>= λ made. terms_ok (kept t.0 (t.1 *ℤ by) made)) more.1,
+      with_term t.0 (t.1 *ℤ by) more.0,
+      ap (λ (r : Result ℤ TermError). r >>= λ c. times_each ts by >>= λ made. terms_ok (with_term t.0 c made)) (times-fits t.1 by (let g : unsigned_abs (t.1 *ℤ by) ≤ n * k = product-small n k t.1 by h.0 small in omega (arith, g, room)))
+          ∙ ap (λ (r : Result Terms TermError). r >>= λ made. terms_ok (with_term t.0 (t.1 *ℤ by) made)) more.1,
     )
 
 pub multiple-below : (n k : ℕ) (p : Polynomial) (by : ℤ) → IsCanonical p.terms → HasNumbersUpTo n p → unsigned_abs by ≤ k → n * k < 2 ^ 127 → (q : Polynomial) × ((multiple_of p by ≡ Ok q) × IsBelow (n * k) q)

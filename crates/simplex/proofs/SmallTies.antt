@@ -13,7 +13,7 @@ use Rattle.simplex.specs.Differences.{IsDifferenceOf}
 use Rattle.simplex.specs.SmallBasis.{IsSmallTie, HasSmallMultipliers, HasSmallTie, HasSmallTies}
 use Rattle.simplex.specs.Strata.{IsCaseOf}
 use Rattle.simplex.specs.Suprema.{with_goal, IsSupremumOver}
-use Rattle.simplex.specs.declared.differences.Strata.{Strata}
+use Rattle.simplex.specs.declared.differences.StrataQuestion.{StrataQuestion}
 use Rattle.simplex.specs.declared.supremum.Supremum.TheVariants as supremum
 use Rattle.simplex.proofs.Bounded.{certificate-is, certified_over}
 use Rattle.simplex.proofs.CalmDifferences.{difference_small}
@@ -23,7 +23,7 @@ use Rattle.simplex.proofs.Courses.{all_more}
 use Rattle.simplex.proofs.Framing.{kinds-length}
 use Rattle.simplex.proofs.Objectives.{more_rows}
 
-pub half_multipliers : (s : Strata) (case : Change) (numbers : List ℤ) (up : Bool) (p : Polynomial) (budget : ℕ) (cert : Cert) (point : List Fraction) → IsCaseOf s case → IsCalmRelation s numbers → IsDifferenceOf case.terms s.lower.now numbers up p → IsSupremumOver s.columns.now case.rows p budget (supremum.Bound cert point)
+pub half_multipliers : (s : StrataQuestion) (case : Change) (numbers : List ℤ) (up : Bool) (p : Polynomial) (budget : ℕ) (cert : Cert) (point : List Fraction) → IsCaseOf s case → IsCalmRelation s numbers → IsDifferenceOf case.terms s.lower.now numbers up p → IsSupremumOver s.columns.now case.rows p budget (supremum.Bound cert point)
     → HasSmallMultipliers s cert
 half_multipliers s case numbers up p budget cert point of r d h = record { scale = λ calm. (small calm).scale; by = λ calm. (small calm).by }
   where
@@ -40,5 +40,5 @@ half_multipliers s case numbers up p budget cert point of r d h = record { scale
         (certificate-is (length s.columns.now) (length case.rows) (get_or h.0.lines (length case.rows) []) cert h.1.1.1)
         (certified_over s.columns.now case.rows p h.1.0 h.0 cert h.1.1.0 h.1.1.1).each
 
-pub more_ties_small : (s : Strata) (ties made : List Tie) (tie : Tie) → HasSmallTies s ties → HasSmallTie s tie → made ≡ ties ++ tie ∷ [] → HasSmallTies s made
+pub more_ties_small : (s : StrataQuestion) (ties made : List Tie) (tie : Tie) → HasSmallTies s ties → HasSmallTie s tie → made ≡ ties ++ tie ∷ [] → HasSmallTies s made
 more_ties_small s ties made tie t is more = record { small = λ calm. subst (AllByRecursion IsSmallTie) (sym more) (all_more IsSmallTie ties tie (t.small calm) (is.small calm)) }

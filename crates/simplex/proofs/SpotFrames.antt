@@ -12,7 +12,7 @@ use Rattle.farkas_check.specs.Ratios.{Fraction}
 use Rattle.farkas_check.specs.Relations.{entry}
 use Rattle.simplex.specs.declared.tableau.Tableau.{Tableau}
 use Rattle.simplex.specs.Exchange.{ArePrimitive, cause, numbers_of, choices_of, IsTableauOf}
-use Rattle.simplex.specs.declared.stop.Stop.{Stop}
+use Rattle.simplex.specs.declared.stop.SearchStop.{SearchStop}
 use Rattle.simplex.specs.Frames.{IsWholeTableau}
 use Rattle.simplex.specs.Rows.{units_to}
 use Rattle.simplex.specs.Spots.{entries_to, spot_row, spot_rows, spots_framed, IsSpotTableau, numerators_over}
@@ -131,6 +131,6 @@ numerators-length common (r ∷ rs) made e =
     chain : (n : ℤ) (more : List ℤ) → n ∷ more ≡ made → length more ≡ length rs → length made ≡ length rs + 1
     chain n more e f = let h : length (n ∷ more) ≡ length made = ap length e in omega (arith, h, f)
 
-pub numerators-count : (r : Result (List ℤ) Stop) (common : ℤ) (rs : List Fraction) (n : ℕ) → Gives cause (λ (made : List ℤ). made) r (numerators_over common rs) → length rs ≡ n → IfOk r (λ numbers. length numbers ≡ n)
+pub numerators-count : (r : Result (List ℤ) SearchStop) (common : ℤ) (rs : List Fraction) (n : ℕ) → Gives cause (λ (made : List ℤ). made) r (numerators_over common rs) → length rs ≡ n → IfOk r (λ numbers. length numbers ≡ n)
 numerators-count (Ok numbers) common rs n g e = numerators-length common rs numbers g ∙ e
 numerators-count (Err stop) common rs n g e = tt

@@ -35,7 +35,7 @@ use Rattle.simplex.specs.declared.tableau.Tableau.{Tableau}
 use Rattle.simplex.specs.Exchange.{numbers_of, choices_of, IsTableauOf}
 use Rattle.farkas_check.specs.Frames.{sum_below}
 use Rattle.simplex.specs.Raise.{Framed, enters_at}
-use Rattle.simplex.specs.Rows.{kinds_of, kind_at, framed, framed_by}
+use Rattle.simplex.specs.Rows.{kinds_of, kind_at, framed_tableau, frame_of_rows}
 use Rattle.simplex.specs.Search.{IsMet, CornerAt, IsCornerOf}
 use Rattle.simplex.proofs.Certificates.{le_true, each_of, framed-column, framed-constant, sum_below-first}
 use Rattle.simplex.proofs.Corners.{none, single, over, share, share-over, part, moved, moved-solves}
@@ -219,13 +219,13 @@ meets-honest value (row ∷ rows) h b e = after (value row.poly) refl e (λ g. m
 
 -- ---- the test
 
-pub no-honest : (rows : List Row) (t : Tableau) (enters : List Bool) (point : List Fraction) (b : Bool) → AreCanonical rows → IsMet (framed_by (columns rows []) rows) (length (columns rows [])) (kinds_of rows) enters t → IsCornerOf t (length (columns rows [])) (length (columns rows [])) point → tested_no rows point ≡ Ok b → b ≡ true
+pub no-honest : (rows : List Row) (t : Tableau) (enters : List Bool) (point : List Fraction) (b : Bool) → AreCanonical rows → IsMet (frame_of_rows (columns rows []) rows) (length (columns rows [])) (kinds_of rows) enters t → IsCornerOf t (length (columns rows [])) (length (columns rows [])) point → tested_no rows point ≡ Ok b → b ≡ true
 no-honest rows t enters point b canonical k c e = after_length (length point == length (columns rows [])) (eq-eqb (length point) (length (columns rows [])) c.each) e
   where
     n : ℕ
     n = length (columns rows [])
 
-    s : IsTableauOf (length (columns rows []) + 1) (numbers_of (framed (columns rows []) rows)) t
+    s : IsTableauOf (length (columns rows []) + 1) (numbers_of (framed_tableau (columns rows []) rows)) t
     s = k.placed.marked.sized.tableau
 
     many : length t.lines ≡ length rows
@@ -247,7 +247,7 @@ no-honest rows t enters point b canonical k c e = after_length (length point == 
     over_above = over-positive (length t.lines) d (λ i h. s.is.own i h)
 
     each : (m : List Col) → Stands (ratio_at (columns rows []) point m) (numbered (columns rows []) shift m) (over (length t.lines) (λ i. numbers_of t i (choices_of t i)))
-    each m = stands_each (columns rows []) point shift (over (length t.lines) d) m c.each (λ j h. stands-at (framed_by (columns rows []) rows) t (length (columns rows [])) j (get_or point j (whole (pos 0))) s (λ same. absurd (omega (arith, h, same))) (c.same j h))
+    each m = stands_each (columns rows []) point shift (over (length t.lines) d) m c.each (λ j h. stands-at (frame_of_rows (columns rows []) rows) t (length (columns rows [])) j (get_or point j (whole (pos 0))) s (λ same. absurd (omega (arith, h, same))) (c.same j h))
 
     -- what the slack of a row is, times the common denominator and with the sign turned
     slack : ℕ → ℤ
@@ -261,7 +261,7 @@ no-honest rows t enters point b canonical k c e = after_length (length point == 
         free Equal e = e
 
         chosen : (i : ℕ) → i < length t.lines → choices_of t i ≡ length (columns rows []) + 1 + l → (kind : Kind) → kind_at (kinds_of rows) l ≡ kind → IsWithin kind (slack l)
-        chosen i g choice kind is = with_slack (part-one (length t.lines) (choices_of t) value (length (columns rows []) + 1 + l) i g choice (λ o p other e. choose_apart (framed_by (columns rows []) rows) t o i s p g other (e ∙ sym choice))) kind is
+        chosen i g choice kind is = with_slack (part-one (length t.lines) (choices_of t) value (length (columns rows []) + 1 + l) i g choice (λ o p other e. choose_apart (frame_of_rows (columns rows []) rows) t o i s p g other (e ∙ sym choice))) kind is
           where
             with_slack : slack l ≡ value i → (kind : Kind) → kind_at (kinds_of rows) l ≡ kind → IsWithin kind (slack l)
             with_slack e AtMost is =
@@ -288,7 +288,7 @@ no-honest rows t enters point b canonical k c e = after_length (length point == 
         in_t = subst (λ (z : ℕ). l < z) (sym many) inside
 
         f : ℕ → ℤ
-        f j = numbers_of (framed (columns rows []) rows) l j *ℤ shift j
+        f j = numbers_of (framed_tableau (columns rows []) rows) l j *ℤ shift j
 
         terms_are : terms_at (numbered (columns rows []) shift) row.poly.terms ≡ sum_below (length (columns rows [])) f
         terms_are =
@@ -322,7 +322,7 @@ no-honest rows t enters point b canonical k c e = after_length (length point == 
             ∙ ap (λ z. sum_below (length (columns rows [])) f +ℤ f (length (columns rows [])) +ℤ z) (sym units_are)
             ∙ ap (λ z. z +ℤ sum_below (length t.lines) (λ i. f (length (columns rows []) + 1 + i))) (let e : suc (length (columns rows [])) ≡ length (columns rows []) + 1 = omega arith in ap (λ z. sum_below z f) e)
             ∙ sym (sum_below-plus (length (columns rows []) + 1) (length t.lines) f)
-            ∙ moved-solves (length t.lines) (length (columns rows []) + 1) (length (columns rows []) + 1 + length t.lines) (numbers_of (framed (columns rows []) rows)) (numbers_of t) (choices_of t) (length (columns rows [])) s.is (omega arith) (λ i h. s.within i h) l in_t
+            ∙ moved-solves (length t.lines) (length (columns rows []) + 1) (length (columns rows []) + 1 + length t.lines) (numbers_of (framed_tableau (columns rows []) rows)) (numbers_of t) (choices_of t) (length (columns rows [])) s.is (omega arith) (λ i h. s.within i h) l in_t
 
         level : (x y z : ℤ) → x +ℤ y +ℤ (pos 0 -ℤ z) ≡ pos 0 → x +ℤ y ≡ z
         level x y z e = omega (arith, ints)

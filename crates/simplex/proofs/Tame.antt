@@ -39,7 +39,7 @@ use Rattle.simplex.specs.Exchange.{numbers_of, choices_of, IsTableauOf}
 use Rattle.simplex.specs.Calm.{HasSmallLines}
 use Rattle.simplex.specs.Raise.{Framed}
 use Rattle.simplex.specs.Refusal.{IsSmallFrame}
-use Rattle.simplex.specs.Rows.{kinds_of, framed, framed_by}
+use Rattle.simplex.specs.Rows.{kinds_of, framed_tableau, frame_of_rows}
 use Rattle.simplex.specs.Search.{IsCornerOf, CornerAt, IsRefuted, IsMet}
 use Rattle.simplex.specs.declared.tableau.Tableau.{Tableau}
 use Rattle.simplex.proofs.Calmness.{small_frame, small_column, HasSmallColumn, moved_part, moved_parts, whole_over}
@@ -103,17 +103,17 @@ among_at P m (c ∷ cs) f h = go (eq_by_cmp mono_cmp m c) refl h (λ k. among_at
 
 -- ---- the frame's own numbers
 
-pub own_small : (n : ℕ) (cs : List (List Col)) (rows : List Row) → IsSmallFrame n (framed_by cs rows) (length rows) → HasSmallLines n (framed cs rows)
-own_small n cs rows small = small (framed cs rows) (lines_from-length cs (length rows) 0 rows) (framed-is cs rows) (framed-primitive cs rows)
+pub own_small : (n : ℕ) (cs : List (List Col)) (rows : List Row) → IsSmallFrame n (frame_of_rows cs rows) (length rows) → HasSmallLines n (framed_tableau cs rows)
+own_small n cs rows small = small (framed_tableau cs rows) (lines_from-length cs (length rows) 0 rows) (framed-is cs rows) (framed-primitive cs rows)
 
 each_small : (n : ℕ) (number : Row → ℤ) (rows : List Row) → ((l : ℕ) → unsigned_abs (each_of number rows l) ≤ n) → AllByRecursion (λ row. unsigned_abs (number row) ≤ n) rows
 each_small n number [] f = tt
 each_small n number (row ∷ rows) f = (f 0, each_small n number rows (λ l. f (suc l)))
 
-pub column_small : (n : ℕ) (cs : List (List Col)) (rows : List Row) (j : ℕ) → HasSmallLines n (framed cs rows) → j < length cs → AllByRecursion (λ row. unsigned_abs (coefficient_at (get_or cs j []) row) ≤ n) rows
+pub column_small : (n : ℕ) (cs : List (List Col)) (rows : List Row) (j : ℕ) → HasSmallLines n (framed_tableau cs rows) → j < length cs → AllByRecursion (λ row. unsigned_abs (coefficient_at (get_or cs j []) row) ≤ n) rows
 column_small n cs rows j small h = each_small n (coefficient_at (get_or cs j [])) rows (λ l. subst (λ (z : ℤ). unsigned_abs z ≤ n) (framed-column cs rows j l h) (small l j))
 
-pub constants_small : (n : ℕ) (cs : List (List Col)) (rows : List Row) → HasSmallLines n (framed cs rows) → AllByRecursion (λ row. unsigned_abs (constant_in row) ≤ n) rows
+pub constants_small : (n : ℕ) (cs : List (List Col)) (rows : List Row) → HasSmallLines n (framed_tableau cs rows) → AllByRecursion (λ row. unsigned_abs (constant_in row) ≤ n) rows
 constants_small n cs rows small = each_small n constant_in rows (λ l. subst (λ (z : ℤ). unsigned_abs z ≤ n) (framed-constant cs rows l) (small l (length cs)))
 
 -- ---- multipliers
@@ -133,7 +133,7 @@ sums_at-fits n rows by (c ∷ cs) f m h =
 abbrev form_ok : Form → Result Form Step.Wide
 form_ok form = Ok form
 
-pub multiples-fit : (n : ℕ) (rows : List Row) (by : List ℤ) (cs : List (List Col)) → HasSmallLines n (framed cs rows) → AllByRecursion (λ m. unsigned_abs m ≤ n) by → length rows * (n * n) < 2 ^ 127 → HasValue (sum_of_multiples rows by cs)
+pub multiples-fit : (n : ℕ) (rows : List Row) (by : List ℤ) (cs : List (List Col)) → HasSmallLines n (framed_tableau cs rows) → AllByRecursion (λ m. unsigned_abs m ≤ n) by → length rows * (n * n) < 2 ^ 127 → HasValue (sum_of_multiples rows by cs)
 multiples-fit n rows by cs small m h =
     bind_value (sums_at rows by cs) (λ numbers. constant_sum rows by >>= λ rest. form_ok (record { numbers = numbers; rest = rest })) (sums_at-fits n rows by cs (λ j g. column_small n cs rows j small g) m h)
     (λ numbers e. bind_value (constant_sum rows by) (λ rest. form_ok (record { numbers = numbers; rest = rest })) (sum_from-fits n 0 constant_in (pos 0) rows by (constants_small n cs rows small) m (omega arith) (omega (arith, h))) (λ rest f. (record { numbers = numbers; rest = rest }, refl)))
@@ -159,7 +159,7 @@ pub multipliers_small : (n constants : ℕ) (t : Tableau) (line : ℕ) (by : Lis
 multipliers_small n constants t line by small m =
     all_entries (λ z. unsigned_abs z ≤ n) by (λ l h. subst (λ (x : ℕ). x ≤ n) (sym (ap unsigned_abs (m.upright l (subst (λ (x : ℕ). l < x) m.each h)) ∙ unsigned_abs-mul m.sign (numbers_of t line (constants + 1 + l)) ∙ ap (λ (x : ℕ). x * unsigned_abs (numbers_of t line (constants + 1 + l))) m.one ∙ one-mul (unsigned_abs (numbers_of t line (constants + 1 + l))))) (small line (constants + 1 + l)))
 
-pub yes-fits : (n : ℕ) (rows : List Row) (by : List ℤ) (w : Step.Wide) → HasSmallLines n (framed (columns rows []) rows) → AllByRecursion (λ m. unsigned_abs m ≤ n) by → length rows * (n * n) < 2 ^ 127 → tested_yes rows by ≡ Err w → ⊥
+pub yes-fits : (n : ℕ) (rows : List Row) (by : List ℤ) (w : Step.Wide) → HasSmallLines n (framed_tableau (columns rows []) rows) → AllByRecursion (λ m. unsigned_abs m ≤ n) by → length rows * (n * n) < 2 ^ 127 → tested_yes rows by ≡ Err w → ⊥
 yes-fits n rows by w small m h e =
     second_part (are_multipliers rows by) (sum_of_multiples rows by (columns rows []) >>= λ form. bool_ok (is_positive_constant form)) w
     (no_error (sum_of_multiples rows by (columns rows []) >>= λ form. bool_ok (is_positive_constant form)) w (bind_value (sum_of_multiples rows by (columns rows [])) (λ form. bool_ok (is_positive_constant form)) (multiples-fit n rows by (columns rows []) small m h) (λ form f. (is_positive_constant form, refl)))) e
@@ -193,7 +193,7 @@ pub record IsSmallPoly (n : ℕ) (cs : List (List Col)) (p : Polynomial) : Type 
   pub few : length p.terms ≤ length cs
   pub rest : unsigned_abs p.rest ≤ n
 
-pub small_poly : (n : ℕ) (cs : List (List Col)) (rows : List Row) (l : ℕ) (row : Row) → IsOrdered cs → HasSmallLines n (framed cs rows) → slice_get rows l ≡ Some row → IsCanonical row.poly.terms → AreAmong (keys_of row.poly.terms) cs → IsSmallPoly n cs row.poly
+pub small_poly : (n : ℕ) (cs : List (List Col)) (rows : List Row) (l : ℕ) (row : Row) → IsOrdered cs → HasSmallLines n (framed_tableau cs rows) → slice_get rows l ≡ Some row → IsCanonical row.poly.terms → AreAmong (keys_of row.poly.terms) cs → IsSmallPoly n cs row.poly
 small_poly n cs rows l row ordered small here canonical among = record {
   terms = terms_small n cs row.poly.terms canonical among (λ m h. among_at (λ c. unsigned_abs (coefficient_in row.poly.terms c) ≤ n) m cs (λ j g. all_at (λ (r : Row). unsigned_abs (coefficient_at (get_or cs j []) r) ≤ n) rows l row (column_small n cs rows j small g) here) h);
   few = few_terms cs row.poly.terms ordered canonical among;
@@ -247,24 +247,24 @@ bottom_above n t constants c h = positive_left c.bottom c.common (whole_over t) 
 pub fits_twice : 1099511627776 * 1099511627776 + 1099511627776 * 1099511627776 < 2 ^ 127
 fits_twice = omega arith
 
-calm_yes : (rows : List Row) (t : Tableau) (line : ℕ) (by : List ℤ) (w : Step.Wide) → IsCalmCase (columns rows []) rows [] → IsRefuted (framed_by (columns rows []) rows) (length (columns rows [])) (kinds_of rows) t line → IsMultipliers (length (columns rows [])) t line by → tested_yes rows by ≡ Err w → ⊥
+calm_yes : (rows : List Row) (t : Tableau) (line : ℕ) (by : List ℤ) (w : Step.Wide) → IsCalmCase (columns rows []) rows [] → IsRefuted (frame_of_rows (columns rows []) rows) (length (columns rows [])) (kinds_of rows) t line → IsMultipliers (length (columns rows [])) t line by → tested_yes rows by ≡ Err w → ⊥
 calm_yes rows t line by w case r m e =
     let few : length rows * (1099511627776 * 1099511627776) ≤ 4294967295 * (1099511627776 * 1099511627776) = mul-le-mul_right (1099511627776 * 1099511627776) case.few_rows in
     yes-fits 1099511627776 rows by w (own_small 1099511627776 (columns rows []) rows small) (multipliers_small 1099511627776 (length (columns rows [])) t line by (small t (sym r.sized.many ∙ kinds-length rows) r.sized.tableau r.sized.primitive) m) (omega (arith, few)) e
   where
-    small : IsSmallFrame 1099511627776 (framed_by (columns rows []) rows) (length rows)
+    small : IsSmallFrame 1099511627776 (frame_of_rows (columns rows []) rows) (length rows)
     small = small_frame 1099511627776 (columns rows []) rows case.calm
 
-calm_no : (rows : List Row) (t : Tableau) (enters : List Bool) (point : List Fraction) (w : Step.Wide) → AreCanonical rows → IsCalmCase (columns rows []) rows [] → IsMet (framed_by (columns rows []) rows) (length (columns rows [])) (kinds_of rows) enters t → IsCornerOf t (length (columns rows [])) (length (columns rows [])) point → tested_no rows point ≡ Err w → ⊥
+calm_no : (rows : List Row) (t : Tableau) (enters : List Bool) (point : List Fraction) (w : Step.Wide) → AreCanonical rows → IsCalmCase (columns rows []) rows [] → IsMet (frame_of_rows (columns rows []) rows) (length (columns rows [])) (kinds_of rows) enters t → IsCornerOf t (length (columns rows [])) (length (columns rows [])) point → tested_no rows point ≡ Err w → ⊥
 calm_no rows t enters point w canonical case k c e = second_part (length point == length (columns rows [])) (meets (ratio_value (ratio_at (columns rows []) point)) rows) w (meets-fit (ratio_value (ratio_at (columns rows []) point)) rows w (each_row (λ (row : Row). HasValue (ratio_value (ratio_at (columns rows []) point) row.poly)) rows row_fits)) e
   where
     many : length t.lines ≡ length rows
     many = sym k.placed.marked.sized.many ∙ kinds-length rows
 
-    s : IsTableauOf (length (columns rows []) + 1) (numbers_of (framed (columns rows []) rows)) t
+    s : IsTableauOf (length (columns rows []) + 1) (numbers_of (framed_tableau (columns rows []) rows)) t
     s = k.placed.marked.sized.tableau
 
-    small : IsSmallFrame 1099511627776 (framed_by (columns rows []) rows) (length rows)
+    small : IsSmallFrame 1099511627776 (frame_of_rows (columns rows []) rows) (length rows)
     small = small_frame 1099511627776 (columns rows []) rows case.calm
 
     column : HasSmallColumn 1099511627776 t (length (columns rows []))
@@ -280,10 +280,10 @@ calm_no rows t enters point w canonical case k c e = second_part (length point =
     apart j h same = absurd (omega (arith, h, same))
 
     each : EachRatio (ratio_at (columns rows []) point) (numbered (columns rows []) x) column.bottom
-    each m = ratio_each (columns rows []) point x column.bottom m c.each (λ j h. corner_ratio 1099511627776 (framed_by (columns rows []) rows) t (length (columns rows [])) j (get_or point j (whole (pos 0))) column s (apart j h) (c.same j h))
+    each m = ratio_each (columns rows []) point x column.bottom m c.each (λ j h. corner_ratio 1099511627776 (frame_of_rows (columns rows []) rows) t (length (columns rows [])) j (get_or point j (whole (pos 0))) column s (apart j h) (c.same j h))
 
     sizes : (m : List Col) → unsigned_abs (numbered (columns rows []) x m) ≤ 1099511627776
-    sizes m = numbered_small 1099511627776 (columns rows []) x m (λ j h. (moved_parts 1099511627776 (framed_by (columns rows []) rows) t (length (columns rows [])) j column s (λ same. apart j h (sym same))).small)
+    sizes m = numbered_small 1099511627776 (columns rows []) x m (λ j h. (moved_parts 1099511627776 (frame_of_rows (columns rows []) rows) t (length (columns rows [])) j column s (λ same. apart j h (sym same))).small)
 
     room : length (columns rows []) * (1099511627776 * 1099511627776) + 1099511627776 * 1099511627776 < 2 ^ 127
     room = let few : length (columns rows []) * (1099511627776 * 1099511627776) ≤ 4294967295 * (1099511627776 * 1099511627776) = mul-le-mul_right (1099511627776 * 1099511627776) case.few_columns in omega (arith, few)

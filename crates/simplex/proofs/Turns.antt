@@ -5,7 +5,7 @@ use Rattle.std.proofs.lemmas.Int.{ints}
 use Rattle.std.proofs.lemmas.Bool.{cases_eq, false≢true}
 use Rattle.simplex.specs.declared.tableau.Tableau.{Tableau}
 use Rattle.farkas_check.specs.Frames.{choose}
-use Rattle.simplex.specs.Frames.{IsWholeTableau, IsExchange, IsChanged, seen, IsLexPositive}
+use Rattle.simplex.specs.Frames.{IsWholeTableau, IsExchange, IsChanged, lexical_view, IsLexPositive}
 use Rattle.simplex.specs.Exchange.{numbers_of, choices_of, exchange, IsTableauOf}
 use Rattle.simplex.specs.Raise.{Framed, enters_at, leaves_at, behind_of, IsLeast, Begins, Improves}
 use Rattle.simplex.specs.History.{Raises}
@@ -36,7 +36,7 @@ leaves over enters constants keys goal sign first now turns line column b r l = 
   is_slack = slack;
   positive = l.positive;
   least = λ i h e other p.
-      ⊎_elim (λ (x : IsLexPositive (seen constants (behind_of column (get_or now.lines i []) (get_or now.lines line []))) keys). x)
+      ⊎_elim (λ (x : IsLexPositive (lexical_view constants (behind_of column (get_or now.lines i []) (get_or now.lines line []))) keys). x)
       (λ tie. absurd (no_tie (length first.lines) over.units (over.units + length first.lines) constants over.frame (leaves_at enters first) (choices_of first) keys (numbers_of now) (choices_of now) (numbers_of first) (numbers_of now line column) (numbers_of now i column) i line
       r.raising b.tableau.is b.covers h here e slack other (subst (λ (n : ℕ). choices_of now i < over.units + n) r.many (r.tableau.within i (subst (λ (n : ℕ). i < n) (sym r.many) h))) l.positive tie))
       (l.least i (subst (λ (n : ℕ). i < n) (sym r.many) h) (r.same i h ∙ e) p);

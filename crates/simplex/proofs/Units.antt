@@ -20,7 +20,7 @@ use Rattle.farkas_check.specs.Parts.{and_then}
 use Rattle.farkas_check.specs.Points.{ratio_at, ratio_value, slope_at, value_from}
 use Rattle.farkas_check.specs.Ratios.{Fraction, IsLowest, whole, lowest_terms, common_multiple, ratio_product, ratio_sum}
 use Rattle.farkas_check.specs.Relations.{entry, pivot, places, free_places, Side, Term, Lower, One, sides}
-use Rattle.farkas_check.specs.Stratum.{all_of, terms_of, minus_value, ratio_side, ratio_side_at, spot_side, spots_from, is_exactly, unit_at, tested_at, tested_unit, tested_free}
+use Rattle.farkas_check.specs.Stratum.{all_of, terms_of, minus_value, ratio_side, ratio_side_at, spot_side, spots_from, is_exactly, unit_at, unit_test_at, tested_unit, tested_free}
 use Rattle.farkas_check.specs.declared.stratum.Change.{Change}
 use Rattle.farkas_check.specs.declared.stratum.Spot.{Spot}
 use Rattle.farkas_check.proofs.Farkas.{bool_ok}
@@ -433,15 +433,15 @@ unit_honest cs cases lower count known u by others b k inside is chosen e =
             ∙ k.are.tableau.tableau.is.others is.line l.0 is.here l.1.0 (λ same. apart (sym l.1.1 ∙ ap (choices_of known.tableau) (sym same) ∙ is.chooses))
             ∙ sym (zero-*ℤ own) ∙ ap (λ (b : Bool). cond b (pos 1) (pos 0) *ℤ own) (sym (ne_eqb other u apart))
 
-    one : (other : ℕ) → IsChosenUnknown count known.tableau other → (c : Bool) → tested_at (spot_side cs cases lower) known.spots u by other ≡ Ok c → c ≡ true
+    one : (other : ℕ) → IsChosenUnknown count known.tableau other → (c : Bool) → unit_test_at (spot_side cs cases lower) known.spots u by other ≡ Ok c → c ≡ true
     one other chosen c f =
         on_ok (spots_from (λ spot. spot_side cs cases lower spot other) (whole (pos 0)) known.spots by) (λ total. is_exactly total (unit_at u other)) c f
         (λ total g h. exactly_honest total (unit_at u other) (pos 0 +ℤ units_sum (get_or known.tableau.lines is.line []) count known.lines other) own c above
         (sum_stands cs cases lower count other count (get_or known.tableau.lines is.line []) own (pos 0) (whole (pos 0)) total known.spots known.lines known.scales by above k.positive (long_each other chosen.0 known.lines k.long) k.lines is.is (nothing own) g)
         (at other chosen.0 ∙ unit other chosen.0 chosen.1) h)
 
-    after : (q : Bool) → q ≡ true → and_then (bool_ok q) (all_of (tested_at (spot_side cs cases lower) known.spots u by) others) ≡ Ok b → b ≡ true
-    after true f g = all_honest (tested_at (spot_side cs cases lower) known.spots u by) others b (each_place others one chosen) g
+    after : (q : Bool) → q ≡ true → and_then (bool_ok q) (all_of (unit_test_at (spot_side cs cases lower) known.spots u by) others) ≡ Ok b → b ≡ true
+    after true f g = all_honest (unit_test_at (spot_side cs cases lower) known.spots u by) others b (each_place others one chosen) g
     after false f g = cc
 
 pub free_honest : (cs : List (List Col)) (cases : List Change) (lower : List Polynomial) (count : ℕ) (known : Spots) (lines : List (List ℤ)) (free : List (List Fraction)) (b : Bool) → HasUnits cs cases lower count known → AreRelations count known.tableau count lines → AreUnitLists count known (chosen_below known.tableau count) free

@@ -19,12 +19,12 @@ use Rattle.simplex.specs.Endings.{IsMetFor}
 use Rattle.simplex.specs.Exchange.{numbers_of}
 use Rattle.simplex.specs.Raise.{Framed, sign_of}
 use Rattle.simplex.specs.Refusal.{IsSmallFrame, IsRefusalIn}
-use Rattle.simplex.specs.Rows.{kinds_of, whole_line, lines_from, framed}
+use Rattle.simplex.specs.Rows.{kinds_of, whole_line, lines_from, framed_tableau}
 use Rattle.simplex.specs.Search.{IsMet, IsCornerOf}
 use Rattle.simplex.specs.Suprema.{with_goal, frame_over, IsRayOf, IsSupremumOver, SupremumAt}
-use Rattle.simplex.specs.Wider.{widened, widened_supremum}
-use Rattle.simplex.specs.declared.stop.Stop.{Stop}
-use Rattle.simplex.specs.declared.stop.Stop.TheVariants.{Wide, Memory}
+use Rattle.simplex.specs.Wider.{widened_numbers, widened_supremum}
+use Rattle.simplex.specs.declared.stop.SearchStop.{SearchStop}
+use Rattle.simplex.specs.declared.stop.SearchStop.TheVariants.{Wide, Memory}
 use Rattle.simplex.specs.declared.supremum.Supremum.{Supremum}
 use Rattle.simplex.specs.declared.supremum.Supremum.TheVariants as supremum
 use Rattle.simplex.specs.declared.tableau.Tableau.{Tableau}
@@ -77,10 +77,10 @@ module _ (rows : List Row) (p : Polynomial) (front later : List (List Col)) (c :
   after = front ++ c ∷ later
 
   abbrev old : ℕ → ℕ → ℤ
-  old = numbers_of (framed (front ++ later) (with_goal rows p))
+  old = numbers_of (framed_tableau (front ++ later) (with_goal rows p))
 
   abbrev new : ℕ → ℕ → ℤ
-  new = numbers_of (framed (front ++ c ∷ later) (with_goal rows p))
+  new = numbers_of (framed_tableau (front ++ c ∷ later) (with_goal rows p))
 
   front-short : length front ≤ length (front ++ later)
   front-short = let e : length (front ++ later) ≡ length front + length later = long front later in omega (arith, e)
@@ -164,13 +164,13 @@ pub data Part (New : List Col → Type 0) : List (List Col) → List (List Col) 
 pub not_eq : (c d : List Col) → mono_cmp c d ≡ Less → eq_by_cmp mono_cmp d c ≡ false
 not_eq c d e = ap is_eq (reversed c d Less e)
 
-pub widened-besides : (c : List Col) (ds cs : List (List Col)) (ns : List Fraction) → IsBefore c ds → widened ds (c ∷ cs) ns ≡ whole (pos 0) ∷ widened ds cs ns
+pub widened-besides : (c : List Col) (ds cs : List (List Col)) (ns : List Fraction) → IsBefore c ds → widened_numbers ds (c ∷ cs) ns ≡ whole (pos 0) ∷ widened_numbers ds cs ns
 widened-besides c [] cs ns b = refl
 widened-besides c (d ∷ ds) cs [] b = refl
-widened-besides c (d ∷ ds) cs (n ∷ ns) b = ap (λ (q : Bool). cond q (n ∷ widened ds cs ns) (whole (pos 0) ∷ widened (d ∷ ds) cs (n ∷ ns))) (not_eq c d b.0)
+widened-besides c (d ∷ ds) cs (n ∷ ns) b = ap (λ (q : Bool). cond q (n ∷ widened_numbers ds cs ns) (whole (pos 0) ∷ widened_numbers (d ∷ ds) cs (n ∷ ns))) (not_eq c d b.0)
 
-pub widened-keep : (c : List Col) (ds cs : List (List Col)) (n : Fraction) (ns : List Fraction) → widened (c ∷ ds) (c ∷ cs) (n ∷ ns) ≡ n ∷ widened ds cs ns
-widened-keep c ds cs n ns = ap (λ (q : Bool). cond q (n ∷ widened ds cs ns) (whole (pos 0) ∷ widened (c ∷ ds) cs (n ∷ ns))) (itself c)
+pub widened-keep : (c : List Col) (ds cs : List (List Col)) (n : Fraction) (ns : List Fraction) → widened_numbers (c ∷ ds) (c ∷ cs) (n ∷ ns) ≡ n ∷ widened_numbers ds cs ns
+widened-keep c ds cs n ns = ap (λ (q : Bool). cond q (n ∷ widened_numbers ds cs ns) (whole (pos 0) ∷ widened_numbers (c ∷ ds) cs (n ∷ ns))) (itself c)
 
 -- what is kept where a column is put in, holds with all columns put in
 module _ (New : List Col → Type 0) (P : List (List Col) → List Fraction → List Fraction → Type 0)
@@ -192,21 +192,21 @@ module _ (New : List Col → Type 0) (P : List (List Col) → List Fraction → 
   more-long xs ys x y e = let a = long xs (x ∷ []) in let b = long ys (y ∷ []) in omega (arith, a, b, e)
 
   pub put_all : (front ds cs : List (List Col)) (xs ys us vs : List Fraction) → Part New ds cs → length xs ≡ length front → length us ≡ length front → length ys ≡ length ds → length vs ≡ length ds
-      → P (front ++ ds) (xs ++ ys) (us ++ vs) → P (front ++ cs) (xs ++ widened ds cs ys) (us ++ widened ds cs vs)
+      → P (front ++ ds) (xs ++ ys) (us ++ vs) → P (front ++ cs) (xs ++ widened_numbers ds cs ys) (us ++ widened_numbers ds cs vs)
   put_all front _ _ xs [] us [] done e f g h p = p
   put_all front _ _ xs [] us (v ∷ vs) done e f g h p = absurd (omega (arith, h))
   put_all front _ _ xs (y ∷ ys) us vs done e f g h p = absurd (omega (arith, g))
   put_all front _ _ xs [] us vs (keep c ds cs q) e f g h p = absurd (omega (arith, g))
   put_all front _ _ xs (y ∷ ys) us [] (keep c ds cs q) e f g h p = absurd (omega (arith, h))
   put_all front _ _ xs (y ∷ ys) us (v ∷ vs) (keep c ds cs q) e f g h p =
-      subst (λ (zs : List Fraction). P (front ++ c ∷ cs) (xs ++ widened (c ∷ ds) (c ∷ cs) (y ∷ ys)) (us ++ zs)) (sym (widened-keep c ds cs v vs))
-      (subst (λ (zs : List Fraction). P (front ++ c ∷ cs) (xs ++ zs) (us ++ v ∷ widened ds cs vs)) (sym (widened-keep c ds cs y ys))
-      (shrunk_to front cs c xs (widened ds cs ys) us (widened ds cs vs) y v
+      subst (λ (zs : List Fraction). P (front ++ c ∷ cs) (xs ++ widened_numbers (c ∷ ds) (c ∷ cs) (y ∷ ys)) (us ++ zs)) (sym (widened-keep c ds cs v vs))
+      (subst (λ (zs : List Fraction). P (front ++ c ∷ cs) (xs ++ zs) (us ++ v ∷ widened_numbers ds cs vs)) (sym (widened-keep c ds cs y ys))
+      (shrunk_to front cs c xs (widened_numbers ds cs ys) us (widened_numbers ds cs vs) y v
       (put_all (front ++ c ∷ []) ds cs (xs ++ y ∷ []) ys (us ++ v ∷ []) vs q (more-long xs front y c e) (more-long us front v c f) (omega (arith, g)) (omega (arith, h)) (grown front ds c xs ys us vs y v p))))
   put_all front _ _ xs ys us vs (besides c ds cs b n q) e f g h p =
-      subst (λ (zs : List Fraction). P (front ++ c ∷ cs) (xs ++ widened ds (c ∷ cs) ys) (us ++ zs)) (sym (widened-besides c ds cs vs b))
-      (subst (λ (zs : List Fraction). P (front ++ c ∷ cs) (xs ++ zs) (us ++ whole (pos 0) ∷ widened ds cs vs)) (sym (widened-besides c ds cs ys b))
-      (shrunk_to front cs c xs (widened ds cs ys) us (widened ds cs vs) (whole (pos 0)) (whole (pos 0))
+      subst (λ (zs : List Fraction). P (front ++ c ∷ cs) (xs ++ widened_numbers ds (c ∷ cs) ys) (us ++ zs)) (sym (widened-besides c ds cs vs b))
+      (subst (λ (zs : List Fraction). P (front ++ c ∷ cs) (xs ++ zs) (us ++ whole (pos 0) ∷ widened_numbers ds cs vs)) (sym (widened-besides c ds cs ys b))
+      (shrunk_to front cs c xs (widened_numbers ds cs ys) us (widened_numbers ds cs vs) (whole (pos 0)) (whole (pos 0))
       (put_all (front ++ c ∷ []) ds cs (xs ++ whole (pos 0) ∷ []) ys (us ++ whole (pos 0) ∷ []) vs q (more-long xs front (whole (pos 0)) c e) (more-long us front (whole (pos 0)) c f) g h
       (grown front ds c xs ys us vs (whole (pos 0)) (whole (pos 0)) (step front ds c xs ys us vs n e f p)))))
 
@@ -221,16 +221,16 @@ module _ (rows : List Row) (p : Polynomial) where
       let w = over_wider rows p front later c n in
       let s = h.met.placed.marked.sized.tableau in
       let many : length (h.tableau).lines ≡ length rows + 1 = sym h.met.placed.marked.sized.many ∙ kinds-length (with_goal rows p) ∙ more_rows rows p in
-      let t : Tableau = wider (length front) (length (front ++ later) + 1) (λ l. numbers_of (framed (front ++ c ∷ later) (with_goal rows p)) l (length front)) h.tableau in
+      let t : Tableau = wider (length front) (length (front ++ later) + 1) (λ l. numbers_of (framed_tableau (front ++ c ∷ later) (with_goal rows p)) l (length front)) h.tableau in
       let found : (enters : List Bool) × ((t : Tableau) × (IsMet (frame_over (front ++ c ∷ later) rows p) (length (front ++ c ∷ later)) (kinds_of (with_goal rows p)) enters t × IsCornerOf t (length (front ++ c ∷ later)) (length (front ++ c ∷ later)) (xs ++ whole (pos 0) ∷ ys))) =
       at_after rows p front later c (λ over m. (enters : List Bool) × ((t : Tableau) × (IsMet over m (kinds_of (with_goal rows p)) enters t × IsCornerOf t m m (xs ++ whole (pos 0) ∷ ys)))) (
         put (length front) false h.enters,
         (
           t,
           (
-            met_now (length front) (length (front ++ later)) (kinds_of (with_goal rows p)) (frame_over (front ++ later) rows p) (numbers_of (framed (front ++ c ∷ later) (with_goal rows p))) w h.tableau s many h.enters h.met,
+            met_now (length front) (length (front ++ later)) (kinds_of (with_goal rows p)) (frame_over (front ++ later) rows p) (numbers_of (framed_tableau (front ++ c ∷ later) (with_goal rows p))) w h.tableau s many h.enters h.met,
             subst (λ (zs : List Fraction). IsCornerOf t (length (front ++ later) + 1) (length (front ++ later) + 1) zs) (length-put front later xs ys (whole (pos 0)) e)
-                (corner_now (length front) (length (front ++ later)) (kinds_of (with_goal rows p)) (frame_over (front ++ later) rows p) (numbers_of (framed (front ++ c ∷ later) (with_goal rows p))) w h.tableau s many (xs ++ ys) h.corner),
+                (corner_now (length front) (length (front ++ later)) (kinds_of (with_goal rows p)) (frame_over (front ++ later) rows p) (numbers_of (framed_tableau (front ++ c ∷ later) (with_goal rows p))) w h.tableau s many (xs ++ ys) h.corner),
           ),
         ),
       ) in
@@ -244,8 +244,8 @@ module _ (rows : List Row) (p : Polynomial) where
       let w = over_wider rows p front later c n in
       let s = h.met.placed.marked.sized.tableau in
       let many : length (h.tableau).lines ≡ length rows + 1 = sym h.met.placed.marked.sized.many ∙ kinds-length (with_goal rows p) ∙ more_rows rows p in
-      let t : Tableau = wider (length front) (length (front ++ later) + 1) (λ l. numbers_of (framed (front ++ c ∷ later) (with_goal rows p)) l (length front)) h.tableau in
-      let growing : pos 0 <ℤ (sign_of up *ℤ numbers_of (framed (front ++ c ∷ later) (with_goal rows p)) (length rows) (length front)) = subst (λ (z : ℤ). pos 0 <ℤ (sign_of up *ℤ z)) (sym (goal-new rows p front later c)) grows in
+      let t : Tableau = wider (length front) (length (front ++ later) + 1) (λ l. numbers_of (framed_tableau (front ++ c ∷ later) (with_goal rows p)) l (length front)) h.tableau in
+      let growing : pos 0 <ℤ (sign_of up *ℤ numbers_of (framed_tableau (front ++ c ∷ later) (with_goal rows p)) (length rows) (length front)) = subst (λ (z : ℤ). pos 0 <ℤ (sign_of up *ℤ z)) (sym (goal-new rows p front later c)) grows in
       at_after rows p front later c (λ over m. SupremumAt over m (kinds_of (with_goal rows p)) budget (supremum.Unbounded (xs ++ whole (pos 0) ∷ ys) (us ++ whole (sign_of up) ∷ vs))) (
         t,
         (
@@ -255,11 +255,11 @@ module _ (rows : List Row) (p : Polynomial) where
             (
               up,
               (
-                opened_here (length front) (length (front ++ later)) (kinds_of (with_goal rows p)) (frame_over (front ++ later) rows p) (numbers_of (framed (front ++ c ∷ later) (with_goal rows p))) w h.tableau s many h.enters h.met up growing,
+                opened_here (length front) (length (front ++ later)) (kinds_of (with_goal rows p)) (frame_over (front ++ later) rows p) (numbers_of (framed_tableau (front ++ c ∷ later) (with_goal rows p))) w h.tableau s many h.enters h.met up growing,
                 subst (λ (zs : List Fraction). IsCornerOf t (length (front ++ later) + 1) (length (front ++ later) + 1) zs) (length-put front later xs ys (whole (pos 0)) e)
-                    (corner_now (length front) (length (front ++ later)) (kinds_of (with_goal rows p)) (frame_over (front ++ later) rows p) (numbers_of (framed (front ++ c ∷ later) (with_goal rows p))) w h.tableau s many (xs ++ ys) h.corner),
+                    (corner_now (length front) (length (front ++ later)) (kinds_of (with_goal rows p)) (frame_over (front ++ later) rows p) (numbers_of (framed_tableau (front ++ c ∷ later) (with_goal rows p))) w h.tableau s many (xs ++ ys) h.corner),
                 subst (λ (zs : List Fraction). IsRayOf t (length front) up (length (front ++ later) + 1) zs) (length-put front later us vs (whole (sign_of up)) f)
-                    (ray_here (length front) (length (front ++ later)) (kinds_of (with_goal rows p)) (frame_over (front ++ later) rows p) (numbers_of (framed (front ++ c ∷ later) (with_goal rows p))) w h.tableau s many h.enters h.met up (us ++ vs) each zeros),
+                    (ray_here (length front) (length (front ++ later)) (kinds_of (with_goal rows p)) (frame_over (front ++ later) rows p) (numbers_of (framed_tableau (front ++ c ∷ later) (with_goal rows p))) w h.tableau s many h.enters h.met up (us ++ vs) each zeros),
               ),
             ),
           ),
@@ -269,25 +269,25 @@ module _ (rows : List Row) (p : Polynomial) where
   bound_step : (budget : ℕ) (cert : Cert) (front later : List (List Col)) (c : List Col) (xs ys us vs : List Fraction) → HasNothing (with_goal rows p) c → length xs ≡ length front → length us ≡ length front → IsSupremumOver (front ++ later) rows p budget (supremum.Bound cert (xs ++ ys)) → IsSupremumOver (front ++ c ∷ later) rows p budget (supremum.Bound cert (xs ++ whole (pos 0) ∷ ys))
   bound_step budget cert front later c xs ys us vs n e f h =
       at_after rows p front later c (λ over m. SupremumAt over m (kinds_of (with_goal rows p)) budget (supremum.Bound cert (xs ++ whole (pos 0) ∷ ys)))
-      (subst (λ (zs : List Fraction). SupremumAt (record { units = length (front ++ later) + 1 + 1; rows = length rows; frame = numbers_of (framed (front ++ c ∷ later) (with_goal rows p)) }) (length (front ++ later) + 1) (kinds_of (with_goal rows p)) budget (supremum.Bound cert zs)) (length-put front later xs ys (whole (pos 0)) e)
-      (bound_put (length front) (length (front ++ later)) (kinds_of (with_goal rows p)) (frame_over (front ++ later) rows p) (numbers_of (framed (front ++ c ∷ later) (with_goal rows p))) (over_wider rows p front later c (rows-nothing c rows p n)) budget cert (xs ++ ys) (goal-new rows p front later c ∙ goal-nothing c rows p n) h))
+      (subst (λ (zs : List Fraction). SupremumAt (record { units = length (front ++ later) + 1 + 1; rows = length rows; frame = numbers_of (framed_tableau (front ++ c ∷ later) (with_goal rows p)) }) (length (front ++ later) + 1) (kinds_of (with_goal rows p)) budget (supremum.Bound cert zs)) (length-put front later xs ys (whole (pos 0)) e)
+      (bound_put (length front) (length (front ++ later)) (kinds_of (with_goal rows p)) (frame_over (front ++ later) rows p) (numbers_of (framed_tableau (front ++ c ∷ later) (with_goal rows p))) (over_wider rows p front later c (rows-nothing c rows p n)) budget cert (xs ++ ys) (goal-new rows p front later c ∙ goal-nothing c rows p n) h))
 
   pub ray_step : (budget : ℕ) (front later : List (List Col)) (c : List Col) (xs ys us vs : List Fraction) → HasNothing rows c → length xs ≡ length front → length us ≡ length front → IsSupremumOver (front ++ later) rows p budget (supremum.Unbounded (xs ++ ys) (us ++ vs)) → IsSupremumOver (front ++ c ∷ later) rows p budget (supremum.Unbounded (xs ++ whole (pos 0) ∷ ys) (us ++ whole (pos 0) ∷ vs))
   ray_step budget front later c xs ys us vs n e f h =
       at_after rows p front later c (λ over m. SupremumAt over m (kinds_of (with_goal rows p)) budget (supremum.Unbounded (xs ++ whole (pos 0) ∷ ys) (us ++ whole (pos 0) ∷ vs)))
-      (subst (λ (zs : List Fraction). SupremumAt (record { units = length (front ++ later) + 1 + 1; rows = length rows; frame = numbers_of (framed (front ++ c ∷ later) (with_goal rows p)) }) (length (front ++ later) + 1) (kinds_of (with_goal rows p)) budget (supremum.Unbounded zs (us ++ whole (pos 0) ∷ vs))) (length-put front later xs ys (whole (pos 0)) e)
-      (subst (λ (zs : List Fraction). SupremumAt (record { units = length (front ++ later) + 1 + 1; rows = length rows; frame = numbers_of (framed (front ++ c ∷ later) (with_goal rows p)) }) (length (front ++ later) + 1) (kinds_of (with_goal rows p)) budget (supremum.Unbounded (put (length front) (whole (pos 0)) (xs ++ ys)) zs)) (length-put front later us vs (whole (pos 0)) f)
-      (unbounded_put (length front) (length (front ++ later)) (kinds_of (with_goal rows p)) (frame_over (front ++ later) rows p) (numbers_of (framed (front ++ c ∷ later) (with_goal rows p))) (over_wider rows p front later c n) budget (xs ++ ys) (us ++ vs) h)))
+      (subst (λ (zs : List Fraction). SupremumAt (record { units = length (front ++ later) + 1 + 1; rows = length rows; frame = numbers_of (framed_tableau (front ++ c ∷ later) (with_goal rows p)) }) (length (front ++ later) + 1) (kinds_of (with_goal rows p)) budget (supremum.Unbounded zs (us ++ whole (pos 0) ∷ vs))) (length-put front later xs ys (whole (pos 0)) e)
+      (subst (λ (zs : List Fraction). SupremumAt (record { units = length (front ++ later) + 1 + 1; rows = length rows; frame = numbers_of (framed_tableau (front ++ c ∷ later) (with_goal rows p)) }) (length (front ++ later) + 1) (kinds_of (with_goal rows p)) budget (supremum.Unbounded (put (length front) (whole (pos 0)) (xs ++ ys)) zs)) (length-put front later us vs (whole (pos 0)) f)
+      (unbounded_put (length front) (length (front ++ later)) (kinds_of (with_goal rows p)) (frame_over (front ++ later) rows p) (numbers_of (framed_tableau (front ++ c ∷ later) (with_goal rows p))) (over_wider rows p front later c n) budget (xs ++ ys) (us ++ vs) h)))
 
   empty_step : (budget : ℕ) (front later : List (List Col)) (c : List Col) (xs ys us vs : List Fraction) → HasNothing rows c → length xs ≡ length front → length us ≡ length front → IsSupremumOver (front ++ later) rows p budget supremum.Empty → IsSupremumOver (front ++ c ∷ later) rows p budget supremum.Empty
   empty_step budget front later c xs ys us vs n e f h =
       at_after rows p front later c (λ over m. SupremumAt over m (kinds_of (with_goal rows p)) budget supremum.Empty)
-      (empty_put (length front) (length (front ++ later)) (kinds_of (with_goal rows p)) (frame_over (front ++ later) rows p) (numbers_of (framed (front ++ c ∷ later) (with_goal rows p))) (over_wider rows p front later c n) budget h)
+      (empty_put (length front) (length (front ++ later)) (kinds_of (with_goal rows p)) (frame_over (front ++ later) rows p) (numbers_of (framed_tableau (front ++ c ∷ later) (with_goal rows p))) (over_wider rows p front later c n) budget h)
 
   pivots_step : (budget : ℕ) (front later : List (List Col)) (c : List Col) (xs ys us vs : List Fraction) → HasNothing rows c → length xs ≡ length front → length us ≡ length front → IsSupremumOver (front ++ later) rows p budget supremum.Pivots → IsSupremumOver (front ++ c ∷ later) rows p budget supremum.Pivots
   pivots_step budget front later c xs ys us vs n e f h =
       at_after rows p front later c (λ over m. SupremumAt over m (kinds_of (with_goal rows p)) budget supremum.Pivots)
-      (pivots_put (length front) (length (front ++ later)) (kinds_of (with_goal rows p)) (frame_over (front ++ later) rows p) (numbers_of (framed (front ++ c ∷ later) (with_goal rows p))) (over_wider rows p front later c n) budget h)
+      (pivots_put (length front) (length (front ++ later)) (kinds_of (with_goal rows p)) (frame_over (front ++ later) rows p) (numbers_of (framed_tableau (front ++ c ∷ later) (with_goal rows p))) (over_wider rows p front later c n) budget h)
 
   small_step : (m : ℕ) (front later : List (List Col)) (c : List Col) → IsSmallFrame m (frame_over (front ++ c ∷ later) rows p) (length rows + 1) → IsSmallFrame m (frame_over (front ++ later) rows p) (length rows + 1)
   small_step m front later c small = refusal_after rows p front later c m small
@@ -303,7 +303,7 @@ module _ (rows : List Row) (p : Polynomial) where
       (small_all m New (front ++ c ∷ []) ds cs q (subst (λ (es : List (List Col)). IsSmallFrame m (frame_over es rows p) (length rows + 1)) (sym (append_assoc front (c ∷ []) cs)) h)))
 
 -- a stop over a part of the columns
-pub refusal_wider : (New : List Col → Type 0) (rows : List Row) (p : Polynomial) (ds cs : List (List Col)) (stop : Stop) → Part New ds cs → IsRefusalIn (frame_over ds rows p) (length rows + 1) stop → IsRefusalIn (frame_over cs rows p) (length rows + 1) stop
+pub refusal_wider : (New : List Col → Type 0) (rows : List Row) (p : Polynomial) (ds cs : List (List Col)) (stop : SearchStop) → Part New ds cs → IsRefusalIn (frame_over ds rows p) (length rows + 1) stop → IsRefusalIn (frame_over cs rows p) (length rows + 1) stop
 refusal_wider New rows p ds cs (Wide step) q r = record { leaves = r.leaves; great = λ n squares small. r.great n squares (small_all rows p n New [] ds cs q small) }
 refusal_wider New rows p ds cs Memory q r = tt
 

@@ -19,8 +19,8 @@ use Rattle.linear_terms.specs.MonoOrder.{mono_cmp_total}
 use Rattle.simplex.specs.Raise.{sign_of}
 use Rattle.simplex.specs.Refusal.{IsRefusalIn}
 use Rattle.simplex.specs.Suprema.{with_goal, frame_over, IsSupremumOver}
-use Rattle.simplex.specs.Wider.{widened, unit_ray, widened_supremum, AreColumnsOf}
-use Rattle.simplex.specs.declared.stop.Stop.{Stop}
+use Rattle.simplex.specs.Wider.{widened_numbers, unit_ray, widened_supremum, AreColumnsOf}
+use Rattle.simplex.specs.declared.stop.SearchStop.{SearchStop}
 use Rattle.simplex.specs.declared.supremum.Supremum.{Supremum}
 use Rattle.simplex.specs.declared.supremum.Supremum.TheVariants as supremum
 use Rattle.simplex.proofs.Framing.{long}
@@ -136,7 +136,7 @@ own_part rows p cs a =
 
 -- ---- what is found
 
-pub refusal_over : (rows : List Row) (p : Polynomial) (cs : List (List Col)) (stop : Stop) → AreColumnsOf cs rows p → IsRefusalIn (frame_over (columns rows []) rows p) (length rows + 1) stop → IsRefusalIn (frame_over cs rows p) (length rows + 1) stop
+pub refusal_over : (rows : List Row) (p : Polynomial) (cs : List (List Col)) (stop : SearchStop) → AreColumnsOf cs rows p → IsRefusalIn (frame_over (columns rows []) rows p) (length rows + 1) stop → IsRefusalIn (frame_over cs rows p) (length rows + 1) stop
 refusal_over rows p cs stop a r = refusal_wider (HasNothing rows) rows p (columns rows []) cs stop (own_part rows p cs a) r
 
 pub empty_over : (rows : List Row) (p : Polynomial) (budget : ℕ) (cs : List (List Col)) → AreColumnsOf cs rows p → IsSupremumOver (columns rows []) rows p budget supremum.Empty → IsSupremumOver cs rows p budget supremum.Empty
@@ -189,7 +189,7 @@ apart-none mono (d ∷ ds) h = go (eq_by_cmp mono_cmp mono d) refl h (apart-none
     go false e k ih = (e, ih k)
 
 -- 0 everywhere, over more columns
-zeros-wider : (New : List Col → Type 0) (mono : List Col) (up : Bool) (ds cs : List (List Col)) → Part New ds cs → IsNone mono cs → widened ds cs (unit_ray mono up ds) ≡ unit_ray mono up cs
+zeros-wider : (New : List Col → Type 0) (mono : List Col) (up : Bool) (ds cs : List (List Col)) → Part New ds cs → IsNone mono cs → widened_numbers ds cs (unit_ray mono up ds) ≡ unit_ray mono up cs
 zeros-wider New mono up _ _ done n = refl
 zeros-wider New mono up _ _ (keep c ds cs q) n = widened-keep c ds cs (ray_at mono up c) (unit_ray mono up ds) ∙ ap (λ zs. ray_at mono up c ∷ zs) (zeros-wider New mono up ds cs q n.1)
 zeros-wider New mono up _ _ (besides c ds cs b m q) n =
@@ -217,12 +217,12 @@ module _ (rows : List Row) (p : Polynomial) (budget : ℕ) (mono : List Col) (up
 
   -- at the monomial's own column the ray opens, and then the other columns are put in
   opened : (front ds cs : List (List Col)) (c : List Col) (xs ys : List Fraction) → mono ≡ c → IsBefore c ds → IsBefore c cs → HasNothing rows c → Part (HasNothing rows) ds cs → length xs ≡ length front → length ys ≡ length ds → IsNone mono front → IsNone mono ds → HasCorner (front ++ ds) rows p (xs ++ ys)
-      → Ends (front ++ c ∷ cs) (xs ++ whole (pos 0) ∷ widened ds cs ys) (unit_ray mono up (front ++ c ∷ cs))
+      → Ends (front ++ c ∷ cs) (xs ++ whole (pos 0) ∷ widened_numbers ds cs ys) (unit_ray mono up (front ++ c ∷ cs))
   opened front ds cs c xs ys same b later n q e f at_front at_own h =
-      subst (λ (us : List Fraction). Ends (front ++ c ∷ cs) (xs ++ whole (pos 0) ∷ widened ds cs ys) us) rays
-      (subst (λ (us : List Fraction). Ends (front ++ c ∷ cs) (xs ++ whole (pos 0) ∷ widened ds cs ys) us) (append_assoc (unit_ray mono up front) (whole (sign_of up) ∷ []) (widened ds cs (unit_ray mono up ds)))
-      (subst (λ (zs : List Fraction). Ends (front ++ c ∷ cs) zs ((unit_ray mono up front ++ whole (sign_of up) ∷ []) ++ widened ds cs (unit_ray mono up ds))) (append_assoc xs (whole (pos 0) ∷ []) (widened ds cs ys))
-      (subst (λ (es : List (List Col)). Ends es ((xs ++ whole (pos 0) ∷ []) ++ widened ds cs ys) ((unit_ray mono up front ++ whole (sign_of up) ∷ []) ++ widened ds cs (unit_ray mono up ds))) (append_assoc front (c ∷ []) cs)
+      subst (λ (us : List Fraction). Ends (front ++ c ∷ cs) (xs ++ whole (pos 0) ∷ widened_numbers ds cs ys) us) rays
+      (subst (λ (us : List Fraction). Ends (front ++ c ∷ cs) (xs ++ whole (pos 0) ∷ widened_numbers ds cs ys) us) (append_assoc (unit_ray mono up front) (whole (sign_of up) ∷ []) (widened_numbers ds cs (unit_ray mono up ds)))
+      (subst (λ (zs : List Fraction). Ends (front ++ c ∷ cs) zs ((unit_ray mono up front ++ whole (sign_of up) ∷ []) ++ widened_numbers ds cs (unit_ray mono up ds))) (append_assoc xs (whole (pos 0) ∷ []) (widened_numbers ds cs ys))
+      (subst (λ (es : List (List Col)). Ends es ((xs ++ whole (pos 0) ∷ []) ++ widened_numbers ds cs ys) ((unit_ray mono up front ++ whole (sign_of up) ∷ []) ++ widened_numbers ds cs (unit_ray mono up ds))) (append_assoc front (c ∷ []) cs)
       (put_all (HasNothing rows) Ends (λ front later c xs ys us vs n e f k. ray_step rows p budget front later c xs ys us vs n e f k)
       (front ++ c ∷ []) ds cs (xs ++ whole (pos 0) ∷ []) ys (unit_ray mono up front ++ whole (sign_of up) ∷ []) (unit_ray mono up ds) q (longer xs front (whole (pos 0)) c e) (longer (unit_ray mono up front) front (whole (sign_of up)) c (ray-long mono up front)) f (ray-long mono up ds) begins))))
     where
@@ -235,19 +235,19 @@ module _ (rows : List Row) (p : Polynomial) (budget : ℕ) (mono : List Col) (up
           (λ j k. ap (λ zs. get_or zs j (whole (pos 0))) (sym (ray-append mono up front ds)) ∙ zeros-at mono up (front ++ ds) j (none-append mono front ds at_front at_own))
           (subst (λ (m : List Col). pos 0 <ℤ (sign_of up *ℤ coefficient_in p.terms m)) same grows) h)))
 
-      rays : unit_ray mono up front ++ whole (sign_of up) ∷ widened ds cs (unit_ray mono up ds) ≡ unit_ray mono up (front ++ c ∷ cs)
+      rays : unit_ray mono up front ++ whole (sign_of up) ∷ widened_numbers ds cs (unit_ray mono up ds) ≡ unit_ray mono up (front ++ c ∷ cs)
       rays =
           ap (λ zs. unit_ray mono up front ++ whole (sign_of up) ∷ zs) (zeros-wider (HasNothing rows) mono up ds cs q (subst (λ (m : List Col). IsNone m cs) (sym same) (before-none c cs later)))
           ∙ ap (λ (o : Bool). unit_ray mono up front ++ cond o (whole (sign_of up)) (whole (pos 0)) ∷ unit_ray mono up cs) (sym (ap (λ (m : List Col). eq_by_cmp mono_cmp mono m) (sym same) ∙ itself mono))
           ∙ sym (ray-append mono up front (c ∷ cs))
 
   opening : (front ds cs : List (List Col)) (xs ys : List Fraction) → Part (HasNothing rows) ds cs → IsOrdered cs → is_among mono cs ≡ true → length xs ≡ length front → length ys ≡ length ds → IsNone mono front → IsNone mono ds → HasCorner (front ++ ds) rows p (xs ++ ys)
-      → Ends (front ++ cs) (xs ++ widened ds cs ys) (unit_ray mono up (front ++ cs))
+      → Ends (front ++ cs) (xs ++ widened_numbers ds cs ys) (unit_ray mono up (front ++ cs))
   opening front _ _ xs ys done o m e f at_front at_own h = absurd (false≢true m)
   opening front _ _ xs [] (keep c ds cs q) o m e f at_front at_own h = absurd (omega (arith, f))
   opening front _ _ xs (y ∷ ys) (keep c ds cs q) o m e f at_front at_own h =
       subst (λ (zs : List Fraction). Ends (front ++ c ∷ cs) (xs ++ zs) (unit_ray mono up (front ++ c ∷ cs))) (sym (widened-keep c ds cs y ys))
-      (less_front front cs c xs (widened ds cs ys) [] y
+      (less_front front cs c xs (widened_numbers ds cs ys) [] y
       (opening (front ++ c ∷ []) ds cs (xs ++ y ∷ []) ys q o.1 (among-step mono c cs m at_own.0) (longer xs front y c e) (omega (arith, f)) (none-append mono front (c ∷ []) at_front (at_own.0, tt)) at_own.1 (more_front front ds c xs ys y h)))
   opening front _ _ xs ys (besides c ds cs b n q) o m e f at_front at_own h =
       subst (λ (zs : List Fraction). Ends (front ++ c ∷ cs) (xs ++ zs) (unit_ray mono up (front ++ c ∷ cs))) (sym (widened-besides c ds cs ys b))
@@ -256,11 +256,11 @@ module _ (rows : List Row) (p : Polynomial) (budget : ℕ) (mono : List Col) (up
       (more_front front ds c xs ys (whole (pos 0)) (corner_put rows p front ds c xs ys n e h))))
     where
       go : (t : Bool) → eq_by_cmp mono_cmp mono c ≡ t
-          → (eq_by_cmp mono_cmp mono c ≡ false → Ends ((front ++ c ∷ []) ++ cs) ((xs ++ whole (pos 0) ∷ []) ++ widened ds cs ys) (unit_ray mono up ((front ++ c ∷ []) ++ cs)))
-          → Ends (front ++ c ∷ cs) (xs ++ whole (pos 0) ∷ widened ds cs ys) (unit_ray mono up (front ++ c ∷ cs))
+          → (eq_by_cmp mono_cmp mono c ≡ false → Ends ((front ++ c ∷ []) ++ cs) ((xs ++ whole (pos 0) ∷ []) ++ widened_numbers ds cs ys) (unit_ray mono up ((front ++ c ∷ []) ++ cs)))
+          → Ends (front ++ c ∷ cs) (xs ++ whole (pos 0) ∷ widened_numbers ds cs ys) (unit_ray mono up (front ++ c ∷ cs))
       go true k later = opened front ds cs c xs ys (same_mono mono c k) b o.0 n q e f at_front at_own h
-      go false k later = less_front front cs c xs (widened ds cs ys) [] (whole (pos 0)) (later k)
+      go false k later = less_front front cs c xs (widened_numbers ds cs ys) [] (whole (pos 0)) (later k)
 
   pub opened_over : (cs : List (List Col)) (point : List Fraction) → AreColumnsOf cs rows p → is_among mono cs ≡ true → is_among mono (columns rows []) ≡ false → HasCorner (columns rows []) rows p point
-      → IsSupremumOver cs rows p budget (supremum.Unbounded (widened (columns rows []) cs point) (unit_ray mono up cs))
+      → IsSupremumOver cs rows p budget (supremum.Unbounded (widened_numbers (columns rows []) cs point) (unit_ray mono up cs))
   opened_over cs point a m none h = opening [] (columns rows []) cs [] point (own_part rows p cs a) a.ordered m refl h.corner.each tt (apart-none mono (columns rows []) none) h

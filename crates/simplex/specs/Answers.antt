@@ -19,8 +19,8 @@ use Rattle.farkas_check.specs.Frames.{choose}
 use Rattle.simplex.specs.Exchange.{numbers_of, upright_line}
 use Rattle.farkas_check.specs.Relations.{entry}
 use Rattle.simplex.specs.Refusal.{IsRefusalIn}
-use Rattle.simplex.specs.Rows.{framed_by, kinds_of}
-use Rattle.simplex.specs.declared.stop.Stop.{Stop}
+use Rattle.simplex.specs.Rows.{frame_of_rows, kinds_of}
+use Rattle.simplex.specs.declared.stop.SearchStop.{SearchStop}
 use Rattle.simplex.specs.declared.tableau.Tableau.{Tableau}
 
 -- no part of the test is false, as far as its sums and products are numbers of 128 bits
@@ -53,8 +53,8 @@ pub record IsRowsAnswer (rows : List Row) (a : Answer) : Type 0 where
   pub calm : IsLiveAndCalm (Infeasible rows) → IsLimit a → ⊥
 
 -- a stop of the search over the frame of the rows
-abbrev pub IsRefusalFor : List Row → Stop → Type 0
-IsRefusalFor rows stop = IsRefusalIn (framed_by (columns rows []) rows) (length rows) stop
+abbrev pub IsRefusalFor : List Row → SearchStop → Type 0
+IsRefusalFor rows stop = IsRefusalIn (frame_of_rows (columns rows []) rows) (length rows) stop
 
 -- a line's numbers at the unit columns, from its own with the sign turned where its constant is
 -- negative
@@ -85,5 +85,5 @@ AnswerOf over constants kinds budget (answer.Limit l) = (l ≡ limit.Pivots)
 
 -- what the search over the frame of the rows found
 abbrev pub IsFoundFor : ℕ → List Row → Answer → Type 0
-IsFoundFor budget rows a = AnswerOf (framed_by (columns rows []) rows) (length (columns rows []))
+IsFoundFor budget rows a = AnswerOf (frame_of_rows (columns rows []) rows) (length (columns rows []))
     (kinds_of rows) budget a

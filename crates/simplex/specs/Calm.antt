@@ -1,8 +1,8 @@
 -- Small numbers, and errors that are want of memory alone.
 use Rattle.std.specs.Prelude.{ℕ, ℤ, ◌+◌, ◌*◌, ◌^◌, ◌<◌, ◌≤◌, List, [], get_or, unsigned_abs, ⊤}
 use Rattle.farkas_check.specs.Relations.{entry}
-use Rattle.simplex.specs.declared.stop.Stop.{Stop}
-use Rattle.simplex.specs.declared.stop.Stop.TheVariants.{Wide, Memory}
+use Rattle.simplex.specs.declared.stop.SearchStop.{SearchStop}
+use Rattle.simplex.specs.declared.stop.SearchStop.TheVariants.{Wide, Memory}
 use Rattle.simplex.specs.declared.tableau.Tableau.{Tableau}
 
 -- sizes whose two products together are below 2 ^ 127
@@ -17,6 +17,6 @@ IsSmallLine n line = (j : ℕ) → unsigned_abs (entry line j) ≤ n
 abbrev pub HasSmallLines : ℕ → Tableau → Type 0
 HasSmallLines n t = (i j : ℕ) → unsigned_abs (entry (get_or t.lines i []) j) ≤ n
 
-abbrev pub IsMemory : Stop → Type 0
+abbrev pub IsMemory : SearchStop → Type 0
 IsMemory (Wide step) = ⊥
 IsMemory Memory = ⊤

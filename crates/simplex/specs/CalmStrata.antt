@@ -10,10 +10,10 @@ use Rattle.farkas_check.specs.Ratios.{Fraction}
 use Rattle.farkas_check.specs.declared.stratum.Change.{Change}
 use Rattle.simplex.specs.Refusal.{LeavesBits}
 use Rattle.simplex.specs.Spots.{frame_of_lines, IsSpotLine}
-use Rattle.simplex.specs.declared.differences.Strata.{Strata}
+use Rattle.simplex.specs.declared.differences.StrataQuestion.{StrataQuestion}
 use Rattle.simplex.specs.declared.spots.Spots.{Spots}
-use Rattle.simplex.specs.declared.stop.Stop.{Stop}
-use Rattle.simplex.specs.declared.stop.Stop.TheVariants.{Wide, Memory}
+use Rattle.simplex.specs.declared.stop.SearchStop.{SearchStop}
+use Rattle.simplex.specs.declared.stop.SearchStop.TheVariants.{Wide, Memory}
 
 -- ---- spots
 
@@ -22,7 +22,7 @@ pub record IsStrayUnder (count : ℕ) (lines : List (List ℤ)) (step : Step.Wid
   pub leaves : LeavesBits step
   pub great : IsCalmUpTo 1048576 (frame_of_lines count lines) → ⊥
 
-abbrev pub IsRefusalUnder : ℕ → List (List ℤ) → Stop → Type 0
+abbrev pub IsRefusalUnder : ℕ → List (List ℤ) → SearchStop → Type 0
 IsRefusalUnder count lines (Wide step) = IsStrayUnder count lines step
 IsRefusalUnder count lines Memory = ⊤
 
@@ -35,16 +35,16 @@ pub record HasSmallScales (count : ℕ) (spots : Spots) : Type 0 where
 -- ---- a question
 
 -- the question is calm
-pub record IsCalmAsked (s : Strata) : Type 0 where
+pub record IsCalmAsked (s : StrataQuestion) : Type 0 where
   pub few_cases : length s.cases.now ≤ 4294967296
   pub calm : IsCalmStratum s.columns.now s.cases.now s.lower.now
 
 -- a step that leaves 128 bits, where the question is not calm
-pub record IsStray (s : Strata) (step : Step.Wide) : Type 0 where
+pub record IsStray (s : StrataQuestion) (step : Step.Wide) : Type 0 where
   pub leaves : LeavesBits step
   pub great : IsCalmAsked s → ⊥
 
-abbrev pub IsRefusalOf : Strata → Stop → Type 0
+abbrev pub IsRefusalOf : StrataQuestion → SearchStop → Type 0
 IsRefusalOf s (Wide step) = IsStray s step
 IsRefusalOf s Memory = ⊤
 
@@ -52,7 +52,7 @@ IsRefusalOf s Memory = ⊤
 
 -- numbers of a relation that are small, and whose difference in each case has a calm frame, where
 -- the question is calm
-pub record IsCalmRelation (s : Strata) (numbers : List ℤ) : Type 0 where
+pub record IsCalmRelation (s : StrataQuestion) (numbers : List ℤ) : Type 0 where
   pub small : IsCalmAsked s → AllByRecursion (λ z. unsigned_abs z ≤ 1048576) numbers
   pub frames : IsCalmAsked s
       → AllByRecursion
@@ -68,7 +68,7 @@ HasSpotLine cs at terms lower = (line : List ℤ)
     × ((scale : ℤ) × IsSpotLine cs at terms lower line scale)
 
 -- a new spot has a line, with which the frame of all lines is calm, where the question is calm
-pub record IsCalmSpot (s : Strata) (terms : List Polynomial) (at : List Fraction)
+pub record IsCalmSpot (s : StrataQuestion) (terms : List Polynomial) (at : List Fraction)
     (lines : List (List ℤ)) : Type 0 where
   pub made : IsCalmAsked s → HasSpotLine s.columns.now at terms s.lower.now
   pub frame : IsCalmAsked s → (line : List ℤ) (scale : ℤ)

@@ -20,10 +20,10 @@ with_multiples total (n ∷ ns) (p ∷ ps) = with_multiple total n p >>= λ next
     ps
 
 -- the sum of the values of polynomials times numbers
-abbrev pub weighted : (Polynomial → ℤ) → List ℤ → List Polynomial → ℤ
-weighted value [] ps = pos 0
-weighted value (n ∷ ns) [] = pos 0
-weighted value (n ∷ ns) (p ∷ ps) = value p *ℤ n +ℤ weighted value ns ps
+abbrev pub weighted_value : (Polynomial → ℤ) → List ℤ → List Polynomial → ℤ
+weighted_value value [] ps = pos 0
+weighted_value value (n ∷ ns) [] = pos 0
+weighted_value value (n ∷ ns) (p ∷ ps) = value p *ℤ n +ℤ weighted_value value ns ps
 
 -- the difference of a relation in a case with these terms, or minus the difference
 pub record IsDifferenceOf (terms lower : List Polynomial) (numbers : List ℤ) (up : Bool)

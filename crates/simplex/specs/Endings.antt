@@ -10,15 +10,15 @@ use Rattle.simplex.specs.Exchange.{line_without}
 use Rattle.simplex.specs.Rows.{kinds_of}
 use Rattle.simplex.specs.Search.{IsMet, FoundAt}
 use Rattle.simplex.specs.Suprema.{with_goal, frame_over}
-use Rattle.simplex.specs.declared.search.Found.{Found}
+use Rattle.simplex.specs.declared.search.SearchEnd.{SearchEnd}
 use Rattle.simplex.specs.declared.tableau.Tableau.{Tableau}
 
 -- a line cleared at the columns that lines choose, one after another; the first of them has this
 -- place
-abbrev pub cleared : List (List ℤ) → List ℕ → ℕ → List ℤ → Result (List ℤ) Step.Wide
-cleared [] chosen place line = Ok line
-cleared (pivot ∷ pivots) chosen place line = line_without (get_or chosen place 0) pivot line
-    >>= λ made. cleared pivots chosen (place + 1) made
+abbrev pub cleared_line : List (List ℤ) → List ℕ → ℕ → List ℤ → Result (List ℤ) Step.Wide
+cleared_line [] chosen place line = Ok line
+cleared_line (pivot ∷ pivots) chosen place line = line_without (get_or chosen place 0) pivot line
+    >>= λ made. cleared_line pivots chosen (place + 1) made
 
 -- a list without its last element
 pub record IsFront (lines front : List (List ℤ)) : Type 0 where
@@ -43,7 +43,7 @@ pub record IsLeftAt (cs : List (List Col)) (rows : List Row) (enters : List Bool
   pub stands : StandsAt cs rows enters t
 
 -- what a search over the frame of the rows and the objective came to
-abbrev pub FoundFor : List (List Col) → List Row → Polynomial → ℕ → List Bool → Tableau → Found
+abbrev pub FoundFor : List (List Col) → List Row → Polynomial → ℕ → List Bool → Tableau → SearchEnd
     → Type 0
 FoundFor cs rows p budget enters t found = FoundAt (frame_over cs rows p) (length cs)
     (kinds_of (with_goal rows p)) budget enters t found

@@ -6,12 +6,12 @@ use Rattle.whole_numbers.specs.Fits.{sum_of, product_of}
 use Rattle.whole_numbers.specs.Divisors.{gcd_of_all}
 use Rattle.whole_numbers.specs.declared.wide.Wide as Step
 use Rattle.simplex.specs.Frames.{IsWholeTableau}
-use Rattle.simplex.specs.declared.stop.Stop.{Stop}
-use Rattle.simplex.specs.declared.stop.Stop.TheVariants.{Wide, Memory}
+use Rattle.simplex.specs.declared.stop.SearchStop.{SearchStop}
+use Rattle.simplex.specs.declared.stop.SearchStop.TheVariants.{Wide, Memory}
 use Rattle.simplex.specs.declared.tableau.Tableau.{Tableau}
 
 -- what a stop tells: want of memory tells nothing
-abbrev pub cause : Stop → Option Step.Wide
+abbrev pub cause : SearchStop → Option Step.Wide
 cause (Wide step) = Some step
 cause Memory = None
 
@@ -38,8 +38,8 @@ line_multiple (a ∷ more) by = product_of a by >>= λ z. line_multiple more by
     >>= λ made. Ok (z ∷ made)
 
 -- the numbers divided by their greatest common divisor
-abbrev pub reduced : List ℤ → List ℤ
-reduced line = if nat_eq (gcd_of_all line) 0 then line
+abbrev pub reduced_line : List ℤ → List ℤ
+reduced_line line = if nat_eq (gcd_of_all line) 0 then line
     else map (λ z. int_div z (pos (gcd_of_all line))) line
 
 -- the line with its signs turned where it is negative at the column
@@ -52,7 +52,7 @@ abbrev pub line_without : ℕ → List ℤ → List ℤ → Result (List ℤ) St
 line_without column pivot line =
     if int_eq (entry line column) (pos 0) then Ok line
     else (product_of (entry line column) (negsuc 0) >>= λ q. sum_of_lines (entry pivot column) line
-    q pivot >>= λ made. Ok (reduced made))
+    q pivot >>= λ made. Ok (reduced_line made))
 
 -- ---- all lines
 
@@ -107,7 +107,7 @@ abbrev pub ArePrimitive : Tableau → Type 0
 ArePrimitive t = (i : ℕ) → i < length t.lines → gcd_of_all (get_or t.lines i []) ≡ 1
 
 -- what is made is a tableau of each frame of which the first one is
-abbrev pub KeepsFrames : ℕ → Tableau → Result Tableau Stop → Type 0
+abbrev pub KeepsFrames : ℕ → Tableau → Result Tableau SearchStop → Type 0
 KeepsFrames columns before after = (units : ℕ) (frame : ℕ → ℕ → ℤ)
     → columns ≡ units + length before.lines → IsTableauOf units frame before
     → IfOk after (λ t. IsTableauOf units frame t)

@@ -54,5 +54,5 @@ is_chosen zero chosen j = false
 is_chosen (suc n) chosen j = nat_eq (chosen n) j || is_chosen n chosen j
 
 -- a line as the lexicographic order sees it: the constants' column counts with the other sign
-abbrev pub seen : ℕ → (ℕ → ℤ) → ℕ → ℤ
-seen constants w j = if nat_eq j constants then neg_ℤ (w j) else w j
+abbrev pub lexical_view : ℕ → (ℕ → ℤ) → ℕ → ℤ
+lexical_view constants w j = if nat_eq j constants then neg_ℤ (w j) else w j

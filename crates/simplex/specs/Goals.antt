@@ -20,8 +20,8 @@ use Rattle.simplex.specs.declared.goals.Bounds.{Bounds}
 use Rattle.simplex.specs.declared.goals.Progress.{Progress}
 use Rattle.simplex.specs.declared.goals.Progress.TheVariants as progress
 use Rattle.simplex.specs.declared.goals.Reach.{Reach}
-use Rattle.simplex.specs.declared.stop.Stop.{Stop}
-use Rattle.simplex.specs.declared.stop.Stop.TheVariants.{Wide, Memory}
+use Rattle.simplex.specs.declared.stop.SearchStop.{SearchStop}
+use Rattle.simplex.specs.declared.stop.SearchStop.TheVariants.{Wide, Memory}
 use Rattle.simplex.specs.declared.supremum.Supremum.{Supremum}
 use Rattle.simplex.specs.declared.supremum.Supremum.TheVariants as supremum
 
@@ -120,7 +120,7 @@ bound_answer bounds = of_reach bounds.reach
     of_reach (Some r) = answer.Bound r.at bounds.certs r.case r.point
 
 -- a step that leaves 128 bits, in a question that is not calm
-abbrev pub IsRefusalAmong : List Goal → Stop → Type 0
+abbrev pub IsRefusalAmong : List Goal → SearchStop → Type 0
 IsRefusalAmong goals (Wide step) = LeavesBits step × (IsCalm (Sup goals) → ⊥)
 IsRefusalAmong goals Memory = ⊤
 

@@ -3,7 +3,7 @@ use Rattle.std.specs.Prelude.{◌≡◌, ℕ, ◌+◌, ◌<◌, ℤ, pos, ◌≤
 use Rattle.std.specs.List.{list_any, IsDistinct}
 use Rattle.simplex.specs.Choices.{rank}
 use Rattle.farkas_check.specs.Frames.{choose}
-use Rattle.simplex.specs.Frames.{IsWholeTableau, is_chosen, seen, IsLexPositive}
+use Rattle.simplex.specs.Frames.{IsWholeTableau, is_chosen, lexical_view, IsLexPositive}
 use Rattle.simplex.specs.Exchange.{numbers_of, choices_of, exchange, IsTableauOf, ArePrimitive}
 use Rattle.simplex.specs.Raise.{Framed, enters_at, leaves_at, Improves, IsBest, IsOpen, IsLeast, NoneLeaves}
 use Rattle.simplex.specs.declared.tableau.Tableau.{Tableau}
@@ -31,7 +31,7 @@ pub record HasRun (lines units columns constants goal : ℕ) (sign : ℤ) (frame
       then choice → choice goal ≡ chosen goal → ((k : ℕ) → k < lines → choice k < columns)
       → list_any (nat_eq (rank columns lines (is_chosen lines choice))) ranks ≡ true
       → IsLexPositive
-      (seen constants
+      (lexical_view constants
       (lead (with_sign sign (numbers goal)) (numbers goal (chosen goal))
       (with_sign sign (then goal)) (then goal (choice goal)))) keys
 
@@ -39,7 +39,7 @@ pub record HasRun (lines units columns constants goal : ℕ) (sign : ℤ) (frame
 pub record IsRaising (lines units columns constants : ℕ) (frame : ℕ → ℕ → ℤ) (slack : ℕ → Bool)
     (first : ℕ → ℕ) (keys : List ℕ) (numbers : ℕ → ℕ → ℤ) (chosen : ℕ → ℕ) : Type 0 where
   pub tableau : IsWholeTableau lines units columns frame numbers chosen
-  pub ahead : (i : ℕ) → i < lines → slack i ≡ true → IsLexPositive (seen constants (numbers i)) keys
+  pub ahead : (i : ℕ) → i < lines → slack i ≡ true → IsLexPositive (lexical_view constants (numbers i)) keys
   pub stays : (i : ℕ) → i < lines → slack i ≡ false → chosen i ≡ first i
 
 -- where a raise that began with one tableau is now

@@ -6,7 +6,7 @@ use Rattle.std.specs.declared.cmp.Ordering.{Ordering}
 use Rattle.items.specs.Gives.{◌>>=◌}
 use Rattle.whole_numbers.specs.Fits.{product_of}
 use Rattle.whole_numbers.specs.declared.wide.Wide as Step
-use Rattle.simplex.specs.Frames.{seen, IsLexPositive}
+use Rattle.simplex.specs.Frames.{lexical_view, IsLexPositive}
 use Rattle.simplex.specs.Exchange.{numbers_of, choices_of, IsTableauOf}
 use Rattle.farkas_check.specs.Relations.{entry}
 use Rattle.simplex.specs.declared.tableau.Tableau.{Tableau}
@@ -77,7 +77,7 @@ pub record IsLeast (count : ℕ) (enters : List Bool) (constants : ℕ) (keys : 
   pub positive : pos 0 <ℤ numbers_of t line column
   pub least : (i : ℕ) → i < count → leaves_at enters t i ≡ true → pos 0 <ℤ numbers_of t i column
       → IsLexNotNegative
-      (seen constants (behind_of column (get_or t.lines i []) (get_or t.lines line []))) keys
+      (lexical_view constants (behind_of column (get_or t.lines i []) (get_or t.lines line []))) keys
 
 abbrev pub LeavingOf : ℕ → List Bool → ℕ → List ℕ → ℕ → Tableau → Option ℕ → Type 0
 LeavingOf count enters constants keys column t None = NoneLeaves count enters column t
@@ -96,8 +96,8 @@ pub record Begins (over : Framed) (enters : List Bool) (constants : ℕ) (keys :
   pub in_range : constants < length enters
   pub within : AllByRecursion (λ c. c < length enters) keys
   pub ahead : (i : ℕ) → i < length t.lines → leaves_at enters t i ≡ true
-      → IsLexPositive (seen constants (numbers_of t i)) keys
-  pub covers : (w : ℕ → ℤ) → AllByRecursion (λ j. seen constants w j ≡ pos 0) keys → (k : ℕ)
+      → IsLexPositive (lexical_view constants (numbers_of t i)) keys
+  pub covers : (w : ℕ → ℤ) → AllByRecursion (λ j. lexical_view constants w j ≡ pos 0) keys → (k : ℕ)
       → k < length t.lines → leaves_at enters t k ≡ true → w (choices_of t k) ≡ pos 0
 
 -- the column lets the goal grow

@@ -6,15 +6,15 @@ use Rattle.whole_numbers.specs.declared.wide.Wide as Step
 use Rattle.simplex.specs.Calm.{HasSquares, HasSmallLines}
 use Rattle.simplex.specs.Exchange.{IsTableauOf, ArePrimitive}
 use Rattle.simplex.specs.Raise.{Framed}
-use Rattle.simplex.specs.declared.stop.Stop.{Stop}
-use Rattle.simplex.specs.declared.stop.Stop.TheVariants.{Wide, Memory}
+use Rattle.simplex.specs.declared.stop.SearchStop.{SearchStop}
+use Rattle.simplex.specs.declared.stop.SearchStop.TheVariants.{Wide, Memory}
 use Rattle.simplex.specs.declared.tableau.Tableau.{Tableau}
 
 abbrev pub LeavesBits : Step.Wide → Type 0
 LeavesBits step = fits (if step.times then step.left *ℤ step.right else step.left +ℤ step.right)
     ≡ false
 
-abbrev pub IsRefusal : Stop → Type 0
+abbrev pub IsRefusal : SearchStop → Type 0
 IsRefusal (Wide step) = LeavesBits step
 IsRefusal Memory = ⊤
 
@@ -29,6 +29,6 @@ pub record IsOverrun (over : Framed) (count : ℕ) (step : Step.Wide) : Type 0 w
   pub leaves : LeavesBits step
   pub great : (n : ℕ) → HasSquares n → IsSmallFrame n over count → ⊥
 
-abbrev pub IsRefusalIn : Framed → ℕ → Stop → Type 0
+abbrev pub IsRefusalIn : Framed → ℕ → SearchStop → Type 0
 IsRefusalIn over count (Wide step) = IsOverrun over count step
 IsRefusalIn over count Memory = ⊤

@@ -41,16 +41,16 @@ units_from first zero = []
 units_from first (suc n) = units_from first n ++ (first + n) ∷ []
 
 -- the tableau of the rows that chooses the unit columns
-abbrev pub framed : List (List Col) → List Row → Tableau
-framed columns rows = record {
+abbrev pub framed_tableau : List (List Col) → List Row → Tableau
+framed_tableau columns rows = record {
   lines = lines_from columns (length rows) 0 rows;
   chosen = units_from (length columns + 1) (length rows);
 }
 
 -- the frame of the rows is what this tableau says
-abbrev pub framed_by : List (List Col) → List Row → Framed
-framed_by columns rows = record {
+abbrev pub frame_of_rows : List (List Col) → List Row → Framed
+frame_of_rows columns rows = record {
   units = length columns + 1;
   rows = length rows;
-  frame = numbers_of (framed columns rows);
+  frame = numbers_of (framed_tableau columns rows);
 }

@@ -14,8 +14,8 @@ use Rattle.simplex.specs.Rows.{kind_at}
 use Rattle.simplex.specs.declared.tableau.Tableau.{Tableau}
 use Rattle.simplex.specs.declared.search.TurnEnd.{TurnEnd}
 use Rattle.simplex.specs.declared.search.TurnEnd.TheVariants as turn_end
-use Rattle.simplex.specs.declared.search.Found.{Found}
-use Rattle.simplex.specs.declared.search.Found.TheVariants as found
+use Rattle.simplex.specs.declared.search.SearchEnd.{SearchEnd}
+use Rattle.simplex.specs.declared.search.SearchEnd.TheVariants as found
 
 -- the line is 0 at all columns of the question
 abbrev pub IsFlat : ℕ → Tableau → ℕ → Type 0
@@ -146,7 +146,7 @@ pub record IsMet (over : Framed) (constants : ℕ) (kinds : List Kind) (enters :
   pub kept : AreKept over kinds over.rows enters
 
 -- what a search came to
-abbrev pub FoundAt : Framed → ℕ → List Kind → ℕ → List Bool → Tableau → Found → Type 0
+abbrev pub FoundAt : Framed → ℕ → List Kind → ℕ → List Bool → Tableau → SearchEnd → Type 0
 FoundAt over constants kinds budget enters t found.Corner = IsMet over constants kinds enters t
 FoundAt over constants kinds budget enters t (found.Refuted i) = IsRefuted over constants kinds t i
 FoundAt over constants kinds budget enters t found.Pivots =

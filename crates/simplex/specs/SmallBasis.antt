@@ -20,15 +20,15 @@ use Rattle.simplex.specs.Refusal.{LeavesBits}
 use Rattle.simplex.specs.Spots.{AreSpotLines, multiples_from}
 use Rattle.simplex.specs.declared.differences.Bond.{Bond}
 use Rattle.simplex.specs.declared.differences.Bond.TheVariants as bond
-use Rattle.simplex.specs.declared.differences.Half.{Half}
-use Rattle.simplex.specs.declared.differences.Half.TheVariants as half
-use Rattle.simplex.specs.declared.differences.Strata.{Strata}
-use Rattle.simplex.specs.declared.stop.Stop.{Stop}
-use Rattle.simplex.specs.declared.stop.Stop.TheVariants.{Wide, Memory}
+use Rattle.simplex.specs.declared.differences.DifferenceHalf.{DifferenceHalf}
+use Rattle.simplex.specs.declared.differences.DifferenceHalf.TheVariants as half
+use Rattle.simplex.specs.declared.differences.StrataQuestion.{StrataQuestion}
+use Rattle.simplex.specs.declared.stop.SearchStop.{SearchStop}
+use Rattle.simplex.specs.declared.stop.SearchStop.TheVariants.{Wide, Memory}
 use Rattle.simplex.specs.declared.strata.Course.{Course}
 use Rattle.simplex.specs.declared.strata.Course.TheVariants as course
-use Rattle.simplex.specs.declared.strata.Verdict.{Verdict}
-use Rattle.simplex.specs.declared.strata.Verdict.TheVariants as verdict
+use Rattle.simplex.specs.declared.strata.RelationVerdict.{RelationVerdict}
+use Rattle.simplex.specs.declared.strata.RelationVerdict.TheVariants as verdict
 
 -- each number is at most so great in size
 abbrev pub AreAtMost : ℕ → List ℤ → Type 0
@@ -105,42 +105,42 @@ pub record IsSmallWhereCalm (asked : Changes) (a : Answer) : Type 0 where
       → IsSmallFound (stratum_columns asked.cases asked.lower) asked.cases asked.lower a
 
 -- a step that leaves 128 bits, in a question that is not calm
-abbrev pub IsRefusalOver : Changes → Stop → Type 0
+abbrev pub IsRefusalOver : Changes → SearchStop → Type 0
 IsRefusalOver asked (Wide step) = LeavesBits step × (IsCalm (Stratum asked) → ⊥)
 IsRefusalOver asked Memory = ⊤
 
 -- ---- what the steps of the search find, where the question is calm
 
 -- the scale and the multipliers of a certificate are small
-pub record HasSmallMultipliers (s : Strata) (cert : Cert) : Type 0 where
+pub record HasSmallMultipliers (s : StrataQuestion) (cert : Cert) : Type 0 where
   pub scale : IsCalmAsked s → unsigned_abs cert.scale ≤ 1048576
   pub by : IsCalmAsked s → AreAtMost 1048576 cert.by
 
-pub record HasSmallTie (s : Strata) (tie : Tie) : Type 0 where
+pub record HasSmallTie (s : StrataQuestion) (tie : Tie) : Type 0 where
   pub small : IsCalmAsked s → IsSmallTie tie
 
-pub record HasSmallTies (s : Strata) (ties : List Tie) : Type 0 where
+pub record HasSmallTies (s : StrataQuestion) (ties : List Tie) : Type 0 where
   pub small : IsCalmAsked s → AllByRecursion IsSmallTie ties
 
-abbrev pub HasSmallHalf : Strata → Half → Type 0
+abbrev pub HasSmallHalf : StrataQuestion → DifferenceHalf → Type 0
 HasSmallHalf s (half.Tied cert) = HasSmallMultipliers s cert
 HasSmallHalf s (half.Apart at) = ⊤
 HasSmallHalf s half.Pivots = ⊤
 
-abbrev pub HasSmallBond : Strata → Bond → Type 0
+abbrev pub HasSmallBond : StrataQuestion → Bond → Type 0
 HasSmallBond s (bond.Tied tie) = HasSmallTie s tie
 HasSmallBond s (bond.Apart at) = ⊤
 HasSmallBond s bond.Pivots = ⊤
 
-abbrev pub HasSmallVerdict : Strata → Verdict → Type 0
+abbrev pub HasSmallVerdict : StrataQuestion → RelationVerdict → Type 0
 HasSmallVerdict s (verdict.Tied ties) = HasSmallTies s ties
 HasSmallVerdict s (verdict.Apart place at) = ⊤
 HasSmallVerdict s verdict.Pivots = ⊤
 
-pub record IsSmallIn (s : Strata) (a : Answer) : Type 0 where
+pub record IsSmallIn (s : StrataQuestion) (a : Answer) : Type 0 where
   pub small : IsCalmAsked s → IsSmallFound s.columns.now s.cases.now s.lower.now a
 
-abbrev pub HasSmallEnd : Strata → Course → Type 0
+abbrev pub HasSmallEnd : StrataQuestion → Course → Type 0
 HasSmallEnd s (course.On known) = ⊤
 HasSmallEnd s (course.End a) = IsSmallIn s a
 

@@ -69,14 +69,14 @@ pub record IsSpotLine (cs : List (List Col)) (at : List Fraction) (terms lower :
   pub line_is : numerators_over scale values ≡ Ok line
 
 -- the sum of products of numbers at the unknowns
-abbrev pub paired : ℕ → List ℤ → List ℤ → ℤ
-paired count ns line = sum_below count (λ j. entry ns j *ℤ entry line j)
+abbrev pub inner_product : ℕ → List ℤ → List ℤ → ℤ
+inner_product count ns line = sum_below count (λ j. entry ns j *ℤ entry line j)
 
 -- what a relation's numbers make of a spot's line at the point is not 0
 abbrev pub IsApart : List (List Col) → List Polynomial → List Polynomial → ℕ → List ℤ
     → List Fraction → Type 0
 IsApart cs terms lower count numbers at = (line : List ℤ) (scale : ℤ)
-    → IsSpotLine cs at terms lower line scale → paired count numbers line ≡ pos 0 → ⊥
+    → IsSpotLine cs at terms lower line scale → inner_product count numbers line ≡ pos 0 → ⊥
 
 -- the lines of spots, and the numbers by which their values were multiplied
 abbrev pub AreSpotLines : List (List Col) → List Change → List Polynomial → List Spot

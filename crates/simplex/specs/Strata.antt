@@ -27,16 +27,16 @@ use Rattle.simplex.specs.Relations.{HasCounts}
 use Rattle.simplex.specs.SmallBasis.{HasSmallTies}
 use Rattle.simplex.specs.Suprema.{IsSupremumOver}
 use Rattle.simplex.specs.Ties.{IsHonestHalf, IsHonestTie, AreTies}
-use Rattle.simplex.specs.declared.differences.Strata.{Strata}
-use Rattle.simplex.specs.declared.differences.Half.{Half}
-use Rattle.simplex.specs.declared.differences.Half.TheVariants as half
+use Rattle.simplex.specs.declared.differences.StrataQuestion.{StrataQuestion}
+use Rattle.simplex.specs.declared.differences.DifferenceHalf.{DifferenceHalf}
+use Rattle.simplex.specs.declared.differences.DifferenceHalf.TheVariants as half
 use Rattle.simplex.specs.declared.differences.Bond.{Bond}
 use Rattle.simplex.specs.declared.differences.Bond.TheVariants as bond
-use Rattle.simplex.specs.declared.strata.Verdict.{Verdict}
-use Rattle.simplex.specs.declared.strata.Verdict.TheVariants as verdict
+use Rattle.simplex.specs.declared.strata.RelationVerdict.{RelationVerdict}
+use Rattle.simplex.specs.declared.strata.RelationVerdict.TheVariants as verdict
 use Rattle.simplex.specs.declared.strata.Course.{Course}
 use Rattle.simplex.specs.declared.strata.Course.TheVariants as course
-use Rattle.simplex.specs.declared.strata.Known.{Known}
+use Rattle.simplex.specs.declared.strata.KnownRelations.{KnownRelations}
 use Rattle.simplex.specs.Spots.{sums_of, AreSpots, AreSpotLines, AreRelations, IsApart}
 use Rattle.simplex.specs.declared.supremum.Supremum.TheVariants as supremum
 
@@ -59,7 +59,7 @@ pub record HasEndlessCase (cs : List (List Col)) (budget : ℕ) (cases : List Ch
 -- ---- what the search knows
 
 -- the question's own columns, terms and unknowns
-pub record IsAsked (s : Strata) : Type 0 where
+pub record IsAsked (s : StrataQuestion) : Type 0 where
   pub columns : s.columns.now ≡ stratum_columns s.cases.now s.lower.now
   pub few_columns : length s.columns.now < 2 ^ 64
   pub canonical : IsCanonicalStratum s.cases.now s.lower.now
@@ -67,13 +67,13 @@ pub record IsAsked (s : Strata) : Type 0 where
   pub terms : s.terms ≡ term_count s.cases.now
 
 -- one of the cases
-pub record IsCaseOf (s : Strata) (case : Change) : Type 0 where
+pub record IsCaseOf (s : StrataQuestion) (case : Change) : Type 0 where
   pub place : ℕ
   pub is : slice_get s.cases.now place ≡ Some case
 
 -- a relation with a number for each term and each lower term, and with a tie for each case, small
 -- where the question is calm
-pub record IsTiedRelation (s : Strata) (relation : Relation) : Type 0 where
+pub record IsTiedRelation (s : StrataQuestion) (relation : Relation) : Type 0 where
   pub counts : HasCounts s.terms (length s.lower.now) relation
   pub ties : AreTies s.columns.now s.lower.now (numbers_of relation) s.cases.now
       (length s.cases.now) relation.ties
@@ -82,7 +82,7 @@ pub record IsTiedRelation (s : Strata) (relation : Relation) : Type 0 where
 -- Spots that are points of their cases, and relations that are tied in each case. Where no spot
 -- came since the unknowns began to have their turns, the relations are those of all unknowns before
 -- the next.
-pub record AreKnown (s : Strata) (known : Known) : Type 0 where
+pub record AreKnown (s : StrataQuestion) (known : KnownRelations) : Type 0 where
   pub spots : AreSpots s.count known.spots
   pub points : AllByRecursion (IsSpotAt s.columns.now s.cases.now) known.spots.spots
   pub lines : AreSpotLines s.columns.now s.cases.now s.lower.now known.spots.spots known.spots.lines
@@ -96,7 +96,7 @@ pub record AreKnown (s : Strata) (known : Known) : Type 0 where
 -- A bound on the turns that are left: one for each unknown that has not had its turn, for each spot
 -- that may still come, and for the end, and as many turns anew as there may be spots more than at
 -- the start.
-abbrev pub turns_left : ℕ → Known → ℕ
+abbrev pub turns_left : ℕ → KnownRelations → ℕ
 turns_left count known =
     (count - known.next) + (count - length
     known.spots.lines) + 1 + (count - known.start) * (count + 1)
@@ -112,29 +112,29 @@ pub record IsFurther (cs : List (List Col)) (p : Polynomial)
       ⊎ ((sums_of point ray ≡ Ok at) × (value.num ≡ pos 0))
 
 -- a point of a case at which the difference of a relation is not 0
-pub record IsApartIn (s : Strata) (numbers : List ℤ) (case : Change)
+pub record IsApartIn (s : StrataQuestion) (numbers : List ℤ) (case : Change)
     (at : List Fraction) : Type 0 where
   pub point : IsPointOf s.columns.now case.rows at
   pub apart : IsApart s.columns.now case.terms s.lower.now (length numbers) numbers at
 
 -- such a point of the case at a place
-pub record IsApartAt (s : Strata) (numbers : List ℤ) (place : ℕ) (at : List Fraction) : Type 0 where
+pub record IsApartAt (s : StrataQuestion) (numbers : List ℤ) (place : ℕ) (at : List Fraction) : Type 0 where
   pub case : Change
   pub is : slice_get s.cases.now place ≡ Some case
   pub point : IsApartIn s numbers case at
 
-abbrev pub HalfAt : Strata → List ℤ → Change → Bool → Half → Type 0
+abbrev pub HalfAt : StrataQuestion → List ℤ → Change → Bool → DifferenceHalf → Type 0
 HalfAt s numbers case up (half.Tied cert) = IsHonestHalf s.columns.now s.lower.now numbers case up
     cert
 HalfAt s numbers case up (half.Apart at) = IsApartIn s numbers case at
 HalfAt s numbers case up half.Pivots = HasNoEnd s.columns.now s.budget case.rows
 
-abbrev pub BondAt : Strata → List ℤ → Change → Bond → Type 0
+abbrev pub BondAt : StrataQuestion → List ℤ → Change → Bond → Type 0
 BondAt s numbers case (bond.Tied tie) = IsHonestTie s.columns.now s.lower.now numbers case tie
 BondAt s numbers case (bond.Apart at) = IsApartIn s numbers case at
 BondAt s numbers case bond.Pivots = HasNoEnd s.columns.now s.budget case.rows
 
-abbrev pub VerdictAt : Strata → List ℤ → Verdict → Type 0
+abbrev pub VerdictAt : StrataQuestion → List ℤ → RelationVerdict → Type 0
 VerdictAt s numbers (verdict.Tied ties) = AreTies s.columns.now s.lower.now numbers s.cases.now
     (length s.cases.now) ties
 VerdictAt s numbers (verdict.Apart place at) = IsApartAt s numbers place at
@@ -173,10 +173,10 @@ IsFoundOver cs budget cases lower (answer.No point) = ⊥
 IsFoundOver cs budget cases lower (answer.Bound at certs case point) = ⊥
 IsFoundOver cs budget cases lower (answer.Unbounded case point ray) = ⊥
 
-abbrev pub IsFoundIn : Strata → Answer → Type 0
+abbrev pub IsFoundIn : StrataQuestion → Answer → Type 0
 IsFoundIn s a = IsFoundOver s.columns.now s.budget s.cases.now s.lower.now a
 
-abbrev pub CourseAt : Strata → Known → Course → Type 0
+abbrev pub CourseAt : StrataQuestion → KnownRelations → Course → Type 0
 CourseAt s before (course.On known) = AreKnown s known
     × (turns_left s.count known < turns_left s.count before)
 CourseAt s before (course.End a) = IsFoundIn s a

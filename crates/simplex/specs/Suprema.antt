@@ -16,7 +16,7 @@ use Rattle.farkas_check.specs.Tested.{goal_columns}
 use Rattle.farkas_check.specs.declared.question.Goal.{Goal}
 use Rattle.simplex.specs.Exchange.{numbers_of, choices_of, line_multiple}
 use Rattle.simplex.specs.Raise.{Framed, sign_of, enters_at, NoneLeaves, IsBest}
-use Rattle.simplex.specs.Rows.{kinds_of, framed}
+use Rattle.simplex.specs.Rows.{kinds_of, framed_tableau}
 use Rattle.simplex.specs.Search.{IsFlat, IsMet, IsRefuted, IsCornerOf}
 use Rattle.simplex.specs.declared.supremum.Supremum.{Supremum}
 use Rattle.simplex.specs.declared.supremum.Supremum.TheVariants as supremum
@@ -33,7 +33,7 @@ abbrev pub frame_over : List (List Col) → List Row → Polynomial → Framed
 frame_over cs rows p = record {
   units = length cs + 1;
   rows = length rows;
-  frame = numbers_of (framed cs (with_goal rows p));
+  frame = numbers_of (framed_tableau cs (with_goal rows p));
 }
 
 abbrev pub goal_frame : Goal → Framed

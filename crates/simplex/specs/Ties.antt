@@ -3,7 +3,7 @@ use Rattle.std.specs.Prelude.{◌≡◌, ℤ, List, Bool, true, false, Ok, lengt
 use Rattle.linear_terms.specs.declared.col.Col.{Col}
 use Rattle.linear_terms.specs.Polynomial.{Polynomial}
 use Rattle.farkas_check.specs.Relations.{sides, difference_form}
-use Rattle.farkas_check.specs.Stratum.{scaled_up, scaled_down, tested_half, tested_tie}
+use Rattle.farkas_check.specs.Stratum.{scale_times, minus_scale_times, tested_half, tested_tie}
 use Rattle.farkas_check.specs.declared.answer.Cert.{Cert}
 use Rattle.farkas_check.specs.declared.stratum.Change.{Change}
 use Rattle.farkas_check.specs.declared.stratum.Tie.{Tie}
@@ -11,10 +11,10 @@ use Rattle.farkas_check.specs.declared.stratum.Tie.{Tie}
 -- no part of the test of one half of a tie is false
 abbrev pub IsHonestHalf : List (List Col) → List Polynomial → List ℤ → Change → Bool → Cert → Type 0
 IsHonestHalf cs lower numbers case true cert = (b : Bool)
-    → tested_half scaled_up cs case.rows (difference_form numbers (sides case.terms lower) cs)
+    → tested_half scale_times cs case.rows (difference_form numbers (sides case.terms lower) cs)
     cert.scale cert.by ≡ Ok b → b ≡ true
 IsHonestHalf cs lower numbers case false cert = (b : Bool)
-    → tested_half scaled_down cs case.rows (difference_form numbers (sides case.terms lower) cs)
+    → tested_half minus_scale_times cs case.rows (difference_form numbers (sides case.terms lower) cs)
     cert.scale cert.by ≡ Ok b → b ≡ true
 
 -- no part of the test of a tie is false

@@ -14,13 +14,13 @@ use Rattle.simplex.specs.declared.supremum.Supremum.{Supremum}
 use Rattle.simplex.specs.declared.supremum.Supremum.TheVariants as supremum
 
 -- numbers at a case's own columns, at wider ones: those of the own columns, and else 0
-abbrev pub widened : List (List Col) → List (List Col) → List Fraction → List Fraction
-widened own [] numbers = []
-widened [] (c ∷ cs) numbers = whole (pos 0) ∷ widened [] cs numbers
-widened (d ∷ ds) (c ∷ cs) [] = whole (pos 0) ∷ widened (d ∷ ds) cs []
-widened (d ∷ ds) (c ∷ cs) (n ∷ ns) =
-    if eq_by_cmp mono_cmp d c then n ∷ widened ds cs ns
-    else whole (pos 0) ∷ widened (d ∷ ds) cs (n ∷ ns)
+abbrev pub widened_numbers : List (List Col) → List (List Col) → List Fraction → List Fraction
+widened_numbers own [] numbers = []
+widened_numbers [] (c ∷ cs) numbers = whole (pos 0) ∷ widened_numbers [] cs numbers
+widened_numbers (d ∷ ds) (c ∷ cs) [] = whole (pos 0) ∷ widened_numbers (d ∷ ds) cs []
+widened_numbers (d ∷ ds) (c ∷ cs) (n ∷ ns) =
+    if eq_by_cmp mono_cmp d c then n ∷ widened_numbers ds cs ns
+    else whole (pos 0) ∷ widened_numbers (d ∷ ds) cs (n ∷ ns)
 
 -- the ray along one monomial
 abbrev pub number_along : List Col → Bool → List Col → Fraction
@@ -34,9 +34,9 @@ abbrev pub widened_supremum : List (List Col) → List (List Col) → Supremum �
 widened_supremum own cs supremum.Empty = supremum.Empty
 widened_supremum own cs supremum.Pivots = supremum.Pivots
 widened_supremum own cs (supremum.Bound cert point) =
-    supremum.Bound cert (widened own cs point)
+    supremum.Bound cert (widened_numbers own cs point)
 widened_supremum own cs (supremum.Unbounded point ray) =
-    supremum.Unbounded (widened own cs point) (widened own cs ray)
+    supremum.Unbounded (widened_numbers own cs point) (widened_numbers own cs ray)
 
 -- a monomial of the terms that is none of the columns, and the sign of its coefficient
 pub record IsBesides (own : List (List Col)) (terms : Terms) (mono : List Col)

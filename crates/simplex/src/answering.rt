@@ -13,15 +13,15 @@ ghost use Rattle.simplex.specs.Exchange.{cause};
 ghost use Rattle.simplex.specs.Raise.{Framed};
 ghost use Rattle.simplex.specs.Refusal.{IsRefusal, IsRefusalIn};
 ghost use Rattle.simplex.specs.Search.{FoundAt, IsSolving};
-ghost use Rattle.simplex.specs.declared.stop.Stop.TheVariants as stop;
+ghost use Rattle.simplex.specs.declared.stop.SearchStop.TheVariants as stop;
 
 use crate::corner::corner;
-use crate::frame::{framed, kinds_of};
+use crate::frame::{framed_tableau, kinds_of};
 use crate::gauss::Stage;
-use crate::search::{Found, searched};
+use crate::search::{SearchEnd, corner_search};
 use crate::shortness::is_short_rows_answer;
 use crate::tableau::upright_line;
-use crate::{Stop, Tableau};
+use crate::{SearchStop, Tableau};
 use farkas_check::{
     Answer, Limit, canonical_rows, case_columns, positivity, rows_outcome, truth_of_passing,
 };
@@ -50,9 +50,9 @@ fn answer_of_rows(alloc: Global, rows: &[Row]) -> Result<Answer, AllocError>
 {
     canonical_rows(rows);
     match searched_rows(alloc, rows, i128::MAX as u128) {
-        Ok(found) => Ok(checked(rows, found)),
-        Err(Stop::Wide(step)) => Ok(overrun(rows, &step)),
-        Err(Stop::Memory) => Err(AllocError),
+        Ok(found) => Ok(checked_answer(rows, found)),
+        Err(SearchStop::Wide(step)) => Ok(overrun(rows, &step)),
+        Err(SearchStop::Memory) => Err(AllocError),
     }
 }
 
@@ -79,7 +79,7 @@ fn overrun(rows: &[Row], step: &Wide) -> Answer
 
 /// The answer where it passes its test, and else the first step of the test that leaves 128 bits.
 /// Where all numbers are short there is no such step, and the test is left out.
-fn checked(rows: &[Row], found: Answer) -> Answer
+fn checked_answer(rows: &[Row], found: Answer) -> Answer
     requires canonical { AreCanonical rows.now }
     requires found { IsFoundFor (2 ^ 127 - 1) rows.now found }
     ensures { IsRowsAnswer rows.now result }
@@ -95,14 +95,14 @@ fn checked(rows: &[Row], found: Answer) -> Answer
 }
 
 /// The search's answer, before its test.
-fn searched_rows(alloc: Global, rows: &[Row], budget: u128) -> Result<Answer, Stop>
+fn searched_rows(alloc: Global, rows: &[Row], budget: u128) -> Result<Answer, SearchStop>
     ensures found { IfOk result (λ a. IsFoundFor budget rows.now a) }
     ensures refusal { IfErr result (λ stop. IsRefusalFor rows.now stop) }
 {
     let columns = case_columns(alloc, rows, &[])?;
     let kinds = kinds_of(alloc, rows)?;
-    let t = framed(alloc, rows, columns.as_slice())?;
-    answered(
+    let t = framed_tableau(alloc, rows, columns.as_slice())?;
+    search_answer(
         alloc,
         t,
         columns.len(),
@@ -113,14 +113,14 @@ fn searched_rows(alloc: Global, rows: &[Row], budget: u128) -> Result<Answer, St
 }
 
 /// The answer that a search from the frame of the rows comes to.
-fn answered(
+fn search_answer(
     alloc: Global,
     t: Tableau,
     constants: usize,
     kinds: &[Kind],
     count: usize,
     budget: u128,
-) -> Result<Answer, Stop>
+) -> Result<Answer, SearchStop>
     ghost over: { Framed }
     requires solving { IsSolving over constants kinds.now 0 t }
     requires count { count ≡ over.rows }
@@ -129,7 +129,7 @@ fn answered(
     ensures of { IfOk result (λ a. AnswerOf over constants kinds.now budget a) }
     ensures refusal { IfErr result (IsRefusalIn over (length kinds.now)) }
 {
-    let (stage, found) = searched(alloc, t, constants, kinds, count, budget)?;
+    let (stage, found) = corner_search(alloc, t, constants, kinds, count, budget)?;
     answer_at(alloc, &stage, constants, kinds, budget, found)
 }
 
@@ -140,8 +140,8 @@ fn answer_at(
     constants: usize,
     kinds: &[Kind],
     budget: u128,
-    found: Found,
-) -> Result<Answer, Stop>
+    found: SearchEnd,
+) -> Result<Answer, SearchStop>
     ghost over: { Framed }
     requires found { FoundAt over constants kinds.now budget stage.now.enters stage.now.tableau
         found }
@@ -150,17 +150,17 @@ fn answer_at(
 {
     let (_kinds, _budget) = (kinds, budget);
     match found {
-        Found::Corner => Ok(Answer::No(corner(alloc, &stage.tableau, constants)?)),
-        Found::Refuted(line) => {
+        SearchEnd::Corner => Ok(Answer::No(corner(alloc, &stage.tableau, constants)?)),
+        SearchEnd::Refuted(line) => {
             let by = multipliers(alloc, stage.tableau.lines[line].as_slice(), constants)?;
             Ok(Answer::Yes(by))
         }
-        Found::Pivots => Ok(Answer::Limit(Limit::Pivots)),
+        SearchEnd::Pivots => Ok(Answer::Limit(Limit::Pivots)),
     }
 }
 
 /// The line's numbers at the unit columns, turned so that its constant is positive.
-fn multipliers(alloc: Global, line: &[i128], constants: usize) -> Result<Items<i128>, Stop>
+fn multipliers(alloc: Global, line: &[i128], constants: usize) -> Result<Items<i128>, SearchStop>
     requires { constants + 1 ≤ length line.now }
     ensures exact { Gives cause (λ by. by) result (multipliers_of constants line.now) }
     ensures refusal { IfErr result IsRefusal }
@@ -169,7 +169,7 @@ fn multipliers(alloc: Global, line: &[i128], constants: usize) -> Result<Items<i
     unit_numbers(alloc, line, constants)
 }
 
-fn unit_numbers(alloc: Global, line: &[i128], constants: usize) -> Result<Items<i128>, Stop>
+fn unit_numbers(alloc: Global, line: &[i128], constants: usize) -> Result<Items<i128>, SearchStop>
     requires { constants + 1 ≤ length line.now }
     ensures exact { Gives cause (λ by. by) result (multipliers_of constants line.now) }
     ensures refusal { IfErr result IsRefusal }

@@ -8,14 +8,18 @@ ghost use Rattle.simplex.specs.Suprema.{SlopeAt, IsRayOf, chosen_slope};
 ghost use Rattle.simplex.specs.Search.{CornerAt, IsCornerOf, IsLineChoosing, chosen_number};
 
 use crate::steps::step_product;
-use crate::{Stop, Tableau};
+use crate::{SearchStop, Tableau};
 use farkas_check::Ratio;
 use items::Items;
 use std::alloc::Global;
 use whole_numbers::Wide;
 
 /// The corner of a tableau: a number for each column of the question.
-pub(crate) fn corner(alloc: Global, t: &Tableau, constants: usize) -> Result<Items<Ratio>, Stop>
+pub(crate) fn corner(
+    alloc: Global,
+    t: &Tableau,
+    constants: usize,
+) -> Result<Items<Ratio>, SearchStop>
     ghost over: { Framed }
     requires tableau { IsTableauOf over.units over.frame t.now }
     requires units { constants < over.units }
@@ -89,7 +93,7 @@ pub(crate) fn ray(
     constants: usize,
     column: usize,
     up: bool,
-) -> Result<Items<Ratio>, Stop>
+) -> Result<Items<Ratio>, SearchStop>
     ghost over: { Framed }
     requires tableau { IsTableauOf over.units over.frame t.now }
     requires units { constants ≤ over.units }

@@ -16,14 +16,14 @@ ghost use Rattle.simplex.specs.Spots.{IsApart, sums_of};
 ghost use Rattle.simplex.specs.Strata.{IsAsked, IsCaseOf, IsFurther, HalfAt, BondAt};
 ghost use Rattle.simplex.specs.Suprema.{IsSupremumOver};
 ghost use Rattle.simplex.specs.Ties.{IsHonestHalf};
-ghost use Rattle.simplex.specs.declared.differences.Strata.{Strata};
+ghost use Rattle.simplex.specs.declared.differences.StrataQuestion.{StrataQuestion};
 
 use crate::next_supremum::supremum_from;
 use crate::spots::entry;
 use crate::supremum::Supremum;
 use crate::tableau::line_multiple;
 use crate::values::{sums_of, value_at};
-use crate::{Endings, Stop};
+use crate::{Endings, SearchStop};
 use farkas_check::{Cert, Change, Ratio, Tie};
 use items::Items;
 use linear_terms::{Mono, Poly, add, scale};
@@ -32,7 +32,7 @@ use std::alloc::Global;
 /// A stratum question, its columns, how many terms a case has and how many unknowns there are, and
 /// how many turns a raise may take.
 #[derive(Clone, Copy)]
-pub(crate) struct Strata<'a> {
+pub(crate) struct StrataQuestion<'a> {
     pub(crate) cases: &'a [Change],
     pub(crate) lower: &'a [Poly],
     pub(crate) columns: &'a [Mono],
@@ -44,7 +44,7 @@ pub(crate) struct Strata<'a> {
 /// What the question how great a relation's difference gets in a case comes to, or how great minus
 /// the difference.
 #[derive(Drop)]
-pub(crate) enum Half {
+pub(crate) enum DifferenceHalf {
     /// It gets no greater than 0.
     Tied(Cert),
     /// It is not 0 at this point of the case.
@@ -69,7 +69,7 @@ fn sign_of(up: bool) -> i128
 }
 
 /// A polynomial with a multiple of another one.
-fn with_multiple(alloc: Global, total: &Poly, number: i128, poly: &Poly) -> Result<Poly, Stop>
+fn with_multiple(alloc: Global, total: &Poly, number: i128, poly: &Poly) -> Result<Poly, SearchStop>
     ensures exact { IfOk result (λ p. with_multiple total.now number poly.now ≡ Ok p) }
     ensures refusal { IfErr result IsRefusal }
     ensures calm { (p : Polynomial) → with_multiple total.now number poly.now ≡ Ok p
@@ -85,7 +85,7 @@ fn with_multiples(
     first: Poly,
     numbers: &[i128],
     polys: &[Poly],
-) -> Result<Poly, Stop>
+) -> Result<Poly, SearchStop>
     ensures exact { IfOk result (λ p. with_multiples first numbers.now polys.now ≡ Ok p) }
     ensures refusal { IfErr result IsRefusal }
     ensures calm { (p : Polynomial) → with_multiples first numbers.now polys.now ≡ Ok p
@@ -105,7 +105,7 @@ fn with_multiples(
 }
 
 /// A polynomial with a number more.
-fn with_rest(alloc: Global, poly: Poly, number: &i128) -> Result<Poly, Stop>
+fn with_rest(alloc: Global, poly: Poly, number: &i128) -> Result<Poly, SearchStop>
     ensures exact { IfOk result (λ p. sum_of_polys poly (constant_of number.now) ≡ Ok p) }
     ensures refusal { IfErr result IsRefusal }
     ensures calm { (p : Polynomial) → sum_of_polys poly (constant_of number.now) ≡ Ok p
@@ -118,11 +118,11 @@ fn with_rest(alloc: Global, poly: Poly, number: &i128) -> Result<Poly, Stop>
 /// The difference of a relation in a case, or minus the difference.
 fn difference_in(
     alloc: Global,
-    strata: &Strata<'_>,
+    strata: &StrataQuestion<'_>,
     case: &Change,
     numbers: &[i128],
     up: bool,
-) -> Result<Poly, Stop>
+) -> Result<Poly, SearchStop>
     requires asked { IsAsked strata.now }
     requires case { IsCaseOf strata.now case.now }
     requires count { strata.now.count ≡ strata.now.terms + length strata.now.lower.now + 1 }
@@ -150,13 +150,13 @@ fn difference_in(
 /// The same from the numbers of the terms and of the lower terms and 1, each with its sign.
 fn difference_with(
     alloc: Global,
-    strata: &Strata<'_>,
+    strata: &StrataQuestion<'_>,
     case: &Change,
     numbers: &[i128],
     up: bool,
     own: &[i128],
     others: &[i128],
-) -> Result<Poly, Stop>
+) -> Result<Poly, SearchStop>
     requires asked { IsAsked strata.now }
     requires case { IsCaseOf strata.now case.now }
     requires count { strata.now.count ≡ strata.now.terms + length strata.now.lower.now + 1 }
@@ -187,7 +187,7 @@ fn point_apart(
     objective: &Poly,
     point: Items<Ratio>,
     ray: Items<Ratio>,
-) -> Result<Items<Ratio>, Stop>
+) -> Result<Items<Ratio>, SearchStop>
     ensures point { IfOk result (IsFurther columns.now objective.now point ray) }
     ensures refusal { IfErr result IsRefusal }
     ensures calm { (v : Fraction) (zs : List Fraction)
@@ -204,13 +204,13 @@ fn point_apart(
 /// How far the difference of a relation, or minus the difference, gets in a case.
 fn half_of(
     alloc: Global,
-    strata: &Strata<'_>,
+    strata: &StrataQuestion<'_>,
     case: &Change,
     numbers: &[i128],
     up: bool,
     endings: &mut Endings,
     place: usize,
-) -> Result<Half, Stop>
+) -> Result<DifferenceHalf, SearchStop>
     requires asked { IsAsked strata.now }
     requires case { IsCaseOf strata.now case.now }
     requires count { strata.now.count ≡ strata.now.terms + length strata.now.lower.now + 1 }
@@ -222,7 +222,7 @@ fn half_of(
     ensures refusal { IfErr result (IsRefusalOf strata.now) }
 {
     let objective = difference_in(alloc, strata, case, numbers, up)?;
-    let last = endings.taken(place);
+    let last = endings.take(place);
     let (found, ending) = supremum_from(
         alloc,
         strata.columns,
@@ -238,13 +238,13 @@ fn half_of(
 /// The same from the supremum of the difference, or of minus the difference.
 fn half_at(
     alloc: Global,
-    strata: &Strata<'_>,
+    strata: &StrataQuestion<'_>,
     case: &Change,
     numbers: &[i128],
     up: bool,
     objective: &Poly,
     found: Supremum,
-) -> Result<Half, Stop>
+) -> Result<DifferenceHalf, SearchStop>
     requires asked { IsAsked strata.now }
     requires case { IsCaseOf strata.now case.now }
     requires calm { IsCalmRelation strata.now numbers.now }
@@ -258,21 +258,21 @@ fn half_at(
 {
     let (_case, _numbers, _up) = (case, numbers, up);
     match found {
-        Supremum::Empty => Ok(Half::Pivots),
-        Supremum::Pivots => Ok(Half::Pivots),
+        Supremum::Empty => Ok(DifferenceHalf::Pivots),
+        Supremum::Pivots => Ok(DifferenceHalf::Pivots),
         Supremum::Bound(cert, point) => Ok(half_below(cert, point)),
         Supremum::Unbounded(point, ray) => {
             let at = point_apart(alloc, strata.columns, objective, point, ray)?;
-            Ok(Half::Apart(at))
+            Ok(DifferenceHalf::Apart(at))
         }
     }
 }
 
 /// A bound of 0 ties; else the point that reaches the bound is one at which the objective is not 0.
-fn half_below(cert: Cert, point: Items<Ratio>) -> Half
-    ensures small { (strata : Strata) → HasSmallMultipliers strata cert
+fn half_below(cert: Cert, point: Items<Ratio>) -> DifferenceHalf
+    ensures small { (strata : StrataQuestion) → HasSmallMultipliers strata cert
         → HasSmallHalf strata result }
-    ensures half { (strata : Strata) (numbers : List ℤ) (case : Change) (up : Bool)
+    ensures half { (strata : StrataQuestion) (numbers : List ℤ) (case : Change) (up : Bool)
         → IsPointOf strata.columns.now case.rows point
         → ((cert.sum ≡ pos 0 → ⊥)
         → IsApart strata.columns.now case.terms strata.lower.now (length numbers) numbers point)
@@ -280,21 +280,21 @@ fn half_below(cert: Cert, point: Items<Ratio>) -> Half
         → HalfAt strata numbers case up result }
 {
     if cert.sum == 0 {
-        Half::Tied(cert)
+        DifferenceHalf::Tied(cert)
     } else {
-        Half::Apart(point)
+        DifferenceHalf::Apart(point)
     }
 }
 
 /// How a relation stands in a case.
 pub(crate) fn bond_of(
     alloc: Global,
-    strata: &Strata<'_>,
+    strata: &StrataQuestion<'_>,
     case: &Change,
     numbers: &[i128],
     endings: &mut Endings,
     place: usize,
-) -> Result<Bond, Stop>
+) -> Result<Bond, SearchStop>
     requires asked { IsAsked strata.now }
     requires case { IsCaseOf strata.now case.now }
     requires count { strata.now.count ≡ strata.now.terms + length strata.now.lower.now + 1 }
@@ -306,21 +306,21 @@ pub(crate) fn bond_of(
     ensures refusal { IfErr result (IsRefusalOf strata.now) }
 {
     match half_of(alloc, strata, case, numbers, true, endings, place)? {
-        Half::Tied(up) => bond_with(alloc, strata, case, numbers, up, endings, place),
-        Half::Apart(at) => Ok(Bond::Apart(at)),
-        Half::Pivots => Ok(Bond::Pivots),
+        DifferenceHalf::Tied(up) => bond_with(alloc, strata, case, numbers, up, endings, place),
+        DifferenceHalf::Apart(at) => Ok(Bond::Apart(at)),
+        DifferenceHalf::Pivots => Ok(Bond::Pivots),
     }
 }
 
 fn bond_with(
     alloc: Global,
-    strata: &Strata<'_>,
+    strata: &StrataQuestion<'_>,
     case: &Change,
     numbers: &[i128],
     up: Cert,
     endings: &mut Endings,
     place: usize,
-) -> Result<Bond, Stop>
+) -> Result<Bond, SearchStop>
     requires asked { IsAsked strata.now }
     requires case { IsCaseOf strata.now case.now }
     requires count { strata.now.count ≡ strata.now.terms + length strata.now.lower.now + 1 }
@@ -335,9 +335,9 @@ fn bond_with(
     ensures refusal { IfErr result (IsRefusalOf strata.now) }
 {
     match half_of(alloc, strata, case, numbers, false, endings, place)? {
-        Half::Tied(down) => Ok(Bond::Tied(tie_of(up, down))),
-        Half::Apart(at) => Ok(Bond::Apart(at)),
-        Half::Pivots => Ok(Bond::Pivots),
+        DifferenceHalf::Tied(down) => Ok(Bond::Tied(tie_of(up, down))),
+        DifferenceHalf::Apart(at) => Ok(Bond::Apart(at)),
+        DifferenceHalf::Pivots => Ok(Bond::Pivots),
     }
 }
 

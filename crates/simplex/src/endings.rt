@@ -41,7 +41,7 @@ impl Endings {
     }
 
     /// Takes out what is known of the case at a place.
-    pub(crate) fn taken(&mut self, place: usize) -> Option<Ending> {
+    pub(crate) fn take(&mut self, place: usize) -> Option<Ending> {
         if place < self.cases.len() {
             self.cases[place].take()
         } else {

@@ -1,6 +1,6 @@
 ghost use Rattle.std.specs.Prelude.{◌≡◌, ◌++◌, ◌+◌, ◌<◌, ◌^◌, ℕ, [], ◌∷◌, length, map, IfOk};
 ghost use Rattle.linear_terms.specs.Polynomial.{coefficient_in};
-ghost use Rattle.simplex.specs.Rows.{kinds_of, coefficients, units_to, whole_line, lines_from, units_from, framed};
+ghost use Rattle.simplex.specs.Rows.{kinds_of, coefficients, units_to, whole_line, lines_from, units_from, framed_tableau};
 
 use crate::Tableau;
 use items::Items;
@@ -20,9 +20,13 @@ pub(crate) fn kinds_of(alloc: Global, rows: &[Row]) -> Result<Items<Kind>, Alloc
 
 /// The tableau of the rows that chooses the unit columns: a line has the row's numbers at the
 /// columns, its constant, and 1 at the row's own unit column.
-pub(crate) fn framed(alloc: Global, rows: &[Row], columns: &[Mono]) -> Result<Tableau, AllocError>
+pub(crate) fn framed_tableau(
+    alloc: Global,
+    rows: &[Row],
+    columns: &[Mono],
+) -> Result<Tableau, AllocError>
     requires { length columns.now + 1 + length rows.now < 2 ^ 64 }
-    ensures { IfOk result (λ t. t ≡ framed columns.now rows.now) }
+    ensures { IfOk result (λ t. t ≡ framed_tableau columns.now rows.now) }
 {
     let lines = lines_from(alloc, rows, columns)?;
     let chosen = units_from(alloc, columns.len() + 1, rows.len())?;

@@ -5,7 +5,7 @@ ghost use Rattle.simplex.specs.Raise.{Framed};
 ghost use Rattle.simplex.specs.Refusal.{IsRefusalIn};
 ghost use Rattle.simplex.specs.Search.{IsQuestionColumn, IsSolving, EquationAt, EquationsAt, IsFreeing};
 
-use crate::{Stop, Tableau};
+use crate::{SearchStop, Tableau};
 use items::Items;
 use linear_terms::Kind;
 use std::alloc::Global;
@@ -29,7 +29,7 @@ pub(crate) fn equations(
     t: Tableau,
     constants: usize,
     kinds: &[Kind],
-) -> Result<(Tableau, Option<usize>), Stop>
+) -> Result<(Tableau, Option<usize>), SearchStop>
     ghost over: { Framed }
     requires { IsSolving over constants kinds.now 0 t }
     ensures found { IfOk result (λ r. EquationsAt over constants kinds.now r.0 r.1) }
@@ -53,7 +53,7 @@ fn equation(
     constants: usize,
     kinds: &[Kind],
     i: usize,
-) -> Result<(Tableau, bool), Stop>
+) -> Result<(Tableau, bool), SearchStop>
     ghost over: { Framed }
     requires solving { IsSolving over constants kinds.now i t }
     requires here { i < length kinds.now }
@@ -92,7 +92,7 @@ pub(crate) fn inequalities(
     constants: usize,
     kinds: &[Kind],
     count: usize,
-) -> Result<Stage, Stop>
+) -> Result<Stage, SearchStop>
     ghost over: { Framed }
     requires freeing { IsFreeing over constants kinds.now 0 stage.enters stage.tableau }
     requires within { count ≤ length kinds.now }
@@ -112,7 +112,7 @@ fn inequality(
     constants: usize,
     kinds: &[Kind],
     i: usize,
-) -> Result<Stage, Stop>
+) -> Result<Stage, SearchStop>
     ghost over: { Framed }
     requires freeing { IsFreeing over constants kinds.now i stage.enters stage.tableau }
     requires here { i < length kinds.now }

@@ -7,12 +7,12 @@ ghost use Rattle.farkas_check.specs.declared.question.Question.TheVariants as qu
 ghost use Rattle.simplex.specs.Goals.{whole_bound, higher, with_bound, bound_answer, AreBoundsTo, ProgressAt, IsFoundAmong, IsRefusalAmong, IsSupremumAt, IsGoalsAnswer, PivotsAmong};
 ghost use Rattle.simplex.specs.Answers.{IsWide};
 ghost use Rattle.simplex.specs.Refusal.{LeavesBits};
-ghost use Rattle.simplex.specs.declared.stop.Stop.TheVariants as stop;
+ghost use Rattle.simplex.specs.declared.stop.SearchStop.TheVariants as stop;
 
 use crate::answering::limit_of;
 use crate::next_supremum::next_supremum;
 use crate::shortness::is_short_goals_answer;
-use crate::{Endings, Stop, Supremum};
+use crate::{Endings, SearchStop, Supremum};
 use farkas_check::{
     Answer, Cert, Goal, Limit, Ratio, canonical_goals, goals_outcome, positivity, truth_of_passing,
 };
@@ -82,8 +82,8 @@ fn answer_of_goals(
     canonical_goals(goals);
     match searched_goals(alloc, goals, i128::MAX as u128, endings) {
         Ok(found) => Ok(tested_answer(goals, found)),
-        Err(Stop::Wide(step)) => Ok(step_answer(goals, &step)),
-        Err(Stop::Memory) => Err(AllocError),
+        Err(SearchStop::Wide(step)) => Ok(step_answer(goals, &step)),
+        Err(SearchStop::Memory) => Err(AllocError),
     }
 }
 
@@ -120,7 +120,7 @@ fn searched_goals(
     goals: &[Goal],
     budget: u128,
     endings: &mut Endings,
-) -> Result<Answer, Stop>
+) -> Result<Answer, SearchStop>
     ensures found { IfOk result (λ a. IsFoundAmong budget goals.now a) }
     ensures refusal { IfErr result (IsRefusalAmong goals.now) }
 {
@@ -161,7 +161,7 @@ fn next_case(
     bounds: Bounds,
     budget: u128,
     endings: &mut Endings,
-) -> Result<Progress, Stop>
+) -> Result<Progress, SearchStop>
     requires so_far { AreBoundsTo budget goals.now place bounds }
     requires here { place < length goals.now }
     ensures came { IfOk result (λ p. ProgressAt budget goals.now place p) }
@@ -209,12 +209,12 @@ fn case_supremum(
     place: usize,
     budget: u128,
     endings: &mut Endings,
-) -> Result<Supremum, Stop>
+) -> Result<Supremum, SearchStop>
     requires { place < length goals.now }
     ensures supremum { IfOk result (λ found. IsSupremumAt budget goals.now place found) }
     ensures refusal { IfErr result (IsRefusalAmong goals.now) }
 {
-    let last = endings.taken(place);
+    let last = endings.take(place);
     let (found, ending) = next_supremum(alloc, &goals[place], budget, last)?;
     endings.note(place, ending)?;
     Ok(found)

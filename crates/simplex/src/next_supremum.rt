@@ -13,13 +13,13 @@ ghost use Rattle.simplex.specs.Suprema.{frame_over, goal_frame, IsSupremumOver, 
 
 use crate::corner::corner;
 use crate::endings::Ending;
-use crate::frame::{framed, kinds_of};
+use crate::frame::{framed_tableau, kinds_of};
 use crate::gauss::Stage;
-use crate::search::{Found, searched};
+use crate::search::{SearchEnd, corner_search};
 use crate::supremum::{bound_of, point_and_ray, top_of, with_goal};
-use crate::swap::turned;
-use crate::widening::{columns_with, first_besides, unit_ray, widened, widened_supremum};
-use crate::{Stop, Supremum, Top};
+use crate::swap::stage_for_goal;
+use crate::widening::{columns_with, first_besides, unit_ray, widened_numbers, widened_supremum};
+use crate::{SearchStop, Supremum, Top};
 use farkas_check::{Goal, case_columns};
 use items::Items;
 use linear_terms::{Kind, Mono, Poly, Row};
@@ -33,7 +33,7 @@ pub(crate) fn next_supremum(
     goal: &Goal,
     budget: u128,
     last: Option<Ending>,
-) -> Result<(Supremum, Option<Ending>), Stop>
+) -> Result<(Supremum, Option<Ending>), SearchStop>
     ensures supremum { IfOk result (λ r. IsSupremumOf goal.now budget r.0) }
     ensures refusal { IfErr result (IsRefusalIn (goal_frame goal.now) (length goal.now.rows + 1)) }
 {
@@ -62,7 +62,7 @@ pub(crate) fn supremum_from(
     objective: &Poly,
     budget: u128,
     last: Option<Ending>,
-) -> Result<(Supremum, Option<Ending>), Stop>
+) -> Result<(Supremum, Option<Ending>), SearchStop>
     requires { AreColumnsOf columns.now rows.now objective.now }
     ensures supremum { IfOk result
         (λ r. IsSupremumOver columns.now rows.now objective.now budget r.0) }
@@ -120,7 +120,7 @@ fn corner_over(
     if !are_rows(copies.as_slice(), rows) {
         return Ok(None);
     }
-    match turned(alloc, own.as_slice(), copies.as_slice(), stage, objective)? {
+    match stage_for_goal(alloc, own.as_slice(), copies.as_slice(), stage, objective)? {
         Some(next) => Ok(Some((own, copies, next))),
         None => Ok(None),
     }
@@ -140,7 +140,7 @@ fn supremum_anew(
     rows: &[Row],
     objective: &Poly,
     budget: u128,
-) -> Result<(Supremum, Option<Ending>), Stop>
+) -> Result<(Supremum, Option<Ending>), SearchStop>
     requires columns { AreColumnsOf columns.now rows.now objective.now }
     requires own { own ≡ columns_of rows.now [] }
     ensures supremum { IfOk result
@@ -150,9 +150,9 @@ fn supremum_anew(
 {
     let (stage, found) = searched_case(alloc, &own, rows, objective, budget)?;
     match found {
-        Found::Refuted(_line) => Ok((Supremum::Empty, None)),
-        Found::Pivots => Ok((Supremum::Pivots, None)),
-        Found::Corner => {
+        SearchEnd::Refuted(_line) => Ok((Supremum::Empty, None)),
+        SearchEnd::Pivots => Ok((Supremum::Pivots, None)),
+        SearchEnd::Corner => {
             let copies = copies_of(alloc, rows)?;
             supremum_at(alloc, columns, own, copies, stage, rows, objective, budget)
         }
@@ -170,7 +170,7 @@ fn supremum_at(
     rows: &[Row],
     objective: &Poly,
     budget: u128,
-) -> Result<(Supremum, Option<Ending>), Stop>
+) -> Result<(Supremum, Option<Ending>), SearchStop>
     requires columns { AreColumnsOf columns.now rows.now objective.now }
     requires own { own ≡ columns_of rows.now [] }
     requires rows { copies ≡ rows.now }
@@ -182,19 +182,21 @@ fn supremum_at(
 {
     match first_besides(own.as_slice(), objective.terms()) {
         Some((mono, up)) => {
-            let found = opened_along(alloc, columns, &own, &stage, rows, objective, &mono, up)?;
+            let found = ray_supremum(alloc, columns, &own, &stage, rows, objective, &mono, up)?;
             let left = Some(stage);
             Ok((found, ending_of(own, copies, left)))
         }
         None => {
-            let (found, left) = topped_over(alloc, columns, &own, stage, rows, objective, budget)?;
+            let (found, left) = supremum_over(
+                alloc, columns, &own, stage, rows, objective, budget,
+            )?;
             Ok((found, ending_of(own, copies, left)))
         }
     }
 }
 
 /// The corner, and the ray from it along a monomial that no row has.
-fn opened_along(
+fn ray_supremum(
     alloc: Global,
     columns: &[Mono],
     own: &Items<Mono>,
@@ -203,7 +205,7 @@ fn opened_along(
     objective: &Poly,
     mono: &Mono,
     up: bool,
-) -> Result<Supremum, Stop>
+) -> Result<Supremum, SearchStop>
     ghost over: { Framed }
     requires frame { over ≡ frame_over own.now rows.now objective.now }
     requires columns { AreColumnsOf columns.now rows.now objective.now }
@@ -217,13 +219,13 @@ fn opened_along(
 {
     let (_rows, _objective) = (rows, objective);
     let point = corner(alloc, &stage.tableau, own.len())?;
-    let at = widened(alloc, own.as_slice(), columns, point.as_slice())?;
+    let at = widened_numbers(alloc, own.as_slice(), columns, point.as_slice())?;
     let ray = unit_ray(alloc, mono, up, columns)?;
     Ok(Supremum::Unbounded(at, ray))
 }
 
 /// The raise of the objective, whose monomials are all among the rows'.
-fn topped_over(
+fn supremum_over(
     alloc: Global,
     columns: &[Mono],
     own: &Items<Mono>,
@@ -231,7 +233,7 @@ fn topped_over(
     rows: &[Row],
     objective: &Poly,
     budget: u128,
-) -> Result<(Supremum, Option<Stage>), Stop>
+) -> Result<(Supremum, Option<Stage>), SearchStop>
     requires columns { AreColumnsOf columns.now rows.now objective.now }
     requires own { own.now ≡ columns_of rows.now [] }
     requires met { IsMetFor own.now rows.now objective.now stage.enters stage.tableau }
@@ -243,7 +245,7 @@ fn topped_over(
     ensures refusal { IfErr result
         (IsRefusalIn (frame_over columns.now rows.now objective.now) (length rows.now + 1)) }
 {
-    let (found, left) = ended_at(alloc, own, stage, rows, objective, budget)?;
+    let (found, left) = supremum_from_corner(alloc, own, stage, rows, objective, budget)?;
     let wide = widened_supremum(alloc, own.as_slice(), columns, found)?;
     Ok((wide, left))
 }
@@ -265,7 +267,7 @@ fn searched_case(
     rows: &[Row],
     objective: &Poly,
     budget: u128,
-) -> Result<(Stage, Found), Stop>
+) -> Result<(Stage, SearchEnd), SearchStop>
     ensures found { IfOk result
         (λ r. FoundFor columns.now rows.now objective.now budget r.0.enters r.0.tableau
         r.1) }
@@ -275,8 +277,8 @@ fn searched_case(
 {
     let all = with_goal(alloc, rows, objective)?;
     let kinds = kinds_of(alloc, all.as_slice())?;
-    let t = framed(alloc, all.as_slice(), columns.as_slice())?;
-    searched(
+    let t = framed_tableau(alloc, all.as_slice(), columns.as_slice())?;
+    corner_search(
         alloc,
         t,
         columns.len(),
@@ -287,14 +289,14 @@ fn searched_case(
 }
 
 /// Raises the objective from a corner of the rows, and tells where that ends.
-fn ended_at(
+fn supremum_from_corner(
     alloc: Global,
     columns: &Items<Mono>,
     stage: Stage,
     rows: &[Row],
     objective: &Poly,
     budget: u128,
-) -> Result<(Supremum, Option<Stage>), Stop>
+) -> Result<(Supremum, Option<Stage>), SearchStop>
     ghost over: { Framed }
     requires frame { over ≡ frame_over columns.now rows.now objective.now }
     requires met { IsMetFor columns.now rows.now objective.now stage.enters stage.tableau }
@@ -349,7 +351,7 @@ fn topped_stage(
     kinds: &[Kind],
     goal: usize,
     budget: u128,
-) -> Result<(Supremum, Option<Stage>), Stop>
+) -> Result<(Supremum, Option<Stage>), SearchStop>
     ghost over: { Framed }
     requires met { IsMet over constants kinds.now stage.enters stage.tableau }
     requires goal { goal ≡ over.rows }

@@ -8,7 +8,7 @@ ghost use Rattle.simplex.specs.Raise.{EntersFirst, sign_of, enters_at, order_at,
 ghost use Rattle.simplex.specs.History.{RaisedFrom, CameTo, MovedTo, EndsAt};
 
 use crate::steps::step_product;
-use crate::{Stop, Tableau};
+use crate::{SearchStop, Tableau};
 use std::alloc::Global;
 use std::cmp::Ordering;
 use whole_numbers::Wide;
@@ -64,11 +64,11 @@ fn comes_before(
     ensures calm { (n : ℕ) → HasSquares n → IsSmallLine n line.now → IsSmallLine n other.now
         → IfErr result (λ _. ⊥) }
 {
-    compared(constants, column, line, other, keys)
+    comes_before_by_keys(constants, column, line, other, keys)
 }
 
 /// The same by the first key at which they differ.
-fn compared(
+fn comes_before_by_keys(
     constants: usize,
     column: usize,
     line: &[i128],
@@ -120,7 +120,7 @@ pub enum Turn {
 /// Raises the goal of a line, or lowers it, by exchanges of columns that may enter for lines that
 /// may leave, or `until` its constant is not positive. The turns are used up only where there are
 /// as many choices of columns.
-pub(crate) fn raised_to(
+pub(crate) fn raised_goal(
     alloc: Global,
     t: Tableau,
     constants: usize,
@@ -130,7 +130,7 @@ pub(crate) fn raised_to(
     enters: &[bool],
     keys: &[usize],
     budget: u128,
-) -> Result<(Tableau, RaiseEnd), Stop>
+) -> Result<(Tableau, RaiseEnd), SearchStop>
     ghost over: { Framed }
     requires begins { Begins over enters.now constants keys.now goal t }
     requires primitive { ArePrimitive t }
@@ -171,7 +171,7 @@ fn one_turn(
     until: bool,
     enters: &[bool],
     keys: &[usize],
-) -> Result<(Tableau, Turn), Stop>
+) -> Result<(Tableau, Turn), SearchStop>
     ghost over: { Framed }
     requires tableau { IsTableauOf over.units over.frame t }
     requires primitive { ArePrimitive t }
@@ -189,18 +189,18 @@ fn one_turn(
     let Some(column) = entering(t.lines[goal].as_slice(), up, enters) else {
         return Ok((t, Turn::Best));
     };
-    moved(alloc, t, constants, column, enters, keys)
+    exchange_column(alloc, t, constants, column, enters, keys)
 }
 
 /// Exchanges the column for the line that leaves where it enters, if one does.
-fn moved(
+fn exchange_column(
     alloc: Global,
     t: Tableau,
     constants: usize,
     column: usize,
     enters: &[bool],
     keys: &[usize],
-) -> Result<(Tableau, Turn), Stop>
+) -> Result<(Tableau, Turn), SearchStop>
     ghost over: { Framed }
     requires tableau { IsTableauOf over.units over.frame t }
     requires primitive { ArePrimitive t }

@@ -3,13 +3,13 @@ ghost use Rattle.std.specs.List.{AllByRecursion, filter};
 ghost use Rattle.linear_terms.specs.declared.row.Kind.TheVariants.{AtMost};
 ghost use Rattle.simplex.specs.Raise.{Framed, enters_at};
 ghost use Rattle.simplex.specs.Refusal.{IsRefusalIn};
-ghost use Rattle.simplex.specs.Rows.{kind_at, framed_by, kinds_of};
+ghost use Rattle.simplex.specs.Rows.{kind_at, frame_of_rows, kinds_of};
 ghost use Rattle.simplex.specs.Search.{IsPlaced, TurnedAt, IsMet, IsSolving, FoundAt};
 
-use crate::frame::{framed, kinds_of};
+use crate::frame::{framed_tableau, kinds_of};
 use crate::gauss::{Stage, equations, inequalities, with_entry};
-use crate::raise::raised_to;
-use crate::{RaiseEnd, Stop, Tableau};
+use crate::raise::raised_goal;
+use crate::{RaiseEnd, SearchStop, Tableau};
 use items::Items;
 use linear_terms::{Kind, Mono, Row};
 use std::alloc::{AllocError, Global};
@@ -26,7 +26,7 @@ pub enum TurnEnd {
 /// What a search comes to: the tableau's corner makes the rows true, or a line refutes them, or the
 /// turns are used up.
 #[derive(Clone, Copy)]
-pub enum Found {
+pub enum SearchEnd {
     Corner,
     Refuted(usize),
     Pivots,
@@ -61,7 +61,7 @@ fn turn_of(
     kinds: &[Kind],
     i: usize,
     budget: u128,
-) -> Result<(Stage, TurnEnd), Stop>
+) -> Result<(Stage, TurnEnd), SearchStop>
     ghost over: { Framed }
     requires placed { IsPlaced over constants kinds.now stage.enters stage.tableau }
     requires here { i < length kinds.now }
@@ -79,7 +79,7 @@ fn turn_of(
         enters.as_slice(),
         constants,
     )?;
-    let (raised, came) = raised_to(
+    let (raised, came) = raised_goal(
         alloc,
         tableau,
         constants,
@@ -91,10 +91,16 @@ fn turn_of(
         budget,
     )?;
     match came {
-        RaiseEnd::Met => Ok((kept(raised, enters, constants + 1 + i), TurnEnd::Kept)),
+        RaiseEnd::Met => Ok((
+            stage_with_row(raised, enters, constants + 1 + i),
+            TurnEnd::Kept,
+        )),
         RaiseEnd::Open(column) => {
             let next = raised.exchange(alloc, i, column)?;
-            Ok((kept(next, enters, constants + 1 + i), TurnEnd::Kept))
+            Ok((
+                stage_with_row(next, enters, constants + 1 + i),
+                TurnEnd::Kept,
+            ))
         }
         RaiseEnd::Best => Ok((
             Stage {
@@ -114,7 +120,7 @@ fn turn_of(
 }
 
 /// The row's unit column may enter from now on.
-fn kept(tableau: Tableau, enters: Items<bool>, column: usize) -> Stage
+fn stage_with_row(tableau: Tableau, enters: Items<bool>, column: usize) -> Stage
     requires { column < length enters }
     ensures { result ≡ record { tableau = tableau; enters = slice_set enters column true } }
 {
@@ -125,14 +131,14 @@ fn kept(tableau: Tableau, enters: Items<bool>, column: usize) -> Stage
 }
 
 /// The turn of a row, where it is not kept yet.
-fn passed(
+fn turn_of_row(
     alloc: Global,
     stage: Stage,
     constants: usize,
     kinds: &[Kind],
     i: usize,
     budget: u128,
-) -> Result<(Stage, TurnEnd), Stop>
+) -> Result<(Stage, TurnEnd), SearchStop>
     ghost over: { Framed }
     requires placed { IsPlaced over constants kinds.now stage.enters stage.tableau }
     requires here { i < length kinds.now }
@@ -158,7 +164,7 @@ fn turns(
     kinds: &[Kind],
     count: usize,
     budget: u128,
-) -> Result<(Stage, Found), Stop>
+) -> Result<(Stage, SearchEnd), SearchStop>
     ghost over: { Framed }
     requires placed { IsPlaced over constants kinds.now stage.enters stage.tableau }
     requires count { count ≡ over.rows }
@@ -169,26 +175,26 @@ fn turns(
 {
     let mut now = stage;
     for i in 0..count {
-        let (next, came) = passed(alloc, now, constants, kinds, i, budget)?;
+        let (next, came) = turn_of_row(alloc, now, constants, kinds, i, budget)?;
         now = next;
         match came {
             TurnEnd::Kept => {}
-            TurnEnd::Refuted => return Ok((now, Found::Refuted(i))),
-            TurnEnd::Pivots => return Ok((now, Found::Pivots)),
+            TurnEnd::Refuted => return Ok((now, SearchEnd::Refuted(i))),
+            TurnEnd::Pivots => return Ok((now, SearchEnd::Pivots)),
         }
     }
-    Ok((now, Found::Corner))
+    Ok((now, SearchEnd::Corner))
 }
 
 /// Searches for a corner of the rows, or for a line that refutes them.
-pub(crate) fn searched(
+pub(crate) fn corner_search(
     alloc: Global,
     t: Tableau,
     constants: usize,
     kinds: &[Kind],
     count: usize,
     budget: u128,
-) -> Result<(Stage, Found), Stop>
+) -> Result<(Stage, SearchEnd), SearchStop>
     ghost over: { Framed }
     requires solving { IsSolving over constants kinds.now 0 t }
     requires count { count ≡ over.rows }
@@ -202,7 +208,7 @@ pub(crate) fn searched(
     let (tableau, refuted) = equations(alloc, t, constants, kinds)?;
     let stage = Stage { tableau, enters };
     if let Some(i) = refuted {
-        return Ok((stage, Found::Refuted(i)));
+        return Ok((stage, SearchEnd::Refuted(i)));
     }
     let stage = inequalities(alloc, stage, constants, kinds, count)?;
     turns(alloc, stage, constants, kinds, count, budget)

@@ -13,11 +13,11 @@ ghost use Rattle.simplex.specs.Spots.{values_of, AreSideValues, HasMoreLine, Are
 ghost use Rattle.simplex.specs.Spots.{unit_multiple, multiples_from, AreUnitLists, chosen_below};
 
 use crate::corner::{line_choosing, ray};
-use crate::differences::Strata;
+use crate::differences::StrataQuestion;
 use crate::frame::{units_from, with_units};
 use crate::steps::step_product;
 use crate::values::{common_denominator, numerators_over, value_at};
-use crate::{Stop, Tableau};
+use crate::{SearchStop, Tableau};
 use farkas_check::{Ratio, Spot};
 use items::Items;
 use linear_terms::{Mono, Poly};
@@ -56,7 +56,7 @@ fn term_values(
     columns: &[Mono],
     point: &[Ratio],
     terms: &[Poly],
-) -> Result<Items<Ratio>, Stop>
+) -> Result<Items<Ratio>, SearchStop>
     ensures exact { Gives cause (λ made. made) result
         (values_of (ratio_value (ratio_at columns.now point.now)) terms.now) }
     ensures refusal { IfErr result IsRefusal }
@@ -74,7 +74,7 @@ fn lower_values(
     columns: &[Mono],
     point: &[Ratio],
     lower: &[Poly],
-) -> Result<Items<Ratio>, Stop>
+) -> Result<Items<Ratio>, SearchStop>
     ensures exact { Gives cause (λ made. made) result
         (values_of (minus_value (ratio_value (ratio_at columns.now point.now))) lower.now) }
     ensures refusal { IfErr result IsRefusal }
@@ -105,7 +105,7 @@ fn side_values(
     point: &[Ratio],
     terms: &[Poly],
     lower: &[Poly],
-) -> Result<Items<Ratio>, Stop>
+) -> Result<Items<Ratio>, SearchStop>
     ensures values { IfOk result (AreSideValues columns.now point.now terms.now lower.now) }
     ensures refusal { IfErr result IsRefusal }
     ensures calm { (own others : List Fraction)
@@ -183,7 +183,7 @@ fn with_last(
     count: usize,
     lines: &[Items<i128>],
     line: usize,
-) -> Result<Tableau, Stop>
+) -> Result<Tableau, SearchStop>
     ghost units: { ℕ }
     requires units { units ≡ count }
     requires tableau { IsSpotTableau count lines.now t }
@@ -219,7 +219,7 @@ fn spots_framed(alloc: Global, count: usize, lines: &[Items<i128>]) -> Result<Ta
 
 /// The tableau of spots: from the frame of their lines on, each line in order chooses the last
 /// unknown at which it is not 0.
-fn spot_tableau(alloc: Global, count: usize, lines: &[Items<i128>]) -> Result<Tableau, Stop>
+fn spot_tableau(alloc: Global, count: usize, lines: &[Items<i128>]) -> Result<Tableau, SearchStop>
     requires wide { count + length lines.now < 2 ^ 64 }
     requires independent { AreIndependent count lines.now }
     ensures tableau { IfOk result (λ t. IsSpotTableau count lines.now t) }
@@ -254,11 +254,11 @@ pub(crate) fn no_spots(alloc: Global) -> Spots
 /// One more spot, of a case with these terms.
 pub(crate) fn with_spot(
     alloc: Global,
-    strata: &Strata<'_>,
+    strata: &StrataQuestion<'_>,
     known: Spots,
     terms: &[Poly],
     spot: Spot,
-) -> Result<Spots, Stop>
+) -> Result<Spots, SearchStop>
     requires known { AreSpots strata.now.count known }
     requires few { strata.now.count < 2 ^ 61 }
     requires apart { IsNewPoint strata.now.columns.now spot.at terms.now strata.now.lower.now
@@ -277,11 +277,11 @@ pub(crate) fn with_spot(
 /// The line of one more spot, and the number by which its values were multiplied.
 fn spot_line(
     alloc: Global,
-    strata: &Strata<'_>,
+    strata: &StrataQuestion<'_>,
     known: &Spots,
     terms: &[Poly],
     spot: &Spot,
-) -> Result<(Items<i128>, i128), Stop>
+) -> Result<(Items<i128>, i128), SearchStop>
     requires calm { IsCalmSpot strata.now terms.now spot.now.at known.now.lines }
     ensures line { IfOk result
         (λ r. IsSpotLine strata.now.columns.now spot.now.at terms.now strata.now.lower.now r.0
@@ -308,7 +308,7 @@ fn more_spots(
     spot: Spot,
     line: Items<i128>,
     scale: i128,
-) -> Result<Spots, Stop>
+) -> Result<Spots, SearchStop>
     requires known { AreSpots count known }
     requires few { count < 2 ^ 61 }
     requires independent { AreIndependent count (known.lines ++ line ∷ []) }
@@ -344,7 +344,7 @@ pub(crate) fn relation_of(
     count: usize,
     known: &Spots,
     unknown: usize,
-) -> Result<Items<i128>, Stop>
+) -> Result<Items<i128>, SearchStop>
     ghost over: { Framed }
     requires over { over ≡ spots_frame count known.now.lines }
     requires known { AreSpots count known.now }
@@ -367,7 +367,7 @@ fn with_unknown(
     known: &Spots,
     made: Items<Items<i128>>,
     unknown: usize,
-) -> Result<Items<Items<i128>>, Stop>
+) -> Result<Items<Items<i128>>, SearchStop>
     requires known { AreSpots count known.now }
     requires before { AreRelations count known.now.tableau unknown made }
     requires unknown { unknown < count }
@@ -391,7 +391,7 @@ pub(crate) fn relations_of(
     alloc: Global,
     count: usize,
     known: &Spots,
-) -> Result<Items<Items<i128>>, Stop>
+) -> Result<Items<Items<i128>>, SearchStop>
     requires known { AreSpots count known.now }
     ensures relations { IfOk result (λ made. AreRelations count known.now.tableau count made) }
     ensures reduced { IfOk result (λ made. IsTrue (is_reduced made)) }
@@ -412,7 +412,7 @@ fn unit_multiples(
     line: &[i128],
     unknown: usize,
     scales: &[i128],
-) -> Result<Items<Ratio>, Stop>
+) -> Result<Items<Ratio>, SearchStop>
     requires unknown { unknown < length line.now }
     requires wide { count + length scales.now ≤ length line.now }
     requires positive { pos 0 <ℤ entry line.now unknown }
@@ -445,7 +445,7 @@ fn with_unit(
     known: &Spots,
     made: Items<Items<Ratio>>,
     unknown: usize,
-) -> Result<Items<Items<Ratio>>, Stop>
+) -> Result<Items<Items<Ratio>>, SearchStop>
     requires known { AreSpots count known.now }
     requires scales { HasSmallScales count known.now }
     requires before { AreUnitLists count known.now (chosen_below known.now.tableau unknown) made }
@@ -471,7 +471,7 @@ pub(crate) fn unit_lists(
     alloc: Global,
     count: usize,
     known: &Spots,
-) -> Result<Items<Items<Ratio>>, Stop>
+) -> Result<Items<Items<Ratio>>, SearchStop>
     requires known { AreSpots count known.now }
     requires scales { HasSmallScales count known.now }
     ensures lists { IfOk result

@@ -16,14 +16,14 @@ ghost use Rattle.simplex.specs.SmallBasis.{HasFewRows, HasSmallEnd, HasSmallTies
 ghost use Rattle.simplex.specs.Spots.{AreSpots, AreRelations, IsNewPoint, IsRelationOf, IsUnchosen};
 ghost use Rattle.simplex.specs.Strata.{IsAsked, AreKnown, VerdictAt, CourseAt, IsFoundOver, IsFoundIn, PivotsOver, IsStratumAnswer};
 ghost use Rattle.simplex.specs.Ties.{AreTies};
-ghost use Rattle.simplex.specs.declared.stop.Stop.TheVariants as stop;
+ghost use Rattle.simplex.specs.declared.stop.SearchStop.TheVariants as stop;
 
 use crate::answering::limit_of;
 use crate::corner::line_choosing;
-use crate::differences::{Bond, Strata, bond_of};
+use crate::differences::{Bond, StrataQuestion, bond_of};
 use crate::goals::case_number;
 use crate::spots::{Spots, entry, no_spots, relation_of, relations_of, unit_lists, with_spot};
-use crate::{Endings, Stop};
+use crate::{Endings, SearchStop};
 use farkas_check::{
     Answer, Change, Limit, Ratio, Relation, Spot, Stratum, Tie, canonical_stratum, positivity,
     stratum_columns, stratum_outcome, truth_of_passing,
@@ -36,7 +36,7 @@ use whole_numbers::Wide;
 /// Spots, and the relations of the unknowns before `next` that no spot refutes, each tied in all
 /// cases. There were `start` spots when the unknowns began to have their turns.
 #[derive(Drop)]
-pub(crate) struct Known {
+pub(crate) struct KnownRelations {
     pub(crate) next: usize,
     pub(crate) start: usize,
     pub(crate) relations: Items<Relation>,
@@ -46,7 +46,7 @@ pub(crate) struct Known {
 /// What a relation's test in all cases comes to: it is tied in each, or its difference is not 0 at
 /// a point of one.
 #[derive(Drop)]
-pub(crate) enum Verdict {
+pub(crate) enum RelationVerdict {
     Tied(Items<Tie>),
     Apart(usize, Items<Ratio>),
     Pivots,
@@ -55,7 +55,7 @@ pub(crate) enum Verdict {
 /// What a turn leads to.
 #[derive(Drop)]
 pub(crate) enum Course {
-    On(Known),
+    On(KnownRelations),
     End(Answer),
 }
 
@@ -82,8 +82,8 @@ fn answer_of_strata(alloc: Global, asked: &Stratum) -> Result<Answer, AllocError
     canonical_stratum(asked);
     match searched_strata(alloc, asked, i128::MAX as u128) {
         Ok(found) => Ok(tested_basis(asked, found)),
-        Err(Stop::Wide(step)) => Ok(step_of_strata(asked, &step)),
-        Err(Stop::Memory) => Err(AllocError),
+        Err(SearchStop::Wide(step)) => Ok(step_of_strata(asked, &step)),
+        Err(SearchStop::Memory) => Err(AllocError),
     }
 }
 
@@ -128,7 +128,7 @@ fn row_count(case: &Change)
     let _count = case.rows.as_slice().len();
 }
 
-fn searched_strata(alloc: Global, asked: &Stratum, budget: u128) -> Result<Answer, Stop>
+fn searched_strata(alloc: Global, asked: &Stratum, budget: u128) -> Result<Answer, SearchStop>
     requires turns { 2 ^ 124 ≤ budget }
     requires canonical { IsCanonicalStratum asked.now.cases asked.now.lower }
     ensures found { IfOk result
@@ -164,7 +164,7 @@ fn basis_over(
     terms: &[Poly],
     lower: &[Poly],
     budget: u128,
-) -> Result<Answer, Stop>
+) -> Result<Answer, SearchStop>
     requires turns { 2 ^ 124 ≤ budget }
     requires columns { columns.now ≡ stratum_columns cases.now lower.now }
     requires canonical { IsCanonicalStratum cases.now lower.now }
@@ -176,7 +176,7 @@ fn basis_over(
     ensures calm { length cases.now ≤ 4294967296 → IsCalmStratum columns.now cases.now lower.now
         → IfErr result IsMemory }
 {
-    let strata = Strata {
+    let strata = StrataQuestion {
         cases,
         lower,
         columns,
@@ -189,7 +189,7 @@ fn basis_over(
 
 /// The basis that the search comes to. There are no more spots than unknowns, and the unknowns have
 /// their turns anew only after a spot more, so the search ends before its turns are used up.
-fn basis_of(alloc: Global, strata: &Strata<'_>) -> Result<Answer, Stop>
+fn basis_of(alloc: Global, strata: &StrataQuestion<'_>) -> Result<Answer, SearchStop>
     requires count { strata.now.count ≡ strata.now.terms + length strata.now.lower.now + 1 }
     requires few { strata.now.count < 2 ^ 61 }
     requires turns { 2 ^ 124 ≤ strata.now.budget }
@@ -198,7 +198,7 @@ fn basis_of(alloc: Global, strata: &Strata<'_>) -> Result<Answer, Stop>
     ensures small { IfOk result (IsSmallIn strata.now) }
     ensures refusal { IfErr result (IsRefusalOf strata.now) }
 {
-    let mut known = Known {
+    let mut known = KnownRelations {
         next: 0,
         start: 0,
         relations: Items::new(alloc),
@@ -215,7 +215,11 @@ fn basis_of(alloc: Global, strata: &Strata<'_>) -> Result<Answer, Stop>
 }
 
 /// The basis of the relations that are known.
-fn basis_with(alloc: Global, strata: &Strata<'_>, known: Known) -> Result<Answer, Stop>
+fn basis_with(
+    alloc: Global,
+    strata: &StrataQuestion<'_>,
+    known: KnownRelations,
+) -> Result<Answer, SearchStop>
     requires asked { IsAsked strata.now }
     requires count { strata.now.count ≡ strata.now.terms + length strata.now.lower.now + 1 }
     requires few { strata.now.count < 2 ^ 61 }
@@ -227,7 +231,7 @@ fn basis_with(alloc: Global, strata: &Strata<'_>, known: Known) -> Result<Answer
     ensures refusal { IfErr result (IsRefusalOf strata.now) }
 {
     let free = unit_lists(alloc, strata.count, &known.spots)?;
-    let Known {
+    let KnownRelations {
         next: _,
         start: _,
         relations,
@@ -243,10 +247,10 @@ fn basis_with(alloc: Global, strata: &Strata<'_>, known: Known) -> Result<Answer
 /// What the next unknown leads to, or the end where all have had their turn.
 fn course_of(
     alloc: Global,
-    strata: &Strata<'_>,
-    known: Known,
+    strata: &StrataQuestion<'_>,
+    known: KnownRelations,
     endings: &mut Endings,
-) -> Result<Course, Stop>
+) -> Result<Course, SearchStop>
     requires count { strata.now.count ≡ strata.now.terms + length strata.now.lower.now + 1 }
     requires few { strata.now.count < 2 ^ 61 }
     requires asked { IsAsked strata.now }
@@ -267,10 +271,10 @@ fn course_of(
 /// What the test of the next unknown's relation leads to.
 fn tested_unknown(
     alloc: Global,
-    strata: &Strata<'_>,
-    known: Known,
+    strata: &StrataQuestion<'_>,
+    known: KnownRelations,
     endings: &mut Endings,
-) -> Result<Course, Stop>
+) -> Result<Course, SearchStop>
     requires count { strata.now.count ≡ strata.now.terms + length strata.now.lower.now + 1 }
     requires few { strata.now.count < 2 ^ 61 }
     requires asked { IsAsked strata.now }
@@ -290,11 +294,11 @@ fn tested_unknown(
 /// What a verdict on the next unknown's relation leads to.
 fn course_after(
     alloc: Global,
-    strata: &Strata<'_>,
-    known: Known,
+    strata: &StrataQuestion<'_>,
+    known: KnownRelations,
     numbers: &[i128],
-    verdict: Verdict,
-) -> Result<Course, Stop>
+    verdict: RelationVerdict,
+) -> Result<Course, SearchStop>
     requires count { strata.now.count ≡ strata.now.terms + length strata.now.lower.now + 1 }
     requires few { strata.now.count < 2 ^ 61 }
     requires asked { IsAsked strata.now }
@@ -310,17 +314,17 @@ fn course_after(
     ensures refusal { IfErr result (IsRefusalOf strata.now) }
 {
     match verdict {
-        Verdict::Tied(ties) => Ok(relation_added(alloc, strata, known, numbers, ties)?),
-        Verdict::Apart(place, at) => spot_added(alloc, strata, known, place, at),
-        Verdict::Pivots => Ok(Course::End(Answer::Limit(Limit::Pivots))),
+        RelationVerdict::Tied(ties) => Ok(relation_added(alloc, strata, known, numbers, ties)?),
+        RelationVerdict::Apart(place, at) => spot_added(alloc, strata, known, place, at),
+        RelationVerdict::Pivots => Ok(Course::End(Answer::Limit(Limit::Pivots))),
     }
 }
 
 /// The next unknown's relation more, which is tied in all cases.
 fn relation_added(
     alloc: Global,
-    strata: &Strata<'_>,
-    known: Known,
+    strata: &StrataQuestion<'_>,
+    known: KnownRelations,
     numbers: &[i128],
     ties: Items<Tie>,
 ) -> Result<Course, AllocError>
@@ -344,7 +348,11 @@ fn relation_added(
 
 /// The basis, where the relations are those of all spots; else the unknowns have their turns once
 /// more.
-fn end_of(alloc: Global, strata: &Strata<'_>, known: Known) -> Result<Course, Stop>
+fn end_of(
+    alloc: Global,
+    strata: &StrataQuestion<'_>,
+    known: KnownRelations,
+) -> Result<Course, SearchStop>
     requires next { strata.now.count ≤ known.next }
     requires asked { IsAsked strata.now }
     requires count { strata.now.count ≡ strata.now.terms + length strata.now.lower.now + 1 }
@@ -359,7 +367,7 @@ fn end_of(alloc: Global, strata: &Strata<'_>, known: Known) -> Result<Course, St
         return Ok(Course::End(answer));
     }
     let start = known.spots.lines.len();
-    Ok(Course::On(Known {
+    Ok(Course::On(KnownRelations {
         next: 0,
         start,
         relations: Items::new(alloc),
@@ -369,7 +377,11 @@ fn end_of(alloc: Global, strata: &Strata<'_>, known: Known) -> Result<Course, St
 
 /// Whether the relations are those of all spots. They are where no spot came while the unknowns had
 /// their turns.
-fn is_settled(alloc: Global, strata: &Strata<'_>, known: &Known) -> Result<bool, Stop>
+fn is_settled(
+    alloc: Global,
+    strata: &StrataQuestion<'_>,
+    known: &KnownRelations,
+) -> Result<bool, SearchStop>
     requires asked { IsAsked strata.now }
     requires count { strata.now.count ≡ strata.now.terms + length strata.now.lower.now + 1 }
     requires known { AreKnown strata.now known.now }
@@ -388,7 +400,11 @@ fn is_settled(alloc: Global, strata: &Strata<'_>, known: &Known) -> Result<bool,
 }
 
 /// Whether the relations are those of all spots.
-fn has_last_relations(alloc: Global, count: usize, known: &Known) -> Result<bool, Stop>
+fn has_last_relations(
+    alloc: Global,
+    count: usize,
+    known: &KnownRelations,
+) -> Result<bool, SearchStop>
     requires known { AreSpots count known.now.spots }
     ensures all { IfOk result (λ same. IsTrue same
         → AreRelations count known.now.spots.tableau count (map numbers_of known.now.relations)) }
@@ -415,13 +431,13 @@ fn numbers_of(alloc: Global, relation: &Relation) -> Result<Items<i128>, AllocEr
     ensures { IfOk result (λ made. made ≡ numbers_of relation.now) }
 {
     let first = Items::from_slice(alloc, relation.a.as_slice())?;
-    let mut made = joined(first, relation.b.as_slice())?;
+    let mut made = joined_numbers(first, relation.b.as_slice())?;
     made.push(relation.c)?;
     Ok(made)
 }
 
 /// Numbers, and others behind them.
-fn joined(first: Items<i128>, others: &[i128]) -> Result<Items<i128>, AllocError>
+fn joined_numbers(first: Items<i128>, others: &[i128]) -> Result<Items<i128>, AllocError>
     ensures { IfOk result (λ made. made ≡ first ++ others.now) }
 {
     let mut made = first;
@@ -431,20 +447,20 @@ fn joined(first: Items<i128>, others: &[i128]) -> Result<Items<i128>, AllocError
     Ok(made)
 }
 
-fn with_next(known: Known) -> Known
+fn with_next(known: KnownRelations) -> KnownRelations
     requires { known.next < 2 ^ 61 }
     ensures next { result.next ≡ known.next + 1 }
     ensures start { result.start ≡ known.start }
     ensures spots { result.spots ≡ known.spots }
     ensures relations { result.relations ≡ known.relations }
 {
-    let Known {
+    let KnownRelations {
         next,
         start,
         relations,
         spots,
     } = known;
-    Known {
+    KnownRelations {
         next: next + 1,
         start,
         relations,
@@ -452,21 +468,21 @@ fn with_next(known: Known) -> Known
     }
 }
 
-fn with_relation(known: Known, relation: Relation) -> Result<Known, AllocError>
+fn with_relation(known: KnownRelations, relation: Relation) -> Result<KnownRelations, AllocError>
     requires { known.next < 2 ^ 61 }
     ensures next { IfOk result (λ made. made.next ≡ known.next + 1) }
     ensures start { IfOk result (λ made. made.start ≡ known.start) }
     ensures spots { IfOk result (λ made. made.spots ≡ known.spots) }
     ensures relations { IfOk result (λ made. made.relations ≡ known.relations ++ relation ∷ []) }
 {
-    let Known {
+    let KnownRelations {
         next,
         start,
         mut relations,
         spots,
     } = known;
     relations.push(relation)?;
-    Ok(Known {
+    Ok(KnownRelations {
         next: next + 1,
         start,
         relations,
@@ -477,11 +493,11 @@ fn with_relation(known: Known, relation: Relation) -> Result<Known, AllocError>
 /// A spot more, a point of the case at a place.
 fn spot_added(
     alloc: Global,
-    strata: &Strata<'_>,
-    known: Known,
+    strata: &StrataQuestion<'_>,
+    known: KnownRelations,
     place: usize,
     at: Items<Ratio>,
-) -> Result<Course, Stop>
+) -> Result<Course, SearchStop>
     requires few { strata.now.count < 2 ^ 61 }
     requires count { strata.now.count ≡ strata.now.terms + length strata.now.lower.now + 1 }
     requires asked { IsAsked strata.now }
@@ -496,7 +512,7 @@ fn spot_added(
     ensures refusal { IfErr result (IsRefusalOf strata.now) }
 {
     let case = case_number(place)?;
-    let Known {
+    let KnownRelations {
         next,
         start,
         relations,
@@ -504,7 +520,7 @@ fn spot_added(
     } = known;
     let terms = strata.cases[place].terms.as_slice();
     let spots = with_spot(alloc, strata, spots, terms, Spot { case, at })?;
-    Ok(Course::On(Known {
+    Ok(Course::On(KnownRelations {
         next,
         start,
         relations,
@@ -515,10 +531,10 @@ fn spot_added(
 /// Tests a relation case by case.
 fn verdict_of(
     alloc: Global,
-    strata: &Strata<'_>,
+    strata: &StrataQuestion<'_>,
     numbers: &[i128],
     endings: &mut Endings,
-) -> Result<Verdict, Stop>
+) -> Result<RelationVerdict, SearchStop>
     requires asked { IsAsked strata.now }
     requires count { strata.now.count ≡ strata.now.terms + length strata.now.lower.now + 1 }
     requires numbers { length numbers.now ≡ strata.now.count }
@@ -532,18 +548,18 @@ fn verdict_of(
     for place in 0..strata.cases.len() {
         match bond_of(alloc, strata, &strata.cases[place], numbers, endings, place)? {
             Bond::Tied(tie) => ties.push(tie)?,
-            Bond::Apart(at) => return Ok(Verdict::Apart(place, at)),
-            Bond::Pivots => return Ok(Verdict::Pivots),
+            Bond::Apart(at) => return Ok(RelationVerdict::Apart(place, at)),
+            Bond::Pivots => return Ok(RelationVerdict::Pivots),
         }
     }
-    Ok(Verdict::Tied(ties))
+    Ok(RelationVerdict::Tied(ties))
 }
 
 /// The relation of numbers: first those of the terms, then those of the lower terms, and last that
 /// of 1.
 fn relation_with(
     alloc: Global,
-    strata: &Strata<'_>,
+    strata: &StrataQuestion<'_>,
     numbers: &[i128],
     ties: Items<Tie>,
 ) -> Result<Relation, AllocError>

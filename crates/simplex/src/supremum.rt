@@ -9,12 +9,12 @@ ghost use Rattle.simplex.specs.Search.{IsFlat, IsMet, IsSolving, IsCornerOf};
 ghost use Rattle.simplex.specs.Suprema.{with_goal, frame_over, goal_frame, IsSupremumOver, IsSupremumOf, TopAt, SupremumAt, certificate_of, IsRayOf};
 
 use crate::corner::{corner, ray};
-use crate::frame::{framed, kinds_of};
+use crate::frame::{framed_tableau, kinds_of};
 use crate::gauss::{Stage, question_column};
-use crate::raise::raised_to;
-use crate::search::{Found, keys_of, searched};
+use crate::raise::raised_goal;
+use crate::search::{SearchEnd, corner_search, keys_of};
 use crate::tableau::line_multiple;
-use crate::{RaiseEnd, Stop, Tableau};
+use crate::{RaiseEnd, SearchStop, Tableau};
 use farkas_check::{Cert, Goal, Ratio, case_columns};
 use items::Items;
 use linear_terms::{Kind, Mono, Poly, Row};
@@ -69,7 +69,7 @@ pub(crate) fn with_goal(
 /// What a case of a supremum question comes to, with no more turns a raise than the budget. It is
 /// an error where a product or a sum of the search leaves 128 bits, which comes only where the
 /// tableaux of the case are not small, and for want of memory.
-pub fn supremum_of(alloc: Global, goal: &Goal, budget: u128) -> Result<Supremum, Stop>
+pub fn supremum_of(alloc: Global, goal: &Goal, budget: u128) -> Result<Supremum, SearchStop>
     ensures supremum { IfOk result (λ found. IsSupremumOf goal.now budget found) }
     ensures refusal { IfErr result (IsRefusalIn (goal_frame goal.now) (length goal.now.rows + 1)) }
 {
@@ -85,7 +85,7 @@ pub(crate) fn supremum_over(
     rows: &[Row],
     objective: &Poly,
     budget: u128,
-) -> Result<Supremum, Stop>
+) -> Result<Supremum, SearchStop>
     ensures supremum { IfOk result
         (λ found. IsSupremumOver columns.now rows.now objective.now budget found) }
     ensures refusal { IfErr result
@@ -93,8 +93,8 @@ pub(crate) fn supremum_over(
 {
     let all = with_goal(alloc, rows, objective)?;
     let kinds = kinds_of(alloc, all.as_slice())?;
-    let t = framed(alloc, all.as_slice(), columns)?;
-    topped(
+    let t = framed_tableau(alloc, all.as_slice(), columns)?;
+    raised_supremum(
         alloc,
         t,
         columns.len(),
@@ -104,14 +104,14 @@ pub(crate) fn supremum_over(
     )
 }
 
-fn topped(
+fn raised_supremum(
     alloc: Global,
     t: Tableau,
     constants: usize,
     kinds: &[Kind],
     count: usize,
     budget: u128,
-) -> Result<Supremum, Stop>
+) -> Result<Supremum, SearchStop>
     ghost over: { Framed }
     requires solving { IsSolving over constants kinds.now 0 t }
     requires count { count ≡ over.rows }
@@ -120,11 +120,11 @@ fn topped(
     ensures supremum { IfOk result (λ found. SupremumAt over constants kinds.now budget found) }
     ensures refusal { IfErr result (IsRefusalIn over (length kinds.now)) }
 {
-    let (stage, found) = searched(alloc, t, constants, kinds, count, budget)?;
+    let (stage, found) = corner_search(alloc, t, constants, kinds, count, budget)?;
     match found {
-        Found::Refuted(_line) => Ok(Supremum::Empty),
-        Found::Pivots => Ok(Supremum::Pivots),
-        Found::Corner => topped_case(alloc, stage, constants, kinds, count, budget),
+        SearchEnd::Refuted(_line) => Ok(Supremum::Empty),
+        SearchEnd::Pivots => Ok(Supremum::Pivots),
+        SearchEnd::Corner => topped_case(alloc, stage, constants, kinds, count, budget),
     }
 }
 
@@ -136,7 +136,7 @@ fn topped_case(
     kinds: &[Kind],
     goal: usize,
     budget: u128,
-) -> Result<Supremum, Stop>
+) -> Result<Supremum, SearchStop>
     ghost over: { Framed }
     requires met { IsMet over constants kinds.now stage.enters stage.tableau }
     requires goal { goal ≡ over.rows }
@@ -163,7 +163,7 @@ pub(crate) fn bound_of(
     t: &Tableau,
     constants: usize,
     goal: usize,
-) -> Result<(Cert, Items<Ratio>), Stop>
+) -> Result<(Cert, Items<Ratio>), SearchStop>
     ghost over: { Framed }
     requires tableau { IsTableauOf over.units over.frame t.now }
     requires primitive { ArePrimitive t.now }
@@ -185,7 +185,7 @@ pub(crate) fn point_and_ray(
     constants: usize,
     column: usize,
     up: bool,
-) -> Result<(Items<Ratio>, Items<Ratio>), Stop>
+) -> Result<(Items<Ratio>, Items<Ratio>), SearchStop>
     ghost over: { Framed }
     requires tableau { IsTableauOf over.units over.frame t.now }
     requires primitive { ArePrimitive t.now }
@@ -202,7 +202,12 @@ pub(crate) fn point_and_ray(
 
 /// The objective's line as a certificate: its multipliers are minus its numbers at the slacks of
 /// the rows.
-fn certificate(alloc: Global, line: &[i128], constants: usize, goal: usize) -> Result<Cert, Stop>
+fn certificate(
+    alloc: Global,
+    line: &[i128],
+    constants: usize,
+    goal: usize,
+) -> Result<Cert, SearchStop>
     requires { constants + 1 + goal < length line.now }
     ensures exact { Gives cause (λ cert. cert) result (certificate_of constants goal line.now) }
     ensures refusal { IfErr result IsRefusal }
@@ -216,7 +221,7 @@ fn read_certificate(
     line: &[i128],
     constants: usize,
     goal: usize,
-) -> Result<Cert, Stop>
+) -> Result<Cert, SearchStop>
     requires { constants + 1 + goal < length line.now }
     ensures exact { Gives cause (λ cert. cert) result (certificate_of constants goal line.now) }
     ensures refusal { IfErr result IsRefusal }
@@ -238,7 +243,7 @@ pub(crate) fn top_of(
     kinds: &[Kind],
     goal: usize,
     budget: u128,
-) -> Result<(Tableau, Top), Stop>
+) -> Result<(Tableau, Top), SearchStop>
     ghost over: { Framed }
     requires met { IsMet over constants kinds.now stage.enters stage.tableau }
     requires goal { goal ≡ over.rows }
@@ -251,18 +256,18 @@ pub(crate) fn top_of(
             let up = 0 < stage.tableau.lines[goal][column];
             Ok((stage.tableau, Top::Open { column, up }))
         }
-        None => lowered(alloc, stage, constants, kinds, goal, budget),
+        None => lowered_goal(alloc, stage, constants, kinds, goal, budget),
     }
 }
 
-fn lowered(
+fn lowered_goal(
     alloc: Global,
     stage: Stage,
     constants: usize,
     kinds: &[Kind],
     goal: usize,
     budget: u128,
-) -> Result<(Tableau, Top), Stop>
+) -> Result<(Tableau, Top), SearchStop>
     ghost over: { Framed }
     requires met { IsMet over constants kinds.now stage.enters stage.tableau }
     requires goal { goal ≡ over.rows }
@@ -279,7 +284,7 @@ fn lowered(
         enters.as_slice(),
         constants,
     )?;
-    let (t, came) = raised_to(
+    let (t, came) = raised_goal(
         alloc,
         tableau,
         constants,

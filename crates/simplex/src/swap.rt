@@ -1,14 +1,14 @@
 ghost use Rattle.std.specs.Prelude.{◌≡◌, ◌+◌, ◌^◌, ◌<◌, ◌≤◌, ℕ, [], length, get_or, IfOk, IfSome};
 ghost use Rattle.items.specs.Gives.{Gives};
 ghost use Rattle.linear_terms.specs.declared.row.Kind.TheVariants.{AtMost};
-ghost use Rattle.simplex.specs.Endings.{cleared, IsFront, IsMetFor, StandsAt};
+ghost use Rattle.simplex.specs.Endings.{cleared_line, IsFront, IsMetFor, StandsAt};
 ghost use Rattle.simplex.specs.Exchange.{cause};
 ghost use Rattle.simplex.specs.Rows.{whole_line};
 
 use crate::frame::whole_line;
 use crate::gauss::Stage;
 use crate::tableau::line_without;
-use crate::{Stop, Tableau};
+use crate::{SearchStop, Tableau};
 use items::Items;
 use linear_terms::{Kind, Mono, Poly, Row};
 use std::alloc::{AllocError, Global};
@@ -34,16 +34,16 @@ fn goal_line(
 }
 
 /// The line cleared at the columns that lines choose, one after another.
-fn cleared(
+fn cleared_line(
     alloc: Global,
     lines: &[Items<i128>],
     chosen: &[usize],
     line: Items<i128>,
-) -> Result<Items<i128>, Stop>
+) -> Result<Items<i128>, SearchStop>
     requires many { length lines.now ≤ length chosen.now }
     requires choices { (k : ℕ) → k < length lines.now → get_or chosen.now k 0 < length line }
     requires wide { (k : ℕ) → k < length lines.now → length (get_or lines.now k []) ≡ length line }
-    ensures exact { Gives cause (λ made. made) result (cleared lines.now chosen.now 0 line) }
+    ensures exact { Gives cause (λ made. made) result (cleared_line lines.now chosen.now 0 line) }
 {
     let mut made = line;
     for (k, pivot) in lines.iter().enumerate() {
@@ -63,7 +63,7 @@ fn front_of(lines: Items<Items<i128>>) -> Items<Items<i128>>
 }
 
 /// The corner with another objective as its goal; none where a step leaves 128 bits.
-pub(crate) fn turned(
+pub(crate) fn stage_for_goal(
     alloc: Global,
     columns: &[Mono],
     rows: &[Row],
@@ -79,13 +79,13 @@ pub(crate) fn turned(
     let Stage { tableau, enters } = stage;
     let Tableau { lines, chosen } = tableau;
     let mut lines = front_of(lines);
-    match cleared(alloc, lines.as_slice(), chosen.as_slice(), own) {
+    match cleared_line(alloc, lines.as_slice(), chosen.as_slice(), own) {
         Ok(line) => {
             lines.push(line)?;
             let tableau = Tableau { lines, chosen };
             Ok(Some(Stage { tableau, enters }))
         }
-        Err(Stop::Wide(_step)) => Ok(None),
-        Err(Stop::Memory) => Err(AllocError),
+        Err(SearchStop::Wide(_step)) => Ok(None),
+        Err(SearchStop::Memory) => Err(AllocError),
     }
 }

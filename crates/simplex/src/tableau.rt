@@ -3,9 +3,9 @@ ghost use Rattle.items.specs.Gives.{Gives};
 ghost use Rattle.whole_numbers.specs.Divisors.{gcd_of, gcd_of_all};
 ghost use Rattle.simplex.specs.Calm.{HasSquares, HasSmallLines, IsMemory};
 ghost use Rattle.simplex.specs.Refusal.{LeavesBits, IsRefusal};
-ghost use Rattle.simplex.specs.Exchange.{cause, sum_of_lines, sum_of_products, line_multiple, reduced, upright_line, line_without, line_without_at, lines_without, exchange, numbers_of, HasShape, KeepsFrames};
+ghost use Rattle.simplex.specs.Exchange.{cause, sum_of_lines, sum_of_products, line_multiple, reduced_line, upright_line, line_without, line_without_at, lines_without, exchange, numbers_of, HasShape, KeepsFrames};
 
-use crate::Stop;
+use crate::SearchStop;
 use crate::steps::{step_product, step_sum};
 use items::Items;
 use std::alloc::{AllocError, Global};
@@ -22,7 +22,7 @@ pub struct Tableau {
 impl Tableau {
     /// Chooses the column in the line in place of the one that is chosen there: a tableau of a
     /// frame becomes one of the same frame. A step that leaves 128 bits stops it.
-    pub fn exchange(self, alloc: Global, line: usize, column: usize) -> Result<Tableau, Stop>
+    pub fn exchange(self, alloc: Global, line: usize, column: usize) -> Result<Tableau, SearchStop>
         ghost columns: { ℕ }
         requires shape { HasShape columns self }
         requires line { line < length self.lines }
@@ -37,7 +37,7 @@ impl Tableau {
         Ok(made)
     }
 
-    fn exchange_line(self, alloc: Global, line: usize, column: usize) -> Result<Tableau, Stop>
+    fn exchange_line(self, alloc: Global, line: usize, column: usize) -> Result<Tableau, SearchStop>
         ghost columns: { ℕ }
         requires shape { HasShape columns self }
         requires line { line < length self.lines }
@@ -64,7 +64,7 @@ fn other_lines(
     line: usize,
     column: usize,
     pivot: &[i128],
-) -> Result<Items<Items<i128>>, Stop>
+) -> Result<Items<Items<i128>>, SearchStop>
     requires column { column < length pivot.now }
     requires wide { (i : ℕ) → i < length lines → length (get_or lines i []) ≡ length pivot.now }
     ensures exact { Gives cause (λ made. made) result
@@ -86,7 +86,7 @@ fn line_without_at(
     here: bool,
     column: usize,
     pivot: &[i128],
-) -> Result<Items<i128>, Stop>
+) -> Result<Items<i128>, SearchStop>
     requires column { column < length own }
     requires same { length pivot.now ≡ length own }
     ensures exact { Gives cause (λ made. made) result
@@ -100,7 +100,11 @@ fn line_without_at(
 }
 
 /// The signs turned where the number at the column is negative.
-pub(crate) fn upright_line(alloc: Global, line: &[i128], column: usize) -> Result<Items<i128>, Stop>
+pub(crate) fn upright_line(
+    alloc: Global,
+    line: &[i128],
+    column: usize,
+) -> Result<Items<i128>, SearchStop>
     requires { column < length line.now }
     ensures exact { Gives cause (λ made. made) result (upright_line column line.now) }
     ensures refusal { IfErr result IsRefusal }
@@ -112,7 +116,11 @@ pub(crate) fn upright_line(alloc: Global, line: &[i128], column: usize) -> Resul
     }
 }
 
-pub(crate) fn line_multiple(alloc: Global, line: &[i128], by: &i128) -> Result<Items<i128>, Stop>
+pub(crate) fn line_multiple(
+    alloc: Global,
+    line: &[i128],
+    by: &i128,
+) -> Result<Items<i128>, SearchStop>
     ensures exact { Gives cause (λ made. made) result (line_multiple line.now by.now) }
     ensures refusal { IfErr result IsRefusal }
 {
@@ -129,7 +137,7 @@ pub(crate) fn line_without(
     line: Items<i128>,
     column: usize,
     pivot: &[i128],
-) -> Result<Items<i128>, Stop>
+) -> Result<Items<i128>, SearchStop>
     requires column { column < length line }
     requires same { length pivot.now ≡ length line }
     ensures exact { Gives cause (λ made. made) result (line_without column pivot.now line) }
@@ -140,11 +148,16 @@ pub(crate) fn line_without(
     }
     let by = step_product(&line[column], &-1)?;
     let made = sum_of_lines(&pivot[column], line, &by, pivot)?;
-    Ok(reduced(made))
+    Ok(reduced_line(made))
 }
 
 /// A multiple of a line and a multiple of another, in the place of the first.
-fn sum_of_lines(p: &i128, line: Items<i128>, q: &i128, pivot: &[i128]) -> Result<Items<i128>, Stop>
+fn sum_of_lines(
+    p: &i128,
+    line: Items<i128>,
+    q: &i128,
+    pivot: &[i128],
+) -> Result<Items<i128>, SearchStop>
     requires { length pivot.now ≡ length line }
     ensures exact { Gives cause (λ made. made) result (sum_of_lines p.now line q.now pivot.now) }
     ensures refusal { IfErr result IsRefusal }
@@ -179,8 +192,8 @@ fn sum_of_products(p: &i128, a: &i128, q: &i128, b: &i128) -> Result<i128, Wide>
 
 /// The numbers divided by their greatest common divisor.
 #[tactic(auto, using(crate::proofs::Lines::short_lines))]
-fn reduced(line: Items<i128>) -> Items<i128>
-    ensures { result ≡ reduced line }
+fn reduced_line(line: Items<i128>) -> Items<i128>
+    ensures { result ≡ reduced_line line }
 {
     let divisor = divisor(line.as_slice());
     if divisor <= 1 {

@@ -7,7 +7,7 @@ ghost use Rattle.simplex.specs.Exchange.{cause};
 ghost use Rattle.simplex.specs.Refusal.{LeavesBits, IsRefusal};
 ghost use Rattle.simplex.specs.Spots.{common_denominator, denominator_from, numerators_over, sums_of};
 
-use crate::Stop;
+use crate::SearchStop;
 use crate::steps::step_product;
 use farkas_check::{Ratio, common_multiple};
 use items::Items;
@@ -70,7 +70,11 @@ fn ratio_sum(left: &Ratio, right: &Ratio) -> Result<Ratio, Wide>
 }
 
 /// The sums of two lists of ratios, place by place.
-pub(crate) fn sums_of(alloc: Global, left: &[Ratio], right: &[Ratio]) -> Result<Items<Ratio>, Stop>
+pub(crate) fn sums_of(
+    alloc: Global,
+    left: &[Ratio],
+    right: &[Ratio],
+) -> Result<Items<Ratio>, SearchStop>
     ensures exact { Gives cause (λ made. made) result (sums_of left.now right.now) }
     ensures refusal { IfErr result IsRefusal }
 {
@@ -118,7 +122,11 @@ fn numerator_over(common: &i128, value: &Ratio) -> Result<i128, Wide>
 }
 
 /// The numerators of ratios over a common denominator.
-pub fn numerators_over(alloc: Global, common: &i128, values: &[Ratio]) -> Result<Items<i128>, Stop>
+pub fn numerators_over(
+    alloc: Global,
+    common: &i128,
+    values: &[Ratio],
+) -> Result<Items<i128>, SearchStop>
     ensures exact { Gives cause (λ made. made) result (numerators_over common.now values.now) }
     ensures refusal { IfErr result IsRefusal }
 {

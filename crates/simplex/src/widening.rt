@@ -8,7 +8,7 @@ ghost use Rattle.farkas_check.specs.Columns.{columns as columns_of};
 ghost use Rattle.farkas_check.specs.Ratios.{whole};
 ghost use Rattle.farkas_check.proofs.Spreads.{is_among, AreAmong};
 ghost use Rattle.simplex.specs.Raise.{sign_of};
-ghost use Rattle.simplex.specs.Wider.{widened, number_along, unit_ray, widened_supremum, IsBesides};
+ghost use Rattle.simplex.specs.Wider.{widened_numbers, number_along, unit_ray, widened_supremum, IsBesides};
 
 use crate::Supremum;
 use farkas_check::Ratio;
@@ -102,13 +102,13 @@ fn is_own(own: &[Mono], mono: &Mono) -> bool
 }
 
 /// The numbers over wider columns: those at the own columns, and else 0.
-pub(crate) fn widened(
+pub(crate) fn widened_numbers(
     alloc: Global,
     own: &[Mono],
     wider: &[Mono],
     numbers: &[Ratio],
 ) -> Result<Items<Ratio>, AllocError>
-    ensures { IfOk result (λ made. made ≡ widened own.now wider.now numbers.now) }
+    ensures { IfOk result (λ made. made ≡ widened_numbers own.now wider.now numbers.now) }
 {
     let mut made = Items::from_vec(Vec::with_capacity(alloc, wider.len())?);
     let mut place = 0;
@@ -124,8 +124,8 @@ pub(crate) fn widened(
 /// left.
 fn number_there(own: &[Mono], numbers: &[Ratio], place: usize, mono: &Mono) -> (Ratio, usize)
     ensures { (rest : List (List Col))
-        → widened (drop place own.now) (mono.now ∷ rest) (drop place numbers.now)
-        ≡ result.0 ∷ widened (drop result.1 own.now) rest (drop result.1 numbers.now) }
+        → widened_numbers (drop place own.now) (mono.now ∷ rest) (drop place numbers.now)
+        ≡ result.0 ∷ widened_numbers (drop result.1 own.now) rest (drop result.1 numbers.now) }
 {
     if own.len() <= place || numbers.len() <= place {
         return (Ratio::whole(0), place);
@@ -175,12 +175,12 @@ pub(crate) fn widened_supremum(
         Supremum::Empty => Ok(Supremum::Empty),
         Supremum::Pivots => Ok(Supremum::Pivots),
         Supremum::Bound(cert, point) => {
-            let point = widened(alloc, own, wider, point.as_slice())?;
+            let point = widened_numbers(alloc, own, wider, point.as_slice())?;
             Ok(Supremum::Bound(cert, point))
         }
         Supremum::Unbounded(point, ray) => {
-            let point = widened(alloc, own, wider, point.as_slice())?;
-            let ray = widened(alloc, own, wider, ray.as_slice())?;
+            let point = widened_numbers(alloc, own, wider, point.as_slice())?;
+            let ray = widened_numbers(alloc, own, wider, ray.as_slice())?;
             Ok(Supremum::Unbounded(point, ray))
         }
     }

@@ -29,7 +29,7 @@ use Rattle.typing.specs.Env.{body_place, with_assertions, with_columns_taken, wi
 use Rattle.typing.specs.Faults.{body_faults, procs_faults}
 use Rattle.typing.specs.LineFaults.{all_faults_in, faults_in, init_faults, return_faults}
 use Rattle.typing.specs.Lines.{after, after_all, all_checks_of, all_statements_of, at_body, at_first_body, at_last_step, at_last_test, at_step, at_test, in_branch, in_second_branch, local_statements, statements_of, value_statements, with_value}
-use Rattle.typing.specs.Scopes.{Entry, Scope, callee_of, column_of, declared_in, if_procedure, if_special, meaning_in, meaning_of, or_outer, outer_of}
+use Rattle.typing.specs.Scopes.{Entry, Scope, callee_of, column_of, with_declaration, if_procedure, if_special, meaning_in, meaning_of, or_outer, outer_of}
 use Rattle.typing.specs.Specials.{arguments_of, special_of}
 use Rattle.typing.specs.Terms.{all_temporaries, count_of, temporaries, term_in, terms_in}
 use Rattle.typing.specs.Texts.{beginning, body_columns, body_env, count_globals, declarations, procedure, with_params}
@@ -149,7 +149,7 @@ scope-append procs [] entry h m = (m, tt)
 scope-append procs (e ∷ rest) entry h m = (h.0, scope-append procs rest entry h.1 m)
 
 declared-named : (procs : List Proc) (scopes : List Scope) (name : List ℕ) (meaning : Meaning) → ScopesNamed procs scopes → IfNamed procs name (Some meaning)
-    → ScopesNamed procs (declared_in name meaning scopes)
+    → ScopesNamed procs (with_declaration name meaning scopes)
 declared-named procs [] name meaning h m = ((m, tt), tt)
 declared-named procs (scope ∷ outer) name meaning h m = (scope-append procs scope (name, meaning) h.0 m, h.1)
 

@@ -11,7 +11,7 @@ use Rattle.execution.specs.Step.{IsEntered, StepsBy, StepsFrom}
 use Rattle.report.specs.declared.blocks.Report.{Report}
 use Rattle.report.specs.Claims.{ClaimsAreMet}
 use Rattle.typing.specs.declared.error.TypeError.{TypeError}
-use Rattle.typing.specs.Elaborated.{elaborated}
+use Rattle.typing.specs.Elaborated.{elaborated_program}
 use Rattle.typing.specs.Faults.{elaboration_of, faults_of, least_of, unless_fault}
 use Rattle.summary_cache.specs.Accepted.{Accepts}
 use Rattle.summary_cache.specs.Laws.{AcceptedHasRuleTwo}
@@ -154,7 +154,7 @@ ruled (Some fault) made program is e = cc
 
 accepted-rule : (text : List ℕ) (program : Program) → Accepts text program → program.rule ≡ 2
 unfolding elaboration_of
-accepted-rule text program a = ruled (least_of None (faults_of a.tree.items (length text))) (elaborated a.tree.items) program refl a.elaborates
+accepted-rule text program a = ruled (least_of None (faults_of a.tree.items (length text))) (elaborated_program a.tree.items) program refl a.elaborates
 
 same-rule : (program : Program) → program.rule ≡ 2 → with_rule 2 program ≡ program
 same-rule program is =

@@ -14,7 +14,7 @@ use Rattle.typing.specs.declared.error.Limited.TheVariants as limited
 use Rattle.typing.specs.declared.error.TypeError.{TypeError}
 use Rattle.typing.specs.declared.error.TypeError.TheVariants.{Arity, Many, NoMain}
 use Rattle.typing.specs.CallFaults.{when}
-use Rattle.typing.specs.Elaborated.{checks_in, elaborated, globals_of, main_from, procs_of}
+use Rattle.typing.specs.Elaborated.{checks_in, elaborated_program, globals_of, main_from, procs_of}
 use Rattle.typing.specs.Faults.{agrees, declaration_faults, elaboration_of, faults_of, least_of, main_faults, node_faults, parameter_faults, params_faults, procs_faults, prototype_faults, unless_fault}
 use Rattle.typing.specs.LineFaults.{all_faults_in, twice_faults}
 use Rattle.typing.specs.Lines.{all_checks_of, all_columns_of, all_statements_of}
@@ -158,7 +158,7 @@ pub elaborates-alike : (one other : List Item) (length_of_text : ℕ) → map so
 unfolding elaboration_of
 elaborates-alike one other length_of_text e =
     let h = are-one one other e in
-    let made : elaborated one ≡ elaborated other = λ i. record {
+    let made : elaborated_program one ≡ elaborated_program other = λ i. record {
       globals = h.globals i;
       procs = h.procs (h.scope 0 0 i) (h.count i) 0 i;
       main = unwrap_or (h.main 0 i) 0;

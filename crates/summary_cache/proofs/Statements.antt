@@ -23,8 +23,8 @@ use Rattle.report.specs.Claims.{ClaimsAreMet, PointsMeetRows, ReportCovers}
 use Rattle.analysis.specs.declared.found.Found.{Found}
 use Rattle.analysis.specs.declared.places.TextPlace.{TextPlace}
 use Rattle.analysis.specs.declared.planning.Planned.{Planned}
-use Rattle.analysis.specs.Analysis.{analysed, ended_by}
-use Rattle.analysis.specs.Found.{found_by}
+use Rattle.analysis.specs.Analysis.{report_by_plan, report_by_findings}
+use Rattle.analysis.specs.Found.{findings_by_plan}
 use Rattle.analysis.specs.Plan.{IsPlan}
 use Rattle.analysis.proofs.OnePlan.{plan-one}
 use Rattle.analysis.proofs.Quiet.{IsQuiet, ended-quiet, quiet-path}
@@ -35,14 +35,14 @@ use Rattle.kept_groups.specs.declared.kept.KeptGroups.{KeptGroups}
 use Rattle.kept_groups.specs.declared.kept.KeptPart.{KeptPart}
 use Rattle.kept_groups.specs.declared.over.FoundParts.{FoundParts}
 use Rattle.kept_groups.specs.Coming.{AreCome, answers_asked, count_made}
-use Rattle.kept_groups.specs.Kept.{AreKept, AreKeptIf, Anything, answers_in, found_by_kept}
+use Rattle.kept_groups.specs.Kept.{AreKept, AreKeptIf, Anything, answers_in, findings_by_kept}
 use Rattle.kept_groups.specs.Outcomes.{CameOver, FindsOver, IsDeclinedOver, IsFoundOver}
 use Rattle.kept_groups.proofs.Leading.{all_come-weaker, declined-leads, declined-next, none-kept, parts-kept, parts-lead}
 use Rattle.summary_cache.specs.declared.last.Last.{Last}
 use Rattle.summary_cache.specs.declared.working.Counts.{Counts}
 use Rattle.summary_cache.specs.Counted.{counts_of}
 use Rattle.summary_cache.specs.First.{IsFirstCause, IsUnanswered, IsWorked}
-use Rattle.summary_cache.specs.Kept.{AreAllowed, Kept, analysed_of, answers_for, groups_of}
+use Rattle.summary_cache.specs.Kept.{AreAllowed, Kept, last_analysis, answers_for, groups_of}
 use Rattle.summary_cache.specs.Rules.{ClaimsKnowNoRule, with_rule}
 use Rattle.summary_cache.specs.Stated.{IsAnalysedBy, IsPlanned, analysis_of, places_of}
 use Rattle.summary_cache.proofs.Complete.{accepted-once}
@@ -121,27 +121,27 @@ module _ (rule : ℕ) (text : List ℕ) (program ruled : Program) (plan : List P
   ruled-plan : IsPlan ruled plan
   ruled-plan = subst (λ (p : Program). IsPlan p plan) (sym is.under) is.planned.is_plan
 
-  stated-is : analysed ruled places plan ≡ analysis_of rule text program plan
-  stated-is = ap (λ (p : Program). analysed p places plan) is.under ∙ ap (λ at. analysed (with_rule rule program) at plan) is.places_are
+  stated-is : report_by_plan ruled places plan ≡ analysis_of rule text program plan
+  stated-is = ap (λ (p : Program). report_by_plan p places plan) is.under ∙ ap (λ at. report_by_plan (with_rule rule program) at plan) is.places_are
 
   -- the answers of all groups, and others, lead from the analysis to what the others lead to from its end
   module _ (allows : Question → Answer → Type 0) (are : AreKeptIf allows kept) (parts : List KeptPart) (marks : List Bool) (found : Found)
-      (come : AreCome allows kept ruled (found_by_kept (length ruled.procs) [] []) plan parts marks)
-      (found_is : found ≡ found_by_kept (length ruled.procs) plan parts) where
-    pub analysis-leads : (rest : List Answer) (q : Posing Report) → Path (IsGood allows) (ended_by ruled places found) [] rest q
+      (come : AreCome allows kept ruled (findings_by_kept (length ruled.procs) [] []) plan parts marks)
+      (found_is : found ≡ findings_by_kept (length ruled.procs) plan parts) where
+    pub analysis-leads : (rest : List Answer) (q : Posing Report) → Path (IsGood allows) (report_by_findings ruled places found) [] rest q
         → Path (IsGood allows) (analysis_of rule text program plan) [] (answers_in parts ++ rest) q
-    unfolding analysed
+    unfolding report_by_plan
     analysis-leads rest q path =
-        let first = subst (λ found. Path (IsGood allows) (found_by ruled plan) [] (answers_in parts) (Done found)) (sym found_is)
+        let first = subst (λ found. Path (IsGood allows) (findings_by_plan ruled plan) [] (answers_in parts) (Done found)) (sym found_is)
         (parts-lead allows kept ruled plan parts marks is.formed ruled-plan are come) in
         subst (λ p. Path (IsGood allows) p [] (answers_in parts ++ rest) q) stated-is
-        (path_bind (IsGood allows) (found_by ruled plan) found (λ found. ended_by ruled places found) q [] [] (answers_in parts) rest first path)
+        (path_bind (IsGood allows) (findings_by_plan ruled plan) found (λ found. report_by_findings ruled places found) q [] [] (answers_in parts) rest first path)
 
     pub program-kept : AreKept allows (record { program = ruled; plan = plan; parts = parts })
     program-kept = parts-kept allows kept ruled plan parts marks is.formed ruled-plan are come
 
     -- what is known of the report under these answers
-    pub report-analysed : (free : ClaimsKnowNoRule) (report : Report) (rest : List Answer) → Path (IsGood allows) (ended_by ruled places found) [] rest (Done report)
+    pub report-analysed : (free : ClaimsKnowNoRule) (report : Report) (rest : List Answer) → Path (IsGood allows) (report_by_findings ruled places found) [] rest (Done report)
         → ClaimsAreMet ruled report → ReportCovers ruled report → PointsMeetRows report → IsAnalysedBy allows rule text (answers_in parts ++ rest) report
     report-analysed free report rest path met covers points =
         let leads = analysis-leads rest (Done report) path in
@@ -176,11 +176,11 @@ module _ {S : Type 0} (O : Asking S) (rule : ℕ) (before : Option Last) (old no
       path_map (IsGood O.allows) (IsGood Anything) p q [] answers (λ question answer good. record { passes = good.passes; is_true = good.is_true; allowed = tt }) path
 
   module _ (from to : ℕ) (made : FoundParts) (over : IsFoundOver O (groups_of before) ruled plan old now from to made) where
-    any-come : AreCome Anything (groups_of before) ruled (found_by_kept (length ruled.procs) [] []) plan made.parts over.marks
-    any-come = all_come-weaker O.allows Anything nothing-more (groups_of before) ruled (found_by_kept (length ruled.procs) [] []) plan made.parts over.marks over.come
+    any-come : AreCome Anything (groups_of before) ruled (findings_by_kept (length ruled.procs) [] []) plan made.parts over.marks
+    any-come = all_come-weaker O.allows Anything nothing-more (groups_of before) ruled (findings_by_kept (length ruled.procs) [] []) plan made.parts over.marks over.come
 
     pub submitted : (free : ClaimsKnowNoRule) (report : Report) (rest : List Answer) (last : Last) (counts : Counts)
-        → LeadsTo O now new rest (ended_by ruled places made.found) (Done report)
+        → LeadsTo O now new rest (report_by_findings ruled places made.found) (Done report)
         → ClaimsAreMet ruled report → ReportCovers ruled report → PointsMeetRows report
         → last ≡ record { groups = record { program = ruled; plan = plan; parts = made.parts }; report = report; rest = rest }
         → counts ≡ counts_of made.work (length plan) report → IsSubmittedOver O rule before old new text last counts
@@ -192,9 +192,9 @@ module _ {S : Type 0} (O : Asking S) (rule : ℕ) (before : Option Last) (old no
           planned = is.planned;
           is = is.under;
           marks = over.marks;
-          come = subst (λ (p : Program). AreCome O.allows kept ruled (found_by_kept (length p.procs) [] []) plan made.parts over.marks) is.under over.come;
+          come = subst (λ (p : Program). AreCome O.allows kept ruled (findings_by_kept (length p.procs) [] []) plan made.parts over.marks) is.under over.come;
           analysed = report-analysed rule text program ruled plan places is kept Anything are made.parts over.marks made.found any-come over.found
-              free report rest (any-path (ended_by ruled places made.found) (Done report) rest ended.path) met covers points;
+              free report rest (any-path (report_by_findings ruled places made.found) (Done report) rest ended.path) met covers points;
           kept = program-kept rule text program ruled plan places is kept Anything are made.parts over.marks made.found any-come over.found;
           allowed = λ allowed. (
             report-analysed rule text program ruled plan places is kept O.allows allowed made.parts over.marks made.found over.come over.found
@@ -206,7 +206,7 @@ module _ {S : Type 0} (O : Asking S) (rule : ℕ) (before : Option Last) (old no
           counted = counted ∙ ap (λ n. counts_of n (length plan) report) over.work;
         })
 
-    pub ended-unanswered : StopsAt O now new (ended_by ruled places made.found) → IsUnansweredOver O rule before old new text
+    pub ended-unanswered : StopsAt O now new (report_by_findings ruled places made.found) → IsUnansweredOver O rule before old new text
     ended-unanswered stop =
         let kept = groups_of before in
         record {
@@ -218,7 +218,7 @@ module _ {S : Type 0} (O : Asking S) (rule : ℕ) (before : Option Last) (old no
           question = stop.question;
           next = stop.next;
           leads = analysis-leads rule text program ruled plan places is kept Anything are made.parts over.marks made.found any-come over.found
-              stop.answers (Asked stop.question stop.next) (any-path (ended_by ruled places made.found) (Asked stop.question stop.next) stop.answers stop.path);
+              stop.answers (Asked stop.question stop.next) (any-path (report_by_findings ruled places made.found) (Asked stop.question stop.next) stop.answers stop.path);
           allowed = λ allowed. analysis-leads rule text program ruled plan places is kept O.allows allowed made.parts over.marks made.found over.come over.found
               stop.answers (Asked stop.question stop.next) stop.path;
           outside = subst (λ (p : Program). IsOutside O.allows kept p plan (answers_in made.parts ++ stop.answers) (answers_asked over.marks made.parts ++ stop.answers)) is.under
@@ -243,15 +243,15 @@ module _ {S : Type 0} (O : Asking S) (rule : ℕ) (before : Option Last) (old no
   group-leads : (over : IsDeclinedOver O (groups_of before) ruled plan old new) (allows : Question → Answer → Type 0)
       → ((question : Question) (answer : Answer) → O.allows question answer → allows question answer) → AreKeptIf allows (groups_of before)
       → Path (IsGood allows) (analysis_of rule text program plan) [] (answers_in over.parts ++ over.answers)
-      (Asked over.question (λ answer. declined-next O (groups_of before) ruled plan old new over answer >>= λ found. ended_by ruled places found))
-  unfolding analysed ◌>>=◌
+      (Asked over.question (λ answer. declined-next O (groups_of before) ruled plan old new over answer >>= λ found. report_by_findings ruled places found))
+  unfolding report_by_plan ◌>>=◌
   group-leads over allows weaker kept_are =
       let kept = groups_of before in
       let next = declined-next O kept ruled plan old new over in
       let answers = answers_in over.parts ++ over.answers in
-      subst (λ p. Path (IsGood allows) p [] answers (Asked over.question (λ answer. next answer >>= λ found. ended_by ruled places found)))
+      subst (λ p. Path (IsGood allows) p [] answers (Asked over.question (λ answer. next answer >>= λ found. report_by_findings ruled places found)))
       (stated-is rule text program ruled plan places is kept)
-      (path_into (IsGood allows) (found_by ruled plan) (Asked over.question next) [] answers (λ found. ended_by ruled places found)
+      (path_into (IsGood allows) (findings_by_plan ruled plan) (Asked over.question next) [] answers (λ found. report_by_findings ruled places found)
       (declined-leads O kept ruled plan old new over is.formed (ruled-plan rule text program ruled plan places is kept) allows weaker kept_are))
 
   pub group-unanswered : IsDeclinedOver O (groups_of before) ruled plan old new → IsUnansweredOver O rule before old new text
@@ -265,7 +265,7 @@ module _ {S : Type 0} (O : Asking S) (rule : ℕ) (before : Option Last) (old no
         answers = answers;
         asked = answers_asked over.marks over.parts ++ over.answers;
         question = over.question;
-        next = λ answer. declined-next O kept ruled plan old new over answer >>= λ found. ended_by ruled places found;
+        next = λ answer. declined-next O kept ruled plan old new over answer >>= λ found. report_by_findings ruled places found;
         leads = group-leads over Anything nothing-more are;
         allowed = λ allowed. group-leads over O.allows (λ question answer h. h) allowed;
         outside = subst (λ (p : Program). IsOutside O.allows kept p plan answers (answers_asked over.marks over.parts ++ over.answers)) is.under
@@ -306,12 +306,12 @@ module _ {S : Type 0} (O : Asking S) (rule : ℕ) (before : Option Last) (old no
   groups-fail from to Refused came = group-unanswered O rule before old now new text program ruled plan places is are came
 
   pub end-fails : (from to : ℕ) (made : FoundParts) → IsFoundOver O (groups_of before) ruled plan old now from to made → (log after : Log) → log ≡ record { notes = []; answers = [] }
-      → (error : WorkError) → Follows O now new log after (Err error) (ended_by ruled places made.found) → IsWorkCause O rule before old new text error
+      → (error : WorkError) → Follows O now new log after (Err error) (report_by_findings ruled places made.found) → IsWorkCause O rule before old new text error
   end-fails from to made over log after empty Memory follows =
-      quiet-halted O now new log after (ended_by ruled places made.found) empty (ended-quiet ruled places made.found) follows ∙ over.counted
+      quiet-halted O now new log after (report_by_findings ruled places made.found) empty (ended-quiet ruled places made.found) follows ∙ over.counted
   end-fails from to made over log after empty Refused follows =
       ended-unanswered O rule before old now new text program ruled plan places is are from to made over
-      (quiet-stopped O now new log after (ended_by ruled places made.found) empty (ended-quiet ruled places made.found) follows)
+      (quiet-stopped O now new log after (report_by_findings ruled places made.found) empty (ended-quiet ruled places made.found) follows)
 
 -- ---- where the session has accepted none before
 
@@ -322,13 +322,13 @@ module _ {S : Type 0} (O : Asking S) (rule : ℕ) (old new : S) (text : List ℕ
       let same = accepted-once text program other one.accepted two.accepted in
       ap length (plan-one (with_rule rule program) plan others one.is_plan (subst (λ (p : Program). IsPlan (with_rule rule p) others) (sym same) two.is_plan))
 
-  pub first-submitted : (last : Last) (counts : Counts) → IsSubmittedOver O rule None old new text last counts → IsWorked O rule old new text (analysed_of last) counts
+  pub first-submitted : (last : Last) (counts : Counts) → IsSubmittedOver O rule None old new text last counts → IsWorked O rule old new text (last_analysis last) counts
   first-submitted last counts h =
-      let none = none-kept O.allows last.groups.program (found_by_kept (length h.program.procs) [] []) last.groups.plan last.groups.parts h.marks h.come in
-      let analysed = (h.allowed tt).0 in
-      let long = plan-long h.program analysed.program last.groups.plan analysed.plan h.planned analysed.planned in
+      let none = none-kept O.allows last.groups.program (findings_by_kept (length h.program.procs) [] []) last.groups.plan last.groups.parts h.marks h.come in
+      let report_by_plan = (h.allowed tt).0 in
+      let long = plan-long h.program report_by_plan.program last.groups.plan report_by_plan.plan h.planned report_by_plan.planned in
       record {
-        analysed = analysed;
+        analysed = report_by_plan;
         taken = h.taken ∙ ap (λ answers. with_all (answers ++ last.rest) (O.left new)) none.0;
         refused_none = h.refused_none;
         counted = h.counted ∙ ap (λ n. counts_of n (length last.groups.plan) last.report) none.1 ∙ ap (λ n. counts_of n n last.report) long;
@@ -337,7 +337,7 @@ module _ {S : Type 0} (O : Asking S) (rule : ℕ) (old new : S) (text : List ℕ
   pub first-unanswered : IsUnansweredOver O rule None old new text → IsUnanswered O rule old new text
   first-unanswered h =
       let out = h.outside in
-      let none = none-kept O.allows (with_rule rule h.program) (found_by_kept (length h.program.procs) [] []) out.done out.parts out.marks out.come in
+      let none = none-kept O.allows (with_rule rule h.program) (findings_by_kept (length h.program.procs) [] []) out.done out.parts out.marks out.come in
       let same : h.asked ≡ h.answers = out.asked_are ∙ ap (λ answers. answers ++ out.since) none.0 ∙ sym out.answers_are in
       record {
         program = h.program;
@@ -366,9 +366,9 @@ module _ {S : Type 0} (O : Asking S) (old new : S) (text : List ℕ) (session : 
   next-allowed last counts h = h.kept
 
   pub session-first : (last : Last) (counts : Counts) → IsSubmittedOver O rule before old new text last counts → session.last ≡ None
-      → IsWorked O session.rule old new text (analysed_of last) counts
+      → IsWorked O session.rule old new text (last_analysis last) counts
   session-first last counts h =
-      subst (λ (s : Kept). s.last ≡ None → IsWorked O s.rule old new text (analysed_of last) counts) (sym seen)
+      subst (λ (s : Kept). s.last ≡ None → IsWorked O s.rule old new text (last_analysis last) counts) (sym seen)
       (λ none. first-submitted O rule old new text last counts (subst (λ before. IsSubmittedOver O rule before old new text last counts) none h))
 
   pub session-first_cause : (error : SubmitError) → IsCause O rule before old new text error → session.last ≡ None → IsFirstCause O session.rule old new text error

@@ -12,7 +12,7 @@ use Rattle.summary_cache.specs.declared.working.Counts.{Counts}
 use Rattle.summary_cache.specs.Accepted.{IsRefusedBy}
 use Rattle.summary_cache.specs.Answered.{IsDeclined}
 use Rattle.summary_cache.specs.Counted.{counts_of}
-use Rattle.summary_cache.specs.Kept.{analysed_of}
+use Rattle.summary_cache.specs.Kept.{last_analysis}
 use Rattle.summary_cache.specs.Stated.{IsAnalysedBy, IsPlanned, analysis_of}
 
 -- The text is accepted. Its report is what the analysis comes to under the answers that the oracle
@@ -39,7 +39,7 @@ IsFirstCause O rule old new text Memory = O.refusals new ≡ O.refusals old
 
 abbrev pub KeepsFirst : {S : Type 0} → Asking S → ℕ → S → S → List ℕ → Counts → Option Last → Type 0
 KeepsFirst O rule old new text counts None = ⊥
-KeepsFirst O rule old new text counts (Some last) = IsWorked O rule old new text (analysed_of last)
+KeepsFirst O rule old new text counts (Some last) = IsWorked O rule old new text (last_analysis last)
     counts
 
 abbrev pub ComesFirst : {S : Type 0} → Asking S → ℕ → S → S → List ℕ → Option Last

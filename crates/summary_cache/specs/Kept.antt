@@ -21,8 +21,8 @@ abbrev pub answers_for : Last → List Answer
 answers_for last = answers_in last.groups.parts ++ last.rest
 
 -- its report and its answers
-abbrev pub analysed_of : Last → Analysed
-analysed_of last = record { report = last.report; answers = answers_for last }
+abbrev pub last_analysis : Last → Analysed
+last_analysis last = record { report = last.report; answers = answers_for last }
 
 -- ---- of the text that was accepted last, if one was
 

@@ -9,7 +9,7 @@ use Rattle.report.specs.declared.blocks.Report.{Report}
 use Rattle.report.specs.Claims.{ClaimsAreMet, PointsMeetRows, ReportCovers}
 use Rattle.analysis.specs.declared.places.TextPlace.{TextPlace}
 use Rattle.analysis.specs.declared.planning.Planned.{Planned}
-use Rattle.analysis.specs.Analysis.{analysed}
+use Rattle.analysis.specs.Analysis.{report_by_plan}
 use Rattle.analysis.specs.Plan.{IsPlan}
 use Rattle.named_limits.specs.Named.{LimitsAreNamed}
 use Rattle.summary_cache.specs.Accepted.{Accepts}
@@ -32,7 +32,7 @@ pub record IsPlanned (rule : ℕ) (text : List ℕ) (program : Program)
 
 -- the analysis of the program of a text
 abbrev pub analysis_of : ℕ → List ℕ → Program → List Planned → Posing Report
-analysis_of rule text program plan = analysed (with_rule rule program) (places_of text program) plan
+analysis_of rule text program plan = report_by_plan (with_rule rule program) (places_of text program) plan
 
 -- The text is accepted, and the report is what the analysis of its program comes to under these
 -- answers, each of which passes, is true and is one that may be given. It covers the program, its

@@ -15,7 +15,7 @@ use Rattle.analysis.specs.declared.planning.Planned.{Planned}
 use Rattle.kept_groups.specs.declared.kept.KeptGroups.{KeptGroups}
 use Rattle.kept_groups.specs.declared.kept.KeptPart.{KeptPart}
 use Rattle.kept_groups.specs.Coming.{AreCome, IsNew, answers_asked, count_made}
-use Rattle.kept_groups.specs.Kept.{Anything, answers_in, found_by_kept}
+use Rattle.kept_groups.specs.Kept.{Anything, answers_in, findings_by_kept}
 use Rattle.summary_cache.specs.declared.error.SubmitError.{SubmitError}
 use Rattle.summary_cache.specs.declared.error.SubmitError.TheVariants.{Text, Refused, Memory}
 use Rattle.summary_cache.specs.declared.last.Last.{Last}
@@ -49,7 +49,7 @@ pub record IsSubmittedOver {S : Type 0} (O : Asking S) (rule : ℕ) (before : Op
   pub is : last.groups.program ≡ with_rule rule program
   pub marks : List Bool
   pub come : AreCome O.allows (groups_of before) last.groups.program
-      (found_by_kept (length program.procs) [] []) last.groups.plan last.groups.parts marks
+      (findings_by_kept (length program.procs) [] []) last.groups.plan last.groups.parts marks
   pub analysed : IsAnalysedBy Anything rule text (answers_for last) last.report
   pub kept : AreAllowed Anything (Some last)
   pub allowed : AreAllowed O.allows before
@@ -78,10 +78,10 @@ pub record IsOutside (allows : Question → Answer → Type 0) (kept : Option Ke
   pub is : plan ≡ done ++ left
   pub parts : List KeptPart
   pub marks : List Bool
-  pub come : AreCome allows kept program (found_by_kept (length program.procs) [] []) done parts
+  pub come : AreCome allows kept program (findings_by_kept (length program.procs) [] []) done parts
       marks
   pub known_new : IsNewFirst kept program
-      (found_by_kept (length program.procs) done parts).known left
+      (findings_by_kept (length program.procs) done parts).known left
   pub since : List Answer
   pub answers_are : answers ≡ answers_in parts ++ since
   pub asked_are : asked ≡ answers_asked marks parts ++ since

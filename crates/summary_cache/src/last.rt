@@ -1,6 +1,6 @@
 ghost use Rattle.std.specs.Prelude.{◌≡◌, IfOk};
 ghost use Rattle.kept_groups.specs.Kept.{answers_in};
-ghost use Rattle.summary_cache.specs.Kept.{analysed_of, answers_for};
+ghost use Rattle.summary_cache.specs.Kept.{last_analysis, answers_for};
 
 use farkas_check::Answer;
 use items::Items;
@@ -36,7 +36,7 @@ impl Last {
 
     /// Its report and all its answers.
     pub(crate) fn into_analysed(self, alloc: Global) -> Result<Analysed, AllocError>
-        ensures { IfOk result (λ made. made ≡ analysed_of self) }
+        ensures { IfOk result (λ made. made ≡ last_analysis self) }
     {
         let Last {
             groups,

@@ -3,7 +3,7 @@ ghost use Rattle.summary_cache.specs.Laws.{AcceptedHasRuleTwo, AcceptedIsNotRefu
 ghost use Rattle.summary_cache.specs.Rules.{ClaimsKnowNoRule, RulesAreFree};
 
 /// A text is accepted as one program at most.
-pub fn accepted_once()
+pub fn text_is_accepted_once()
     ensures { AcceptedOnce }
 {}
 

@@ -15,8 +15,9 @@ mod working;
 pub use error::SubmitError;
 pub use last::{Analysed, Last};
 pub use laws::{
-    accepted_has_rule_two, accepted_is_not_refused, accepted_is_well_formed, accepted_once,
-    assertions_ascend, calls_are_statements, claims_know_no_rule, refusal_is_one, rules_are_free,
+    accepted_has_rule_two, accepted_is_not_refused, accepted_is_well_formed, assertions_ascend,
+    calls_are_statements, claims_know_no_rule, refusal_is_one, rules_are_free,
+    text_is_accepted_once,
 };
 pub use limits::MOST_BYTES;
 pub use place::{column_at, line_at, places_of};

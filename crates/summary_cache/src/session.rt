@@ -2,7 +2,7 @@ ghost use Rattle.std.specs.Prelude.{◌≡◌, ◌≤◌, ◌+◌, None, length,
 ghost use Rattle.std.specs.Option.{option_copied, option_map};
 ghost use Rattle.kept_groups.specs.Kept.{Anything};
 ghost use Rattle.summary_cache.specs.First.{ComesFirst};
-ghost use Rattle.summary_cache.specs.Kept.{AreAllowed, analysed_of};
+ghost use Rattle.summary_cache.specs.Kept.{AreAllowed, last_analysis};
 ghost use Rattle.summary_cache.specs.Limits.{most_bytes};
 ghost use Rattle.summary_cache.specs.Rules.{IsRule};
 ghost use Rattle.summary_cache.specs.Submitted.{Comes, Submits, answers_in_session, report_in};
@@ -113,7 +113,7 @@ impl Session {
 
     /// The report and the answers of the last text, if one was accepted.
     pub fn into_analysed(self, alloc: Global) -> Result<Option<Analysed>, AllocError>
-        ensures { IfOk result (λ made. made ≡ option_map analysed_of self.last) }
+        ensures { IfOk result (λ made. made ≡ option_map last_analysis self.last) }
     {
         match self.last {
             Some(last) => Ok(Some(last.into_analysed(alloc)?)),

@@ -13,11 +13,11 @@ use crate::laws::{
     accepted_is_well_formed, assertions_ascend, claims_know_no_rule, rules_are_free,
 };
 use crate::place::places_of;
-use analysis::{ended_by, plan};
+use analysis::{plan, report_by_findings};
 use farkas_check::Oracle;
-use kept_groups::{FoundParts, KeptGroups, Steps, found_over};
+use kept_groups::{FoundParts, KeptGroups, Steps, findings_over};
 use posing::{Log, WorkError};
-use report::{Report, proved, unproved};
+use report::{Report, proved_assertions, unproved_assertions};
 use std::alloc::Global;
 use std::sync::ledger::Ledger;
 use syntax_tree::Program;
@@ -38,8 +38,8 @@ fn counts_of(work: usize, groups: usize, report: &Report) -> Counts
     Counts {
         work,
         groups,
-        proved: proved(report),
-        unproved: unproved(report),
+        proved: proved_assertions(report),
+        unproved: unproved_assertions(report),
     }
 }
 
@@ -87,7 +87,7 @@ pub(crate) fn submitted_program<O: Oracle, L: Ledger>(
     let plan = plan(alloc, &program)?;
     let places = places_of(alloc, text, program.checks.as_slice())?;
     let kept = groups_of(before);
-    let FoundParts { found, parts, work } = found_over(
+    let FoundParts { found, parts, work } = findings_over(
         alloc,
         &program,
         plan.as_slice(),
@@ -96,7 +96,7 @@ pub(crate) fn submitted_program<O: Oracle, L: Ledger>(
         steps,
     )?;
     let mut log = Log::new(alloc);
-    let report = ended_by(alloc, &program, places.as_slice(), found, oracle, &mut log)?;
+    let report = report_by_findings(alloc, &program, places.as_slice(), found, oracle, &mut log)?;
     let counts = counts_of(work, plan.len(), &report);
     let groups = KeptGroups {
         program,

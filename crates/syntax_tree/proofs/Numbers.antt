@@ -11,7 +11,7 @@ use Rattle.syntax_tree.specs.declared.evaluation.EvalWide.{EvalWide}
 use Rattle.syntax_tree.specs.declared.evaluation.Stop.{Stop}
 use Rattle.syntax_tree.specs.Term.{Term, Lit, Col, Unary, Binary}
 use Rattle.syntax_tree.proofs.Terms.{terms}
-use Rattle.syntax_tree.specs.Value.{State, Step, early_value, evaluated, is_wide, or_else, result_of, sign_steps, signed, steps_after, steps_of, unless_wide, value_of, with_number}
+use Rattle.syntax_tree.specs.Value.{State, Step, early_value, evaluation_result, is_wide, or_else, result_of, sign_steps, unary_value, steps_after, steps_of, unless_wide, value_of, with_number}
 use Rattle.syntax_tree.specs.Evaluation.{as_number, number_of, sign_number, step_number}
 
 abbrev pub Answer : Type 0
@@ -28,17 +28,17 @@ answer_of-after (Some wide) None xs next value e = grind (arith, find-append is_
 answer_of-after (Some wide) (Some x) xs next value e = grind (arith, find-append is_wide xs (next x), e)
 
 pub number_of-Lit : (n : ℤ) (s : State) → number_of (Lit n) s ≡ Ok n
-unfolding number_of evaluated
+unfolding number_of evaluation_result
 number_of-Lit n s = refl
 
 pub number_of-Col : (c : ℕ) (s : State) → number_of (Col c) s ≡ Ok (slice_index_or s c (pos 0))
-unfolding number_of evaluated
+unfolding number_of evaluation_result
 number_of-Col c s = refl
 
 pub number_of-Unary : (sign : Sign) (inner : Term) (s : State) → number_of (Unary sign inner) s ≡ number_of inner s >>= sign_number sign
-unfolding number_of evaluated sign_number
+unfolding number_of evaluation_result sign_number
 number_of-Unary sign inner s =
-    answer_of-after (find is_wide (steps_of inner s)) (value_of inner s) (steps_of inner s) (sign_steps sign) (λ x. Some (signed sign x)) refl
+    answer_of-after (find is_wide (steps_of inner s)) (value_of inner s) (steps_of inner s) (sign_steps sign) (λ x. Some (unary_value sign x)) refl
 
 -- what a binary operator answers, its left operand being a number
 abbrev pub unless_early : Option ℤ → Answer → Answer
@@ -55,7 +55,7 @@ step_of op x y = record { op = op; left = x; right = y }
 
 pub number_of-Binary : (op : Op) (left right : Term) (s : State) → number_of (Binary op left right) s
     ≡ number_of left s >>= λ x. unless_early (early_value op x) (number_of right s >>= λ y. step_number (step_of op x y))
-unfolding number_of evaluated step_number
+unfolding number_of evaluation_result step_number
 number_of-Binary op left right s =
     answer_of-after (find is_wide (steps_of left s)) (value_of left s) (steps_of left s)
     (λ x. if is_some (early_value op x) then [] else (steps_of right s ++ steps_after (value_of right s) (λ y. step_of op x y ∷ [])))
@@ -77,8 +77,8 @@ as_number-Ok (Ok None) x e = cc
 as_number-Ok (Err wide) x e = cc
 
 -- an answer that is no wide step is the value
-pub evaluated-Ok : (e : Term) (s : State) (v : Option ℤ) → evaluated e s ≡ Ok v → v ≡ value_of e s
-unfolding evaluated
+pub evaluated-Ok : (e : Term) (s : State) (v : Option ℤ) → evaluation_result e s ≡ Ok v → v ≡ value_of e s
+unfolding evaluation_result
 evaluated-Ok e s v h = ok_value (find is_wide (steps_of e s)) h
   where
     ok_value : (first : Option Step) → unless_wide first (value_of e s) ≡ Ok v → v ≡ value_of e s

@@ -7,7 +7,7 @@ use Rattle.syntax_tree.specs.declared.evaluation.Stop.{Stop}
 use Rattle.syntax_tree.specs.declared.evaluation.Stop.TheVariants.{DividesByZero, Wide}
 use Rattle.syntax_tree.specs.declared.op.Sign.{Sign}
 use Rattle.syntax_tree.specs.Term.{Term}
-use Rattle.syntax_tree.specs.Value.{State, Step, evaluated, is_wide, sign_steps, signed, step_value, unless_wide}
+use Rattle.syntax_tree.specs.Value.{State, Step, evaluation_result, is_wide, sign_steps, unary_value, step_value, unless_wide}
 
 abbrev pub as_number : Result (Option ℤ) EvalWide → Result ℤ Stop
 as_number (Ok (Some x)) = Ok x
@@ -15,7 +15,7 @@ as_number (Ok None) = Err DividesByZero
 as_number (Err wide) = Err (Wide wide)
 
 unfoldable pub number_of : Term → State → Result ℤ Stop
-number_of e s = as_number (evaluated e s)
+number_of e s = as_number (evaluation_result e s)
 
 -- one step alone, and its value
 unfoldable pub step_number : Step → Result ℤ Stop
@@ -23,4 +23,4 @@ step_number step = as_number (unless_wide (find is_wide (step ∷ [])) (step_val
 
 unfoldable pub sign_number : Sign → ℤ → Result ℤ Stop
 sign_number sign x =
-    as_number (unless_wide (find is_wide (sign_steps sign x)) (Some (signed sign x)))
+    as_number (unless_wide (find is_wide (sign_steps sign x)) (Some (unary_value sign x)))

@@ -24,10 +24,10 @@ abbrev pub is_true : ℤ → Bool
 is_true x = not (int_eq x (pos 0))
 
 -- a unary operator at its operand (C11 6.5.3.3)
-abbrev pub signed : Sign → ℤ → ℤ
-signed Plus x = x
-signed Minus x = pos 0 -ℤ x
-signed Not x = truth_value (not (is_true x))
+abbrev pub unary_value : Sign → ℤ → ℤ
+unary_value Plus x = x
+unary_value Minus x = pos 0 -ℤ x
+unary_value Not x = truth_value (not (is_true x))
 
 -- nothing is divided by 0 (C11 6.5.5)
 abbrev pub if_divisor : ℤ → ℤ → Option ℤ
@@ -69,7 +69,7 @@ or_else (Some x) second = Some x
 abbrev pub value_of : Term → State → Option ℤ
 value_of (Lit n) s = Some n
 value_of (Col c) s = Some (slice_index_or s c (pos 0))
-value_of (Unary sign inner) s = with_number (value_of inner s) (λ x. Some (signed sign x))
+value_of (Unary sign inner) s = with_number (value_of inner s) (λ x. Some (unary_value sign x))
 value_of (Binary op left right) s = with_number (value_of left s) (λ x.
     or_else (early_value op x) (with_number (value_of right s) (result_of op x)))
 
@@ -122,5 +122,5 @@ unless_wide None value = Ok value
 unless_wide (Some step) value = Err (wide_of step)
 
 -- What evaluation in 128 bits comes to.
-unfoldable pub evaluated : Term → State → Result (Option ℤ) EvalWide
-evaluated e s = unless_wide (find is_wide (steps_of e s)) (value_of e s)
+unfoldable pub evaluation_result : Term → State → Result (Option ℤ) EvalWide
+evaluation_result e s = unless_wide (find is_wide (steps_of e s)) (value_of e s)

@@ -1,7 +1,7 @@
 ghost use Rattle.std.specs.Prelude.{◌≡◌, ◌≢◌, IfOk, IsTrue, length, pos, ◌-ℤ◌, ◌*ℤ◌, int_div};
 ghost use Rattle.syntax_tree.specs.Term.{term_of};
 ghost use Rattle.syntax_tree.specs.WellFormed.{columns_below};
-ghost use Rattle.syntax_tree.specs.Value.{early_value, evaluated, truth_value, value_of};
+ghost use Rattle.syntax_tree.specs.Value.{early_value, evaluation_result, truth_value, value_of};
 ghost use Rattle.syntax_tree.specs.Evaluation.{number_of, sign_number, step_number};
 
 use crate::core_expr::Core;
@@ -26,7 +26,7 @@ enum Stop {
 #[tactic(auto, using(crate::proofs::Numbers::endings), unfolding(crate::specs::Evaluation::number_of))]
 pub fn eval(e: &Core, state: &[i128]) -> Result<Option<i128>, EvalWide>
     requires { IsTrue (columns_below (length state.now) (term_of e.now)) }
-    ensures exact { result ≡ evaluated (term_of e.now) state.now }
+    ensures exact { result ≡ evaluation_result (term_of e.now) state.now }
     ensures value { IfOk result (λ v. v ≡ value_of (term_of e.now) state.now) }
 {
     match number(e, state) {

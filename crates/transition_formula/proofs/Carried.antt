@@ -18,13 +18,13 @@ use Rattle.linear_terms.specs.declared.row.Row.{Row}
 use Rattle.linear_terms.specs.declared.row.Case.{Case}
 use Rattle.linear_terms.specs.declared.row.Normal.TheVariants.{Constant, Kept}
 use Rattle.linear_terms.specs.Polynomial.{Terms, Polynomial, column_of, coefficient_in}
-use Rattle.linear_terms.specs.Operations.{multiple_of, substituted}
+use Rattle.linear_terms.specs.Operations.{multiple_of, substituted_polynomial}
 use Rattle.linear_terms.specs.Auxiliaries.{has_auxiliary, occurs, without, put_for, is_numbered}
-use Rattle.linear_terms.specs.Row.{normal_form, divided, with_positive_first, starts_negative, reduced}
+use Rattle.linear_terms.specs.Row.{normal_form, divided_terms, with_positive_first, starts_negative, reduced_row}
 use Rattle.linear_terms.proofs.Columns.{EachColumn, multiple_of-each}
 use Rattle.transition_formula.specs.Transition.{every_column, every_column_of}
 use Rattle.transition_formula.specs.Composition.{by, posts_by, rows_by}
-use Rattle.transition_formula.specs.Rows.{tidied}
+use Rattle.transition_formula.specs.Rows.{tidied_rows}
 use Rattle.transition_formula.specs.Order.{solution, with_solution}
 use Rattle.transition_formula.specs.Rounds.{with_solved}
 use Rattle.transition_formula.proofs.Covered.{both, both_true, lost, Carries, substituted-carries, columns_from_test, test_from_columns, more_columns, rows_by-covered, posts_by-covered}
@@ -36,7 +36,7 @@ done x = Ok x
 
 -- ---- the normal form
 
-divided-each : (P : Col → Type 0) (d : ℕ) (ts : Terms) → EachColumn P ts → EachColumn P (divided d ts)
+divided-each : (P : Col → Type 0) (d : ℕ) (ts : Terms) → EachColumn P ts → EachColumn P (divided_terms d ts)
 divided-each P d [] h = tt
 divided-each P d (t ∷ ts) h = (h.0, divided-each P d ts h.1)
 
@@ -47,15 +47,15 @@ with_positive_first-each P p q e h = go (starts_negative p.terms) e
     go true f = multiple_of-each P p (negsuc 0) q f h
     go false f = let same : p ≡ q = cc in subst (λ r. EachColumn P r.terms) same h
 
-reduced-each : (P : Col → Type 0) (kind : Kind) (g : ℕ) (p : Polynomial) (r : Row) → reduced kind g p ≡ Ok (Kept r) → EachColumn P p.terms → EachColumn P r.poly.terms
-reduced-each P AtMost g p r e h = kept-each P AtMost (divided g p.terms) r e (divided-each P g p.terms h)
+reduced-each : (P : Col → Type 0) (kind : Kind) (g : ℕ) (p : Polynomial) (r : Row) → reduced_row kind g p ≡ Ok (Kept r) → EachColumn P p.terms → EachColumn P r.poly.terms
+reduced-each P AtMost g p r e h = kept-each P AtMost (divided_terms g p.terms) r e (divided-each P g p.terms h)
   where
     kept-each : (P : Col → Type 0) (kind : Kind) (ts : Terms) {rest : ℤ} (r : Row) → done (Kept record { poly = record { terms = ts; rest = rest }; kind = kind }) ≡ Ok (Kept r) → EachColumn P ts → EachColumn P r.poly.terms
     kept-each P kind ts {rest} r e h = let same : record { poly = record { terms = ts; rest = rest }; kind = kind } ≡ r = cc in subst (λ (s : Row). EachColumn P s.poly.terms) same h
 reduced-each P Equal g p r e h = go (divides g (unsigned_abs p.rest)) e
   where
     quotient : Polynomial
-    quotient = record { terms = divided g p.terms; rest = int_div p.rest (pos g) }
+    quotient = record { terms = divided_terms g p.terms; rest = int_div p.rest (pos g) }
 
     go : (b : Bool) → cond b (with_positive_first quotient >>= λ q. Ok (Kept record { poly = q; kind = Equal })) (Ok (Constant false)) ≡ Ok (Kept r) → EachColumn P r.poly.terms
     go true f =
@@ -75,7 +75,7 @@ module _ (test : Col → Bool) where
   normal_form-passes row r e h =
       test_from_columns test r.poly (normal_form-each (λ c. IsTrue (test c)) row.poly.terms row.poly.rest row.kind r e (columns_from_test test row.poly h))
 
-  pub tidied-passes : (rows made : List Row) → (tidied rows).rows ≡ Some made → IsTrue (list_all passes rows) → IsTrue (list_all passes made)
+  pub tidied-passes : (rows made : List Row) → (tidied_rows rows).rows ≡ Some made → IsTrue (list_all passes rows) → IsTrue (list_all passes made)
   tidied-passes rows made e h =
       test_from_each passes (λ row. IsTrue (passes row)) (λ row k. k) made
       (tidied-keeps (λ p. IsTrue (every_column test p)) normal_form-passes rows made e (each_from_test passes (λ row. IsTrue (passes row)) (λ row k. k) rows h))
@@ -111,7 +111,7 @@ module _ (test : Col → Bool) where
       covers (At m) k = test_from_columns t (column_of (At m)) ((more (At m) k, tt), tt)
       covers (Aux m) k = put (m == n) m (more (Aux m) k)
 
-      go : (b : Bool) (p q : Polynomial) → cond b (substituted (put_for n by) p) (Ok p) ≡ Ok q → IsTrue (every_column test p) → IsTrue (every_column t q)
+      go : (b : Bool) (p q : Polynomial) → cond b (substituted_polynomial (put_for n by) p) (Ok p) ≡ Ok q → IsTrue (every_column test p) → IsTrue (every_column t q)
       go true p q f k = (substituted-carries (put_for n by) test t covers).to p q f k
       go false p q f k = let same : p ≡ q = cc in subst (λ r. IsTrue (every_column t r)) same (more_columns test t more p k)
 

@@ -12,12 +12,12 @@ use Rattle.linear_terms.specs.declared.col.Col.TheVariants.{At, Aux}
 use Rattle.linear_terms.specs.declared.error.TermError.{TermError}
 use Rattle.linear_terms.specs.declared.row.Row.{Row}
 use Rattle.linear_terms.specs.Polynomial.{Polynomial, column_of}
-use Rattle.linear_terms.specs.Operations.{substituted}
+use Rattle.linear_terms.specs.Operations.{substituted_polynomial}
 use Rattle.linear_terms.specs.Replacement.{IsBelow}
 use Rattle.linear_terms.proofs.Columns.{EachColumn, substituted-each}
-use Rattle.transition_formula.specs.Loss.{answered}
+use Rattle.transition_formula.specs.Loss.{answer_of}
 use Rattle.transition_formula.specs.Transition.{every_column, is_below}
-use Rattle.transition_formula.specs.Composition.{Operation, row_of, rows_by, filled, posts_by}
+use Rattle.transition_formula.specs.Composition.{Operation, row_of, rows_by, filled_posts, posts_by}
 
 is_below-Decides : (at aux : ℕ) (c : Col) → Decides (is_below at aux c) (IsBelow at aux c)
 is_below-Decides at aux (At n) = Decides-ltb n at
@@ -74,7 +74,7 @@ more_columns_of s t more rows = all_more (λ row. every_column s row.poly) (λ r
 pub record Carries (f : Operation) (s t : Col → Bool) : Type 0 where
   pub to : (p q : Polynomial) → f p ≡ Ok q → IsTrue (every_column s p) → IsTrue (every_column t q)
 
-pub substituted-carries : (put_in : Col → Polynomial) (s t : Col → Bool) → ((c : Col) → IsTrue (s c) → IsTrue (every_column t (put_in c))) → Carries (substituted put_in) s t
+pub substituted-carries : (put_in : Col → Polynomial) (s t : Col → Bool) → ((c : Col) → IsTrue (s c) → IsTrue (every_column t (put_in c))) → Carries (substituted_polynomial put_in) s t
 substituted-carries put_in s t covers =
     record {
       to = λ p q e h. test_from_columns t q (substituted-each (λ c. IsTrue (s c)) (λ c. IsTrue (t c)) put_in (λ c k. columns_from_test t (put_in c) (covers c k)) p q e (columns_from_test s p h));
@@ -91,7 +91,7 @@ rows_by-covered f s t carries (row ∷ rows) h =
     go (Err d) e k rest = rest
 
 abbrev pub lost : Operation → Polynomial → Bool
-lost f p = is_none (answered (f p))
+lost f p = is_none (answer_of (f p))
 
 pub count_lost : (f : Operation) (p : Polynomial) (ps : List Polynomial) → count_by (lost f) (p ∷ ps) ≡ cond (lost f p) 1 0 + count_by (lost f) ps
 count_lost f p ps = sum_by-cons (λ x. cond (lost f x) 1 0) p ps
@@ -106,19 +106,19 @@ posts_by-covered f s t carries end new next (p ∷ ps) few h =
     column_passes : (k : ℕ) → IsTrue (t (Aux k)) → IsTrue (every_column t (column_of (Aux k)))
     column_passes k e = test_from_columns t (column_of (Aux k)) ((e, tt), tt)
 
-    go : (r : Result Polynomial TermError) → f p ≡ r → IsTrue (every_column s p) → next + (cond (is_none (answered (f p))) 1 0 + count_by (lost f) ps) ≤ end
-        → ((n : ℕ) → n + count_by (lost f) ps ≤ end → IsTrue (list_all (every_column t) (posts_by f n ps))) → IsTrue (list_all (every_column t) (filled next (answered r ∷ map (λ q. answered (f q)) ps)))
+    go : (r : Result Polynomial TermError) → f p ≡ r → IsTrue (every_column s p) → next + (cond (is_none (answer_of (f p))) 1 0 + count_by (lost f) ps) ≤ end
+        → ((n : ℕ) → n + count_by (lost f) ps ≤ end → IsTrue (list_all (every_column t) (posts_by f n ps))) → IsTrue (list_all (every_column t) (filled_posts next (answer_of r ∷ map (λ q. answer_of (f q)) ps)))
     go (Ok q) e k bound rest =
-        let here : next + (cond (is_none (answered {A = Polynomial} (Ok q))) 1 0 + count_by (lost f) ps) ≤ end = subst (λ r. next + (cond (is_none (answered r)) 1 0 + count_by (lost f) ps) ≤ end) e bound in
+        let here : next + (cond (is_none (answer_of {A = Polynomial} (Ok q))) 1 0 + count_by (lost f) ps) ≤ end = subst (λ r. next + (cond (is_none (answer_of r)) 1 0 + count_by (lost f) ps) ≤ end) e bound in
         both_true (every_column t q) (list_all (every_column t) (posts_by f next ps)) (carries.to p q e k) (rest next (omega arith))
     go (Err d) e k bound rest =
-        let here : next + (cond (is_none (answered {A = Polynomial} (Err d))) 1 0 + count_by (lost f) ps) ≤ end = subst (λ r. next + (cond (is_none (answered r)) 1 0 + count_by (lost f) ps) ≤ end) e bound in
+        let here : next + (cond (is_none (answer_of {A = Polynomial} (Err d))) 1 0 + count_by (lost f) ps) ≤ end = subst (λ r. next + (cond (is_none (answer_of r)) 1 0 + count_by (lost f) ps) ≤ end) e bound in
         both_true (every_column t (column_of (Aux next))) (list_all (every_column t) (posts_by f (next + 1) ps)) (column_passes next (new next (omega arith))) (rest (next + 1) (omega arith))
 
 pub posts_by-length : (f : Operation) (next : ℕ) (posts : List Polynomial) → length (posts_by f next posts) ≡ length posts
 posts_by-length f next [] = refl
-posts_by-length f next (p ∷ ps) = go (answered (f p)) (posts_by-length f next ps) (posts_by-length f (next + 1) ps)
+posts_by-length f next (p ∷ ps) = go (answer_of (f p)) (posts_by-length f next ps) (posts_by-length f (next + 1) ps)
   where
-    go : (o : Option Polynomial) → length (posts_by f next ps) ≡ length ps → length (posts_by f (next + 1) ps) ≡ length ps → length (filled next (o ∷ map (λ q. answered (f q)) ps)) ≡ length (p ∷ ps)
+    go : (o : Option Polynomial) → length (posts_by f next ps) ≡ length ps → length (posts_by f (next + 1) ps) ≡ length ps → length (filled_posts next (o ∷ map (λ q. answer_of (f q)) ps)) ≡ length (p ∷ ps)
     go None h k = ap suc k
     go (Some q) h k = ap suc h

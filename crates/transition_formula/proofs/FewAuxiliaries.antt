@@ -12,10 +12,10 @@ use Rattle.linear_terms.specs.declared.error.TermError.{TermError}
 use Rattle.linear_terms.specs.declared.row.Row.{Row}
 use Rattle.linear_terms.specs.declared.row.Case.{Case}
 use Rattle.linear_terms.specs.Auxiliaries.{has_auxiliary, is_numbered, put_for}
-use Rattle.linear_terms.specs.Operations.{substituted}
+use Rattle.linear_terms.specs.Operations.{substituted_polynomial}
 use Rattle.linear_terms.specs.Polynomial.{Polynomial, column_of}
-use Rattle.transition_formula.specs.Composition.{by, filled, posts_by}
-use Rattle.transition_formula.specs.Loss.{answered}
+use Rattle.transition_formula.specs.Composition.{by, filled_posts, posts_by}
+use Rattle.transition_formula.specs.Loss.{answer_of}
 use Rattle.transition_formula.specs.Order.{first_equation, solution, with_solution}
 use Rattle.transition_formula.specs.Rounds.{with_rows, with_solved}
 use Rattle.transition_formula.specs.Transition.{every_column}
@@ -59,7 +59,7 @@ module _ (start : ℕ) where
 
   -- an auxiliary after the first is not the one that is put in
   new-stays : (n k : ℕ) (q : Polynomial) → n < start → start ≤ k → with_solution n q (column_of (Aux k)) ≡ Ok (column_of (Aux k))
-  new-stays n k q low le = ap (λ b. cond ((b || false) || false) (substituted (put_for n q) (column_of (Aux k))) (Ok (column_of (Aux k)))) (apart (k == n) refl)
+  new-stays n k q low le = ap (λ b. cond ((b || false) || false) (substituted_polynomial (put_for n q) (column_of (Aux k))) (Ok (column_of (Aux k)))) (apart (k == n) refl)
     where
       apart : (b : Bool) → (k == n) ≡ b → (k == n) ≡ false
       apart true e = let same = (Decides-eqb k n).0 e in absurd (omega (arith, same, low, le))
@@ -83,8 +83,8 @@ module _ (start : ℕ) where
         go : (r : Result Polynomial TermError) → op p ≡ r → ((m : ℕ) → start ≤ m → IsKept m posts) → IsKept next (p ∷ posts)
         go (Ok r) e ih =
             let rest = ih next le in
-            let made : posts_by op next (p ∷ posts) ≡ r ∷ posts_by op next posts = ap (λ s. filled next (answered s ∷ map (λ x. answered (op x)) posts)) e in
-            let losses = count_lost op p posts ∙ ap (λ s. cond (is_none (answered s)) 1 0 + count_by (lost op) posts) e in
+            let made : posts_by op next (p ∷ posts) ≡ r ∷ posts_by op next posts = ap (λ s. filled_posts next (answer_of s ∷ map (λ x. answer_of (op x)) posts)) e in
+            let losses = count_lost op p posts ∙ ap (λ s. cond (is_none (answer_of s)) 1 0 + count_by (lost op) posts) e in
             let before = count-own p posts ∙ ap (λ b. cond b 1 0 + count_by own posts) mine in
             let after = count-own r (posts_by op next posts) ∙ ap (λ b. cond b 1 0 + count_by own (posts_by op next posts)) (made_own r e) in
             let fewer = rest.fewer in
@@ -94,8 +94,8 @@ module _ (start : ℕ) where
             }
         go (Err x) e ih =
             let rest = ih (next + 1) (omega (arith, le)) in
-            let made : posts_by op next (p ∷ posts) ≡ column_of (Aux next) ∷ posts_by op (next + 1) posts = ap (λ s. filled next (answered s ∷ map (λ x. answered (op x)) posts)) e in
-            let losses = count_lost op p posts ∙ ap (λ s. cond (is_none (answered s)) 1 0 + count_by (lost op) posts) e in
+            let made : posts_by op next (p ∷ posts) ≡ column_of (Aux next) ∷ posts_by op (next + 1) posts = ap (λ s. filled_posts next (answer_of s ∷ map (λ x. answer_of (op x)) posts)) e in
+            let losses = count_lost op p posts ∙ ap (λ s. cond (is_none (answer_of s)) 1 0 + count_by (lost op) posts) e in
             let before = count-own p posts ∙ ap (λ b. cond b 1 0 + count_by own posts) mine in
             let after = count-own (column_of (Aux next)) (posts_by op (next + 1) posts) ∙ ap (λ b. cond b 1 0 + count_by own (posts_by op (next + 1) posts)) (new-not_own next le) in
             let fewer = rest.fewer in
@@ -106,8 +106,8 @@ module _ (start : ℕ) where
     posts-kept next (p ∷ posts) le (inr (k, above, is), h) =
         let rest = posts-kept next posts le h in
         let stays : op p ≡ Ok (column_of (Aux k)) = ap op is ∙ new-stays n k q low above in
-        let made : posts_by op next (p ∷ posts) ≡ column_of (Aux k) ∷ posts_by op next posts = ap (λ s. filled next (answered s ∷ map (λ x. answered (op x)) posts)) stays in
-        let losses = count_lost op p posts ∙ ap (λ s. cond (is_none (answered s)) 1 0 + count_by (lost op) posts) stays in
+        let made : posts_by op next (p ∷ posts) ≡ column_of (Aux k) ∷ posts_by op next posts = ap (λ s. filled_posts next (answer_of s ∷ map (λ x. answer_of (op x)) posts)) stays in
+        let losses = count_lost op p posts ∙ ap (λ s. cond (is_none (answer_of s)) 1 0 + count_by (lost op) posts) stays in
         let before = count-own p posts ∙ ap (λ b. cond b 1 0 + count_by own posts) (ap own is ∙ new-not_own k above) in
         let after = count-own (column_of (Aux k)) (posts_by op next posts) ∙ ap (λ b. cond b 1 0 + count_by own (posts_by op next posts)) (new-not_own k above) in
         let fewer = rest.fewer in

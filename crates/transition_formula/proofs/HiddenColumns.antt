@@ -11,14 +11,14 @@ use Rattle.linear_terms.specs.declared.col.Col.{Col}
 use Rattle.linear_terms.specs.declared.col.Col.TheVariants.{At, Aux}
 use Rattle.linear_terms.specs.declared.row.Case.{Case}
 use Rattle.linear_terms.specs.declared.row.Row.{Row}
-use Rattle.linear_terms.specs.Operations.{substituted}
+use Rattle.linear_terms.specs.Operations.{substituted_polynomial}
 use Rattle.transition_formula.specs.declared.loss.Loss.{Loss}
 use Rattle.linear_terms.specs.Polynomial.{Polynomial, column_of, constant_of}
 use Rattle.linear_terms.specs.Replacement.{put_in}
 use Rattle.linear_terms.specs.Value.{Valuation, value_of}
 use Rattle.linear_terms.proofs.Values.{substituted-value}
-use Rattle.transition_formula.specs.Composition.{rows_by, posts_by, lost_by}
-use Rattle.transition_formula.specs.Hiding.{entries_hidden, own_auxiliaries, hiding, hidden_case, hidden, lost_in_hiding}
+use Rattle.transition_formula.specs.Composition.{rows_by, posts_by, losses_by}
+use Rattle.transition_formula.specs.Hiding.{entries_hidden, own_auxiliaries, hiding, hidden_case, hidden, losses_in_hiding}
 use Rattle.transition_formula.specs.Loss.{losses_of}
 use Rattle.transition_formula.specs.Meaning.{numbers, HoldsCase, HoldsSome, Holds}
 use Rattle.transition_formula.specs.Transition.{Transition, every_column, every_column_of, is_below, fits, IsTransition}
@@ -114,7 +114,7 @@ module _ (n from to : ℕ) (case : Case) (f : Fitting from to case) where
         },
       )
 
-  hidden_case-held : (told after : List ℤ) → length told ≡ n → lost_by (hiding n from case) case ≡ [] → HoldsCase (hidden_case n from case) told after → (more : List ℤ) × ((length more ≡ from - n) × HoldsCase case (told ++ more) after)
+  hidden_case-held : (told after : List ℤ) → length told ≡ n → losses_by (hiding n from case) case ≡ [] → HoldsCase (hidden_case n from case) told after → (more : List ℤ) × ((length more ≡ from - n) × HoldsCase case (told ++ more) after)
   hidden_case-held told after long none (aux, h) =
       let op = hiding n from case in
       let other : ℕ → ℤ = λ k. aux (case.aux + k) in
@@ -153,15 +153,15 @@ module _ (n from to : ℕ) where
   some-hold (case ∷ cases) e before after (inl h) = inl (hidden_case-holds n from to case (fitting from to case (both (fits from to case) (list_all (fits from to) cases) e).0) before after h)
   some-hold (case ∷ cases) e before after (inr h) = inr (some-hold cases (both (fits from to case) (list_all (fits from to) cases) e).1 before after h)
 
-  some-held : (cases : List Case) → IsTransition from to cases → (told after : List ℤ) → length told ≡ n → flat_map (λ case. lost_by (hiding n from case) case) cases ≡ [] → HoldsSome (map (hidden_case n from) cases) told after
+  some-held : (cases : List Case) → IsTransition from to cases → (told after : List ℤ) → length told ≡ n → flat_map (λ case. losses_by (hiding n from case) case) cases ≡ [] → HoldsSome (map (hidden_case n from) cases) told after
       → (more : List ℤ) × ((length more ≡ from - n) × HoldsSome cases (told ++ more) after)
   some-held [] e told after long none h = absurd h
   some-held (case ∷ cases) e told after long none (inl h) =
-      let losses = none-of (lost_by (hiding n from case) case) (flat_map (λ c. lost_by (hiding n from c) c) cases) none in
+      let losses = none-of (losses_by (hiding n from case) case) (flat_map (λ c. losses_by (hiding n from c) c) cases) none in
       let held = hidden_case-held n from to case (fitting from to case (both (fits from to case) (list_all (fits from to) cases) e).0) told after long losses.0 h in
       (held.0, (held.1.0, inl held.1.1))
   some-held (case ∷ cases) e told after long none (inr h) =
-      let losses = none-of (lost_by (hiding n from case) case) (flat_map (λ c. lost_by (hiding n from c) c) cases) none in
+      let losses = none-of (losses_by (hiding n from case) case) (flat_map (λ c. losses_by (hiding n from c) c) cases) none in
       let held = some-held cases (both (fits from to case) (list_all (fits from to) cases) e).1 told after long losses.1 h in
       (held.0, (held.1.0, inr held.1.1))
 
@@ -173,7 +173,7 @@ hidden-holds n f le e before after h = record {
 }
 
 -- and where nothing was lost of no others
-pub hidden-held : (n : ℕ) (f : Transition) → n ≤ f.from → IsTransition f.from f.to f.cases → lost_in_hiding n f ≡ [] → (told after : List ℤ) → Holds (hidden n f) told after → (more : List ℤ) × Holds f (told ++ more) after
+pub hidden-held : (n : ℕ) (f : Transition) → n ≤ f.from → IsTransition f.from f.to f.cases → losses_in_hiding n f ≡ [] → (told after : List ℤ) → Holds (hidden n f) told after → (more : List ℤ) × Holds f (told ++ more) after
 hidden-held n f le e none told after h =
     let held = some-held n f.from f.to f.cases e told after h.enters none h.some in
     (held.0, record { enters = let long = h.enters in let rest = held.1.0 in omega (arith, length-append told held.0); some = held.1.1 })
@@ -245,20 +245,20 @@ hidden_posts_covered n from case at aux posts le h e f g =
     subst (λ b. b ≡ true) (sym (λ i. list_all (every_column (is_below (long i) (many i))) (g i))) parts.1
 
 module _ (n from : ℕ) (case : Case) (at aux : List Polynomial) (rows : List Row) (posts : List Polynomial) (reads : ReadsHidden n from case at aux rows posts) where
-  pub hidden_made : (made : List Row) (post : List Polynomial) (count : ℕ) → made ≡ rows_by (substituted (put_in at aux)) rows → post ≡ posts_by (substituted (put_in at aux)) (case.aux + (from - n)) posts
-      → count ≡ case.aux + (from - n) + count_by (lost (substituted (put_in at aux))) posts → (let c : Case = record { aux = count; rows = made; post = post } in c ≡ hidden_case n from case)
+  pub hidden_made : (made : List Row) (post : List Polynomial) (count : ℕ) → made ≡ rows_by (substituted_polynomial (put_in at aux)) rows → post ≡ posts_by (substituted_polynomial (put_in at aux)) (case.aux + (from - n)) posts
+      → count ≡ case.aux + (from - n) + count_by (lost (substituted_polynomial (put_in at aux))) posts → (let c : Case = record { aux = count; rows = made; post = post } in c ≡ hidden_case n from case)
   hidden_made made post count e f g =
       (λ i. record { aux = g i; rows = e i; post = f i })
       ∙ (λ i. record {
-        aux = case.aux + (from - n) + count_by (lost (substituted (put_in (reads.same_at i) (reads.same_aux i)))) (reads.same_posts i);
-        rows = rows_by (substituted (put_in (reads.same_at i) (reads.same_aux i))) (reads.same_rows i);
-        post = posts_by (substituted (put_in (reads.same_at i) (reads.same_aux i))) (case.aux + (from - n)) (reads.same_posts i);
+        aux = case.aux + (from - n) + count_by (lost (substituted_polynomial (put_in (reads.same_at i) (reads.same_aux i)))) (reads.same_posts i);
+        rows = rows_by (substituted_polynomial (put_in (reads.same_at i) (reads.same_aux i))) (reads.same_rows i);
+        post = posts_by (substituted_polynomial (put_in (reads.same_at i) (reads.same_aux i))) (case.aux + (from - n)) (reads.same_posts i);
       })
 
-  pub hidden_noted : (before between after : List Loss) → between ≡ before ++ flat_map (λ row. losses_of (substituted (put_in at aux) row.poly)) rows → after ≡ between ++ flat_map (λ p. losses_of (substituted (put_in at aux) p)) posts
-      → after ≡ before ++ lost_by (hiding n from case) case
+  pub hidden_noted : (before between after : List Loss) → between ≡ before ++ flat_map (λ row. losses_of (substituted_polynomial (put_in at aux) row.poly)) rows → after ≡ between ++ flat_map (λ p. losses_of (substituted_polynomial (put_in at aux) p)) posts
+      → after ≡ before ++ losses_by (hiding n from case) case
   hidden_noted before between after e f =
       f
-      ∙ ap (λ l. l ++ flat_map (λ p. losses_of (substituted (put_in at aux) p)) posts) e
-      ∙ append_assoc before (flat_map (λ row. losses_of (substituted (put_in at aux) row.poly)) rows) (flat_map (λ p. losses_of (substituted (put_in at aux) p)) posts)
-      ∙ (λ i. before ++ (flat_map (λ row. losses_of (substituted (put_in (reads.same_at i) (reads.same_aux i)) row.poly)) (reads.same_rows i) ++ flat_map (λ p. losses_of (substituted (put_in (reads.same_at i) (reads.same_aux i)) p)) (reads.same_posts i)))
+      ∙ ap (λ l. l ++ flat_map (λ p. losses_of (substituted_polynomial (put_in at aux) p)) posts) e
+      ∙ append_assoc before (flat_map (λ row. losses_of (substituted_polynomial (put_in at aux) row.poly)) rows) (flat_map (λ p. losses_of (substituted_polynomial (put_in at aux) p)) posts)
+      ∙ (λ i. before ++ (flat_map (λ row. losses_of (substituted_polynomial (put_in (reads.same_at i) (reads.same_aux i)) row.poly)) (reads.same_rows i) ++ flat_map (λ p. losses_of (substituted_polynomial (put_in (reads.same_at i) (reads.same_aux i)) p)) (reads.same_posts i)))

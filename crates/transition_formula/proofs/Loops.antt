@@ -8,7 +8,7 @@ use Rattle.linear_terms.specs.declared.error.TermError.{TermError}
 use Rattle.linear_terms.specs.declared.row.Kind.{Kind}
 use Rattle.linear_terms.specs.declared.row.Row.{Row}
 use Rattle.linear_terms.specs.Polynomial.{Polynomial}
-use Rattle.transition_formula.specs.Loss.{answered}
+use Rattle.transition_formula.specs.Loss.{answer_of}
 use Rattle.transition_formula.specs.Composition.{row_of}
 use Rattle.transition_formula.proofs.Covered.{both}
 
@@ -57,7 +57,7 @@ one_filtered {Y = Y} h xs i x made next o lt e same pushed =
     front (Some y) ys = refl
 
 -- a row is there where its polynomial is
-pub row_of_answered : (kind : Kind) (r : Result Polynomial TermError) (o : Option Polynomial) → o ≡ answered r → row_of kind r ≡ option_map (λ p. row_with p kind) o
+pub row_of_answered : (kind : Kind) (r : Result Polynomial TermError) (o : Option Polynomial) → o ≡ answer_of r → row_of kind r ≡ option_map (λ p. row_with p kind) o
 row_of_answered kind (Ok p) o e = ap (option_map (λ q. row_with q kind)) (sym e)
 row_of_answered kind (Err f) o e = ap (option_map (λ q. row_with q kind)) (sym e)
 

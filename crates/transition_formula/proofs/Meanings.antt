@@ -17,7 +17,7 @@ use Rattle.linear_terms.proofs.Values.{substituted-value}
 use Rattle.transition_formula.specs.Loss.{losses_of}
 use Rattle.transition_formula.specs.Transition.{Transition, is_below, fits, IsTransition}
 use Rattle.transition_formula.specs.Meaning.{numbers, HoldsCase, HoldsSome, Holds}
-use Rattle.transition_formula.specs.Composition.{identity_of, joined, lost_by, rows_by, after_case, sequence_of_cases, sequence_of, lost_in_sequence}
+use Rattle.transition_formula.specs.Composition.{identity_of, union_of, losses_by, rows_by, after_case, sequence_of_cases, sequence_of, losses_in_sequence}
 use Rattle.transition_formula.proofs.Covered.{both}
 use Rattle.transition_formula.proofs.Fitting.{Fitting, fitting, below-true, true-below}
 use Rattle.transition_formula.proofs.Sequences.{later}
@@ -44,13 +44,13 @@ some-either (x ∷ xs) ys before after (inr h) = go (some-either xs ys before af
     go (inl k) = inl (inr k)
     go (inr k) = inr k
 
-pub joined-left : (a b : Transition) (before after : List ℤ) → Holds a before after → Holds (joined a b) before after
+pub joined-left : (a b : Transition) (before after : List ℤ) → Holds a before after → Holds (union_of a b) before after
 joined-left a b before after h = record { enters = h.enters; some = some-left a.cases b.cases before after h.some }
 
-pub joined-right : (a b : Transition) (before after : List ℤ) → a.from ≡ b.from → Holds b before after → Holds (joined a b) before after
+pub joined-right : (a b : Transition) (before after : List ℤ) → a.from ≡ b.from → Holds b before after → Holds (union_of a b) before after
 joined-right a b before after e h = record { enters = h.enters ∙ sym e; some = some-right a.cases b.cases before after h.some }
 
-pub joined-either : (a b : Transition) (before after : List ℤ) → a.from ≡ b.from → Holds (joined a b) before after → Holds a before after ⊎ Holds b before after
+pub joined-either : (a b : Transition) (before after : List ℤ) → a.from ≡ b.from → Holds (union_of a b) before after → Holds a before after ⊎ Holds b before after
 joined-either a b before after e h = go (some-either a.cases b.cases before after h.some)
   where
     go : HoldsSome a.cases before after ⊎ HoldsSome b.cases before after → Holds a before after ⊎ Holds b before after
@@ -164,7 +164,7 @@ back-of : {A : Type 0} (P : A → Type 0) (xs ys : List A) → AllByRecursion P 
 back-of P [] ys h = h
 back-of P (x ∷ xs) ys h = back-of P xs ys h.1
 
-pub cases-held : (from between to : ℕ) (first second : Case) → Fitting from between first → Fitting between to second → (before after : List ℤ) → lost_by (after_case first second) second ≡ [] → HoldsCase (sequence_of_cases first second) before after
+pub cases-held : (from between to : ℕ) (first second : Case) → Fitting from between first → Fitting between to second → (before after : List ℤ) → losses_by (after_case first second) second ≡ [] → HoldsCase (sequence_of_cases first second) before after
     → (middle : List ℤ) × (HoldsCase first before middle × HoldsCase second middle after)
 cases-held from between to first second f s before after none h =
     let op = after_case first second in
@@ -208,29 +208,29 @@ module _ (from between to : ℕ) where
       let parts = both (fits from between first) (list_all (fits from between) firsts) e in
       some-right (map (sequence_of_cases first) seconds) (flat_map (λ f. map (sequence_of_cases f) seconds) firsts) before after (all-hold firsts seconds parts.1 g before middle after h k)
 
-  with_each-held : (first : Case) (seconds : List Case) → IsTrue (fits from between first) → IsTransition between to seconds → (before after : List ℤ) → flat_map (λ second. lost_by (after_case first second) second) seconds ≡ []
+  with_each-held : (first : Case) (seconds : List Case) → IsTrue (fits from between first) → IsTransition between to seconds → (before after : List ℤ) → flat_map (λ second. losses_by (after_case first second) second) seconds ≡ []
       → HoldsSome (map (sequence_of_cases first) seconds) before after → (middle : List ℤ) × (HoldsCase first before middle × HoldsSome seconds middle after)
   with_each-held first [] e g before after none h = absurd h
   with_each-held first (second ∷ seconds) e g before after none (inl h) =
       let parts = both (fits between to second) (list_all (fits between to) seconds) g in
-      let losses = none-of (lost_by (after_case first second) second) (flat_map (λ s. lost_by (after_case first s) s) seconds) none in
+      let losses = none-of (losses_by (after_case first second) second) (flat_map (λ s. losses_by (after_case first s) s) seconds) none in
       let held = cases-held from between to first second (fitting from between first e) (fitting between to second parts.0) before after losses.0 h in
       (held.0, (held.1.0, inl held.1.1))
   with_each-held first (second ∷ seconds) e g before after none (inr h) =
       let parts = both (fits between to second) (list_all (fits between to) seconds) g in
-      let losses = none-of (lost_by (after_case first second) second) (flat_map (λ s. lost_by (after_case first s) s) seconds) none in
+      let losses = none-of (losses_by (after_case first second) second) (flat_map (λ s. losses_by (after_case first s) s) seconds) none in
       let held = with_each-held first seconds e parts.1 before after losses.1 h in
       (held.0, (held.1.0, inr held.1.1))
 
-  pub all-held : (firsts seconds : List Case) → IsTransition from between firsts → IsTransition between to seconds → (before after : List ℤ) → flat_map (λ first. flat_map (λ second. lost_by (after_case first second) second) seconds) firsts ≡ []
+  pub all-held : (firsts seconds : List Case) → IsTransition from between firsts → IsTransition between to seconds → (before after : List ℤ) → flat_map (λ first. flat_map (λ second. losses_by (after_case first second) second) seconds) firsts ≡ []
       → HoldsSome (flat_map (λ first. map (sequence_of_cases first) seconds) firsts) before after → (middle : List ℤ) × (HoldsSome firsts before middle × HoldsSome seconds middle after)
   all-held [] seconds e g before after none h = absurd h
   all-held (first ∷ firsts) seconds e g before after none h =
       let parts = both (fits from between first) (list_all (fits from between) firsts) e in
-      let losses = none-of (flat_map (λ second. lost_by (after_case first second) second) seconds) (flat_map (λ f. flat_map (λ second. lost_by (after_case f second) second) seconds) firsts) none in
+      let losses = none-of (flat_map (λ second. losses_by (after_case first second) second) seconds) (flat_map (λ f. flat_map (λ second. losses_by (after_case f second) second) seconds) firsts) none in
       go parts.0 losses.0 (some-either (map (sequence_of_cases first) seconds) (flat_map (λ f. map (sequence_of_cases f) seconds) firsts) before after h) (λ k. all-held firsts seconds parts.1 g before after losses.1 k)
     where
-      go : IsTrue (fits from between first) → flat_map (λ second. lost_by (after_case first second) second) seconds ≡ []
+      go : IsTrue (fits from between first) → flat_map (λ second. losses_by (after_case first second) second) seconds ≡ []
           → HoldsSome (map (sequence_of_cases first) seconds) before after ⊎ HoldsSome (flat_map (λ f. map (sequence_of_cases f) seconds) firsts) before after
           → (HoldsSome (flat_map (λ f. map (sequence_of_cases f) seconds) firsts) before after → (middle : List ℤ) × (HoldsSome firsts before middle × HoldsSome seconds middle after))
           → (middle : List ℤ) × (HoldsSome (first ∷ firsts) before middle × HoldsSome seconds middle after)
@@ -251,7 +251,7 @@ left-length from to (case ∷ cases) e before after (inl h) =
     sym (ap length h.1.posts) ∙ length-map case.post (value_of (numbers before h.0)) ∙ f.length_is
 left-length from to (case ∷ cases) e before after (inr h) = left-length from to cases (both (fits from to case) (list_all (fits from to) cases) e).1 before after h
 
-pub sequence-held : (a b : Transition) → a.to ≡ b.from → IsTransition a.from a.to a.cases → IsTransition b.from b.to b.cases → lost_in_sequence a b ≡ [] → (before after : List ℤ) → Holds (sequence_of a b) before after
+pub sequence-held : (a b : Transition) → a.to ≡ b.from → IsTransition a.from a.to a.cases → IsTransition b.from b.to b.cases → losses_in_sequence a b ≡ [] → (before after : List ℤ) → Holds (sequence_of a b) before after
     → (middle : List ℤ) × (Holds a before middle × Holds b middle after)
 sequence-held a b e f g none before after h =
     let fits_between = subst (λ t. IsTransition a.from t a.cases) e f in
@@ -269,12 +269,12 @@ nothing-noted {X} {xs} {first} {more} e f g = nothing-more xs more (sym f ∙ g)
 abbrev pub transition : ℕ → ℕ → List Case → Transition
 transition from to cases = record { from = from; to = to; cases = cases }
 
-pub joined_made : (from to : ℕ) (cases xs ys : List Case) (a b : Transition) → cases ≡ xs ++ ys → transition from to xs ≡ a → ys ≡ b.cases → transition from to cases ≡ joined a b
+pub joined_made : (from to : ℕ) (cases xs ys : List Case) (a b : Transition) → cases ≡ xs ++ ys → transition from to xs ≡ a → ys ≡ b.cases → transition from to cases ≡ union_of a b
 joined_made from to cases xs ys a b made e f = (λ i. transition from to (made i)) ∙ (λ i. record { from = (e i).from; to = (e i).to; cases = (e i).cases ++ f i })
 
-pub joined-says : (a b : Transition) (before after : List ℤ) → a.from ≡ b.from → Holds (joined a b) before after ↔ (Holds a before after ⊎ Holds b before after)
+pub joined-says : (a b : Transition) (before after : List ℤ) → a.from ≡ b.from → Holds (union_of a b) before after ↔ (Holds a before after ⊎ Holds b before after)
 joined-says a b before after e = (joined-either a b before after e, λ h. go h)
   where
-    go : Holds a before after ⊎ Holds b before after → Holds (joined a b) before after
+    go : Holds a before after ⊎ Holds b before after → Holds (union_of a b) before after
     go (inl k) = joined-left a b before after k
     go (inr k) = joined-right a b before after e k

@@ -10,8 +10,8 @@ use Rattle.linear_terms.specs.Row.{normal_form, SaysAsMuch, RowsHold}
 use Rattle.linear_terms.specs.Value.{Valuation}
 use Rattle.linear_terms.proofs.Normals.{normal_form-SaysAsMuch}
 use Rattle.transition_formula.specs.Meaning.{AreTrueLeft}
-use Rattle.transition_formula.specs.Loss.{noted}
-use Rattle.transition_formula.specs.Rows.{with_normal, normal_rows, each_once, opposites_met, tidied}
+use Rattle.transition_formula.specs.Loss.{error_losses}
+use Rattle.transition_formula.specs.Rows.{with_normal, normal_rows, each_once, opposites_met, tidied_rows}
 use Rattle.transition_formula.proofs.Tidied.{EachRow}
 use Rattle.transition_formula.proofs.Truths.{once_met-hold, once_met-held}
 use Rattle.transition_formula.proofs.Telling.{Tells, lost-some, normal_form-tells}
@@ -44,7 +44,7 @@ module _ (at : Valuation) where
       kept r (Some more) s l ih = (s.0 l.0, ih l.1)
 
       go : (n : Result Normal TermError) → Tells n → ((m : Normal) → n ≡ Ok m → SaysAsMuch at row m) → (with_normal n (normal_rows rows)).losses ≡ [] → AreTrueLeft at (with_normal n (normal_rows rows)).rows → ((normal_rows rows).losses ≡ [] → AreTrueLeft at (normal_rows rows).rows → RowsHold at rows) → RowsHold at (row ∷ rows)
-      go (Err e) tells says n l ih = absurd (lost-some (Err e) e tells refl (none-of (noted e) (normal_rows rows).losses n).0)
+      go (Err e) tells says n l ih = absurd (lost-some (Err e) e tells refl (none-of (error_losses e) (normal_rows rows).losses n).0)
       go (Ok (Constant true)) tells says n l ih = ((says (Constant true) refl).0 refl, ih n l)
       go (Ok (Constant false)) tells says n l ih = absurd l
       go (Ok (Kept r)) tells says n l ih = kept r (normal_rows rows).rows (says (Kept r) refl) l (ih n)
@@ -59,10 +59,10 @@ module _ (at : Valuation) where
   met-held None h = h
   met-held (Some rows) h = once_met-held at rows h
 
-  pub tidied-hold : (rows : List Row) → AreCanonicalEach rows → RowsHold at rows → AreTrueLeft at (tidied rows).rows
+  pub tidied-hold : (rows : List Row) → AreCanonicalEach rows → RowsHold at rows → AreTrueLeft at (tidied_rows rows).rows
   tidied-hold rows canonical h = met-hold (normal_rows rows).rows (normal-hold rows canonical h)
 
-  pub tidied-held : (rows : List Row) → AreCanonicalEach rows → (tidied rows).losses ≡ [] → AreTrueLeft at (tidied rows).rows → RowsHold at rows
+  pub tidied-held : (rows : List Row) → AreCanonicalEach rows → (tidied_rows rows).losses ≡ [] → AreTrueLeft at (tidied_rows rows).rows → RowsHold at rows
   tidied-held rows canonical none h = normal-held rows canonical none (met-held (normal_rows rows).rows h)
 
 -- nothing was added

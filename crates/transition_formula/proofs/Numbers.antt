@@ -10,7 +10,7 @@ use Rattle.linear_terms.specs.declared.col.Col.TheVariants.{At, Aux}
 use Rattle.linear_terms.specs.declared.row.Row.{Row}
 use Rattle.linear_terms.specs.declared.row.Case.{Case}
 use Rattle.linear_terms.specs.Polynomial.{Terms, Polynomial}
-use Rattle.linear_terms.specs.Auxiliaries.{is_auxiliary, has_auxiliary, occurs, renumbered_column, renumbered, is_numbered, KeepsOrder}
+use Rattle.linear_terms.specs.Auxiliaries.{is_auxiliary, has_auxiliary, occurs, renumbered_column, renumbered_polynomial, is_numbered, KeepsOrder}
 use Rattle.transition_formula.specs.Transition.{every_column, every_column_of}
 use Rattle.transition_formula.specs.Renumbering.{occurs_in, count_below, new_number, renumbered_row, renumbered_case}
 use Rattle.transition_formula.proofs.Covered.{both, all_more, more_columns, more_columns_of}
@@ -140,7 +140,7 @@ module _ (f g : ℕ → ℕ) (end : ℕ) (agree : (n : ℕ) → n < end → f n 
   terms_agree (t ∷ ts) h =
       let parts = both (list_all (is_numbered end) t.0) (list_all (λ u. list_all (is_numbered end) u.0) ts) h in λ i. (columns_agree t.0 parts.0 i, t.1) ∷ terms_agree ts parts.1 i
 
-  pub polynomial_agrees : (p : Polynomial) → IsTrue (every_column (is_numbered end) p) → renumbered f p ≡ renumbered g p
+  pub polynomial_agrees : (p : Polynomial) → IsTrue (every_column (is_numbered end) p) → renumbered_polynomial f p ≡ renumbered_polynomial g p
   polynomial_agrees p h = λ i. record { terms = terms_agree p.terms h i; rest = p.rest }
 
   rows_agree : (rows : List Row) → IsTrue (list_all (λ row. every_column (is_numbered end) row.poly) rows) → map (renumbered_row f) rows ≡ map (renumbered_row g) rows
@@ -148,12 +148,12 @@ module _ (f g : ℕ → ℕ) (end : ℕ) (agree : (n : ℕ) → n < end → f n 
   rows_agree (row ∷ rows) h =
       let parts = both (every_column (is_numbered end) row.poly) (list_all (λ r. every_column (is_numbered end) r.poly) rows) h in λ i. record { poly = polynomial_agrees row.poly parts.0 i; kind = row.kind } ∷ rows_agree rows parts.1 i
 
-  posts_agree : (posts : List Polynomial) → IsTrue (list_all (every_column (is_numbered end)) posts) → map (renumbered f) posts ≡ map (renumbered g) posts
+  posts_agree : (posts : List Polynomial) → IsTrue (list_all (every_column (is_numbered end)) posts) → map (renumbered_polynomial f) posts ≡ map (renumbered_polynomial g) posts
   posts_agree [] h = refl
   posts_agree (p ∷ posts) h = let parts = both (every_column (is_numbered end) p) (list_all (every_column (is_numbered end)) posts) h in λ i. polynomial_agrees p parts.0 i ∷ posts_agree posts parts.1 i
 
 pub renumbered_made : (numbers : List ℕ) (case : Case) → IsNumbering numbers case → Numbered case → (aux : ℕ) (rows : List Row) (post : List Polynomial)
-    → aux ≡ slice_index numbers case.aux → rows ≡ map (renumbered_row (slice_index numbers)) case.rows → post ≡ map (renumbered (slice_index numbers)) case.post
+    → aux ≡ slice_index numbers case.aux → rows ≡ map (renumbered_row (slice_index numbers)) case.rows → post ≡ map (renumbered_polynomial (slice_index numbers)) case.post
     → (let c : Case = record { aux = aux; rows = rows; post = post } in c ≡ renumbered_case case)
 renumbered_made numbers case list h aux rows post e f g =
     let agree : (n : ℕ) → n < case.aux → slice_index numbers n ≡ new_number case n = λ n lt. number_at numbers case list n (omega arith) in

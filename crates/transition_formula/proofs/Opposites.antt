@@ -14,7 +14,7 @@ use Rattle.linear_terms.specs.declared.row.Row.{Row}
 use Rattle.linear_terms.specs.Equality.{term_eq, poly_eq_equiv}
 use Rattle.linear_terms.specs.Polynomial.{Terms, Polynomial}
 use Rattle.transition_formula.specs.Places.{Key, key_by, key_of, first_place, EachApart}
-use Rattle.transition_formula.specs.Rows.{is_at_most, negated, are_opposite, exclude, close, with_row, each_once, with_met}
+use Rattle.transition_formula.specs.Rows.{is_at_most, negated_terms, are_opposite, exclude, close, with_row, each_once, with_met}
 use Rattle.transition_formula.proofs.AtPlaces.{key_total, same_key, key_exact, terms-tie, none_mapped, some_mapped, row-new, row-at}
 use Rattle.transition_formula.proofs.Covered.{both, both_true}
 use Rattle.transition_formula.proofs.Fitting.{below-true, true-below}
@@ -27,7 +27,7 @@ use Rattle.transition_formula.proofs.Truths.{terms_same}
 pointwise-same : (ts us : Terms) → ts ≡ us → IsTrue (pointwise term_eq ts us)
 pointwise-same ts us e = (both (pointwise term_eq ts us) true (subst (λ vs. IsTrue (pointwise term_eq ts vs && true)) e (poly_eq_equiv.refl (record { terms = ts; rest = pos 0 })))).0
 
-negated-negated : (ts : Terms) → negated (negated ts) ≡ ts
+negated-negated : (ts : Terms) → negated_terms (negated_terms ts) ≡ ts
 negated-negated [] = refl
 negated-negated (t ∷ ts) = λ i. (t.0, back t.1 i) ∷ negated-negated ts i
   where
@@ -36,21 +36,21 @@ negated-negated (t ∷ ts) = λ i. (t.0, back t.1 i) ∷ negated-negated ts i
 
 pub opposite-turned : (r s : Row) → IsTrue (are_opposite r s) → IsTrue (are_opposite s r)
 opposite-turned r s h =
-    let parts = both (is_at_most r.kind && is_at_most s.kind) (pointwise term_eq (negated r.poly.terms) s.poly.terms) h in
+    let parts = both (is_at_most r.kind && is_at_most s.kind) (pointwise term_eq (negated_terms r.poly.terms) s.poly.terms) h in
     let kinds = both (is_at_most r.kind) (is_at_most s.kind) parts.0 in
-    let same = terms_same (negated r.poly.terms) s.poly.terms parts.1 in
-    both_true (is_at_most s.kind && is_at_most r.kind) (pointwise term_eq (negated s.poly.terms) r.poly.terms) (both_true (is_at_most s.kind) (is_at_most r.kind) kinds.1 kinds.0)
-    (pointwise-same (negated s.poly.terms) r.poly.terms (ap negated (sym same) ∙ negated-negated r.poly.terms))
+    let same = terms_same (negated_terms r.poly.terms) s.poly.terms parts.1 in
+    both_true (is_at_most s.kind && is_at_most r.kind) (pointwise term_eq (negated_terms s.poly.terms) r.poly.terms) (both_true (is_at_most s.kind) (is_at_most r.kind) kinds.1 kinds.0)
+    (pointwise-same (negated_terms s.poly.terms) r.poly.terms (ap negated_terms (sym same) ∙ negated-negated r.poly.terms))
 
 abbrev pub opposite_key : Row → Key
-opposite_key r = (None, negated r.poly.terms)
+opposite_key r = (None, negated_terms r.poly.terms)
 
 opposite-keys : (p q : Polynomial) (l : Kind) → same_key (opposite_key (row_with p AtMost)) (key_by l q) ≡ are_opposite (row_with p AtMost) (row_with q l)
-opposite-keys p q AtMost = sym (terms-tie (negated p.terms) q.terms)
+opposite-keys p q AtMost = sym (terms-tie (negated_terms p.terms) q.terms)
 opposite-keys p q Equal = refl
 
 opposite-key : (r s : Row) → r.kind ≡ AtMost → same_key (opposite_key r) (key_of s) ≡ are_opposite r s
-opposite-key r s e = opposite-keys r.poly s.poly s.kind ∙ ap (λ k. is_at_most k && is_at_most s.kind && pointwise term_eq (negated r.poly.terms) s.poly.terms) (sym e)
+opposite-key r s e = opposite-keys r.poly s.poly s.kind ∙ ap (λ k. is_at_most k && is_at_most s.kind && pointwise term_eq (negated_terms r.poly.terms) s.poly.terms) (sym e)
 
 -- ---- first places
 
@@ -64,7 +64,7 @@ opposite_by_key r rows e = first_place-map (same_key (opposite_key r)) (are_oppo
 pub no_opposite : (r : Row) (rows : List Row) → r.kind ≡ Equal → first_place (are_opposite r) rows ≡ None
 no_opposite r [] e = refl
 no_opposite r (s ∷ rows) e =
-    let never : are_opposite r s ≡ false = ap (λ k. is_at_most k && is_at_most s.kind && pointwise term_eq (negated r.poly.terms) s.poly.terms) e in
+    let never : are_opposite r s ≡ false = ap (λ k. is_at_most k && is_at_most s.kind && pointwise term_eq (negated_terms r.poly.terms) s.poly.terms) e in
     (λ i. cond (never i) (Some 0) (option_map (λ n. n + 1) (no_opposite r rows e i)))
 
 -- what is found passes
@@ -114,7 +114,7 @@ one_place (x ∷ keys) (suc j) zero q apart e f = let same : x ≡ q = cc in abs
 one_place (x ∷ keys) (suc j) (suc k) q apart e f = ap suc (one_place keys j k q apart.1 e f)
 
 inequality : (r s : Row) → IsTrue (are_opposite r s) → r.kind ≡ AtMost
-inequality r s h = go r.kind refl (both (is_at_most r.kind) (is_at_most s.kind) (both (is_at_most r.kind && is_at_most s.kind) (pointwise term_eq (negated r.poly.terms) s.poly.terms) h).0).0
+inequality r s h = go r.kind refl (both (is_at_most r.kind) (is_at_most s.kind) (both (is_at_most r.kind && is_at_most s.kind) (pointwise term_eq (negated_terms r.poly.terms) s.poly.terms) h).0).0
   where
     go : (k : Kind) → r.kind ≡ k → IsTrue (is_at_most k) → r.kind ≡ AtMost
     go AtMost e f = e

@@ -24,7 +24,7 @@ use Rattle.linear_terms.specs.Value.{Valuation, value_of}
 use Rattle.linear_terms.proofs.Columns.{multiple_of-each, sum_of_polys-each}
 use Rattle.linear_terms.proofs.Worth.{IsWorth-Ok, IsWorth-column, IsWorth-difference}
 use Rattle.transition_formula.specs.Composition.{row_of}
-use Rattle.transition_formula.specs.Equating.{differences, equated, equated_case, lost_in_equating, lost_in_equating_case, raised}
+use Rattle.transition_formula.specs.Equating.{differences, equated_formula, equated_case, losses_in_equating, losses_in_equating_case, raised_formula}
 use Rattle.transition_formula.specs.Loss.{losses_of}
 use Rattle.transition_formula.specs.Meaning.{Holds, HoldsSome, numbers}
 use Rattle.transition_formula.specs.Posts.{case_with_posts, numbers_at, posts_at}
@@ -97,7 +97,7 @@ module _ (n : ℕ) (before : List ℤ) where
 -- the formula over more columns holds of a state exactly where the formula holds of its first
 -- columns
 pub raised-says : (from : ℕ) (f : Transition) → f.from ≤ from → IsTransition f.from f.to f.cases → (before after : List ℤ)
-    → Holds (raised from f) before after ↔ (Holds f (take f.from before) after × (length before ≡ from))
+    → Holds (raised_formula from f) before after ↔ (Holds f (take f.from before) after × (length before ≡ from))
 raised-says from f le fit before after = (
   λ h.
       let long = h.enters in (
@@ -107,7 +107,7 @@ raised-says from f le fit before after = (
   λ h. record { enters = h.1; some = some-wider f.from before f.to f.cases after fit h.0.some },
 )
 
-pub raised-holds : (from : ℕ) (f : Transition) → IsTransition f.from f.to f.cases → (before more after : List ℤ) → length before + length more ≡ from → Holds f before after → Holds (raised from f) (before ++ more) after
+pub raised-holds : (from : ℕ) (f : Transition) → IsTransition f.from f.to f.cases → (before more after : List ℤ) → length before + length more ≡ from → Holds f before after → Holds (raised_formula from f) (before ++ more) after
 raised-holds from f fit before more after wide h =
     let enters = h.enters in
     let first : take f.from (before ++ more) ≡ before = (λ i. take (sym enters i) (before ++ more)) ∙ take-append_seam before more in
@@ -181,7 +181,7 @@ module _ (before : List ℤ) (aux : ℕ → ℤ) where
       go (Ok p) e tells l k ih = (same-minus (unwrap_or (slice_get before first) (pos 0)) (value_of at post) (sym (difference-value first post p e) ∙ k.0), ih k.1)
       go (Err x) e tells l k ih = absurd (lost-some (Err x) x tells refl l)
 
-pub equated-holds : (first : ℕ) (places : List ℕ) (f : Transition) (before after : List ℤ) → StandFrom before first (numbers_at places after) → Holds f before after → Holds (equated first places f) before after
+pub equated-holds : (first : ℕ) (places : List ℕ) (f : Transition) (before after : List ℤ) → StandFrom before first (numbers_at places after) → Holds f before after → Holds (equated_formula first places f) before after
 equated-holds first places f before after stand h = record { enters = h.enters; some = go f.cases h.some }
   where
     go : (cases : List Case) → HoldsSome cases before after → HoldsSome (map (equated_case first places) cases) before after
@@ -198,15 +198,15 @@ equated-holds first places f before after stand h = record { enters = h.enters; 
         )
     go (case ∷ cases) (inr k) = inr (go cases k)
 
-equated-held : (first : ℕ) (places : List ℕ) (f : Transition) (before after : List ℤ) → lost_in_equating first places f ≡ [] → Holds (equated first places f) before after
+equated-held : (first : ℕ) (places : List ℕ) (f : Transition) (before after : List ℤ) → losses_in_equating first places f ≡ [] → Holds (equated_formula first places f) before after
     → Holds f before after × StandFrom before first (numbers_at places after)
 equated-held first places f before after none h = let held = go f.cases none h.some in (record { enters = h.enters; some = held.0 }, held.1)
   where
-    go : (cases : List Case) → flat_map (lost_in_equating_case first places) cases ≡ [] → HoldsSome (map (equated_case first places) cases) before after
+    go : (cases : List Case) → flat_map (losses_in_equating_case first places) cases ≡ [] → HoldsSome (map (equated_case first places) cases) before after
         → HoldsSome cases before after × StandFrom before first (numbers_at places after)
     go [] none k = absurd k
     go (case ∷ cases) none (inl (aux, k)) =
-        let parts = none-of (lost_in_equating_case first places case) (flat_map (lost_in_equating_case first places) cases) none in
+        let parts = none-of (losses_in_equating_case first places case) (flat_map (losses_in_equating_case first places) cases) none in
         let at = numbers before aux in
         let rows = filter_map (row_of Equal) (differences first (posts_at places case.post)) in (
           inl (aux, record { rows = each-front (RowHolds at) case.rows rows k.rows; posts = k.posts }),
@@ -214,13 +214,13 @@ equated-held first places f before after none h = let held = go f.cases none h.s
               (differences-told before aux first (posts_at places case.post) parts.0 (each-back (RowHolds at) case.rows rows k.rows)),
         )
     go (case ∷ cases) none (inr k) =
-        let parts = none-of (lost_in_equating_case first places case) (flat_map (lost_in_equating_case first places) cases) none in
+        let parts = none-of (losses_in_equating_case first places case) (flat_map (losses_in_equating_case first places) cases) none in
         let held = go cases parts.1 k in
         (inr held.0, held.1)
 
 -- ---- for the code
 
-module _ (first : ℕ) (places : List ℕ) (f g : Transition) (columns : first + length places ≤ f.from) (same : g ≡ equated first places f) (before after : List ℤ) where
+module _ (first : ℕ) (places : List ℕ) (f g : Transition) (columns : first + length places ≤ f.from) (same : g ≡ equated_formula first places f) (before after : List ℤ) where
   many-told : length (numbers_at places after) ≡ length places
   many-told = length-map places (λ place. unwrap_or (slice_get after place) (pos 0))
 
@@ -233,7 +233,7 @@ module _ (first : ℕ) (places : List ℕ) (f g : Transition) (columns : first +
       (equated-holds first places f before after
       (stand-there before first (numbers_at places after) (within h.enters) (subst (λ n. take n (drop first before) ≡ numbers_at places after) (sym many-told) told)) h)
 
-  pub equated-most : lost_in_equating first places f ≡ [] → Holds g before after → Holds f before after × (take (length places) (drop first before) ≡ numbers_at places after)
+  pub equated-most : losses_in_equating first places f ≡ [] → Holds g before after → Holds f before after × (take (length places) (drop first before) ≡ numbers_at places after)
   equated-most none h =
       let held = equated-held first places f before after none (subst (λ (t : Transition). Holds t before after) same h) in
       (held.0, subst (λ n. take n (drop first before) ≡ numbers_at places after) many-told (there-stand before first (numbers_at places after) (within held.0.enters) held.1))
@@ -287,5 +287,5 @@ equated-each first places from to (case ∷ cases) there le h =
     both_true (fits from to (equated_case first places case)) (list_all (fits from to) (map (equated_case first places) cases))
     (case-fits first places from to case there le parts.0) (equated-each first places from to cases there le parts.1)
 
-pub equated-fits : (first : ℕ) (places : List ℕ) (f : Transition) → All (λ place. place < f.to) places → first + length places ≤ f.from → IsTransition f.from f.to f.cases → IsTransition f.from f.to (equated first places f).cases
+pub equated-fits : (first : ℕ) (places : List ℕ) (f : Transition) → All (λ place. place < f.to) places → first + length places ≤ f.from → IsTransition f.from f.to f.cases → IsTransition f.from f.to (equated_formula first places f).cases
 equated-fits first places f there le h = equated-each first places f.from f.to f.cases there le h

@@ -9,7 +9,7 @@ use Rattle.linear_terms.specs.declared.col.Col.{Col}
 use Rattle.linear_terms.specs.declared.col.Col.TheVariants.{At, Aux}
 use Rattle.linear_terms.specs.declared.row.Row.{Row}
 use Rattle.linear_terms.specs.declared.row.Case.{Case}
-use Rattle.linear_terms.specs.Auxiliaries.{occurs, renumbered, renumbered_column, is_numbered}
+use Rattle.linear_terms.specs.Auxiliaries.{occurs, renumbered_polynomial, renumbered_column, is_numbered}
 use Rattle.linear_terms.specs.Polynomial.{Terms, Polynomial}
 use Rattle.linear_terms.specs.Row.{IsWithin, RowsHold}
 use Rattle.linear_terms.specs.Value.{Valuation, mono_value, terms_value, value_of}
@@ -62,7 +62,7 @@ module _ (number : ℕ → ℕ) (at bt : Valuation) (P : Col → Type 0) (tells 
   terms-told [] h = refl
   terms-told (t ∷ ts) h = λ i. t.1 *ℤ mono-told t.0 h.0 i +ℤ terms-told ts h.1 i
 
-  value-told : (p : Polynomial) → EachColumn P p.terms → value_of bt (renumbered number p) ≡ value_of at p
+  value-told : (p : Polynomial) → EachColumn P p.terms → value_of bt (renumbered_polynomial number p) ≡ value_of at p
   value-told p h = ap (λ v. v +ℤ p.rest) (terms-told p.terms h)
 
   rows-told : (rows : List Row) → AllByRecursion (λ row. EachColumn P row.poly.terms) rows → RowsHold at rows → RowsHold bt (map (renumbered_row number) rows)
@@ -73,7 +73,7 @@ module _ (number : ℕ → ℕ) (at bt : Valuation) (P : Col → Type 0) (tells 
   told-rows [] h k = tt
   told-rows (row ∷ rows) h k = (subst (IsWithin row.kind) (value-told row.poly h.0) k.0, told-rows rows h.1 k.1)
 
-  posts-told : (posts : List Polynomial) → AllByRecursion (λ p. EachColumn P p.terms) posts → map (value_of bt) (map (renumbered number) posts) ≡ map (value_of at) posts
+  posts-told : (posts : List Polynomial) → AllByRecursion (λ p. EachColumn P p.terms) posts → map (value_of bt) (map (renumbered_polynomial number) posts) ≡ map (value_of at) posts
   posts-told [] h = refl
   posts-told (p ∷ posts) h = λ i. value-told p h.0 i ∷ posts-told posts h.1 i
 
@@ -152,7 +152,7 @@ module _ (number : ℕ → ℕ) (at bt : Valuation) (tells : (c : Col) → bt (r
   pub moved-rows : (rows : List Row) → RowsHold bt (map (renumbered_row number) rows) → RowsHold at rows
   moved-rows rows = told-rows number at bt (λ c. Unit {0}) (λ c any. tells c) rows (any_rows rows)
 
-  pub posts-moved : (posts : List Polynomial) → map (value_of bt) (map (renumbered number) posts) ≡ map (value_of at) posts
+  pub posts-moved : (posts : List Polynomial) → map (value_of bt) (map (renumbered_polynomial number) posts) ≡ map (value_of at) posts
   posts-moved posts = posts-told number at bt (λ c. Unit {0}) (λ c any. tells c) posts (any_posts posts)
 
 pub renumbered-held : (case : Case) (before after : List ℤ) → HoldsCase (renumbered_case case) before after → HoldsCase case before after

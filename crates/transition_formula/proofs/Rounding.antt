@@ -11,9 +11,9 @@ use Rattle.transition_formula.specs.declared.solving.Solved.{Solved}
 use Rattle.transition_formula.specs.declared.solving.Solved.TheVariants.{Kept, False}
 use Rattle.transition_formula.specs.Transition.{every_column, every_column_of}
 use Rattle.transition_formula.specs.Renumbering.{renumbered_case}
-use Rattle.transition_formula.specs.Rows.{tidied}
-use Rattle.transition_formula.specs.Order.{solved_by, place_from, first_equation, solution}
-use Rattle.transition_formula.specs.Rounds.{Ordered, after_losses, with_rows, finished, with_solved, lost_with_solved, solved_at, solved_first, round, rounds, solved}
+use Rattle.transition_formula.specs.Rows.{tidied_rows}
+use Rattle.transition_formula.specs.Order.{solvable_auxiliary, place_from, first_equation, solution}
+use Rattle.transition_formula.specs.Rounds.{Ordered, after_losses, with_rows, end_of_order, with_solved, losses_with_solved, round_at, solved_first, round, rounds, solved_answer}
 use Rattle.transition_formula.proofs.Covered.{both, both_true}
 use Rattle.transition_formula.proofs.Carried.{tidied-passes, with_solved-numbered}
 
@@ -25,60 +25,60 @@ found_at place n = Some (place, n)
 
 -- what the code has answered and noted is what was to come
 pub record Comes (whole : Ordered) (start : List Loss) (answer : Solved) (noted : List Loss) : Type 0 where
-  pub is : answer ≡ solved whole.left
+  pub is : answer ≡ solved_answer whole.left
   pub losses : noted ≡ start ++ whole.losses
 
 -- what is left to do, behind the losses noted so far, is the whole
 abbrev pub Leaves : List Loss → Ordered → List Loss → Ordered → Type 0
 Leaves noted rest start whole = after_losses noted rest ≡ after_losses start whole
 
-comes : (whole rest : Ordered) (start noted noted2 : List Loss) (answer : Solved) → Leaves noted rest start whole → answer ≡ solved rest.left → noted2 ≡ noted ++ rest.losses → Comes whole start answer noted2
-comes whole rest start noted noted2 answer e f g = record { is = f ∙ ap (λ o. solved o.left) e; losses = g ∙ ap (λ o. o.losses) e }
+comes : (whole rest : Ordered) (start noted noted2 : List Loss) (answer : Solved) → Leaves noted rest start whole → answer ≡ solved_answer rest.left → noted2 ≡ noted ++ rest.losses → Comes whole start answer noted2
+comes whole rest start noted noted2 answer e f g = record { is = f ∙ ap (λ o. solved_answer o.left) e; losses = g ∙ ap (λ o. o.losses) e }
 
-pub round_false : (more : ℕ) (case : Case) (whole : Ordered) (start noted noted2 : List Loss) → Leaves noted (rounds (suc more) case) start whole → None ≡ (tidied case.rows).rows → noted2 ≡ noted ++ (tidied case.rows).losses → Comes whole start False noted2
+pub round_false : (more : ℕ) (case : Case) (whole : Ordered) (start noted noted2 : List Loss) → Leaves noted (rounds (suc more) case) start whole → None ≡ (tidied_rows case.rows).rows → noted2 ≡ noted ++ (tidied_rows case.rows).losses → Comes whole start False noted2
 round_false more case whole start noted noted2 e f g =
-    comes whole (rounds (suc more) case) start noted noted2 False e (ap (λ o. solved (round (rounds more) case o).left) f)
-    (g ∙ ap (λ l. noted ++ l) (sym (append-nil (tidied case.rows).losses)) ∙ ap (λ o. noted ++ ((tidied case.rows).losses ++ (round (rounds more) case o).losses)) f)
+    comes whole (rounds (suc more) case) start noted noted2 False e (ap (λ o. solved_answer (round (rounds more) case o).left) f)
+    (g ∙ ap (λ l. noted ++ l) (sym (append-nil (tidied_rows case.rows).losses)) ∙ ap (λ o. noted ++ ((tidied_rows case.rows).losses ++ (round (rounds more) case o).losses)) f)
 
-pub round_last : (more : ℕ) (case : Case) (rows : List Row) (whole : Ordered) (start noted noted2 : List Loss) (made : Case) → Leaves noted (rounds (suc more) case) start whole → Some rows ≡ (tidied case.rows).rows → noted2 ≡ noted ++ (tidied case.rows).losses
+pub round_last : (more : ℕ) (case : Case) (rows : List Row) (whole : Ordered) (start noted noted2 : List Loss) (made : Case) → Leaves noted (rounds (suc more) case) start whole → Some rows ≡ (tidied_rows case.rows).rows → noted2 ≡ noted ++ (tidied_rows case.rows).losses
     → None ≡ first_equation rows → made ≡ renumbered_case (with_rows case rows) → Comes whole start (Kept made) noted2
 round_last more case rows whole start noted noted2 made e f g h k =
     comes whole (rounds (suc more) case) start noted noted2 (Kept made) e
-    (ap (λ c. Kept c) k ∙ ap (λ o. solved (solved_first (rounds more) (with_rows case rows) o).left) h ∙ ap (λ o. solved (round (rounds more) case o).left) f)
+    (ap (λ c. Kept c) k ∙ ap (λ o. solved_answer (solved_first (rounds more) (with_rows case rows) o).left) h ∙ ap (λ o. solved_answer (round (rounds more) case o).left) f)
     (g
-    ∙ ap (λ l. noted ++ l) (sym (append-nil (tidied case.rows).losses))
-    ∙ ap (λ o. noted ++ ((tidied case.rows).losses ++ (solved_first (rounds more) (with_rows case rows) o).losses)) h
-    ∙ ap (λ o. noted ++ ((tidied case.rows).losses ++ (round (rounds more) case o).losses)) f)
+    ∙ ap (λ l. noted ++ l) (sym (append-nil (tidied_rows case.rows).losses))
+    ∙ ap (λ o. noted ++ ((tidied_rows case.rows).losses ++ (solved_first (rounds more) (with_rows case rows) o).losses)) h
+    ∙ ap (λ o. noted ++ ((tidied_rows case.rows).losses ++ (round (rounds more) case o).losses)) f)
 
-pub round_next : (more : ℕ) (case : Case) (rows : List Row) (place n : ℕ) (row : Row) (whole : Ordered) (start noted noted2 noted3 : List Loss) (next : Case) → Leaves noted (rounds (suc more) case) start whole → Some rows ≡ (tidied case.rows).rows
-    → noted2 ≡ noted ++ (tidied case.rows).losses → found_at place n ≡ first_equation rows → Some row ≡ slice_get rows place → next ≡ with_solved (solution row.poly n) n (with_rows case (remove rows place))
-    → noted3 ≡ noted2 ++ lost_with_solved (solution row.poly n) n (with_rows case (remove rows place)) → Leaves noted3 (rounds more next) start whole
+pub round_next : (more : ℕ) (case : Case) (rows : List Row) (place n : ℕ) (row : Row) (whole : Ordered) (start noted noted2 noted3 : List Loss) (next : Case) → Leaves noted (rounds (suc more) case) start whole → Some rows ≡ (tidied_rows case.rows).rows
+    → noted2 ≡ noted ++ (tidied_rows case.rows).losses → found_at place n ≡ first_equation rows → Some row ≡ slice_get rows place → next ≡ with_solved (solution row.poly n) n (with_rows case (remove rows place))
+    → noted3 ≡ noted2 ++ losses_with_solved (solution row.poly n) n (with_rows case (remove rows place)) → Leaves noted3 (rounds more next) start whole
 round_next more case rows place n row whole start noted noted2 noted3 next e f g h k l m =
     (λ i. after_losses (m i) (rounds more (l i)))
     ∙ (λ i. after_losses (g i ++ lost) (rounds more step))
     ∙ (λ i. record { left = (rounds more step).left; losses = grouped i })
-    ∙ ap (λ o. after_losses noted (after_losses (tidied case.rows).losses (solved_at (rounds more) (with_rows case (remove rows place)) n o))) k
-    ∙ ap (λ o. after_losses noted (after_losses (tidied case.rows).losses (solved_first (rounds more) (with_rows case rows) o))) h
-    ∙ ap (λ o. after_losses noted (after_losses (tidied case.rows).losses (round (rounds more) case o))) f
+    ∙ ap (λ o. after_losses noted (after_losses (tidied_rows case.rows).losses (round_at (rounds more) (with_rows case (remove rows place)) n o))) k
+    ∙ ap (λ o. after_losses noted (after_losses (tidied_rows case.rows).losses (solved_first (rounds more) (with_rows case rows) o))) h
+    ∙ ap (λ o. after_losses noted (after_losses (tidied_rows case.rows).losses (round (rounds more) case o))) f
     ∙ e
   where
     step : Case
     step = with_solved (solution row.poly n) n (with_rows case (remove rows place))
 
     lost : List Loss
-    lost = lost_with_solved (solution row.poly n) n (with_rows case (remove rows place))
+    lost = losses_with_solved (solution row.poly n) n (with_rows case (remove rows place))
 
-    grouped : noted ++ (tidied case.rows).losses ++ lost ++ (rounds more step).losses ≡ noted ++ ((tidied case.rows).losses ++ (lost ++ (rounds more step).losses))
-    grouped = append_assoc (noted ++ (tidied case.rows).losses) lost (rounds more step).losses ∙ append_assoc noted (tidied case.rows).losses (lost ++ (rounds more step).losses)
+    grouped : noted ++ (tidied_rows case.rows).losses ++ lost ++ (rounds more step).losses ≡ noted ++ ((tidied_rows case.rows).losses ++ (lost ++ (rounds more step).losses))
+    grouped = append_assoc (noted ++ (tidied_rows case.rows).losses) lost (rounds more step).losses ∙ append_assoc noted (tidied_rows case.rows).losses (lost ++ (rounds more step).losses)
 
 pub rounds_done : (case : Case) (whole : Ordered) (start noted : List Loss) (made : Case) → Leaves noted (rounds zero case) start whole → made ≡ renumbered_case case → Comes whole start (Kept made) noted
-rounds_done case whole start noted made e k = comes whole (finished case) start noted noted (Kept made) e (ap (λ c. Kept c) k) (sym (append-nil noted))
+rounds_done case whole start noted made e k = comes whole (end_of_order case) start noted noted (Kept made) e (ap (λ c. Kept c) k) (sym (append-nil noted))
 
 -- ---- the place that is found
 
 pub first_equation-row : (rows : List Row) (place n : ℕ) → found_at place n ≡ first_equation rows → (place < length rows) × ((row : Row) × (Some row ≡ slice_get rows place))
 first_equation-row [] place n e = cc
-first_equation-row (r ∷ rows) place n e = go (solved_by r.kind r.poly) (first_equation rows) e (λ p f. first_equation-row rows p n f)
+first_equation-row (r ∷ rows) place n e = go (solvable_auxiliary r.kind r.poly) (first_equation rows) e (λ p f. first_equation-row rows p n f)
   where
     later : (o : Option (ℕ × ℕ)) → found_at place n ≡ option_map (λ found. (found.0 + 1, found.1)) o → ((p : ℕ) → found_at p n ≡ o → (p < length rows) × ((row : Row) × (Some row ≡ slice_get rows p))) → (place < length (r ∷ rows)) × ((row : Row) × (Some row ≡ slice_get (r ∷ rows) place))
     later None f ih = cc
@@ -100,13 +100,13 @@ mapped_none case None e = refl
 mapped_none case (Some rows) e = cc
 
 pub record IsTidied (case made : Case) : Type 0 where
-  pub rows : Some made.rows ≡ (tidied case.rows).rows
+  pub rows : Some made.rows ≡ (tidied_rows case.rows).rows
   pub same : made ≡ with_rows case made.rows
 
-pub mapped_some : (case made : Case) → Some made ≡ option_map (with_rows case) (tidied case.rows).rows → IsTidied case made
-mapped_some case made e = go (tidied case.rows).rows refl e
+pub mapped_some : (case made : Case) → Some made ≡ option_map (with_rows case) (tidied_rows case.rows).rows → IsTidied case made
+mapped_some case made e = go (tidied_rows case.rows).rows refl e
   where
-    go : (o : Option (List Row)) → (tidied case.rows).rows ≡ o → Some made ≡ option_map (with_rows case) o → IsTidied case made
+    go : (o : Option (List Row)) → (tidied_rows case.rows).rows ≡ o → Some made ≡ option_map (with_rows case) o → IsTidied case made
     go None f g = cc
     go (Some rows) f g =
         let same : made ≡ with_rows case rows = cc in

@@ -7,12 +7,12 @@ use Rattle.linear_terms.specs.declared.col.Col.TheVariants.{Aux}
 use Rattle.linear_terms.specs.declared.row.Row.{Row}
 use Rattle.linear_terms.specs.declared.row.Case.{Case}
 use Rattle.linear_terms.specs.Polynomial.{Polynomial, column_of}
-use Rattle.linear_terms.specs.Operations.{substituted}
+use Rattle.linear_terms.specs.Operations.{substituted_polynomial}
 use Rattle.linear_terms.specs.Replacement.{put_in}
 use Rattle.transition_formula.specs.declared.loss.Loss.{Loss}
 use Rattle.transition_formula.specs.Loss.{losses_of}
 use Rattle.transition_formula.specs.Transition.{every_column, every_column_of, is_below}
-use Rattle.transition_formula.specs.Composition.{rows_by, posts_by, sequence_of_cases, after_case, lost_by}
+use Rattle.transition_formula.specs.Composition.{rows_by, posts_by, sequence_of_cases, after_case, losses_by}
 use Rattle.transition_formula.proofs.Covered.{both, lost}
 
 -- auxiliaries after those of the first case
@@ -42,22 +42,22 @@ pub record Reads (first second : Case) (at aux : List Polynomial) (start rows : 
   pub same_posts : posts ≡ second.post
 
 pub sequence_made : (first second : Case) (at aux : List Polynomial) (start rows : List Row) (posts : List Polynomial) → Reads first second at aux start rows posts
-    → (made : List Row) (post : List Polynomial) (n : ℕ) → made ≡ start ++ rows_by (substituted (put_in at aux)) rows → post ≡ posts_by (substituted (put_in at aux)) (first.aux + second.aux) posts
-    → n ≡ first.aux + second.aux + count_by (lost (substituted (put_in at aux))) posts
+    → (made : List Row) (post : List Polynomial) (n : ℕ) → made ≡ start ++ rows_by (substituted_polynomial (put_in at aux)) rows → post ≡ posts_by (substituted_polynomial (put_in at aux)) (first.aux + second.aux) posts
+    → n ≡ first.aux + second.aux + count_by (lost (substituted_polynomial (put_in at aux))) posts
     → (let c : Case = record { aux = n; rows = made; post = post } in c ≡ sequence_of_cases first second)
 sequence_made first second at aux start rows posts reads made post n e f g =
     (λ i. record { aux = g i; rows = e i; post = f i })
     ∙ (λ i. record {
-      aux = first.aux + second.aux + count_by (lost (substituted (put_in (reads.same_at i) (reads.same_aux i)))) (reads.same_posts i);
-      rows = reads.same_start i ++ rows_by (substituted (put_in (reads.same_at i) (reads.same_aux i))) (reads.same_rows i);
-      post = posts_by (substituted (put_in (reads.same_at i) (reads.same_aux i))) (first.aux + second.aux) (reads.same_posts i);
+      aux = first.aux + second.aux + count_by (lost (substituted_polynomial (put_in (reads.same_at i) (reads.same_aux i)))) (reads.same_posts i);
+      rows = reads.same_start i ++ rows_by (substituted_polynomial (put_in (reads.same_at i) (reads.same_aux i))) (reads.same_rows i);
+      post = posts_by (substituted_polynomial (put_in (reads.same_at i) (reads.same_aux i))) (first.aux + second.aux) (reads.same_posts i);
     })
 
 pub sequence_noted : (first second : Case) (at aux : List Polynomial) (start rows : List Row) (posts : List Polynomial) → Reads first second at aux start rows posts
-    → (before between after : List Loss) → between ≡ before ++ flat_map (λ row. losses_of (substituted (put_in at aux) row.poly)) rows → after ≡ between ++ flat_map (λ p. losses_of (substituted (put_in at aux) p)) posts
-    → after ≡ before ++ lost_by (after_case first second) second
+    → (before between after : List Loss) → between ≡ before ++ flat_map (λ row. losses_of (substituted_polynomial (put_in at aux) row.poly)) rows → after ≡ between ++ flat_map (λ p. losses_of (substituted_polynomial (put_in at aux) p)) posts
+    → after ≡ before ++ losses_by (after_case first second) second
 sequence_noted first second at aux start rows posts reads before between after e f =
     f
-    ∙ ap (λ l. l ++ flat_map (λ p. losses_of (substituted (put_in at aux) p)) posts) e
-    ∙ append_assoc before (flat_map (λ row. losses_of (substituted (put_in at aux) row.poly)) rows) (flat_map (λ p. losses_of (substituted (put_in at aux) p)) posts)
-    ∙ (λ i. before ++ (flat_map (λ row. losses_of (substituted (put_in (reads.same_at i) (reads.same_aux i)) row.poly)) (reads.same_rows i) ++ flat_map (λ p. losses_of (substituted (put_in (reads.same_at i) (reads.same_aux i)) p)) (reads.same_posts i)))
+    ∙ ap (λ l. l ++ flat_map (λ p. losses_of (substituted_polynomial (put_in at aux) p)) posts) e
+    ∙ append_assoc before (flat_map (λ row. losses_of (substituted_polynomial (put_in at aux) row.poly)) rows) (flat_map (λ p. losses_of (substituted_polynomial (put_in at aux) p)) posts)
+    ∙ (λ i. before ++ (flat_map (λ row. losses_of (substituted_polynomial (put_in (reads.same_at i) (reads.same_aux i)) row.poly)) (reads.same_rows i) ++ flat_map (λ p. losses_of (substituted_polynomial (put_in (reads.same_at i) (reads.same_aux i)) p)) (reads.same_posts i)))

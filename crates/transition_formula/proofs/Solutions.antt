@@ -20,18 +20,18 @@ use Rattle.linear_terms.specs.declared.row.Case.{Case}
 use Rattle.linear_terms.specs.Auxiliaries.{is_auxiliary, has_auxiliary, occurs, without, put_for, is_numbered}
 use Rattle.linear_terms.specs.Mono.{mono_cmp}
 use Rattle.linear_terms.specs.MonoOrder.{mono_cmp_total}
-use Rattle.linear_terms.specs.Operations.{multiple_of, substituted}
+use Rattle.linear_terms.specs.Operations.{multiple_of, substituted_polynomial}
 use Rattle.linear_terms.specs.Polynomial.{Terms, Polynomial, column_of, coefficient_in}
 use Rattle.linear_terms.specs.Row.{IsWithin, RowHolds, RowsHold}
 use Rattle.linear_terms.specs.Value.{Valuation, mono_value, terms_value, value_of}
 use Rattle.linear_terms.proofs.Columns.{EachColumn, multiple_of-each}
 use Rattle.linear_terms.proofs.Order.{mono_tie}
 use Rattle.linear_terms.proofs.Values.{multiple_of-value, substituted-value}
-use Rattle.transition_formula.specs.Composition.{Operation, by, lost_by}
+use Rattle.transition_formula.specs.Composition.{Operation, by, losses_by}
 use Rattle.transition_formula.specs.Loss.{losses_of}
 use Rattle.transition_formula.specs.Meaning.{numbers, HoldsAt, HoldsCase}
-use Rattle.transition_formula.specs.Order.{solves, or_else, first_solved, solved_by, place_from, first_equation, solution, with_solution}
-use Rattle.transition_formula.specs.Rounds.{with_rows, with_solved, lost_with_solved}
+use Rattle.transition_formula.specs.Order.{solves, or_else, first_solved, solvable_auxiliary, place_from, first_equation, solution, with_solution}
+use Rattle.transition_formula.specs.Rounds.{with_rows, with_solved, losses_with_solved}
 use Rattle.transition_formula.specs.Transition.{every_column}
 use Rattle.transition_formula.proofs.Carried.{solution-passes}
 use Rattle.transition_formula.proofs.Covered.{both, test_from_columns}
@@ -179,10 +179,10 @@ pub record CanSolve (n : ℕ) (row : Row) : Type 0 where
   pub equation : row.kind ≡ Equal
   pub solvable : Solvable n row.poly.terms row.poly.terms
 
-can_solve : (n : ℕ) (row : Row) → solved_by row.kind row.poly ≡ Some n → CanSolve n row
+can_solve : (n : ℕ) (row : Row) → solvable_auxiliary row.kind row.poly ≡ Some n → CanSolve n row
 can_solve n row e = go row.kind refl e
   where
-    go : (k : Kind) → row.kind ≡ k → solved_by k row.poly ≡ Some n → CanSolve n row
+    go : (k : Kind) → row.kind ≡ k → solvable_auxiliary k row.poly ≡ Some n → CanSolve n row
     go AtMost f g = cc
     go Equal f g = record { equation = f; solvable = first_solved-solvable n row.poly.terms row.poly.terms g }
 
@@ -191,7 +191,7 @@ origin = (0, 0)
 
 pub found-can_solve : (rows : List Row) (place n : ℕ) (row : Row) → found_at place n ≡ first_equation rows → Some row ≡ slice_get rows place → CanSolve n row
 found-can_solve [] place n row e f = cc
-found-can_solve (r ∷ rows) zero n row e f = go (solved_by r.kind r.poly) refl (first_equation rows) e
+found-can_solve (r ∷ rows) zero n row e f = go (solvable_auxiliary r.kind r.poly) refl (first_equation rows) e
   where
     same : row ≡ r
     same = cc
@@ -200,10 +200,10 @@ found-can_solve (r ∷ rows) zero n row e f = go (solved_by r.kind r.poly) refl 
     never None g = cc
     never (Some found) g = let at : 0 ≡ found.0 + 1 = ap (λ p. (unwrap_or p origin).0) g in omega (arith, at)
 
-    go : (o : Option ℕ) → solved_by r.kind r.poly ≡ o → (p : Option (ℕ × ℕ)) → found_at 0 n ≡ place_from o p → CanSolve n row
+    go : (o : Option ℕ) → solvable_auxiliary r.kind r.poly ≡ o → (p : Option (ℕ × ℕ)) → found_at 0 n ≡ place_from o p → CanSolve n row
     go (Some m) g p h = let is : n ≡ m = ap (λ q. (unwrap_or q origin).1) h in subst (CanSolve n) (sym same) (can_solve n r (g ∙ ap (λ i. Some i) (sym is)))
     go None g p h = absurd (never p h)
-found-can_solve (r ∷ rows) (suc place) n row e f = go (solved_by r.kind r.poly) (first_equation rows) e (λ g. found-can_solve rows place n row g f)
+found-can_solve (r ∷ rows) (suc place) n row e f = go (solvable_auxiliary r.kind r.poly) (first_equation rows) e (λ g. found-can_solve rows place n row g f)
   where
     later : (o : Option (ℕ × ℕ)) → found_at (suc place) n ≡ option_map (λ found. (found.0 + 1, found.1)) o → (found_at place n ≡ o → CanSolve n row) → CanSolve n row
     later None g ih = cc
@@ -318,7 +318,7 @@ module _ (case : Case) (n : ℕ) (q : Polynomial) (all : Numbered case) (before 
     put-keeps : Keeps op (is_numbered case.aux) (numbers before aux) (numbers before (with_lost_aux values))
     put-keeps = record { tells = with_solution-tells n q; value = λ p r e h. go (occurs n p) p r e h }
       where
-        go : (b : Bool) (p r : Polynomial) → cond b (substituted (put_for n q) p) (Ok p) ≡ Ok r → IsTrue (every_column (is_numbered case.aux) p) → value_of (numbers before (with_lost_aux values)) r ≡ value_of (numbers before aux) p
+        go : (b : Bool) (p r : Polynomial) → cond b (substituted_polynomial (put_for n q) p) (Ok p) ≡ Ok r → IsTrue (every_column (is_numbered case.aux) p) → value_of (numbers before (with_lost_aux values)) r ≡ value_of (numbers before aux) p
         go true p r e h =
             substituted-value (numbers before (with_lost_aux values)) (put_for n q) p r e
             ∙ value-agrees (λ c. value_of (numbers before (with_lost_aux values)) (put_for n q c)) (numbers before aux) (is_numbered case.aux) seen p h
@@ -360,7 +360,7 @@ module _ (case : Case) (n : ℕ) (q : Polynomial) (all : Numbered case) (before 
   back-keeps : Keeps op (is_numbered case.aux) (numbers before with_solved_aux) (numbers before aux)
   back-keeps = record { tells = with_solution-tells n q; value = λ p r e h. go (occurs n p) p r refl e h }
     where
-      go : (b : Bool) (p r : Polynomial) → occurs n p ≡ b → cond b (substituted (put_for n q) p) (Ok p) ≡ Ok r → IsTrue (every_column (is_numbered case.aux) p) → value_of (numbers before aux) r ≡ value_of (numbers before with_solved_aux) p
+      go : (b : Bool) (p r : Polynomial) → occurs n p ≡ b → cond b (substituted_polynomial (put_for n q) p) (Ok p) ≡ Ok r → IsTrue (every_column (is_numbered case.aux) p) → value_of (numbers before aux) r ≡ value_of (numbers before with_solved_aux) p
       go true p r f e h =
           substituted-value (numbers before aux) (put_for n q) p r e
           ∙ value-agrees (λ c. value_of (numbers before aux) (put_for n q c)) (numbers before with_solved_aux) (is_numbered case.aux) seen_back p h
@@ -368,7 +368,7 @@ module _ (case : Case) (n : ℕ) (q : Polynomial) (all : Numbered case) (before 
           let same : p ≡ r = cc in
           ap (value_of (numbers before aux)) (sym same) ∙ value-agrees (numbers before aux) (numbers before with_solved_aux) (is_other n) apart p (absent-lacks n p f)
 
-  put-held : lost_by op case ≡ [] → HoldsAt (numbers before aux) (by op case) after → HoldsAt (numbers before with_solved_aux) case after
+  put-held : losses_by op case ≡ [] → HoldsAt (numbers before aux) (by op case) after → HoldsAt (numbers before with_solved_aux) case after
   put-held none h =
       let losses = none-of (flat_map (λ row. losses_of (op row.poly)) case.rows) (flat_map (λ p. losses_of (op p)) case.post) none in
       record {
@@ -423,10 +423,10 @@ module _ (case : Case) (place n : ℕ) (row : Row) (all : AllNumbered case) (can
           put-hold left n q left_numbered before after aux ((solution-is n row.poly q can.solvable e (numbers before aux)).0 (zero_value (numbers before aux) two.0))
           (solution-passes (is_numbered case.aux) row.poly n q e row_numbered) (record { rows = two.1; posts = h.posts })
 
-  pub solved-held : lost_with_solved (solution row.poly n) n left ≡ [] → HoldsCase (with_solved (solution row.poly n) n left) before after → HoldsCase case before after
+  pub solved-held : losses_with_solved (solution row.poly n) n left ≡ [] → HoldsCase (with_solved (solution row.poly n) n left) before after → HoldsCase case before after
   solved-held = go (solution row.poly n) refl
     where
-      go : (r : Result Polynomial TermError) → solution row.poly n ≡ r → lost_with_solved r n left ≡ [] → HoldsCase (with_solved r n left) before after → HoldsCase case before after
+      go : (r : Result Polynomial TermError) → solution row.poly n ≡ r → losses_with_solved r n left ≡ [] → HoldsCase (with_solved r n left) before after → HoldsCase case before after
       go (Err x) e none h = absurd (lost-some (solution row.poly n) x (solution-tells row.poly n) e none)
       go (Ok q) e none (aux, h) =
           let solved = with_solved_aux left n q left_numbered before after aux in

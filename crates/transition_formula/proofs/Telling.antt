@@ -4,7 +4,7 @@ use Rattle.std.specs.Prelude.{nat_lt}
 use Rattle.std.specs.Ordering.{int_eq, match_ordering}
 use Rattle.std.specs.declared.cmp.Ordering.{Ordering}
 use Rattle.std.specs.declared.cmp.Ordering.TheVariants.{Less, Equal, Greater}
-use Rattle.items.specs.Gives.{◌>>=◌, lifted}
+use Rattle.items.specs.Gives.{◌>>=◌, err_map}
 use Rattle.whole_numbers.specs.declared.wide.Wide as Step
 use Rattle.whole_numbers.specs.Fits.{sum_of, product_of}
 use Rattle.linear_terms.specs.declared.col.Col.{Col}
@@ -14,12 +14,12 @@ use Rattle.linear_terms.specs.declared.error.TermError.TheVariants.{Wide, Degree
 use Rattle.linear_terms.specs.declared.row.Row.{Row}
 use Rattle.linear_terms.specs.Auxiliaries.{occurs, put_for, without}
 use Rattle.linear_terms.specs.Mono.{mono_cmp, in_order}
-use Rattle.linear_terms.specs.Operations.{kept, put, put_all, sum_of_polys, times_each, multiple_of, difference_of_polys, parts, put_part, add_product, add_row, add_rows, product_of_polys, product_on, product_in, replaced, add_substituted, substituted}
+use Rattle.linear_terms.specs.Operations.{with_term, put, put_all, sum_of_polys, times_each, multiple_of, difference_of_polys, parts, put_part, add_product, add_row, add_rows, product_of_polys, product_on, product_in, substituted_monomial, add_substituted, substituted_polynomial}
 use Rattle.linear_terms.specs.Polynomial.{Terms, Polynomial, coefficient_in, constant_of}
 use Rattle.linear_terms.specs.Row.{normal_form}
 use Rattle.linear_terms.specs.TermError.{wide, plus, times}
 use Rattle.linear_terms.proofs.Faults.{normal_form-fault}
-use Rattle.transition_formula.specs.Loss.{noted}
+use Rattle.transition_formula.specs.Loss.{error_losses}
 use Rattle.transition_formula.specs.Order.{solution, with_solution}
 
 -- it is no want of memory
@@ -34,7 +34,7 @@ bind-tells (Err Memory) f h k = λ e. h refl
 
 -- ---- sums and multiples
 
-step-tells : (r : Result ℤ Step.Wide) → Tells (lifted wide r)
+step-tells : (r : Result ℤ Step.Wide) → Tells (err_map wide r)
 step-tells (Ok z) e = cc
 step-tells (Err step) e = cc
 
@@ -48,9 +48,9 @@ put-tells : (m : List Col) (c : ℤ) (ts : Terms) → Tells (put m c ts)
 put-tells m c [] = λ e. cc
 put-tells m c (t ∷ ts) = go (mono_cmp m t.0) (put-tells m c ts)
   where
-    go : (o : Ordering) → Tells (put m c ts) → Tells (match_ordering o (Ok (kept m c (t ∷ ts))) (plus t.1 c >>= λ s. Ok (kept t.0 s ts)) (put m c ts >>= λ made. Ok (t ∷ made)))
+    go : (o : Ordering) → Tells (put m c ts) → Tells (match_ordering o (Ok (with_term m c (t ∷ ts))) (plus t.1 c >>= λ s. Ok (with_term t.0 s ts)) (put m c ts >>= λ made. Ok (t ∷ made)))
     go Less ih = λ e. cc
-    go Equal ih = bind-tells (plus t.1 c) (λ s. Ok (kept t.0 s ts)) (plus-tells t.1 c) (λ s e. cc)
+    go Equal ih = bind-tells (plus t.1 c) (λ s. Ok (with_term t.0 s ts)) (plus-tells t.1 c) (λ s e. cc)
     go Greater ih = bind-tells (put m c ts) (λ made. Ok (t ∷ made)) ih (λ made e. cc)
 
 put_all-tells : (ts more : Terms) → Tells (put_all ts more)
@@ -65,8 +65,8 @@ sum_of_polys-tells a b =
 times_each-tells : (ts : Terms) (by : ℤ) → Tells (times_each ts by)
 times_each-tells [] by = λ e. cc
 times_each-tells (t ∷ ts) by =
-    bind-tells (times t.1 by) (λ c. times_each ts by >>= λ made. Ok (kept t.0 c made)) (times-tells t.1 by)
-    (λ c. bind-tells (times_each ts by) (λ made. Ok (kept t.0 c made)) (times_each-tells ts by) (λ made e. cc))
+    bind-tells (times t.1 by) (λ c. times_each ts by >>= λ made. Ok (with_term t.0 c made)) (times-tells t.1 by)
+    (λ c. bind-tells (times_each ts by) (λ made. Ok (with_term t.0 c made)) (times_each-tells ts by) (λ made e. cc))
 
 pub multiple_of-tells : (p : Polynomial) (by : ℤ) → Tells (multiple_of p by)
 multiple_of-tells p by =
@@ -110,16 +110,16 @@ product_in-tells : (put_in : Col → Polynomial) (m : List Col) → Tells (produ
 product_in-tells put_in [] = λ e. cc
 product_in-tells put_in (c ∷ m) = product_on-tells put_in (put_in c) m
 
-replaced-tells : (put_in : Col → Polynomial) (m : List Col) (c : ℤ) → Tells (replaced put_in m c)
+replaced-tells : (put_in : Col → Polynomial) (m : List Col) (c : ℤ) → Tells (substituted_monomial put_in m c)
 replaced-tells put_in m c = bind-tells (product_in put_in m) (λ product. multiple_of product c) (product_in-tells put_in m) (λ product. multiple_of-tells product c)
 
 add_substituted-tells : (put_in : Col → Polynomial) (ts : Terms) (sum : Polynomial) → Tells (add_substituted put_in ts sum)
 add_substituted-tells put_in [] sum = λ e. cc
 add_substituted-tells put_in (t ∷ ts) sum =
-    bind-tells (replaced put_in t.0 t.1) (λ term. sum_of_polys sum term >>= λ made. add_substituted put_in ts made) (replaced-tells put_in t.0 t.1)
+    bind-tells (substituted_monomial put_in t.0 t.1) (λ term. sum_of_polys sum term >>= λ made. add_substituted put_in ts made) (replaced-tells put_in t.0 t.1)
     (λ term. bind-tells (sum_of_polys sum term) (λ made. add_substituted put_in ts made) (sum_of_polys-tells sum term) (λ made. add_substituted-tells put_in ts made))
 
-pub substituted-tells : (put_in : Col → Polynomial) (p : Polynomial) → Tells (substituted put_in p)
+pub substituted-tells : (put_in : Col → Polynomial) (p : Polynomial) → Tells (substituted_polynomial put_in p)
 substituted-tells put_in p =
     bind-tells (add_substituted put_in p.terms (constant_of (pos 0))) (λ sum. plus sum.rest p.rest >>= λ r. Ok record { terms = sum.terms; rest = r }) (add_substituted-tells put_in p.terms (constant_of (pos 0)))
     (λ sum. bind-tells (plus sum.rest p.rest) (λ r. Ok record { terms = sum.terms; rest = r }) (plus-tells sum.rest p.rest) (λ r e. cc))
@@ -139,13 +139,13 @@ solution-tells p n = go (int_eq (coefficient_in p.terms (Aux n ∷ [])) (negsuc 
 pub with_solution-tells : (n : ℕ) (q p : Polynomial) → Tells (with_solution n q p)
 with_solution-tells n q p = go (occurs n p)
   where
-    go : (b : Bool) → Tells (cond b (substituted (put_for n q) p) (Ok p))
+    go : (b : Bool) → Tells (cond b (substituted_polynomial (put_for n q) p) (Ok p))
     go true = substituted-tells (put_for n q) p
     go false = λ e. cc
 
 -- ---- so a step without an answer is noted
 
-pub lost-some : {A : Type 0} (r : Result A TermError) (e : TermError) → Tells r → r ≡ Err e → noted e ≡ [] → ⊥
+pub lost-some : {A : Type 0} (r : Result A TermError) (e : TermError) → Tells r → r ≡ Err e → error_losses e ≡ [] → ⊥
 lost-some r (Wide left right times) tells is h = cc
 lost-some r Degree tells is h = cc
 lost-some r Memory tells is h = tells is

@@ -10,7 +10,7 @@ use Rattle.linear_terms.specs.declared.row.Normal.{Normal}
 use Rattle.linear_terms.specs.declared.row.Normal.TheVariants.{Constant, Kept}
 use Rattle.linear_terms.specs.Polynomial.{Polynomial}
 use Rattle.linear_terms.specs.Row.{normal_form, starts_negative}
-use Rattle.transition_formula.specs.Rows.{with_normal, normal_rows, stronger, alike, with_row, each_once, close, with_met, met, can_agree, opposites_met, tidied}
+use Rattle.transition_formula.specs.Rows.{with_normal, normal_rows, stronger, alike, with_row, each_once, close, with_met, met_rows, can_agree, opposites_met, tidied_rows}
 
 -- it holds of each row's polynomial
 abbrev pub EachRow : (Polynomial → Type 0) → List Row → Type 0
@@ -59,7 +59,7 @@ module _ (P : Polynomial → Type 0) (normal_keeps : (row r : Row) → normal_fo
       go true f ih = let same : r ≡ s = cc in subst (λ (x : Row). P x.poly) same h.0
       go false f ih = ih f
 
-  met-keeps : (before rows : List Row) → EachRow P rows → EachRow P (met before rows)
+  met-keeps : (before rows : List Row) → EachRow P rows → EachRow P (met_rows before rows)
   met-keeps before [] h = tt
   met-keeps before (r ∷ rows) h = go (list_any (λ s. close s r) before) (find (close r) rows) (λ s f. found-keeps (close r) rows s f h.1) (met-keeps (before ++ r ∷ []) rows h.1)
     where
@@ -67,16 +67,16 @@ module _ (P : Polynomial → Type 0) (normal_keeps : (row r : Row) → normal_fo
       either true s f = f
       either false s f = h.0
 
-      go : (b : Bool) (o : Option Row) → ((s : Row) → o ≡ Some s → P s.poly) → EachRow P (met (before ++ r ∷ []) rows) → EachRow P (with_met r b o (met (before ++ r ∷ []) rows))
+      go : (b : Bool) (o : Option Row) → ((s : Row) → o ≡ Some s → P s.poly) → EachRow P (met_rows (before ++ r ∷ []) rows) → EachRow P (with_met r b o (met_rows (before ++ r ∷ []) rows))
       go true o found later = later
       go false None found later = (h.0, later)
       go false (Some s) found later = (either (starts_negative r.poly.terms) s (found s refl), later)
 
-  pub tidied-keeps : (rows made : List Row) → (tidied rows).rows ≡ Some made → EachRow P rows → EachRow P made
+  pub tidied-keeps : (rows made : List Row) → (tidied_rows rows).rows ≡ Some made → EachRow P rows → EachRow P made
   tidied-keeps rows made e h = go (normal_rows rows).rows (λ l f. normal_rows-keep rows l f h) e
     where
-      agreed : (b : Bool) (l : List Row) → cond b (Some (met [] l)) None ≡ Some made → EachRow P l → EachRow P made
-      agreed true l f k = let same : met [] l ≡ made = cc in subst (EachRow P) same (met-keeps [] l k)
+      agreed : (b : Bool) (l : List Row) → cond b (Some (met_rows [] l)) None ≡ Some made → EachRow P l → EachRow P made
+      agreed true l f k = let same : met_rows [] l ≡ made = cc in subst (EachRow P) same (met-keeps [] l k)
       agreed false l f k = cc
 
       go : (o : Option (List Row)) → ((l : List Row) → o ≡ Some l → EachRow P l) → opposites_met (option_map each_once o) ≡ Some made → EachRow P made

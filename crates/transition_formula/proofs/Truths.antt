@@ -17,7 +17,7 @@ use Rattle.linear_terms.specs.Value.{Valuation, mono_value, terms_value, value_o
 use Rattle.linear_terms.proofs.Columns.{each-append}
 use Rattle.linear_terms.proofs.Equal.{poly_eq_decides}
 use Rattle.transition_formula.specs.Meaning.{AreTrueLeft}
-use Rattle.transition_formula.specs.Rows.{alike_by, alike, stronger, with_row, each_once, is_at_most, negated, are_opposite, exclude, can_agree, close, equation_of, with_met, met, opposites_met}
+use Rattle.transition_formula.specs.Rows.{alike_by, alike, stronger, with_row, each_once, is_at_most, negated_terms, are_opposite, exclude, can_agree, close, equation_of, with_met, met_rows, opposites_met}
 use Rattle.transition_formula.proofs.Covered.{both, both_true}
 use Rattle.transition_formula.proofs.Loops.{row_with, or_right}
 
@@ -126,9 +126,9 @@ module _ (at : Valuation) where
 
   -- ---- opposite rows
 
-  negated-value : (ts : Terms) → terms_value at (negated ts) ≡ neg_ℤ (terms_value at ts)
+  negated-value : (ts : Terms) → terms_value at (negated_terms ts) ≡ neg_ℤ (terms_value at ts)
   negated-value [] = refl
-  negated-value (t ∷ ts) = sums (neg_ℤ t.1 *ℤ mono_value at t.0) (terms_value at (negated ts)) (t.1 *ℤ mono_value at t.0) (terms_value at ts) (neg_ℤ-*ℤ t.1 (mono_value at t.0)) (negated-value ts)
+  negated-value (t ∷ ts) = sums (neg_ℤ t.1 *ℤ mono_value at t.0) (terms_value at (negated_terms ts)) (t.1 *ℤ mono_value at t.0) (terms_value at ts) (neg_ℤ-*ℤ t.1 (mono_value at t.0)) (negated-value ts)
     where
       sums : (x y u v : ℤ) → x ≡ neg_ℤ u → y ≡ neg_ℤ v → x +ℤ y ≡ neg_ℤ (u +ℤ v)
       sums x y u v e f = omega (arith, ints)
@@ -140,12 +140,12 @@ module _ (at : Valuation) where
 
   opposite : (r s : Row) → IsTrue (are_opposite r s) → Opposite r s
   opposite r s h =
-      let parts = both (is_at_most r.kind && is_at_most s.kind) (pointwise term_eq (negated r.poly.terms) s.poly.terms) h in
+      let parts = both (is_at_most r.kind && is_at_most s.kind) (pointwise term_eq (negated_terms r.poly.terms) s.poly.terms) h in
       let kinds = both (is_at_most r.kind) (is_at_most s.kind) parts.0 in
       record {
         first = inequality r.kind kinds.0;
         second = inequality s.kind kinds.1;
-        values = ap (terms_value at) (sym (terms_same (negated r.poly.terms) s.poly.terms parts.1)) ∙ negated-value r.poly.terms;
+        values = ap (terms_value at) (sym (terms_same (negated_terms r.poly.terms) s.poly.terms parts.1)) ∙ negated-value r.poly.terms;
       }
     where
       inequality : (k : Kind) → IsTrue (is_at_most k) → k ≡ AtMost
@@ -220,11 +220,11 @@ module _ (at : Valuation) where
       go true k = zero_of (value_of at r.poly) (value_of at s.poly) c.values k
       go false k = k
 
-  met-hold : (before rows : List Row) → RowsHold at rows → RowsHold at (met before rows)
+  met-hold : (before rows : List Row) → RowsHold at rows → RowsHold at (met_rows before rows)
   met-hold before [] h = tt
   met-hold before (r ∷ rows) h = go (list_any (λ s. close s r) before) (find (close r) rows) refl (met-hold (before ++ r ∷ []) rows h.1)
     where
-      go : (b : Bool) (o : Option Row) → find (close r) rows ≡ o → RowsHold at (met (before ++ r ∷ []) rows) → RowsHold at (with_met r b o (met (before ++ r ∷ []) rows))
+      go : (b : Bool) (o : Option Row) → find (close r) rows ≡ o → RowsHold at (met_rows (before ++ r ∷ []) rows) → RowsHold at (with_met r b o (met_rows (before ++ r ∷ []) rows))
       go true o e later = later
       go false None e later = (h.0, later)
       go false (Some s) e later =
@@ -237,9 +237,9 @@ module _ (at : Valuation) where
   Settled before rows = AllByRecursion (λ s. IsTrue (list_any (close s) rows) → value_of at s.poly ≡ pos 0) before
 
   abbrev HeldAfter : List Row → Row → List Row → Type 0
-  HeldAfter before r rows = Settled (before ++ r ∷ []) rows → RowsHold at (met (before ++ r ∷ []) rows) → RowsHold at rows
+  HeldAfter before r rows = Settled (before ++ r ∷ []) rows → RowsHold at (met_rows (before ++ r ∷ []) rows) → RowsHold at rows
 
-  met-held : (before rows : List Row) → Settled before rows → RowsHold at (met before rows) → RowsHold at rows
+  met-held : (before rows : List Row) → Settled before rows → RowsHold at (met_rows before rows) → RowsHold at rows
   met-held before [] settled h = tt
   met-held before (r ∷ rows) settled h = go (list_any (λ s. close s r) before) (find (close r) rows) refl refl h (λ next k. met-held (before ++ r ∷ []) rows next k)
     where
@@ -249,13 +249,13 @@ module _ (at : Valuation) where
           (everywhere (λ s. IsTrue (list_any (close s) (r ∷ rows)) → value_of at s.poly ≡ pos 0) (λ s. IsTrue (list_any (close s) rows) → value_of at s.poly ≡ pos 0) (λ s k any. k (or_right (close s r) (list_any (close s) rows) any)) before settled)
           (own, tt)
 
-      with_own : HeldAfter before r rows → RowHolds at r → (IsTrue (list_any (close r) rows) → value_of at r.poly ≡ pos 0) → RowsHold at (met (before ++ r ∷ []) rows) → RowsHold at (r ∷ rows)
+      with_own : HeldAfter before r rows → RowHolds at r → (IsTrue (list_any (close r) rows) → value_of at r.poly ≡ pos 0) → RowsHold at (met_rows (before ++ r ∷ []) rows) → RowsHold at (r ∷ rows)
       with_own ih holds own k = (holds, ih (later own) k)
 
       first_any : (s : Row) → IsTrue (close s r) → IsTrue (list_any (close s) (r ∷ rows))
       first_any s e = ap (λ b. b || list_any (close s) rows) e
 
-      go : (b : Bool) (o : Option Row) → list_any (λ s. close s r) before ≡ b → find (close r) rows ≡ o → RowsHold at (with_met r b o (met (before ++ r ∷ []) rows)) → HeldAfter before r rows → RowsHold at (r ∷ rows)
+      go : (b : Bool) (o : Option Row) → list_any (λ s. close s r) before ≡ b → find (close r) rows ≡ o → RowsHold at (with_met r b o (met_rows (before ++ r ∷ []) rows)) → HeldAfter before r rows → RowsHold at (r ∷ rows)
       go true o e f k ih =
           some_of (λ s. close s r) (λ s. IsTrue (list_any (close s) (r ∷ rows)) → value_of at s.poly ≡ pos 0) before e settled
           (λ s closes tells.
@@ -280,7 +280,7 @@ module _ (at : Valuation) where
       once : RowsHold at (each_once rows)
       once = once-hold [] rows tt h
 
-      go : (b : Bool) → can_agree (each_once rows) ≡ b → AreTrueLeft at (cond b (Some (met [] (each_once rows))) None)
+      go : (b : Bool) → can_agree (each_once rows) ≡ b → AreTrueLeft at (cond b (Some (met_rows [] (each_once rows))) None)
       go true e = met-hold [] (each_once rows) once
       go false e = clash (can_agree (each_once rows)) (agree (each_once rows) once) e
         where
@@ -291,6 +291,6 @@ module _ (at : Valuation) where
   pub once_met-held : (rows : List Row) → AreTrueLeft at (opposites_met (Some (each_once rows))) → RowsHold at rows
   once_met-held rows h = go (can_agree (each_once rows)) h
     where
-      go : (b : Bool) → AreTrueLeft at (cond b (Some (met [] (each_once rows))) None) → RowsHold at rows
+      go : (b : Bool) → AreTrueLeft at (cond b (Some (met_rows [] (each_once rows))) None) → RowsHold at rows
       go true k = (once-held [] rows (met-held [] (each_once rows) tt k)).1
       go false k = absurd k

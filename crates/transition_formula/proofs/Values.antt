@@ -11,9 +11,9 @@ use Rattle.linear_terms.specs.Polynomial.{Terms, Polynomial, column_of}
 use Rattle.linear_terms.specs.Row.{RowHolds, IsWithin}
 use Rattle.linear_terms.specs.Value.{Valuation, mono_value, terms_value, value_of}
 use Rattle.linear_terms.proofs.Columns.{EachColumn}
-use Rattle.transition_formula.specs.Loss.{answered, losses_of}
+use Rattle.transition_formula.specs.Loss.{answer_of, losses_of}
 use Rattle.transition_formula.specs.Transition.{every_column}
-use Rattle.transition_formula.specs.Composition.{Operation, row_of, rows_by, filled, posts_by}
+use Rattle.transition_formula.specs.Composition.{Operation, row_of, rows_by, filled_posts, posts_by}
 use Rattle.transition_formula.proofs.Covered.{both, columns_from_test}
 use Rattle.transition_formula.proofs.Telling.{Tells, lost-some}
 
@@ -71,7 +71,7 @@ with_lost (Some q) value values = values
 
 abbrev pub lost_values : Operation → Valuation → List Polynomial → List ℤ
 lost_values f v [] = []
-lost_values f v (p ∷ posts) = with_lost (answered (f p)) (value_of v p) (lost_values f v posts)
+lost_values f v (p ∷ posts) = with_lost (answer_of (f p)) (value_of v p) (lost_values f v posts)
 
 -- the auxiliaries from n on have these numbers
 abbrev pub NumbersFrom : Valuation → ℕ → List ℤ → Type 0
@@ -107,9 +107,9 @@ module _ (f : Operation) (test : Col → Bool) (v w : Valuation) (keeps : Keeps 
       let parts = both (every_column test p) (list_all (every_column test) posts) h in
       go (f p) refl parts.0 new (λ n k. posts_by-values n posts parts.1 k)
     where
-      go : (r : Result Polynomial TermError) → f p ≡ r → IsTrue (every_column test p) → NumbersFrom w next (with_lost (answered r) (value_of v p) (lost_values f v posts))
+      go : (r : Result Polynomial TermError) → f p ≡ r → IsTrue (every_column test p) → NumbersFrom w next (with_lost (answer_of r) (value_of v p) (lost_values f v posts))
           → ((n : ℕ) → NumbersFrom w n (lost_values f v posts) → map (value_of w) (posts_by f n posts) ≡ map (value_of v) posts)
-          → map (value_of w) (filled next (answered r ∷ map (λ q. answered (f q)) posts)) ≡ map (value_of v) (p ∷ posts)
+          → map (value_of w) (filled_posts next (answer_of r ∷ map (λ q. answer_of (f q)) posts)) ≡ map (value_of v) (p ∷ posts)
       go (Ok q) e c numbers ih = λ i. keeps.value p q e c i ∷ ih next numbers i
       go (Err d) e c numbers ih =
           let here : next + 0 ≡ next = omega arith in
@@ -125,6 +125,6 @@ module _ (f : Operation) (test : Col → Bool) (v w : Valuation) (keeps : Keeps 
       go (f p) refl parts.0 none.0 (posts_by-kept next posts parts.1 none.1)
     where
       go : (r : Result Polynomial TermError) → f p ≡ r → IsTrue (every_column test p) → losses_of r ≡ [] → map (value_of w) (posts_by f next posts) ≡ map (value_of v) posts
-          → map (value_of w) (filled next (answered r ∷ map (λ q. answered (f q)) posts)) ≡ map (value_of v) (p ∷ posts)
+          → map (value_of w) (filled_posts next (answer_of r ∷ map (λ q. answer_of (f q)) posts)) ≡ map (value_of v) (p ∷ posts)
       go (Ok q) e c l later = λ i. keeps.value p q e c i ∷ later i
       go (Err d) e c l later = absurd (lost-some (f p) d (keeps.tells p) e l)

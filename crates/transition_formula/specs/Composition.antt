@@ -8,10 +8,10 @@ use Rattle.linear_terms.specs.declared.row.Kind.{Kind}
 use Rattle.linear_terms.specs.declared.row.Row.{Row}
 use Rattle.linear_terms.specs.declared.row.Case.{Case}
 use Rattle.linear_terms.specs.Polynomial.{Polynomial, column_of}
-use Rattle.linear_terms.specs.Operations.{substituted}
+use Rattle.linear_terms.specs.Operations.{substituted_polynomial}
 use Rattle.linear_terms.specs.Replacement.{put_in}
 use Rattle.transition_formula.specs.declared.loss.Loss.{Loss}
-use Rattle.transition_formula.specs.Loss.{answered, losses_of}
+use Rattle.transition_formula.specs.Loss.{answer_of, losses_of}
 use Rattle.transition_formula.specs.Transition.{Transition}
 
 -- one case without rows, whose posts are the columns
@@ -28,8 +28,8 @@ identity_of columns =
     }
 
 -- the cases of both
-abbrev pub joined : Transition → Transition → Transition
-joined a b = record { from = a.from; to = a.to; cases = a.cases ++ b.cases }
+abbrev pub union_of : Transition → Transition → Transition
+union_of a b = record { from = a.from; to = a.to; cases = a.cases ++ b.cases }
 
 -- ---- an operation on each polynomial of a case
 
@@ -46,25 +46,25 @@ abbrev pub rows_by : Operation → List Row → List Row
 rows_by f rows = filter_map (λ row. row_of row.kind (f row.poly)) rows
 
 -- posts; one that is lost may be any number: it becomes the next auxiliary
-abbrev pub filled : ℕ → List (Option Polynomial) → List Polynomial
-filled next [] = []
-filled next (None ∷ posts) = column_of (Aux next) ∷ filled (next + 1) posts
-filled next (Some p ∷ posts) = p ∷ filled next posts
+abbrev pub filled_posts : ℕ → List (Option Polynomial) → List Polynomial
+filled_posts next [] = []
+filled_posts next (None ∷ posts) = column_of (Aux next) ∷ filled_posts (next + 1) posts
+filled_posts next (Some p ∷ posts) = p ∷ filled_posts next posts
 
 abbrev pub posts_by : Operation → ℕ → List Polynomial → List Polynomial
-posts_by f next posts = filled next (map (λ p. answered (f p)) posts)
+posts_by f next posts = filled_posts next (map (λ p. answer_of (f p)) posts)
 
 -- the case with each polynomial replaced by what the operation answers, the rows first
 abbrev pub by : Operation → Case → Case
 by f case =
     record {
-      aux = case.aux + count_by (λ p. is_none (answered (f p))) case.post;
+      aux = case.aux + count_by (λ p. is_none (answer_of (f p))) case.post;
       rows = rows_by f case.rows;
       post = posts_by f case.aux case.post;
     }
 
-abbrev pub lost_by : Operation → Case → List Loss
-lost_by f case = flat_map (λ row. losses_of (f row.poly)) case.rows
+abbrev pub losses_by : Operation → Case → List Loss
+losses_by f case = flat_map (λ row. losses_of (f row.poly)) case.rows
     ++ flat_map (λ p. losses_of (f p)) case.post
 
 -- ---- sequence
@@ -73,7 +73,7 @@ lost_by f case = flat_map (λ row. losses_of (f row.poly)) case.rows
 -- the first's
 abbrev pub after_case : Case → Case → Operation
 after_case first second =
-    substituted (put_in first.post
+    substituted_polynomial (put_in first.post
     (map (λ n. column_of (Aux n)) (range_with_len first.aux second.aux)))
 
 -- the rows of the first, then what comes of the second after it
@@ -95,7 +95,7 @@ sequence_of a b =
       cases = flat_map (λ first. map (sequence_of_cases first) b.cases) a.cases;
     }
 
-abbrev pub lost_in_sequence : Transition → Transition → List Loss
-lost_in_sequence a b =
-    flat_map (λ first. flat_map (λ second. lost_by (after_case first second) second) b.cases)
+abbrev pub losses_in_sequence : Transition → Transition → List Loss
+losses_in_sequence a b =
+    flat_map (λ first. flat_map (λ second. losses_by (after_case first second) second) b.cases)
     a.cases

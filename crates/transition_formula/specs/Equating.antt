@@ -14,8 +14,8 @@ use Rattle.transition_formula.specs.Posts.{posts_at}
 use Rattle.transition_formula.specs.Transition.{Transition}
 
 -- the formula over so many entry columns; it says nothing of those that it had not
-abbrev pub raised : ℕ → Transition → Transition
-raised from f = record { from = from; to = f.to; cases = f.cases }
+abbrev pub raised_formula : ℕ → Transition → Transition
+raised_formula from f = record { from = from; to = f.to; cases = f.cases }
 
 -- entry columns, from a number on, less the posts, each less one
 abbrev pub differences : ℕ → List Polynomial → List (Result Polynomial TermError)
@@ -32,18 +32,18 @@ equated_case first places case =
       post = case.post;
     }
 
-abbrev pub lost_in_equating_case : ℕ → List ℕ → Case → List Loss
-lost_in_equating_case first places case =
+abbrev pub losses_in_equating_case : ℕ → List ℕ → Case → List Loss
+losses_in_equating_case first places case =
     flat_map losses_of (differences first (posts_at places case.post))
 
 -- the formula where the entry columns from a number on are the posts at these places, in their
 -- order
-abbrev pub equated : ℕ → List ℕ → Transition → Transition
-equated first places f = record {
+abbrev pub equated_formula : ℕ → List ℕ → Transition → Transition
+equated_formula first places f = record {
   from = f.from;
   to = f.to;
   cases = map (equated_case first places) f.cases;
 }
 
-abbrev pub lost_in_equating : ℕ → List ℕ → Transition → List Loss
-lost_in_equating first places f = flat_map (lost_in_equating_case first places) f.cases
+abbrev pub losses_in_equating : ℕ → List ℕ → Transition → List Loss
+losses_in_equating first places f = flat_map (losses_in_equating_case first places) f.cases

@@ -4,10 +4,10 @@ use Rattle.std.specs.List.{flat_map, range_with_len}
 use Rattle.linear_terms.specs.declared.col.Col.TheVariants.{At, Aux}
 use Rattle.linear_terms.specs.declared.row.Case.{Case}
 use Rattle.linear_terms.specs.Polynomial.{Polynomial, column_of}
-use Rattle.linear_terms.specs.Operations.{substituted}
+use Rattle.linear_terms.specs.Operations.{substituted_polynomial}
 use Rattle.linear_terms.specs.Replacement.{put_in}
 use Rattle.transition_formula.specs.declared.loss.Loss.{Loss}
-use Rattle.transition_formula.specs.Composition.{Operation, by, lost_by}
+use Rattle.transition_formula.specs.Composition.{Operation, by, losses_by}
 use Rattle.transition_formula.specs.Transition.{Transition}
 
 -- what is put in for the entry columns: the first n stand for themselves, the others become
@@ -22,7 +22,7 @@ own_auxiliaries count = map (λ k. column_of (Aux k)) (range_with_len 0 count)
 
 abbrev pub hiding : (n from : ℕ) → Case → Operation
 hiding n from case =
-    substituted (put_in (entries_hidden n from case.aux) (own_auxiliaries case.aux))
+    substituted_polynomial (put_in (entries_hidden n from case.aux) (own_auxiliaries case.aux))
 
 abbrev pub hidden_case : (n from : ℕ) → Case → Case
 hidden_case n from case = by (hiding n from case) record {
@@ -35,5 +35,5 @@ hidden_case n from case = by (hiding n from case) record {
 abbrev pub hidden : ℕ → Transition → Transition
 hidden n f = record { from = n; to = f.to; cases = map (hidden_case n f.from) f.cases }
 
-abbrev pub lost_in_hiding : ℕ → Transition → List Loss
-lost_in_hiding n f = flat_map (λ case. lost_by (hiding n f.from case) case) f.cases
+abbrev pub losses_in_hiding : ℕ → Transition → List Loss
+losses_in_hiding n f = flat_map (λ case. losses_by (hiding n f.from case) case) f.cases

@@ -13,17 +13,17 @@ loss_of Degree = Some lost.Degree
 loss_of Memory = None
 
 -- what is noted of a step that has no answer
-abbrev pub noted : TermError → List Loss
-noted (Wide left right times) = lost.Wide left right times ∷ []
-noted Degree = lost.Degree ∷ []
-noted Memory = []
+abbrev pub error_losses : TermError → List Loss
+error_losses (Wide left right times) = lost.Wide left right times ∷ []
+error_losses Degree = lost.Degree ∷ []
+error_losses Memory = []
 
 -- the answer of an operation, if it has one
-abbrev pub answered : {A : Type 0} → Result A TermError → Option A
-answered (Ok a) = Some a
-answered (Err e) = None
+abbrev pub answer_of : {A : Type 0} → Result A TermError → Option A
+answer_of (Ok a) = Some a
+answer_of (Err e) = None
 
 -- what is noted of an operation
 abbrev pub losses_of : {A : Type 0} → Result A TermError → List Loss
 losses_of (Ok a) = []
-losses_of (Err e) = noted e
+losses_of (Err e) = error_losses e

@@ -9,7 +9,7 @@ use Rattle.linear_terms.specs.declared.row.Kind.{Kind}
 use Rattle.linear_terms.specs.declared.row.Kind.TheVariants.{AtMost, Equal}
 use Rattle.linear_terms.specs.declared.row.Row.{Row}
 use Rattle.linear_terms.specs.Polynomial.{Terms, Polynomial, coefficient_in}
-use Rattle.linear_terms.specs.Operations.{multiple_of, substituted}
+use Rattle.linear_terms.specs.Operations.{multiple_of, substituted_polynomial}
 use Rattle.linear_terms.specs.Auxiliaries.{has_auxiliary, occurs, without, put_for}
 use Rattle.transition_formula.specs.Composition.{Operation}
 
@@ -32,9 +32,9 @@ first_solved all [] = None
 first_solved all (t ∷ ts) = or_else (solves all t) (first_solved all ts)
 
 -- the auxiliary for which an equation can be solved: the first in print order is the least
-abbrev pub solved_by : Kind → Polynomial → Option ℕ
-solved_by AtMost p = None
-solved_by Equal p = first_solved p.terms p.terms
+abbrev pub solvable_auxiliary : Kind → Polynomial → Option ℕ
+solvable_auxiliary AtMost p = None
+solvable_auxiliary Equal p = first_solved p.terms p.terms
 
 -- the place of the first equation that can be solved, and its auxiliary
 abbrev pub place_from : Option ℕ → Option (ℕ × ℕ) → Option (ℕ × ℕ)
@@ -43,7 +43,7 @@ place_from None later = option_map (λ found. (found.0 + 1, found.1)) later
 
 abbrev pub first_equation : List Row → Option (ℕ × ℕ)
 first_equation [] = None
-first_equation (row ∷ rows) = place_from (solved_by row.kind row.poly) (first_equation rows)
+first_equation (row ∷ rows) = place_from (solvable_auxiliary row.kind row.poly) (first_equation rows)
 
 -- what the equation says that its auxiliary is: the other terms, turned where its number is 1
 abbrev pub solution : Polynomial → ℕ → Result Polynomial TermError
@@ -52,4 +52,4 @@ solution p n = if int_eq (coefficient_in p.terms (Aux n ∷ [])) (negsuc 0) then
 
 -- the solution put in where the auxiliary occurs
 abbrev pub with_solution : ℕ → Polynomial → Operation
-with_solution n by p = if occurs n p then substituted (put_for n by) p else Ok p
+with_solution n by p = if occurs n p then substituted_polynomial (put_for n by) p else Ok p

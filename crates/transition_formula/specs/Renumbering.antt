@@ -25,8 +25,8 @@ renumbered_row number row = record {
   kind = row.kind;
 }
 
-abbrev pub renumbered_by : (ℕ → ℕ) → Case → Case
-renumbered_by number case =
+abbrev pub case_renumbered_by : (ℕ → ℕ) → Case → Case
+case_renumbered_by number case =
     record {
       aux = number case.aux;
       rows = map (renumbered_row number) case.rows;
@@ -34,4 +34,4 @@ renumbered_by number case =
     }
 
 abbrev pub renumbered_case : Case → Case
-renumbered_case case = renumbered_by (new_number case) case
+renumbered_case case = case_renumbered_by (new_number case) case

@@ -9,9 +9,9 @@ use Rattle.linear_terms.specs.Polynomial.{Polynomial}
 use Rattle.transition_formula.specs.declared.loss.Loss.{Loss}
 use Rattle.transition_formula.specs.declared.solving.Solved.{Solved}
 use Rattle.transition_formula.specs.declared.solving.Solved.TheVariants.{Kept, False}
-use Rattle.transition_formula.specs.Loss.{noted}
-use Rattle.transition_formula.specs.Composition.{by, lost_by}
-use Rattle.transition_formula.specs.Rows.{tidied}
+use Rattle.transition_formula.specs.Loss.{error_losses}
+use Rattle.transition_formula.specs.Composition.{by, losses_by}
+use Rattle.transition_formula.specs.Rows.{tidied_rows}
 use Rattle.transition_formula.specs.Order.{first_equation, solution, with_solution}
 use Rattle.transition_formula.specs.Renumbering.{renumbered_case}
 
@@ -27,8 +27,8 @@ abbrev pub with_rows : Case → List Row → Case
 with_rows case rows = record { aux = case.aux; rows = rows; post = case.post }
 
 -- nothing is left to solve
-abbrev pub finished : Case → Ordered
-finished case = record { left = Some (renumbered_case case); losses = [] }
+abbrev pub end_of_order : Case → Ordered
+end_of_order case = record { left = Some (renumbered_case case); losses = [] }
 
 -- the equation is left out and its solution put in; an equation whose solution leaves 128 bits is
 -- lost
@@ -36,20 +36,20 @@ abbrev pub with_solved : Result Polynomial TermError → ℕ → Case → Case
 with_solved (Ok p) n case = by (with_solution n p) case
 with_solved (Err e) n case = case
 
-abbrev pub lost_with_solved : Result Polynomial TermError → ℕ → Case → List Loss
-lost_with_solved (Ok p) n case = lost_by (with_solution n p) case
-lost_with_solved (Err e) n case = noted e
+abbrev pub losses_with_solved : Result Polynomial TermError → ℕ → Case → List Loss
+losses_with_solved (Ok p) n case = losses_by (with_solution n p) case
+losses_with_solved (Err e) n case = error_losses e
 
 -- the first equation that can be solved is solved, and another round follows
-abbrev pub solved_at : (Case → Ordered) → Case → ℕ → Option Row → Ordered
-solved_at next left n None = finished left
-solved_at next left n (Some row) =
-    after_losses (lost_with_solved (solution row.poly n) n left)
+abbrev pub round_at : (Case → Ordered) → Case → ℕ → Option Row → Ordered
+round_at next left n None = end_of_order left
+round_at next left n (Some row) =
+    after_losses (losses_with_solved (solution row.poly n) n left)
     (next (with_solved (solution row.poly n) n left))
 
 abbrev pub solved_first : (Case → Ordered) → Case → Option (ℕ × ℕ) → Ordered
-solved_first next case None = finished case
-solved_first next case (Some found) = solved_at next (with_rows case (remove case.rows found.0))
+solved_first next case None = end_of_order case
+solved_first next case (Some found) = round_at next (with_rows case (remove case.rows found.0))
     found.1 (slice_get case.rows found.0)
 
 abbrev pub round : (Case → Ordered) → Case → Option (List Row) → Ordered
@@ -59,18 +59,18 @@ round next case (Some rows) = solved_first next (with_rows case rows) (first_equ
 -- Each round that is followed by another leaves out an equation. So as many rounds as there are
 -- rows are enough: after them no row is left.
 abbrev pub rounds : ℕ → Case → Ordered
-rounds zero case = finished case
+rounds zero case = end_of_order case
 rounds (suc more) case =
-    after_losses (tidied case.rows).losses (round (rounds more) case (tidied case.rows).rows)
+    after_losses (tidied_rows case.rows).losses (round (rounds more) case (tidied_rows case.rows).rows)
 
 -- the case put in order
 abbrev pub in_order : Case → Ordered
 in_order case = rounds (length case.rows) case
 
 -- how the code answers it
-abbrev pub solved : Option Case → Solved
-solved None = False
-solved (Some case) = Kept case
+abbrev pub solved_answer : Option Case → Solved
+solved_answer None = False
+solved_answer (Some case) = Kept case
 
 -- it holds of the case, if there is one
 abbrev pub Stays : (Case → Type 0) → Solved → Type 0

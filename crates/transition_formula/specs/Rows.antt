@@ -15,7 +15,7 @@ use Rattle.linear_terms.specs.Polynomial.{Terms}
 use Rattle.linear_terms.specs.Equality.{term_eq, poly_eq}
 use Rattle.linear_terms.specs.Row.{normal_form, starts_negative}
 use Rattle.transition_formula.specs.declared.loss.Loss.{Loss}
-use Rattle.transition_formula.specs.Loss.{noted}
+use Rattle.transition_formula.specs.Loss.{error_losses}
 
 -- rows that are left, or nothing where they can't all be true; and the losses on the way
 pub record Tidied : Type 0 where
@@ -26,7 +26,7 @@ pub record Tidied : Type 0 where
 -- it
 
 abbrev pub with_normal : Result Normal TermError → Tidied → Tidied
-with_normal (Err e) rest = record { rows = rest.rows; losses = noted e ++ rest.losses }
+with_normal (Err e) rest = record { rows = rest.rows; losses = error_losses e ++ rest.losses }
 with_normal (Ok (Constant true)) rest = rest
 with_normal (Ok (Constant false)) rest = record { rows = None; losses = [] }
 with_normal (Ok (Kept row)) rest = record {
@@ -67,13 +67,13 @@ abbrev pub is_at_most : Kind → Bool
 is_at_most AtMost = true
 is_at_most Equal = false
 
-abbrev pub negated : Terms → Terms
-negated ts = map (λ t. (t.0, neg_ℤ t.1)) ts
+abbrev pub negated_terms : Terms → Terms
+negated_terms ts = map (λ t. (t.0, neg_ℤ t.1)) ts
 
 -- p + c <= 0 and -p + d <= 0
 abbrev pub are_opposite : Row → Row → Bool
 are_opposite r s = is_at_most r.kind && is_at_most s.kind
-    && pointwise term_eq (negated r.poly.terms) s.poly.terms
+    && pointwise term_eq (negated_terms r.poly.terms) s.poly.terms
 
 -- c + d > 0: no numbers make both true
 abbrev pub exclude : Row → Row → Bool
@@ -101,19 +101,19 @@ with_met r true later rows = rows
 with_met r false None rows = r ∷ rows
 with_met r false (Some s) rows = equation_of r s ∷ rows
 
-abbrev pub met : List Row → List Row → List Row
-met before [] = []
-met before (r ∷ rows) = with_met r (list_any (λ s. close s r) before) (find (close r) rows)
-    (met (before ++ r ∷ []) rows)
+abbrev pub met_rows : List Row → List Row → List Row
+met_rows before [] = []
+met_rows before (r ∷ rows) = with_met r (list_any (λ s. close s r) before) (find (close r) rows)
+    (met_rows (before ++ r ∷ []) rows)
 
 -- ---- together
 
 abbrev pub opposites_met : Option (List Row) → Option (List Row)
 opposites_met None = None
-opposites_met (Some rows) = if can_agree rows then Some (met [] rows) else None
+opposites_met (Some rows) = if can_agree rows then Some (met_rows [] rows) else None
 
-abbrev pub tidied : List Row → Tidied
-tidied rows = record {
+abbrev pub tidied_rows : List Row → Tidied
+tidied_rows rows = record {
   rows = opposites_met (option_map each_once (normal_rows rows).rows);
   losses = (normal_rows rows).losses;
 }

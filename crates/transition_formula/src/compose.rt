@@ -3,7 +3,7 @@ ghost use Rattle.std.specs.List.{range_with_len};
 ghost use Rattle.linear_terms.specs.declared.col.Col.TheVariants.{At};
 ghost use Rattle.linear_terms.specs.Polynomial.{column_of};
 ghost use Rattle.transition_formula.specs.Meaning.{Holds};
-ghost use Rattle.transition_formula.specs.Composition.{identity_of, joined};
+ghost use Rattle.transition_formula.specs.Composition.{identity_of, union_of};
 
 use crate::{Formula, FormulaError, Loss};
 use items::Items;
@@ -55,7 +55,7 @@ pub fn column(alloc: Global, col: Col) -> Result<Poly, FormulaError>
 pub fn join(alloc: Global, a: &Formula, b: &Formula) -> Result<Formula, FormulaError>
     requires from { a.now.from ≡ b.now.from }
     requires to { a.now.to ≡ b.now.to }
-    ensures exact { IfOk result (λ f. f ≡ joined a.now b.now) }
+    ensures exact { IfOk result (λ f. f ≡ union_of a.now b.now) }
     ensures holds { (before after : List ℤ)
         → IfOk result
         (λ f. Holds f before after ↔ (Holds a.now before after ⊎ Holds b.now before after)) }

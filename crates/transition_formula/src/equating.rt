@@ -2,7 +2,7 @@ ghost use Rattle.std.specs.Prelude.{◌≡◌, ◌↔◌, ◌+◌, ◌<◌, ◌�
 ghost use Rattle.std.specs.List.{filter_map, flat_map};
 ghost use Rattle.linear_terms.specs.declared.row.Kind.TheVariants.{Equal};
 ghost use Rattle.transition_formula.specs.Composition.{row_of};
-ghost use Rattle.transition_formula.specs.Equating.{differences, equated_case, lost_in_equating_case, equated, lost_in_equating, raised};
+ghost use Rattle.transition_formula.specs.Equating.{differences, equated_case, losses_in_equating_case, equated_formula, losses_in_equating, raised_formula};
 ghost use Rattle.transition_formula.specs.Loss.{losses_of};
 ghost use Rattle.transition_formula.specs.Meaning.{Holds};
 ghost use Rattle.transition_formula.specs.Posts.{numbers_at};
@@ -16,9 +16,9 @@ use linear_terms::{Case, Col, Kind, Poly, Row, difference};
 use std::alloc::Global;
 
 /// The formula over at least as many entry columns as it has. It says nothing of the others.
-pub fn raised(f: &Formula, from: u32) -> Result<Formula, FormulaError>
+pub fn raised_formula(f: &Formula, from: u32) -> Result<Formula, FormulaError>
     requires { f.now.from ≤ from }
-    ensures exact { IfOk result (λ g. g ≡ raised from f.now) }
+    ensures exact { IfOk result (λ g. g ≡ raised_formula from f.now) }
     ensures holds { (before after : List ℤ)
         → IfOk result
         (λ g. Holds g before after
@@ -36,7 +36,7 @@ pub fn raised(f: &Formula, from: u32) -> Result<Formula, FormulaError>
 /// order. It holds of the states that the formula links where these columns have those numbers, and
 /// of no others where nothing was lost. Each loss is noted after those that are there. After an
 /// error nothing is noted.
-pub fn equated(
+pub fn equated_formula(
     alloc: Global,
     f: &Formula,
     first: u32,
@@ -45,9 +45,9 @@ pub fn equated(
 ) -> Result<Formula, FormulaError>
     requires there { All (λ place. place < f.now.to) places.now }
     requires columns { first + length places.now ≤ f.now.from }
-    ensures exact { IfOk result (λ g. g ≡ equated first places.now f.now) }
+    ensures exact { IfOk result (λ g. g ≡ equated_formula first places.now f.now) }
     ensures noted { OnOk result
-        (losses.new ≡ losses.old ++ lost_in_equating first places.now f.now) }
+        (losses.new ≡ losses.old ++ losses_in_equating first places.now f.now) }
     ensures kept { OnErr result (losses.new ≡ losses.old) }
     ensures at_least { (before after : List ℤ)
         → IfOk result
@@ -80,7 +80,7 @@ fn equated_cases(
     requires few { first + length places.now < 2 ^ 32 }
     ensures made { IfOk result (λ cases. cases ≡ map (equated_case first places.now) f.now.cases) }
     ensures noted { OnOk result
-        (losses.new ≡ losses.old ++ lost_in_equating first places.now f.now) }
+        (losses.new ≡ losses.old ++ losses_in_equating first places.now f.now) }
 {
     let mut cases = Items::new(alloc);
     for case in f.cases() {
@@ -100,7 +100,7 @@ fn equated_case(
     requires few { first + length places.now < 2 ^ 32 }
     ensures made { IfOk result (λ c. c ≡ equated_case first places.now case.now) }
     ensures noted { OnOk result
-        (losses.new ≡ losses.old ++ lost_in_equating_case first places.now case.now) }
+        (losses.new ≡ losses.old ++ losses_in_equating_case first places.now case.now) }
 {
     let mut rows = case.rows.clone()?;
     let told = posts_at(alloc, case.post.as_slice(), places)?;

@@ -3,7 +3,7 @@ ghost use Rattle.std.specs.Ordering.{int_eq};
 ghost use Rattle.items.specs.Gives.{Gives};
 ghost use Rattle.linear_terms.specs.TermError.{cause};
 ghost use Rattle.linear_terms.specs.Auxiliaries.{has_auxiliary};
-ghost use Rattle.transition_formula.specs.Order.{solves, first_solved, solved_by, first_equation, solution, with_solution};
+ghost use Rattle.transition_formula.specs.Order.{solves, first_solved, solvable_auxiliary, first_equation, solution, with_solution};
 
 use linear_terms::{Col, Kind, Mono, Poly, Row, TermError, scale, subst_aux, without};
 use std::alloc::Global;
@@ -13,7 +13,7 @@ pub(crate) fn first_equation(rows: &[Row]) -> Option<(usize, u32)>
     ensures { result ≡ first_equation rows.now }
 {
     for (place, row) in rows.iter().enumerate() {
-        if let Some(aux) = solved_by(row) {
+        if let Some(aux) = solvable_auxiliary(row) {
             return Some((place, aux));
         }
     }
@@ -21,8 +21,8 @@ pub(crate) fn first_equation(rows: &[Row]) -> Option<(usize, u32)>
 }
 
 /// The auxiliary for which a row can be solved.
-fn solved_by(row: &Row) -> Option<u32>
-    ensures { result ≡ solved_by row.now.kind row.now.poly }
+fn solvable_auxiliary(row: &Row) -> Option<u32>
+    ensures { result ≡ solvable_auxiliary row.now.kind row.now.poly }
 {
     match row.kind {
         Kind::AtMost => None,

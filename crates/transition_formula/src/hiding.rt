@@ -1,7 +1,7 @@
 ghost use Rattle.std.specs.Prelude.{◌≡◌, ◌+◌, ◌-◌, ◌<◌, ◌≤◌, ◌^◌, ◌++◌, ℤ, List, All, map, take, length, IfOk, OnErr, OnOk, IsTrue};
 ghost use Rattle.std.specs.List.{flat_map};
-ghost use Rattle.transition_formula.specs.Composition.{lost_by};
-ghost use Rattle.transition_formula.specs.Hiding.{entries_hidden, hiding, hidden_case, hidden, lost_in_hiding};
+ghost use Rattle.transition_formula.specs.Composition.{losses_by};
+ghost use Rattle.transition_formula.specs.Hiding.{entries_hidden, hiding, hidden_case, hidden, losses_in_hiding};
 ghost use Rattle.transition_formula.specs.Meaning.{Holds};
 ghost use Rattle.transition_formula.specs.Transition.{every_column_of, is_below};
 
@@ -25,7 +25,7 @@ pub fn hidden(
     requires fewer { n ≤ f.now.from }
     requires few { All (λ case. case.aux + (f.now.from - n) + f.now.to < 2 ^ 32) f.now.cases }
     ensures exact { IfOk result (λ g. g ≡ hidden n f.now) }
-    ensures noted { OnOk result (losses.new ≡ losses.old ++ lost_in_hiding n f.now) }
+    ensures noted { OnOk result (losses.new ≡ losses.old ++ losses_in_hiding n f.now) }
     ensures kept { OnErr result (losses.new ≡ losses.old) }
     ensures at_least { (before after : List ℤ)
         → IfOk result (λ g. Holds f.now before after → Holds g (take n before) after) }
@@ -52,7 +52,7 @@ fn hidden_cases(
     requires fewer { n ≤ f.now.from }
     requires few { All (λ case. case.aux + (f.now.from - n) + f.now.to < 2 ^ 32) f.now.cases }
     ensures made { IfOk result (λ cases. cases ≡ map (hidden_case n f.now.from) f.now.cases) }
-    ensures noted { OnOk result (losses.new ≡ losses.old ++ lost_in_hiding n f.now) }
+    ensures noted { OnOk result (losses.new ≡ losses.old ++ losses_in_hiding n f.now) }
 {
     let mut cases = Items::new(alloc);
     for case in f.cases() {
@@ -74,7 +74,7 @@ fn hidden_case(
     requires few { case.now.aux + (from - n) + length case.now.post < 2 ^ 32 }
     ensures exact { IfOk result (λ c. c ≡ hidden_case n from case.now) }
     ensures noted { OnOk result
-        (losses.new ≡ losses.old ++ lost_by (hiding n from case.now) case.now) }
+        (losses.new ≡ losses.old ++ losses_by (hiding n from case.now) case.now) }
 {
     let at = entries_hidden(alloc, n, from, case.aux)?;
     let aux = auxiliaries_from(alloc, 0, case.aux)?;

@@ -18,7 +18,7 @@ mod solving;
 mod tidy;
 
 pub use compose::{column, identity, join};
-pub use equating::{equated, raised};
+pub use equating::{equated_formula, raised_formula};
 pub use error::FormulaError;
 pub use formula::Formula;
 pub use hiding::hidden;

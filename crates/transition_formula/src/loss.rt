@@ -1,6 +1,6 @@
 ghost use Rattle.std.specs.Prelude.{◌≡◌, ◌++◌, Some, OnOk};
 ghost use Rattle.linear_terms.specs.TermError.{cause};
-ghost use Rattle.transition_formula.specs.Loss.{loss_of, noted};
+ghost use Rattle.transition_formula.specs.Loss.{loss_of, error_losses};
 
 use crate::FormulaError;
 use items::Items;
@@ -33,7 +33,7 @@ pub fn loss_of(error: TermError) -> Option<Loss>
 
 /// Notes an error of an operation; want of memory is an error here too.
 pub fn note(error: TermError, losses: &mut Items<Loss>) -> Result<(), FormulaError>
-    ensures noted { OnOk result (losses.new ≡ losses.old ++ noted error) }
+    ensures noted { OnOk result (losses.new ≡ losses.old ++ error_losses error) }
     ensures told { OnOk result (cause error ≡ Some error) }
 {
     match loss_of(error) {

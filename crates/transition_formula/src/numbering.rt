@@ -1,12 +1,12 @@
 ghost use Rattle.std.specs.Prelude.{◌≡◌, ◌+◌, ◌<◌, ◌^◌, cond, map, length, slice_index, IfOk, IsTrue};
 ghost use Rattle.std.specs.List.{list_all, list_any, range_with_len};
-ghost use Rattle.linear_terms.specs.Auxiliaries.{occurs, renumbered, is_numbered, KeepsOrder};
+ghost use Rattle.linear_terms.specs.Auxiliaries.{occurs, renumbered_polynomial, is_numbered, KeepsOrder};
 ghost use Rattle.transition_formula.specs.Transition.{every_column, every_column_of};
 ghost use Rattle.transition_formula.specs.Renumbering.{occurs_in, new_number, renumbered_row, renumbered_case};
 
 use crate::FormulaError;
 use items::Items;
-use linear_terms::{Case, Poly, Row, renumbered};
+use linear_terms::{Case, Poly, Row, renumbered_poly};
 use std::alloc::Global;
 
 /// The case without auxiliaries that occur nowhere, the others numbered anew in order.
@@ -34,13 +34,13 @@ fn new_numbers(alloc: Global, case: &Case) -> Result<Items<u32>, FormulaError>
     let mut count = 0;
     for number in 0..case.aux {
         numbers.push(count)?;
-        count = counted(count, occurs_in(case, number));
+        count = count_with(count, occurs_in(case, number));
     }
     numbers.push(count)?;
     Ok(numbers)
 }
 
-fn counted(count: u32, one: bool) -> u32
+fn count_with(count: u32, one: bool) -> u32
     requires { count + 1 < 2 ^ 32 }
     ensures { result ≡ cond one (count + 1) count }
 {
@@ -74,7 +74,7 @@ fn rows_renumbered(alloc: Global, rows: &[Row], numbers: &[u32]) -> Result<Items
 {
     let mut made = Items::new(alloc);
     for row in rows {
-        let poly = renumbered(alloc, &row.poly, numbers)?;
+        let poly = renumbered_poly(alloc, &row.poly, numbers)?;
         made.push(Row {
             poly,
             kind: row.kind,
@@ -91,11 +91,11 @@ fn posts_renumbered(
     requires numbered { IsTrue
         (list_all (every_column (is_numbered (length numbers.now))) posts.now) }
     requires order { KeepsOrder (slice_index numbers.now) (λ n. list_any (occurs n) posts.now) }
-    ensures { IfOk result (λ made. made ≡ map (renumbered (slice_index numbers.now)) posts.now) }
+    ensures { IfOk result (λ made. made ≡ map (renumbered_polynomial (slice_index numbers.now)) posts.now) }
 {
     let mut made = Items::new(alloc);
     for post in posts {
-        made.push(renumbered(alloc, post, numbers)?)?;
+        made.push(renumbered_poly(alloc, post, numbers)?)?;
     }
     Ok(made)
 }

@@ -1,6 +1,6 @@
 ghost use Rattle.std.specs.Prelude.{◌≡◌, ◌<◌, length, IfOk, OnOk, int_lt};
 ghost use Rattle.std.specs.Option.{IfSome};
-ghost use Rattle.transition_formula.specs.Rows.{with_row, each_once, negated, are_opposite};
+ghost use Rattle.transition_formula.specs.Rows.{with_row, each_once, negated_terms, are_opposite};
 ghost use Rattle.transition_formula.specs.Places.{key_of, first_place, TellsPlaces};
 
 use crate::FormulaError;
@@ -90,7 +90,7 @@ pub(crate) fn opposite_place(
 {
     match row.kind {
         Kind::Equal => Ok(None),
-        Kind::AtMost => match negated(alloc, row.poly.terms())? {
+        Kind::AtMost => match negated_terms(alloc, row.poly.terms())? {
             Some(terms) => Ok(places.get(&(None, terms)).copied()),
             None => Ok(first_opposite(row, rows)),
         },
@@ -98,8 +98,11 @@ pub(crate) fn opposite_place(
 }
 
 /// The terms with their signs turned; none where a number leaves 128 bits.
-fn negated(alloc: Global, terms: &[(Mono, i128)]) -> Result<Option<Items<(Mono, i128)>>, AllocError>
-    ensures { IfOk result (λ made. IfSome made (λ turned. turned ≡ negated terms.now)) }
+fn negated_terms(
+    alloc: Global,
+    terms: &[(Mono, i128)],
+) -> Result<Option<Items<(Mono, i128)>>, AllocError>
+    ensures { IfOk result (λ made. IfSome made (λ turned. turned ≡ negated_terms terms.now)) }
 {
     let mut made = Items::new(alloc);
     for (mono, number) in terms {

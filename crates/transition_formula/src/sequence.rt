@@ -3,12 +3,12 @@ ghost use Rattle.std.specs.List.{flat_map, list_all, range_with_len};
 ghost use Rattle.std.specs.Option.{is_none};
 ghost use Rattle.linear_terms.specs.declared.col.Col.TheVariants.{Aux};
 ghost use Rattle.linear_terms.specs.Polynomial.{column_of};
-ghost use Rattle.linear_terms.specs.Operations.{substituted};
+ghost use Rattle.linear_terms.specs.Operations.{substituted_polynomial};
 ghost use Rattle.linear_terms.specs.Replacement.{HasPoly, put_in};
-ghost use Rattle.transition_formula.specs.Loss.{answered, losses_of};
+ghost use Rattle.transition_formula.specs.Loss.{answer_of, losses_of};
 ghost use Rattle.transition_formula.specs.Meaning.{Holds};
 ghost use Rattle.transition_formula.specs.Transition.{every_column, every_column_of, is_below, AreFew};
-ghost use Rattle.transition_formula.specs.Composition.{rows_by, posts_by, after_case, sequence_of_cases, lost_by, sequence_of, lost_in_sequence};
+ghost use Rattle.transition_formula.specs.Composition.{rows_by, posts_by, after_case, sequence_of_cases, losses_by, sequence_of, losses_in_sequence};
 
 use crate::compose::column;
 use crate::loss::note;
@@ -29,7 +29,7 @@ pub fn seq(
     requires between { a.now.to ≡ b.now.from }
     requires few { AreFew a.now b.now }
     ensures exact { IfOk result (λ f. f ≡ sequence_of a.now b.now) }
-    ensures noted { OnOk result (losses.new ≡ losses.old ++ lost_in_sequence a.now b.now) }
+    ensures noted { OnOk result (losses.new ≡ losses.old ++ losses_in_sequence a.now b.now) }
     ensures kept { OnErr result (losses.new ≡ losses.old) }
     ensures at_least { (before middle after : List ℤ)
         → IfOk result (λ f. Holds a.now before middle → Holds b.now middle after
@@ -54,7 +54,7 @@ fn sequence_formula(
     requires between { a.now.to ≡ b.now.from }
     requires few { AreFew a.now b.now }
     ensures exact { IfOk result (λ f. f ≡ sequence_of a.now b.now) }
-    ensures noted { OnOk result (losses.new ≡ losses.old ++ lost_in_sequence a.now b.now) }
+    ensures noted { OnOk result (losses.new ≡ losses.old ++ losses_in_sequence a.now b.now) }
     ensures at_least { (before middle after : List ℤ)
         → IfOk result (λ f. Holds a.now before middle → Holds b.now middle after
         → Holds f before after) }
@@ -87,7 +87,7 @@ fn before_each(
         (cases.new ≡ cases.old ++ map (sequence_of_cases first.now) b.now.cases) }
     ensures noted { OnOk result
         (losses.new ≡ losses.old
-        ++ flat_map (λ second. lost_by (after_case first.now second) second) b.now.cases) }
+        ++ flat_map (λ second. losses_by (after_case first.now second) second) b.now.cases) }
 {
     for second in b.cases() {
         cases.push(sequence(alloc, first, second, losses)?)?;
@@ -107,7 +107,7 @@ fn sequence(
     requires few { first.now.aux + second.now.aux + length second.now.post < 2 ^ 32 }
     ensures exact { IfOk result (λ c. c ≡ sequence_of_cases first.now second.now) }
     ensures noted { OnOk result
-        (losses.new ≡ losses.old ++ lost_by (after_case first.now second.now) second.now) }
+        (losses.new ≡ losses.old ++ losses_by (after_case first.now second.now) second.now) }
 {
     let aux = auxiliaries_from(alloc, first.aux, second.aux)?;
     let mut rows = first.rows.clone()?;
@@ -168,12 +168,12 @@ impl PutIn<'_> {
             (list_all (λ row. every_column
             (is_below (length self.now.at.now) (length self.now.aux.now)) row.poly) rows.now) }
         ensures made { OnOk result
-            (made.new ≡ made.old ++ rows_by (substituted (put_in self.now.at.now self.now.aux.now))
+            (made.new ≡ made.old ++ rows_by (substituted_polynomial (put_in self.now.at.now self.now.aux.now))
             rows.now) }
         ensures noted { OnOk result
             (losses.new ≡ losses.old
             ++ flat_map (λ row. losses_of
-            (substituted (put_in self.now.at.now self.now.aux.now) row.poly)) rows.now) }
+            (substituted_polynomial (put_in self.now.at.now self.now.aux.now) row.poly)) rows.now) }
     {
         for row in rows {
             if let Some(poly) = self.poly(alloc, &row.poly, losses)? {
@@ -201,15 +201,15 @@ impl PutIn<'_> {
             posts.now) }
         requires few { aux + length posts.now < 2 ^ 32 }
         ensures made { OnOk result
-            (made.new ≡ made.old ++ posts_by (substituted (put_in self.now.at.now self.now.aux.now))
+            (made.new ≡ made.old ++ posts_by (substituted_polynomial (put_in self.now.at.now self.now.aux.now))
             aux posts.now) }
         ensures count { IfOk result
             (λ n. n ≡ aux + count_by
-            (λ p. is_none (answered (substituted (put_in self.now.at.now self.now.aux.now) p)))
+            (λ p. is_none (answer_of (substituted_polynomial (put_in self.now.at.now self.now.aux.now) p)))
             posts.now) }
         ensures noted { OnOk result
             (losses.new ≡ losses.old
-            ++ flat_map (λ p. losses_of (substituted (put_in self.now.at.now self.now.aux.now) p))
+            ++ flat_map (λ p. losses_of (substituted_polynomial (put_in self.now.at.now self.now.aux.now) p))
             posts.now) }
     {
         let mut aux = aux;
@@ -235,10 +235,10 @@ impl PutIn<'_> {
         requires { IsTrue
             (every_column (is_below (length self.now.at.now) (length self.now.aux.now)) poly.now) }
         ensures answer { IfOk result
-            (λ p. p ≡ answered (substituted (put_in self.now.at.now self.now.aux.now) poly.now)) }
+            (λ p. p ≡ answer_of (substituted_polynomial (put_in self.now.at.now self.now.aux.now) poly.now)) }
         ensures noted { OnOk result
             (losses.new ≡ losses.old
-            ++ losses_of (substituted (put_in self.now.at.now self.now.aux.now) poly.now)) }
+            ++ losses_of (substituted_polynomial (put_in self.now.at.now self.now.aux.now) poly.now)) }
     {
         match subst(alloc, poly, self.at, self.aux) {
             Ok(made) => Ok(Some(made)),

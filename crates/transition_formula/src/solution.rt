@@ -2,10 +2,10 @@ ghost use Rattle.std.specs.Prelude.{◌≡◌, ◌+◌, ◌<◌, ◌^◌, ◌++�
 ghost use Rattle.std.specs.List.{flat_map, remove};
 ghost use Rattle.std.specs.Option.{is_none};
 ghost use Rattle.linear_terms.specs.declared.row.Row.{Row};
-ghost use Rattle.transition_formula.specs.Loss.{answered, losses_of};
-ghost use Rattle.transition_formula.specs.Composition.{row_of, rows_by, posts_by, by, lost_by};
+ghost use Rattle.transition_formula.specs.Loss.{answer_of, losses_of};
+ghost use Rattle.transition_formula.specs.Composition.{row_of, rows_by, posts_by, by, losses_by};
 ghost use Rattle.transition_formula.specs.Order.{solution, with_solution};
-ghost use Rattle.transition_formula.specs.Rounds.{with_solved, lost_with_solved};
+ghost use Rattle.transition_formula.specs.Rounds.{with_solved, losses_with_solved};
 
 use crate::compose::column;
 use crate::equations::{solution, with_solution};
@@ -35,15 +35,15 @@ pub(crate) fn without_equation(
         (record { aux = case.aux; rows = remove case.rows place; post = case.post })) }
     ensures noted { (row : Row) → slice_get case.rows place ≡ Some row
         → OnOk result
-        (losses.new ≡ losses.old ++ lost_with_solved (solution row.poly aux) aux
+        (losses.new ≡ losses.old ++ losses_with_solved (solution row.poly aux) aux
         (record { aux = case.aux; rows = remove case.rows place; post = case.post })) }
 {
-    let (equation, left) = parted(case, place);
+    let (equation, left) = row_and_rest(case, place);
     with_solved(alloc, left, &equation.poly, aux, losses)
 }
 
 /// The row at a place, and the case without it.
-fn parted(case: Case, place: usize) -> (Row, Case)
+fn row_and_rest(case: Case, place: usize) -> (Row, Case)
     requires { place < length case.rows }
     ensures row { slice_get case.rows place ≡ Some result.0 }
     ensures rest { result.1
@@ -71,7 +71,7 @@ fn with_solved(
     requires { (with_solved (solution equation.now aux) aux case).aux < 2 ^ 32 }
     ensures exact { IfOk result (λ made. made ≡ with_solved (solution equation.now aux) aux case) }
     ensures noted { OnOk result
-        (losses.new ≡ losses.old ++ lost_with_solved (solution equation.now aux) aux case) }
+        (losses.new ≡ losses.old ++ losses_with_solved (solution equation.now aux) aux case) }
 {
     match solution(alloc, equation, aux) {
         Ok(by) => {
@@ -104,13 +104,13 @@ impl Solution {
         losses: &mut Items<Loss>,
     ) -> Result<Case, FormulaError>
         requires { count + count_by
-            (λ p. is_none (answered (with_solution self.now.aux self.now.by p))) posts.now
+            (λ p. is_none (answer_of (with_solution self.now.aux self.now.by p))) posts.now
             < 2 ^ 32 }
         ensures exact { IfOk result
             (λ made. made ≡ by (with_solution self.now.aux self.now.by)
             (record { aux = count; rows = rows.now; post = posts.now })) }
         ensures noted { OnOk result
-            (losses.new ≡ losses.old ++ lost_by (with_solution self.now.aux self.now.by)
+            (losses.new ≡ losses.old ++ losses_by (with_solution self.now.aux self.now.by)
             (record { aux = count; rows = rows.now; post = posts.now })) }
     {
         let made = self.rows(alloc, rows, losses)?;
@@ -178,13 +178,13 @@ impl Solution {
         losses: &mut Items<Loss>,
     ) -> Result<(u32, Items<Poly>), FormulaError>
         requires { count + count_by
-            (λ p. is_none (answered (with_solution self.now.aux self.now.by p))) posts.now
+            (λ p. is_none (answer_of (with_solution self.now.aux self.now.by p))) posts.now
             < 2 ^ 32 }
         ensures made { IfOk result
             (λ made. made.1 ≡ posts_by (with_solution self.now.aux self.now.by) count posts.now) }
         ensures count { IfOk result
             (λ made. made.0
-            ≡ count + count_by (λ p. is_none (answered (with_solution self.now.aux self.now.by p)))
+            ≡ count + count_by (λ p. is_none (answer_of (with_solution self.now.aux self.now.by p)))
             posts.now) }
         ensures noted { OnOk result
             (losses.new ≡ losses.old
@@ -213,7 +213,7 @@ impl Solution {
         losses: &mut Items<Loss>,
     ) -> Result<Option<Poly>, FormulaError>
         ensures answer { IfOk result
-            (λ p. p ≡ answered (with_solution self.now.aux self.now.by poly.now)) }
+            (λ p. p ≡ answer_of (with_solution self.now.aux self.now.by poly.now)) }
         ensures noted { OnOk result
             (losses.new ≡ losses.old
             ++ losses_of (with_solution self.now.aux self.now.by poly.now)) }

@@ -3,10 +3,10 @@ ghost use Rattle.std.specs.Option.{option_map};
 ghost use Rattle.linear_terms.specs.Auxiliaries.{is_numbered};
 ghost use Rattle.transition_formula.specs.Meaning.{HoldsCase, HoldsSolved};
 ghost use Rattle.transition_formula.specs.Transition.{every_column_of, fits};
-ghost use Rattle.transition_formula.specs.Rows.{tidied};
+ghost use Rattle.transition_formula.specs.Rows.{tidied_rows};
 ghost use Rattle.transition_formula.specs.Renumbering.{renumbered_case};
 ghost use Rattle.transition_formula.specs.declared.solving.Solved.TheVariants.{Kept};
-ghost use Rattle.transition_formula.specs.Rounds.{with_rows, in_order, solved, Stays};
+ghost use Rattle.transition_formula.specs.Rounds.{with_rows, in_order, solved_answer, Stays};
 
 use crate::equations::first_equation;
 use crate::numbering::renumbered_case;
@@ -31,7 +31,7 @@ pub enum Solved {
 pub fn solve(alloc: Global, case: &Case, losses: &mut Items<Loss>) -> Result<Solved, FormulaError>
     requires numbered { IsTrue (every_column_of (is_numbered case.now.aux) case.now) }
     requires few { case.now.aux + length case.now.post < 2 ^ 32 }
-    ensures exact { IfOk result (λ made. made ≡ solved (in_order case.now).left) }
+    ensures exact { IfOk result (λ made. made ≡ solved_answer (in_order case.now).left) }
     ensures noted { OnOk result (losses.new ≡ losses.old ++ (in_order case.now).losses) }
     ensures kept { OnErr result (losses.new ≡ losses.old) }
     ensures at_least { (before after : List ℤ)
@@ -42,20 +42,16 @@ pub fn solve(alloc: Global, case: &Case, losses: &mut Items<Loss>) -> Result<Sol
         → IfOk result (Stays (λ c. IsTrue (fits from to c))) }
 {
     let mut lost = Items::new(alloc);
-    let solved = left_of_case(alloc, case, &mut lost)?;
+    let solved = solved_case(alloc, case, &mut lost)?;
     losses.append(lost)?;
     Ok(solved)
 }
 
 /// What is left of the case, and what is noted.
-fn left_of_case(
-    alloc: Global,
-    case: &Case,
-    losses: &mut Items<Loss>,
-) -> Result<Solved, FormulaError>
+fn solved_case(alloc: Global, case: &Case, losses: &mut Items<Loss>) -> Result<Solved, FormulaError>
     requires numbered { IsTrue (every_column_of (is_numbered case.now.aux) case.now) }
     requires few { case.now.aux + length case.now.post < 2 ^ 32 }
-    ensures exact { IfOk result (λ made. made ≡ solved (in_order case.now).left) }
+    ensures exact { IfOk result (λ made. made ≡ solved_answer (in_order case.now).left) }
     ensures noted { OnOk result (losses.new ≡ losses.old ++ (in_order case.now).losses) }
     ensures at_least { (before after : List ℤ)
         → IfOk result (λ made. HoldsCase case.now before after → HoldsSolved made before after) }
@@ -71,26 +67,26 @@ fn left_of_case(
 fn in_order(alloc: Global, case: &Case, losses: &mut Items<Loss>) -> Result<Solved, FormulaError>
     requires numbered { IsTrue (every_column_of (is_numbered case.now.aux) case.now) }
     requires few { case.now.aux + length case.now.post < 2 ^ 32 }
-    ensures exact { IfOk result (λ made. made ≡ solved (in_order case.now).left) }
+    ensures exact { IfOk result (λ made. made ≡ solved_answer (in_order case.now).left) }
     ensures noted { OnOk result (losses.new ≡ losses.old ++ (in_order case.now).losses) }
 {
     let mut left = case.clone()?;
     for _round in 0..case.rows.len() {
-        let Some(tidied) = tidied(alloc, left, losses)? else {
+        let Some(tidied) = tidied_case(alloc, left, losses)? else {
             return Ok(Solved::False);
         };
         let Some((place, aux)) = first_equation(tidied.rows.as_slice()) else {
-            let made = kept(alloc, tidied)?;
+            let made = kept_case(alloc, tidied)?;
             return Ok(made);
         };
         left = without_equation(alloc, tidied, place, aux, losses)?;
     }
-    let made = kept(alloc, left)?;
+    let made = kept_case(alloc, left)?;
     Ok(made)
 }
 
 /// The case with its auxiliaries numbered anew.
-fn kept(alloc: Global, case: Case) -> Result<Solved, FormulaError>
+fn kept_case(alloc: Global, case: Case) -> Result<Solved, FormulaError>
     requires { IsTrue (every_column_of (is_numbered case.aux) case) }
     ensures { IfOk result (λ made. made ≡ Kept (renumbered_case case)) }
 {
@@ -99,10 +95,14 @@ fn kept(alloc: Global, case: Case) -> Result<Solved, FormulaError>
 }
 
 /// The case with its rows tidied; none where they can't all be true.
-fn tidied(alloc: Global, case: Case, losses: &mut Items<Loss>) -> Result<Option<Case>, FormulaError>
+fn tidied_case(
+    alloc: Global,
+    case: Case,
+    losses: &mut Items<Loss>,
+) -> Result<Option<Case>, FormulaError>
     ensures exact { IfOk result
-        (λ made. made ≡ option_map (with_rows case) (tidied case.rows).rows) }
-    ensures noted { OnOk result (losses.new ≡ losses.old ++ (tidied case.rows).losses) }
+        (λ made. made ≡ option_map (with_rows case) (tidied_rows case.rows).rows) }
+    ensures noted { OnOk result (losses.new ≡ losses.old ++ (tidied_rows case.rows).losses) }
 {
     let Some(rows) = tidy(alloc, case.rows.as_slice(), losses)? else {
         return Ok(None);

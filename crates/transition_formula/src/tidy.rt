@@ -4,10 +4,10 @@ ghost use Rattle.std.specs.Ordering.{int_eq};
 ghost use Rattle.std.specs.Cmp.Lexicographic.{pointwise};
 ghost use Rattle.linear_terms.specs.Equality.{term_eq};
 ghost use Rattle.linear_terms.specs.Row.{normal_form, starts_negative};
-ghost use Rattle.transition_formula.specs.Loss.{answered, losses_of};
+ghost use Rattle.transition_formula.specs.Loss.{answer_of, losses_of};
 ghost use Rattle.transition_formula.specs.Places.{key_of, EachApart, TellsPlaces};
 ghost use Rattle.transition_formula.specs.Forms.{never_holds, kept_row};
-ghost use Rattle.transition_formula.specs.Rows.{normal_rows, each_once, is_at_most, negated, are_opposite, exclude, can_agree, close, equation_of, with_met, met, opposites_met, tidied};
+ghost use Rattle.transition_formula.specs.Rows.{normal_rows, each_once, is_at_most, negated_terms, are_opposite, exclude, can_agree, close, equation_of, with_met, met_rows, opposites_met, tidied_rows};
 
 use crate::loss::note;
 use crate::places::{Places, each_once, opposite_place};
@@ -23,8 +23,8 @@ pub(crate) fn tidy(
     rows: &[Row],
     losses: &mut Items<Loss>,
 ) -> Result<Option<Items<Row>>, FormulaError>
-    ensures exact { IfOk result (λ made. made ≡ (tidied rows.now).rows) }
-    ensures noted { OnOk result (losses.new ≡ losses.old ++ (tidied rows.now).losses) }
+    ensures exact { IfOk result (λ made. made ≡ (tidied_rows rows.now).rows) }
+    ensures noted { OnOk result (losses.new ≡ losses.old ++ (tidied_rows rows.now).losses) }
 {
     let Some(rows) = normal_rows(alloc, rows, losses)? else {
         return Ok(None);
@@ -81,7 +81,7 @@ fn normal_row(
     row: &Row,
     losses: &mut Items<Loss>,
 ) -> Result<Option<Normal>, FormulaError>
-    ensures answer { IfOk result (λ made. made ≡ answered (normal_form row.now)) }
+    ensures answer { IfOk result (λ made. made ≡ answer_of (normal_form row.now)) }
     ensures noted { OnOk result (losses.new ≡ losses.old ++ losses_of (normal_form row.now)) }
 {
     match normal(alloc, row) {
@@ -114,7 +114,7 @@ fn opposites_met(
     if !can_agree(alloc, rows, places)? {
         return Ok(None);
     }
-    let met = met(alloc, rows, places)?;
+    let met = met_rows(alloc, rows, places)?;
     Ok(Some(met))
 }
 
@@ -182,7 +182,7 @@ fn is_at_most(kind: Kind) -> bool
 }
 
 fn have_opposite_terms(terms: &[(Mono, i128)], others: &[(Mono, i128)]) -> bool
-    ensures { result ≡ pointwise term_eq (negated terms.now) others.now }
+    ensures { result ≡ pointwise term_eq (negated_terms terms.now) others.now }
 {
     let mut left = terms;
     let mut right = others;
@@ -229,10 +229,10 @@ fn is_sum_zero(left: i128, right: i128) -> bool
 }
 
 /// The rows, with an equation in place of two that close each other.
-fn met(alloc: Global, rows: &[Row], places: &Places) -> Result<Items<Row>, FormulaError>
+fn met_rows(alloc: Global, rows: &[Row], places: &Places) -> Result<Items<Row>, FormulaError>
     requires places { TellsPlaces places.now rows.now }
     requires apart { EachApart (map key_of rows.now) }
-    ensures { IfOk result (λ made. made ≡ met [] rows.now) }
+    ensures { IfOk result (λ made. made ≡ met_rows [] rows.now) }
 {
     let mut made = Items::new(alloc);
     for (place, row) in rows.iter().enumerate() {
@@ -267,13 +267,13 @@ fn met_row(
         (find (close row.now) (drop (place + 1) rows.now)) []) }
 {
     match opposite_place(alloc, row, rows, places)? {
-        Some(other) => met_with(row, place, &rows[other], other),
+        Some(other) => row_met_with(row, place, &rows[other], other),
         None => Ok(Some(row.clone()?)),
     }
 }
 
 /// What becomes of a row at a place by an opposite one at another.
-fn met_with(
+fn row_met_with(
     row: &Row,
     place: usize,
     opposite: &Row,
@@ -285,7 +285,7 @@ fn met_with(
         (if nat_lt place other && close row.now opposite.now then Some opposite.now else None) []) }
 {
     if other < place {
-        return met_before(row, opposite);
+        return row_met_before(row, opposite);
     }
     if place < other && close(row, opposite) {
         return Ok(Some(equation(row, opposite)?));
@@ -294,7 +294,7 @@ fn met_with(
 }
 
 /// What becomes of a row by an opposite one that stands before it.
-fn met_before(row: &Row, opposite: &Row) -> Result<Option<Row>, FormulaError>
+fn row_met_before(row: &Row, opposite: &Row) -> Result<Option<Row>, FormulaError>
     ensures { IfOk result
         (λ made. cons_option made [] ≡ with_met row.now (close opposite.now row.now) None []) }
 {

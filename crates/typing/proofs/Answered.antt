@@ -4,7 +4,7 @@ use Rattle.std.specs.Prelude.{Ok, Err}
 use Rattle.syntax_tree.specs.declared.program.Program.{Program}
 use Rattle.syntax_tree.specs.declared.tree.Item.{Item}
 use Rattle.typing.specs.declared.error.TypeError.{TypeError}
-use Rattle.typing.specs.Elaborated.{elaborated}
+use Rattle.typing.specs.Elaborated.{elaborated_program}
 use Rattle.typing.specs.Elaborates.{Elaborates}
 use Rattle.typing.specs.Faults.{elaboration_of, faults_of, least_of, lesser, unless_fault}
 
@@ -24,10 +24,10 @@ faultless (fault ∷ rest) program answer h =
 pub answered : (items : List Item) (length_of_text : ℕ) (program : Program) → elaboration_of items length_of_text ≡ Ok program → Elaborates items length_of_text program
 unfolding elaboration_of
 answered items length_of_text program h =
-    let both = faultless (faults_of items length_of_text) (elaborated items) program h in
+    let both = faultless (faults_of items length_of_text) (elaborated_program items) program h in
     record { faultless = both.0; same = both.1 }
 
 pub answers : (items : List Item) (length_of_text : ℕ) (program : Program) → Elaborates items length_of_text program → elaboration_of items length_of_text ≡ Ok program
 unfolding elaboration_of
 answers items length_of_text program e =
-    ap (λ (faults : List TypeError). unless_fault (least_of None faults) (elaborated items)) e.faultless ∙ ap (λ (p : Program). Ok p) (sym e.same)
+    ap (λ (faults : List TypeError). unless_fault (least_of None faults) (elaborated_program items)) e.faultless ∙ ap (λ (p : Program). Ok p) (sym e.same)

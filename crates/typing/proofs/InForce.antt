@@ -9,7 +9,7 @@ use Rattle.typing.specs.declared.meaning.Meaning.{Meaning}
 use Rattle.typing.specs.declared.scopes.Held.{Held}
 use Rattle.typing.specs.declared.scopes.Declaration.{Declaration}
 use Rattle.typing.specs.Scopes.{Scope, meaning_in, is_declared_here, meaning_of, or_outer}
-use Rattle.typing.specs.InForce.{after_declaration, AllAfter, entry_of, flat, held_by, in_force, is_at, IsInForce, IsInnermost, or_held, Restores, RestoresAll, shown}
+use Rattle.typing.specs.InForce.{after_declaration, AllAfter, entry_of, flat, entry_for, in_force, is_at, IsInForce, IsInnermost, or_held, Restores, RestoresAll, scopes_of}
 use Rattle.typing.proofs.Lookups.{meaning_in-append}
 
 -- ---- lists whose elements have to do with those before them
@@ -45,7 +45,7 @@ after-last P xs last all = all xs last [] refl
 
 -- ---- what is shown of a stack
 
-pub shown-push : (stack : List (List Declaration)) (scope : List Declaration) → shown (stack ++ scope ∷ []) ≡ map entry_of scope ∷ shown stack
+pub shown-push : (stack : List (List Declaration)) (scope : List Declaration) → scopes_of (stack ++ scope ∷ []) ≡ map entry_of scope ∷ scopes_of stack
 shown-push stack scope =
     ap reverse (map-append (map entry_of) stack (scope ∷ []))
     ∙ reverse-append (map (map entry_of) stack) (map entry_of scope ∷ [])
@@ -89,11 +89,11 @@ with_variable-held scope outer name meaning none =
 pub with_columns_taken-back : (old new : List (List ℕ × Option Held)) (rest : List Declaration) (last : Declaration) (outer : List Scope)
     → last.hidden ≡ in_force (map entry_of rest ∷ outer) last.name
     → IsInForce old (map entry_of (rest ++ last ∷ []) ∷ outer)
-    → ((other : List ℕ) → held_by new other ≡ (if bytes_eq last.name other then last.hidden else held_by old other))
+    → ((other : List ℕ) → entry_for new other ≡ (if bytes_eq last.name other then last.hidden else entry_for old other))
     → IsInForce new (map entry_of rest ∷ outer)
 with_columns_taken-back old new rest last outer hidden holds put other = put other ∙ by (bytes_eq last.name other) refl
   where
-    by : (b : Bool) → bytes_eq last.name other ≡ b → (if b then last.hidden else held_by old other) ≡ in_force (map entry_of rest ∷ outer) other
+    by : (b : Bool) → bytes_eq last.name other ≡ b → (if b then last.hidden else entry_for old other) ≡ in_force (map entry_of rest ∷ outer) other
     by true q = hidden ∙ ap (in_force (map entry_of rest ∷ outer)) ((bytes_eq-Decides last.name other).0 q)
     by false q =
         holds other
@@ -171,74 +171,74 @@ declaration-held scope outer name meaning other = by (bytes_eq name other) refl
         ∙ either (is_at (in_force (scope ∷ outer) name) (length outer)) (in_force (scope ∷ outer) other)
         ∙ sym (other-stays scope outer name other meaning q)
 
-length-shown : (stack : List (List Declaration)) → length (shown stack) ≡ length stack
+length-shown : (stack : List (List Declaration)) → length (scopes_of stack) ≡ length stack
 length-shown stack = length-reverse (map (map entry_of) stack) ∙ length-map stack (map entry_of)
 
 -- what is known of a stack, as its innermost scope stands apart
 pub record Opened (entries : List (List ℕ × Option Held)) (rest : List (List Declaration)) (scope : List Declaration) : Type 0 where
-  pub holds : IsInForce entries (map entry_of scope ∷ shown rest)
-  pub restores : Restores scope (shown rest)
+  pub holds : IsInForce entries (map entry_of scope ∷ scopes_of rest)
+  pub restores : Restores scope (scopes_of rest)
   pub others : RestoresAll rest
 
 pub with_scope : (entries : List (List ℕ × Option Held)) (stack rest : List (List Declaration)) (scope : List Declaration)
-    → IsInnermost stack rest scope → IsInForce entries (shown stack) → RestoresAll stack → Opened entries rest scope
+    → IsInnermost stack rest scope → IsInForce entries (scopes_of stack) → RestoresAll stack → Opened entries rest scope
 with_scope entries stack rest scope (inl q) holds all =
     let every : RestoresAll (rest ++ scope ∷ []) = subst RestoresAll q all in
     record {
-      holds = λ name. holds name ∙ ap (λ scopes. in_force scopes name) (ap shown q ∙ shown-push rest scope);
-      restores = after-last (λ outer one. Restores one (shown outer)) rest scope every;
-      others = after-pop (λ outer one. Restores one (shown outer)) rest scope every;
+      holds = λ name. holds name ∙ ap (λ scopes. in_force scopes name) (ap scopes_of q ∙ shown-push rest scope);
+      restores = after-last (λ outer one. Restores one (scopes_of outer)) rest scope every;
+      others = after-pop (λ outer one. Restores one (scopes_of outer)) rest scope every;
     }
 with_scope entries stack rest scope (inr none) holds all =
     record {
       holds = λ name.
-          holds name ∙ ap (λ scopes. in_force (shown scopes) name) none.0
-          ∙ sym (ap (λ scopes. in_force (map entry_of scope ∷ shown scopes) name) none.1 ∙ ap (λ one. in_force (map entry_of one ∷ []) name) none.2);
-      restores = subst (λ one. Restores one (shown rest)) (sym none.2) (after-none (λ older declaration. declaration.hidden ≡ in_force (map entry_of older ∷ shown rest) declaration.name));
-      others = subst RestoresAll (sym none.1) (after-none (λ outer one. Restores one (shown outer)));
+          holds name ∙ ap (λ scopes. in_force (scopes_of scopes) name) none.0
+          ∙ sym (ap (λ scopes. in_force (map entry_of scope ∷ scopes_of scopes) name) none.1 ∙ ap (λ one. in_force (map entry_of one ∷ []) name) none.2);
+      restores = subst (λ one. Restores one (scopes_of rest)) (sym none.2) (after-none (λ older declaration. declaration.hidden ≡ in_force (map entry_of older ∷ scopes_of rest) declaration.name));
+      others = subst RestoresAll (sym none.1) (after-none (λ outer one. Restores one (scopes_of outer)));
     }
 
 -- the innermost scope is put back with one more declaration
 pub with_variable-again : (old new : List (List ℕ × Option Held)) (rest : List (List Declaration)) (scope : List Declaration)
     (name : List ℕ) (meaning : Meaning) (hidden : Option Held)
     → Opened old rest scope
-    → hidden ≡ held_by old name
-    → ((other : List ℕ) → held_by new other ≡ after_declaration name record { depth = length rest; meaning = meaning } hidden (held_by old other) other)
-    → IsInForce new (shown (rest ++ (scope ++ record { name = name; meaning = meaning; hidden = hidden } ∷ []) ∷ []))
+    → hidden ≡ entry_for old name
+    → ((other : List ℕ) → entry_for new other ≡ after_declaration name record { depth = length rest; meaning = meaning } hidden (entry_for old other) other)
+    → IsInForce new (scopes_of (rest ++ (scope ++ record { name = name; meaning = meaning; hidden = hidden } ∷ []) ∷ []))
     × RestoresAll (rest ++ (scope ++ record { name = name; meaning = meaning; hidden = hidden } ∷ []) ∷ [])
 with_variable-again old new rest scope name meaning hidden known before put = (in_force_again, all_again)
   where
     declaration : Declaration
     declaration = record { name = name; meaning = meaning; hidden = hidden }
 
-    hides : hidden ≡ in_force (map entry_of scope ∷ shown rest) name
+    hides : hidden ≡ in_force (map entry_of scope ∷ scopes_of rest) name
     hides = before ∙ known.holds name
 
-    shows : shown (rest ++ (scope ++ declaration ∷ []) ∷ []) ≡ (map entry_of scope ++ (name, meaning) ∷ []) ∷ shown rest
-    shows = shown-push rest (scope ++ declaration ∷ []) ∙ ap (λ one. one ∷ shown rest) (map-append entry_of scope (declaration ∷ []))
+    shows : scopes_of (rest ++ (scope ++ declaration ∷ []) ∷ []) ≡ (map entry_of scope ++ (name, meaning) ∷ []) ∷ scopes_of rest
+    shows = shown-push rest (scope ++ declaration ∷ []) ∙ ap (λ one. one ∷ scopes_of rest) (map-append entry_of scope (declaration ∷ []))
 
-    in_force_again : IsInForce new (shown (rest ++ (scope ++ declaration ∷ []) ∷ []))
+    in_force_again : IsInForce new (scopes_of (rest ++ (scope ++ declaration ∷ []) ∷ []))
     in_force_again other =
         put other
-        ∙ ap (λ depth. after_declaration name record { depth = depth; meaning = meaning } hidden (held_by old other) other) (sym (length-shown rest))
-        ∙ ap (λ h. after_declaration name record { depth = length (shown rest); meaning = meaning } h (held_by old other) other) hides
-        ∙ ap (λ h. after_declaration name record { depth = length (shown rest); meaning = meaning } (in_force (map entry_of scope ∷ shown rest) name) h other) (known.holds other)
-        ∙ declaration-held (map entry_of scope) (shown rest) name meaning other
+        ∙ ap (λ depth. after_declaration name record { depth = depth; meaning = meaning } hidden (entry_for old other) other) (sym (length-shown rest))
+        ∙ ap (λ h. after_declaration name record { depth = length (scopes_of rest); meaning = meaning } h (entry_for old other) other) hides
+        ∙ ap (λ h. after_declaration name record { depth = length (scopes_of rest); meaning = meaning } (in_force (map entry_of scope ∷ scopes_of rest) name) h other) (known.holds other)
+        ∙ declaration-held (map entry_of scope) (scopes_of rest) name meaning other
         ∙ ap (λ scopes. in_force scopes other) (sym shows)
 
     all_again : RestoresAll (rest ++ (scope ++ declaration ∷ []) ∷ [])
     all_again =
-        after-push (λ outer one. Restores one (shown outer)) rest (scope ++ declaration ∷ []) known.others
-        (after-push (λ older one. one.hidden ≡ in_force (map entry_of older ∷ shown rest) one.name) scope declaration known.restores hides)
+        after-push (λ outer one. Restores one (scopes_of outer)) rest (scope ++ declaration ∷ []) known.others
+        (after-push (λ older one. one.hidden ≡ in_force (map entry_of older ∷ scopes_of rest) one.name) scope declaration known.restores hides)
 
 -- a scope without declarations is opened
 pub with_scope-again : (entries : List (List ℕ × Option Held)) (stack : List (List Declaration))
-    → IsInForce entries (shown stack) → RestoresAll stack
-    → IsInForce entries (shown (stack ++ [] ∷ [])) × RestoresAll (stack ++ [] ∷ [])
+    → IsInForce entries (scopes_of stack) → RestoresAll stack
+    → IsInForce entries (scopes_of (stack ++ [] ∷ [])) × RestoresAll (stack ++ [] ∷ [])
 with_scope-again entries stack holds all = (
   (λ name. holds name ∙ ap (λ scopes. in_force scopes name) (sym (shown-push stack []))),
-  after-push (λ outer one. Restores one (shown outer)) stack [] all
-      (after-none (λ older one. one.hidden ≡ in_force (map entry_of older ∷ shown stack) one.name)),
+  after-push (λ outer one. Restores one (scopes_of outer)) stack [] all
+      (after-none (λ older one. one.hidden ≡ in_force (map entry_of older ∷ scopes_of stack) one.name)),
 )
 
 -- where a name is declared, by how many scopes there are
@@ -263,7 +263,7 @@ TakesBack outer scope entries = Restores scope outer × IsInForce entries (map e
 
 pub takes-back : (outer : List Scope) (old new : List (List ℕ × Option Held)) (scope rest : List Declaration) (last : Declaration)
     → scope ≡ rest ++ last ∷ []
-    → ((other : List ℕ) → held_by new other ≡ (if bytes_eq last.name other then last.hidden else held_by old other))
+    → ((other : List ℕ) → entry_for new other ≡ (if bytes_eq last.name other then last.hidden else entry_for old other))
     → TakesBack outer scope old → TakesBack outer rest new
 takes-back outer old new scope rest last q put keeps =
     let P : List Declaration → Declaration → Type 0 = λ older one. one.hidden ≡ in_force (map entry_of older ∷ outer) one.name in

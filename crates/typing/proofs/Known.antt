@@ -7,14 +7,14 @@ use Rattle.syntax_tree.specs.declared.program.Proc.{Proc}
 use Rattle.typing.specs.declared.callee.Callee.{Callee}
 use Rattle.typing.specs.declared.callee.Callee.TheVariants as callee
 use Rattle.typing.specs.declared.env.Env.{Env}
-use Rattle.typing.specs.declared.env.Place.{Place}
+use Rattle.typing.specs.declared.env.LoopPlace.{LoopPlace}
 use Rattle.typing.specs.declared.meaning.Meaning.{Meaning}
 use Rattle.typing.specs.declared.meaning.Meaning.TheVariants.{Variable, Procedure}
 use Rattle.typing.specs.declared.meaning.Signature.{Signature}
 use Rattle.typing.specs.declared.special.Special.{Special}
 use Rattle.typing.specs.CallFaults.{variable_faults}
 use Rattle.typing.specs.Env.{without_scope, with_variable, with_assertions, with_scope, with_place, with_columns_taken}
-use Rattle.typing.specs.Scopes.{Entry, Scope, callee_of, column_of, declared_in, meaning_in, if_procedure, if_special, if_variable, meaning_of, or_outer, outer_of, variable_of}
+use Rattle.typing.specs.Scopes.{Entry, Scope, callee_of, column_of, with_declaration, meaning_in, if_procedure, if_special, if_variable, meaning_of, or_outer, outer_of, variable_of}
 use Rattle.typing.specs.Specials.{is_special, special_of}
 use Rattle.typing.proofs.Splits.{not_when}
 
@@ -103,7 +103,7 @@ scope_append procs width [] entry h m = (m, tt)
 scope_append procs width (e ∷ rest) entry h m = (h.0, scope_append procs width rest entry h.1 m)
 
 declared_fits : (procs : List Proc) (width : ℕ) (scopes : List Scope) (name : List ℕ) (meaning : Meaning) → ScopesFit procs width scopes
-    → MeaningFits procs width meaning → ScopesFit procs width (declared_in name meaning scopes)
+    → MeaningFits procs width meaning → ScopesFit procs width (with_declaration name meaning scopes)
 declared_fits procs width [] name meaning h m = ((m, tt), tt)
 declared_fits procs width (scope ∷ outer) name meaning h m = (scope_append procs width scope (name, meaning) h.0 m, h.1)
 
@@ -136,6 +136,6 @@ pub closed_env : {procs : List Proc} {width : ℕ} (env : Env) → EnvFits procs
 unfolding without_scope
 closed_env {procs = procs} {width = width} env h = record { scopes = outer_fits procs width env.scopes h.scopes; ret = h.ret }
 
-pub placed_env : {procs : List Proc} {width : ℕ} (place : Place) (env : Env) → EnvFits procs width env → EnvFits procs width (with_place place env)
+pub placed_env : {procs : List Proc} {width : ℕ} (place : LoopPlace) (env : Env) → EnvFits procs width env → EnvFits procs width (with_place place env)
 unfolding with_place
 placed_env place env h = record { scopes = h.scopes; ret = h.ret }

@@ -20,8 +20,8 @@ use Rattle.syntax_tree.specs.WellFormed.{args_fit, code_fits, columns_below, con
 use Rattle.syntax_tree.proofs.Codes.{statement_of-Any, statement_of-Call, statement_of-Guard, statement_of-Check, statement_of-If, statement_of-Loop, statement_of-Break, statement_of-Continue, statement_of-Return}
 use Rattle.syntax_tree.proofs.Terms.{term_of-Lit}
 use Rattle.typing.specs.declared.env.Env.{Env}
-use Rattle.typing.specs.declared.env.Place.{Place}
-use Rattle.typing.specs.declared.env.Place.TheVariants.{Outside, InBody, InStep}
+use Rattle.typing.specs.declared.env.LoopPlace.{LoopPlace}
+use Rattle.typing.specs.declared.env.LoopPlace.TheVariants.{Outside, InBody, InStep}
 use Rattle.typing.specs.declared.meaning.Meaning.{Meaning}
 use Rattle.typing.specs.declared.meaning.Meaning.TheVariants.{Variable, Procedure}
 use Rattle.typing.specs.declared.special.Special.{Special}
@@ -149,17 +149,17 @@ act_fits (Binary at op left right) program width place env f h r o l = calls_fit
 
 -- where a line stands agrees with where its statements stand, of which this says whether they may
 -- leave, and where a body is then
-abbrev pub AgreesBy : {T : Type 0} → (T → Bool) → (T → T) → Place → T → Type 0
+abbrev pub AgreesBy : {T : Type 0} → (T → Bool) → (T → T) → LoopPlace → T → Type 0
 AgreesBy leave body Outside place = (leave (body place) ≡ true) × (body (body place) ≡ body place)
 AgreesBy leave body InBody place = (leave place ≡ true) × (body place ≡ place)
 AgreesBy leave body InStep place = Unit {0}
 
-body_agrees : (p : Place) (place : _) → AgreesBy fit.may_leave fit.body_place p place → AgreesBy fit.may_leave fit.body_place (body_place p) (fit.body_place place)
+body_agrees : (p : LoopPlace) (place : _) → AgreesBy fit.may_leave fit.body_place p place → AgreesBy fit.may_leave fit.body_place (body_place p) (fit.body_place place)
 body_agrees Outside place a = a
 body_agrees InBody place a = (ap fit.may_leave a.1 ∙ a.0, ap fit.body_place a.1)
 body_agrees InStep place a = tt
 
-leave_agrees : (p : Place) (place : _) → AgreesBy fit.may_leave fit.body_place p place → not (may_leave p) ≡ false → fit.may_leave place ≡ true
+leave_agrees : (p : LoopPlace) (place : _) → AgreesBy fit.may_leave fit.body_place p place → not (may_leave p) ≡ false → fit.may_leave place ≡ true
 leave_agrees Outside place a f = absurd (true_is_not_false f)
 leave_agrees InBody place a f = a.0
 leave_agrees InStep place a f = absurd (true_is_not_false f)
@@ -230,8 +230,8 @@ left_over most total n m r l = let a = m.number in omega (arith, a, r, l)
 
 -- ---- places of the parts of a line
 
-pub agrees_at : (p q : Place) (place : _) → q ≡ p → AgreesBy fit.may_leave fit.body_place p place → AgreesBy fit.may_leave fit.body_place q place
-agrees_at p q place e a = subst (λ (x : Place). AgreesBy fit.may_leave fit.body_place x place) (sym e) a
+pub agrees_at : (p q : LoopPlace) (place : _) → q ≡ p → AgreesBy fit.may_leave fit.body_place p place → AgreesBy fit.may_leave fit.body_place q place
+agrees_at p q place e a = subst (λ (x : LoopPlace). AgreesBy fit.may_leave fit.body_place x place) (sym e) a
 
 opened_place : (env : Env) → (with_scope env).place ≡ env.place
 unfolding with_scope

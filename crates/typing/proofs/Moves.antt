@@ -7,8 +7,8 @@ use Rattle.syntax_tree.specs.declared.program.Column.{Column}
 use Rattle.syntax_tree.specs.SourceExpr.{SourceExpr}
 use Rattle.syntax_tree.specs.SourceLine.{SourceLine, Block, Local, Assign, Act, If, Loop, Break, Continue, Return, SourceLines, End, Then}
 use Rattle.typing.specs.declared.env.Env.{Env}
-use Rattle.typing.specs.declared.env.Place.{Place}
-use Rattle.typing.specs.declared.env.Place.TheVariants.{InStep}
+use Rattle.typing.specs.declared.env.LoopPlace.{LoopPlace}
+use Rattle.typing.specs.declared.env.LoopPlace.TheVariants.{InStep}
 use Rattle.typing.specs.Calls.{act_checks, put_temporaries}
 use Rattle.typing.specs.Env.{body_place, without_scope, with_variable, with_assertions, with_scope, with_place, with_columns_taken}
 use Rattle.typing.specs.Lines.{after, after_all, all_checks_of, all_columns_of, at_body, at_first_body, at_last_step, at_last_test, at_step, at_test, behind_body, checks_of, columns_of, in_body, in_branch, in_second_branch, in_step, nameless, value_columns, with_value}
@@ -67,7 +67,7 @@ pub moves_closed : (env : Env) → Moves env (without_scope env) 0 0
 unfolding without_scope
 moves_closed env = record { next = omega arith; number = omega arith; returns = refl; ret = refl; full = refl }
 
-pub moves_placed : (place : Place) (env : Env) → Moves env (with_place place env) 0 0
+pub moves_placed : (place : LoopPlace) (env : Env) → Moves env (with_place place env) 0 0
 unfolding with_place
 moves_placed place env = record { next = omega arith; number = omega arith; returns = refl; ret = refl; full = refl }
 
@@ -92,7 +92,7 @@ in_scope {a = a} {b = b} h = then_still (still_then (moves_opened a) h) (moves_c
 pub in_body_moves : (env : Env) → Moves env (in_body env) 0 0
 in_body_moves env = then_still (moves_placed (body_place env.place) env) (moves_opened (with_place (body_place env.place) env))
 
-pub behind_body_moves : (place : Place) (env : Env) → Moves env (behind_body place env) 0 0
+pub behind_body_moves : (place : LoopPlace) (env : Env) → Moves env (behind_body place env) 0 0
 behind_body_moves place env = then_still (moves_closed env) (moves_placed place (without_scope env))
 
 cond_moves : (cond : SourceExpr) (env : Env) → Moves env (with_columns_taken (temporaries cond) env) (length (nameless (temporaries cond))) 0

@@ -7,11 +7,11 @@ use Rattle.typing.specs.declared.env.Env.{Env}
 use Rattle.typing.specs.declared.meaning.Meaning.{Meaning}
 use Rattle.typing.specs.Env.{without_scope, with_variable, with_assertions, with_scope, with_place, with_columns_taken}
 use Rattle.typing.specs.Lines.{after, after_all, with_value}
-use Rattle.typing.specs.Scopes.{Scope, declared_in, outer_of}
+use Rattle.typing.specs.Scopes.{Scope, with_declaration, outer_of}
 use Rattle.typing.specs.Terms.{temporaries}
 use Rattle.typing.specs.Texts.{with_params}
 
-declared_in-outer : (name : List ℕ) (meaning : Meaning) (scopes : List Scope) → outer_of (declared_in name meaning scopes) ≡ outer_of scopes
+declared_in-outer : (name : List ℕ) (meaning : Meaning) (scopes : List Scope) → outer_of (with_declaration name meaning scopes) ≡ outer_of scopes
 declared_in-outer name meaning [] = refl
 declared_in-outer name meaning (scope ∷ outer) = refl
 

@@ -8,7 +8,7 @@ use Rattle.typing.specs.declared.env.Env.{Env}
 use Rattle.typing.specs.declared.meaning.Meaning.{Meaning}
 use Rattle.typing.specs.declared.meaning.Meaning.TheVariants.{Variable, Procedure}
 use Rattle.typing.specs.declared.special.Special.{Special}
-use Rattle.typing.specs.declared.env.Place.{Place}
+use Rattle.typing.specs.declared.env.LoopPlace.{LoopPlace}
 use Rattle.typing.specs.declared.error.TypeError.{TypeError}
 use Rattle.typing.specs.Env.{with_assertions, with_place, with_columns_taken}
 use Rattle.typing.specs.Faults.{least_of, lesser}
@@ -41,7 +41,7 @@ pub with_assertions-zero : (env : Env) → with_assertions 0 env ≡ env
 unfolding with_assertions
 with_assertions-zero env = let same : env.number + 0 ≡ env.number = omega arith in ap (λ (n : ℕ). record env { number = n }) same
 
-pub with_place-place : (place : Place) (env : Env) → (with_place place env).place ≡ place
+pub with_place-place : (place : LoopPlace) (env : Env) → (with_place place env).place ≡ place
 unfolding with_place
 with_place-place place env = refl
 

@@ -19,9 +19,9 @@ use Rattle.syntax_tree.specs.SourceLine.{source_lines_of}
 use Rattle.syntax_tree.specs.WellFormed as fit
 use Rattle.syntax_tree.specs.WellFormed.{code_fits, IsProcFit, IsWellFormed, code_checks, has_name, procs_checks, width_of}
 use Rattle.typing.specs.declared.env.Env.{Env}
-use Rattle.typing.specs.declared.env.Place.TheVariants.{Outside}
+use Rattle.typing.specs.declared.env.LoopPlace.TheVariants.{Outside}
 use Rattle.typing.specs.declared.error.TypeError.{TypeError}
-use Rattle.typing.specs.Elaborated.{checks_in, elaborated, globals_of, main_from, proc_of, procs_of}
+use Rattle.typing.specs.Elaborated.{checks_in, elaborated_program, globals_of, main_from, proc_of, procs_of}
 use Rattle.typing.specs.Env.{with_variable}
 use Rattle.items.specs.Gives.{Gives}
 use Rattle.typing.specs.Faults.{body_faults, cause, declaration_faults, elaboration_of, faults_of, least_of, lesser, unless_fault, parameter_faults, params_faults, procs_faults}
@@ -302,9 +302,9 @@ listed_within k count l h = grind (arith, common_steps)
 
 -- ---- together
 
-pub elaborated_fits : (items : List Item) (length_of_text : ℕ) → faults_of items length_of_text ≡ [] → items_have_few items ≡ true → IsWellFormed (elaborated items)
+pub elaborated_fits : (items : List Item) (length_of_text : ℕ) → faults_of items length_of_text ≡ [] → items_have_few items ≡ true → IsWellFormed (elaborated_program items)
 elaborated_fits items length_of_text f o =
-    let program = elaborated items in
+    let program = elaborated_program items in
     let text = declarations 0 0 items in
     let globals = count_globals items in
     let f3 = first_nil _ _ f in let f2 = first_nil _ _ f3 in

@@ -9,7 +9,7 @@ use Rattle.syntax_tree.specs.SourceExpr as expr
 use Rattle.syntax_tree.specs.SourceLine.{SourceLine, Block, Local, Assign, Act, If, Loop, Break, Continue, Return, SourceLines, End, Then}
 use Rattle.typing.specs.declared.callee.Callee.{Callee}
 use Rattle.typing.specs.declared.env.Env.{Env}
-use Rattle.typing.specs.declared.env.Place.TheVariants.{InStep}
+use Rattle.typing.specs.declared.env.LoopPlace.TheVariants.{InStep}
 use Rattle.typing.specs.declared.special.Special.{Special}
 use Rattle.typing.specs.declared.special.Special.TheVariants.{Assert, Assume, Nondet, Error, Abort, Exit}
 use Rattle.typing.specs.CallFaults.{act_faults, all_expression_faults, argument_faults, condition_faults, expression_faults, number_faults, put_faults, slot_faults}

@@ -56,8 +56,8 @@ main_from procs (Proto name at returns params ∷ rest) = main_from procs rest
 main_from procs (Body name at returns params lines end ∷ rest) =
     if is_main name then Some procs else main_from (procs + 1) rest
 
-abbrev pub elaborated : List Item → Program
-elaborated items = record {
+abbrev pub elaborated_program : List Item → Program
+elaborated_program items = record {
   globals = globals_of items;
   procs = procs_of (declarations 0 0 items) (count_globals items) 0 items;
   main = unwrap_or (main_from 0 items) 0;

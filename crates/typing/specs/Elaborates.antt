@@ -2,12 +2,12 @@
 use Rattle.std.specs.Prelude.{◌≡◌, ℕ, List, [], Ok}
 use Rattle.syntax_tree.specs.declared.program.Program.{Program}
 use Rattle.syntax_tree.specs.declared.tree.Item.{Item}
-use Rattle.typing.specs.Elaborated.{elaborated}
+use Rattle.typing.specs.Elaborated.{elaborated_program}
 use Rattle.typing.specs.Faults.{elaboration_of, faults_of}
 
 pub record Elaborates (items : List Item) (length_of_text : ℕ) (program : Program) : Type 0 where
   pub faultless : faults_of items length_of_text ≡ []
-  pub same : program ≡ elaborated items
+  pub same : program ≡ elaborated_program items
 
 -- one program at most, and one exactly where there is no fault
 pub record ElaborationIsUnique : Type 0 where

@@ -17,7 +17,7 @@ use Rattle.typing.specs.declared.error.TypeError.TheVariants.{Unknown, Twice, Ar
 use Rattle.typing.specs.declared.meaning.Meaning.{Meaning}
 use Rattle.typing.specs.declared.meaning.Meaning.TheVariants.{Variable, Procedure}
 use Rattle.typing.specs.CallFaults.{when}
-use Rattle.typing.specs.Elaborated.{elaborated, main_from}
+use Rattle.typing.specs.Elaborated.{elaborated_program, main_from}
 use Rattle.typing.specs.Env.{with_variable}
 use Rattle.typing.specs.LineFaults.{all_faults_in, declare_faults, twice_faults}
 use Rattle.typing.specs.Lines.{all_checks_of, all_statements_of}
@@ -170,7 +170,7 @@ unless_fault (Some fault) program = Err fault
 -- What elaboration comes to: the least fault if there is one, and else the program.
 unfoldable pub elaboration_of : List Item → ℕ → Result Program TypeError
 elaboration_of items length_of_text = unless_fault (least_of None (faults_of items length_of_text))
-    (elaborated items)
+    (elaborated_program items)
 
 -- what an error tells: want of memory tells nothing
 abbrev pub cause : TypeError → Option TypeError

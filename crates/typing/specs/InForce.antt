@@ -22,20 +22,20 @@ flat None = None
 flat (Some held) = held
 
 -- what a map holds for a name
-abbrev pub held_by : List (List ℕ × Option Held) → List ℕ → Option Held
-held_by entries name = flat (lookup (bytes_eq name) entries)
+abbrev pub entry_for : List (List ℕ × Option Held) → List ℕ → Option Held
+entry_for entries name = flat (lookup (bytes_eq name) entries)
 
 -- the map holds the declaration in force for each name
 abbrev pub IsInForce : List (List ℕ × Option Held) → List Scope → Type 0
-IsInForce entries scopes = (name : List ℕ) → held_by entries name ≡ in_force scopes name
+IsInForce entries scopes = (name : List ℕ) → entry_for entries name ≡ in_force scopes name
 
 -- a declaration as the scopes show it
 abbrev pub entry_of : Declaration → Entry
 entry_of declaration = (declaration.name, declaration.meaning)
 
 -- the scopes, innermost first
-abbrev pub shown : List (List Declaration) → List Scope
-shown stack = reverse (map (map entry_of) stack)
+abbrev pub scopes_of : List (List Declaration) → List Scope
+scopes_of stack = reverse (map (map entry_of) stack)
 
 -- each element of a list has to do with those before it
 abbrev pub AllAfter : {A : Type 0} → (List A → A → Type 0) → List A → Type 0
@@ -49,7 +49,7 @@ Restores scope outer =
 
 -- the same of each scope
 abbrev pub RestoresAll : List (List Declaration) → Type 0
-RestoresAll stack = AllAfter (λ outer scope. Restores scope (shown outer)) stack
+RestoresAll stack = AllAfter (λ outer scope. Restores scope (scopes_of outer)) stack
 
 -- the innermost scope and the stack without it; an empty one where there is none
 abbrev pub IsInnermost : List (List Declaration) → List (List Declaration) → List Declaration

@@ -3,8 +3,8 @@ use Rattle.std.specs.Prelude.{ℕ, Bool, true, false, not, ◌||◌, Option, Non
 use Rattle.syntax_tree.specs.SourceExpr.{SourceExpr}
 use Rattle.syntax_tree.specs.SourceLine.{SourceLine, Block, Local, Assign, Act, If, Loop, Break, Continue, Return, SourceLines, End, Then}
 use Rattle.typing.specs.declared.env.Env.{Env}
-use Rattle.typing.specs.declared.env.Place.{Place}
-use Rattle.typing.specs.declared.env.Place.TheVariants.{Outside, InBody, InStep}
+use Rattle.typing.specs.declared.env.LoopPlace.{LoopPlace}
+use Rattle.typing.specs.declared.env.LoopPlace.TheVariants.{Outside, InBody, InStep}
 use Rattle.typing.specs.declared.error.TypeError.{TypeError}
 use Rattle.typing.specs.declared.error.TypeError.TheVariants.{Unknown, Twice, Arity}
 use Rattle.typing.specs.CallFaults.{act_faults, condition_faults, put_faults, slot_faults, variable_faults, when}
@@ -21,7 +21,7 @@ abbrev pub declare_faults : Env → ℕ → List ℕ → List TypeError
 declare_faults env at name = twice_faults env.scopes at name ++ slot_faults env at
 
 -- `break` and `continue` stand in the body of a loop (C11 6.8.6.2, 6.8.6.3)
-abbrev pub may_leave : Place → Bool
+abbrev pub may_leave : LoopPlace → Bool
 may_leave Outside = false
 may_leave InBody = true
 may_leave InStep = false

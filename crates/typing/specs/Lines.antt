@@ -8,8 +8,8 @@ use Rattle.syntax_tree.specs.declared.stmt.Stmt.TheVariants as stmt
 use Rattle.syntax_tree.specs.SourceExpr.{SourceExpr}
 use Rattle.syntax_tree.specs.SourceLine.{SourceLine, Block, Local, Assign, Act, If, Loop, Break, Continue, Return, SourceLines, End, Then}
 use Rattle.typing.specs.declared.env.Env.{Env}
-use Rattle.typing.specs.declared.env.Place.{Place}
-use Rattle.typing.specs.declared.env.Place.TheVariants.{InStep}
+use Rattle.typing.specs.declared.env.LoopPlace.{LoopPlace}
+use Rattle.typing.specs.declared.env.LoopPlace.TheVariants.{InStep}
 use Rattle.typing.specs.Calls.{act_checks, act_in, calls_in, put_in, put_temporaries}
 use Rattle.typing.specs.Env.{body_place, without_scope, with_variable, with_assertions, with_scope, with_place, with_columns_taken}
 use Rattle.typing.specs.Scopes.{column_of}
@@ -17,8 +17,8 @@ use Rattle.typing.specs.Terms.{temporaries, term_in}
 
 -- ---- columns
 
-abbrev pub named : List ℕ → Column
-named name = record { name = Some name }
+abbrev pub named_column : List ℕ → Column
+named_column name = record { name = Some name }
 
 abbrev pub nameless : ℕ → List Column
 nameless count = replicate count (record { name = None })
@@ -31,7 +31,7 @@ value_columns (Some value) = nameless (put_temporaries value)
 abbrev mutual
   pub columns_of : SourceLine → List Column
   columns_of (Block lines) = all_columns_of lines
-  columns_of (Local name at init) = named name ∷ value_columns init
+  columns_of (Local name at init) = named_column name ∷ value_columns init
   columns_of (Assign name at value) = nameless (put_temporaries value)
   columns_of (Act call) = nameless (put_temporaries call)
   columns_of (If cond on_true on_false) =
@@ -82,7 +82,7 @@ with_value (Some value) env = with_columns_taken (put_temporaries value) env
 abbrev pub in_body : Env → Env
 in_body env = with_scope (with_place (body_place env.place) env)
 
-abbrev pub behind_body : Place → Env → Env
+abbrev pub behind_body : LoopPlace → Env → Env
 behind_body place env = with_place place (without_scope env)
 
 abbrev pub in_step : Env → Env

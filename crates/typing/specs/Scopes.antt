@@ -38,9 +38,9 @@ is_declared_here [] name = false
 is_declared_here (scope ∷ outer) name = is_some (meaning_in scope name)
 
 -- one more declaration in the innermost scope
-abbrev pub declared_in : List ℕ → Meaning → List Scope → List Scope
-declared_in name meaning [] = ((name, meaning) ∷ []) ∷ []
-declared_in name meaning (scope ∷ outer) = (scope ++ (name, meaning) ∷ []) ∷ outer
+abbrev pub with_declaration : List ℕ → Meaning → List Scope → List Scope
+with_declaration name meaning [] = ((name, meaning) ∷ []) ∷ []
+with_declaration name meaning (scope ∷ outer) = (scope ++ (name, meaning) ∷ []) ∷ outer
 
 -- without the innermost scope
 abbrev pub outer_of : List Scope → List Scope

@@ -8,11 +8,11 @@ use Rattle.syntax_tree.specs.declared.tree.Item.TheVariants.{Global, Proto, Body
 use Rattle.syntax_tree.specs.declared.tree.Param.{Param}
 use Rattle.syntax_tree.specs.SourceLine.{source_lines_of}
 use Rattle.typing.specs.declared.env.Env.{Env}
-use Rattle.typing.specs.declared.env.Place.TheVariants.{Outside}
+use Rattle.typing.specs.declared.env.LoopPlace.TheVariants.{Outside}
 use Rattle.typing.specs.declared.meaning.Meaning.{Meaning}
 use Rattle.typing.specs.declared.meaning.Meaning.TheVariants.{Variable, Procedure}
 use Rattle.typing.specs.Env.{with_variable}
-use Rattle.typing.specs.Lines.{all_columns_of, named}
+use Rattle.typing.specs.Lines.{all_columns_of, named_column}
 use Rattle.typing.specs.Scopes.{Scope}
 
 abbrev pub procedure : ℕ → Bool → List Param → Meaning
@@ -57,7 +57,7 @@ count_bodies (Proto name at returns params ∷ rest) = count_bodies rest
 count_bodies (Body name at returns params lines end ∷ rest) = 1 + count_bodies rest
 
 abbrev pub param_column : Param → Column
-param_column param = named param.name
+param_column param = named_column param.name
 
 -- the columns of a procedure behind the globals: its parameters, then its locals and temporaries
 abbrev pub body_columns : List Param → List Line → List Column

@@ -118,11 +118,11 @@ impl Elaborator {
     {
         let callee = self.statement_callee(at, name, args.len());
         let terms = self.expressions(args, false, out)?;
-        self.made(callee, at, args, terms, out)
+        self.push_call(callee, at, args, terms, out)
     }
 
     // The statement itself, once its arguments are made.
-    fn made(
+    fn push_call(
         &mut self,
         callee: Callee,
         at: u32,

@@ -5,7 +5,7 @@ ghost use Rattle.std.specs.Option.{option_map};
 ghost use Rattle.syntax_tree.specs.SourceExpr.{source_expr_of, source_exprs_of};
 ghost use Rattle.syntax_tree.specs.SourceLine.{source_line_of, source_lines_of};
 ghost use Rattle.typing.specs.Calls.{put_temporaries};
-ghost use Rattle.typing.specs.Lines.{all_columns_of, columns_of, named, nameless, value_columns};
+ghost use Rattle.typing.specs.Lines.{all_columns_of, columns_of, named_column, nameless, value_columns};
 ghost use Rattle.typing.specs.Terms.{all_temporaries, temporaries};
 ghost use Rattle.typing.specs.Texts.{body_columns, param_column};
 
@@ -30,7 +30,7 @@ pub(crate) fn body_columns(
 }
 
 fn push_name(name: &Name, columns: &mut Items<Column>) -> Result<(), AllocError>
-    ensures { OnOk result (columns.new ≡ columns.old ++ named name.now ∷ []) }
+    ensures { OnOk result (columns.new ≡ columns.old ++ named_column name.now ∷ []) }
 {
     let name = Some(name.clone()?);
     columns.push(Column { name })?;

@@ -30,7 +30,7 @@ pub(crate) struct Declarations {
 }
 
 /// Scopes of which one is open, without declarations.
-fn opened(alloc: Global) -> Result<Scopes, AllocError>
+fn one_scope(alloc: Global) -> Result<Scopes, AllocError>
     ensures { IfOk result (λ scopes. scopes ≡ [] ∷ []) }
 {
     let mut scopes = Scopes::new(alloc);
@@ -61,8 +61,8 @@ impl Declarations {
         ensures procs { IfOk result (λ made. made.procs ≡ 0) }
         ensures least { IfOk result (λ made. made.least ≡ None) }
     {
-        let scopes = opened(alloc)?;
-        let bodies = opened(alloc)?;
+        let scopes = one_scope(alloc)?;
+        let bodies = one_scope(alloc)?;
         Ok(Declarations {
             alloc,
             scopes,

@@ -10,7 +10,7 @@ ghost use Rattle.typing.specs.Texts.{bodies, count_globals, declarations, top};
 
 use crate::declarations::{Declarations, note_prototypes};
 use crate::elaborator::Elaborator;
-use crate::env::{Env, Place};
+use crate::env::{Env, LoopPlace};
 use crate::error::TypeError;
 use crate::least::note_if;
 use crate::scopes::Scopes;
@@ -117,7 +117,7 @@ fn outside(scopes: Scopes) -> Env
         scopes,
         next: 0,
         number: 0,
-        place: Place::Outside,
+        place: LoopPlace::Outside,
         returns: false,
         ret: 0,
         full: 0,

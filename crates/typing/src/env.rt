@@ -16,20 +16,20 @@ use syntax_tree::Name;
 /// Where a line stands: in no loop, in the body of one, or in the step of one, which nothing
 /// leaves.
 #[derive(Clone, Copy)]
-pub(crate) enum Place {
+pub(crate) enum LoopPlace {
     Outside,
     InBody,
     InStep,
 }
 
-impl Place {
-    pub(crate) fn body(self) -> Place
+impl LoopPlace {
+    pub(crate) fn body(self) -> LoopPlace
         ensures { result ≡ body_place self }
     {
         match self {
-            Place::Outside => Place::InBody,
-            Place::InBody => Place::InBody,
-            Place::InStep => Place::InStep,
+            LoopPlace::Outside => LoopPlace::InBody,
+            LoopPlace::InBody => LoopPlace::InBody,
+            LoopPlace::InStep => LoopPlace::InStep,
         }
     }
 
@@ -37,9 +37,9 @@ impl Place {
         ensures { result ≡ may_leave self }
     {
         match self {
-            Place::Outside => false,
-            Place::InBody => true,
-            Place::InStep => false,
+            LoopPlace::Outside => false,
+            LoopPlace::InBody => true,
+            LoopPlace::InStep => false,
         }
     }
 }
@@ -52,7 +52,7 @@ pub(crate) struct Env {
     pub(crate) next: u32,
     // the assertions above
     pub(crate) number: u32,
-    pub(crate) place: Place,
+    pub(crate) place: LoopPlace,
     pub(crate) returns: bool,
     // the column of the returned value
     pub(crate) ret: u32,
@@ -107,7 +107,7 @@ impl Env {
         self.scopes.close();
     }
 
-    pub(crate) fn set_place(&mut self, place: Place)
+    pub(crate) fn set_place(&mut self, place: LoopPlace)
         ensures { self.new ≡ with_place place self.old }
     {
         self.place = place;

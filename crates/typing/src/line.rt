@@ -14,7 +14,7 @@ ghost use Rattle.typing.specs.Terms.{temporaries, term_in};
 ghost use Rattle.typing.specs.Lines.{after, after_all, all_statements_of, behind_body, in_body, in_step, local_statements, statements_of, value_statements, with_value};
 
 use crate::elaborator::Elaborator;
-use crate::env::Place;
+use crate::env::LoopPlace;
 use crate::error::{Limited, TypeError};
 use crate::least::note_if;
 use crate::special::special_of;
@@ -115,8 +115,8 @@ impl Elaborator {
             (If (source_expr_of cond.now) (source_lines_of yes.now) (source_lines_of no.now)))) }
     {
         let cond = self.condition(cond, out)?;
-        let yes = self.scoped(yes)?;
-        let no = self.scoped(no)?;
+        let yes = self.scope_statements(yes)?;
+        let no = self.scope_statements(no)?;
         out.push(Stmt::If { cond, yes, no })?;
         Ok(())
     }
@@ -210,7 +210,7 @@ impl Elaborator {
 
     /// The statements of lines in a scope of their own.
     #[cycle(line)]
-    fn scoped(&mut self, lines: &[Line]) -> Result<Items<Stmt>, AllocError>
+    fn scope_statements(&mut self, lines: &[Line]) -> Result<Items<Stmt>, AllocError>
         ensures statements { IfOk result
             (λ made. made ≡ all_statements_of (with_scope self.old.env)
             (source_lines_of lines.now)) }
@@ -231,7 +231,7 @@ impl Elaborator {
 
     // The statements of a loop's body, behind which a place is taken again.
     #[cycle(line)]
-    fn body(&mut self, lines: &[Line], behind: Place) -> Result<Items<Stmt>, AllocError>
+    fn body(&mut self, lines: &[Line], behind: LoopPlace) -> Result<Items<Stmt>, AllocError>
         ensures statements { IfOk result
             (λ made. made ≡ all_statements_of (in_body self.old.env) (source_lines_of lines.now)) }
         ensures env { OnOk result
@@ -244,14 +244,14 @@ impl Elaborator {
     {
         let place = self.env.place.body();
         self.env.set_place(place);
-        let made = self.scoped(lines)?;
+        let made = self.scope_statements(lines)?;
         self.env.set_place(behind);
         Ok(made)
     }
 
     // The statements of a loop's step, behind which a place is taken again.
     #[cycle(line)]
-    fn step(&mut self, lines: &[Line], behind: Place) -> Result<Items<Stmt>, AllocError>
+    fn step(&mut self, lines: &[Line], behind: LoopPlace) -> Result<Items<Stmt>, AllocError>
         ensures statements { IfOk result
             (λ made. made ≡ all_statements_of (in_step self.old.env) (source_lines_of lines.now)) }
         ensures env { OnOk result
@@ -263,7 +263,7 @@ impl Elaborator {
             (all_faults_in (in_step self.old.env) (source_lines_of lines.now))) }
     {
         let mut made = Items::new(self.alloc);
-        self.env.set_place(Place::InStep);
+        self.env.set_place(LoopPlace::InStep);
         self.lines(lines, &mut made)?;
         self.env.set_place(behind);
         Ok(made)

@@ -11,7 +11,7 @@ ghost use Rattle.typing.specs.Texts.{beginning, top, with_params};
 use crate::checks::all_checks;
 use crate::columns::body_columns;
 use crate::elaborator::Elaborator;
-use crate::env::Place;
+use crate::env::LoopPlace;
 use crate::error::{Limited, TypeError};
 use crate::least::note_if;
 use crate::sums::{small, sum};
@@ -181,7 +181,7 @@ impl Elaborator {
         self.env.scopes.open(self.alloc)?;
         self.env.next = globals;
         self.env.number = number;
-        self.env.place = Place::Outside;
+        self.env.place = LoopPlace::Outside;
         self.env.returns = returns;
         let columns = small(columns)?;
         self.env.ret = sum(globals, columns)?;

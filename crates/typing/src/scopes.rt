@@ -1,8 +1,8 @@
 ghost use Rattle.std.specs.Prelude.{◌≡◌, ℕ, None, if◌then◌else◌, List, [], ◌∷◌, ◌++◌, map, length, IfOk, OnOk};
 ghost use Rattle.std.specs.Map.{lookup};
 ghost use Rattle.std.specs.Str.{bytes_eq};
-ghost use Rattle.typing.specs.InForce.{after_declaration, entry_of, held_by, in_force, is_at, IsInForce, IsInnermost, Restores, shown};
-ghost use Rattle.typing.specs.Scopes.{declared_in, is_declared_here, meaning_of, outer_of, Scope};
+ghost use Rattle.typing.specs.InForce.{after_declaration, entry_of, entry_for, in_force, is_at, IsInForce, IsInnermost, Restores, scopes_of};
+ghost use Rattle.typing.specs.Scopes.{with_declaration, is_declared_here, meaning_of, outer_of, Scope};
 
 use crate::meaning::Meaning;
 use indexmap::IndexMap;
@@ -43,18 +43,18 @@ pub(crate) struct Scopes {
 impl Model for Scopes {
     ghost use Rattle.std.specs.Prelude.{List, ℕ};
     ghost use Rattle.typing.specs.declared.meaning.Meaning.{Meaning};
-    ghost use Rattle.typing.specs.InForce.{shown, IsInForce, RestoresAll};
+    ghost use Rattle.typing.specs.InForce.{scopes_of, IsInForce, RestoresAll};
 
     ghost Value = { List (List (List ℕ × Meaning)) };
 
-    ghost view = { λ a. shown a.stack };
+    ghost view = { λ a. scopes_of a.stack };
 
-    ghost invariant = { λ a. IsInForce a.index.entries (shown a.stack) × RestoresAll a.stack };
+    ghost invariant = { λ a. IsInForce a.index.entries (scopes_of a.stack) × RestoresAll a.stack };
 }
 
 /// The declaration in force for a name.
 fn look_up(index: &Index, name: &Name) -> Option<Held>
-    ensures { result ≡ held_by index.now.entries name.now }
+    ensures { result ≡ entry_for index.now.entries name.now }
 {
     match index.get(name) {
         Some(held) => *held,
@@ -80,8 +80,8 @@ fn declare_in(
     hidden: Option<Held>,
 ) -> Result<(), AllocError>
     ensures { OnOk result
-        ((other : List ℕ) → held_by index.new.entries other ≡ after_declaration name.now held hidden
-        (held_by index.old.entries other) other) }
+        ((other : List ℕ) → entry_for index.new.entries other ≡ after_declaration name.now held hidden
+        (entry_for index.old.entries other) other) }
 {
     if !is_at(hidden, held.depth) {
         index.insert(name.clone()?, Some(held))?;
@@ -115,9 +115,9 @@ fn push_scope(
 /// Puts back what a declaration hid. This takes no memory, since the name has a place in the map.
 fn put_back(declaration: Declaration, index: &mut Index)
     ensures { (lookup (bytes_eq declaration.name) index.old.entries ≡ None → ⊥) → (other : List ℕ) →
-        held_by index.new.entries other
+        entry_for index.new.entries other
         ≡ (if bytes_eq declaration.name other then declaration.hidden
-        else held_by index.old.entries other) }
+        else entry_for index.old.entries other) }
 {
     let _ = index.insert(declaration.name, declaration.hidden);
 }
@@ -168,7 +168,7 @@ impl Scopes {
         name: Name,
         meaning: Meaning,
     ) -> Result<(), AllocError>
-        ensures { OnOk result (self.new ≡ declared_in name meaning self.old) }
+        ensures { OnOk result (self.new ≡ with_declaration name meaning self.old) }
     {
         let scopes = replace(self, Scopes::new(alloc));
         *self = scopes.with(alloc, name, meaning)?;
@@ -176,7 +176,7 @@ impl Scopes {
     }
 
     fn with(self, alloc: Global, name: Name, meaning: Meaning) -> Result<Scopes, AllocError>
-        ensures { IfOk result (λ scopes. scopes ≡ declared_in name meaning self) }
+        ensures { IfOk result (λ scopes. scopes ≡ with_declaration name meaning self) }
     {
         let Scopes {
             mut stack,

@@ -21,7 +21,7 @@ use Rattle.syntax_tree.specs.declared.program.Proc.{Proc}
 use Rattle.syntax_tree.specs.declared.program.Program.{Program}
 use Rattle.syntax_tree.specs.WellFormed.{width_of, has_name, IsProcFit}
 use Rattle.vocabularies.specs.Harvest.{harvest_of}
-use Rattle.vocabularies.specs.Ends.{named_if, named_from, named_of, plain_vocabulary, terms_below, full_of}
+use Rattle.vocabularies.specs.Ends.{named_if, named_columns_from, named_columns_of, plain_vocabulary, terms_below, full_of}
 use Rattle.vocabularies.proofs.Linear.{harvest-directions, harvest-few}
 
 -- ---- ascending numbers between two bounds
@@ -64,24 +64,24 @@ Ascends-range : (a n : ℕ) → Ascends a (a + n) (range_with_len a n)
 Ascends-range a zero = Ascends-none a (a + zero)
 Ascends-range a (suc n) = Ascends-first a (a + suc n) (range_with_len (a + 1) n) (omega arith) (subst (λ b. Ascends (a + 1) b (range_with_len (a + 1) n)) (omega arith) (Ascends-range (a + 1) n))
 
-Ascends-named : (a : ℕ) (columns : List Column) → Ascends a (a + length columns) (named_from a columns)
+Ascends-named : (a : ℕ) (columns : List Column) → Ascends a (a + length columns) (named_columns_from a columns)
 Ascends-named a [] = Ascends-none a (a + 0)
-Ascends-named a (column ∷ columns) = go (has_name column) (subst (λ b. Ascends (a + 1) b (named_from (a + 1) columns)) (omega arith) (Ascends-named (a + 1) columns))
+Ascends-named a (column ∷ columns) = go (has_name column) (subst (λ b. Ascends (a + 1) b (named_columns_from (a + 1) columns)) (omega arith) (Ascends-named (a + 1) columns))
   where
-    go : (b : Bool) → Ascends (a + 1) (a + suc (length columns)) (named_from (a + 1) columns) → Ascends a (a + suc (length columns)) (named_if b a (named_from (a + 1) columns))
-    go true h = Ascends-first a (a + suc (length columns)) (named_from (a + 1) columns) (omega arith) h
-    go false h = Ascends-wider (a + 1) a (a + suc (length columns)) (named_from (a + 1) columns) (omega arith) h
+    go : (b : Bool) → Ascends (a + 1) (a + suc (length columns)) (named_columns_from (a + 1) columns) → Ascends a (a + suc (length columns)) (named_if b a (named_columns_from (a + 1) columns))
+    go true h = Ascends-first a (a + suc (length columns)) (named_columns_from (a + 1) columns) (omega arith) h
+    go false h = Ascends-wider (a + 1) a (a + suc (length columns)) (named_columns_from (a + 1) columns) (omega arith) h
 
 alone : (n : ℕ) → 0 + n ≡ n
 alone n = omega arith
 
-Ascends-all : (program : Program) (p : Proc) → Ascends 0 (width_of program p) (named_of program p)
+Ascends-all : (program : Program) (p : Proc) → Ascends 0 (width_of program p) (named_columns_of program p)
 Ascends-all program p =
     let globals = length program.globals in
     let own = length p.columns in
-    Ascends-both 0 globals (globals + own + 1) (range_with_len 0 globals) (named_from globals p.columns ++ (globals + own) ∷ [])
+    Ascends-both 0 globals (globals + own + 1) (range_with_len 0 globals) (named_columns_from globals p.columns ++ (globals + own) ∷ [])
     (subst (λ b. Ascends 0 b (range_with_len 0 globals)) (alone globals) (Ascends-range 0 globals))
-    (Ascends-both globals (globals + own) (globals + own + 1) (named_from globals p.columns) ((globals + own) ∷ [])
+    (Ascends-both globals (globals + own) (globals + own + 1) (named_columns_from globals p.columns) ((globals + own) ∷ [])
     (Ascends-named globals p.columns)
     (Ascends-first (globals + own) (globals + own + 1) [] (omega arith) (Ascends-none (globals + own + 1) (globals + own + 1))) (omega arith) (omega arith)) (omega arith) (omega arith)
 
@@ -104,7 +104,7 @@ IsVocabulary-full program p fit =
     let all = Ascends-all program p in
     record {
       ascending = all.sorted;
-      named = each-more (IsBetween 0 (width_of program p)) (λ v. v < width_of program p) (λ v k. k.1) (named_of program p) all.within;
+      named = each-more (IsBetween 0 (width_of program p)) (λ v. v < width_of program p) (λ v k. k.1) (named_columns_of program p) all.within;
       few = harvest-few p.body;
       harvested = harvest-directions program p fit;
       extra = tt;

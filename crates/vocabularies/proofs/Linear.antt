@@ -20,11 +20,11 @@ use Rattle.linear_terms.specs.declared.row.Kind.TheVariants.{Equal}
 use Rattle.linear_terms.specs.declared.row.Normal.{Normal}
 use Rattle.linear_terms.specs.declared.row.Normal.TheVariants.{Constant, Kept}
 use Rattle.linear_terms.specs.declared.row.Row.{Row}
-use Rattle.linear_terms.specs.Expressions.{Made, ◌⊞◌, ◌⊟◌, ◌⊠◌, turned, whole, column}
-use Rattle.linear_terms.specs.Operations.{kept, times_each, multiple_of, sum_of_polys, difference_of_polys, product_of_polys}
+use Rattle.linear_terms.specs.Expressions.{Made, ◌⊞◌, ◌⊟◌, ◌⊠◌, negative_of, whole, column}
+use Rattle.linear_terms.specs.Operations.{with_term, times_each, multiple_of, sum_of_polys, difference_of_polys, product_of_polys}
 use Rattle.linear_terms.specs.Polynomial.{Terms, Polynomial, IsCanonical, constant_of, column_of, without_constant}
 use Rattle.linear_terms.specs.Equality.{poly_eq}
-use Rattle.linear_terms.specs.Row.{divided, reduced, with_positive_first, starts_negative, normal_form, is_within, HasCanonicalTerms}
+use Rattle.linear_terms.specs.Row.{divided_terms, reduced_row, with_positive_first, starts_negative, normal_form, is_within, HasCanonicalTerms}
 use Rattle.linear_terms.specs.TermError.{times}
 use Rattle.linear_terms.proofs.Canonical.{IsCanonical-nil, IsCanonical-column, IsCanonical-sum_of_polys, IsCanonical-multiple_of, IsCanonical-difference_of_polys, IsCanonical-product_of_polys}
 use Rattle.linear_terms.proofs.Columns.{EachColumn, sum_of_polys-each, multiple_of-each, product_of_polys-each}
@@ -47,7 +47,7 @@ use Rattle.syntax_tree.specs.declared.op.Sign.{Sign}
 use Rattle.syntax_tree.specs.declared.op.Sign.TheVariants.{Plus, Minus, Not}
 use Rattle.syntax_tree.specs.Term.{Term, Lit, Col as ColTerm, Unary, Binary}
 use Rattle.syntax_tree.specs.WellFormed.{columns_below, all_columns_below, operators_of, joint_operators, value_fits, cond_fits, args_fit, into_fits, callee_fits, statement_fits, code_fits, width_of, IsProcFit}
-use Rattle.vocabularies.specs.Harvest.{with_sign, combination_of, polynomial_of, is_comparison, is_polynomial, are_single, is_linear, equation_of, kept_term, linear_term, compared_term, compared, compared_each, compared_by, compared_in, most_terms, harvest_of}
+use Rattle.vocabularies.specs.Harvest.{with_sign, combination_of, polynomial_of, is_comparison, is_polynomial, are_single, is_linear, equation_of, kept_term, linear_term, compared_term, compared_terms, compared_each, compared_by, compared_in, most_terms, harvest_of}
 
 abbrev done : Normal → Result Normal TermError
 done n = Ok n
@@ -124,7 +124,7 @@ module _ (Q : List Col → Type 0) where
   abbrev EachMono : Terms → Type 0
   EachMono ts = AllByRecursion (λ t. Q t.0) ts
 
-  kept-monos : (m : List Col) (c : ℤ) (ts : Terms) → Q m → EachMono ts → EachMono (kept m c ts)
+  kept-monos : (m : List Col) (c : ℤ) (ts : Terms) → Q m → EachMono ts → EachMono (with_term m c ts)
   kept-monos m c ts q h = go (int_eq c (pos 0))
     where
       go : (b : Bool) → AllByRecursion (λ t. Q t.0) (cond b ts ((m, c) ∷ ts))
@@ -134,9 +134,9 @@ module _ (Q : List Col → Type 0) where
   times_each-monos : (ts : Terms) (by : ℤ) (made : Terms) → times_each ts by ≡ Ok made → EachMono ts → EachMono made
   times_each-monos [] by made e h = let same : [] ≡ made = cc in subst EachMono same tt
   times_each-monos (t ∷ ts) by made e h =
-      on_ok (times t.1 by) (λ c. times_each ts by >>= λ more. Ok (kept t.0 c more)) made e (λ c f g.
-      on_ok (times_each ts by) (λ more. Ok (kept t.0 c more)) made g (λ more k l.
-      let same : kept t.0 c more ≡ made = cc in subst EachMono same (kept-monos t.0 c more h.0 (times_each-monos ts by more k h.1))))
+      on_ok (times t.1 by) (λ c. times_each ts by >>= λ more. Ok (with_term t.0 c more)) made e (λ c f g.
+      on_ok (times_each ts by) (λ more. Ok (with_term t.0 c more)) made g (λ more k l.
+      let same : with_term t.0 c more ≡ made = cc in subst EachMono same (kept-monos t.0 c more h.0 (times_each-monos ts by more k h.1))))
 
   record HasMonos (p : Polynomial) : Type 0 where
     monos : EachMono p.terms
@@ -163,7 +163,7 @@ module _ (Q : List Col → Type 0) where
   KeptHasMonos (Constant holds) = Unit {0}
   KeptHasMonos (Kept row) = HasMonos row.poly
 
-  divided-monos : (g : ℕ) (ts : Terms) → EachMono ts → EachMono (divided g ts)
+  divided-monos : (g : ℕ) (ts : Terms) → EachMono ts → EachMono (divided_terms g ts)
   divided-monos g ts h = each-map (λ t. Q t.0) (λ t. Q t.0) (λ t. (t.0, int_div t.1 (pos g))) (λ t q. q) ts h
 
   none-divided : (g : ℕ) (z : ℤ) → z ≡ pos 0 → int_div z (pos g) ≡ pos 0
@@ -173,9 +173,9 @@ module _ (Q : List Col → Type 0) where
       none g = omega (arith, ints)
 
   abbrev over : ℕ → Polynomial → Polynomial
-  over g p = record { terms = divided g p.terms; rest = int_div p.rest (pos g) }
+  over g p = record { terms = divided_terms g p.terms; rest = int_div p.rest (pos g) }
 
-  reduced-monos : (g : ℕ) (p : Polynomial) (n : Normal) → reduced Equal g p ≡ Ok n → HasMonos p → KeptHasMonos n
+  reduced-monos : (g : ℕ) (p : Polynomial) (n : Normal) → reduced_row Equal g p ≡ Ok n → HasMonos p → KeptHasMonos n
   reduced-monos g p n e h = go (divides g (unsigned_abs p.rest)) e
     where
       go : (b : Bool) → cond b (with_positive_first (over g p) >>= λ q. Ok (Kept record { poly = q; kind = Equal })) (Ok (Constant false)) ≡ Ok n → KeptHasMonos n
@@ -268,28 +268,28 @@ module _ (width : ℕ) where
           (both-over Passes (polynomial_of left) (polynomial_of right) difference_of_polys (polynomial-over left h) (polynomial-over right k)
           (difference-over Passes))
 
-  compared-over : (e : Term) → IsTrue (columns_below width e) → AreOver Passes (compared e)
+  compared-over : (e : Term) → IsTrue (columns_below width e) → AreOver Passes (compared_terms e)
   compared-over (Lit value) h = tt
   compared-over (ColTerm col) h = tt
   compared-over (Unary sign inner) h = compared-over inner h
   compared-over (Binary op left right) h =
       let parts = and_parts (columns_below width left) (columns_below width right) h in
-      each-append (IsTermOver Passes) (option_to_list (compared_term op left right)) (compared left ++ compared right)
+      each-append (IsTermOver Passes) (option_to_list (compared_term op left right)) (compared_terms left ++ compared_terms right)
       (compared_term-over op left right parts.0 parts.1)
-      (each-append (IsTermOver Passes) (compared left) (compared right) (compared-over left parts.0) (compared-over right parts.1))
+      (each-append (IsTermOver Passes) (compared_terms left) (compared_terms right) (compared-over left parts.0) (compared-over right parts.1))
 
   compared_each-over : (es : List Term) → IsTrue (all_columns_below width es) → AreOver Passes (compared_each es)
   compared_each-over [] h = tt
   compared_each-over (e ∷ es) h =
       let parts = and_parts (columns_below width e) (all_columns_below width es) h in
-      each-append (IsTermOver Passes) (compared e) (compared_each es) (compared-over e parts.0) (compared_each-over es parts.1)
+      each-append (IsTermOver Passes) (compared_terms e) (compared_each es) (compared-over e parts.0) (compared_each-over es parts.1)
 
-  value-over : (e : Term) → IsTrue (value_fits width e) → AreOver Passes (compared e)
+  value-over : (e : Term) → IsTrue (value_fits width e) → AreOver Passes (compared_terms e)
   value-over e h =
       let parts = and_parts (columns_below width e && nat_le (operators_of e) most_operators) (nat_le (cases_of e).value most_cases) h in
       compared-over e (and_parts (columns_below width e) (nat_le (operators_of e) most_operators) parts.0).0
 
-  cond-over : (e : Term) → IsTrue (cond_fits width e) → AreOver Passes (compared e)
+  cond-over : (e : Term) → IsTrue (cond_fits width e) → AreOver Passes (compared_terms e)
   cond-over e h =
       let parts = and_parts (columns_below width e && nat_le (operators_of e) most_operators && nat_le (cases_of e).truth most_cases) (nat_le (cases_of e).falsity most_cases) h in
       let front = and_parts (columns_below width e && nat_le (operators_of e) most_operators) (nat_le (cases_of e).truth most_cases) parts.0 in
@@ -317,14 +317,14 @@ module _ (width : ℕ) where
       statement-over place (If cond on_true on_false) h =
           let parts = and_parts (cond_fits width cond && code_fits program width place on_true) (code_fits program width place on_false) h in
           let front = and_parts (cond_fits width cond) (code_fits program width place on_true) parts.0 in
-          joined-over (compared cond) (compared_in on_true ++ compared_in on_false) (cond-over cond front.0)
+          joined-over (compared_terms cond) (compared_in on_true ++ compared_in on_false) (cond-over cond front.0)
           (joined-over (compared_in on_true) (compared_in on_false) (code-over place on_true front.1) (code-over place on_false parts.1))
       statement-over place (Loop pre cond body step first) h =
           let parts = and_parts _ _ h in
           let more = and_parts _ _ parts.0 in
           let front = and_parts _ _ more.0 in
-          joined-over (compared_in pre) (compared cond ++ (compared_in body ++ compared_in step)) (code-over _ pre front.1)
-          (joined-over (compared cond) (compared_in body ++ compared_in step) (cond-over cond front.0)
+          joined-over (compared_in pre) (compared_terms cond ++ (compared_in body ++ compared_in step)) (code-over _ pre front.1)
+          (joined-over (compared_terms cond) (compared_in body ++ compared_in step) (cond-over cond front.0)
           (joined-over (compared_in body) (compared_in step) (code-over _ body more.1) (code-over _ step parts.1)))
       statement-over place Break h = tt
       statement-over place Continue h = tt

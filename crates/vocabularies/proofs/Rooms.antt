@@ -11,7 +11,7 @@ use Rattle.syntax_tree.specs.declared.core_expr.Core.{Core}
 use Rattle.syntax_tree.specs.declared.stmt.Stmt.{Stmt}
 use Rattle.syntax_tree.specs.Term.{term_of}
 use Rattle.syntax_tree.specs.Code.{code_of, statement_of}
-use Rattle.vocabularies.specs.Harvest.{most_terms, compared, compared_each, compared_by, compared_in, harvest_of}
+use Rattle.vocabularies.specs.Harvest.{most_terms, compared_terms, compared_each, compared_by, compared_in, harvest_of}
 use Rattle.vocabularies.specs.Room.{with_term, with_terms}
 
 pub with_terms-none : (terms : List Polynomial) → with_terms terms [] ≡ terms
@@ -92,12 +92,12 @@ pub code-end : (stmts : List Stmt) (i : ℕ) (terms whole : List Polynomial) →
 code-end = listed-end (λ s. compared_by (statement_of s)) (λ stmts. compared_in (code_of stmts)) (λ s rest. refl) refl
 
 pub each-next : (es : List Core) (i : ℕ) (e : Core) (terms next whole : List Polynomial) → i < length es → e ≡ get_or es i e
-    → with_terms terms (compared_each (map term_of (drop i es))) ≡ whole → next ≡ with_terms terms (compared (term_of e))
+    → with_terms terms (compared_each (map term_of (drop i es))) ≡ whole → next ≡ with_terms terms (compared_terms (term_of e))
     → with_terms next (compared_each (map term_of (drop (i + 1) es))) ≡ whole
-each-next = listed-next (λ e. compared (term_of e)) (λ es. compared_each (map term_of es)) (λ e rest. refl) refl
+each-next = listed-next (λ e. compared_terms (term_of e)) (λ es. compared_each (map term_of es)) (λ e rest. refl) refl
 
 pub each-end : (es : List Core) (i : ℕ) (terms whole : List Polynomial) → length es ≤ i → with_terms terms (compared_each (map term_of (drop i es))) ≡ whole → terms ≡ whole
-each-end = listed-end (λ e. compared (term_of e)) (λ es. compared_each (map term_of es)) (λ e rest. refl) refl
+each-end = listed-end (λ e. compared_terms (term_of e)) (λ es. compared_each (map term_of es)) (λ e rest. refl) refl
 
 -- one term: it is new, it is there, or there is no room
 pub term-new : (terms : List Polynomial) (p : Polynomial) → length terms < most_terms → list_any (poly_eq p) terms ≡ false → terms ++ p ∷ [] ≡ with_terms terms (p ∷ [])

@@ -31,16 +31,16 @@ named_if true number numbers = number ∷ numbers
 named_if false number numbers = numbers
 
 -- the numbers, from one on, of the columns that have a name
-abbrev pub named_from : ℕ → List Column → List ℕ
-named_from number [] = []
-named_from number (column ∷ columns) =
-    named_if (has_name column) number (named_from (number + 1) columns)
+abbrev pub named_columns_from : ℕ → List Column → List ℕ
+named_columns_from number [] = []
+named_columns_from number (column ∷ columns) =
+    named_if (has_name column) number (named_columns_from (number + 1) columns)
 
 -- the globals, the parameters, the named locals, and the value that is returned
-abbrev pub named_of : Program → Proc → List ℕ
-named_of program p =
+abbrev pub named_columns_of : Program → Proc → List ℕ
+named_columns_of program p =
     range_with_len 0 (length program.globals)
-    ++ (named_from (length program.globals) p.columns ++ (length program.globals + length p.columns)
+    ++ (named_columns_from (length program.globals) p.columns ++ (length program.globals + length p.columns)
     ∷ [])
 
 -- ---- terms
@@ -67,7 +67,7 @@ unfoldable pub full_of : Program → Proc → Vocabulary
 full_of program p =
     record {
       columns = width_of program p;
-      named = named_of program p;
+      named = named_columns_of program p;
       harvested = harvest_of p.body;
       rule = program.rule;
       extra = [];

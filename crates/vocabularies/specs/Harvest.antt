@@ -10,7 +10,7 @@ use Rattle.linear_terms.specs.declared.row.Normal.{Normal}
 use Rattle.linear_terms.specs.declared.row.Normal.TheVariants.{Constant, Kept}
 use Rattle.linear_terms.specs.declared.row.Row.{Row}
 use Rattle.linear_terms.specs.Equality.{poly_eq}
-use Rattle.linear_terms.specs.Expressions.{Made, ◌⊞◌, ◌⊟◌, ◌⊠◌, whole, column, turned}
+use Rattle.linear_terms.specs.Expressions.{Made, ◌⊞◌, ◌⊟◌, ◌⊠◌, whole, column, negative_of}
 use Rattle.linear_terms.specs.Polynomial.{Terms, Polynomial, without_constant}
 use Rattle.linear_terms.specs.Row.{normal_form}
 use Rattle.polyhedra.specs.Directions.{distinct}
@@ -46,7 +46,7 @@ is_polynomial (Binary op left right) = is_ring_operator op
 
 abbrev pub with_sign : Sign → Polynomial → Made
 with_sign Plus p = Ok p
-with_sign Minus p = turned (Ok p)
+with_sign Minus p = negative_of (Ok p)
 with_sign Not p = whole (pos 0)
 
 abbrev pub combination_of : Op → Polynomial → Polynomial → Made
@@ -108,28 +108,28 @@ compared_term op left right =
 -- stand, a loop by its
 -- preparation, condition, body and step
 
-abbrev pub compared : Term → List Polynomial
-compared (Lit value) = []
-compared (Col col) = []
-compared (Unary sign inner) = compared inner
-compared (Binary op left right) = option_to_list (compared_term op left right)
-    ++ (compared left ++ compared right)
+abbrev pub compared_terms : Term → List Polynomial
+compared_terms (Lit value) = []
+compared_terms (Col col) = []
+compared_terms (Unary sign inner) = compared_terms inner
+compared_terms (Binary op left right) = option_to_list (compared_term op left right)
+    ++ (compared_terms left ++ compared_terms right)
 
 abbrev pub compared_each : List Term → List Polynomial
 compared_each [] = []
-compared_each (e ∷ es) = compared e ++ compared_each es
+compared_each (e ∷ es) = compared_terms e ++ compared_each es
 
 abbrev mutual
   pub compared_by : Statement → List Polynomial
-  compared_by (Set col value) = compared value
+  compared_by (Set col value) = compared_terms value
   compared_by (Any col) = []
   compared_by (Call proc args into) = compared_each args
-  compared_by (Guard cond) = compared cond
-  compared_by (Check number cond) = compared cond
+  compared_by (Guard cond) = compared_terms cond
+  compared_by (Check number cond) = compared_terms cond
   compared_by (If cond on_true on_false) =
-      compared cond ++ (compared_in on_true ++ compared_in on_false)
+      compared_terms cond ++ (compared_in on_true ++ compared_in on_false)
   compared_by (Loop pre cond body step first) =
-      compared_in pre ++ (compared cond ++ (compared_in body ++ compared_in step))
+      compared_in pre ++ (compared_terms cond ++ (compared_in body ++ compared_in step))
   compared_by Break = []
   compared_by Continue = []
   compared_by Return = []

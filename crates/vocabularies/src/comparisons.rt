@@ -4,7 +4,7 @@ ghost use Rattle.linear_terms.specs.Equality.{poly_eq};
 ghost use Rattle.syntax_tree.specs.Code.{code_of, statement_of};
 ghost use Rattle.syntax_tree.specs.Term.{term_of};
 ghost use Rattle.syntax_tree.specs.declared.program.Proc.{Proc};
-ghost use Rattle.vocabularies.specs.Harvest.{compared, compared_each, compared_by, compared_in, compared_term, most_terms, harvest_of};
+ghost use Rattle.vocabularies.specs.Harvest.{compared_terms, compared_each, compared_by, compared_in, compared_term, most_terms, harvest_of};
 ghost use Rattle.vocabularies.specs.Room.{with_terms};
 
 use crate::terms::compared_term;
@@ -41,7 +41,7 @@ pub(crate) fn body_harvest(alloc: Global, body: &[Stmt]) -> Result<Items<Poly>, 
 }
 
 /// Adds what statements compare, as long as there is room.
-#[cycle(compared)]
+#[cycle(compared_terms)]
 #[tactic(auto, using(crate::proofs::Rooms::rooms, syntax_tree::proofs::Codes::statements))]
 fn add_compared_in(alloc: Global, stmts: &[Stmt], terms: &mut Items<Poly>) -> Result<(), AllocError>
     ensures { OnOk result (terms.new ≡ with_terms terms.old (compared_in (code_of stmts.now))) }
@@ -52,7 +52,7 @@ fn add_compared_in(alloc: Global, stmts: &[Stmt], terms: &mut Items<Poly>) -> Re
     Ok(())
 }
 
-#[cycle(compared)]
+#[cycle(compared_terms)]
 #[tactic(auto, using(crate::proofs::Rooms::rooms, syntax_tree::proofs::Codes::statements))]
 fn add_compared_by(alloc: Global, stmt: &Stmt, terms: &mut Items<Poly>) -> Result<(), AllocError>
     ensures { OnOk result (terms.new ≡ with_terms terms.old (compared_by (statement_of stmt.now))) }
@@ -104,7 +104,7 @@ fn add_compared_each(
 /// Adds what an expression compares: its own term before those of its operands.
 #[tactic(auto, using(crate::proofs::Rooms::rooms, syntax_tree::proofs::Terms::terms))]
 fn add_compared(alloc: Global, e: &Core, terms: &mut Items<Poly>) -> Result<(), AllocError>
-    ensures { OnOk result (terms.new ≡ with_terms terms.old (compared (term_of e.now))) }
+    ensures { OnOk result (terms.new ≡ with_terms terms.old (compared_terms (term_of e.now))) }
 {
     match e {
         Core::Lit(_) => Ok(()),

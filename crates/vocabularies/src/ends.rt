@@ -3,7 +3,7 @@ ghost use Rattle.std.specs.List.{AllByRecursion, range_with_len};
 ghost use Rattle.polyhedra.specs.Vocabulary.{IsDirectionOver, IsVocabulary};
 ghost use Rattle.syntax_tree.specs.WellFormed.{IsWellFormed, IsProcFit};
 ghost use Rattle.syntax_tree.specs.declared.program.Proc.{Proc as Procedure};
-ghost use Rattle.vocabularies.specs.Ends.{entry_width, exit_width, value_width, named_from, named_of, terms_below, plain_vocabulary, full_of, entry_of, pair_of, exit_of, start_of};
+ghost use Rattle.vocabularies.specs.Ends.{entry_width, exit_width, value_width, named_columns_from, named_columns_of, terms_below, plain_vocabulary, full_of, entry_of, pair_of, exit_of, start_of};
 ghost use Rattle.vocabularies.specs.Harvest.{harvest_of};
 
 use crate::comparisons::body_harvest;
@@ -29,7 +29,7 @@ fn first_columns(alloc: Global, count: u32) -> Result<Items<u32>, AllocError>
 /// Adds the numbers of the columns that have a name.
 fn add_named(first: u32, columns: &[Column], named: &mut Items<u32>) -> Result<(), AllocError>
     requires { first + length columns.now < 2 ^ 32 }
-    ensures { OnOk result (named.new ≡ named.old ++ named_from first columns.now) }
+    ensures { OnOk result (named.new ≡ named.old ++ named_columns_from first columns.now) }
 {
     let mut number = first;
     for column in columns {
@@ -44,7 +44,7 @@ fn add_named(first: u32, columns: &[Column], named: &mut Items<u32>) -> Result<(
 /// The globals, the parameters, the named locals, and the value that is returned.
 fn named_columns(alloc: Global, program: &Program, p: &Proc) -> Result<Items<u32>, AllocError>
     requires { length program.now.globals + length p.now.columns + 1 < 2 ^ 32 }
-    ensures { IfOk result (λ named. named ≡ named_of program.now p.now) }
+    ensures { IfOk result (λ named. named ≡ named_columns_of program.now p.now) }
 {
     let globals = program.globals.len() as u32;
     let mut named = first_columns(alloc, globals)?;

@@ -151,7 +151,7 @@ fn linear_term(alloc: Global, made: Result<Poly, TermError>) -> Result<Option<Po
 {
     match made {
         Ok(poly) if is_linear(poly.terms()) => {
-            let reduced = reduced(alloc, poly);
+            let reduced = normal_equation(alloc, poly);
             kept_term(reduced)
         }
         Ok(_curved) => Ok(None),
@@ -160,7 +160,7 @@ fn linear_term(alloc: Global, made: Result<Poly, TermError>) -> Result<Option<Po
     }
 }
 
-fn reduced(alloc: Global, poly: Poly) -> Result<Normal, TermError>
+fn normal_equation(alloc: Global, poly: Poly) -> Result<Normal, TermError>
     ensures { Gives cause (λ n. n) result (normal_form (equation_of poly)) }
 {
     let poly = poly.without_constant();

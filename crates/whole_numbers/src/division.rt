@@ -39,7 +39,7 @@ pub fn quotient(value: i128, by: u128) -> i128
     if 0 <= value {
         size as i128
     } else {
-        negated(size)
+        opposite_of(size)
     }
 }
 
@@ -56,7 +56,7 @@ pub fn quotient_up(value: i128, by: u128) -> i128
     }
 }
 
-fn negated(size: u128) -> i128
+fn opposite_of(size: u128) -> i128
     requires { size ≤ 2 ^ 127 }
     ensures { result ≡ neg_ℤ (pos size) }
 {

@@ -7,7 +7,7 @@ use Rattle.farkas_check.specs.declared.answer.Answer.{Answer}
 use Rattle.farkas_check.specs.contracts.answer.AnswerPartialEq.TheImpl as answers
 use Rattle.farkas_check.proofs.Equal.{answer_decides}
 use Rattle.wire.specs.Replays.{answer_at}
-use Rattle.wire.specs.Sharing.{AreDifferent, IsOrderOfUse, IsShared, used_with}
+use Rattle.wire.specs.Sharing.{AreDifferent, IsOrderOfUse, IsShared, count_used_with}
 
 abbrev answer_eq : Answer → Answer → Bool
 answer_eq = answers.eq-value.it
@@ -72,18 +72,18 @@ places-more count below (p ∷ order) place le h last = let first : p < count = 
 
 -- ---- one more
 
-IsOrderOfUse-more : (used count place : ℕ) (places : List ℕ) → IsOrderOfUse used count places → place ≤ count → IsOrderOfUse used (used_with count place) (places ++ place ∷ [])
-IsOrderOfUse-more used count place [] h below = (subst (λ n. place ≤ n) (sym h) below, ap (λ n. used_with n place) h)
-IsOrderOfUse-more used count place (p ∷ ps) h below = (h.0, IsOrderOfUse-more (used_with used p) count place ps h.1 below)
+IsOrderOfUse-more : (used count place : ℕ) (places : List ℕ) → IsOrderOfUse used count places → place ≤ count → IsOrderOfUse used (count_used_with count place) (places ++ place ∷ [])
+IsOrderOfUse-more used count place [] h below = (subst (λ n. place ≤ n) (sym h) below, ap (λ n. count_used_with n place) h)
+IsOrderOfUse-more used count place (p ∷ ps) h below = (h.0, IsOrderOfUse-more (count_used_with used p) count place ps h.1 below)
 
-used_with-before : (count place : ℕ) → place < count → used_with count place ≡ count
+used_with-before : (count place : ℕ) → place < count → count_used_with count place ≡ count
 used_with-before count place below = go (place == count) refl
   where
-    go : (b : Bool) → (place == count) ≡ b → used_with count place ≡ count
+    go : (b : Bool) → (place == count) ≡ b → count_used_with count place ≡ count
     go true e = let same = (Decides-eqb place count).0 e in absurd (omega (arith, same, below))
     go false e = rw (e) refl
 
-used_with-next : (count : ℕ) → used_with count count ≡ suc count
+used_with-next : (count : ℕ) → count_used_with count count ≡ suc count
 used_with-next count = rw ((Decides-eqb count count).1 refl) refl
 
 -- an answer that was used before

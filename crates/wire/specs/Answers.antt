@@ -14,8 +14,8 @@ use Rattle.farkas_check.specs.declared.stratum.Tie.{Tie}
 use Rattle.items.specs.Gives.{◌>>=◌}
 use Rattle.serde_json.specs.Data.{Data}
 use Rattle.serde_json.specs.Find.{as_str, get}
-use Rattle.wire.specs.declared.answers.Kind.{Kind}
-use Rattle.wire.specs.declared.answers.Kind.TheVariants.{Infeasible, Point, Bound as BoundKind, Unbounded as UnboundedKind, Basis as BasisKind, Limit as LimitKind}
+use Rattle.wire.specs.declared.answers.AnswerKind.{AnswerKind}
+use Rattle.wire.specs.declared.answers.AnswerKind.TheVariants.{Infeasible, Point, Bound as BoundKind, Unbounded as UnboundedKind, Basis as BasisKind, Limit as LimitKind}
 use Rattle.wire.specs.Numbers.{ratio, whole}
 use Rattle.wire.specs.Shapes.{Reading, boolean, field, list, small}
 
@@ -69,8 +69,8 @@ bound d = field (codes "at") whole d >>= λ at. field (codes "case") small d
     >>= λ case. field (codes "certs") (list cert) d
     >>= λ certs. field (codes "point") (list ratio) d >>= λ point. Ok (Bound at certs case point)
 
-abbrev pub unbounded : Reading Answer
-unbounded d = field (codes "case") small d >>= λ case. field (codes "point") (list ratio) d
+abbrev pub unbounded_answer : Reading Answer
+unbounded_answer d = field (codes "case") small d >>= λ case. field (codes "point") (list ratio) d
     >>= λ point. field (codes "ray") (list ratio) d
     >>= λ ray. Ok (Unbounded case point ray)
 
@@ -80,7 +80,7 @@ basis d = field (codes "free") (list (list ratio)) d >>= λ free. field (codes "
     >>= λ relations. field (codes "spots") (list spot) d
     >>= λ spots. Ok (Basis relations spots free)
 
-abbrev pub kind_key : Kind → List ℕ
+abbrev pub kind_key : AnswerKind → List ℕ
 kind_key Infeasible = codes "infeasible"
 kind_key Point = codes "point"
 kind_key BoundKind = codes "bound"
@@ -89,27 +89,27 @@ kind_key BasisKind = codes "basis"
 kind_key LimitKind = codes "limit"
 
 -- what stands under the key of a kind
-abbrev pub of_kind : Kind → Reading Answer
+abbrev pub of_kind : AnswerKind → Reading Answer
 of_kind Infeasible d = list whole d >>= λ by. Ok (Yes by)
 of_kind Point d = list ratio d >>= λ point. Ok (No point)
 of_kind BoundKind d = bound d
-of_kind UnboundedKind d = unbounded d
+of_kind UnboundedKind d = unbounded_answer d
 of_kind BasisKind d = basis d
 of_kind LimitKind d = limit d >>= λ why. Ok (Limit why)
 
-abbrev pub kinds : List Kind
+abbrev pub kinds : List AnswerKind
 kinds = Infeasible ∷ Point ∷ BoundKind ∷ UnboundedKind ∷ BasisKind ∷ LimitKind ∷ []
 
-abbrev pub has_kind : Data → Kind → Bool
+abbrev pub has_kind : Data → AnswerKind → Bool
 has_kind d kind = is_some (get (kind_key kind) d)
 
 -- of these kinds the one whose key is there, where there is one alone
-abbrev pub sole_kind : List Kind → Data → Option Kind
+abbrev pub sole_kind : List AnswerKind → Data → Option AnswerKind
 sole_kind among d = if count_by (has_kind d) among == 1 then find (has_kind d) among else None
 
 -- an answer of the one kind whose key is there; where none or several are there, the answer is
 -- wrong
-abbrev pub of_sole : Option Kind → Reading Answer
+abbrev pub of_sole : Option AnswerKind → Reading Answer
 of_sole None d = Err []
 of_sole (Some kind) d = field (kind_key kind) (of_kind kind) d
 

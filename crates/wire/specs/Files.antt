@@ -2,7 +2,7 @@
 use Rattle.std.specs.Prelude.{ℕ, Option, None, Some, Result, Ok, Err, List, codes, length, nat_le, nat_lt, ◌==◌, if◌then◌else◌}
 use Rattle.std.specs.List.{range_with_len}
 use Rattle.std.specs.Str.{is_utf8}
-use Rattle.items.specs.Gives.{◌>>=◌, lifted}
+use Rattle.items.specs.Gives.{◌>>=◌, err_map}
 use Rattle.serde_json.specs.Data.{Data, Items}
 use Rattle.serde_json.specs.Events.{items_len}
 use Rattle.serde_json.specs.Find.{get, as_array, as_object}
@@ -18,8 +18,8 @@ use Rattle.wire.specs.Answers.{answer}
 use Rattle.wire.specs.Shapes.{Path, Reading, field, items_from, list, member_path, natural, or_wrong, small, text, under}
 
 -- a part that is wrong makes the file's shape wrong
-abbrev pub shaped : {A : Type 0} → Result A Path → Result A WireError
-shaped read = lifted Shape read
+abbrev pub with_shape_error : {A : Type 0} → Result A Path → Result A WireError
+with_shape_error read = err_map Shape read
 
 -- ---- JSON (RFC 8259), in UTF-8
 
@@ -52,11 +52,11 @@ version_numbered n = if n == 1 then Ok First
 -- a file without a version is of the first
 abbrev pub version_if_any : Option Data → Result Version WireError
 version_if_any None = Ok First
-version_if_any (Some d) = shaped (under (member_path (codes "version")) (natural d))
+version_if_any (Some d) = with_shape_error (under (member_path (codes "version")) (natural d))
     >>= version_numbered
 
 abbrev pub version_of : Data → Result Version WireError
-version_of d = shaped (or_wrong (as_object d)) >>= λ members. version_if_any
+version_of d = with_shape_error (or_wrong (as_object d)) >>= λ members. version_if_any
     (get (codes "version") d)
 
 -- a place below a number of answers
@@ -86,7 +86,7 @@ certificate_from version d = field (codes "text") source d >>= λ program. field
 
 -- the version is looked at before all else
 abbrev pub certificate_in : Data → Result Certificate WireError
-certificate_in d = version_of d >>= λ version. shaped (certificate_from version d)
+certificate_in d = version_of d >>= λ version. with_shape_error (certificate_from version d)
 
 abbrev pub certificate_of : List ℕ → Result Certificate WireError
 certificate_of bytes = json_of bytes >>= certificate_in
@@ -119,4 +119,4 @@ script d = field (codes "text") source d >>= λ program. field (codes "edits") e
     }
 
 abbrev pub script_of : List ℕ → Result Script WireError
-script_of bytes = json_of bytes >>= λ d. shaped (script d)
+script_of bytes = json_of bytes >>= λ d. with_shape_error (script d)

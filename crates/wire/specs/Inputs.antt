@@ -6,7 +6,7 @@ use Rattle.serde_json.specs.Events.{items_len}
 use Rattle.serde_json.specs.Find.{as_array}
 use Rattle.wire.specs.declared.error.WireError.{WireError}
 use Rattle.wire.specs.declared.input.Input.{Input}
-use Rattle.wire.specs.Files.{json_of, shaped, source}
+use Rattle.wire.specs.Files.{json_of, with_shape_error, source}
 use Rattle.wire.specs.Numbers.{whole}
 use Rattle.wire.specs.Shapes.{Path, Reading, field, items_from, or_wrong, small}
 
@@ -41,4 +41,4 @@ input d = field (codes "text") source d >>= λ text. field (codes "values") valu
     }
 
 abbrev pub input_of : List ℕ → Result Input WireError
-input_of bytes = json_of bytes >>= λ d. shaped (input d)
+input_of bytes = json_of bytes >>= λ d. with_shape_error (input d)

@@ -31,9 +31,9 @@ next_place (Some places) taken = slice_index places taken
 abbrev pub next_of : List Answer → Option (List ℕ) → ℕ → Answer
 next_of answers places taken = answer_at answers (next_place places taken)
 
-abbrev pub left_from : List Answer → Option (List ℕ) → ℕ → List Answer
-left_from answers None taken = drop taken answers
-left_from answers (Some places) taken = map (answer_at answers) (drop taken places)
+abbrev pub answers_left : List Answer → Option (List ℕ) → ℕ → List Answer
+answers_left answers None taken = drop taken answers
+answers_left answers (Some places) taken = map (answer_at answers) (drop taken places)
 
 -- no answer is left, or the next one does not pass
 abbrev pub IsMissing : List Answer → Question → Type 0

@@ -2,7 +2,7 @@
 -- told by its path from there: a JSON pointer (RFC 6901). An object is looked at before its
 -- members, a list before its items, and each in order.
 use Rattle.std.specs.Prelude.{ℕ, ◌+◌, Bool, Option, None, Some, Result, Ok, Err, List, [], ◌∷◌, ◌++◌, decimal, nat_lt, ◌^◌, if◌then◌else◌}
-use Rattle.items.specs.Gives.{◌>>=◌, lifted}
+use Rattle.items.specs.Gives.{◌>>=◌, err_map}
 use Rattle.serde_json.specs.Data.{Data, Items, no_items, item}
 use Rattle.serde_json.specs.Find.{get_member, as_array, as_bool, as_number, as_object, as_str, as_u64}
 
@@ -21,7 +21,7 @@ item_path place = 47 ∷ decimal place
 
 -- what was read of a part, told from what the part stands in
 abbrev pub under : {A : Type 0} → Path → Result A Path → Result A Path
-under step read = lifted (λ path. step ++ path) read
+under step read = err_map (λ path. step ++ path) read
 
 -- what is there, else the part itself is wrong
 abbrev pub or_wrong : {A : Type 0} → Option A → Result A Path

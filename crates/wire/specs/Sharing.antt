@@ -11,15 +11,15 @@ AreDifferent (answer ∷ answers) = AllByRecursion (λ other. answer ≢ other) 
     × AreDifferent answers
 
 -- how many were used when one more place is: a place is that of an answer used before, or the next
-abbrev pub used_with : ℕ → ℕ → ℕ
-used_with used place = if place == used then suc used else used
+abbrev pub count_used_with : ℕ → ℕ → ℕ
+count_used_with used place = if place == used then suc used else used
 
 -- places that use so many answers, each for the first time in its turn, where so many were used
 -- before
 abbrev pub IsOrderOfUse : ℕ → ℕ → List ℕ → Type 0
 IsOrderOfUse used count [] = used ≡ count
 IsOrderOfUse used count (place ∷ places) = (place ≤ used)
-    × IsOrderOfUse (used_with used place) count places
+    × IsOrderOfUse (count_used_with used place) count places
 
 -- The distinct answers of a list in the order of their first use, and for each of the list the
 -- place of its answer there.

@@ -2,7 +2,7 @@ ghost use Rattle.std.specs.Prelude.{◌≡◌, [], ◌∷◌, Ok, Some, IfOk, fi
 ghost use Rattle.farkas_check.specs.declared.answer.Answer.TheVariants.{Basis, Bound, Unbounded};
 ghost use Rattle.items.specs.Gives.{Gives};
 ghost use Rattle.serde_json.specs.View.{view};
-ghost use Rattle.wire.specs.Answers.{answer, basis, bound, has_kind, kind_key, kinds, limit, of_kind, of_sole, sole_kind, unbounded, wide};
+ghost use Rattle.wire.specs.Answers.{answer, basis, bound, has_kind, kind_key, kinds, limit, of_kind, of_sole, sole_kind, unbounded_answer, wide};
 ghost use Rattle.wire.specs.Errors.{wrong_path};
 ghost use Rattle.wire.specs.Written.{alone, basis_data, bound_data, limit_data, unbounded_data};
 ghost use Rattle.farkas_check.specs.declared.answer.Limit.TheVariants.{Wide};
@@ -16,7 +16,7 @@ use std::alloc::{AllocError, Global};
 
 /// The kinds of answers, each by the key that it has in a file.
 #[derive(Clone, Copy, PartialEq, Eq)]
-pub(crate) enum Kind {
+pub(crate) enum AnswerKind {
     Infeasible,
     Point,
     Bound,
@@ -25,26 +25,26 @@ pub(crate) enum Kind {
     Limit,
 }
 
-const KINDS: [Kind; 6] = [
-    Kind::Infeasible,
-    Kind::Point,
-    Kind::Bound,
-    Kind::Unbounded,
-    Kind::Basis,
-    Kind::Limit,
+const KINDS: [AnswerKind; 6] = [
+    AnswerKind::Infeasible,
+    AnswerKind::Point,
+    AnswerKind::Bound,
+    AnswerKind::Unbounded,
+    AnswerKind::Basis,
+    AnswerKind::Limit,
 ];
 
-impl Kind {
+impl AnswerKind {
     fn key(self) -> &'static str
         ensures { result.now ≡ kind_key self }
     {
         match self {
-            Kind::Infeasible => "infeasible",
-            Kind::Point => "point",
-            Kind::Bound => "bound",
-            Kind::Unbounded => "unbounded",
-            Kind::Basis => "basis",
-            Kind::Limit => "limit",
+            AnswerKind::Infeasible => "infeasible",
+            AnswerKind::Point => "point",
+            AnswerKind::Bound => "bound",
+            AnswerKind::Unbounded => "unbounded",
+            AnswerKind::Basis => "basis",
+            AnswerKind::Limit => "limit",
         }
     }
 }
@@ -228,8 +228,8 @@ fn bound(alloc: Global, part: &Value) -> Result<Answer, Wrong>
     })
 }
 
-fn unbounded(alloc: Global, part: &Value) -> Result<Answer, Wrong>
-    ensures { Gives wrong_path (λ x. x) result (unbounded (view part.now)) }
+fn unbounded_answer(alloc: Global, part: &Value) -> Result<Answer, Wrong>
+    ensures { Gives wrong_path (λ x. x) result (unbounded_answer (view part.now)) }
 {
     let case = field(alloc, part, "case")?;
     let point = field(alloc, part, "point")?;
@@ -251,34 +251,34 @@ fn basis(alloc: Global, part: &Value) -> Result<Answer, Wrong>
 }
 
 /// An answer of a kind.
-fn of_kind(alloc: Global, kind: Kind, part: &Value) -> Result<Answer, Wrong>
+fn of_kind(alloc: Global, kind: AnswerKind, part: &Value) -> Result<Answer, Wrong>
     ensures { Gives wrong_path (λ x. x) result (of_kind kind (view part.now)) }
 {
     match kind {
-        Kind::Infeasible => Ok(Answer::Yes(Items::read(alloc, part)?)),
-        Kind::Point => Ok(Answer::No(Items::read(alloc, part)?)),
-        Kind::Bound => bound(alloc, part),
-        Kind::Unbounded => unbounded(alloc, part),
-        Kind::Basis => basis(alloc, part),
-        Kind::Limit => Ok(Answer::Limit(Limit::read(alloc, part)?)),
+        AnswerKind::Infeasible => Ok(Answer::Yes(Items::read(alloc, part)?)),
+        AnswerKind::Point => Ok(Answer::No(Items::read(alloc, part)?)),
+        AnswerKind::Bound => bound(alloc, part),
+        AnswerKind::Unbounded => unbounded_answer(alloc, part),
+        AnswerKind::Basis => basis(alloc, part),
+        AnswerKind::Limit => Ok(Answer::Limit(Limit::read(alloc, part)?)),
     }
 }
 
-fn has_kind(part: &Value, kind: Kind) -> bool
+fn has_kind(part: &Value, kind: AnswerKind) -> bool
     ensures { result ≡ has_kind (view part.now) kind }
 {
     part.get(kind.key()).is_some()
 }
 
 /// The first of these kinds whose key an object has.
-fn first_kind(part: &Value, among: &[Kind]) -> Option<Kind>
+fn first_kind(part: &Value, among: &[AnswerKind]) -> Option<AnswerKind>
     ensures { result ≡ find (has_kind (view part.now)) among.now }
 {
     among.iter().copied().find(|kind| has_kind(part, *kind))
 }
 
 /// Of these kinds the one whose key an object has; none where it has none of the keys or several.
-fn sole_kind(part: &Value, among: &[Kind]) -> Option<Kind>
+fn sole_kind(part: &Value, among: &[AnswerKind]) -> Option<AnswerKind>
     ensures { result ≡ sole_kind among.now (view part.now) }
 {
     if among.iter().filter(|kind| has_kind(part, **kind)).count() == 1 {
@@ -308,8 +308,8 @@ impl Written for Answer {
 
     fn write(&self, alloc: Global) -> Result<Value, AllocError> {
         match self {
-            Answer::Yes(by) => alone(alloc, Kind::Infeasible, by.write(alloc)?),
-            Answer::No(point) => alone(alloc, Kind::Point, point.write(alloc)?),
+            Answer::Yes(by) => alone(alloc, AnswerKind::Infeasible, by.write(alloc)?),
+            Answer::No(point) => alone(alloc, AnswerKind::Point, point.write(alloc)?),
             Answer::Bound {
                 at,
                 certs,
@@ -318,14 +318,14 @@ impl Written for Answer {
             } => {
                 alone(
                     alloc,
-                    Kind::Bound,
+                    AnswerKind::Bound,
                     bound_part(alloc, at, certs, case, point)?,
                 )
             }
             Answer::Unbounded { case, point, ray } => {
                 alone(
                     alloc,
-                    Kind::Unbounded,
+                    AnswerKind::Unbounded,
                     unbounded_part(alloc, case, point, ray)?,
                 )
             }
@@ -336,16 +336,16 @@ impl Written for Answer {
             } => {
                 alone(
                     alloc,
-                    Kind::Basis,
+                    AnswerKind::Basis,
                     basis_part(alloc, relations, spots, free)?,
                 )
             }
-            Answer::Limit(limit) => alone(alloc, Kind::Limit, limit.write(alloc)?),
+            Answer::Limit(limit) => alone(alloc, AnswerKind::Limit, limit.write(alloc)?),
         }
     }
 }
 
-fn of_sole_kind(alloc: Global, kind: Kind, part: &Value) -> Result<Answer, Wrong>
+fn of_sole_kind(alloc: Global, kind: AnswerKind, part: &Value) -> Result<Answer, Wrong>
     ensures { Gives wrong_path (λ x. x) result (of_sole (Some kind) (view part.now)) }
 {
     let key = kind.key();
@@ -354,7 +354,7 @@ fn of_sole_kind(alloc: Global, kind: Kind, part: &Value) -> Result<Answer, Wrong
 }
 
 /// An object of one member.
-fn alone(alloc: Global, kind: Kind, part: Value) -> Result<Value, AllocError>
+fn alone(alloc: Global, kind: AnswerKind, part: Value) -> Result<Value, AllocError>
     ensures { IfOk result (λ object. view object ≡ alone (kind_key kind) (view part)) }
 {
     let mut members = Map::new(alloc);
@@ -390,7 +390,7 @@ fn unbounded_part(
 ) -> Result<Value, AllocError>
     ensures written { IfOk result (λ part. view part ≡ unbounded_data case.now point.now ray.now) }
     ensures back { IfOk result
-        (λ part. unbounded (view part) ≡ Ok (Unbounded case.now point.now ray.now)) }
+        (λ part. unbounded_answer (view part) ≡ Ok (Unbounded case.now point.now ray.now)) }
 {
     let mut members = Map::new(alloc);
     put_part(&mut members, alloc, "case", case)?;

@@ -10,7 +10,7 @@ ghost use Rattle.wire.specs.Errors.{fault, wrong_path};
 ghost use Rattle.wire.specs.Files.{certificate_from, certificate_in, certificate_of, json_of, order_of, place, version_numbered, version_of};
 ghost use Rattle.wire.specs.Shapes.{items_from, list};
 
-use crate::Text;
+use crate::FileText;
 use crate::error::{WireError, Wrong};
 use crate::shape::{Shape, Written, field, item_under, member, put_part, under_key};
 use crate::text::source;
@@ -32,8 +32,8 @@ pub enum Version {
 #[derive(Debug, Drop)]
 pub struct Certificate {
     pub version: Version,
-    pub text: Text,
-    pub report: Text,
+    pub text: FileText,
+    pub report: FileText,
     pub answers: Items<Answer>,
     /// The place in `answers` of the answer of each question, in posing order, from 0.
     pub order: Items<usize>,
@@ -258,12 +258,12 @@ fn file_value(alloc: Global, file: &Certificate) -> Result<Value, AllocError>
 }
 
 /// The text of a certificate file, without spaces and line ends; it is read back as that file.
-pub fn write_certificate(alloc: Global, file: &Certificate) -> Result<Text, AllocError>
+pub fn write_certificate(alloc: Global, file: &Certificate) -> Result<FileText, AllocError>
     requires { IsWritable file.now }
     ensures written { IfOk result (λ text. text ≡ compact_text (certificate_data file.now)) }
     ensures back { IfOk result (λ text. certificate_of text ≡ Ok file.now) }
 {
     let value = file_value(alloc, file)?;
-    let text = Text::from_string(value.to_string(alloc)?);
+    let text = FileText::from_string(value.to_string(alloc)?);
     Ok(text)
 }

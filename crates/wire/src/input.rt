@@ -5,7 +5,7 @@ ghost use Rattle.wire.specs.Errors.{fault, wrong_path};
 ghost use Rattle.wire.specs.Shapes.{field};
 ghost use Rattle.wire.specs.Inputs.{input, input_of, listed_values, most_turns, most_values, turns, values};
 
-use crate::Text;
+use crate::FileText;
 use crate::certificate::json;
 use crate::error::{WireError, Wrong};
 use crate::shape::{Shape, items, member, under_key};
@@ -17,7 +17,7 @@ use std::alloc::Global;
 /// What one execution is followed on: a text, the values that its choices take, and the most steps.
 #[derive(Debug, Drop)]
 pub struct Input {
-    pub text: Text,
+    pub text: FileText,
     pub values: Items<i128>,
     pub turns: u32,
 }

@@ -19,7 +19,7 @@ pub use certificate::{Certificate, Version, read_certificate, write_certificate}
 pub use error::WireError;
 pub use input::{Input, read_replay};
 pub use laws::newline_is_read_over;
-pub use replay::Replay;
+pub use replay::ListedAnswers;
 pub use script::{Edit, Script, read_script, texts};
 pub use sharing::share;
-pub use text::Text;
+pub use text::FileText;

@@ -12,15 +12,15 @@ use std::marker::Model;
 /// An oracle that hands out listed answers in order, each where it passes the test of the question.
 /// It refuses where none is left or the next one does not pass, and then stays at that answer.
 #[derive(Drop)]
-pub struct Replay {
+pub struct ListedAnswers {
     answers: Items<Answer>,
     places: Option<Items<usize>>,
     taken: usize,
     refusals: u64,
 }
 
-impl Model for Replay {
-    ghost use Rattle.wire.specs.Replays.{Replayed, left_from};
+impl Model for ListedAnswers {
+    ghost use Rattle.wire.specs.Replays.{Replayed, answers_left};
 
     ghost Value = { Replayed };
 
@@ -32,12 +32,12 @@ impl Model for Replay {
         } };
 }
 
-impl Replay {
+impl ListedAnswers {
     /// Hands out the answers in order.
-    pub fn new(answers: Items<Answer>) -> Replay
+    pub fn new(answers: Items<Answer>) -> ListedAnswers
         ensures { result ≡ record { left = answers; taken = 0; refusals = 0 } }
     {
-        Replay {
+        ListedAnswers {
             answers,
             places: None,
             taken: 0,
@@ -46,12 +46,12 @@ impl Replay {
     }
 
     /// Hands out the answers at places in order, each as often as it is listed.
-    pub fn shared(answers: Items<Answer>, order: Items<usize>) -> Replay
+    pub fn with_order(answers: Items<Answer>, order: Items<usize>) -> ListedAnswers
         requires { AllByRecursion (λ place. place < length answers) order }
         ensures { result
             ≡ record { left = map (answer_at answers) order; taken = 0; refusals = 0 } }
     {
-        Replay {
+        ListedAnswers {
             answers,
             places: Some(order),
             taken: 0,
@@ -60,7 +60,7 @@ impl Replay {
     }
 
     /// How many answers were handed out.
-    pub fn taken(&self) -> usize
+    pub fn taken_count(&self) -> usize
         ensures { result ≡ self.now.taken }
     {
         self.taken
@@ -68,7 +68,7 @@ impl Replay {
 
     /// How many are left.
     #[tactic(auto, using(crate::proofs::Replaying::replays))]
-    pub fn left(&self) -> usize
+    pub fn left_count(&self) -> usize
         ensures { result ≡ length self.now.left }
     {
         answer_count(&self.answers, &self.places).saturating_sub(self.taken)
@@ -117,7 +117,7 @@ fn next_place(answers: &[Answer], places: &Option<Items<usize>>, taken: usize) -
     }
 }
 
-impl Oracle for Replay {
+impl Oracle for ListedAnswers {
     ghost use Rattle.std.specs.Prelude.{◌∷◌, OnErr, Some};
     ghost use Rattle.farkas_check.specs.Refusals.{HasCause};
     ghost use Rattle.farkas_check.specs.declared.oracle.AskError.TheVariants.{Refused};

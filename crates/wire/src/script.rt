@@ -6,7 +6,7 @@ ghost use Rattle.wire.specs.Errors.{fault, wrong_path};
 ghost use Rattle.wire.specs.Shapes.{field};
 ghost use Rattle.wire.specs.Files.{edits, few_edits, most_edits, script, script_of};
 
-use crate::Text;
+use crate::FileText;
 use crate::certificate::json;
 use crate::error::{WireError, Wrong};
 use crate::shape::{Shape, field, items, member, under_key};
@@ -20,13 +20,13 @@ use std::alloc::{AllocError, Global};
 pub struct Edit {
     pub at: u32,
     pub remove: u32,
-    pub insert: Text,
+    pub insert: FileText,
 }
 
 /// A text, and edits that are made one after the other.
 #[derive(Debug, Drop)]
 pub struct Script {
-    pub text: Text,
+    pub text: FileText,
     pub edits: Items<Edit>,
 }
 
@@ -96,7 +96,7 @@ pub fn read_script(alloc: Global, bytes: &[u8]) -> Result<Script, WireError>
 }
 
 /// Whether an edit lies in the text and splits no character.
-fn is_inside(text: &Text, edit: &Edit) -> bool
+fn is_inside(text: &FileText, edit: &Edit) -> bool
     ensures { result ≡ is_inside text.now edit.now }
 {
     let text = text.as_str();
@@ -105,7 +105,7 @@ fn is_inside(text: &Text, edit: &Edit) -> bool
 }
 
 /// The text with an edit made.
-fn with_edit(alloc: Global, text: &Text, edit: &Edit) -> Result<Text, AllocError>
+fn with_edit(alloc: Global, text: &FileText, edit: &Edit) -> Result<FileText, AllocError>
     requires { IsTrue (is_inside text.now edit.now) }
     ensures { IfOk result (λ next. next ≡ with_edit text.now edit.now) }
 {
@@ -115,11 +115,16 @@ fn with_edit(alloc: Global, text: &Text, edit: &Edit) -> Result<Text, AllocError
     let mut next = String::from_str(alloc, &old[..at])?;
     next.push_str(edit.insert.as_str())?;
     next.push_str(&old[end..])?;
-    Ok(Text::from_string(next))
+    Ok(FileText::from_string(next))
 }
 
 /// The text after an edit, which has this number.
-fn text_after(alloc: Global, number: u32, text: &Text, edit: &Edit) -> Result<Text, WireError>
+fn text_after(
+    alloc: Global,
+    number: u32,
+    text: &FileText,
+    edit: &Edit,
+) -> Result<FileText, WireError>
     ensures { Gives fault (λ x. x) result (text_after number text.now edit.now) }
 {
     if !is_inside(text, edit) {
@@ -134,7 +139,7 @@ fn text_after(alloc: Global, number: u32, text: &Text, edit: &Edit) -> Result<Te
 }
 
 /// A text, and the text after each edit.
-fn texts_from(alloc: Global, first: Text, edits: &[Edit]) -> Result<Items<Text>, WireError>
+fn texts_from(alloc: Global, first: FileText, edits: &[Edit]) -> Result<Items<FileText>, WireError>
     requires { length edits.now < 2 ^ 32 }
     ensures { Gives fault (λ x. x) result (texts_from first edits.now) }
 {
@@ -152,7 +157,7 @@ fn texts_from(alloc: Global, first: Text, edits: &[Edit]) -> Result<Items<Text>,
 /// The texts of a script: the first, and the text after each edit. `Edit` with the number of the
 /// first edit, from 1, that reaches past its text, splits a character, or gives a text of more than
 /// 1,048,576 bytes.
-pub fn texts(alloc: Global, script: &Script) -> Result<Items<Text>, WireError>
+pub fn texts(alloc: Global, script: &Script) -> Result<Items<FileText>, WireError>
     requires { length script.now.edits < 2 ^ 32 }
     ensures { Gives fault (λ x. x) result (texts_of script.now) }
 {

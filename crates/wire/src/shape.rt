@@ -1,5 +1,5 @@
 ghost use Rattle.std.specs.Prelude.{◌≡◌, ℕ, List, [], ◌∷◌, ◌++◌, Result, Ok, IfOk, OnOk, length, map};
-ghost use Rattle.items.specs.Gives.{Gives, lifted};
+ghost use Rattle.items.specs.Gives.{Gives, err_map};
 ghost use Rattle.serde_json.specs.Data.{Data};
 ghost use Rattle.serde_json.specs.View.{items_of, items_view, members_view, view};
 ghost use Rattle.serde_json.specs.Data.{put as with_member};

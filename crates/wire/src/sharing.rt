@@ -21,7 +21,7 @@ fn push_shared(
     Ok(())
 }
 
-fn listed(alloc: Global, distinct: IndexSet<Answer>) -> Result<Items<Answer>, AllocError>
+fn distinct_answers(alloc: Global, distinct: IndexSet<Answer>) -> Result<Items<Answer>, AllocError>
     ensures { IfOk result (λ listed. listed ≡ distinct.keys) }
 {
     let distinct = distinct.into_iter().collect::<Vec<Answer>>(alloc)?;
@@ -41,5 +41,5 @@ pub fn share(
     for answer in answers {
         push_shared(&mut distinct, &mut order, answer)?;
     }
-    Ok((listed(alloc, distinct)?, order))
+    Ok((distinct_answers(alloc, distinct)?, order))
 }

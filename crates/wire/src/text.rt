@@ -14,11 +14,11 @@ use std::marker::Model;
 
 /// A UTF-8 text, which contracts see as its bytes.
 #[derive(Debug, Drop)]
-pub struct Text {
+pub struct FileText {
     inner: String,
 }
 
-impl Model for Text {
+impl Model for FileText {
     ghost use Rattle.std.specs.Prelude.{List, ℕ, string_bytes};
 
     ghost Value = { List ℕ };
@@ -26,14 +26,14 @@ impl Model for Text {
     ghost view = { λ t. string_bytes t.inner };
 }
 
-impl Text {
+impl FileText {
     /// The text of a string.
-    pub fn from_string(inner: String) -> Text
+    pub fn from_string(inner: String) -> FileText
         ensures bytes { result ≡ string_bytes inner }
         ensures utf8 { IsUtf8 result }
     {
         let _ = inner.as_str();
-        Text { inner }
+        FileText { inner }
     }
 
     /// The text.
@@ -44,28 +44,28 @@ impl Text {
     }
 }
 
-impl Clone for Text {
+impl Clone for FileText {
     ghost is_clone = { λ a b. b ≡ a };
 
-    fn clone(&self) -> Result<Text, AllocError> {
-        Ok(Text::from_string(self.inner.clone()?))
+    fn clone(&self) -> Result<FileText, AllocError> {
+        Ok(FileText::from_string(self.inner.clone()?))
     }
 }
 
-impl Shape for Text {
+impl Shape for FileText {
     ghost use Rattle.wire.specs.Shapes.{text};
 
     ghost reads = { text };
 
-    fn read(alloc: Global, part: &Value) -> Result<Text, Wrong> {
+    fn read(alloc: Global, part: &Value) -> Result<FileText, Wrong> {
         match part.as_str() {
-            Some(text) => Ok(Text::from_string(String::from_str(alloc, text)?)),
+            Some(text) => Ok(FileText::from_string(String::from_str(alloc, text)?)),
             None => Err(Wrong::At(Items::new(alloc))),
         }
     }
 }
 
-impl Written for Text {
+impl Written for FileText {
     ghost use Rattle.serde_json.specs.Data.{string};
 
     ghost writes = { string };
@@ -79,11 +79,11 @@ impl Written for Text {
 pub const MOST_TEXT: usize = 1_048_576;
 
 /// A text of at most 1,048,576 bytes.
-fn short_text(alloc: Global, part: &Value) -> Result<Text, Wrong>
+fn short_text(alloc: Global, part: &Value) -> Result<FileText, Wrong>
     ensures exact { Gives wrong_path (λ x. x) result (source (view part.now)) }
     ensures short { IfOk result (λ text. length text ≤ most_text) }
 {
-    let text = Text::read(alloc, part)?;
+    let text = FileText::read(alloc, part)?;
     if text.as_str().len() <= MOST_TEXT {
         Ok(text)
     } else {
@@ -92,7 +92,7 @@ fn short_text(alloc: Global, part: &Value) -> Result<Text, Wrong>
 }
 
 /// The text of the program in a file.
-pub(crate) fn source(alloc: Global, file: &Value) -> Result<Text, Wrong>
+pub(crate) fn source(alloc: Global, file: &Value) -> Result<FileText, Wrong>
     ensures exact { Gives wrong_path (λ x. x) result (field (codes "text") source (view file.now)) }
     ensures short { IfOk result (λ text. length text ≤ most_text) }
 {

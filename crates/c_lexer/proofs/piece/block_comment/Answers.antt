@@ -1,6 +1,6 @@
 use Rattle.std.proofs.Common.{Bool, subst, sym, ◌+◌}
 use Rattle.c_lexer.specs.Found.{Tells}
-use Rattle.c_lexer.specs.declared.piece.Found.TheVariants.{Space}
+use Rattle.c_lexer.specs.declared.piece.FoundPiece.TheVariants.{Space}
 use Rattle.c_lexer.proofs.Spaces.{block_comment_tells}
 use Rattle.c_lexer.proofs.piece.block_comment.Goals as goal
 

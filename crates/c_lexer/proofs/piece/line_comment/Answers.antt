@@ -3,7 +3,7 @@ use Rattle.std.specs.Prelude.{false, not}
 use Rattle.std.specs.List.{prefix_len}
 use Rattle.c_lexer.specs.Bytes.{is_newline}
 use Rattle.c_lexer.specs.Found.{Tells}
-use Rattle.c_lexer.specs.declared.piece.Found.TheVariants.{Space}
+use Rattle.c_lexer.specs.declared.piece.FoundPiece.TheVariants.{Space}
 use Rattle.c_lexer.proofs.Spaces.{line_comment_tells}
 use Rattle.c_lexer.proofs.piece.line_comment.Goals as goal
 

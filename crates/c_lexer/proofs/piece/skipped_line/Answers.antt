@@ -1,7 +1,7 @@
 use Rattle.std.proofs.Common.{◌∷◌, ℕ, ◌+◌, subst, sym, ◌∙◌, refl}
 use Rattle.std.specs.Prelude.{true, false}
 use Rattle.c_lexer.specs.Found.{Tells}
-use Rattle.c_lexer.specs.declared.piece.Found.TheVariants.{Space}
+use Rattle.c_lexer.specs.declared.piece.FoundPiece.TheVariants.{Space}
 use Rattle.c_lexer.proofs.Slices.{take_drop_all}
 use Rattle.c_lexer.proofs.Spaces.{skipped_line_tells}
 use Rattle.c_lexer.proofs.piece.skipped_line.Goals as goal

@@ -3,7 +3,7 @@ use Rattle.std.specs.Prelude.{not}
 use Rattle.std.specs.Char.{is_ascii_digit}
 use Rattle.c_lexer.specs.Bytes.{is_blank, is_newline, is_word_start}
 use Rattle.c_lexer.specs.Found.{Tells}
-use Rattle.c_lexer.specs.declared.piece.Found.TheVariants.{Space}
+use Rattle.c_lexer.specs.declared.piece.FoundPiece.TheVariants.{Space}
 use Rattle.c_lexer.proofs.Lexemes.{begins_with-first, word_at, mark_lexeme, mark_taken, no_token_begins}
 use Rattle.c_lexer.proofs.Spaces.{blank_at}
 use Rattle.c_lexer.proofs.piece.token_at.Goals as goal

@@ -2,7 +2,7 @@ use Rattle.std.proofs.Common.{sym, subst, ◌∙◌, arith, map}
 use Rattle.std.proofs.lemmas.List.{length-map, map_push}
 use Rattle.std.proofs.lemmas.Result.{err_from_is_err_and}
 use Rattle.items.specs.Gives.{FailsBy}
-use Rattle.c_parser.specs.Descent.{told}
+use Rattle.c_parser.specs.Descent.{exact_error}
 use Rattle.c_parser.specs.SourceItem.{source_item_of}
 use Rattle.c_parser.specs.Spots.{spots_of}
 use Rattle.c_parser.proofs.TextLoops.{shared-done, shared-fails, shared-more}
@@ -11,7 +11,7 @@ use Rattle.c_parser.proofs.item.shared_list.Goals as goal
 pub returns-in_err-next-clause-exact : goal.returns-in_err-next-clause-exact
 returns-in_err-next-clause-exact c =
     let p = err_from_is_err_and c.from_residual.result c.from_residual.ensures.1 in
-    rw (p.1, p.2) (subst (FailsBy (told c.in_err-next.field-0.0)) c.more.invariant.stated
+    rw (p.1, p.2) (subst (FailsBy (exact_error c.in_err-next.field-0.0)) c.more.invariant.stated
     (shared-fails (map source_item_of c.more.items, spots_of c.more.after.now) _
     (sym c.begins_with.ensures.exact ∙ c.more-test.true) (rw (← c.tail.ensures.exact) c.in_err-next.ensures.exact)))
 

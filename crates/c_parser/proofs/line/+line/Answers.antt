@@ -5,7 +5,7 @@ use Rattle.items.specs.Gives.{FailsBy, ◌>>=◌}
 use Rattle.syntax_tree.specs.SourceLine.{SourceLine, source_line_of}
 use Rattle.syntax_tree.proofs.SourceLines.{source_line_of-Block, source_line_of-If}
 use Rattle.c_parser.specs.declared.error.ParseError.{ParseError}
-use Rattle.c_parser.specs.Descent.{told}
+use Rattle.c_parser.specs.Descent.{exact_error}
 use Rattle.c_parser.specs.Spots.{Spot, spots_of}
 use Rattle.c_parser.specs.Statements.{LinesRead, line_read}
 use Rattle.c_parser.specs.Limits.{most_binary_operators}
@@ -17,7 +17,7 @@ use Rattle.c_parser.proofs.line.+line.Goals as goal
 pub entries-returns-in_err-more-clause-exact : goal.entries-returns-in_err-more-clause-exact
 entries-returns-in_err-more-clause-exact t c =
     let p = err_from_is_err_and c.from_residual.result c.from_residual.ensures.1 in
-    rw (p.1, p.2) (subst (FailsBy (told c.in_err-more.field-0.0)) c.entries.invariant.stated
+    rw (p.1, p.2) (subst (FailsBy (exact_error c.in_err-more.field-0.0)) c.entries.invariant.stated
     (entries-fail most_binary_operators (line_read most_binary_operators c.args.level) c.args.level (map source_line_of c.entries.lines, spots_of c.entries.after.now) _
     (sym c.begins_with.ensures.exact ∙ c.entries-test.true) c.in_err-more.ensures.exact))
 

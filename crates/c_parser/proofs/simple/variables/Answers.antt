@@ -3,7 +3,7 @@ use Rattle.std.proofs.lemmas.List.{length-map, map_push}
 use Rattle.std.proofs.lemmas.Result.{err_from_is_err_and}
 use Rattle.items.specs.Gives.{FailsBy}
 use Rattle.syntax_tree.specs.SourceLine.{source_line_of}
-use Rattle.c_parser.specs.Descent.{told}
+use Rattle.c_parser.specs.Descent.{exact_error}
 use Rattle.c_parser.specs.Spots.{spots_of}
 use Rattle.c_parser.specs.Limits.{most_binary_operators}
 use Rattle.c_parser.proofs.LineLoops.{variables-done, variables-fail, variables-more}
@@ -12,7 +12,7 @@ use Rattle.c_parser.proofs.simple.variables.Goals as goal
 pub returns-in_err-next-clause-exact : goal.returns-in_err-next-clause-exact
 returns-in_err-next-clause-exact c =
     let p = err_from_is_err_and c.from_residual.result c.from_residual.ensures.1 in
-    rw (p.1, p.2) (subst (FailsBy (told c.in_err-next.field-0.0)) c.more.invariant.stated
+    rw (p.1, p.2) (subst (FailsBy (exact_error c.in_err-next.field-0.0)) c.more.invariant.stated
     (variables-fail most_binary_operators c.args.levels (map source_line_of c.more.lines, spots_of c.more.after.now) _
     (sym c.begins_with.ensures.exact ∙ c.more-test.true) (rw (← c.tail.ensures.exact) c.in_err-next.ensures.exact)))
 

@@ -5,9 +5,9 @@ use Rattle.std.proofs.lemmas.Option.{slice_get_read}
 use Rattle.syntax_tree.specs.Term.{term_of}
 use Rattle.posing.proofs.Following.{stops}
 use Rattle.posing.proofs.Steps.{in_other_words}
-use Rattle.proc_summary.specs.declared.stop.Stop.{Stop}
+use Rattle.proc_summary.specs.declared.stop.NodeFormula.{NodeFormula}
 use Rattle.proc_summary.specs.Claims.{FitsIf}
-use Rattle.context.specs.declared.place.Place.{Place}
+use Rattle.context.specs.declared.place.AssertionPlace.{AssertionPlace}
 use Rattle.context.specs.Claims.{IsEntryIf}
 use Rattle.context.specs.Ends.{IsCondition, NoneFails}
 use Rattle.context.specs.Verdicts.{verdict_of}
@@ -35,13 +35,13 @@ verdict_at-requires-clause-cond g c =
     (check-within program c.args.proc there.0 there.1 c.args.graph.now c.requires.graph c.args.flow.now c.args.check (c.requires.flow there.0 there.1) c.requires.assertion) in
     let at : slice_get c.args.graph.now.checks c.args.check ≡ Some x =
     ap (λ l. slice_get l c.args.check) (sym c.as_slice-2.ensures) ∙ slice_get_read c.as_slice-2.result.now (length c.as_slice-2.result.now) c.args.check c.index-as_slice-check-2.result refl within c.index-as_slice-check-2.is ∙ ap (λ z. Some z) c.index-as_slice-check-2.is in
-    subst (λ (place : Place). IsCondition place.columns (term_of x.cond)) (sym (c.in_ok-place.ensures.exact there.0 there.1))
+    subst (λ (place : AssertionPlace). IsCondition place.columns (term_of x.cond)) (sym (c.in_ok-place.ensures.exact there.0 there.1))
     (cond-fits program c.args.proc there.0 there.1 c.args.graph.now c.requires.graph c.args.check x c.requires.formed at)
 
 pub verdict_at-requires-clause-entry : goal.verdict_at-requires-clause-entry
 verdict_at-requires-clause-entry g c =
     let there = got c.args.program.now.procs c.args.proc c.requires.procedure in
-    subst (λ (place : Place). IsEntryIf place.entry c.args.entry.now) (sym (c.in_ok-place.ensures.exact there.0 there.1)) (c.requires.entry there.0 there.1)
+    subst (λ (place : AssertionPlace). IsEntryIf place.entry c.args.entry.now) (sym (c.in_ok-place.ensures.exact there.0 there.1)) (c.requires.entry there.0 there.1)
 
 pub verdict_at-requires-clause-stand : goal.verdict_at-requires-clause-stand
 verdict_at-requires-clause-stand g c =
@@ -51,7 +51,7 @@ verdict_at-requires-clause-stand g c =
     let within = subst (λ l. c.args.check < length l) (sym c.as_slice.ensures) c.requires.assertion in
     let at : slice_get c.args.flow.now.checks c.args.check ≡ Some x =
     ap (λ l. slice_get l c.args.check) (sym c.as_slice.ensures) ∙ slice_get_read c.as_slice.result.now (length c.as_slice.result.now) c.args.check c.index-as_slice-check.result refl within c.index-as_slice-check.is ∙ ap (λ z. Some z) c.index-as_slice-check.is in
-    subst (λ (place : Place). FitsIf place.columns x.formula) (sym (c.in_ok-place.ensures.exact there.0 there.1))
+    subst (λ (place : AssertionPlace). FitsIf place.columns x.formula) (sym (c.in_ok-place.ensures.exact there.0 there.1))
     (stand-fits program there.0 c.args.flow.now c.args.check x (c.requires.flow there.0 there.1) at)
 
 pub returns-clause-follows : goal.returns-clause-follows
@@ -68,7 +68,7 @@ returns-clause-follows g c = λ p at stop is is_at is_stop.
     ap (λ l. slice_get l c.args.check) (sym c.as_slice.ensures) ∙ slice_get_read c.as_slice.result.now (length c.as_slice.result.now) c.args.check c.index-as_slice-check.result refl under c.index-as_slice-check.is ∙ ap (λ z. Some z) c.index-as_slice-check.is in
     let cond = cond-is program c.args.proc p is c.args.graph.now c.requires.graph c.args.check x at x_at is_at in
     let same = some-one (slice_get c.args.flow.now.checks c.args.check) y stop y_at is_stop in
-    in_other_words (λ i. verdict_of (c.in_ok-place.ensures.exact p is i) (cond i) c.args.entry.now (Stop.formula (same i))) c.verdict_at.ensures.follows
+    in_other_words (λ i. verdict_of (c.in_ok-place.ensures.exact p is i) (cond i) c.args.entry.now (NodeFormula.formula (same i))) c.verdict_at.ensures.follows
 
 pub returns-clause-sound : goal.returns-clause-sound
 returns-clause-sound g c = λ p at is is_at enters holds proved fails.

@@ -8,8 +8,8 @@ use Rattle.context.proofs.Numbered.{proc-fit}
 use Rattle.context.proofs.Placed.{full-columns, got, named-some, place-is, shown-is}
 use Rattle.context.proofs.place.place_of.Goals as goal
 
-pub shown_in-requires : goal.shown_in-requires
-shown_in-requires c =
+pub shown_columns-requires : goal.shown_columns-requires
+shown_columns-requires c =
     let there = got c.args.program.now.procs c.args.proc c.requires.procedure in
     subst (λ (voc : Vocabulary). 0 < length voc.named) (sym (c.in_ok-full.ensures there.0 there.1)) (named-some c.args.program.now there.0)
 

@@ -3,9 +3,9 @@ use Rattle.std.proofs.lemmas.List.{length-map}
 use Rattle.linear_terms.specs.declared.row.Case.{Case}
 use Rattle.syntax_tree.specs.Term.{term_of}
 use Rattle.transition_formula.specs.Composition.{sequence_of}
-use Rattle.transition_formula.specs.Hiding.{hidden, lost_in_hiding}
+use Rattle.transition_formula.specs.Hiding.{hidden, losses_in_hiding}
 use Rattle.transition_formula.specs.Transition.{AreFew, Transition}
-use Rattle.context.specs.Entries.{told_of}
+use Rattle.context.specs.Entries.{stand_from_entry}
 use Rattle.context.proofs.CallLeaves.{handing-is, hiding-few, hiding-within, losses-join, meets, pairs-few, sequence-losses}
 use Rattle.context.proofs.stand.call_leaf.Goals as goal
 
@@ -30,7 +30,7 @@ seq-requires-clause-between c =
 pub seq-requires-clause-few : goal.seq-requires-clause-few
 seq-requires-clause-few c =
     subst (λ (f : Transition). AreFew f c.in_ok-handing.handing) (sym (c.in_ok-told.ensures.exact ∙ ap (hidden c.args.widths.entry) c.in_ok-stand.ensures.exact))
-    (subst (λ (f : Transition). AreFew (told_of c.args.widths c.args.stand.now) f) (sym (handing-is c.args.widths c.args.args.now c.in_ok-handing.handing c.in_ok-handing.ensures.exact))
+    (subst (λ (f : Transition). AreFew (stand_from_entry c.args.widths c.args.stand.now) f) (sym (handing-is c.args.widths c.args.args.now c.in_ok-handing.handing c.in_ok-handing.ensures.exact))
     (pairs-few c.args.widths c.requires.widths c.args.stand.now c.requires.stand (map term_of c.args.args.now) c.requires.arguments))
 
 pub returns-clause-exact : goal.returns-clause-exact
@@ -41,7 +41,7 @@ returns-clause-exact c =
 pub returns-clause-noted : goal.returns-clause-noted
 returns-clause-noted c =
     losses-join c.args.losses.now _ _ _ _ _ _
-    (c.in_ok-told.ensures.noted ∙ ap (λ f. c.args.losses.now ++ lost_in_hiding c.args.widths.entry f) c.in_ok-stand.ensures.exact)
+    (c.in_ok-told.ensures.noted ∙ ap (λ f. c.args.losses.now ++ losses_in_hiding c.args.widths.entry f) c.in_ok-stand.ensures.exact)
     c.in_ok-handing.ensures.noted
     (c.in_ok-leaf.ensures.noted
     ∙ sequence-losses _ _ _ _ _ (c.in_ok-told.ensures.exact ∙ ap (hidden c.args.widths.entry) c.in_ok-stand.ensures.exact) (handing-is c.args.widths c.args.args.now c.in_ok-handing.handing c.in_ok-handing.ensures.exact))

@@ -8,6 +8,6 @@ returns-clause-reply c =
     let file = c.args.file in
     let checked = c.in_ok-checked.checked in
     let text : c.as_bytes.result.now ≡ file.text = search rules in
-    let renewed = subst (λ (text : List ℕ). IfOk c.renewed.result (IsRenewedBy text checked)) text c.renewed.ensures.reply in
-    where-ok c.renewed.result (IsRenewedBy file.text checked) (IsRenewed file)
+    let renewed = subst (λ (text : List ℕ). IfOk c.renewed_reply.result (IsRenewedBy text checked)) text c.renewed_reply.ensures.reply in
+    where-ok c.renewed_reply.result (IsRenewedBy file.text checked) (IsRenewed file)
     (λ reply is. record { checked = checked; is_checked = c.in_ok-checked.ensures.reply; is_renewed = is }) renewed

@@ -3,7 +3,7 @@ use Rattle.std.proofs.Common.{subst}
 use Rattle.items.specs.Gives.{FailsBy}
 use Rattle.farkas_check.specs.Ratios.{IsLowest}
 use Rattle.simplex.specs.Exchange.{cause}
-use Rattle.simplex.specs.declared.stop.Stop.{Stop}
+use Rattle.simplex.specs.declared.stop.SearchStop.{SearchStop}
 use Rattle.elimination.specs.Equations.{least_numerators}
 use Rattle.elimination.proofs.NullVectors.{null_vector_is, never_wide}
 use Rattle.elimination.proofs.null_vectors.over_least.Goals as goal
@@ -14,4 +14,4 @@ returns-in-Ok c = null_vector_is c.args.lines.now c.args.values.now c.in-Ok.numb
 pub unreachable-requires : goal.unreachable-requires
 unreachable-requires c =
     never_wide c.args.lines.now c.args.values.now c.in-Err-Wide._step c.requires.lines c.requires.solution (recursion_from_All IsLowest c.args.values.now c.lowest_ratios.ensures)
-    (subst (λ (stop : Stop). FailsBy (cause stop) (least_numerators c.args.values.now)) c.in-Err-Wide.field-0-is c.in-Err-Wide.ensures)
+    (subst (λ (stop : SearchStop). FailsBy (cause stop) (least_numerators c.args.values.now)) c.in-Err-Wide.field-0-is c.in-Err-Wide.ensures)

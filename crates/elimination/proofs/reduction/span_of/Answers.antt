@@ -9,6 +9,6 @@ loop-row-init c = none_yet
 
 pub loop-row-preserved : goal.loop-row-preserved
 loop-row-preserved c =
-    next_row c.args.rows.now c.loop-row.row-index c.row-item.result c.cleared.result c.loop-row.space c.with-space.result (omega arith) c.row-item.is
+    next_row c.args.rows.now c.loop-row.row-index c.row-item.result c.cleared_row.result c.loop-row.space c.with-space.result (omega arith) c.row-item.is
     (few_at c.args.rows.now c.loop-row.row-index c.row-item.result c.requires (omega arith) c.row-item.is)
-    (subst (λ (row : List Fraction). IsClearing row c.cleared.result) c.as_slice.ensures c.cleared.ensures) c.loop-row.invariant c.with-space.ensures
+    (subst (λ (row : List Fraction). IsClearing row c.cleared_row.result) c.as_slice.ensures c.cleared_row.ensures) c.loop-row.invariant c.with-space.ensures

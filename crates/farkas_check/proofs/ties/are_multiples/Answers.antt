@@ -8,7 +8,7 @@ use Rattle.linear_terms.specs.declared.row.Row.{Row}
 use Rattle.farkas_check.specs.Listing.{columns_in}
 use Rattle.farkas_check.specs.Multiples.{sum_from, number_at}
 use Rattle.farkas_check.specs.Relations.{Side, sides, numbers_of, with_sides, coefficient_at}
-use Rattle.farkas_check.specs.Steps.{scaled_by, are_multiples}
+use Rattle.farkas_check.specs.Steps.{scaled_number, are_multiples}
 use Rattle.farkas_check.specs.Walk.{columns_after}
 use Rattle.farkas_check.proofs.ties.are_multiples.Goals as goal
 use Rattle.farkas_check.proofs.ties.are_multiples.Goals.{then-same, else-same}
@@ -37,7 +37,7 @@ are_multiples-next times before multiple now rows by ns ss c cs told same = firs
 
 pub loop-column-preserved : goal.loop-column-preserved
 loop-column-preserved c =
-    let times = scaled_by c.args.multiples.now.half c.args.multiples.now.scale in
+    let times = scaled_number c.args.multiples.now.half c.args.multiples.now.scale in
     let rows = c.args.case.now.rows in
     let by = c.args.multiples.now.by.now in
     let ns = numbers_of c.args.relation.now in

@@ -1,13 +1,13 @@
 use Rattle.std.proofs.Common.{◌≡◌, Ok, true, ◌∙◌, rules}
 use Rattle.farkas_check.specs.Listing.{columns_in}
 use Rattle.farkas_check.specs.Relations.{sides, numbers_of}
-use Rattle.farkas_check.specs.Steps.{scaled_by, are_multiples}
+use Rattle.farkas_check.specs.Steps.{scaled_number, are_multiples}
 use Rattle.farkas_check.proofs.OwnColumns.{with_half_constants-is}
 use Rattle.farkas_check.proofs.ties.tested_multiple.Goals as goal
 
 pub returns-in-Ok : goal.returns-in-Ok
 returns-in-Ok c =
-    let times = scaled_by c.args.multiples.now.half c.args.multiples.now.scale in
+    let times = scaled_number c.args.multiples.now.half c.args.multiples.now.scale in
     let cs = columns_in c.args.columns.now in
     let rows = c.args.case.now.rows in
     let ns = numbers_of c.args.relation.now in

@@ -1,6 +1,6 @@
 use Rattle.std.proofs.Common.{◌≡◌, ◌<◌, ◌+◌, length, sym, subst, arith, ◌∙◌}
 use Rattle.std.proofs.lemmas.List.{get_or_default}
-use Rattle.flow_graph.specs.declared.components.Mark.TheVariants.{New}
+use Rattle.flow_graph.specs.declared.components.NumberMark.TheVariants.{New}
 use Rattle.flow_graph.specs.declared.components.Search.{Search}
 use Rattle.flow_graph.specs.Search.{state_of, mark_of, AreDone}
 use Rattle.flow_graph.proofs.Searching.{done_already, done_by_visit, none_on_path}

@@ -1,7 +1,7 @@
 use Rattle.std.proofs.Common.{◌≡◌, ℕ, List, [], ◌∷◌, ◌++◌, length, get_or, set, ap, refl, sym, subst, arith, ◌∙◌}
 use Rattle.std.proofs.lemmas.List.{get_or_default}
 use Rattle.flow_graph.specs.Components.{group_at}
-use Rattle.flow_graph.specs.Reaching.{called_by}
+use Rattle.flow_graph.specs.Reaching.{callees_of}
 use Rattle.flow_graph.specs.Plans.{AreFilled, empty_rows}
 use Rattle.flow_graph.proofs.Filling.{none_filled, one_more_filled}
 use Rattle.flow_graph.proofs.planning.plan.Goals as goal
@@ -19,7 +19,7 @@ loop-p-preserved c =
     let members = c.loop-p.members.items in
     let rows = c.loop-p.rows.items in
     let g : c.group_at-group.result ≡ group_at c.args.groups k = c.group_at-group.ensures ∙ ap (λ (xs : List ℕ). group_at xs k) c.as_slice.ensures in
-    let more : c.in_ok-more.more ≡ called_by calls k =
+    let more : c.in_ok-more.more ≡ callees_of calls k =
     c.in_ok-more.ensures ∙ c.as_slice-in-loop-p.ensures ∙ c.index-calls-p.is ∙ get_or_default calls k _ [] (omega (arith, c.loop-p-test.true, c.requires.all)) in
     one_more_filled calls c.args.groups c.args.count k members rows c.loop-p.invariant
     (c.requires.within k (omega (arith, c.loop-p-test.true, c.requires.all))) c.add.new.rows.items c.extend.new.rows.items

@@ -38,24 +38,24 @@ the_field = via (pair (const (Ptr × Global)) this) Inside
     }) (λ X fields. refl) (λ X parts. refl)
 
 -- the same box round another value
-abbrev refilled : {X Y : Type 0} → Box X Global → Y → Box Y Global
-refilled b value = record { ptr = b.ptr; alloc = b.alloc; value = value }
+abbrev box_with : {X Y : Type 0} → Box X Global → Y → Box Y Global
+box_with b value = record { ptr = b.ptr; alloc = b.alloc; value = value }
 
 abbrev box_of : RattleType → RattleType
 box_of R = box.the_row R heap.the_row ghosts
 
 module _ (R S : RattleType) (h : R.Denot → S.Denot) where
-  boxes_alike : Alike R S h → Alike (box_of R) (box_of S) (λ b. refilled b (h b.value))
+  boxes_alike : Alike R S h → Alike (box_of R) (box_of S) (λ b. box_with b (h b.value))
   unfolding part_of
   boxes_alike alike = record {
     mir_same = λ i.
         (box_of (one_value R (alike.mir_same i) (λ _. ftrue) (λ _ _. nothing) gnil)).mir;
     own_same = λ b i.
         (box_of (one_value R (alike.mir_same i) (alike.own_same b.value i)
-        (alike.shr_same b.value i) gnil)).own_val (refilled b tt);
+        (alike.shr_same b.value i) gnil)).own_val (box_with b tt);
     shr_same = λ b i.
         (box_of (one_value R (alike.mir_same i) (alike.own_same b.value i)
-        (alike.shr_same b.value i) gnil)).shr_at (refilled b tt);
+        (alike.shr_same b.value i) gnil)).shr_at (box_with b tt);
   }
 
   pub the_places : Alike R S h
@@ -65,7 +65,7 @@ module _ (R S : RattleType) (h : R.Denot → S.Denot) where
       (invariant R.Denot) (invariant S.Denot) (λ fields p q. refl) (λ fields p q. refl)
       (λ fields p. tt) (λ fields p. tt)
       (over (inside.the_row R)) (over (inside.the_row S))
-      (struct_places (inside.the_type R) (inside.the_type S) ((λ b. refilled b (h b.value)), tt) _
+      (struct_places (inside.the_type R) (inside.the_type S) ((λ b. box_with b (h b.value)), tt) _
       (λ fields. refl) refl
       (laid _ _ _ (boxes_alike alike), tt))
 

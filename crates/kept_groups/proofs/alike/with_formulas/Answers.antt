@@ -1,5 +1,5 @@
 use Rattle.std.proofs.Common.{◌∙◌, ap, get_or}
-use Rattle.kept_groups.specs.OneGroup.{known_at}
+use Rattle.kept_groups.specs.OneGroup.{with_summary_at}
 use Rattle.kept_groups.proofs.Searching.{got, put-next}
 use Rattle.kept_groups.proofs.alike.with_formulas.Goals as goal
 
@@ -10,5 +10,5 @@ loop-index-preserved c =
     let i = c.loop-index.index in
     let known = c.loop-index.made.items in
     let one = got _ c.get.result formulas i c.get.ensures.lookup.1 c.get.ensures.lookup.3 in
-    put-next places formulas i known c.in_ok-made.made.items c.loop-index-test.true (c.in_ok-made.ensures ∙ ap (λ f. known_at (get_or places i 0) f known) one)
+    put-next places formulas i known c.in_ok-made.made.items c.loop-index-test.true (c.in_ok-made.ensures ∙ ap (λ f. with_summary_at (get_or places i 0) f known) one)
     ∙ c.loop-index.invariant

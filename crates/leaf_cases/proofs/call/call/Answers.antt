@@ -15,7 +15,7 @@ pub seq-requires-clause-few : goal.seq-requires-clause-few
 seq-requires-clause-few c =
     call_few c.args.widths.columns c.args.widths.globals (map term_of c.args.args.now) c.args.into c.args.callee.now c.in_ok-before.before c.in_ok-after.after c.requires.below c.requires.operators c.requires.narrow c.requires.widths c.requires.few
     (first_is c.args.widths.columns c.args.widths.globals c.args.args.now _ c.as_slice.result.now c.in_ok-values.values c.in_ok-before.before (omega arith) c.in_ok-values.ensures.exact c.as_slice.ensures c.in_ok-before.ensures)
-    (c.in_ok-after.ensures ∙ ap (λ n. cut n c.args.callee.now) c.awaited.ensures)
+    (c.in_ok-after.ensures ∙ ap (λ n. cut n c.args.callee.now) c.awaited_count.ensures)
 
 pub returns-clause-exact : goal.returns-clause-exact
 returns-clause-exact c =
@@ -28,5 +28,5 @@ returns-clause-exact c =
           ∙ ap (λ (f : Transition). f.cases) (c.in_ok-made.ensures.exact
           ∙ (λ j. sequence_of
           (first_is c.args.widths.columns c.args.widths.globals c.args.args.now _ c.as_slice.result.now c.in_ok-values.values c.in_ok-before.before (omega arith) c.in_ok-values.ensures.exact c.as_slice.ensures c.in_ok-before.ensures j)
-          ((c.in_ok-after.ensures ∙ ap (λ n. cut n c.args.callee.now) c.awaited.ensures) j)))) i);
+          ((c.in_ok-after.ensures ∙ ap (λ n. cut n c.args.callee.now) c.awaited_count.ensures) j)))) i);
     })

@@ -13,8 +13,8 @@ pub calculation_cases-number_cases-requires : goal.calculation_cases-number_case
 calculation_cases-number_cases-requires t c =
     calculated_few (term_of c.args.left.now) (term_of c.args.right.now) c.requires.left c.requires.right c.args.step c.as_slice.result.now c.in_ok-pairs.pairs c.in_ok-values.values c.in_ok-pairs.ensures.exact c.as_slice.ensures c.in_ok-values.ensures.exact
 
-pub compared-tests_by-requires : goal.compared-tests_by-requires
-compared-tests_by-requires t c = pairs_few (term_of c.args.left.now) (term_of c.args.right.now) c.requires.left c.requires.right c.as_slice.result.now c.in_ok-pairs.pairs c.in_ok-pairs.ensures.exact c.as_slice.ensures
+pub cases_of_comparison-tests_by-requires : goal.cases_of_comparison-tests_by-requires
+cases_of_comparison-tests_by-requires t c = pairs_few (term_of c.args.left.now) (term_of c.args.right.now) c.requires.left c.requires.right c.as_slice.result.now c.in_ok-pairs.pairs c.in_ok-pairs.ensures.exact c.as_slice.ensures
 
 pub joint_cases-both-requires-clause-firsts : goal.joint_cases-both-requires-clause-firsts
 joint_cases-both-requires-clause-firsts t c = found_ready (term_of c.args.left.now) c.args.first c.as_slice.result.now c.in_ok-firsts.firsts c.requires.left c.in_ok-firsts.ensures.exact c.as_slice.ensures

@@ -24,8 +24,8 @@ decreases-conjunction_cases l = 8 * (operators_of (term_of l.left.now) + operato
 abbrev pub decreases-disjunction_cases : goal.decreases-disjunction_cases
 decreases-disjunction_cases l = 8 * (operators_of (term_of l.left.now) + operators_of (term_of l.right.now)) + 3
 
-abbrev pub decreases-compared : goal.decreases-compared
-decreases-compared l = 8 * (operators_of (term_of l.left.now) + operators_of (term_of l.right.now)) + 2
+abbrev pub decreases-cases_of_comparison : goal.decreases-cases_of_comparison
+decreases-cases_of_comparison l = 8 * (operators_of (term_of l.left.now) + operators_of (term_of l.right.now)) + 2
 
 abbrev pub decreases-early_cases : goal.decreases-early_cases
 decreases-early_cases l = 8 * (operators_of (term_of l.left.now) + operators_of (term_of l.right.now)) + 2

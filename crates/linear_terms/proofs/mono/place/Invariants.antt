@@ -1,11 +1,11 @@
 use Rattle.std.proofs.Common.{◌≡◌, ℕ, ◌+◌, List, length, take, drop}
 use Rattle.linear_terms.specs.declared.col.Col.{Col}
-use Rattle.linear_terms.specs.Mono.{placed}
+use Rattle.linear_terms.specs.Mono.{with_column}
 use Rattle.linear_terms.proofs.Placed.{so_far}
 use Rattle.linear_terms.proofs.mono.place.Given as goal
 
 pub record SoFar (before cells : List Col) (i len : ℕ) (col carried : Col) : Type 0 where
-  pub same : so_far cells i len carried ≡ placed (take len before) col
+  pub same : so_far cells i len carried ≡ with_column (take len before) col
   pub after : drop (len + 1) cells ≡ drop (len + 1) before
   pub size : length cells ≡ 4
 

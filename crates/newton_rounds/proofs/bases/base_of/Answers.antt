@@ -5,7 +5,7 @@ use Rattle.posing.proofs.Steps.{at_end, error_first, in_other_words, notes_first
 use Rattle.proc_summary.specs.Claims.{FitsIf}
 use Rattle.newton_rounds.specs.Between.{GoesBetween}
 use Rattle.newton_rounds.specs.Closure.{pair_ends}
-use Rattle.newton_rounds.specs.Pairs.{base_from, lost_in_base}
+use Rattle.newton_rounds.specs.Pairs.{base_from, losses_in_base}
 use Rattle.newton_rounds.specs.Shapes.{AreEnds}
 use Rattle.newton_rounds.proofs.Based.{base-goes}
 use Rattle.newton_rounds.proofs.Below.{full-columns, some_at}
@@ -41,7 +41,7 @@ returns-clause-follows g c = λ p is.
     let ends = c.in_ok-ends.ensures p is in
     in_other_words (base-by-exit c.args.program.now c.args.known.now p)
     (value_first (noted_base (pair_ends c.args.program.now p)) (c.in_ok-exit.ensures.follows p is) refl
-    (notes_first c.in_ok-noted_base.ensures.noted (ap (λ m. loss_notes (lost_in_base m exit)) ends)
+    (notes_first c.in_ok-noted_base.ensures.noted (ap (λ m. loss_notes (losses_in_base m exit)) ends)
     (at_end (c.in_ok-noted_base.ensures.made ∙ ap (λ m. base_from m exit) ends))))
 
 pub returns-clause-goes : goal.returns-clause-goes

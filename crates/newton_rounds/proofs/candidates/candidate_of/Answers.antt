@@ -4,7 +4,7 @@ use Rattle.std.specs.List.{AllByRecursion}
 use Rattle.std.proofs.lemmas.Bool.{false≢true}
 use Rattle.linear_terms.specs.declared.row.Case.{Case}
 use Rattle.posing.specs.Posing.{each}
-use Rattle.polyhedra.specs.Bounds.{IsCoveredByPosts, bounded_after}
+use Rattle.polyhedra.specs.Bounds.{IsCoveredByPosts, rows_with_exit_bound}
 use Rattle.polyhedra.specs.Directions.{directions}
 use Rattle.leaf_cases.specs.Guard.{columns_of}
 use Rattle.posing.proofs.Steps.{in_other_words}
@@ -29,7 +29,7 @@ returns-clause-follows g c =
     let m = c.args.member.now in
     let f = c.args.f.now in
     in_other_words
-    (ap (λ (cases : List Case). each (bounded_after cases (columns_of m.pair.columns)) [] (directions m.pair)) (c.as_slice.ensures ∙ c.in_ok-cases.ensures)
+    (ap (λ (cases : List Case). each (rows_with_exit_bound cases (columns_of m.pair.columns)) [] (directions m.pair)) (c.as_slice.ensures ∙ c.in_ok-cases.ensures)
     ∙ sym (candidate-some m f.from f.cases (λ none. false≢true (sym c.if-is_empty.false ∙ c.is_empty.ensures ∙ ap (λ (xs : List Case). length xs == 0) (c.cases.ensures.cases ∙ none))))) c.pair_bounds.ensures
 
 pub returns-clause-over : goal.returns-clause-over

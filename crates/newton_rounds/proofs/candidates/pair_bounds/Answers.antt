@@ -2,7 +2,7 @@ use Rattle.std.proofs.Common.{◌≡◌, [], ◌∙◌, List, length, sym, ap, s
 use Rattle.std.specs.Prelude.{All}
 use Rattle.linear_terms.specs.Polynomial.{Polynomial}
 use Rattle.posing.specs.Posing.{each}
-use Rattle.polyhedra.specs.Bounds.{IsCovered, IsCoveredByPosts, bounded_after}
+use Rattle.polyhedra.specs.Bounds.{IsCovered, IsCoveredByPosts, rows_with_exit_bound}
 use Rattle.polyhedra.specs.Directions.{directions}
 use Rattle.polyhedra.specs.Vocabulary.{Vocabulary}
 use Rattle.leaf_cases.specs.Guard.{columns_of}
@@ -29,4 +29,4 @@ returns g c =
     let voc : c.member.inside.pair ≡ m.pair = ap (λ (p : PairEnds). p.pair) c.member.view_is in
     let asked : c.as_slice-2.result.now ≡ directions m.pair = c.as_slice-2.ensures ∙ c.in_ok-asked.ensures ∙ ap directions voc in
     let after : c.as_slice.result.now ≡ columns_of m.pair.columns = c.as_slice.ensures ∙ c.in_ok-after.ensures ∙ ap (columns_from 0) (c.columns.ensures.columns ∙ ap (λ (v : Vocabulary). v.columns) voc) in
-    in_other_words (λ i. each (bounded_after c.args.cases.now (after i)) (c.new.ensures i) (asked i)) c.bounds_after.ensures
+    in_other_words (λ i. each (rows_with_exit_bound c.args.cases.now (after i)) (c.new.ensures i) (asked i)) c.bounds_after.ensures

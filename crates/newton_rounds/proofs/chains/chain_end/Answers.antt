@@ -1,6 +1,6 @@
 use Rattle.std.proofs.Common.{◌≡◌, ◌<◌, ◌++◌, ◌∙◌, length, sym, subst, ap, arith}
 use Rattle.std.specs.Prelude.{IfOk, OnOk}
-use Rattle.transition_formula.specs.Composition.{sequence_of, lost_in_sequence}
+use Rattle.transition_formula.specs.Composition.{sequence_of, losses_in_sequence}
 use Rattle.transition_formula.specs.Transition.{AreFew, Transition}
 use Rattle.newton_rounds.specs.Between.{chain_to}
 use Rattle.newton_rounds.proofs.Chained.{base-read, bases-length, chain-read, end-few, meets}
@@ -39,4 +39,4 @@ returns-clause-noted c =
     let first = chain-read c.args.members.now c.args.cells.now c.args.place c.args.n c.width_at-from.result c.width_at-to.result c.index-cells-n.result c.in_ok-first.first
     (let each = chained.each_cell.each in let lt = c.requires.there in omega (arith, each, lt)) c.width_at-from.ensures c.width_at-to.ensures c.index-cells-n.is c.in_ok-first.ensures in
     let second = base-read c.args.members.now c.args.bases.now c.args.n c.index-bases-n.result c.requires.there chained.each_base c.index-bases-n.is in
-    subst (λ t. OnOk c.seq.result (c.seq.new.losses ≡ c.args.lost.now ++ t)) (λ i. lost_in_sequence (first i) (second i)) c.seq.ensures.noted
+    subst (λ t. OnOk c.seq.result (c.seq.new.losses ≡ c.args.lost.now ++ t)) (λ i. losses_in_sequence (first i) (second i)) c.seq.ensures.noted

@@ -1,7 +1,7 @@
 use Rattle.std.proofs.Common.{◌≡◌, ◌∙◌, length, sym, ap, subst, refl}
 use Rattle.transition_formula.specs.Transition.{IsTransition}
 use Rattle.newton_rounds.specs.Between.{width_at}
-use Rattle.newton_rounds.specs.Closure.{chain_end, chains_of, lost_in_chain_end}
+use Rattle.newton_rounds.specs.Closure.{chain_end, chains_of, losses_in_chain_end}
 use Rattle.newton_rounds.proofs.Chained.{chains-go, others-end, others-next}
 use Rattle.newton_rounds.proofs.chains.chains_of.Goals as goal
 
@@ -13,7 +13,7 @@ loop-n-preserved c =
     let place = c.args.place in
     record {
       made = others-next (λ n. (chain_end members bases cells place n).cases) place c.loop-n.n (length members) c.loop-n.cases c.add_others.new.cases _ c.loop-n-test.true c.in_ok-add_others.ensures.made c.loop-n.invariant.made;
-      noted = others-next (lost_in_chain_end members bases cells place) place c.loop-n.n (length members) c.loop-n.lost c.add_others.new.lost _ c.loop-n-test.true c.in_ok-add_others.ensures.noted c.loop-n.invariant.noted;
+      noted = others-next (losses_in_chain_end members bases cells place) place c.loop-n.n (length members) c.loop-n.lost c.add_others.new.lost _ c.loop-n-test.true c.in_ok-add_others.ensures.noted c.loop-n.invariant.noted;
     }
 
 pub from_cases-requires : goal.from_cases-requires

@@ -4,7 +4,7 @@ use Rattle.posing.specs.Posing.{each}
 use Rattle.posing.proofs.Following.{leads_none}
 use Rattle.posing.proofs.Steps.{all_left, at_end, error_first, first_left, in_other_words, value_has}
 use Rattle.newton_rounds.specs.Between.{AreCandidates, IsMember}
-use Rattle.newton_rounds.specs.Close.{paired_up, with_candidate}
+use Rattle.newton_rounds.specs.Close.{pairs_of, with_candidate}
 use Rattle.newton_rounds.proofs.Closed.{candidates-over, next-paired, paired-end, summary-read}
 use Rattle.newton_rounds.proofs.Grouped.{each-read}
 use Rattle.newton_rounds.proofs.Summed.{summaries-length}
@@ -12,7 +12,7 @@ use Rattle.newton_rounds.proofs.closing.candidates_of.Goals as goal
 
 pub loop-place-init : goal.loop-place-init
 loop-place-init g c =
-    let all = paired_up c.args.members.now c.args.table.now in
+    let all = pairs_of c.args.members.now c.args.table.now in
     subst (λ made. Leads g.O.Oracle.asking c.args.oracle.now c.args.oracle.now c.args.log.now c.args.log.now (each with_candidate [] all) (each with_candidate made all)) (sym c.new-made.ensures) (leads_none _ _ _ _)
 
 pub bounds-table-place : goal.bounds-table-place
@@ -33,7 +33,7 @@ returns-in_err-made-clause-follows g c =
     let next = next-paired members table place c.index-members-place.result c.index-table-place.result c.loop-place-test.true (summaries-length members table c.requires.table) c.index-members-place.is c.index-table-place.is in
     all_left c.loop-place.invariant
     (in_other_words (ap (each with_candidate c.loop-place.made) (sym next))
-    (error_first (λ made. each with_candidate made (paired_up (drop (place + 1) members) (drop (place + 1) table))) c.in_err-made.ensures refl c.from_residual.ensures.1))
+    (error_first (λ made. each with_candidate made (pairs_of (drop (place + 1) members) (drop (place + 1) table))) c.in_err-made.ensures refl c.from_residual.ensures.1))
 
 pub loop-place-preserved : goal.loop-place-preserved
 loop-place-preserved g c =
@@ -41,7 +41,7 @@ loop-place-preserved g c =
     let table = c.args.table.now in
     let place = c.loop-place.place in
     let next = next-paired members table place c.index-members-place.result c.index-table-place.result c.loop-place-test.true (summaries-length members table c.requires.table) c.index-members-place.is c.index-table-place.is in
-    first_left (λ made. each with_candidate made (paired_up (drop (place + 1) members) (drop (place + 1) table))) c.loop-place.invariant (ap (each with_candidate c.loop-place.made) next) c.in_ok-made.ensures refl
+    first_left (λ made. each with_candidate made (pairs_of (drop (place + 1) members) (drop (place + 1) table))) c.loop-place.invariant (ap (each with_candidate c.loop-place.made) next) c.in_ok-made.ensures refl
 
 pub returns-clause-follows : goal.returns-clause-follows
 returns-clause-follows g c =

@@ -7,5 +7,5 @@ pub returns-clause-met : goal.returns-clause-met
 returns-clause-met g c = λ met knows tells.
     let program = c.args.program.now in
     let procs = c.args.procs.now in
-    passing-result (AreMetMembers program procs) c.closed_of.result c.closed_of.ensures.follows
+    passing-result (AreMetMembers program procs) c.group_closure.result c.group_closure.ensures.follows
     (summaries-met program procs c.args.known.now c.args.linear c.requires.formed c.requires.there c.requires.few c.requires.known met knows tells)

@@ -6,7 +6,7 @@ use Rattle.posing.specs.Posing.{◌>>=◌, Done, each}
 use Rattle.posing.proofs.Steps.{at_end, value_first}
 use Rattle.newton_rounds.specs.Between.{AreCandidates, AreSummaries, IsMember}
 use Rattle.newton_rounds.specs.Candidates.{kept_candidates, table_of}
-use Rattle.newton_rounds.specs.Close.{paired_up, rounds_over, with_candidate}
+use Rattle.newton_rounds.specs.Close.{pairs_of, rounds_over, with_candidate}
 use Rattle.newton_rounds.specs.Closure.{ends_of_members}
 use Rattle.newton_rounds.specs.Pairs.{PairEnds}
 use Rattle.newton_rounds.proofs.Gathered.{all-members}
@@ -38,7 +38,7 @@ returns-clause-follows g c =
     let known = c.args.known.now in
     let all = ends_of_members program procs in
     value_first (λ candidates. kept_candidates program procs known candidates >>= λ kept. Done (table_of all kept)) c.in_ok-candidates.ensures.follows
-    (ap (λ members. each with_candidate [] (paired_up members c.args.table.now)) c.requires.members)
+    (ap (λ members. each with_candidate [] (pairs_of members c.args.table.now)) c.requires.members)
     (value_first (λ kept. Done (table_of all kept)) c.in_ok-kept.ensures.follows refl (at_end (c.in_ok-table_of.ensures ∙ (λ i. table_of (c.requires.members i) (c.as_slice.ensures i)))))
 
 pub returns-clause-fits : goal.returns-clause-fits

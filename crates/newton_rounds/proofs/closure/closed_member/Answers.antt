@@ -1,13 +1,13 @@
 use Rattle.std.proofs.Common.{◌≡◌, map, sym, ap, subst, refl}
 use Rattle.posing.proofs.Steps.{in_other_words, value_first}
 use Rattle.newton_rounds.specs.Between.{AreChained}
-use Rattle.newton_rounds.specs.Closure.{closed_by, closed_member, stretches_with}
+use Rattle.newton_rounds.specs.Closure.{closure_at, closed_member, stretches_with}
 use Rattle.newton_rounds.specs.Shapes.{plain_call}
 use Rattle.newton_rounds.proofs.Summed.{chained-by}
 use Rattle.newton_rounds.proofs.closure.closed_member.Goals as goal
 
-pub closed_by-requires : goal.closed_by-requires
-closed_by-requires g c =
+pub closure_at-requires : goal.closure_at-requires
+closure_at-requires g c =
     let members = c.args.members.now in
     let stretches = stretches_with (map plain_call c.args.calls.now) c.args.sides.now in
     subst (AreChained members c.args.bases.now c.args.place) (sym c.as_slice.ensures)
@@ -16,5 +16,5 @@ closed_by-requires g c =
 pub returns : goal.returns
 unfolding closed_member
 returns g c =
-    value_first (λ cells. closed_by c.args.members.now c.args.bases.now c.args.place cells) c.in_ok-cells.ensures.follows refl
-    (in_other_words (ap (closed_by c.args.members.now c.args.bases.now c.args.place) c.as_slice.ensures) c.closed_by.ensures)
+    value_first (λ cells. closure_at c.args.members.now c.args.bases.now c.args.place cells) c.in_ok-cells.ensures.follows refl
+    (in_other_words (ap (closure_at c.args.members.now c.args.bases.now c.args.place) c.as_slice.ensures) c.closure_at.ensures)

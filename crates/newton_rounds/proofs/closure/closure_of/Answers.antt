@@ -34,15 +34,15 @@ sides_by-requires-clause-few g c =
     let most = few-procs program c.requires.formed procs there c.requires.few in
     omega (arith, most)
 
-pub closed-requires-clause-each : goal.closed-requires-clause-each
-closed-requires-clause-each g c =
+pub group_formulas-requires-clause-each : goal.group_formulas-requires-clause-each
+group_formulas-requires-clause-each g c =
     let program = c.args.program.now in
     let procs = c.args.procs.now in
     ap length c.as_slice-calls.ensures ∙ sym (length-map c.in_ok-calls.calls plain_call) ∙ ap length c.in_ok-calls.ensures.made
     ∙ sides-many (ends_of_members program procs) (calls_from procs 0 (members_of program procs)) c.in_ok-sides.sides c.in_ok-sides.ensures.fits ∙ sym (ap length c.as_slice-2.ensures)
 
-pub closed-requires-clause-group : goal.closed-requires-clause-group
-closed-requires-clause-group g c =
+pub group_formulas-requires-clause-group : goal.group_formulas-requires-clause-group
+group_formulas-requires-clause-group g c =
     let program = c.args.program.now in
     let procs = c.args.procs.now in
     let there = recursion_from_All (λ proc. proc < length program.procs) procs c.requires.there in
@@ -54,8 +54,8 @@ closed-requires-clause-group g c =
     subst (λ (t : List PairEnds × List own.GroupCall × List Sides). IsGroup t.0 (stretches_with (map plain_call t.1) t.2))
     (λ i. (sym (c.as_slice.ensures ∙ c.in_ok-members.ensures) i, sym c.as_slice-calls.ensures i, sym c.as_slice-2.ensures i)) group
 
-pub closed-requires-clause-bases : goal.closed-requires-clause-bases
-closed-requires-clause-bases g c = subst (λ members. AreBases members c.args.bases.now) (sym (c.as_slice.ensures ∙ c.in_ok-members.ensures)) c.requires.bases
+pub group_formulas-requires-clause-bases : goal.group_formulas-requires-clause-bases
+group_formulas-requires-clause-bases g c = subst (λ members. AreBases members c.args.bases.now) (sym (c.as_slice.ensures ∙ c.in_ok-members.ensures)) c.requires.bases
 
 pub returns-clause-follows : goal.returns-clause-follows
 unfolding closure_of
@@ -69,7 +69,7 @@ returns-clause-follows g c =
     let many = ap length members ∙ length-map ms (pair_ends program) in
     value_first (λ sides. each (with_closed (ends_of_members program procs) (stretches_with (calls_from procs 0 ms) sides) bases) [] (range_with_len 0 (length ms)))
     c.in_ok-sides.ensures.follows refl
-    (in_other_words (λ i. each (with_closed (members i) (stretches_with (calls i) (c.as_slice-2.ensures i)) bases) [] (range_with_len 0 (many i))) c.closed.ensures)
+    (in_other_words (λ i. each (with_closed (members i) (stretches_with (calls i) (c.as_slice-2.ensures i)) bases) [] (range_with_len 0 (many i))) c.group_formulas.ensures)
 
 pub returns-clause-fits : goal.returns-clause-fits
 returns-clause-fits g c =
@@ -84,6 +84,6 @@ returns-clause-fits g c =
     let calls = ap (map plain_call) c.as_slice-calls.ensures ∙ made in
     let calls_in = each-map (λ (call : own.GroupCall). IsCallIn all (plain_call call)) (IsCallIn all) plain_call (λ call h. h) c.in_ok-calls.calls c.in_ok-calls.ensures.fit in
     let group = group-is program c.requires.formed procs there c.requires.few (calls_from procs 0 ms) c.in_ok-sides.sides refl (subst (AllByRecursion (IsCallIn all)) made calls_in) c.in_ok-sides.ensures.fits in
-    result_has (AreSummaries all) c.closed.result
-    (in_other_words (λ i. each (with_closed (members i) (stretches_with (calls i) (c.as_slice-2.ensures i)) bases) [] (range_with_len 0 (length (members i)))) c.closed.ensures)
+    result_has (AreSummaries all) c.group_formulas.result
+    (in_other_words (λ i. each (with_closed (members i) (stretches_with (calls i) (c.as_slice-2.ensures i)) bases) [] (range_with_len 0 (length (members i)))) c.group_formulas.ensures)
     (closed-summaries all (stretches_with (calls_from procs 0 ms) c.in_ok-sides.sides) group bases c.requires.bases)

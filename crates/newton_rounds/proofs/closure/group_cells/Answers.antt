@@ -3,7 +3,7 @@ use Rattle.std.specs.Prelude.{IfOk}
 use Rattle.std.proofs.lemmas.List.{length-map}
 use Rattle.posing.proofs.Steps.{in_other_words, notes_first}
 use Rattle.polyhedra.proofs.Results.{result_has}
-use Rattle.checked_tree.specs.Evaluation.{evaluated}
+use Rattle.checked_tree.specs.Evaluation.{evaluated_cells}
 use Rattle.checked_tree.specs.Graph.{graph_of}
 use Rattle.checked_tree.specs.Law.{AreFittedCells, IsEvaluated}
 use Rattle.newton_rounds.specs.Between.{AreChainsFrom}
@@ -47,7 +47,7 @@ returns-clause-follows g c =
       leaves = (c.as_slice-2.ensures ∙ c.in_ok-leaves.ensures.made) i;
       nodes = (c.as_slice-3.ensures ∙ c.in_ok-nodes.ensures) i;
     } in
-    notes_first c.in_ok-leaves.ensures.noted refl (in_other_words (ap (λ h. evaluated h c.args.place) same) c.evaluate_formulas.ensures.follows)
+    notes_first c.in_ok-leaves.ensures.noted refl (in_other_words (ap (λ h. evaluated_cells h c.args.place) same) c.evaluate_formulas.ensures.follows)
 
 pub returns-clause-lead : goal.returns-clause-lead
 returns-clause-lead g c =
@@ -64,4 +64,4 @@ returns-clause-lead g c =
     (chains-from members stretches c.requires.group c.args.place)
     (subst (λ h. IfOk c.evaluate_formulas.result (AreFittedCells h c.args.place)) same c.evaluate_formulas.ensures.fits)
     (result_has (StaysAt (group_graph members stretches) c.args.place) c.evaluate_formulas.result
-    (in_other_words (ap (λ h. evaluated h c.args.place) same) c.evaluate_formulas.ensures.follows) (cells-stay (group_graph members stretches) c.args.place is))
+    (in_other_words (ap (λ h. evaluated_cells h c.args.place) same) c.evaluate_formulas.ensures.follows) (cells-stay (group_graph members stretches) c.args.place is))

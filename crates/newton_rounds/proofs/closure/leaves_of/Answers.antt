@@ -2,8 +2,8 @@ use Rattle.std.proofs.Common.{◌≡◌, ◌<◌, ◌++◌, ◌∷◌, [], ◌�
 use Rattle.std.specs.List.{flat_map}
 use Rattle.newton_rounds.specs.declared.calls.GroupCall as own
 use Rattle.newton_rounds.specs.Between.{IsStretchIn}
-use Rattle.newton_rounds.specs.Closure.{ends_at, group_leaf, lost_in_group_leaf, no_pair, stretches_with}
-use Rattle.newton_rounds.specs.Pairs.{PairEnds, lost_in_pair, pair_formula}
+use Rattle.newton_rounds.specs.Closure.{ends_at, group_leaf, losses_in_group_leaf, no_pair, stretches_with}
+use Rattle.newton_rounds.specs.Pairs.{PairEnds, losses_in_pair, pair_formula}
 use Rattle.newton_rounds.specs.Shapes.{IsStretchBetween, plain_call, stretch_of}
 use Rattle.newton_rounds.proofs.Chained.{read-at}
 use Rattle.newton_rounds.proofs.Grouped.{behind-more, call-at, each-read, next-stretch, stretch-at}
@@ -53,7 +53,7 @@ loop-i-preserved c =
           (c.in_ok-push.ensures.ok ∙ (λ i. c.loop-i.leaves ++ (c.in_ok-pair_formula.ensures.made ∙ (λ j. pair_formula (sym caller j) (sym callee j) s)) i ∷ []))
           ((λ i. c.loop-i.leaves ++ map (group_leaf members) (sym next i)) ∙ c.loop-i.invariant.made);
       noted =
-          behind-more c.loop-i.lost c.pair_formula.new.lost (lost_in_group_leaf members s) (flat_map (lost_in_group_leaf members) rest) _
-          (c.in_ok-pair_formula.ensures.noted ∙ (λ i. c.loop-i.lost ++ lost_in_pair (sym caller i) (sym callee i) s))
-          ((λ i. c.loop-i.lost ++ flat_map (lost_in_group_leaf members) (sym next i)) ∙ c.loop-i.invariant.noted);
+          behind-more c.loop-i.lost c.pair_formula.new.lost (losses_in_group_leaf members s) (flat_map (losses_in_group_leaf members) rest) _
+          (c.in_ok-pair_formula.ensures.noted ∙ (λ i. c.loop-i.lost ++ losses_in_pair (sym caller i) (sym callee i) s))
+          ((λ i. c.loop-i.lost ++ flat_map (losses_in_group_leaf members) (sym next i)) ∙ c.loop-i.invariant.noted);
     }

@@ -5,12 +5,12 @@ use Rattle.newton_rounds.specs.Reached.{TellsReached}
 use Rattle.newton_rounds.proofs.Apart.{told_apart, links_within, ends_within}
 use Rattle.newton_rounds.proofs.linear.edges_are_apart.Goals as goal
 
-pub reached-requires-clause-graph : goal.reached-requires-clause-graph
-reached-requires-clause-graph c =
+pub reach_marks-requires-clause-graph : goal.reach_marks-requires-clause-graph
+reach_marks-requires-clause-graph c =
     links_within c.args.nodes c.args.edges.now c.as_slice.result.now (c.as_slice.ensures ∙ c.in_ok-links.ensures) c.requires
 
-pub reached-requires-clause-starts : goal.reached-requires-clause-starts
-reached-requires-clause-starts c =
+pub reach_marks-requires-clause-starts : goal.reach_marks-requires-clause-starts
+reach_marks-requires-clause-starts c =
     ends_within c.args.nodes c.args.procs.now c.args.edges.now c.as_slice-2.result.now (c.as_slice-2.ensures ∙ c.in_ok-ends.ensures) c.requires
 
 pub returns : goal.returns

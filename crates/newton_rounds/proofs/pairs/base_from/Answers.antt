@@ -7,16 +7,16 @@ use Rattle.newton_rounds.proofs.Placed.{pair-holds}
 use Rattle.newton_rounds.proofs.Told.{told-there}
 use Rattle.newton_rounds.proofs.pairs.base_from.Goals as goal
 
-pub equated-requires-clause-there : goal.equated-requires-clause-there
-equated-requires-clause-there c =
+pub equated_formula-requires-clause-there : goal.equated_formula-requires-clause-there
+equated_formula-requires-clause-there c =
     let m = c.args.member.now in
     let f = c.args.exit.now in
     let same : c.as_slice.result.now ≡ exit_places m.ends = c.as_slice.ensures ∙ c.in_ok-places.ensures in
     subst (λ (t : Transition). All (λ place. place < t.to) c.as_slice.result.now) (sym c.in_ok-told.ensures.made)
     (subst (λ places. All (λ place. place < (entry_told m f).to) places) (sym same) (told-there m c.requires.ends f c.requires.fits))
 
-pub equated-requires-clause-columns : goal.equated-requires-clause-columns
-equated-requires-clause-columns c =
+pub equated_formula-requires-clause-columns : goal.equated_formula-requires-clause-columns
+equated_formula-requires-clause-columns c =
     let m = c.args.member.now in
     let same : c.as_slice.result.now ≡ exit_places m.ends = c.as_slice.ensures ∙ c.in_ok-places.ensures in
     let long = ap length same in

@@ -6,7 +6,7 @@ use Rattle.transition_formula.specs.Transition.{IsSolvable}
 use Rattle.posing.specs.Logs.{loss_notes}
 use Rattle.posing.proofs.Steps.{in_other_words, notes_first}
 use Rattle.newton_rounds.specs.Candidates.{against, contrary, found_left, with_case}
-use Rattle.newton_rounds.specs.Shapes.{kept_of}
+use Rattle.newton_rounds.specs.Shapes.{case_left_of}
 use Rattle.newton_rounds.proofs.Opposite.{against-solvable}
 use Rattle.newton_rounds.proofs.Refuted.{kept-solved}
 use Rattle.newton_rounds.proofs.refuting.with_case.Goals as goal
@@ -26,5 +26,5 @@ returns g c =
     ∙ c.in_ok-left.ensures.noted
     ∙ (λ i. (c.in_ok-whole.ensures.noted ∙ ap (λ l. l ++ first) c.new-lost.ensures) i ++ (in_order (whole i)).losses)))
     (in_other_words
-    (ap (found_left c.args.found) (ap kept_of c.in_ok-left.ensures.exact ∙ kept-solved (in_order c.in_ok-whole.whole).left ∙ (λ i. (in_order (whole i)).left)))
+    (ap (found_left c.args.found) (ap case_left_of c.in_ok-left.ensures.exact ∙ kept-solved (in_order c.in_ok-whole.whole).left ∙ (λ i. (in_order (whole i)).left)))
     c.found_left.ensures)

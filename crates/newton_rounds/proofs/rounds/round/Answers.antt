@@ -18,16 +18,16 @@ use Rattle.newton_rounds.proofs.Rowed.{candidates-length, table-summaries}
 use Rattle.newton_rounds.proofs.Tabled.{tabled-known}
 use Rattle.newton_rounds.proofs.rounds.round.Goals as goal
 
-pub known_with-requires-clause-procs : goal.known_with-requires-clause-procs
-known_with-requires-clause-procs g c = subst (λ n. All (λ proc. proc < n) c.args.procs.now) (sym c.requires.known.each) c.requires.there
+pub known_formulas_with-requires-clause-procs : goal.known_formulas_with-requires-clause-procs
+known_formulas_with-requires-clause-procs g c = subst (λ n. All (λ proc. proc < n) c.args.procs.now) (sym c.requires.known.each) c.requires.there
 
-pub known_with-requires-clause-members : goal.known_with-requires-clause-members
-known_with-requires-clause-members g c =
+pub known_formulas_with-requires-clause-members : goal.known_formulas_with-requires-clause-members
+known_formulas_with-requires-clause-members g c =
     let there = recursion_from_All (λ proc. proc < length c.args.program.now.procs) c.args.procs.now c.requires.there in
     subst (AllByRecursion IsMember) (sym c.requires.members) (all-members c.args.program.now c.requires.formed c.args.procs.now there c.requires.few)
 
-pub judged_in-requires-clause-known : goal.judged_in-requires-clause-known
-judged_in-requires-clause-known g c =
+pub judgements_in-requires-clause-known : goal.judgements_in-requires-clause-known
+judgements_in-requires-clause-known g c =
     let program = c.args.program.now in
     let procs = c.args.procs.now in
     let candidates = c.args.candidates.now in
@@ -39,8 +39,8 @@ judged_in-requires-clause-known g c =
     subst (AreKnown program) (sym same)
     (tabled-known program procs (table_of members candidates) c.args.known.now (summaries-fit program procs there (table_of members candidates) summaries) c.requires.known)
 
-pub judged_in-requires-clause-candidates : goal.judged_in-requires-clause-candidates
-judged_in-requires-clause-candidates g c = subst (λ m. AreCandidates m c.args.candidates.now) c.requires.members c.requires.candidates
+pub judgements_in-requires-clause-candidates : goal.judgements_in-requires-clause-candidates
+judgements_in-requires-clause-candidates g c = subst (λ m. AreCandidates m c.args.candidates.now) c.requires.members c.requires.candidates
 
 pub rows_left-requires : goal.rows_left-requires
 rows_left-requires g c =

@@ -10,8 +10,8 @@ use Rattle.newton_rounds.proofs.Below.{some_at}
 use Rattle.newton_rounds.proofs.Rounded.{row-refutable}
 use Rattle.newton_rounds.proofs.rounds.with_round.Goals as goal
 
-pub judged_by-requires : goal.judged_by-requires
-judged_by-requires g c =
+pub judgements_by-requires : goal.judgements_by-requires
+judgements_by-requires g c =
     let program = c.args.program.now in
     let there = some_at program.procs c.args.proc c.requires.procedure in
     let p = there.0 in

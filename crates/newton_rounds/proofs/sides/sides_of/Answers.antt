@@ -8,7 +8,7 @@ use Rattle.posing.proofs.Following.{leads_none}
 use Rattle.posing.proofs.Steps.{all_left, at_end, error_first, first_left, in_other_words}
 use Rattle.syntax_tree.specs.WellFormed.{width_of}
 use Rattle.newton_rounds.specs.declared.calls.Sides.{Sides}
-use Rattle.newton_rounds.specs.Closure.{ends_at, ends_of_members, placed_from, sides_of, with_member}
+use Rattle.newton_rounds.specs.Closure.{ends_at, ends_of_members, with_places_from, sides_of, with_member}
 use Rattle.newton_rounds.specs.Members.{calls_from, calls_of, members_of}
 use Rattle.newton_rounds.specs.Shapes.{FitCalls}
 use Rattle.newton_rounds.proofs.Below.{some_at}
@@ -22,11 +22,11 @@ loop-place-init g c =
     let program = c.args.program.now in
     let procs = c.args.procs.now in
     let step = with_member program procs c.args.known.now in
-    let whole = each step [] (placed_from 0 (members_of program procs)) in
+    let whole = each step [] (with_places_from 0 (members_of program procs)) in
     let calls = calls_from procs 0 (members_of program procs) in
     record {
       leads =
-          subst (λ made. Leads g.O.Oracle.asking c.args.oracle.now c.args.oracle.now c.args.log.now c.args.log.now whole (each step made (placed_from 0 (members_of program procs))))
+          subst (λ made. Leads g.O.Oracle.asking c.args.oracle.now c.args.oracle.now c.args.log.now c.args.log.now whole (each step made (with_places_from 0 (members_of program procs))))
           (sym c.new-made.ensures) (leads_none _ _ _ _);
       fits = λ rest fit. subst (λ (made : List Sides). FitCalls (ends_of_members program procs) calls (made ++ rest)) (sym c.new-made.ensures) fit;
     }
@@ -47,8 +47,8 @@ loop-place-preserved g c =
     (number-at procs place c.loop-place-test.true) there.1 in
     record {
       leads =
-          first_left (λ made. each step made (placed_from (place + 1) (members_of program (drop (place + 1) procs)))) c.loop-place.invariant.leads
-          (ap (λ ps. each step c.loop-place.made (placed_from place ps)) next) (c.in_ok-made.ensures.follows there.0 there.1) refl;
+          first_left (λ made. each step made (with_places_from (place + 1) (members_of program (drop (place + 1) procs)))) c.loop-place.invariant.leads
+          (ap (λ ps. each step c.loop-place.made (with_places_from place ps)) next) (c.in_ok-made.ensures.follows there.0 there.1) refl;
       fits = λ rest fit.
           subst (λ (all : List Sides). FitCalls members (calls_from procs 0 (members_of program procs)) all)
           (sym (append_assoc c.loop-place.made one.more rest) ∙ ap (λ (l : List Sides). l ++ rest) (sym one.is))
@@ -67,8 +67,8 @@ returns-in_err-made-clause-follows g c =
     let there = some_at program.procs (get_or procs place 0) (c.requires.there place 0 c.loop-place-test.true) in
     let next = members-next program procs place 0 there.0 c.loop-place-test.true there.1 in
     all_left c.loop-place.invariant.leads
-    (in_other_words (ap (λ ps. each step c.loop-place.made (placed_from place ps)) (sym next))
-    (error_first (λ made. each step made (placed_from (place + 1) (members_of program (drop (place + 1) procs)))) (c.in_err-made.ensures.follows there.0 there.1) refl c.from_residual.ensures.1))
+    (in_other_words (ap (λ ps. each step c.loop-place.made (with_places_from place ps)) (sym next))
+    (error_first (λ made. each step made (with_places_from (place + 1) (members_of program (drop (place + 1) procs)))) (c.in_err-made.ensures.follows there.0 there.1) refl c.from_residual.ensures.1))
 
 pub returns-clause-follows : goal.returns-clause-follows
 unfolding sides_of
@@ -78,7 +78,7 @@ returns-clause-follows g c =
     let place = c.loop-place.place in
     let step = with_member program procs c.args.known.now in
     all_left c.loop-place.invariant.leads
-    (in_other_words (ap (λ ps. each step c.loop-place.made (placed_from place (members_of program ps))) (sym (drop_all place procs c.loop-place-test.false))) (at_end refl))
+    (in_other_words (ap (λ ps. each step c.loop-place.made (with_places_from place (members_of program ps))) (sym (drop_all place procs c.loop-place-test.false))) (at_end refl))
 
 pub returns-clause-fits : goal.returns-clause-fits
 returns-clause-fits g c =

@@ -2,7 +2,7 @@ use Rattle.std.proofs.Common.{◌≡◌, ◌<◌, ◌^◌, List, ◌++◌, ◌�
 use Rattle.std.specs.Prelude.{All, OnOk}
 use Rattle.linear_terms.specs.declared.row.Case.{Case}
 use Rattle.transition_formula.specs.declared.loss.Loss.{Loss}
-use Rattle.transition_formula.specs.Composition.{lost_in_sequence, sequence_of}
+use Rattle.transition_formula.specs.Composition.{losses_in_sequence, sequence_of}
 use Rattle.transition_formula.specs.Transition.{Transition, AreFew, IsTransition}
 use Rattle.newton_rounds.specs.Pairs.{stations_of}
 use Rattle.newton_rounds.specs.Shapes.{stretch_of}
@@ -43,7 +43,7 @@ returns-clause-noted c =
     subst (λ (lost : List Loss). OnOk c.along_from_entry.result (c.along_from_entry.new.lost ≡ lost))
     (noted-along c.args.lost.now _ _ _ _ _ _ c.call_entry.new.lost c.seq.new.losses _ c.entry_told.new.lost
     c.in_ok-first.ensures.noted c.in_ok-second.ensures.noted
-    (c.in_ok-entered.ensures.noted ∙ (λ i. c.call_entry.new.lost ++ lost_in_sequence (c.in_ok-first.ensures.made i) (c.in_ok-second.ensures.made i)))
-    (ap (λ f. c.seq.new.losses ++ lost_in_sequence f stations.third) entered)
-    (ap (λ f. lost_in_sequence (sequence_of f stations.third) stations.fourth) entered))
+    (c.in_ok-entered.ensures.noted ∙ (λ i. c.call_entry.new.lost ++ losses_in_sequence (c.in_ok-first.ensures.made i) (c.in_ok-second.ensures.made i)))
+    (ap (λ f. c.seq.new.losses ++ losses_in_sequence f stations.third) entered)
+    (ap (λ f. losses_in_sequence (sequence_of f stations.third) stations.fourth) entered))
     c.along_from_entry.ensures.noted

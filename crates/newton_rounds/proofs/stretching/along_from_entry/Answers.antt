@@ -3,7 +3,7 @@ use Rattle.std.specs.Prelude.{IfOk, OnOk}
 use Rattle.std.proofs.lemmas.List.{length-map}
 use Rattle.syntax_tree.specs.Term.{term_of}
 use Rattle.transition_formula.specs.declared.loss.Loss.{Loss}
-use Rattle.transition_formula.specs.Composition.{lost_in_sequence, sequence_of}
+use Rattle.transition_formula.specs.Composition.{losses_in_sequence, sequence_of}
 use Rattle.transition_formula.specs.Transition.{Transition, AreFew}
 use Rattle.proc_summary.specs.Claims.{FitsIf}
 use Rattle.proc_summary.specs.Summary.{exit_formula}
@@ -55,5 +55,5 @@ returns-clause-noted c =
     let returned = c.in_ok-returned.ensures.exact ∙ ap (sequence_of c.args.entered.now) third in
     let fourth = c.in_ok-fourth.ensures ∙ (λ i. carrying (wide i) (globals i + args i + exit i) (exit_formula (wide i) c.args.sides.now.after)) in
     subst (λ (lost : List Loss). OnOk c.seq-2.result (c.seq-2.new.losses ≡ lost))
-    (λ i. (c.in_ok-returned.ensures.noted ∙ ap (λ f. c.args.lost.now ++ lost_in_sequence c.args.entered.now f) third) i ++ lost_in_sequence (returned i) (fourth i))
+    (λ i. (c.in_ok-returned.ensures.noted ∙ ap (λ f. c.args.lost.now ++ losses_in_sequence c.args.entered.now f) third) i ++ losses_in_sequence (returned i) (fourth i))
     c.seq-2.ensures.noted

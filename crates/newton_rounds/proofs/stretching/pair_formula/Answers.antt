@@ -3,7 +3,7 @@ use Rattle.std.specs.Prelude.{All, IfOk, OnOk}
 use Rattle.std.specs.List.{range_with_len}
 use Rattle.std.proofs.lemmas.List.{length-map}
 use Rattle.syntax_tree.specs.Term.{term_of}
-use Rattle.transition_formula.specs.Equating.{equated, lost_in_equating}
+use Rattle.transition_formula.specs.Equating.{equated_formula, losses_in_equating}
 use Rattle.transition_formula.specs.declared.loss.Loss.{Loss}
 use Rattle.transition_formula.specs.Posts.{with_posts}
 use Rattle.transition_formula.specs.Transition.{Transition}
@@ -14,16 +14,16 @@ use Rattle.newton_rounds.proofs.Placed.{pair-holds}
 use Rattle.newton_rounds.proofs.Stretched.{callee-along, few-along, narrow, told-along}
 use Rattle.newton_rounds.proofs.stretching.pair_formula.Goals as goal
 
-pub equated-requires-clause-there : goal.equated-requires-clause-there
-equated-requires-clause-there c =
+pub equated_formula-requires-clause-there : goal.equated_formula-requires-clause-there
+equated_formula-requires-clause-there c =
     let s = stretch_of c.args.call.now c.args.sides.now in
     let caller = c.args.caller.now in
     let same : c.as_slice.result.now ≡ exit_places caller.ends = c.as_slice.ensures ∙ c.in_ok-told.ensures in
     subst (λ (t : Transition). All (λ place. place < t.to) c.as_slice.result.now) (sym c.in_ok-whole.ensures.made)
     (subst (λ places. All (λ place. place < (along (stations_of caller c.args.callee.now s)).to) places) (sym same) (told-along caller c.args.callee.now s c.requires))
 
-pub equated-requires-clause-columns : goal.equated-requires-clause-columns
-equated-requires-clause-columns c =
+pub equated_formula-requires-clause-columns : goal.equated_formula-requires-clause-columns
+equated_formula-requires-clause-columns c =
     let caller = c.args.caller.now in
     let long = ap length (c.as_slice.ensures ∙ c.in_ok-told.ensures) in
     let first : c.columns-first.result ≡ caller.ends.entry.columns = c.columns-first.ensures.columns ∙ ap (λ (p : PairEnds). p.ends.entry.columns) c.caller.view_is in

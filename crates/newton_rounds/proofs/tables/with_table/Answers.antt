@@ -9,8 +9,8 @@ loop-place-preserved c =
     let place = c.loop-place.place in
     let all = c.loop-place.all.items in
     record {
-      long = ap length c.replaced-all.ensures ∙ length-set all (get_or procs place 0) c.in_ok-f.f ∙ c.loop-place.invariant.long;
+      long = ap length c.formulas_with-all.ensures ∙ length-set all (get_or procs place 0) c.in_ok-f.f ∙ c.loop-place.invariant.long;
       made =
-          one-placed place (get_or procs place 0) procs c.args.table.now all c.replaced-all.result.items c.in_ok-f.f c.loop-place-test.true refl c.in_ok-f.ensures c.replaced-all.ensures
+          one-placed place (get_or procs place 0) procs c.args.table.now all c.formulas_with-all.result.items c.in_ok-f.f c.loop-place-test.true refl c.in_ok-f.ensures c.formulas_with-all.ensures
           ∙ c.loop-place.invariant.made;
     }

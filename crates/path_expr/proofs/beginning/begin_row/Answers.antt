@@ -1,6 +1,6 @@
 use Rattle.std.proofs.Common.{◌∙◌, arith}
 use Rattle.path_expr.specs.Sweeps.{row_written}
-use Rattle.path_expr.specs.Numbers.{joined_at, joins_at}
+use Rattle.path_expr.specs.Numbers.{path_through_at, joins_at}
 use Rattle.path_expr.proofs.RunLemmas.{Runs-then, Makes-exit, Makes-as, Makes-ok}
 use Rattle.path_expr.proofs.SweepLemmas.{below-rest}
 use Rattle.path_expr.proofs.FirstLemmas.{AllHaveItems-kept, begun-at, begun-more, row_written-here}
@@ -15,8 +15,8 @@ pub returns-in_err-begin_cell-clause-made : goal.returns-in_err-begin_cell-claus
 returns-in_err-begin_cell-clause-made g c = λ source f items h holds_no.
     let next = c.in-Some.ensures.next in
     let so_far = begun-at f c.args.numbers.now c.args.i c.loop-j.from c.in-Some.j next.0 holds_no next.3 (c.loop-j.invariant.so_far source f items h holds_no) in
-    let here = c.in_err-begin_cell.ensures.made source (row_written f c.args.i c.in-Some.j (joined_at c.args.numbers.now c.args.i)) (AllHaveItems-kept so_far.0.keeps items) so_far.1
-    (row_written-here f c.args.i c.in-Some.j (joined_at c.args.numbers.now c.args.i) ∙ holds_no c.in-Some.j) in
+    let here = c.in_err-begin_cell.ensures.made source (row_written f c.args.i c.in-Some.j (path_through_at c.args.numbers.now c.args.i)) (AllHaveItems-kept so_far.0.keeps items) so_far.1
+    (row_written-here f c.args.i c.in-Some.j (path_through_at c.args.numbers.now c.args.i) ∙ holds_no c.in-Some.j) in
     let rest = below-rest (joins_at c.args.numbers.now c.args.i) c.in-Some.j c.args.nodes next.1 in
     Makes-as rest.1 (Makes-exit c.from_residual.result rest.0 c.from_residual.ensures.1 (Runs-then so_far.0 here.run))
 
@@ -27,8 +27,8 @@ loop-j-preserved g c =
       places = let e = c.in_ok-begin_cell.ensures.places in let p = c.loop-j.invariant.places in omega arith;
       so_far = λ source f items h holds_no.
           let so_far = begun-at f c.args.numbers.now c.args.i c.loop-j.from c.in-Some.j next.0 holds_no next.3 (c.loop-j.invariant.so_far source f items h holds_no) in
-          let here = c.in_ok-begin_cell.ensures.made source (row_written f c.args.i c.in-Some.j (joined_at c.args.numbers.now c.args.i)) (AllHaveItems-kept so_far.0.keeps items) so_far.1
-          (row_written-here f c.args.i c.in-Some.j (joined_at c.args.numbers.now c.args.i) ∙ holds_no c.in-Some.j) in
+          let here = c.in_ok-begin_cell.ensures.made source (row_written f c.args.i c.in-Some.j (path_through_at c.args.numbers.now c.args.i)) (AllHaveItems-kept so_far.0.keeps items) so_far.1
+          (row_written-here f c.args.i c.in-Some.j (path_through_at c.args.numbers.now c.args.i) ∙ holds_no c.in-Some.j) in
           begun-more f c.args.numbers.now c.args.i c.in-Some.j so_far.0 here.run here.good;
     }
 

@@ -4,7 +4,7 @@ use Rattle.items.specs.Gives.{Gives}
 use Rattle.items.proofs.Gives.{Gives-Ok}
 use Rattle.linear_terms.specs.declared.error.TermError.{TermError}
 use Rattle.linear_terms.specs.declared.row.Case.{Case}
-use Rattle.linear_terms.specs.Operations.{substituted}
+use Rattle.linear_terms.specs.Operations.{substituted_polynomial}
 use Rattle.linear_terms.specs.Polynomial.{Polynomial}
 use Rattle.linear_terms.specs.Replacement.{HasPoly, put_in}
 use Rattle.linear_terms.specs.TermError.{cause}
@@ -15,8 +15,8 @@ use Rattle.phases.specs.Words.{IsExcludable}
 use Rattle.phases.proofs.Exclusions.{excluded-solvable}
 use Rattle.phases.proofs.halving.case_excludes.Goals as goal
 
-pub after-solvable : (q : Polynomial) (case : Case) → IsExcludable q case → (r : Result Polynomial TermError) → Gives cause (λ p. p) r (substituted (put_in case.post []) q) → IfOk r (λ p. IsSolvable (case_where p case))
-after-solvable q case is (Ok p) gives = excluded-solvable q p case (Gives-Ok cause (λ p. p) (Ok p) (substituted (put_in case.post []) q) p refl gives) is
+pub after-solvable : (q : Polynomial) (case : Case) → IsExcludable q case → (r : Result Polynomial TermError) → Gives cause (λ p. p) r (substituted_polynomial (put_in case.post []) q) → IfOk r (λ p. IsSolvable (case_where p case))
+after-solvable q case is (Ok p) gives = excluded-solvable q p case (Gives-Ok cause (λ p. p) (Ok p) (substituted_polynomial (put_in case.post []) q) p refl gives) is
 after-solvable q case is (Err e) gives = tt
 
 pub subst-after-requires : goal.subst-after-requires
@@ -27,10 +27,10 @@ subst-after-requires g c =
 pub excludes_by-requires : goal.excludes_by-requires
 excludes_by-requires g c =
     after-solvable c.args.poly.now c.args.case.now c.requires c.subst-after.result
-    (subst (λ (posts : List Polynomial). Gives cause (λ p. p) c.subst-after.result (substituted (put_in posts []) c.args.poly.now)) c.as_slice.ensures c.subst-after.ensures.exact)
+    (subst (λ (posts : List Polynomial). Gives cause (λ p. p) c.subst-after.result (substituted_polynomial (put_in posts []) c.args.poly.now)) c.as_slice.ensures c.subst-after.ensures.exact)
 
 pub returns : goal.returns
 unfolding case_excludes
 returns g c =
-    c.excludes_by.ensures (substituted (put_in c.args.case.now.post []) c.args.poly.now)
-    (subst (λ (posts : List Polynomial). Gives cause (λ p. p) c.subst-after.result (substituted (put_in posts []) c.args.poly.now)) c.as_slice.ensures c.subst-after.ensures.exact)
+    c.excludes_by.ensures (substituted_polynomial (put_in c.args.case.now.post []) c.args.poly.now)
+    (subst (λ (posts : List Polynomial). Gives cause (λ p. p) c.subst-after.result (substituted_polynomial (put_in posts []) c.args.poly.now)) c.as_slice.ensures c.subst-after.ensures.exact)

@@ -1,7 +1,7 @@
 use Rattle.std.proofs.Common.{refl, sym, subst}
 use Rattle.posing.proofs.Following.{leads_none, loop_ends, stops}
 use Rattle.posing.proofs.Steps.{each_next, each_fails}
-use Rattle.polyhedra.specs.Bounds.{IsCoveredByPosts, bounded_after}
+use Rattle.polyhedra.specs.Bounds.{IsCoveredByPosts, rows_with_exit_bound}
 use Rattle.polyhedra.specs.Kept.{AreOver}
 use Rattle.polyhedra.proofs.Kept.{AreOver-first}
 use Rattle.polyhedra.proofs.bounds.bounds_after.Goals as goal
@@ -10,10 +10,10 @@ pub loop-d-init : goal.loop-d-init
 loop-d-init g c = (leads_none _ _ _ _, subst (AreOver c.args.cases.now) (sym c.in_ok-goals.ensures) (AreOver-first c.args.cases.now))
 
 pub returns-in_err-made : goal.returns-in_err-made
-returns-in_err-made g c = each_fails (bounded_after c.args.cases.now c.args.after.now) _ _ c.loop-d.invariant.0 c.loop-d-test.true c.d-item.is c.in_err-made.ensures.follows c.from_residual-in_err-made.ensures.1
+returns-in_err-made g c = each_fails (rows_with_exit_bound c.args.cases.now c.args.after.now) _ _ c.loop-d.invariant.0 c.loop-d-test.true c.d-item.is c.in_err-made.ensures.follows c.from_residual-in_err-made.ensures.1
 
 pub loop-d-preserved : goal.loop-d-preserved
-loop-d-preserved g c = (each_next (bounded_after c.args.cases.now c.args.after.now) _ _ c.loop-d.invariant.0 c.loop-d-test.true c.d-item.is c.in_ok-made.ensures.follows, c.in_ok-made.ensures.goals)
+loop-d-preserved g c = (each_next (rows_with_exit_bound c.args.cases.now c.args.after.now) _ _ c.loop-d.invariant.0 c.loop-d-test.true c.d-item.is c.in_ok-made.ensures.follows, c.in_ok-made.ensures.goals)
 
 pub bound_after-requires-clause-posts : goal.bound_after-requires-clause-posts
 bound_after-requires-clause-posts g c = subst (IsCoveredByPosts c.args.cases.now) (sym c.d-item.is) (c.requires.posts c.loop-d.d-index c.d-item.result c.loop-d-test.true)

@@ -1,11 +1,11 @@
 use Rattle.std.proofs.Common.{drop}
 use Rattle.posing.specs.Follows.{Leads}
 use Rattle.posing.specs.Posing.{each}
-use Rattle.polyhedra.specs.Bounds.{bounded_after}
+use Rattle.polyhedra.specs.Bounds.{rows_with_exit_bound}
 use Rattle.polyhedra.specs.Kept.{AreOver}
 use Rattle.polyhedra.proofs.bounds.bounds_after.Given as goal
 
 abbrev pub invariant-loop-d : goal.invariant-loop-d
 invariant-loop-d g l =
-    (Leads g.O.Oracle.asking l.initial.oracle l.oracle l.initial.log l.log (each (bounded_after l.cases l.after) l.fn.rows l.directions) (each (bounded_after l.cases l.after) l.made (drop l.d-index l.directions)))
+    (Leads g.O.Oracle.asking l.initial.oracle l.oracle l.initial.log l.log (each (rows_with_exit_bound l.cases l.after) l.fn.rows l.directions) (each (rows_with_exit_bound l.cases l.after) l.made (drop l.d-index l.directions)))
     × AreOver l.cases l.goals

@@ -15,7 +15,7 @@ unfolding directions
 returns c =
     let voc = c.args.voc.now in
     c.from_vec.ensures ∙ c.in_ok-add_terms.ensures.made
-    ∙ (λ i. with_each (c.in_ok-add_differences.ensures.made i) (flat_map (λ h. both_signs (Ok h)) (c.harvested.ensures i)))
-    ∙ (λ i. with_each (with_each (c.in_ok-add_columns.ensures.made i) (flat_map (less_others (c.named-2.ensures i)) (c.named-2.ensures i))) (flat_map (λ h. both_signs (Ok h)) voc.harvested))
-    ∙ (λ i. with_each (with_each (with_each (c.new-made.ensures.items i) (flat_map (λ v. both_signs (column (At v))) (c.named.ensures i))) (flat_map (less_others voc.named) voc.named)) (flat_map (λ h. both_signs (Ok h)) voc.harvested))
+    ∙ (λ i. with_each (c.in_ok-add_differences.ensures.made i) (flat_map (λ h. both_signs (Ok h)) (c.harvested_terms.ensures i)))
+    ∙ (λ i. with_each (with_each (c.in_ok-add_columns.ensures.made i) (flat_map (less_others (c.named_columns-2.ensures i)) (c.named_columns-2.ensures i))) (flat_map (λ h. both_signs (Ok h)) voc.harvested))
+    ∙ (λ i. with_each (with_each (with_each (c.new-made.ensures.items i) (flat_map (λ v. both_signs (column (At v))) (c.named_columns.ensures i))) (flat_map (less_others voc.named) voc.named)) (flat_map (λ h. both_signs (Ok h)) voc.harvested))
     ∙ sym (joined (flat_map (λ v. both_signs (column (At v))) voc.named) (flat_map (less_others voc.named) voc.named) (flat_map (λ h. both_signs (Ok h)) voc.harvested))

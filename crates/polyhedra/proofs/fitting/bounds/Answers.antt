@@ -2,7 +2,7 @@ use Rattle.std.proofs.Common.{length, refl, ap, ◌∙◌, arith}
 use Rattle.posing.specs.Posing.{each}
 use Rattle.posing.proofs.Following.{stops}
 use Rattle.posing.proofs.Steps.{value_first, error_first}
-use Rattle.polyhedra.specs.Bounds.{bounded_before}
+use Rattle.polyhedra.specs.Bounds.{rows_with_entry_bound}
 use Rattle.polyhedra.specs.Squash.{with_bounds}
 use Rattle.polyhedra.proofs.Covering.{modified-few}
 use Rattle.polyhedra.proofs.Same.{same-ends}
@@ -42,18 +42,18 @@ pub returns-in_err-before : goal.returns-in_err-before
 unfolding with_bounds
 returns-in_err-before g c =
     let entry = c.as_slice.ensures ∙ c.in_ok-entry.ensures in
-    error_first _ c.in_err-before.ensures (λ i. each (bounded_before (c.cases.ensures.cases i)) c.args.rows (entry i)) c.from_residual-in_err-before.ensures.1
+    error_first _ c.in_err-before.ensures (λ i. each (rows_with_entry_bound (c.cases.ensures.cases i)) c.args.rows (entry i)) c.from_residual-in_err-before.ensures.1
 
 pub returns-in_err-both : goal.returns-in_err-both
 unfolding with_bounds
 returns-in_err-both g c =
     let entry = c.as_slice.ensures ∙ c.in_ok-entry.ensures in
-    value_first _ c.in_ok-before.ensures (λ i. each (bounded_before (c.cases.ensures.cases i)) c.args.rows (entry i))
+    value_first _ c.in_ok-before.ensures (λ i. each (rows_with_entry_bound (c.cases.ensures.cases i)) c.args.rows (entry i))
     (error_first _ c.in_err-both.ensures refl c.from_residual-in_err-both.ensures.1)
 
 pub returns : goal.returns
 unfolding with_bounds
 returns g c =
     let entry = c.as_slice.ensures ∙ c.in_ok-entry.ensures in
-    value_first _ c.in_ok-before.ensures (λ i. each (bounded_before (c.cases.ensures.cases i)) c.args.rows (entry i))
+    value_first _ c.in_ok-before.ensures (λ i. each (rows_with_entry_bound (c.cases.ensures.cases i)) c.args.rows (entry i))
     (value_first _ c.in_ok-both.ensures refl c.differences.ensures)

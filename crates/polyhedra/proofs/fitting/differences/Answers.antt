@@ -7,7 +7,7 @@ use Rattle.posing.specs.Posing.{Done, each}
 use Rattle.posing.proofs.Following.{stops}
 use Rattle.posing.proofs.Steps.{at_end, in_other_words}
 use Rattle.polyhedra.specs.Bounds.{IsCovered, bounded_change}
-use Rattle.polyhedra.specs.Changes.{modified}
+use Rattle.polyhedra.specs.Changes.{modified_variables}
 use Rattle.polyhedra.specs.Squash.{change_after, changes_after, with_differences}
 use Rattle.polyhedra.specs.Vocabulary.{Vocabulary}
 use Rattle.polyhedra.proofs.Covering.{directions-covered}
@@ -43,7 +43,7 @@ pub returns : goal.returns
 returns g c =
     let f = c.args.f.now in
     let e = is_one c.args.one c.if-not-one.false in
-    let same = c.requires.modified ∙ ap (λ b. modified b f) e in
+    let same = c.requires.modified ∙ ap (λ b. modified_variables b f) e in
     let moves : c.as_slice.result.now ≡ changes_after true f = c.as_slice.ensures ∙ c.in_ok-moves.ensures ∙ (λ i. map (change_after true (same i)) (range_with_len 0 (c.to.ensures i))) in
     in_other_words
     ((λ i. each (bounded_change (c.cases.ensures.cases i) (moves i) None) c.args.rows (c.requires.entry i)) ∙ ap (λ b. with_differences b f c.args.from.now c.args.rows) (sym e))

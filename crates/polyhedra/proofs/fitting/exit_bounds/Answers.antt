@@ -4,7 +4,7 @@ use Rattle.std.proofs.lemmas.List.FromFn.{length-map-range_with_len}
 use Rattle.posing.specs.Posing.{each}
 use Rattle.posing.proofs.Following.{stops}
 use Rattle.posing.proofs.Steps.{in_other_words}
-use Rattle.polyhedra.specs.Bounds.{IsCovered, IsCoveredByPosts, bounded_after}
+use Rattle.polyhedra.specs.Bounds.{IsCovered, IsCoveredByPosts, rows_with_exit_bound}
 use Rattle.polyhedra.specs.Directions.{directions}
 use Rattle.polyhedra.specs.Squash.{after_from, posts_after}
 use Rattle.polyhedra.proofs.Covering.{directions-covered, directions-covered_by_posts}
@@ -38,4 +38,4 @@ returns g c =
     let f = c.args.f.now in
     let exit = c.as_slice-2.ensures ∙ c.in_ok-exit.ensures in
     let posts : c.as_slice.result.now ≡ posts_after c.args.one f = c.as_slice.ensures ∙ c.in_ok-posts.ensures ∙ (λ i. map (after_from c.args.one 0 (c.requires.modified i)) (range_with_len 0 (c.to.ensures i))) in
-    in_other_words (λ i. each (bounded_after (c.cases.ensures.cases i) (posts i)) c.args.rows (exit i)) c.bounds_after.ensures
+    in_other_words (λ i. each (rows_with_exit_bound (c.cases.ensures.cases i) (posts i)) c.args.rows (exit i)) c.bounds_after.ensures

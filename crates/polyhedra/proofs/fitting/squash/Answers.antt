@@ -1,7 +1,7 @@
 use Rattle.std.proofs.Common.{ap, ◌∙◌, refl}
 use Rattle.posing.proofs.Following.{stops}
 use Rattle.posing.proofs.Steps.{value_first, error_first, at_end, in_other_words, value_has}
-use Rattle.polyhedra.specs.Squash.{squashed_case, squashed}
+use Rattle.polyhedra.specs.Squash.{squashed_case, squashed_formula}
 use Rattle.polyhedra.proofs.Finished.{FinishedLeft}
 use Rattle.polyhedra.proofs.Fitted.{IsSquash, case-squash, squash-solvable, squash-left, left-small}
 use Rattle.polyhedra.proofs.Same.{same-decided}
@@ -11,7 +11,7 @@ pub squashed_case-requires-clause-one : goal.squashed_case-requires-clause-one
 squashed_case-requires-clause-one g c = same-decided c.args.from.now c.args.to.now c.same-one.result c.same-one.ensures
 
 pub returns-in_err-case : goal.returns-in_err-case
-unfolding squashed
+unfolding squashed_formula
 returns-in_err-case g c =
     let same = same-decided c.args.from.now c.args.to.now c.same-one.result c.same-one.ensures in
     error_first _ c.in_err-case.ensures (ap (λ b. squashed_case b c.args.f.now c.args.from.now c.args.to.now) same) c.from_residual.ensures.1
@@ -24,14 +24,14 @@ finish-requires g c =
     squash-solvable c.args.f.now c.args.from.now c.args.to.now c.requires c.in_ok-case.case shaped
 
 pub returns-in_err-left : goal.returns-in_err-left
-unfolding squashed
+unfolding squashed_formula
 returns-in_err-left g c =
     let same = same-decided c.args.from.now c.args.to.now c.same-one.result c.same-one.ensures in
     value_first _ c.in_ok-case.ensures (ap (λ b. squashed_case b c.args.f.now c.args.from.now c.args.to.now) same)
     (error_first _ c.in_err-left.ensures refl c.from_residual-in_err-left.ensures.1)
 
 pub returns-in_err-cases : goal.returns-in_err-cases
-unfolding squashed
+unfolding squashed_formula
 returns-in_err-cases g c =
     let same = same-decided c.args.from.now c.args.to.now c.same-one.result c.same-one.ensures in
     value_first _ c.in_ok-case.ensures (ap (λ b. squashed_case b c.args.f.now c.args.from.now c.args.to.now) same)
@@ -47,7 +47,7 @@ from_cases-requires g c =
     rw (c.from.ensures, c.to.ensures, c.in_ok-cases.ensures) small.fits
 
 pub returns : goal.returns
-unfolding squashed
+unfolding squashed_formula
 returns g c =
     let same = same-decided c.args.from.now c.args.to.now c.same-one.result c.same-one.ensures in
     value_first _ c.in_ok-case.ensures (ap (λ b. squashed_case b c.args.f.now c.args.from.now c.args.to.now) same)

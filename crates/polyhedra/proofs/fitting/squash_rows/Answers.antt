@@ -4,8 +4,8 @@ use Rattle.polyhedra.specs.Squash.{squash_rows}
 use Rattle.polyhedra.proofs.Covering.{modified-few}
 use Rattle.polyhedra.proofs.fitting.squash_rows.Goals as goal
 
-pub related-requires : goal.related-requires
-related-requires g c =
+pub change_relations-requires : goal.change_relations-requires
+change_relations-requires g c =
     let few = modified-few c.args.one c.args.f.now in
     let long = ap length (c.as_slice.ensures ∙ c.requires.modified) in
     let most = c.requires.between.few_after in

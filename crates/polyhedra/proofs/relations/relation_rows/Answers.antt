@@ -5,7 +5,7 @@ use Rattle.std.proofs.lemmas.List.{drop_more}
 use Rattle.farkas_check.specs.declared.stratum.Relation.{Relation}
 use Rattle.linear_terms.specs.Polynomial.{Polynomial}
 use Rattle.linear_terms.specs.declared.row.Row.{Row}
-use Rattle.transition_formula.specs.Loss.{answered, losses_of}
+use Rattle.transition_formula.specs.Loss.{answer_of, losses_of}
 use Rattle.transition_formula.specs.declared.loss.Loss.{Loss}
 use Rattle.polyhedra.specs.Squash.{relation_row, relation_rows, relation_losses}
 use Rattle.polyhedra.proofs.relations.relation_rows.Goals as goal
@@ -18,11 +18,11 @@ module _ (terms lower : List Polynomial) (relations : List Relation) (i : ℕ) (
   onto None rest = refl
   onto (Some row) rest = refl
 
-  rows-more : (rows : List Row) → rows ++ relation_rows terms lower (drop i relations) ≡ (rows ++ option_to_list (answered (relation_row terms lower r))) ++ relation_rows terms lower (drop (i + 1) relations)
+  rows-more : (rows : List Row) → rows ++ relation_rows terms lower (drop i relations) ≡ (rows ++ option_to_list (answer_of (relation_row terms lower r))) ++ relation_rows terms lower (drop (i + 1) relations)
   rows-more rows =
       ap (λ rs. rows ++ relation_rows terms lower rs) here
-      ∙ ap (λ x. rows ++ x) (onto (answered (relation_row terms lower r)) (relation_rows terms lower (drop (i + 1) relations)))
-      ∙ sym (append_assoc rows (option_to_list (answered (relation_row terms lower r))) (relation_rows terms lower (drop (i + 1) relations)))
+      ∙ ap (λ x. rows ++ x) (onto (answer_of (relation_row terms lower r)) (relation_rows terms lower (drop (i + 1) relations)))
+      ∙ sym (append_assoc rows (option_to_list (answer_of (relation_row terms lower r))) (relation_rows terms lower (drop (i + 1) relations)))
 
   losses-more : (losses : List Loss) → losses ++ relation_losses terms lower (drop i relations) ≡ (losses ++ losses_of (relation_row terms lower r)) ++ relation_losses terms lower (drop (i + 1) relations)
   losses-more losses =

@@ -2,13 +2,13 @@ use Rattle.std.proofs.Common.{ap, subst, ◌∙◌}
 use Rattle.transition_formula.specs.Meaning.{Covers}
 use Rattle.transition_formula.specs.Transition.{IsTransition}
 use Rattle.polyhedra.specs.Laws.{HaveCanonicalRows}
-use Rattle.polyhedra.specs.Settle.{settled, settled_cases}
+use Rattle.polyhedra.specs.Settle.{settled_formula, settled_cases}
 use Rattle.posing.proofs.Steps.{value_first, error_first, at_end, value_has}
 use Rattle.polyhedra.proofs.Settled.{settled-covers, settled_cases-fit}
 use Rattle.polyhedra.proofs.settling.settle.Goals as goal
 
 pub returns-in_err-cases-clause-follows : goal.returns-in_err-cases-clause-follows
-unfolding settled
+unfolding settled_formula
 returns-in_err-cases-clause-follows g c = error_first _ c.in_err-cases.ensures (ap settled_cases c.cases-given.ensures.cases) c.from_residual.ensures.1
 
 pub from_cases-requires : goal.from_cases-requires
@@ -19,7 +19,7 @@ from_cases-requires g c =
     rw (c.from.ensures, c.to.ensures) fit
 
 pub returns-clause-follows : goal.returns-clause-follows
-unfolding settled
+unfolding settled_formula
 returns-clause-follows g c =
     value_first _ c.in_ok-cases.ensures (ap settled_cases c.cases-given.ensures.cases)
     (at_end (c.from_cases.ensures ∙ (λ i. record { from = c.from.ensures i; to = c.to.ensures i; cases = c.in_ok-cases.cases })))

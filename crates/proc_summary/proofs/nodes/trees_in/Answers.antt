@@ -3,7 +3,7 @@ use Rattle.std.specs.Prelude.{Result, IfOk}
 use Rattle.posing.specs.declared.log.Log.{Log}
 use Rattle.posing.specs.Logs.{loss_notes, with_notes}
 use Rattle.posing.proofs.Steps.{in_other_words, notes_first}
-use Rattle.checked_tree.specs.Evaluation.{evaluated}
+use Rattle.checked_tree.specs.Evaluation.{evaluated_cells}
 use Rattle.checked_tree.specs.Graph.{graph_of}
 use Rattle.checked_tree.specs.Grown.{AreGrown, formulas_of, trees_of}
 use Rattle.checked_tree.specs.Law.{AreFittedCells, CellsHold, IsEvaluated}
@@ -42,7 +42,7 @@ returns-clause-follows g c = λ p is.
     let same : graph_of c.as_slice-2.result.now c.as_slice-3.result.now c.as_slice-4.result.now ≡ graph_of_parts c.in_ok-parts.parts =
     λ i. record { links = c.as_slice-2.ensures i; leaves = c.as_slice-3.ensures i; nodes = c.as_slice-4.ensures i } in
     notes_first c.in_ok-add_losses.ensures (ap loss_notes (c.as_slice.ensures ∙ made.lost))
-    (in_other_words (ap (λ h. evaluated h c.args.source) (same ∙ graph-made c.args.program.now c.args.proc p c.args.known.now is c.args.graph.now c.requires.graph c.in_ok-parts.parts made)) c.evaluate.ensures.follows)
+    (in_other_words (ap (λ h. evaluated_cells h c.args.source) (same ∙ graph-made c.args.program.now c.args.proc p c.args.known.now is c.args.graph.now c.requires.graph c.in_ok-parts.parts made)) c.evaluate.ensures.follows)
 
 pub returns-clause-grown : goal.returns-clause-grown
 returns-clause-grown g c = λ p is.

@@ -3,7 +3,7 @@ use Rattle.transition_formula.specs.Meaning.{Covers}
 use Rattle.syntax_tree.specs.WellFormed.{width_of}
 use Rattle.vocabularies.specs.Ends.{entry_width}
 use Rattle.leaf_cases.specs.Summaries.{SummaryIsMet}
-use Rattle.proc_summary.specs.Summary.{ends_of, exit_formula, exit_places, told_of}
+use Rattle.proc_summary.specs.Summary.{ends_of, exit_formula, exit_places, projection_of}
 use Rattle.proc_summary.proofs.Below.{some_at}
 use Rattle.proc_summary.proofs.Told.{summary-met}
 use Rattle.proc_summary.proofs.summary.project.Goals as goal
@@ -17,6 +17,6 @@ returns-clause-met g c = λ holds.
     let there = some_at program.procs c.args.proc c.requires.procedure in
     let p = there.0 in
     let is = there.1 in
-    IfOk-weaker c.exit_summary.result (λ f. Covers f (told_of (entry_width program p) (exit_places (ends_of program p)) (exit_formula (width_of program p) c.args.flow.now.exit.formula))) (SummaryIsMet program c.args.proc)
+    IfOk-weaker c.exit_summary.result (λ f. Covers f (projection_of (entry_width program p) (exit_places (ends_of program p)) (exit_formula (width_of program p) c.args.flow.now.exit.formula))) (SummaryIsMet program c.args.proc)
     (λ f covers. summary-met program c.args.proc p c.requires.formed is c.args.flow.now f (c.requires.flow p is) holds covers)
     (c.exit_summary.ensures.covers p is)

@@ -9,7 +9,7 @@ use Rattle.posing.specs.Posing.{◌>>=◌, each}
 use Rattle.posing.proofs.Paths.{bind-assoc}
 use Rattle.posing.proofs.Following.{stops}
 use Rattle.posing.proofs.Steps.{value_first, error_first, in_other_words}
-use Rattle.polyhedra.specs.Bounds.{IsCovered, IsCoveredByPosts, bounded_before, bounded_after, bounded_change}
+use Rattle.polyhedra.specs.Bounds.{IsCovered, IsCoveredByPosts, rows_with_entry_bound, rows_with_exit_bound, bounded_change}
 use Rattle.polyhedra.specs.Directions.{directions}
 use Rattle.polyhedra.specs.Squash.{after_from, change_after}
 use Rattle.polyhedra.proofs.Covering.{directions-covered, directions-covered_by_posts, posts-long}
@@ -38,7 +38,7 @@ ends-first : (body : Transition) (voc : Vocabulary) (rows : List Row)
     → bounds_at_ends body.cases (posts body) (directions voc) rows >>= (λ both. each (bounded_change body.cases (moves body) (Some (count body))) both (directions voc ++ voc.extra)) ≡ bound_rows body voc rows
 unfolding bound_rows bounds_at_ends
 ends-first body voc rows =
-    bind-assoc (each (bounded_before body.cases) rows (directions voc)) (λ before. each (bounded_after body.cases (posts body)) before (directions voc))
+    bind-assoc (each (rows_with_entry_bound body.cases) rows (directions voc)) (λ before. each (rows_with_exit_bound body.cases (posts body)) before (directions voc))
     (λ both. each (bounded_change body.cases (moves body) (Some (count body))) both (directions voc ++ voc.extra))
 
 pub returns-in_err-both : goal.returns-in_err-both

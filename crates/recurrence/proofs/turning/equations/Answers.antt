@@ -3,7 +3,7 @@ use Rattle.std.specs.List.{cons_option, filter_map, flat_map}
 use Rattle.std.specs.Prelude.{option_to_list}
 use Rattle.std.proofs.lemmas.List.{drop_more}
 use Rattle.linear_terms.specs.declared.row.Row.{Row}
-use Rattle.transition_formula.specs.Loss.{answered, losses_of}
+use Rattle.transition_formula.specs.Loss.{answer_of, losses_of}
 use Rattle.transition_formula.specs.declared.loss.Loss.{Loss}
 use Rattle.recurrence.specs.declared.terms.Term.{Term}
 use Rattle.recurrence.specs.Words.{row_of_term}
@@ -17,11 +17,11 @@ module _ (us vs : List ℕ) (terms : List Term) (i : ℕ) (t : Term) (within : i
   onto None rest = refl
   onto (Some row) rest = refl
 
-  rows-more : (rows : List Row) → rows ++ filter_map (λ u. answered (row_of_term us vs u)) (drop i terms) ≡ (rows ++ option_to_list (answered (row_of_term us vs t))) ++ filter_map (λ u. answered (row_of_term us vs u)) (drop (i + 1) terms)
+  rows-more : (rows : List Row) → rows ++ filter_map (λ u. answer_of (row_of_term us vs u)) (drop i terms) ≡ (rows ++ option_to_list (answer_of (row_of_term us vs t))) ++ filter_map (λ u. answer_of (row_of_term us vs u)) (drop (i + 1) terms)
   rows-more rows =
-      ap (λ rs. rows ++ filter_map (λ u. answered (row_of_term us vs u)) rs) here
-      ∙ ap (λ x. rows ++ x) (onto (answered (row_of_term us vs t)) (filter_map (λ u. answered (row_of_term us vs u)) (drop (i + 1) terms)))
-      ∙ sym (append_assoc rows (option_to_list (answered (row_of_term us vs t))) (filter_map (λ u. answered (row_of_term us vs u)) (drop (i + 1) terms)))
+      ap (λ rs. rows ++ filter_map (λ u. answer_of (row_of_term us vs u)) rs) here
+      ∙ ap (λ x. rows ++ x) (onto (answer_of (row_of_term us vs t)) (filter_map (λ u. answer_of (row_of_term us vs u)) (drop (i + 1) terms)))
+      ∙ sym (append_assoc rows (option_to_list (answer_of (row_of_term us vs t))) (filter_map (λ u. answer_of (row_of_term us vs u)) (drop (i + 1) terms)))
 
   losses-more : (losses : List Loss) → losses ++ flat_map (λ u. losses_of (row_of_term us vs u)) (drop i terms) ≡ (losses ++ losses_of (row_of_term us vs t)) ++ flat_map (λ u. losses_of (row_of_term us vs u)) (drop (i + 1) terms)
   losses-more losses =
@@ -38,7 +38,7 @@ loop-term-preserved c =
     let losses = c.in_ok-add_row.ensures.losses stated gives in
     record {
       rows =
-          ap (λ (rs : List Row). rs ++ filter_map (λ u. answered (row_of_term us vs u)) (drop (c.loop-term.term-index + 1) c.args.terms.now)) rows
+          ap (λ (rs : List Row). rs ++ filter_map (λ u. answer_of (row_of_term us vs u)) (drop (c.loop-term.term-index + 1) c.args.terms.now)) rows
           ∙ sym (rows-more us vs c.args.terms.now c.loop-term.term-index c.term-item.result c.loop-term-test.true c.term-item.is c.loop-term.rows)
           ∙ c.loop-term.invariant.rows;
       losses =

@@ -4,7 +4,7 @@ use Rattle.posing.specs.Posing.{each}
 use Rattle.posing.proofs.Following.{stops}
 use Rattle.posing.proofs.Steps.{value_first, error_first, in_other_words}
 use Rattle.polyhedra.specs.Bounds.{with_row}
-use Rattle.polyhedra.specs.Changes.{modified, moving}
+use Rattle.polyhedra.specs.Changes.{modified_variables, moving}
 use Rattle.polyhedra.proofs.Covering.{modified-few}
 use Rattle.recurrence.specs.Star.{after_from, terms_once}
 use Rattle.recurrence.specs.Words.{Ascend, row_of_term, turn_row, bound_rows}
@@ -48,7 +48,7 @@ returns-in_err-equations g c = stops _ _ _ _ _ _ c.in_err-equations.ensures.note
 pub returns-in_err-started : goal.returns-in_err-started
 returns-in_err-started g c =
     let body = c.args.body.now in
-    let us : c.as_slice-modified.result.now ≡ modified true body = c.as_slice-modified.ensures ∙ c.requires.movement.modified in
+    let us : c.as_slice-modified.result.now ≡ modified_variables true body = c.as_slice-modified.ensures ∙ c.requires.movement.modified in
     let vs : c.as_slice-moving.result.now ≡ moving true body = c.as_slice-moving.ensures ∙ c.requires.movement.moving in
     let ts : c.as_slice.result.now ≡ terms_once c.args.strata.now = c.as_slice.ensures ∙ c.in_ok-terms.ensures in
     in_other_words (rows-parts body c.args.voc.now c.args.strata.now)
@@ -59,7 +59,7 @@ returns-in_err-started g c =
 pub returns-in_err-bounds : goal.returns-in_err-bounds
 returns-in_err-bounds g c =
     let body = c.args.body.now in
-    let us : c.as_slice-modified.result.now ≡ modified true body = c.as_slice-modified.ensures ∙ c.requires.movement.modified in
+    let us : c.as_slice-modified.result.now ≡ modified_variables true body = c.as_slice-modified.ensures ∙ c.requires.movement.modified in
     let vs : c.as_slice-moving.result.now ≡ moving true body = c.as_slice-moving.ensures ∙ c.requires.movement.moving in
     let ts : c.as_slice.result.now ≡ terms_once c.args.strata.now = c.as_slice.ensures ∙ c.in_ok-terms.ensures in
     let started = c.in_ok-started.ensures ∙ (λ i. c.in_ok-equations.equations ++ turn_row (Aux (length (us i))) ∷ []) in
@@ -71,7 +71,7 @@ returns-in_err-bounds g c =
 pub returns : goal.returns
 returns g c =
     let body = c.args.body.now in
-    let us : c.as_slice-modified.result.now ≡ modified true body = c.as_slice-modified.ensures ∙ c.requires.movement.modified in
+    let us : c.as_slice-modified.result.now ≡ modified_variables true body = c.as_slice-modified.ensures ∙ c.requires.movement.modified in
     let vs : c.as_slice-moving.result.now ≡ moving true body = c.as_slice-moving.ensures ∙ c.requires.movement.moving in
     let ts : c.as_slice.result.now ≡ terms_once c.args.strata.now = c.as_slice.ensures ∙ c.in_ok-terms.ensures in
     let started = c.in_ok-started.ensures ∙ (λ i. c.in_ok-equations.equations ++ turn_row (Aux (length (us i))) ∷ []) in

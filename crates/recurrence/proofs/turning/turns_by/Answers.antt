@@ -5,7 +5,7 @@ use Rattle.posing.specs.Posing.{Posing, Done, Noted, ◌>>=◌}
 use Rattle.posing.proofs.Following.{stops}
 use Rattle.posing.proofs.Paths.{bind-assoc}
 use Rattle.posing.proofs.Steps.{value_first, error_first, notes_first, at_end, in_other_words}
-use Rattle.polyhedra.specs.Changes.{lost_changes, modified}
+use Rattle.polyhedra.specs.Changes.{lost_changes, modified_variables}
 use Rattle.polyhedra.specs.Vocabulary.{Vocabulary}
 use Rattle.polyhedra.proofs.Covering.{modified-few}
 use Rattle.recurrence.specs.Star.{posts, rows_of, turns}
@@ -14,11 +14,11 @@ use Rattle.recurrence.specs.Words.{rows_by_strata}
 use Rattle.recurrence.proofs.turning.turns_by.Goals as goal
 
 rows-first : (body : Transition) (voc : Vocabulary)
-    → Noted (lost_changes true body) (rows_by_strata body voc >>= λ rows. Done record { aux = length (modified true body) + 1; rows = rows; post = posts body }) ≡ turns body voc
+    → Noted (lost_changes true body) (rows_by_strata body voc >>= λ rows. Done record { aux = length (modified_variables true body) + 1; rows = rows; post = posts body }) ≡ turns body voc
 unfolding turns rows_by_strata ◌>>=◌
 rows-first body voc =
     ap (λ (p : Posing Case). Noted (lost_changes true body) p)
-    (bind-assoc (strata body) (rows_of body voc) (λ rows. Done record { aux = length (modified true body) + 1; rows = rows; post = posts body }))
+    (bind-assoc (strata body) (rows_of body voc) (λ rows. Done record { aux = length (modified_variables true body) + 1; rows = rows; post = posts body }))
 
 pub overflow_cast-aux : goal.overflow_cast-aux
 overflow_cast-aux g c =

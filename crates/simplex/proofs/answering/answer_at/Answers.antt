@@ -3,8 +3,8 @@ use Rattle.std.proofs.lemmas.List.{get_or_read}
 use Rattle.simplex.specs.Answers.{multipliers_of}
 use Rattle.simplex.specs.Exchange.{HasShape}
 use Rattle.simplex.specs.Search.{IsRefuted, FoundAt}
-use Rattle.simplex.specs.declared.search.Found.{Found}
-use Rattle.simplex.specs.declared.search.Found.TheVariants as found
+use Rattle.simplex.specs.declared.search.SearchEnd.{SearchEnd}
+use Rattle.simplex.specs.declared.search.SearchEnd.TheVariants as found
 use Rattle.simplex.proofs.Points.{multipliers-are}
 use Rattle.simplex.specs.Refusal.{IsRefusalIn}
 use Rattle.simplex.proofs.Refusing.{refused}
@@ -13,14 +13,14 @@ use Rattle.simplex.proofs.answering.answer_at.Goals as goal
 pub returns-in_err-corner-in-Corner-clause-refusal : goal.returns-in_err-corner-in-Corner-clause-refusal
 returns-in_err-corner-in-Corner-clause-refusal g c =
     let m : FoundAt g.over c.args.constants c.args.kinds.now c.args.budget c.args.stage.now.enters c.args.stage.now.tableau found.Corner =
-    subst (λ (f : Found). FoundAt g.over c.args.constants c.args.kinds.now c.args.budget c.args.stage.now.enters c.args.stage.now.tableau f) c.in-Corner.is c.requires in
+    subst (λ (f : SearchEnd). FoundAt g.over c.args.constants c.args.kinds.now c.args.budget c.args.stage.now.enters c.args.stage.now.tableau f) c.in-Corner.is c.requires in
     let known : IfErr c.corner.result (IsRefusalIn g.over (length c.args.kinds.now)) =
     refused g.over (length c.args.kinds.now) c.args.stage.now.tableau c.corner.result m.placed.marked.sized.tableau m.placed.marked.sized.primitive (sym m.placed.marked.sized.many) c.corner.ensures.refusal c.corner.ensures.calm in search rules
 
 pub returns-in_ok-by-in-Refuted-clause-of : goal.returns-in_ok-by-in-Refuted-clause-of
 returns-in_ok-by-in-Refuted-clause-of g c =
     let r : IsRefuted g.over c.args.constants c.args.kinds.now c.args.stage.now.tableau c.in-Refuted.line =
-    subst (λ (f : Found). FoundAt g.over c.args.constants c.args.kinds.now c.args.budget c.args.stage.now.enters c.args.stage.now.tableau f) c.in-Refuted.is c.requires in
+    subst (λ (f : SearchEnd). FoundAt g.over c.args.constants c.args.kinds.now c.args.budget c.args.stage.now.enters c.args.stage.now.tableau f) c.in-Refuted.is c.requires in
     let own : c.as_slice.result.now ≡ get_or c.args.stage.now.tableau.lines c.in-Refuted.line [] = get_or_read c.args.stage.now.tableau.lines c.in-Refuted.line c.as_slice.result.now r.here (search rules) [] in
     let exact : multipliers_of c.args.constants c.as_slice.result.now ≡ Ok c.in_ok-by-in-Refuted.by = search rules in (
       c.args.stage.now.tableau,

@@ -1,14 +1,14 @@
 use Rattle.std.proofs.Common.{arith, refl, ap, ◌∙◌, ◌≡◌, [], length, rules}
 use Rattle.farkas_check.specs.Columns.{columns}
-use Rattle.simplex.specs.Rows.{framed, kinds_of}
+use Rattle.simplex.specs.Rows.{framed_tableau, kinds_of}
 use Rattle.simplex.proofs.Framing.{kinds-length, solving-at}
 use Rattle.simplex.proofs.Honest.{found_at, refusal_at}
 use Rattle.simplex.proofs.answering.searched_rows.Goals as goal
 
-pub answered-requires : goal.answered-requires
-answered-requires c =
+pub search_answer-requires : goal.search_answer-requires
+search_answer-requires c =
     let cs : c.len.result ≡ length c.in_ok-columns.columns = search rules in
-    let t : c.in_ok-t.t ≡ framed c.in_ok-columns.columns c.args.rows.now = search rules in
+    let t : c.in_ok-t.t ≡ framed_tableau c.in_ok-columns.columns c.args.rows.now = search rules in
     let kinds : c.as_slice-2.result.now ≡ kinds_of c.args.rows.now = search rules in
     let many : length c.as_slice-2.result.now ≡ length c.args.rows.now = ap length kinds ∙ kinds-length c.args.rows.now in (
       solving-at c.in_ok-columns.columns c.args.rows.now c.len.result (length c.args.rows.now) c.as_slice-2.result.now c.in_ok-t.t cs refl t kinds,
@@ -19,14 +19,14 @@ pub returns-clause-found : goal.returns-clause-found
 returns-clause-found c =
     let columns_are : c.in_ok-columns.columns ≡ columns c.args.rows.now [] = search rules in
     let cs : c.len.result ≡ length c.in_ok-columns.columns = search rules in
-    let t : c.in_ok-t.t ≡ framed c.in_ok-columns.columns c.args.rows.now = search rules in
+    let t : c.in_ok-t.t ≡ framed_tableau c.in_ok-columns.columns c.args.rows.now = search rules in
     let kinds : c.as_slice-2.result.now ≡ kinds_of c.args.rows.now = search rules in
-    found_at c.args.rows.now c.args.budget c.len.result (length c.args.rows.now) c.in_ok-columns.columns c.as_slice-2.result.now c.in_ok-t.t c.answered.result columns_are cs refl kinds t c.answered.ensures.of
+    found_at c.args.rows.now c.args.budget c.len.result (length c.args.rows.now) c.in_ok-columns.columns c.as_slice-2.result.now c.in_ok-t.t c.search_answer.result columns_are cs refl kinds t c.search_answer.ensures.of
 
 pub returns-clause-refusal : goal.returns-clause-refusal
 returns-clause-refusal c =
     let columns_are : c.in_ok-columns.columns ≡ columns c.args.rows.now [] = search rules in
     let cs : c.len.result ≡ length c.in_ok-columns.columns = search rules in
-    let t : c.in_ok-t.t ≡ framed c.in_ok-columns.columns c.args.rows.now = search rules in
+    let t : c.in_ok-t.t ≡ framed_tableau c.in_ok-columns.columns c.args.rows.now = search rules in
     let kinds : c.as_slice-2.result.now ≡ kinds_of c.args.rows.now = search rules in
-    refusal_at c.args.rows.now c.len.result (length c.args.rows.now) c.in_ok-columns.columns c.as_slice-2.result.now c.in_ok-t.t c.answered.result columns_are cs refl kinds t c.answered.ensures.refusal
+    refusal_at c.args.rows.now c.len.result (length c.args.rows.now) c.in_ok-columns.columns c.as_slice-2.result.now c.in_ok-t.t c.search_answer.result columns_are cs refl kinds t c.search_answer.ensures.refusal

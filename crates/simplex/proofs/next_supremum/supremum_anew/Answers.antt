@@ -3,7 +3,7 @@ use Rattle.std.specs.Prelude.{IfErr}
 use Rattle.simplex.specs.Endings.{FoundFor}
 use Rattle.simplex.specs.Refusal.{IsRefusalIn}
 use Rattle.simplex.specs.Suprema.{frame_over}
-use Rattle.simplex.specs.declared.search.Found.{Found}
+use Rattle.simplex.specs.declared.search.SearchEnd.{SearchEnd}
 use Rattle.simplex.proofs.OwnColumns.{refused_over, refuted_over, spent_over}
 use Rattle.simplex.proofs.next_supremum.supremum_anew.Goals as goal
 
@@ -15,9 +15,9 @@ returns-in_err-stage-clause-refusal c =
 pub returns-in-Refuted-clause-supremum : goal.returns-in-Refuted-clause-supremum
 returns-in-Refuted-clause-supremum c =
     refuted_over c.args.rows.now c.args.objective.now c.args.columns.now c.args.own c.requires.columns c.requires.own c.args.budget c.in-Refuted._line c.in_ok-stage.stage.enters c.in_ok-stage.stage.tableau
-    (subst (λ (f : Found). FoundFor c.args.own c.args.rows.now c.args.objective.now c.args.budget c.in_ok-stage.stage.enters c.in_ok-stage.stage.tableau f) c.in-Refuted.is c.in_ok-stage.ensures.found)
+    (subst (λ (f : SearchEnd). FoundFor c.args.own c.args.rows.now c.args.objective.now c.args.budget c.in_ok-stage.stage.enters c.in_ok-stage.stage.tableau f) c.in-Refuted.is c.in_ok-stage.ensures.found)
 
 pub returns-in-Pivots-clause-supremum : goal.returns-in-Pivots-clause-supremum
 returns-in-Pivots-clause-supremum c =
     spent_over c.args.rows.now c.args.objective.now c.args.columns.now c.args.own c.requires.columns c.requires.own c.args.budget c.in_ok-stage.stage.enters c.in_ok-stage.stage.tableau
-    (subst (λ (f : Found). FoundFor c.args.own c.args.rows.now c.args.objective.now c.args.budget c.in_ok-stage.stage.enters c.in_ok-stage.stage.tableau f) c.in-Pivots.is c.in_ok-stage.ensures.found)
+    (subst (λ (f : SearchEnd). FoundFor c.args.own c.args.rows.now c.args.objective.now c.args.budget c.in_ok-stage.stage.enters c.in_ok-stage.stage.tableau f) c.in-Pivots.is c.in_ok-stage.ensures.found)

@@ -1,4 +1,4 @@
 use Rattle.simplex.proofs.raise.one_turn.Given as goal
 
-abbrev pub ghost-moved : goal.ghost-moved
-ghost-moved g a = g.over
+abbrev pub ghost-exchange_column : goal.ghost-exchange_column
+ghost-exchange_column g a = g.over

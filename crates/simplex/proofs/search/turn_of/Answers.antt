@@ -10,8 +10,8 @@ use Rattle.simplex.specs.declared.raise.RaiseEnd.TheVariants as raised
 use Rattle.simplex.proofs.Settles.{begins, kept-met, kept-open, refuted-best}
 use Rattle.simplex.proofs.search.turn_of.Goals as goal
 
-pub raised_to-requires : goal.raised_to-requires
-raised_to-requires g c =
+pub raised_goal-requires : goal.raised_goal-requires
+raised_goal-requires g c =
     let es : c.as_slice-3.result.now ≡ c.args.stage.enters = search rules in
     let ks : c.as_slice-4.result.now ≡ keys_of c.args.stage.enters c.args.constants c.args.stage.tableau = search rules in (
       subst (λ (enters : List Bool). Begins g.over enters c.args.constants c.as_slice-4.result.now c.args.i c.args.stage.tableau) (sym es)
@@ -30,7 +30,7 @@ returns-in-Met-clause-came g c =
     let ends : EndsAt g.over c.args.stage.enters c.args.constants (pos 1) true c.args.i c.args.budget c.in_ok-raised.raised raised.Met =
     subst (λ (enters : List Bool). EndsAt g.over enters c.args.constants (pos 1) true c.args.i c.args.budget c.in_ok-raised.raised raised.Met) es
     (subst (λ (came : RaiseEnd). EndsAt g.over c.as_slice-3.result.now c.args.constants (pos 1) true c.args.i c.args.budget c.in_ok-raised.raised came) c.in-Met.is c.in_ok-raised.ensures.ends) in
-    let made : c.kept.result ≡ record { tableau = c.in_ok-raised.raised; enters = slice_set c.args.stage.enters (c.args.constants + 1 + c.args.i) true } = search rules in
+    let made : c.stage_with_row.result ≡ record { tableau = c.in_ok-raised.raised; enters = slice_set c.args.stage.enters (c.args.constants + 1 + c.args.i) true } = search rules in
     subst (λ (s : Stage). IsKept g.over c.args.constants c.args.kinds.now c.args.i c.args.stage.enters s.enters s.tableau) (sym made)
     (kept-met g.over c.args.constants c.args.kinds.now c.args.stage.enters (pos 1) c.args.stage.tableau c.in_ok-raised.raised c.args.i c.in_ok-raised.ensures.tableau.0 c.requires.0 r c.requires.1.1.1.1 c.requires.1.0 c.requires.1.1.0 c.requires.1.1.1.0 ends.1)
 
@@ -45,7 +45,7 @@ returns-in-Open-clause-came g c =
     subst (λ (enters : List Bool). EndsAt g.over enters c.args.constants (pos 1) true c.args.i c.args.budget c.in_ok-raised.raised (raised.Open c.in-Open.column)) es
     (subst (λ (came : RaiseEnd). EndsAt g.over c.as_slice-3.result.now c.args.constants (pos 1) true c.args.i c.args.budget c.in_ok-raised.raised came) c.in-Open.is c.in_ok-raised.ensures.ends) in
     let exact : exchange c.in_ok-raised.raised c.args.i c.in-Open.column ≡ Ok c.in_ok-next-in-Open.next = search rules in
-    let made : c.kept-in-Open.result ≡ record { tableau = c.in_ok-next-in-Open.next; enters = slice_set c.args.stage.enters (c.args.constants + 1 + c.args.i) true } = search rules in
+    let made : c.stage_with_row-in-Open.result ≡ record { tableau = c.in_ok-next-in-Open.next; enters = slice_set c.args.stage.enters (c.args.constants + 1 + c.args.i) true } = search rules in
     subst (λ (s : Stage). IsKept g.over c.args.constants c.args.kinds.now c.args.i c.args.stage.enters s.enters s.tableau) (sym made)
     (kept-open g.over c.args.constants c.args.kinds.now c.args.stage.enters c.args.stage.tableau c.in_ok-raised.raised c.in_ok-next-in-Open.next c.args.i c.in-Open.column c.in_ok-raised.ensures.tableau.0 c.requires.0 r c.requires.1.1.1.1 c.requires.1.0 c.requires.1.1.0 c.requires.1.1.1.0 ends.0 ends.1 exact)
 

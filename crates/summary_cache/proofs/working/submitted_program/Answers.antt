@@ -5,7 +5,7 @@ use Rattle.syntax_tree.specs.declared.program.Program.{Program}
 use Rattle.syntax_tree.specs.WellFormed.{IsWellFormed}
 use Rattle.analysis.specs.declared.places.TextPlace.{TextPlace}
 use Rattle.analysis.specs.Plan.{IsPlan}
-use Rattle.analysis.specs.Analysis.{ended_by}
+use Rattle.analysis.specs.Analysis.{report_by_findings}
 use Rattle.analysis.proofs.Quiet.{ended-quiet}
 use Rattle.kept_groups.specs.declared.over.FoundParts.{FoundParts}
 use Rattle.kept_groups.specs.Outcomes.{IsFoundOver}
@@ -32,13 +32,13 @@ places_of-requires-clause-ascend g c =
     (subst (λ (p : Program). IsTrue (ascends_from 0 p.checks)) (sym c.with_rule-program.ensures)
     (c.assertions_ascend.ensures c.args.text.now c.args.program c.requires.accepted))
 
-pub found_over-requires-clause-formed : goal.found_over-requires-clause-formed
-found_over-requires-clause-formed g c =
+pub findings_over-requires-clause-formed : goal.findings_over-requires-clause-formed
+findings_over-requires-clause-formed g c =
     subst IsWellFormed (sym c.with_rule-program.ensures)
     (c.rules_are_free.ensures c.args.program c.args.rule (c.accepted_is_well_formed.ensures c.args.text.now c.args.program c.requires.accepted) c.requires.rule)
 
-pub ended_by-requires-clause-formed : goal.ended_by-requires-clause-formed
-ended_by-requires-clause-formed g c =
+pub report_by_findings-requires-clause-formed : goal.report_by_findings-requires-clause-formed
+report_by_findings-requires-clause-formed g c =
     subst IsWellFormed (sym c.with_rule-program.ensures)
     (c.rules_are_free.ensures c.args.program c.args.rule (c.accepted_is_well_formed.ensures c.args.text.now c.args.program c.requires.accepted) c.requires.rule)
 
@@ -63,9 +63,9 @@ returns-in_err-found-clause-works g c =
       formed = subst IsWellFormed (sym under) formed;
     } in
     let old = c.args.oracle.now in
-    let new = c.found_over.new.oracle in
+    let new = c.findings_over.new.oracle in
     let from = c.args.steps.now in
-    let to = c.found_over.new.steps in
+    let to = c.findings_over.new.steps in
     let error = c.in_err-found.field-0.0 in
     let came = in-groups O rule before old new new text program ruled plan places asked c.requires.kept _ _ from to (Err error) c.groups_of-kept.ensures c.as_slice-2.ensures c.in_err-found.ensures.comes in
     fails O rule before old new new text program ruled plan places asked c.requires.kept error _ c.from_residual-in_err-found.ensures.1
@@ -92,15 +92,15 @@ returns-in_err-report-clause-works g c =
       formed = subst IsWellFormed (sym under) formed;
     } in
     let old = c.args.oracle.now in
-    let mid = c.found_over.new.oracle in
-    let new = c.ended_by.new.oracle in
+    let mid = c.findings_over.new.oracle in
+    let new = c.report_by_findings.new.oracle in
     let from = c.args.steps.now in
-    let to = c.found_over.new.steps in
+    let to = c.findings_over.new.steps in
     let made : FoundParts = c.in_ok-found.field-0 in
     let over = in-groups O rule before old mid new text program ruled plan places asked c.requires.kept _ _ from to _ c.groups_of-kept.ensures c.as_slice-2.ensures c.in_ok-found.ensures.comes in
     let error = c.in_err-report.field-0.0 in
     fails O rule before old mid new text program ruled plan places asked c.requires.kept error _ c.from_residual-in_err-report.ensures.1
-    (end-fails O rule before old mid new text program ruled plan places asked c.requires.kept from to made over c.new-log.result c.ended_by.new.log c.new-log.ensures error c.in_err-report.ensures.follows)
+    (end-fails O rule before old mid new text program ruled plan places asked c.requires.kept from to made over c.new-log.result c.report_by_findings.new.log c.new-log.ensures error c.in_err-report.ensures.follows)
 
 pub returns-clause-works : goal.returns-clause-works
 returns-clause-works g c =
@@ -126,14 +126,14 @@ returns-clause-works g c =
     } in
     let theirs = ap (map (λ (at : TextPlace). at.at)) are ∙ text-places text program.checks ∙ sym checks in
     let old = c.args.oracle.now in
-    let mid = c.found_over.new.oracle in
-    let new = c.ended_by.new.oracle in
+    let mid = c.findings_over.new.oracle in
+    let new = c.report_by_findings.new.oracle in
     let from = c.args.steps.now in
-    let to = c.found_over.new.steps in
+    let to = c.findings_over.new.steps in
     let made : FoundParts = c.in_ok-found.field-0 in
     let whole = c.in_ok-found.ensures.whole in
     let over = in-groups O rule before old mid new text program ruled plan places asked c.requires.kept _ _ from to _ c.groups_of-kept.ensures c.as_slice-2.ensures c.in_ok-found.ensures.comes in
-    let ended = quiet-ended O mid new c.new-log.result c.ended_by.new.log (ended_by ruled places made.found) c.new-log.ensures (ended-quiet ruled places made.found) report c.in_ok-report.ensures.follows in
+    let ended = quiet-ended O mid new c.new-log.result c.report_by_findings.new.log (report_by_findings ruled places made.found) c.new-log.ensures (ended-quiet ruled places made.found) report c.in_ok-report.ensures.follows in
     let counted = c.counts_of-counts.ensures ∙ ap (λ n. counts_of made.work n report) c.len.ensures in
-    submitted O rule before old mid new text program ruled plan places asked c.requires.kept from to made over c.claims_know_no_rule.ensures report c.ended_by.new.log.answers _ _ ended
+    submitted O rule before old mid new text program ruled plan places asked c.requires.kept from to made over c.claims_know_no_rule.ensures report c.report_by_findings.new.log.answers _ _ ended
     (c.in_ok-report.ensures.met whole.met) (c.in_ok-report.ensures.covers theirs) c.in_ok-report.ensures.points refl counted

@@ -1,6 +1,6 @@
 use Rattle.std.proofs.Common.{ℕ, ◌++◌, length, sym, ap, subst, ◌∙◌}
 use Rattle.std.specs.Prelude.{IsTrue, ◌==◌}
-use Rattle.transition_formula.specs.Composition.{lost_by}
+use Rattle.transition_formula.specs.Composition.{losses_by}
 use Rattle.transition_formula.specs.Hiding.{hiding, hidden_case}
 use Rattle.transition_formula.specs.Transition.{fits, is_below, every_column_of}
 use Rattle.transition_formula.proofs.Covered.{both}
@@ -22,7 +22,7 @@ loop-case-preserved c =
           c.loop-case-test.true c.case-item.is (c.in_ok-made.ensures.exact ∙ ap (λ (n : ℕ). hidden_case c.args.n n c.case-item.result) c.from.ensures) c.in_ok-push.ensures.ok
           ∙ c.loop-case.invariant.made;
       noted =
-          one_gathered (λ case. lost_by (hiding c.args.n c.args.f.now.from case) case) c.cases-case-items.result.now c.loop-case.case-index c.case-item.result c.loop-case.losses c.hidden_case.new.losses
-          c.loop-case-test.true c.case-item.is (c.in_ok-made.ensures.noted ∙ ap (λ (n : ℕ). c.loop-case.losses ++ lost_by (hiding c.args.n n c.case-item.result) c.case-item.result) c.from.ensures)
+          one_gathered (λ case. losses_by (hiding c.args.n c.args.f.now.from case) case) c.cases-case-items.result.now c.loop-case.case-index c.case-item.result c.loop-case.losses c.hidden_case.new.losses
+          c.loop-case-test.true c.case-item.is (c.in_ok-made.ensures.noted ∙ ap (λ (n : ℕ). c.loop-case.losses ++ losses_by (hiding c.args.n n c.case-item.result) c.case-item.result) c.from.ensures)
           ∙ c.loop-case.invariant.noted;
     }

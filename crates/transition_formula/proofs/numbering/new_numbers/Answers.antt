@@ -5,8 +5,8 @@ use Rattle.transition_formula.proofs.Numbers.{count_below-most, count_below-next
 use Rattle.transition_formula.proofs.Ranges.{counted_more}
 use Rattle.transition_formula.proofs.numbering.new_numbers.Goals as goal
 
-pub counted-count-requires : goal.counted-count-requires
-counted-count-requires c = omega (arith, count_below-most (occurs_in c.args.case.now) c.loop-number.number, c.loop-number.invariant.count)
+pub count_with-count-requires : goal.count_with-count-requires
+count_with-count-requires c = omega (arith, count_below-most (occurs_in c.args.case.now) c.loop-number.number, c.loop-number.invariant.count)
 
 pub loop-number-preserved : goal.loop-number-preserved
 loop-number-preserved c =
@@ -15,7 +15,7 @@ loop-number-preserved c =
     record {
       made = counted_more (new_number case) 0 n n c.loop-number.numbers c.push.new.self c.loop-number.count (omega arith) c.loop-number.invariant.made c.loop-number.invariant.count c.in_ok-push.ensures.ok;
       count =
-          c.counted-count.ensures
+          c.count_with-count.ensures
           ∙ (λ i. cond (c.occurs_in.ensures i) (c.loop-number.invariant.count i + 1) (c.loop-number.invariant.count i))
           ∙ sym (count_below-next (occurs_in case) n);
     }

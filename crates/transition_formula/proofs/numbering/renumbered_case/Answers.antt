@@ -3,7 +3,7 @@ use Rattle.std.specs.Prelude.{IsTrue, slice_index}
 use Rattle.std.specs.List.{list_all, list_any}
 use Rattle.linear_terms.specs.declared.row.Row.{Row}
 use Rattle.linear_terms.specs.Polynomial.{Polynomial}
-use Rattle.linear_terms.specs.Auxiliaries.{occurs, renumbered, is_numbered, KeepsOrder}
+use Rattle.linear_terms.specs.Auxiliaries.{occurs, renumbered_polynomial, is_numbered, KeepsOrder}
 use Rattle.transition_formula.specs.Transition.{every_column}
 use Rattle.transition_formula.specs.Renumbering.{renumbered_row}
 use Rattle.transition_formula.proofs.Numbers.{IsNumbering, numbered, many_numbers, rows_numbered, posts_numbered, rows_order, posts_order, renumbered_made}
@@ -50,4 +50,4 @@ returns c =
     let numbers = c.as_slice-numbers.result.now in
     let list : IsNumbering numbers case = record { is = c.as_slice-numbers.ensures ∙ c.in_ok-numbers.ensures } in
     renumbered_made numbers case list (numbered case c.requires) (slice_index numbers case.aux) c.in_ok-rows.rows c.in_ok-post.post refl
-    (c.in_ok-rows.ensures ∙ ap (map (renumbered_row (slice_index numbers))) c.as_slice.ensures) (c.in_ok-post.ensures ∙ ap (map (renumbered (slice_index numbers))) c.as_slice-2.ensures)
+    (c.in_ok-rows.ensures ∙ ap (map (renumbered_row (slice_index numbers))) c.as_slice.ensures) (c.in_ok-post.ensures ∙ ap (map (renumbered_polynomial (slice_index numbers))) c.as_slice-2.ensures)

@@ -1,7 +1,7 @@
 use Rattle.std.proofs.Common.{length, sym, subst, ◌∙◌}
 use Rattle.std.specs.Prelude.{IsTrue, ◌==◌}
 use Rattle.transition_formula.specs.Transition.{fits, is_below, every_column_of}
-use Rattle.transition_formula.specs.Composition.{sequence_of_cases, lost_by, after_case}
+use Rattle.transition_formula.specs.Composition.{sequence_of_cases, losses_by, after_case}
 use Rattle.transition_formula.proofs.Covered.{both}
 use Rattle.transition_formula.proofs.Loops.{test_at, one_mapped, one_gathered}
 use Rattle.transition_formula.proofs.sequence.before_each.Goals as goal
@@ -21,7 +21,7 @@ loop-second-preserved c =
           c.loop-second-test.true c.second-item.is c.in_ok-sequence.ensures.exact c.in_ok-push.ensures.ok
           ∙ c.loop-second.invariant.made;
       noted =
-          one_gathered (λ second. lost_by (after_case c.args.first.now second) second) c.cases-second-items.result.now c.loop-second.second-index c.second-item.result c.loop-second.losses c.sequence.new.losses
+          one_gathered (λ second. losses_by (after_case c.args.first.now second) second) c.cases-second-items.result.now c.loop-second.second-index c.second-item.result c.loop-second.losses c.sequence.new.losses
           c.loop-second-test.true c.second-item.is c.in_ok-sequence.ensures.noted
           ∙ c.loop-second.invariant.noted;
     }

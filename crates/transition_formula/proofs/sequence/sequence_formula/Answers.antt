@@ -1,6 +1,6 @@
 use Rattle.std.proofs.Common.{◌≡◌, ◌++◌, ℤ, List, map, sym, subst, ◌∙◌}
 use Rattle.std.specs.List.{flat_map}
-use Rattle.transition_formula.specs.Composition.{sequence_of_cases, sequence_of, lost_in_sequence, lost_by, after_case}
+use Rattle.transition_formula.specs.Composition.{sequence_of_cases, sequence_of, losses_in_sequence, losses_by, after_case}
 use Rattle.transition_formula.specs.Transition.{Transition, IsTransition}
 use Rattle.linear_terms.specs.declared.row.Case.{Case}
 use Rattle.transition_formula.specs.Meaning.{Holds}
@@ -17,7 +17,7 @@ loop-first-preserved c =
           c.loop-first-test.true c.first-item.is c.in_ok-before_each.ensures.made
           ∙ c.loop-first.invariant.made;
       noted =
-          one_gathered (λ first. flat_map (λ second. lost_by (after_case first second) second) c.args.b.now.cases) c.cases-first-items.result.now c.loop-first.first-index c.first-item.result c.loop-first.losses c.before_each.new.losses
+          one_gathered (λ first. flat_map (λ second. losses_by (after_case first second) second) c.args.b.now.cases) c.cases-first-items.result.now c.loop-first.first-index c.first-item.result c.loop-first.losses c.before_each.new.losses
           c.loop-first-test.true c.first-item.is c.in_ok-before_each.ensures.noted
           ∙ c.loop-first.invariant.noted;
     }
@@ -51,9 +51,9 @@ returns-clause-at_most c before after kept =
     let a = c.args.a.now in
     let b = c.args.b.now in
     let made = all_gathered (λ first. map (sequence_of_cases first) b.cases) c.cases-first-items.result.now c.loop-first.first-index c.loop-first.cases (sequence_of a b).cases c.loop-first-test.false c.loop-first.invariant.made in
-    let noted = all_gathered (λ first. flat_map (λ second. lost_by (after_case first second) second) b.cases) c.cases-first-items.result.now c.loop-first.first-index c.loop-first.losses (c.args.losses.now ++ lost_in_sequence a b) c.loop-first-test.false c.loop-first.invariant.noted in
+    let noted = all_gathered (λ first. flat_map (λ second. losses_by (after_case first second) second) b.cases) c.cases-first-items.result.now c.loop-first.first-index c.loop-first.losses (c.args.losses.now ++ losses_in_sequence a b) c.loop-first-test.false c.loop-first.invariant.noted in
     let a_fits : IsTransition a.from a.to a.cases = subst (λ (f : Transition). IsTransition f.from f.to f.cases) c.a.view_is c.a.invariant in
     let b_fits : IsTransition b.from b.to b.cases = subst (λ (f : Transition). IsTransition f.from f.to f.cases) c.b.view_is c.b.invariant in
     let same = sequence_made a b (transition c.a.inside.from c.a.inside.to c.a.inside.cases) (transition c.b.inside.from c.b.inside.to c.b.inside.cases) c.loop-first.cases c.a.view_is c.b.view_is made in
-    let none = nothing-more c.args.losses.now (lost_in_sequence a b) (sym noted ∙ kept) in
+    let none = nothing-more c.args.losses.now (losses_in_sequence a b) (sym noted ∙ kept) in
     subst (λ (f : Transition). Holds f before after → (middle : List ℤ) × (Holds a before middle × Holds b middle after)) (sym same) (sequence-held a b c.requires.between a_fits b_fits none before after)

@@ -10,6 +10,6 @@ returns-in_ok-clone-in-None c =
 
 pub returns-in-Some : goal.returns-in-Some
 returns-in-Some c =
-    IfOk-weaker c.met_with.result _ _
+    IfOk-weaker c.row_met_with.result _ _
     (λ made is. is ∙ met_one c.args.row.now c.args.rows.now c.requires.apart c.args.place c.in-Some.other c.index-rows-other.result (sym c.in-Some.is ∙ c.in_ok-other.ensures.first) c.index-rows-other.is)
-    c.met_with.ensures
+    c.row_met_with.ensures

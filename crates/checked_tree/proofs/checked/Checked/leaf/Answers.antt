@@ -4,7 +4,7 @@ use Rattle.posing.proofs.Steps.{in_other_words}
 use Rattle.polyhedra.specs.Laws.{HaveCanonicalRows}
 use Rattle.checked_tree.specs.Evaluation.{leaf_formula}
 use Rattle.checked_tree.specs.Law.{IsEnd, IsFrom}
-use Rattle.checked_tree.specs.declared.mark.Mark.{Mark}
+use Rattle.checked_tree.specs.declared.mark.LogMark.{LogMark}
 use Rattle.checked_tree.specs.Tree.{own_of, formula_of, tree_of}
 use Rattle.checked_tree.specs.Tree as tree
 use Rattle.checked_tree.proofs.Kept.{made-by, new-by, notes-within, answers-within, fails, halts, as_value}
@@ -38,10 +38,10 @@ pub returns-clause-to_is : goal.returns-clause-to_is
 returns-clause-to_is g c = ap (λ t. (own_of t).to) c.in_ok-tree.ensures.is
 
 pub of_leaf-requires-clause-notes : goal.of_leaf-requires-clause-notes
-of_leaf-requires-clause-notes g c = subst (λ (m : Mark). m.notes ≤ length c.leaf.new.log.notes) (sym c.of-mark.ensures) (notes-within (in_other_words (λ i. leaf_formula c.args.given.now (c.deref.ensures i) (c.deref-2.ensures i)) c.in_ok-formula.ensures))
+of_leaf-requires-clause-notes g c = subst (λ (m : LogMark). m.notes ≤ length c.leaf.new.log.notes) (sym c.of-mark.ensures) (notes-within (in_other_words (λ i. leaf_formula c.args.given.now (c.deref.ensures i) (c.deref-2.ensures i)) c.in_ok-formula.ensures))
 
 pub of_leaf-requires-clause-answers : goal.of_leaf-requires-clause-answers
-of_leaf-requires-clause-answers g c = subst (λ (m : Mark). m.answers ≤ length c.leaf.new.log.answers) (sym c.of-mark.ensures) (answers-within (in_other_words (λ i. leaf_formula c.args.given.now (c.deref.ensures i) (c.deref-2.ensures i)) c.in_ok-formula.ensures))
+of_leaf-requires-clause-answers g c = subst (λ (m : LogMark). m.answers ≤ length c.leaf.new.log.answers) (sym c.of-mark.ensures) (answers-within (in_other_words (λ i. leaf_formula c.args.given.now (c.deref.ensures i) (c.deref-2.ensures i)) c.in_ok-formula.ensures))
 
 pub returns-in_err-formula-clause-follows : goal.returns-in_err-formula-clause-follows
 returns-in_err-formula-clause-follows g c = fails c.from_residual.result (λ t. formula_of (tree_of t)) c.in_err-formula.ensures (λ i. leaf_formula c.args.given.now (c.deref.ensures i) (c.deref-2.ensures i)) c.from_residual.ensures.1

@@ -1,7 +1,7 @@
 use Rattle.std.proofs.Common.{◌≡◌, ◌<◌, ℕ, List, length, get_or, set, ap, sym, refl, arith, ◌∙◌}
 use Rattle.std.proofs.lemmas.List.{get_or_default, length-map}
-use Rattle.flow_graph.specs.declared.components.Mark.{Mark}
-use Rattle.flow_graph.specs.declared.components.Mark.TheVariants.{Done}
+use Rattle.flow_graph.specs.declared.components.NumberMark.{NumberMark}
+use Rattle.flow_graph.specs.declared.components.NumberMark.TheVariants.{Done}
 use Rattle.flow_graph.specs.Search.{state_of, left_mark, on_path}
 use Rattle.flow_graph.proofs.Leaving.{none_yet, one_more, place_within}
 use Rattle.flow_graph.proofs.components.Search.leave.Goals as goal
@@ -24,7 +24,7 @@ index_mut-requires c =
     c.index.ensures ∙ ap (λ (xs : List ℕ). get_or xs k c.index.result.now) same ∙ get_or_default s.path k c.index.result.now 0 here in
     let low = place_within s k c.requires.marked here in
     let long : length c.loop-place.self.marks.items ≡ length s.marks =
-    ap (λ (xs : List Mark). length xs) c.loop-place.invariant.marks ∙ length-map s.marks (left_mark c.args.at k s.groups) in
+    ap (λ (xs : List NumberMark). length xs) c.loop-place.invariant.marks ∙ length-map s.marks (left_mark c.args.at k s.groups) in
     omega (arith, number, low, long, c.loop-place.self.marks.ok.0)
 
 pub loop-place-preserved : goal.loop-place-preserved

@@ -1,6 +1,6 @@
 use Rattle.std.proofs.Common.{ℕ, List, subst, sym, ap, ◌∙◌}
 use Rattle.typing.specs.declared.scopes.Declaration.{Declaration}
-use Rattle.typing.specs.InForce.{after_declaration, held_by, IsInForce, RestoresAll, shown}
+use Rattle.typing.specs.InForce.{after_declaration, entry_for, IsInForce, RestoresAll, scopes_of}
 use Rattle.typing.proofs.InForce.{with_variable-again, with_scope}
 use Rattle.typing.proofs.scopes.Scopes.with.Goals as goal
 
@@ -13,8 +13,8 @@ invariant_of-result c =
     let made = with_variable-again old c.declare_in.new.index.entries rest scope c.args.name c.args.meaning c.look_up-hidden.result known
     c.look_up-hidden.ensures
     (λ other. c.in_ok-declare_in.ensures other
-    ∙ ap (λ (depth : ℕ). after_declaration c.args.name record { depth = depth; meaning = c.args.meaning } c.look_up-hidden.result (held_by old other) other)
+    ∙ ap (λ (depth : ℕ). after_declaration c.args.name record { depth = depth; meaning = c.args.meaning } c.look_up-hidden.result (entry_for old other) other)
     c.len-depth.ensures) in
-    subst (λ (stack : List (List Declaration)). IsInForce c.declare_in.new.index.entries (shown stack) × RestoresAll stack)
+    subst (λ (stack : List (List Declaration)). IsInForce c.declare_in.new.index.entries (scopes_of stack) × RestoresAll stack)
     (sym c.in_ok-push_scope.ensures)
     made

@@ -1,4 +1,0 @@
-use Rattle.replay.proofs.text.Text.put_cause.Goals as goal
-
-pub returns-in-Zero : goal.returns-in-Zero
-returns-in-Zero c = rw c.in-Zero.is c.put-in-Zero.ensures

@@ -1,7 +1,0 @@
-use Rattle.std.proofs.Common.{◌≡◌, ◌++◌, ◌+◌, drop}
-use Rattle.report.specs.Text.{judged_from}
-use Rattle.report.proofs.text.Text.put_assertions.Given as goal
-
-abbrev pub invariant-loop-i : goal.invariant-loop-i
-invariant-loop-i l =
-    l.self ++ judged_from l.blocks (l.i + 1) (drop l.i l.judged) ≡ l.fn.self ++ judged_from l.blocks 1 l.judged

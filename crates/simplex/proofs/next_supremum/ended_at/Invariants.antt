@@ -1,4 +1,0 @@
-use Rattle.simplex.proofs.next_supremum.ended_at.Given as goal
-
-abbrev pub ghost-topped_stage : goal.ghost-topped_stage
-ghost-topped_stage g a = g.over
