@@ -29,7 +29,7 @@ fn distinct_answers(alloc: Global, distinct: IndexSet<Answer>) -> Result<Items<A
 }
 
 /// The distinct answers in the order of their first use, and for each answer its place among these:
-/// how a file of the second version and `Replay::shared` have them.
+/// how a file of the second version and `ListedAnswers::with_order` have them.
 pub fn share(
     alloc: Global,
     answers: Items<Answer>,
