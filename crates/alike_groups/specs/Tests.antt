@@ -21,14 +21,17 @@ use Rattle.newton_rounds.specs.Members.{place_of}
 
 -- ---- formulas
 
+-- whether two rows have the same polynomial and the same kind
 abbrev pub is_same_row : Row → Row → Bool
 is_same_row row other = poly_eq row.poly other.poly && sameb the_kinds row.kind other.kind
 
+-- whether two cases have as many auxiliaries, and the same rows and posts in the same order
 abbrev pub is_same_case : Case → Case → Bool
 is_same_case case other =
     case.aux == other.aux
     && (pointwise is_same_row case.rows other.rows && pointwise poly_eq case.post other.post)
 
+-- whether two formulas go between as many columns, by the same cases in the same order
 unfoldable pub is_same_formula : Transition → Transition → Bool
 is_same_formula f g = f.from == g.from && (f.to == g.to && pointwise is_same_case f.cases g.cases)
 
@@ -40,6 +43,8 @@ is_alike_place (Some place) (Some there) known = place == there
 is_alike_place None None known = known
 is_alike_place _ _ known = false
 
+-- whether two procedures that are called stand at the same place of their groups; or both outside,
+-- with the same known of them
 unfoldable pub is_alike_callee : List ℕ → List ℕ → List (Option Transition)
     → List (Option Transition) → ℕ → ℕ → Bool
 is_alike_callee procs others known other_known proc next =
@@ -53,6 +58,7 @@ stand_once (n ∷ ns) = not (is_some (place_of n ns)) && stand_once ns
 
 -- ---- statements, by a test of the procedures that are called
 
+-- whether two terms are the same, with the same numbers, columns and operators
 abbrev pub is_same_term : Term → Term → Bool
 is_same_term (Lit value) (Lit given) = int_eq value given
 is_same_term (Col col) (Col given) = col == given
@@ -90,6 +96,8 @@ abbrev mutual
 
 -- ---- procedures
 
+-- whether two procedures are alike: as many globals, the same rule, parameters and value, names at
+-- the same columns, and alike code
 abbrev pub is_alike_proc : (ℕ → ℕ → Bool) → Program → Program → Proc → Proc → Bool
 is_alike_proc test program other p q =
     length program.globals == length other.globals
@@ -99,16 +107,20 @@ is_alike_proc test program other p q =
     && (pointwise (λ a b. beq (has_name a) (has_name b)) p.columns q.columns
     && is_alike_code test (code_of p.body) (code_of q.body)))))
 
+-- whether both procedures are there, and alike
 abbrev pub are_found_alike : (ℕ → ℕ → Bool) → Program → Program → Option Proc → Option Proc → Bool
 are_found_alike test program other (Some p) (Some q) = is_alike_proc test program other p q
 are_found_alike test program other _ _ = false
 
+-- whether two procedures, by their numbers in two programs, are there and alike
 abbrev pub is_alike_member : (ℕ → ℕ → Bool) → Program → Program → ℕ → ℕ → Bool
 is_alike_member test program other proc next =
     are_found_alike test program other (slice_get program.procs proc) (slice_get other.procs next)
 
 -- ---- groups
 
+-- whether two groups are alike: no procedure stands twice, what is known has a place for each
+-- procedure, and the members at the same places are alike
 abbrev pub are_alike_groups : (ℕ → ℕ → Bool) → Program → Program → List ℕ → List ℕ
     → List (Option Transition) → List (Option Transition) → Bool
 are_alike_groups test program other procs others known other_known =

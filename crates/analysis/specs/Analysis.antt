@@ -28,11 +28,13 @@ block_of program p formula notes =
       notes = notes;
     }
 
+-- the block of a procedure before the others; a procedure without a summary has none
 abbrev pub block_onto : Program → Proc → Option Transition → List Note → List ProcBlock
     → List ProcBlock
 block_onto program p None notes blocks = blocks
 block_onto program p (Some f) notes blocks = block_of program p f notes ∷ blocks
 
+-- the blocks of procedures in their order, as far as all lists go
 abbrev pub blocks_by : Program → List Proc → List (Option Transition) → List (List Note)
     → List ProcBlock
 blocks_by program (p ∷ procs) (f ∷ known) (notes ∷ others) =
@@ -41,6 +43,7 @@ blocks_by program _ _ _ = []
 
 -- ---- the whole
 
+-- the report by what is found of the procedures, by the entries and by the notes of finding these
 unfoldable pub report_by : Program → List TextPlace → Found → List (Option Transition) → List Note
     → Posing Report
 report_by program places found entries notes =
@@ -51,6 +54,7 @@ report_by program places found entries notes =
       judged = judged;
     }
 
+-- the report by what is found of the procedures: the entries first, and then the assertions
 unfoldable pub report_by_findings : Program → List TextPlace → Found → Posing Report
 report_by_findings program places found =
     apart (entries_from program (flows_in found)) >>= λ entries.

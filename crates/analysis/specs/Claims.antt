@@ -46,6 +46,7 @@ KnowsFor Plain program procs known = KnowAllCallees program procs known
 KnowsFor Linear program procs known = KnowsOthers program procs known
 KnowsFor Rounds program procs known = KnowsOthers program procs known
 
+-- the group is linear where its kind says so
 abbrev pub IsLinearIf : GroupKind → Program → List ℕ → Type 0
 IsLinearIf Plain program procs = Unit {0}
 IsLinearIf Linear program procs = IsLinear program procs
@@ -67,6 +68,7 @@ abbrev pub FitsAt : Program → ℕ → Flow → Type 0
 FitsAt program proc flow = (p : Proc) → slice_get program.procs proc ≡ Some p
     → FitsFlow program p flow
 
+-- the formula may be known of the procedure of this number
 abbrev pub IsKnownAt : Program → ℕ → Transition → Type 0
 IsKnownAt program proc f = (p : Proc) → slice_get program.procs proc ≡ Some p → IsKnown program p f
 
@@ -84,7 +86,7 @@ pub record FitFlows (program : Program) (procs : List ℕ) (flows : List Flow) :
 abbrev pub AreFlowsOf : Program → List ℕ → List Flow → Type 0
 AreFlowsOf program procs flows = EachOf (FlowHolds program) procs flows
 
--- a flow more, and a summary more, of a procedure by known formulas
+-- a flow more, of a procedure by known formulas
 pub record AddsFlow (program : Program) (known : List (Option Transition)) (proc : ℕ)
     (made next : List Flow) : Type 0 where
   pub flow : Flow
@@ -92,6 +94,7 @@ pub record AddsFlow (program : Program) (known : List (Option Transition)) (proc
   pub fits : FitsAt program proc flow
   pub holds : AreMet program known → FlowHolds program proc flow
 
+-- a summary more, of a procedure by known formulas
 pub record AddsSummary (program : Program) (known : List (Option Transition)) (proc : ℕ)
     (made next : List Transition) : Type 0 where
   pub formula : Transition
@@ -128,10 +131,11 @@ pub record IsFoundAt (found : Found) (proc : ℕ) : Type 0 where
   pub flow : Flow
   pub flow_is : slice_get found.flows proc ≡ Some (Some flow)
 
--- those of the procedures that have come, and of all
+-- each procedure that has come has its summary and its flow
 abbrev pub HasFound : List ℕ → Found → Type 0
 HasFound come found = (proc : ℕ) → Contains come proc → IsFoundAt found proc
 
+-- each procedure of the program has its summary and its flow
 abbrev pub HasAll : Program → Found → Type 0
 HasAll program found = (proc : ℕ) → proc < length program.procs → IsFoundAt found proc
 
@@ -172,6 +176,8 @@ pub record IsStanding (program : Program) (standing : Standing) : Type 0 where
 abbrev pub IsJudged : Program → ℕ → Judged → Type 0
 IsJudged program number judged = judged.verdict ≡ Proved → ¬ Fails program number
 
+-- no execution from `main` fails an assertion that is proved, where the n-th of these, from 0, has
+-- the number n + 1
 abbrev pub AreJudged : Program → List Judged → Type 0
 AreJudged program judged = (n : ℕ) (j : Judged) → slice_get judged n ≡ Some j
     → IsJudged program (n + 1) j

@@ -21,6 +21,7 @@ abbrev pub with_notes_at : List ℕ → List Note → List (List Note) → List 
 with_notes_at [] notes all = all
 with_notes_at (first ∷ procs) notes all = slice_set all first notes
 
+-- what is found of so many procedures before the first group: no summary, no flow and no notes
 abbrev pub nothing_found : ℕ → Found
 nothing_found procs = record {
   known = replicate procs None;
@@ -28,6 +29,7 @@ nothing_found procs = record {
   notes = replicate procs [];
 }
 
+-- what is found, with the part of a group at the places of its procedures
 abbrev pub with_part : Found → List ℕ → Part → Found
 with_part found procs part =
     record {
@@ -36,10 +38,12 @@ with_part found procs part =
       notes = with_notes_at procs part.notes found.notes;
     }
 
+-- what is found, with one group more, by the summaries of those before it
 unfoldable pub with_group : Program → Found → Planned → Posing Found
 with_group program found planned = part_of program planned found.known
     >>= λ part. Done (with_part found planned.procs part)
 
+-- what is found of all procedures, group after group in the order of the plan
 unfoldable pub findings_by_plan : Program → List Planned → Posing Found
 findings_by_plan program plan = each (with_group program) (nothing_found (length program.procs)) plan
 

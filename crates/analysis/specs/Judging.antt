@@ -21,9 +21,11 @@ use Rattle.analysis.specs.Apart.{apart}
 
 -- ---- names
 
+-- the names of the globals, in the order of the text
 abbrev pub global_names : Program → List (List ℕ)
 global_names program = map (λ (g : GlobalVar). g.name) program.globals
 
+-- a name, if there is one, before the others
 abbrev pub names_onto : Option (List ℕ) → List (List ℕ) → List (List ℕ)
 names_onto None names = names
 names_onto (Some name) names = name ∷ names
@@ -60,26 +62,31 @@ pub record Asserted : Type 0 where
   pub entry : Option Transition
   pub stand : Option Transition
 
+-- the assertion at a place of a procedure's graph, by the procedure's entry and the formula there
 abbrev pub assertion_at : Program → Proc → CheckPlace → Option Transition → NodeFormula → Asserted
 assertion_at program p check entry stop =
     record { program = program; p = p; cond = check.cond; entry = entry; stand = stop.formula }
 
+-- the assertion where all that it takes is there, else None
 abbrev pub asserted_if : Program → Option Proc → Option CheckPlace → Option (Option Transition)
     → Option NodeFormula → Option Asserted
 asserted_if program (Some p) (Some check) (Some entry) (Some stop) =
     Some (assertion_at program p check entry stop)
 asserted_if program _ _ _ _ = None
 
+-- where the assertions of a procedure stand, in order; [] where the procedure has no flow
 abbrev pub stops_in : Option Flow → List NodeFormula
 stops_in None = []
 stops_in (Some flow) = flow.checks
 
+-- the assertion that stands at a place of a graph, if its procedure has an entry and a flow
 abbrev pub assertion_by : Program → List (Option Transition) → List Flow → CheckAt → Option Asserted
 assertion_by program entries flows c =
     asserted_if program (slice_get program.procs c.proc)
     (slice_get (graph_of program c.proc).checks c.check)
     (slice_get entries c.proc) (slice_get (stops_in (slice_get flows c.proc)) c.check)
 
+-- the assertion that stands at a place, where one is known, else None
 abbrev pub assertion_of : Program → List (Option Transition) → List Flow → Option CheckAt
     → Option Asserted
 assertion_of program entries flows None = None
@@ -92,6 +99,7 @@ numbered_assertion program entries flows number =
 
 -- ---- verdicts
 
+-- what stands for a place past the end: byte, line and column 0
 abbrev pub no_place : TextPlace
 no_place = record { at = 0; line = 0; column = 0 }
 
@@ -127,6 +135,7 @@ judgement_of at (Some a) =
       notes = made.1;
     }
 
+-- the verdict on the assertion of one number more, behind those that are made
 unfoldable pub with_judged : Program → List TextPlace → List (Option Transition) → List Flow
     → List Judged → ℕ → Posing (List Judged)
 with_judged program places entries flows made number =

@@ -23,6 +23,7 @@ use Rattle.analysis.specs.Apart.{apart}
 
 -- ---- summaries and flows
 
+-- the flow of one procedure more, behind those that are made
 unfoldable pub with_flow : Program → List (Option Transition) → List Flow → Proc
     → Posing (List Flow)
 with_flow program known made p = flow_from (subject_of program p known)
@@ -35,6 +36,7 @@ with_plain program known made p =
     summary_from (ends_of program p) flow.exit.formula >>= λ f.
     Done record { formulas = made.formulas ++ f ∷ []; flows = made.flows ++ flow ∷ [] }
 
+-- the summaries and flows of a group that is not recursive, in the order of its procedures
 unfoldable pub plain_part : Program → List ℕ → List (Option Transition) → Posing GroupSummaries
 plain_part program procs known =
     each (with_plain program known) record { formulas = []; flows = [] } (members_of program procs)
@@ -48,6 +50,7 @@ recursive_part program procs known summaries =
     >>= λ flows.
     Done record { formulas = table; flows = flows }
 
+-- the summaries and flows of a group, in the order of its procedures, by its kind
 unfoldable pub summaries_by : GroupKind → Program → List ℕ → List (Option Transition) → Posing GroupSummaries
 summaries_by Plain program procs known = plain_part program procs known
 summaries_by Linear program procs known =
@@ -72,6 +75,7 @@ part_with procs made notes =
       notes = map (note_in procs) notes;
     }
 
+-- what is found of a planned group where these formulas are known, with its notes
 unfoldable pub part_of : Program → Planned → List (Option Transition) → Posing Part
 part_of program planned known =
     apart (summaries_by planned.kind program planned.procs known) >>= λ made.

@@ -16,10 +16,12 @@ IsKindOf program group Plain = ¬ IsTrue group.recursive
 IsKindOf program group Linear = IsTrue group.recursive × IsLinear program group.procs
 IsKindOf program group Rounds = IsTrue group.recursive × (¬ IsLinear program group.procs)
 
+-- what is planned has the group's procedures in their order, and is of the group's kind
 pub record IsPlannedOf (program : Program) (group : Group) (planned : Planned) : Type 0 where
   pub procs : planned.procs ≡ group.procs
   pub kind : IsKindOf program group planned.kind
 
+-- what is planned is one for each group, in their order
 abbrev pub ArePlannedOf : Program → List Group → List Planned → Type 0
 ArePlannedOf program [] [] = Unit {0}
 ArePlannedOf program (group ∷ groups) (planned ∷ plan) = IsPlannedOf program group planned

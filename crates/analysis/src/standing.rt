@@ -5,8 +5,7 @@ ghost use Rattle.flow_graph.specs.Plain.{check_of, plain};
 ghost use Rattle.analysis.specs.Claims.{IsStanding};
 ghost use Rattle.analysis.specs.Judging.{check_with, checks_from};
 
-use context::graph_of;
-use flow_graph::{CheckNode, Graph};
+use flow_graph::{CheckNode, Graph, graph};
 use items::Items;
 use std::alloc::Global;
 use syntax_tree::Program;
@@ -57,7 +56,7 @@ fn add_proc(
     ensures checks { OnOk result
         (checks.new ≡ checks.old ++ checks_from proc 0 (graph_of program.now proc).checks) }
 {
-    let graph = graph_of(alloc, program, proc)?;
+    let graph = graph(alloc, program, proc)?;
     add_checks(proc, graph.checks.as_slice(), checks)?;
     graphs.push(graph)?;
     Ok(())

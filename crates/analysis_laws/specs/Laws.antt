@@ -38,14 +38,14 @@ pub record StandsInGraph (program : Program) (number : ℕ) : Type 0 where
   pub number_is : at.number ≡ number
 
 -- Where each procedure has its entry and its flow, an assertion lacks what its verdict is found by
--- exactly where it stands in no graph ..
+-- exactly where it stands in no graph.
 abbrev pub UnreachedStandNowhere : Type 0
 UnreachedStandNowhere =
     (program : Program) (entries : List (Option Transition)) (flows : List Flow)
     → AreEntries program entries → AreFlows program flows → (number : ℕ)
     → (numbered_assertion program entries flows number ≡ None) ↔ (¬ StandsInGraph program number)
 
--- .. and such a one fails in no execution.
+-- An assertion that stands in no graph fails in no execution.
 abbrev pub UnreachedNeverFail : Type 0
 UnreachedNeverFail = (program : Program) (number : ℕ) → ¬ StandsInGraph program number
     → ¬ Fails program number

@@ -6,13 +6,15 @@ use Rattle.std.specs.Char.{is_ascii_alphabetic, is_ascii_alphanumeric}
 abbrev pub is_blank : ℕ → Bool
 is_blank b = b == 32 || (b == 9 || (b == 10 || (b == 11 || (b == 12 || b == 13))))
 
+-- the byte that ends a line
 abbrev pub is_newline : ℕ → Bool
 is_newline b = b == 10
 
--- what a word begins with, and what it goes on with (C11 6.4.2.1)
+-- what a word begins with: a letter or `_` (C11 6.4.2.1)
 abbrev pub is_word_start : ℕ → Bool
 is_word_start b = is_ascii_alphabetic b || b == 95
 
+-- what a word goes on with: a letter, a digit or `_` (C11 6.4.2.1)
 abbrev pub is_word_byte : ℕ → Bool
 is_word_byte b = is_ascii_alphanumeric b || b == 95
 

@@ -43,6 +43,7 @@ is_decimal (d ∷ digits) = is_ascii_digit d && not (d == 48) && list_all is_asc
 abbrev pub hex_digit_value : ℕ → ℕ
 hex_digit_value d = if nat_le d 57 then d - 48 else (if nat_le d 70 then d - 55 else d - 87)
 
+-- the number that hexadecimal digits spell, the highest of them first
 abbrev pub hexadecimal_value : List ℕ → ℕ
 hexadecimal_value digits = fold (λ n d. 16 * n + hex_digit_value d) 0 digits
 
@@ -63,6 +64,7 @@ abbrev pub if_small : Option ℕ → Option ℕ
 if_small None = None
 if_small (Some n) = if nat_le n (2 ^ 63 - 1) then Some n else None
 
+-- the number that the bytes spell, where they spell one that is at most 2 ^ 63 - 1
 abbrev pub small_number : List ℕ → Option ℕ
 small_number w = if_small (number_of w)
 

@@ -5,6 +5,7 @@ use Rattle.c_lexer.specs.declared.kind.TokenKind.{TokenKind}
 use Rattle.c_lexer.specs.Bytes.{is_blank, is_newline, begins_with}
 use Rattle.c_lexer.specs.Kinds.{HasShape, Spells}
 
+-- a token, or what may stand between tokens: a blank, a comment, or a line that is skipped
 pub data Piece : Type 0 where
   Blank : (byte : ℕ) → Piece
   BlockComment : (body : List ℕ) → Piece
@@ -12,6 +13,7 @@ pub data Piece : Type 0 where
   SkippedLine : (blanks body : List ℕ) → Piece
   Lexeme : (kind : TokenKind) (spelling : List ℕ) → Piece
 
+-- the bytes of a piece, in the order of the text
 abbrev pub piece_bytes : Piece → List ℕ
 piece_bytes (Blank byte) = byte ∷ []
 piece_bytes (BlockComment body) = codes "/*" ++ body ++ codes "*/"
@@ -19,6 +21,7 @@ piece_bytes (LineComment body) = codes "//" ++ body
 piece_bytes (SkippedLine blanks body) = codes "#" ++ blanks ++ codes "include" ++ body
 piece_bytes (Lexeme kind spelling) = spelling
 
+-- the bytes of pieces that stand one behind the other
 abbrev pub text_of : List Piece → List ℕ
 text_of pieces = flat_map piece_bytes pieces
 
@@ -26,13 +29,15 @@ text_of pieces = flat_map piece_bytes pieces
 abbrev pub EndsLine : List ℕ → Type 0
 EndsLine rest = IsTrue (not (begins_with (λ b. not (is_newline b)) rest))
 
+-- no newline is among the bytes
 abbrev pub no_newline : List ℕ → Bool
 no_newline bytes = not (list_any is_newline bytes)
 
--- `*/` stands at this place, and nowhere
+-- `*/` stands at this place of the bytes, from 0
 abbrev pub EndsComment : List ℕ → ℕ → Type 0
 EndsComment bytes at = take 2 (drop at bytes) ≡ codes "*/"
 
+-- `*/` stands nowhere in the bytes
 abbrev pub NeverEnds : List ℕ → Type 0
 NeverEnds bytes = (at : ℕ) → ¬ EndsComment bytes at
 

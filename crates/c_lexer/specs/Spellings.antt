@@ -5,6 +5,7 @@ use Rattle.c_lexer.specs.declared.mark.Mark.TheVariants.{OpenRound, CloseRound, 
 use Rattle.c_lexer.specs.declared.keyword.Keyword.{Keyword}
 use Rattle.c_lexer.specs.declared.keyword.Keyword.TheVariants as keyword
 
+-- the bytes that spell a mark, in the order of the text (C11 6.4.6)
 abbrev pub mark_bytes : Mark → List ℕ
 mark_bytes OpenRound = codes "("
 mark_bytes CloseRound = codes ")"
@@ -53,6 +54,7 @@ mark_bytes AmpAssign = codes "&="
 mark_bytes CaretAssign = codes "^="
 mark_bytes BarAssign = codes "|="
 
+-- the bytes that spell a keyword, in the order of the text (C11 6.4.1)
 abbrev pub keyword_bytes : Keyword → List ℕ
 keyword_bytes keyword.Int = codes "int"
 keyword_bytes keyword.Void = codes "void"

@@ -31,6 +31,7 @@ exact_error error.Memory = None
 
 -- ---- single tokens
 
+-- whether a token is this mark
 abbrev pub is_mark : Mark → TokenKind → Bool
 is_mark m (kind.Mark found) = sameb the_type found m
 is_mark m _ = false
@@ -51,6 +52,7 @@ abbrev pub place_at : List Spot → ℕ
 place_at [] = 0
 place_at (spot ∷ _) = spot.at
 
+-- the tokens behind the first: [] where there is none
 abbrev pub tail : List Spot → List Spot
 tail [] = []
 tail (_ ∷ spots) = spots
@@ -59,12 +61,14 @@ tail (_ ∷ spots) = spots
 abbrev pub past : Mark → List Spot → Result (List Spot) ParseError
 past m spots = if begins_with m spots then Ok (tail spots) else Err (refusal_of spots)
 
+-- the operator with one operand that a mark spells: None where it spells none
 abbrev pub sign_of : Mark → Option Sign
 sign_of marks.Plus = Some sign.Plus
 sign_of marks.Minus = Some sign.Minus
 sign_of marks.Bang = Some sign.Not
 sign_of _ = None
 
+-- the operator with two operands that a mark spells: None where it spells none
 abbrev pub op_of : Mark → Option Op
 op_of marks.OrOr = Some op.Or
 op_of marks.AndAnd = Some op.And
@@ -81,10 +85,12 @@ op_of marks.Slash = Some op.Div
 op_of marks.Percent = Some op.Rem
 op_of _ = None
 
+-- the operator, where there is one and it has this rank: else None
 abbrev pub of_rank : ℕ → Option Op → Option Op
 of_rank r None = None
 of_rank r (Some found) = if nat_eq (rank found) r then Some found else None
 
+-- the operator of this rank that a token spells: None where it spells none
 abbrev pub op_in : ℕ → TokenKind → Option Op
 op_in r (kind.Mark m) = of_rank r (op_of m)
 op_in r _ = None
@@ -101,9 +107,12 @@ pub record Rest : Type 0 where
   pub spots : List Spot
   pub operators : ℕ
 
+-- what reads a part of an expression: from what is left to its tree and what is left behind it, or
+-- to a refusal
 abbrev pub Reader : Type 0
 Reader = Rest → Result (SourceExpr × Rest) ParseError
 
+-- these tokens, with as many operators as the rest may still have
 abbrev pub with_spots : Rest → List Spot → Rest
 with_spots rest spots = record { spots = spots; operators = rest.operators }
 
@@ -121,6 +130,8 @@ abbrev pub one_less : List Spot → ℕ → Result Rest ParseError
 one_less spots zero = Err (error.Deep (place_at spots))
 one_less spots (suc operators) = Ok (record { spots = tail spots; operators = operators })
 
+-- the rest behind an operator that stands first, with one operator less: a refusal where none is
+-- left
 abbrev pub spend : Rest → Result Rest ParseError
 spend rest = one_less rest.spots rest.operators
 
@@ -130,14 +141,18 @@ link operand at found left =
     spend left.1 >>= λ rest. operand rest
     >>= λ right. Ok (source.Binary at found left.0 right.0, right.1)
 
+-- an operator and its right operand, joined with what is read, where one is found: else what is
+-- read
 abbrev pub link_if : Reader → ℕ → Option Op → SourceExpr × Rest
     → Result (SourceExpr × Rest) ParseError
 link_if operand at None left = Ok left
 link_if operand at (Some found) left = link operand at found left
 
+-- how many tokens are left behind an expression
 abbrev pub rest_length : SourceExpr × Rest → ℕ
 rest_length left = length left.1.spots
 
+-- whether an operator of this rank stands behind an expression
 abbrev pub goes_on : ℕ → SourceExpr × Rest → Bool
 goes_on r left = is_some (op_at r left.1.spots)
 
@@ -157,16 +172,21 @@ abbrev pub argument : Reader → List SourceExpr × Rest → Result (List Source
 argument reader read = reader (with_spots read.1 (tail read.1.spots))
     >>= λ next. Ok (read.0 ++ next.0 ∷ [], next.1)
 
+-- how many tokens are left behind a list of expressions
 abbrev pub rest_length_of_list : List SourceExpr × Rest → ℕ
 rest_length_of_list read = length read.1.spots
 
+-- whether a comma stands behind a list of expressions
 abbrev pub has_comma : List SourceExpr × Rest → Bool
 has_comma read = begins_with marks.Comma read.1.spots
 
+-- the arguments that are read and those that go on behind them, each with its comma in front
 abbrev pub more_arguments : Reader → List SourceExpr × Rest
     → Result (List SourceExpr × Rest) ParseError
 more_arguments reader read = repeat rest_length_of_list has_comma (argument reader) read
 
+-- the arguments in the brackets of a call, in the order of the text: [] where the closing one
+-- stands first
 abbrev pub arguments : Reader → Rest → Result (List SourceExpr × Rest) ParseError
 arguments reader rest =
     if begins_with marks.CloseRound rest.spots
@@ -181,6 +201,7 @@ call_by operand levels at name rest =
     >>= λ after.
     Ok (source.Call at name (exprs_from args.0), after)
 
+-- what a name at `at` begins: a call where a bracket stands behind it, else a variable
 abbrev pub reference_by : (ℕ → Reader) → ℕ → ℕ → List ℕ → Rest → Result (SourceExpr × Rest) ParseError
 reference_by operand levels at name rest =
     if begins_with marks.OpenRound rest.spots then call_by operand levels at name rest
@@ -199,6 +220,7 @@ signed_operand_by operand levels at found rest =
     deeper levels at >>= λ level. operand level rest
     >>= λ inner. Ok (source.Unary at found inner.0, inner.1)
 
+-- what stands behind a sign at `at`, where there is one: else this refusal
 abbrev pub signed_if : (ℕ → Reader) → ℕ → ℕ → Option Sign → ParseError → Rest
     → Result (SourceExpr × Rest) ParseError
 signed_if operand levels at None refusal rest = Err refusal
@@ -212,6 +234,7 @@ mark_operand_by operand levels at m refusal rest =
     then bracketed_expression_by operand levels at rest
     else signed_if operand levels at (sign_of m) refusal rest
 
+-- the operand that a token at `at` begins: this refusal where nothing begins with it
 abbrev pub operand_by : (ℕ → Reader) → ℕ → TokenKind → ℕ → ParseError → Rest
     → Result (SourceExpr × Rest) ParseError
 operand_by operand levels (kind.Number value) at refusal rest = Ok (source.Lit at value, rest)
@@ -238,6 +261,7 @@ operand (suc levels) rest = operand_in (λ _. operand levels) (suc levels) rest.
 abbrev pub expression : ℕ → Reader
 expression levels = expression_below (operand levels) 6
 
+-- a call of a name that stands at `at`, with so many levels left; the rest begins with its bracket
 abbrev pub call : ℕ → ℕ → List ℕ → Rest → Result (SourceExpr × Rest) ParseError
 call levels at name rest = call_by operand levels at name rest
 

@@ -28,10 +28,12 @@ mutual
   pub data Call : Type 0 where
     Applied : (at : ℕ) (name : List ℕ) (opened : ℕ) (args : Arguments) (closed : ℕ) → Call
 
+  -- What stands in the brackets of a call: nothing, or expressions with commas between them.
   pub data Arguments : Type 0 where
     NoArguments : Arguments
     Listed : (first : Expression) (more : MoreArguments) → Arguments
 
+  -- The arguments behind the first, each with its comma in front, in the order of the text.
   pub data MoreArguments : Type 0 where
     NoMore : MoreArguments
     Another : (comma : ℕ) (next : Expression) (more : MoreArguments) → MoreArguments
@@ -96,10 +98,11 @@ abbrev mutual
 
 -- ---- the tree
 
--- the place of the first token
+-- the place of a call's first token, which is its name
 abbrev pub call_place : Call → ℕ
 call_place (Applied at name opened args closed) = at
 
+-- the place of an operand's first token: its number, its name, its bracket or its sign
 abbrev pub operand_place : Operand → ℕ
 operand_place (Number at value) = at
 operand_place (Named at name) = at
@@ -107,6 +110,7 @@ operand_place (Called call) = call_place call
 operand_place (Bracketed opened inner closed) = opened
 operand_place (Signed at sign inner) = at
 
+-- the place of an expression's first token, which is that of its leftmost operand
 abbrev pub place : Expression → ℕ
 place (Single operand) = operand_place operand
 place (Joined left at op right) = place left

@@ -16,6 +16,7 @@ pub data Variable : Type 0 where
   Bare : (at : ℕ) (name : List ℕ) → Variable
   Initialised : (at : ℕ) (name : List ℕ) (assign : ℕ) (value : Expression) → Variable
 
+-- one local or more, with commas between them, in the order of the text (C11 6.7)
 pub data Variables : Type 0 where
   Last : (variable : Variable) → Variables
   Also : (variable : Variable) (comma : ℕ) (rest : Variables) → Variables
@@ -64,20 +65,24 @@ mutual
 
 -- ---- the tokens that are spelled
 
+-- the tokens of a local: its name, and where it has a value `=` and that
 abbrev pub variable_spots : Variable → List Spot
 variable_spots (Bare at name) = word at name ∷ []
 variable_spots (Initialised at name assign value) = word at name ∷ mark assign Assign
     ∷ expression_spots value
 
+-- the tokens of locals, with the commas between them
 abbrev pub variables_spots : Variables → List Spot
 variables_spots (Last variable) = variable_spots variable
 variables_spots (Also variable comma rest) = variable_spots variable ++ mark comma Comma
     ∷ variables_spots rest
 
+-- the tokens of a declaration of locals, from `int` up to the semicolon
 abbrev pub local_spots : Local → List Spot
 local_spots (Declared at variables semi) =
     keyword at keywords.Int ∷ (variables_spots variables ++ mark semi Semi ∷ [])
 
+-- the tokens of an assignment, a count or a call, without a semicolon
 abbrev pub simple_spots : Simple → List Spot
 simple_spots (Assigned at name assign value) = word at name ∷ mark assign Assign ∷ expression_spots
     value
@@ -87,19 +92,22 @@ simple_spots (CountedAfter at name sign count) = word at name ∷ mark sign (cou
 simple_spots (CountedBefore sign count at name) = mark sign (count_mark count) ∷ word at name ∷ []
 simple_spots (Acted call) = call_spots call
 
--- a part that may be missing
+-- the tokens of an assignment, a count or a call that may be missing: [] where it is
 abbrev pub if_simple : Option Simple → List Spot
 if_simple None = []
 if_simple (Some simple) = simple_spots simple
 
+-- the tokens of an expression that may be missing: [] where it is
 abbrev pub if_expression : Option Expression → List Spot
 if_expression None = []
 if_expression (Some e) = expression_spots e
 
+-- the tokens of what stands first in the brackets of `for`, with its semicolon
 abbrev pub init_spots : Init → List Spot
 init_spots (InitLocal local) = local_spots local
 init_spots (InitSimple simple semi) = if_simple simple ++ mark semi Semi ∷ []
 
+-- the tokens of a condition, with its brackets
 abbrev pub bracketed_spots : ℕ → Expression → ℕ → List Spot
 bracketed_spots opened cond closed =
     mark opened OpenRound ∷ (expression_spots cond ++ mark closed CloseRound ∷ [])
@@ -146,31 +154,40 @@ ends_open (While at opened cond closed body) = ends_open body
 ends_open (For at opened init cond semi step closed body) = ends_open body
 ends_open _ = false
 
+-- whether each operator of a local's value takes the right operands: true without a value
 abbrev pub variable_binds : Variable → Bool
 variable_binds (Bare at name) = true
 variable_binds (Initialised at name assign value) = binds 6 value
 
+-- whether each operator of the locals' values takes the right operands
 abbrev pub variables_bind : Variables → Bool
 variables_bind (Last variable) = variable_binds variable
 variables_bind (Also variable comma rest) = variable_binds variable && variables_bind rest
 
+-- whether each operator in a declaration of locals takes the right operands
 abbrev pub local_binds : Local → Bool
 local_binds (Declared at variables semi) = variables_bind variables
 
+-- whether each operator of an assignment, a count or a call takes the right operands
 abbrev pub simple_binds : Simple → Bool
 simple_binds (Assigned at name assign value) = binds 6 value
 simple_binds (Changed at name assign compound value) = binds 6 value
 simple_binds (Acted call) = call_binds call
 simple_binds _ = true
 
+-- whether each operator of an assignment, a count or a call that may be missing takes the right
+-- operands: true where it is
 abbrev pub if_simple_binds : Option Simple → Bool
 if_simple_binds None = true
 if_simple_binds (Some simple) = simple_binds simple
 
+-- whether each operator of an expression that may be missing takes the right operands: true where
+-- it is
 abbrev pub if_binds : Option Expression → Bool
 if_binds None = true
 if_binds (Some e) = binds 6 e
 
+-- whether each operator of what stands first in the brackets of `for` takes the right operands
 abbrev pub init_binds : Init → Bool
 init_binds (InitLocal local) = local_binds local
 init_binds (InitSimple simple semi) = if_simple_binds simple
@@ -198,14 +215,17 @@ abbrev mutual
 
 -- ---- the tree
 
+-- the line of a local, at the place of its name, with None for a value that is missing
 abbrev pub variable_line : Variable → SourceLine
 variable_line (Bare at name) = line.Local name at None
 variable_line (Initialised at name assign value) = line.Local name at (Some (tree value))
 
+-- the lines of locals, one for each, in the order of the text
 abbrev pub variables_lines : Variables → List SourceLine
 variables_lines (Last variable) = variable_line variable ∷ []
 variables_lines (Also variable comma rest) = variable_line variable ∷ variables_lines rest
 
+-- the lines of a declaration of locals, one for each, in the order of the text
 abbrev pub local_lines : Local → List SourceLine
 local_lines (Declared at variables semi) = variables_lines variables
 
@@ -223,10 +243,12 @@ simple_line (CountedBefore sign count at name) =
     (source.Binary at (count_op count) (source.Var at name) (source.Lit at (pos 1)))
 simple_line (Acted call) = line.Act (call_tree call)
 
+-- the line of an assignment, a count or a call that may be missing: [] where it is
 abbrev pub if_simple_lines : Option Simple → List SourceLine
 if_simple_lines None = []
 if_simple_lines (Some simple) = simple_line simple ∷ []
 
+-- the lines of what stands first in the brackets of `for`: [] where nothing does
 abbrev pub init_lines : Init → List SourceLine
 init_lines (InitLocal local) = local_lines local
 init_lines (InitSimple simple semi) = if_simple_lines simple
@@ -236,6 +258,7 @@ abbrev pub cond_or_one : Option Expression → ℕ → SourceExpr
 cond_or_one None semi = source.Lit semi (pos 1)
 cond_or_one (Some cond) semi = tree cond
 
+-- the tree of an expression that may be missing: None where it is
 abbrev pub if_tree : Option Expression → Option SourceExpr
 if_tree None = None
 if_tree (Some e) = Some (tree e)
@@ -268,32 +291,38 @@ abbrev mutual
 
 -- ---- limits
 
--- how deep each part of a line is nested in it
+-- how deep a local's value is nested: 0 where it has none
 abbrev pub variable_levels : Variable → ℕ
 variable_levels (Bare at name) = 0
 variable_levels (Initialised at name assign value) = levels value
 
+-- how deep the most nested value of these locals is nested
 abbrev pub variables_levels : Variables → ℕ
 variables_levels (Last variable) = variable_levels variable
 variables_levels (Also variable comma rest) = max (variable_levels variable) (variables_levels rest)
 
+-- how deep the most nested value in a declaration of locals is nested
 abbrev pub local_levels : Local → ℕ
 local_levels (Declared at variables semi) = variables_levels variables
 
+-- how deep an assignment's value or a call is nested: 0 for a count
 abbrev pub simple_levels : Simple → ℕ
 simple_levels (Assigned at name assign value) = levels value
 simple_levels (Changed at name assign compound value) = levels value
 simple_levels (Acted call) = call_levels call
 simple_levels _ = 0
 
+-- how deep an assignment, a count or a call that may be missing is nested: 0 where it is
 abbrev pub if_simple_levels : Option Simple → ℕ
 if_simple_levels None = 0
 if_simple_levels (Some simple) = simple_levels simple
 
+-- how deep an expression that may be missing is nested: 0 where it is
 abbrev pub if_levels : Option Expression → ℕ
 if_levels None = 0
 if_levels (Some e) = levels e
 
+-- how deep what stands first in the brackets of `for` is nested: 0 where nothing does
 abbrev pub init_levels : Init → ℕ
 init_levels (InitLocal local) = local_levels local
 init_levels (InitSimple simple semi) = if_simple_levels simple
@@ -322,37 +351,46 @@ abbrev mutual
   lines_levels (ThenLocal local rest) = max (local_levels local) (lines_levels rest)
   lines_levels (ThenLine line rest) = max (line_levels line) (lines_levels rest)
 
--- the most operators of one whole expression
+-- how many operators with two operands a local's value has: 0 where it has none
 abbrev pub variable_operators : Variable → ℕ
 variable_operators (Bare at name) = 0
 variable_operators (Initialised at name assign value) = operators value
 
+-- the most operators with two operands that one value of these locals has
 abbrev pub variables_operators : Variables → ℕ
 variables_operators (Last variable) = variable_operators variable
 variables_operators (Also variable comma rest) =
     max (variable_operators variable) (variables_operators rest)
 
+-- the most operators with two operands that one value in a declaration of locals has
 abbrev pub local_operators : Local → ℕ
 local_operators (Declared at variables semi) = variables_operators variables
 
+-- how many operators with two operands an assignment's value or a call has: 0 for a count
 abbrev pub simple_operators : Simple → ℕ
 simple_operators (Assigned at name assign value) = operators value
 simple_operators (Changed at name assign compound value) = operators value
 simple_operators (Acted call) = call_operators call
 simple_operators _ = 0
 
+-- how many operators with two operands an assignment's value or a call has, where there is one:
+-- else 0
 abbrev pub if_simple_operators : Option Simple → ℕ
 if_simple_operators None = 0
 if_simple_operators (Some simple) = simple_operators simple
 
+-- how many operators with two operands an expression that may be missing has: 0 where it is
 abbrev pub if_operators : Option Expression → ℕ
 if_operators None = 0
 if_operators (Some e) = operators e
 
+-- the most operators with two operands of one expression that stands first in the brackets of
+-- `for`: 0 where none does
 abbrev pub init_operators : Init → ℕ
 init_operators (InitLocal local) = local_operators local
 init_operators (InitSimple simple semi) = if_simple_operators simple
 
+-- the most operators with two operands of one whole expression of a line, and of several lines
 abbrev mutual
   pub line_operators : Line → ℕ
   line_operators (Block opened lines closed) = lines_operators lines

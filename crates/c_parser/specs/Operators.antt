@@ -7,12 +7,13 @@ use Rattle.syntax_tree.specs.declared.op.Op.TheVariants.{Add, Sub, Mul, Div, Rem
 use Rattle.syntax_tree.specs.declared.op.Sign.{Sign}
 use Rattle.syntax_tree.specs.declared.op.Sign.TheVariants.{Plus, Minus, Not}
 
--- (C11 6.5.3.3)
+-- the mark that spells an operator with one operand (C11 6.5.3.3)
 abbrev pub sign_mark : Sign → Mark
 sign_mark Plus = marks.Plus
 sign_mark Minus = marks.Minus
 sign_mark Not = marks.Bang
 
+-- the mark that spells an operator with two operands
 abbrev pub op_mark : Op → Mark
 op_mark Or = marks.OrOr
 op_mark And = marks.AndAnd
@@ -49,6 +50,7 @@ rank Or = 5
 pub data Compound : Type 0 where
   PlusEqual MinusEqual StarEqual SlashEqual PercentEqual : Compound
 
+-- the mark that spells an operator and `=` together (C11 6.5.16.2)
 abbrev pub compound_mark : Compound → Mark
 compound_mark PlusEqual = marks.PlusAssign
 compound_mark MinusEqual = marks.MinusAssign
@@ -56,6 +58,7 @@ compound_mark StarEqual = marks.StarAssign
 compound_mark SlashEqual = marks.SlashAssign
 compound_mark PercentEqual = marks.PercentAssign
 
+-- the operator that is joined with `=` (C11 6.5.16.2)
 abbrev pub compound_op : Compound → Op
 compound_op PlusEqual = Add
 compound_op MinusEqual = Sub
@@ -67,10 +70,12 @@ compound_op PercentEqual = Rem
 pub data Count : Type 0 where
   Up Down : Count
 
+-- the mark that counts up or down by one (C11 6.5.2.4 and 6.5.3.1)
 abbrev pub count_mark : Count → Mark
 count_mark Up = marks.PlusPlus
 count_mark Down = marks.MinusMinus
 
+-- the operator that adds the one or takes it away
 abbrev pub count_op : Count → Op
 count_op Up = Add
 count_op Down = Sub

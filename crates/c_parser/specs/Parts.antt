@@ -8,10 +8,11 @@ use Rattle.c_parser.specs.Descent.{deeper, past}
 use Rattle.c_parser.specs.Spots.{Spot}
 use Rattle.c_parser.specs.Statements.{LineReader, LinesRead, for_condition, for_step, init}
 
--- the beginning of a `for`, and what stands behind its condition, up to behind the closing bracket
+-- the beginning of a `for`, up to behind the first semicolon in its brackets
 abbrev pub for_begin : ℕ → ℕ → List Spot → LinesRead
 for_begin most level spots = past marks.OpenRound spots >>= λ inside. init most level inside
 
+-- what stands behind the condition of a `for`, up to behind its closing bracket: the step
 abbrev pub for_end : ℕ → ℕ → List Spot → LinesRead
 for_end most level spots =
     past marks.Semi spots >>= λ then_step. for_step most level then_step >>= λ step.

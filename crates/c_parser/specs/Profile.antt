@@ -44,6 +44,7 @@ keyword_is_inside keywords.Return = true
 keyword_is_inside keywords.Extern = true
 keyword_is_inside _ = false
 
+-- a token of C that the grammar leaves out, which is a keyword or a mark
 abbrev pub is_outside : TokenKind → Bool
 is_outside (kind.Word name) = false
 is_outside (kind.Keyword k) = not (keyword_is_inside k)

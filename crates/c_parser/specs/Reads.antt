@@ -14,13 +14,16 @@ pub record IsReading (tokens : List Token) (items : List SourceItem)
   pub made : IsTrue (text_is_made text)
   pub stands_for : items ≡ text_items text
 
+-- the tokens read as this tree, by declarations that spell them and stand for it
 abbrev pub Reads : List Token → List SourceItem → Type 0
 Reads tokens items = (text : List Declaration) × IsReading tokens items text
 
+-- the declarations are within the limits of nesting and of operators
 pub record IsWithinLimits (text : List Declaration) : Type 0 where
   pub shallow : text_levels text ≤ most_levels
   pub short : text_operators text ≤ most_binary_operators
 
+-- the tokens read as this tree, by declarations that are within the limits
 abbrev pub ReadsWithinLimits : List Token → List SourceItem → Type 0
 ReadsWithinLimits tokens items = (text : List Declaration) × IsReading tokens items text
     × IsWithinLimits text

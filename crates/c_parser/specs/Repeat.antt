@@ -4,6 +4,7 @@ use Rattle.items.specs.Gives.{◌>>=◌}
 use Rattle.c_parser.specs.declared.error.ParseError.{ParseError}
 use Rattle.c_parser.specs.declared.error.ParseError.TheVariants.{Syntax}
 
+-- `again` at a state whose size is below `bound`, or a refusal at 0 where it is not
 abbrev pub go_on : {S : Type 0} → (S → ℕ) → ℕ → (S → Result S ParseError) → S → Result S ParseError
 go_on size bound again state = if nat_lt (size state) bound then again state else Err (Syntax 0)
 
@@ -15,6 +16,7 @@ repetition size test step (suc times) state =
     if test state then (step state >>= go_on size (size state) (repetition size test step times))
     else Ok state
 
+-- the first state at which the test fails, after steps that each make it smaller, or a refusal
 unfoldable pub repeat : {S : Type 0} → (S → ℕ) → (S → Bool) → (S → Result S ParseError) → S
     → Result S ParseError
 repeat size test step state = repetition size test step (suc (size state)) state

@@ -11,12 +11,15 @@ pub record Parameter : Type 0 where
   pub name : List ℕ
   pub at : ℕ
 
+-- a declaration of a text, with the place of its name: a global, a prototype, or a procedure with
+-- the place of its closing brace
 pub data SourceItem : Type 0 where
   Global : (name : List ℕ) (at : ℕ) (init : ℤ) → SourceItem
   Proto : (name : List ℕ) (at : ℕ) (returns : Bool) (params : Option ℕ) → SourceItem
   Body : (name : List ℕ) (at : ℕ) (returns : Bool) (params : List Parameter) (lines : SourceLines)
       (end : ℕ) → SourceItem
 
+-- the plain form of a parameter
 abbrev pub parameter_of : Param → Parameter
 parameter_of param = record { name = param.name; at = param.at }
 

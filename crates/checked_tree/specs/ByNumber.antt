@@ -25,12 +25,16 @@ pub record Entry : Type 0 where
 abbrev pub Entries : Type 0
 Entries = List Entry
 
+-- what stands for a path that was not made: the formula that holds of nothing, from node 0 to node
+-- 0
 abbrev pub blank : Entry
 blank = record { from = 0; to = 0; formula = nothing }
 
+-- what was made of the path of a number; past the end `blank`
 abbrev pub entry_at : Entries → ℕ → Entry
 entry_at entries n = unwrap_or (slice_get entries n) blank
 
+-- the key of a path's number; past the end that of link 0
 abbrev pub key_at : List Key → ℕ → Key
 key_at keys n = unwrap_or (slice_get keys n) (key.Edge 0)
 
@@ -68,6 +72,7 @@ formula_by g entries (key.Join i j) =
 formula_by g entries (key.Star i) =
     star_of (entry_at entries i).formula (vocabulary_at g (entry_at entries i).from)
 
+-- what is made of a key's path with this formula
 abbrev pub entry_of : Graph → Entries → Key → Transition → Entry
 entry_of g entries k f = record {
   from = (ends_by g entries k).from;
@@ -91,6 +96,7 @@ cell_by entries known.Zero = known.Zero
 cell_by entries known.One = known.One
 cell_by entries (known.Item n) = known.Item (entry_at entries n).formula
 
+-- what stands at each node, from node 0 on, by a plan's keys, order and cells
 unfoldable pub evaluated_cells_by : Graph → List Key → List ℕ → List (Cell ℕ)
     → Posing (List (Cell Transition))
 evaluated_cells_by g keys order cells = entries_of g keys order

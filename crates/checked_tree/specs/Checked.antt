@@ -48,6 +48,8 @@ pub record IsStarStep (turn own : Own) : Type 0 where
   pub to_is : own.to ≡ turn.from
   pub made : IsMade own (star_of turn.formula own.from)
 
+-- each step of the tree has the formula that its operation makes of its operands, under the answers
+-- that it kept
 abbrev pub IsChecked : Tree → Type 0
 IsChecked (Leaf number given own) = IsLeafStep given own
 IsChecked (Seq first second own) = IsChecked first × IsChecked second

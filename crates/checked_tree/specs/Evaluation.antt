@@ -37,6 +37,7 @@ formula_at made path = latest path nothing made
 
 -- ---- one operation
 
+-- the formula settled, and then fitted between two vocabularies
 unfoldable pub settled_and_fitted : Transition → Vocabulary → Vocabulary → Posing Transition
 settled_and_fitted f from to = settled_formula f >>= λ g. fitted_formula g from to
 
@@ -72,12 +73,15 @@ own g made (Star a) = star_of (formula_at made a) (start_vocabulary g a)
 
 -- ---- all operations
 
+-- the formulas made, with that of one path more behind them
 abbrev pub with_entry : Made → PathExpr → Transition → Made
 with_entry made path f = made ++ (path, f) ∷ []
 
+-- the formulas made, with that of one operation more, by those before it
 unfoldable pub with_made : Graph → Made → PathExpr → Posing Made
 with_made g made path = own g made path >>= λ f. Done (with_entry made path f)
 
+-- the formulas of all operations from a source, in the order of the elimination
 unfoldable pub evaluation : Graph → ℕ → Posing Made
 evaluation g source = each (with_made g) [] (operations (length g.nodes) g.links source)
 
@@ -89,11 +93,14 @@ cell_of made Zero = known.Zero
 cell_of made One = known.One
 cell_of made path = known.Item (formula_at made path)
 
+-- what stands at a node, by its path from the source
 abbrev pub cell_at : Graph → ℕ → Made → ℕ → Cell Transition
 cell_at g source made node = cell_of made (path_at (length g.nodes) g.links source node)
 
+-- what stands at each node, from node 0 on
 abbrev pub cells_of : Graph → ℕ → Made → List (Cell Transition)
 cells_of g source made = map (cell_at g source made) (range_with_len 0 (length g.nodes))
 
+-- what stands at each node, from node 0 on, where the graph is evaluated from a source
 unfoldable pub evaluated_cells : Graph → ℕ → Posing (List (Cell Transition))
 evaluated_cells g source = evaluation g source >>= λ made. Done (cells_of g source made)

@@ -13,13 +13,15 @@ pub record Graph : Type 0 where
   pub leaves : List Transition
   pub nodes : List Vocabulary
 
+-- the graph of links, their leaves in the same order, and the vocabularies of nodes
 abbrev pub graph_of : List Link → List Transition → List Vocabulary → Graph
 graph_of links leaves nodes = record { links = links; leaves = leaves; nodes = nodes }
 
--- links and leaves without nodes, and nodes without links
+-- links and leaves without nodes
 abbrev pub bare_links : List Link → List Transition → Graph
 bare_links links leaves = graph_of links leaves []
 
+-- nodes without links
 abbrev pub bare : List Vocabulary → Graph
 bare nodes = graph_of [] [] nodes
 
@@ -27,13 +29,15 @@ bare nodes = graph_of [] [] nodes
 abbrev pub nothing : Transition
 nothing = record { from = 0; to = 0; cases = [] }
 
--- the link, the leaf and the vocabulary of a number; past the end there is nothing
+-- the link of a number; past the end one from node 0 to node 0
 abbrev pub link_at : Graph → ℕ → Link
 link_at g number = unwrap_or (slice_get g.links number) record { from = 0; to = 0 }
 
+-- the leaf of a link's number; past the end `nothing`
 abbrev pub leaf_at : Graph → ℕ → Transition
 leaf_at g number = unwrap_or (slice_get g.leaves number) nothing
 
+-- the vocabulary of a node; past the end one without columns
 abbrev pub vocabulary_at : Graph → ℕ → Vocabulary
 vocabulary_at g node =
     unwrap_or (slice_get g.nodes node) record {
@@ -62,10 +66,11 @@ end_of g (Seq first second) = end_of g second
 end_of g (Join left right) = end_of g left
 end_of g (Star turn) = start_of g turn
 
--- the vocabularies of a path's ends
+-- the vocabulary of the node that a path leads from
 abbrev pub start_vocabulary : Graph → PathExpr → Vocabulary
 start_vocabulary g path = vocabulary_at g (start_of g path)
 
+-- the vocabulary of the node that a path leads to
 abbrev pub end_vocabulary : Graph → PathExpr → Vocabulary
 end_vocabulary g path = vocabulary_at g (end_of g path)
 

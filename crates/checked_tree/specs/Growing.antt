@@ -44,9 +44,11 @@ pub record IsNew (before after : Log) (t : Tree) : Type 0 where
 
 -- ---- growths
 
+-- what stands for a growth past the end: no tree, from node 0 to node 0
 abbrev pub bare_growth : Growth
 bare_growth = record { from = 0; to = 0; tree = None }
 
+-- the growth of a number; past the end `bare_growth`
 abbrev pub growth_at : List Growth → ℕ → Growth
 growth_at growths n = unwrap_or (slice_get growths n) bare_growth
 
@@ -54,6 +56,7 @@ growth_at growths n = unwrap_or (slice_get growths n) bare_growth
 abbrev pub grown_tree : Growth → Option Tree
 grown_tree growth = option_map tree_of growth.tree
 
+-- the formula of a tree; where there is none, the one that holds of nothing
 abbrev pub formula_in : Option Tree → Transition
 formula_in None = nothing
 formula_in (Some t) = formula_of t
@@ -66,6 +69,7 @@ entry_of_growth growth = record {
   formula = formula_in (grown_tree growth);
 }
 
+-- growths by their formulas alone, in their order
 abbrev pub entries_in : List Growth → Entries
 entries_in growths = map entry_of_growth growths
 
@@ -86,6 +90,7 @@ pub record IsDueLink (g : Graph) (number : ℕ) : Type 0 where
   pub end : IsEnd (vocabulary_at g (link_at g number).to)
   pub leaf : IsLeaf g number
 
+-- both growths have trees, and the second begins at the node where the first ends
 pub record AreInLine (g : Graph) (first second : Growth) : Type 0 where
   pub one : Tree
   pub one_is : HasTree g first one
@@ -93,6 +98,7 @@ pub record AreInLine (g : Graph) (first second : Growth) : Type 0 where
   pub other_is : HasTree g second other
   pub through : first.to ≡ second.from
 
+-- both growths have trees, between the same two nodes
 pub record AreBeside (g : Graph) (left right : Growth) : Type 0 where
   pub one : Tree
   pub one_is : HasTree g left one
@@ -101,6 +107,7 @@ pub record AreBeside (g : Graph) (left right : Growth) : Type 0 where
   pub starts : left.from ≡ right.from
   pub ends : left.to ≡ right.to
 
+-- the growth has a tree, which ends at the node where it begins
 pub record IsRound (g : Graph) (turn : Growth) : Type 0 where
   pub one : Tree
   pub one_is : HasTree g turn one
@@ -118,6 +125,7 @@ IsGrowable g growths (key.Join i j) =
     × AreBeside g (growth_at growths i) (growth_at growths j)
 IsGrowable g growths (key.Star i) = (i < length growths) × IsRound g (growth_at growths i)
 
+-- the growth of a number has its place, and what its key asks of the others is there
 pub record IsNextGrowth (g : Graph) (keys : List Key) (growths : List Growth) (n : ℕ) : Type 0 where
   pub within : n < length growths
   pub growable : IsGrowable g growths (key_at keys n)
@@ -221,6 +229,7 @@ no_tree = Leaf 0 nothing record {
   log = log_of [] [];
 }
 
+-- a cell of a path's number, with the tree of that number; `no_tree` where there is none
 abbrev pub tree_cell : List Growth → Cell ℕ → Cell Tree
 tree_cell growths known.Zero = known.Zero
 tree_cell growths known.One = known.One
@@ -238,6 +247,7 @@ IsGrownCell growths known.Zero = Unit {0}
 IsGrownCell growths known.One = Unit {0}
 IsGrownCell growths (known.Item n) = IsGrownAt growths n
 
+-- each item of the cells has a tree
 abbrev pub AreGrownCells : List Growth → List (Cell ℕ) → Type 0
 AreGrownCells growths cells = (node : ℕ) (cell : Cell ℕ) → slice_get cells node ≡ Some cell
     → IsGrownCell growths cell

@@ -17,15 +17,17 @@ use Rattle.checked_tree.specs.TreeLaw.{IsOf}
 
 -- ---- cells of trees
 
+-- a cell whose item is seen in another way; one without an item stays
 abbrev pub cell_map : {A B : Type 0} → (A → B) → Cell A → Cell B
 cell_map f known.Zero = known.Zero
 cell_map f known.One = known.One
 cell_map f (known.Item x) = known.Item (f x)
 
--- the plain forms of what stands at the nodes, and the formulas of it
+-- the plain forms of what stands at the nodes, in their order
 abbrev pub trees_of : List (Cell TreeStep) → List (Cell Tree)
 trees_of cells = map (cell_map tree_of) cells
 
+-- the formulas of what stands at the nodes, in their order
 abbrev pub formulas_of : List (Cell TreeStep) → List (Cell Transition)
 formulas_of cells = map (cell_map (λ step. formula_of (tree_of step))) cells
 

@@ -62,11 +62,11 @@ HoldsAlong g path f =
     → length before ≡ (start_vocabulary g path).columns →
     IsRun g word before after → Holds f before after
 
--- each leaf's rows have their monomials in print order, each once, as their types keep them; so
--- have those of each formula made
+-- each leaf's rows have their monomials in print order, each once, as their types keep them
 abbrev pub HaveCanonicalLeaves : Graph → Type 0
 HaveCanonicalLeaves g = AllByRecursion (λ (f : Transition). HaveCanonicalRows f.cases) g.leaves
 
+-- the rows of each formula made have their monomials in print order, each once
 abbrev pub AreCanonicalMade : Made → Type 0
 AreCanonicalMade made = AllByRecursion (λ entry. HaveCanonicalRows entry.1.cases) made
 
@@ -80,6 +80,7 @@ HoldsOfWalks g source made =
     length before ≡ (vocabulary_at g source).columns → IsRun g word before after →
     HoldsCell (cell_at g source made node) before after
 
+-- what an evaluation under true answers leaves at each node holds of each run along a walk to it
 abbrev pub EvaluationHolds : Type 0
 EvaluationHolds =
     (g : Graph) (source : ℕ) → IsEvaluated g source → HaveCanonicalLeaves g →
@@ -96,6 +97,7 @@ FitsCell from to known.Zero = Unit {0}
 FitsCell from to known.One = Unit {0}
 FitsCell from to (known.Item f) = IsBetweenEnds from to f
 
+-- what an evaluation under true answers leaves at each node fits the source and the node
 abbrev pub EvaluationFits : Type 0
 EvaluationFits =
     (g : Graph) (source : ℕ) → IsEvaluated g source →

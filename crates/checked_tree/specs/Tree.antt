@@ -25,12 +25,14 @@ pub data Tree : Type 0 where
   Join : (left right : Tree) (own : Own) → Tree
   Star : (turn : Tree) (own : Own) → Tree
 
+-- what the last step of a tree has beside its operation
 abbrev pub own_of : Tree → Own
 own_of (Leaf number given own) = own
 own_of (Seq first second own) = own
 own_of (Join left right own) = own
 own_of (Star turn own) = own
 
+-- the formula of the last step of a tree
 abbrev pub formula_of : Tree → Transition
 formula_of t = (own_of t).formula
 
@@ -41,12 +43,14 @@ path_of (Seq first second own) = expr.Seq (path_of first) (path_of second)
 path_of (Join left right own) = expr.Join (path_of left) (path_of right)
 path_of (Star turn own) = expr.Star (path_of turn)
 
+-- the tree of an operation, from the trees of its operands and what its step has beside it
 abbrev pub node_layer : Node-F (Own → Tree) Tree → Own → Tree
 node_layer (Node-F.Leaf number given) own = Leaf number given own
 node_layer (Node-F.Seq first second) own = Seq first.value second.value own
 node_layer (Node-F.Join left right) own = Join left.value right.value own
 node_layer (Node-F.Star turn) own = Star turn.value own
 
+-- the tree of a step, from its operation and the values that its memory holds
 abbrev pub step_layer : TreeStep-F (Own → Tree) Tree → Tree
 step_layer step =
     step.node record {

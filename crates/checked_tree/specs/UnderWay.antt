@@ -20,6 +20,7 @@ pub record IsKnown (g : Graph) (p : PathExpr) (f : Transition) : Type 0 where
   pub end_within : end_of g p < length g.nodes
   pub formula : IsBetweenEnds (start_vocabulary g p) (end_vocabulary g p) f
 
+-- what was made of a path, with its nodes in the graph
 abbrev pub entry_for : Graph → Made → PathExpr → Entry
 entry_for g made p = record { from = start_of g p; to = end_of g p; formula = formula_at made p }
 
@@ -40,13 +41,14 @@ pub record IsUnderWay (g : Graph) (keys : List Key) (entries : Entries)
   pub ready : AreReady g (paths_of made) paths
   pub numbers : ArePathsOf keys paths rest
 
--- each step of it leaves an evaluation that is under way, and it begins as one
+-- each operation of a plan leaves an evaluation that is under way
 abbrev pub PlansGoOn : Type 0
 PlansGoOn =
     (g : Graph) (source : ℕ) (keys : List Key) → IsEvaluated g source → AreDistinct keys →
     (entries : Entries) (n : ℕ) (rest : List ℕ) → IsUnderWay g keys entries (n ∷ rest) →
     Always (λ next. IsUnderWay g keys next rest) (with_number g keys entries n)
 
+-- the evaluation of a plan begins as one that is under way
 abbrev pub PlansBegin : Type 0
 PlansBegin =
     (g : Graph) (source : ℕ) (keys : List Key) (order : List ℕ) (cells : List (Cell ℕ))

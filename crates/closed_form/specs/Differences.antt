@@ -8,6 +8,7 @@ use Rattle.linear_terms.specs.declared.col.Col.{Col}
 use Rattle.linear_terms.specs.Polynomial.{Polynomial}
 use Rattle.linear_terms.specs.Value.{Valuation, value_of}
 
+-- a sequence of whole numbers, by their places from 0
 abbrev pub Sequence : Type 0
 Sequence = ℕ → ℤ
 
@@ -19,6 +20,7 @@ difference u n = u (n + 1) -ℤ u n
 abbrev pub third_difference : Sequence → Sequence
 third_difference u = difference (difference (difference u))
 
+-- each number of the sequence is the one at 0
 abbrev pub IsConstant : Sequence → Type 0
 IsConstant u = (n : ℕ) → u n ≡ u 0
 

@@ -17,6 +17,7 @@ pub record Climb : Type 0 where
   pub growth : ℤ
   pub constant : ℤ
 
+-- in each turn the number grows by at most the slope and the constant, and the slope by the growth
 pub record IsClimb (climb : Climb) : Type 0 where
   -- in each turn the number grows by the slope and the constant at most
   pub numbers_grow : (i : ℕ) → i < climb.turns

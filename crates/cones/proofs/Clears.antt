@@ -8,7 +8,8 @@ use Rattle.std.proofs.lemmas.Bool.{false≢true}
 use Rattle.std.proofs.lemmas.Bool.Decides.{Decides-int_eq}
 use Rattle.std.proofs.Math.IntN.{*ℤ_comm, zero-*ℤ}
 use Rattle.whole_numbers.proofs.Ring.{ring, *ℤ_assoc}
-use Rattle.cones.specs.Vectors.{dot, combination}
+use Rattle.cones.specs.Vectors.{combination}
+use Rattle.whole_numbers.specs.Dot.{dot}
 use Rattle.cones.specs.Cones.{Cleared, Kept, Given, along_sign, projection, clearing, clearing_with}
 use Rattle.cones.specs.Spans.{Values, IsSpanned, SeesFirst, IsIndependent}
 use Rattle.cones.proofs.Numbers.{times_zero, vanishes, vanishes_above, not_zero-*ℤ, above_not_zero}

@@ -7,7 +7,8 @@ use Rattle.whole_numbers.specs.Divisors.{gcd_of_all}
 use Rattle.whole_numbers.proofs.CommonDivisors.{DividesEach, DividesEach-gcd_of_all}
 use Rattle.whole_numbers.proofs.Quotients.{int_div-*ℤ}
 use Rattle.whole_numbers.proofs.Ring.{ring, one-*ℤ}
-use Rattle.cones.specs.Vectors.{dot, combination, lowest, opposite}
+use Rattle.cones.specs.Vectors.{combination, lowest, opposite}
+use Rattle.whole_numbers.specs.Dot.{dot}
 use Rattle.cones.proofs.Numbers.{times_zero}
 
 dot_none : (line : List ℤ) → dot line [] ≡ pos 0

@@ -5,7 +5,7 @@ use Rattle.std.specs.List.{AllByRecursion}
 use Rattle.std.proofs.lemmas.Int.{ints, by_lt_z}
 use Rattle.std.proofs.Math.IntN.{zero-*ℤ}
 use Rattle.whole_numbers.proofs.Ring.{ring, one-*ℤ, *ℤ_assoc, *ℤ-positive}
-use Rattle.cones.specs.Vectors.{dot}
+use Rattle.whole_numbers.specs.Dot.{dot}
 use Rattle.cones.specs.Cones.{extremes}
 use Rattle.cones.specs.Spans.{Values, IsSpanned, IsIndependent, IsPointed, AreAtMost, IsAboveAt}
 use Rattle.cones.specs.Laws.{AreFlat}

@@ -5,7 +5,8 @@ use Rattle.std.specs.List.{AllByRecursion}
 use Rattle.std.proofs.lemmas.Int.{ints, by_lt_z}
 use Rattle.std.proofs.Math.IntN.{*ℤ_comm}
 use Rattle.whole_numbers.proofs.Ring.{*ℤ_right_comm, neg_ℤ-*ℤ, *ℤ-≤ℤ, ≤ℤ-*ℤ}
-use Rattle.cones.specs.Vectors.{dot, lowest}
+use Rattle.cones.specs.Vectors.{lowest}
+use Rattle.whole_numbers.specs.Dot.{dot}
 use Rattle.cones.specs.Spans.{IsSpanned, IsIndependent, AreAtMost, IsAboveAt}
 use Rattle.cones.specs.Tangents.{Point, difference, directions, facets_at}
 use Rattle.cones.specs.Laws.{IsTangentAt, MeetsAt, HasAsMuch}

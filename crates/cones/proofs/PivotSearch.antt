@@ -6,7 +6,7 @@ use Rattle.std.specs.Ordering.{int_eq}
 use Rattle.std.proofs.lemmas.Bool.{and_parts, and_from, false≢true}
 use Rattle.std.proofs.lemmas.Bool.Decides.{Decides-int_eq}
 use Rattle.items.proofs.Each.{each-append, each_from_test, test_from_each}
-use Rattle.cones.specs.Vectors.{dot}
+use Rattle.whole_numbers.specs.Dot.{dot}
 use Rattle.cones.specs.Split.{units, flat, is_zero_on, is_pivot, pivots_behind, pivots, ArePrivate, IsAmong}
 use Rattle.cones.specs.Laws.{HasPivots, FlatAndRestSplit}
 use Rattle.cones.proofs.Splitting.{units-pivots, units-split}

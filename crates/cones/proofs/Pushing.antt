@@ -8,7 +8,8 @@ use Rattle.std.proofs.lemmas.Bool.{false≢true}
 use Rattle.std.proofs.lemmas.Bool.Decides.{Decides-int_eq}
 use Rattle.std.proofs.Math.IntN.{*ℤ_comm}
 use Rattle.whole_numbers.proofs.Ring.{ring, *ℤ_right_comm, neg_ℤ-*ℤ, *ℤ-≤ℤ, ≤ℤ-*ℤ, *ℤ-positive}
-use Rattle.cones.specs.Vectors.{dot, opposite}
+use Rattle.cones.specs.Vectors.{opposite}
+use Rattle.whole_numbers.specs.Dot.{dot}
 use Rattle.cones.specs.Cones.{extremes}
 use Rattle.cones.specs.Spans.{Values, IsSpanned, IsIndependent, IsPointed, AreAtMost, IsAboveAt}
 use Rattle.cones.proofs.Numbers.{times_zero, product_not_above}

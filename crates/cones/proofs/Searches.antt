@@ -8,7 +8,8 @@ use Rattle.std.proofs.lemmas.Bool.{false≢true}
 use Rattle.std.proofs.Math.IntN.{*ℤ_comm, zero-*ℤ}
 use Rattle.whole_numbers.proofs.Ring.{ring, *ℤ_assoc, *ℤ-positive}
 use Rattle.items.proofs.Each.{each-append}
-use Rattle.cones.specs.Vectors.{dot, opposite}
+use Rattle.cones.specs.Vectors.{opposite}
+use Rattle.whole_numbers.specs.Dot.{dot}
 use Rattle.cones.specs.Cones.{Cleared, Kept, Given, clearing, are_at_most, ends, extremes_at_zero, extremes}
 use Rattle.cones.specs.Spans.{Values, IsSpanned, IsIndependent, IsPointed, AreAtMost, IsAboveAt}
 use Rattle.cones.proofs.Numbers.{times_zero, vanishes, above_not_zero, factor_positive, factor_not_above, product_not_above}

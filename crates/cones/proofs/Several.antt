@@ -1,7 +1,7 @@
 -- What is left of a basis where several lines are made 0.
 use Rattle.std.proofs.Common.{◌≡◌, List, [], ◌∷◌, ℤ, pos}
 use Rattle.std.specs.List.{AllByRecursion}
-use Rattle.cones.specs.Vectors.{dot}
+use Rattle.whole_numbers.specs.Dot.{dot}
 use Rattle.cones.specs.Cones.{Cleared, Kept, Given, clearing}
 use Rattle.cones.specs.Spans.{Values, IsSpanned, IsIndependent}
 use Rattle.cones.specs.Split.{remainder, clearing_by_all}

@@ -4,7 +4,7 @@ use Rattle.std.proofs.lemmas.Int.{ints}
 use Rattle.std.proofs.Math.IntN.{zero-*ℤ}
 use Rattle.std.specs.List.{AllByRecursion}
 use Rattle.whole_numbers.proofs.Ring.{ring, *ℤ_assoc, one-*ℤ}
-use Rattle.cones.specs.Vectors.{dot}
+use Rattle.whole_numbers.specs.Dot.{dot}
 use Rattle.cones.specs.Spans.{Values, IsSpanned}
 use Rattle.cones.proofs.Numbers.{times_zero, vanishes, not_zero-*ℤ, above_not_zero}
 

@@ -5,7 +5,7 @@ use Rattle.std.proofs.lemmas.Int.{ints}
 use Rattle.std.proofs.Math.IntN.{*ℤ_comm, zero-*ℤ}
 use Rattle.std.specs.Prelude.{neg_ℤ}
 use Rattle.whole_numbers.proofs.Ring.{one-*ℤ, *ℤ-one, neg_ℤ-*ℤ}
-use Rattle.cones.specs.Vectors.{dot}
+use Rattle.whole_numbers.specs.Dot.{dot}
 use Rattle.std.specs.Ordering.{int_eq}
 use Rattle.cones.specs.Cones.{Cleared, Kept, Given, projection, clearing, clearing_with}
 use Rattle.cones.proofs.Clears.{IsMoved, projection-is, IsGivenUp, IsClearing, clearing-is, each_vanishes}

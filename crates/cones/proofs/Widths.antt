@@ -3,7 +3,8 @@ use Rattle.std.proofs.Common.{◌≡◌, ℕ, zero, suc, take, drop, subst, Bool
 use Rattle.std.specs.Prelude.{int_div, neg_ℤ, unsigned_abs}
 use Rattle.std.specs.Ordering.{int_eq}
 use Rattle.whole_numbers.specs.Divisors.{gcd_of_all}
-use Rattle.cones.specs.Vectors.{dot, combination, lowest}
+use Rattle.cones.specs.Vectors.{combination, lowest}
+use Rattle.whole_numbers.specs.Dot.{dot}
 use Rattle.cones.specs.Cones.{Cleared, Kept, Given, along_sign, projection, clearing, clearing_with, AreWide, IsWide}
 
 map-length : (f : ℤ → ℤ) (v : List ℤ) → length (map f v) ≡ length v

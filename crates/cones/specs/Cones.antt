@@ -5,7 +5,8 @@
 use Rattle.std.specs.List.{AllByRecursion}
 use Rattle.std.specs.Prelude.{◌≡◌, ℕ, length, ℤ, pos, negsuc, neg_ℤ, unsigned_abs, List, [], ◌∷◌, ◌++◌, Bool, true, ◌&&◌, int_le, if◌then◌else◌}
 use Rattle.std.specs.Ordering.{int_eq}
-use Rattle.cones.specs.Vectors.{dot, combination, lowest, opposite}
+use Rattle.cones.specs.Vectors.{combination, lowest, opposite}
+use Rattle.whole_numbers.specs.Dot.{dot}
 pub use Rattle.cones.specs.declared.projecting.Cleared.{Cleared}
 pub use Rattle.cones.specs.declared.projecting.Cleared.TheVariants.{Kept, Given}
 
@@ -23,6 +24,8 @@ projection line pivot v =
     lowest (combination (pos (unsigned_abs (dot line pivot))) v
     (along_sign (dot line pivot) (neg_ℤ (dot line v))) pivot)
 
+-- what clearing makes of a vector and those behind it, by what it makes of these: where it keeps
+-- them, the vector is given up unless the line is 0 on it; else the vector is moved along the pivot
 abbrev pub clearing_with : List ℤ → List ℤ → List (List ℤ) → Cleared → Cleared
 clearing_with line v vs Kept = if int_eq (dot line v) (pos 0) then Kept else Given v vs
 clearing_with line v vs (Given pivot rest) = Given pivot (projection line pivot v ∷ rest)
@@ -45,6 +48,7 @@ ends lines w =
     if are_at_most lines w then w ∷ []
     else (if are_at_most lines (opposite w) then opposite w ∷ [] else [])
 
+-- what the search finds where no lines are left, of a basis of one vector; nothing of another basis
 abbrev pub at_end : List (List ℤ) → List (List ℤ) → List (List ℤ)
 at_end lines [] = []
 at_end lines (w ∷ []) = ends lines w
@@ -71,6 +75,7 @@ extremes lines (line ∷ rest) (v ∷ (u ∷ vs)) =
 abbrev pub AreWide : ℕ → List (List ℤ) → Type 0
 AreWide count vectors = AllByRecursion (λ v. length v ≡ count) vectors
 
+-- the vectors that clearing gives have so many numbers each; of what is kept nothing is asked
 abbrev pub IsWide : ℕ → Cleared → Type 0
 IsWide count Kept = Unit {0}
 IsWide count (Given pivot rest) = (length pivot ≡ count) × AreWide count rest

@@ -1,7 +1,7 @@
 -- The laws of the search.
 use Rattle.std.specs.Prelude.{◌≡◌, ◌⊎◌, ℕ, length, ℤ, pos, ◌<ℤ◌, ◌≤ℤ◌, List, [], ◌∷◌, ◌++◌}
 use Rattle.std.specs.List.{AllByRecursion}
-use Rattle.cones.specs.Vectors.{dot}
+use Rattle.whole_numbers.specs.Dot.{dot}
 use Rattle.cones.specs.Cones.{extremes}
 use Rattle.cones.specs.Split.{units, clearing_by_all, flat, rest_basis, ArePrivate, IsAmong}
 use Rattle.cones.specs.Tangents.{Point, difference, directions, facets_at}
@@ -92,6 +92,7 @@ pub record HasPivots (units vs : List (List ℤ)) : Type 0 where
   pub private : ArePrivate pivots vs
   pub some : AllByRecursion (IsAmong units) pivots
 
+-- some of the units are pivots of what is left of the units where the lines are made 0
 abbrev pub UnitsArePivots : Type 0
 UnitsArePivots = (lines : List (List ℤ)) (count : ℕ)
     → HasPivots (units count) (clearing_by_all lines (units count))

@@ -1,7 +1,7 @@
 -- Words of the laws: what vectors span, as values on lines, and when nothing but 0 is left.
 use Rattle.std.specs.Prelude.{◌≡◌, ◌≢◌, ◌⊎◌, ℤ, pos, ◌-ℤ◌, ◌*ℤ◌, ◌<ℤ◌, ◌≤ℤ◌, List, [], ◌∷◌}
 use Rattle.std.specs.List.{AllByRecursion}
-use Rattle.cones.specs.Vectors.{dot}
+use Rattle.whole_numbers.specs.Dot.{dot}
 
 -- what a vector has on each line
 abbrev pub Values : Type 0
@@ -13,12 +13,13 @@ IsSpanned [] f = (line : List ℤ) → f line ≡ pos 0
 IsSpanned (v ∷ vs) f = (m c : ℤ) × (m ≢ pos 0)
     × IsSpanned vs (λ line. m *ℤ f line -ℤ c *ℤ dot line v)
 
--- each vector is seen by a line on which those behind it are 0
+-- a line on which a vector is not 0, and each of those behind it is
 pub record SeesFirst (v : List ℤ) (vs : List (List ℤ)) : Type 0 where
   pub line : List ℤ
   pub seen : dot line v ≢ pos 0
   pub others : AllByRecursion (λ u. dot line u ≡ pos 0) vs
 
+-- each vector is seen by a line on which those behind it are 0
 abbrev pub IsIndependent : List (List ℤ) → Type 0
 IsIndependent [] = Unit {0}
 IsIndependent (v ∷ vs) = SeesFirst v vs × IsIndependent vs

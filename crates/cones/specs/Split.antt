@@ -2,9 +2,10 @@
 use Rattle.std.specs.Prelude.{◌≡◌, ◌≢◌, ◌⊎◌, ◌&&◌, ℕ, zero, suc, ℤ, pos, Bool, not, List, [], ◌∷◌, ◌++◌, map}
 use Rattle.std.specs.List.{AllByRecursion, cons_option, find, list_all}
 use Rattle.std.specs.Ordering.{int_eq}
-use Rattle.cones.specs.Vectors.{dot}
+use Rattle.whole_numbers.specs.Dot.{dot}
 use Rattle.cones.specs.Cones.{Cleared, Kept, Given, clearing}
 
+-- so many zeros
 abbrev pub zeros : ℕ → List ℤ
 zeros zero = []
 zeros (suc n) = pos 0 ∷ zeros n
@@ -14,6 +15,7 @@ abbrev pub units : ℕ → List (List ℤ)
 units zero = []
 units (suc n) = (pos 1 ∷ zeros n) ∷ map (λ v. pos 0 ∷ v) (units n)
 
+-- the vectors of a basis that are left by clearing, all of them where it keeps the basis
 abbrev pub remainder : List (List ℤ) → Cleared → List (List ℤ)
 remainder basis Kept = basis
 remainder basis (Given pivot rest) = rest
@@ -44,6 +46,7 @@ pivots_behind lines before [] = []
 pivots_behind lines before (v ∷ vs) =
     cons_option (find (is_pivot v before vs) lines) (pivots_behind lines (before ++ v ∷ []) vs)
 
+-- for each vector, in order, the first line that is 0 on all others but not on it, if there is one
 abbrev pub pivots : (lines vs : List (List ℤ)) → List (List ℤ)
 pivots lines vs = pivots_behind lines [] vs
 

@@ -2,12 +2,6 @@
 use Rattle.std.specs.Prelude.{ℤ, pos, ◌+ℤ◌, ◌*ℤ◌, neg_ℤ, int_div, List, [], ◌∷◌, map, ◌==◌, if◌then◌else◌}
 use Rattle.whole_numbers.specs.Divisors.{gcd_of_all}
 
--- the sum of the products of their numbers; what is missing is 0
-abbrev pub dot : List ℤ → List ℤ → ℤ
-dot [] v = pos 0
-dot (x ∷ xs) [] = pos 0
-dot (x ∷ xs) (y ∷ ys) = x *ℤ y +ℤ dot xs ys
-
 -- so many times one vector and so many times another
 abbrev pub combination : ℤ → List ℤ → ℤ → List ℤ → List ℤ
 combination a [] b ys = map (λ y. b *ℤ y) ys

@@ -2,7 +2,8 @@ ghost use Rattle.std.specs.Prelude.{◌≡◌, ◌≤◌, ◌<◌, ◌^◌, pos,
 ghost use Rattle.whole_numbers.specs.Divisors.{gcd_of_all};
 ghost use Rattle.cones.specs.Cones.{along_sign, projection, clearing, clearing_with, AreWide, IsWide, Kept};
 ghost use Rattle.cones.specs.Refusal.{LeavesBits, IsRefusal};
-ghost use Rattle.cones.specs.Vectors.{dot, combination, lowest};
+ghost use Rattle.cones.specs.Vectors.{combination, lowest};
+ghost use Rattle.whole_numbers.specs.Dot.{dot};
 
 use crate::ConeStop;
 use crate::stop::step_product;

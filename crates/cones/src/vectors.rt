@@ -1,7 +1,8 @@
 ghost use Rattle.std.specs.Prelude.{◌≡◌, ◌+ℤ◌, ◌*ℤ◌, length, IfOk, IfErr};
 ghost use Rattle.cones.specs.Cones.{are_at_most};
 ghost use Rattle.cones.specs.Refusal.{LeavesBits, IsRefusal};
-ghost use Rattle.cones.specs.Vectors.{dot, combination};
+ghost use Rattle.cones.specs.Vectors.{combination};
+ghost use Rattle.whole_numbers.specs.Dot.{dot};
 
 use crate::ConeStop;
 use crate::stop::{step_product, step_sum};

@@ -35,10 +35,12 @@ pub record IsEntry (columns : ℕ) (f : Transition) : Type 0 where
   pub fits : IsTransition f.from f.to f.cases
   pub fitted : IsFitted f.cases
 
+-- the formula is an entry over so many columns, where there is one
 abbrev pub IsEntryIf : ℕ → Option Transition → Type 0
 IsEntryIf columns None = Unit {0}
 IsEntryIf columns (Some f) = IsEntry columns f
 
+-- an entry or None for each procedure in the order of the text, where each entry fits its procedure
 pub record AreEntries (program : Program) (entries : List (Option Transition)) : Type 0 where
   pub each : length entries ≡ length program.procs
   pub fit : (proc : ℕ) (p : Proc) (entry : Option Transition)
@@ -60,6 +62,7 @@ EntryHolds program proc entry =
     → chain.top.proc ≡ proc →
     HoldsIf entry [] (chain.top.globals ++ chain.top.args)
 
+-- each entry holds of the numbers with which activations of its procedure begin
 abbrev pub EntriesHold : Program → List (Option Transition) → Type 0
 EntriesHold program entries =
     (proc : ℕ) (entry : Option Transition) → slice_get entries proc ≡ Some entry

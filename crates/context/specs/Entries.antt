@@ -33,28 +33,33 @@ use Rattle.context.specs.declared.stand.Widths.{Widths}
 -- ---- nodes: 0 is where the program starts, 1 the entry of `main`, and then come the other
 -- procedures in the order of the text
 
+-- the node of a procedure's entry, by the number of `main` and its own, both from 0
 abbrev pub node_of : ℕ → ℕ → ℕ
 node_of main proc = if proc == main then 1 else (if nat_lt proc main then proc + 2 else proc + 1)
 
--- the vocabularies of the entries of procedures, from a number on, without that of `main`
+-- a vocabulary before the others; that of `main` is left out
 abbrev pub unless_main : Bool → Vocabulary → List Vocabulary → List Vocabulary
 unless_main true own others = others
 unless_main false own others = own ∷ others
 
+-- the vocabularies of the entries of procedures, from a number on, without that of `main`
 abbrev pub others_from : Program → ℕ → List Proc → List Vocabulary
 others_from program number [] = []
 others_from program number (p ∷ procs) =
     unless_main (number == program.main) (entry_of program p)
     (others_from program (number + 1) procs)
 
+-- the vocabulary of the entry of `main`, as a list of one; [] where no procedure has its number
 abbrev pub main_entry : Program → List Vocabulary
 main_entry program = map (entry_of program) (option_to_list (slice_get program.procs program.main))
 
+-- the vocabularies of all nodes, in the order of their numbers
 abbrev pub nodes_of : Program → List Vocabulary
 nodes_of program = start_of program ∷ (main_entry program ++ others_from program 0 program.procs)
 
 -- ---- links, each with its leaf and what was lost in making this
 
+-- a link, the leaf that it has, and what was lost in making the leaf
 pub record Way : Type 0 where
   pub link : Link
   pub leaf : Transition
@@ -68,6 +73,7 @@ start_case program = record {
   post = map (λ g. constant_of g.init) program.globals;
 }
 
+-- the leaf from the start, which has no columns, to the globals
 abbrev pub start_leaf : Program → Transition
 start_leaf program = record {
   from = 0;
@@ -75,6 +81,7 @@ start_leaf program = record {
   cases = start_case program ∷ [];
 }
 
+-- the way from the start to the entry of `main`, in whose making nothing is lost
 abbrev pub start_way : Program → Way
 start_way program = record {
   link = record { from = 0; to = 1 };
@@ -87,10 +94,12 @@ pub record Calling : Type 0 where
   pub callee : ℕ
   pub args : List Term
 
+-- the call that a statement is, as a list of one; [] where it is none
 abbrev pub calling_by : Statement → List Calling
 calling_by (Call proc args into) = record { callee = proc; args = args } ∷ []
 calling_by _ = []
 
+-- the calls on these edges, in order
 abbrev pub callings_in : List Arc → List Calling
 callings_in ways = flat_map (λ way. calling_by way.act) ways
 
@@ -122,11 +131,13 @@ handing_of w args = entering w.columns w.globals (length args) (arguments_of arg
 abbrev pub call_leaf : Widths → Option Transition → List Term → Transition
 call_leaf w stand args = sequence_of (stand_from_entry w stand) (handing_of w args)
 
+-- what is lost in making the leaf of a call: in hiding, in the arguments, and then in the sequence
 abbrev pub losses_in_call : Widths → Option Transition → List Term → List Loss
 losses_in_call w stand args =
     losses_in_hiding w.entry (stand_of w.columns stand)
     ++ ((arguments_of args).lost ++ losses_in_sequence (stand_from_entry w stand) (handing_of w args))
 
+-- the way of a call from the entry of the procedure of a number to that of its callee
 abbrev pub call_way : (main number : ℕ) → Widths → Calling → NodeFormula → Way
 call_way main number w calling stop =
     record {
@@ -148,16 +159,20 @@ ways_from program number (p ∷ procs) (flow ∷ flows) =
     ++ ways_from program (number + 1) procs flows
 ways_from program number _ _ = []
 
+-- all ways: that from the start first, and then the calls of each procedure in the order of the
+-- text
 abbrev pub ways_of : Program → List Flow → List Way
 ways_of program flows = start_way program ∷ ways_from program 0 program.procs flows
 
 -- ---- the graph, and its evaluation
 
+-- the links and the leaves of all ways, and the vocabularies of the nodes
 abbrev pub entry_graph : Program → List Flow → Graph
 entry_graph program flows =
     graph_of (map (λ way. way.link) (ways_of program flows))
     (map (λ way. way.leaf) (ways_of program flows)) (nodes_of program)
 
+-- what was lost in making the leaves of all ways, in their order
 abbrev pub losses_on_ways : Program → List Flow → List Loss
 losses_on_ways program flows = flat_map (λ way. way.lost) (ways_of program flows)
 

@@ -45,11 +45,12 @@ pub record IsVerdictOnAll (cases : List Case) (verdict : Verdict) : Type 0 where
   pub fits : (shown : ℕ) → AllByRecursion (λ case. IsTrue (fits 0 shown case)) cases
       → FitsVerdict shown verdict
 
--- what is left of a case in order
+-- what is left of a case in order, if anything is, goes from so many columns to so many
 abbrev pub FitsLeft : ℕ → ℕ → Option Case → Type 0
 FitsLeft from to None = Unit {0}
 FitsLeft from to (Some case) = IsTrue (fits from to case)
 
+-- what is left holds of all that the case holds of, and fits where the case fits
 pub record IsLeftOf (case : Case) (left : Option Case) : Type 0 where
   pub holds : (before after : List ℤ) → HoldsCase case before after → HoldsLeft left before after
   pub fits : (from to : ℕ) → IsTrue (fits from to case) → FitsLeft from to left

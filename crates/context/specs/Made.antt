@@ -49,5 +49,6 @@ IsCallFit columns _ = Unit {0}
 abbrev pub callings_on : List Edge → List Calling
 callings_on edges = callings_in (map arc_of edges)
 
+-- the call of the procedure of a number with these arguments
 abbrev pub calling_of : ℕ → List Term → Calling
 calling_of callee args = record { callee = callee; args = args }

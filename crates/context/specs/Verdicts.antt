@@ -33,12 +33,13 @@ use Rattle.context.specs.Entries.{stand_of}
 
 -- ---- where it stands
 
--- how many columns the procedure's entry and its states have, the vocabularies of the start and of
--- its states, and the columns that are told: those that have a name in the text
+-- the columns that are told: the globals, and those behind them that have a name in the text
 abbrev pub shown_columns_of : Program → Proc → List ℕ
 shown_columns_of program p =
     range_with_len 0 (length program.globals) ++ named_columns_from (length program.globals) p.columns
 
+-- how many columns the procedure's entry and its states have, the vocabularies of the start and of
+-- its states, and the columns that are told
 abbrev pub place_of : Program → Proc → AssertionPlace
 place_of program p =
     record {
@@ -82,6 +83,7 @@ reach_from place begun stand =
 
 -- ---- where the condition is false
 
+-- the formula of states in which the condition is false, which stay as they are
 abbrev pub falsity_of : ℕ → Term → Transition
 falsity_of columns cond = guard_of columns (lists_of cond).falsity.cases
 
@@ -89,6 +91,8 @@ falsity_of columns cond = guard_of columns (lists_of cond).falsity.cases
 abbrev pub failing_of : AssertionPlace → Term → Transition → Transition
 failing_of place cond f = with_posts place.shown (sequence_of f (falsity_of place.columns cond))
 
+-- what is lost in making the failing cases: in the falsity of the condition, and then in the
+-- composition
 abbrev pub losses_in_failing : AssertionPlace → Term → Transition → List Loss
 losses_in_failing place cond f =
     (lists_of cond).falsity.lost ++ losses_in_sequence f (falsity_of place.columns cond)
@@ -111,6 +115,7 @@ verdict_at case [] = Done (Unproved case [])
 verdict_at case (row ∷ rows) = answer_to (Infeasible (row ∷ rows))
     >>= λ answer. Done (verdict_by case answer)
 
+-- the verdict on what is left of a case in order; where nothing is left, it is proved
 abbrev pub verdict_left : Option Case → Posing Verdict
 verdict_left None = Done Proved
 verdict_left (Some case) = verdict_at case case.rows
@@ -119,21 +124,25 @@ verdict_left (Some case) = verdict_at case case.rows
 unfoldable pub case_verdict : Case → Posing Verdict
 case_verdict case = Noted (loss_notes (in_order case).losses) (verdict_left (in_order case).left)
 
+-- the verdict on one case more, behind those that are made
 unfoldable pub with_verdict : List Verdict → Case → Posing (List Verdict)
 with_verdict made case = case_verdict case >>= λ verdict. Done (made ++ verdict ∷ [])
 
 -- ---- all cases
 
+-- whether a verdict is unproved with a point
 abbrev pub is_refuted : Verdict → Bool
 is_refuted Proved = false
 is_refuted (Unproved case point) = true
 is_refuted (UnprovedLimit case limit) = false
 
+-- whether a verdict is unproved with a limit
 abbrev pub is_limited : Verdict → Bool
 is_limited Proved = false
 is_limited (Unproved case point) = false
 is_limited (UnprovedLimit case limit) = true
 
+-- the first verdict, else the other; where there is neither, it is proved
 abbrev pub else_by : Option Verdict → Option Verdict → Verdict
 else_by (Some verdict) other = verdict
 else_by None other = unwrap_or other Proved
@@ -142,6 +151,7 @@ else_by None other = unwrap_or other Proved
 abbrev pub verdict_from : List Verdict → Verdict
 verdict_from verdicts = else_by (find is_refuted verdicts) (find is_limited verdicts)
 
+-- the limit that a verdict carries, as a note; None where it carries none
 abbrev pub limit_of : Verdict → Option Note
 limit_of Proved = None
 limit_of (Unproved case point) = None
@@ -160,6 +170,8 @@ verdict_on_cases_from cases =
 
 -- ---- the assertion
 
+-- the verdict by the formula that leads from the start to where the assertion stands; what is lost
+-- in making the failing cases is noted first
 unfoldable pub failure_verdict_from : AssertionPlace → Term → Transition → Posing Verdict
 failure_verdict_from place cond f =
     Noted (loss_notes (losses_in_failing place cond f)) (verdict_on_cases_from (failing_of place cond f).cases)

@@ -21,12 +21,11 @@ ghost use Rattle.context.specs.Claims.{EntryHolds, FitsVerdict, IsEntryIf};
 ghost use Rattle.context.specs.Ends.{HasFew, HoldsAfter, HoldsBegun, HoldsFailing, IsCondition, IsFromStart, IsPlace, NoneFails, NoneFailsAt};
 ghost use Rattle.context.specs.Verdicts.{entry_from_start, extended_formula, extended_case, failure_verdict_from, failing_of, losses_in_failing, place_of, reach_from, shown_columns_of, verdict_of};
 
-use crate::graphs::graph_of;
 use crate::judging::verdict_on_cases;
 use crate::place::{AssertionPlace, place_of};
 use crate::stand::stand_of;
 use farkas_check::Oracle;
-use flow_graph::Graph;
+use flow_graph::{Graph, graph};
 use items::Items;
 use leaf_cases::falsity;
 use linear_terms::{Case, Col, Poly};
@@ -78,7 +77,7 @@ pub fn verdict<O: Oracle>(
     ensures fits { (p : Procedure) → slice_get program.now.procs proc ≡ Some p
         → IfOk result (FitsVerdict (length (shown_columns_of program.now p))) }
 {
-    let graph = graph_of(alloc, program, proc)?;
+    let graph = graph(alloc, program, proc)?;
     graph_verdict(
         alloc, program, proc, &graph, check, entry, flow, oracle, log,
     )

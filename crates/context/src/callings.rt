@@ -10,9 +10,8 @@ ghost use Rattle.context.specs.Made.{AreArguments, AreWidths, IsCallFit, calling
 ghost use Rattle.context.specs.Callers.{IsCaller};
 
 use crate::edges::{Edges, node_of};
-use crate::graphs::graph_of;
 use crate::stand::{Widths, call_leaf, widths_of};
-use flow_graph::{Act, Edge};
+use flow_graph::{Act, Edge, graph};
 use path_expr::Link;
 use proc_summary::{Flow, NodeFormula};
 use std::alloc::Global;
@@ -37,7 +36,7 @@ pub(crate) fn with_calls(
         (call_ways program.now.main number (widths_of program.now p)
         (callings_in (own_graph p).arcs) flow.now.calls)) }
 {
-    let graph = graph_of(alloc, program, number)?;
+    let graph = graph(alloc, program, number)?;
     let caller = Caller {
         main: program.main,
         number,

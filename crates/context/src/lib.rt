@@ -6,7 +6,6 @@ mod assertion;
 mod callings;
 mod edges;
 mod entry_formulas;
-mod graphs;
 mod judging;
 mod laws;
 mod nodes;
@@ -15,6 +14,5 @@ mod stand;
 
 pub use assertion::{graph_verdict, verdict};
 pub use entry_formulas::entries;
-pub use graphs::graph_of;
 pub use judging::verdict_on_cases;
 pub use laws::law_of_assertions;

@@ -25,14 +25,16 @@ use Rattle.cost_bounds.specs.Small.{kept_part, least_kept}
 
 -- ---- multipliers
 
+-- the first of some multipliers; 0 where there is none
 abbrev pub first_of : List ℤ → ℤ
 first_of [] = pos 0
 first_of (m ∷ by) = m
 
--- the multipliers of the rows of entry monomials, and that of the last row
+-- the multipliers behind those of the case's rows: of the rows of entry monomials, and the last
 abbrev pub of_entries : List Row → List ℤ → List ℤ
 of_entries rows by = drop (length rows) by
 
+-- the multiplier of the last row, which asks for growth; 0 where there is none
 abbrev pub scale_in : List Row → List Row → List ℤ → ℤ
 scale_in rows entries by = first_of (drop (length entries) (of_entries rows by))
 
@@ -49,9 +51,11 @@ sum_of_parts part total (row ∷ rows) [] = Ok total
 sum_of_parts part total (row ∷ rows) (m ∷ by) =
     gives.◌>>=◌ (with_multiple total (part row) m) (λ next. sum_of_parts part next rows by)
 
+-- the sum of the entry monomials, each times its row's multiplier
 abbrev pub monos_sum : List Row → List ℤ → Made
 monos_sum entries by = sum_of_parts (λ (row : Row). row.poly) (constant_of (pos 0)) entries by
 
+-- the sum of the constants of the case's rows, each times its row's multiplier
 abbrev pub constants_sum : List Row → List ℤ → Made
 constants_sum rows by = sum_of_parts (λ (row : Row). constant_of row.poly.rest) (constant_of (pos 0))
     rows by
@@ -71,6 +75,7 @@ limit_of (Wide left right times) = limit.Wide left right times
 limit_of Degree = limit.Pivots
 limit_of Memory = limit.Pivots
 
+-- the bound with its rows and multipliers, or a limit where a step of it is too wide
 abbrev pub bound_by : List Row → List Row → Row → List ℤ → Made → Cost
 bound_by rows entries last by (Err e) = cost.Limit (limit_of e)
 bound_by rows entries last by (Ok p) = cost.Bound (scale_in rows entries by) p
@@ -92,6 +97,7 @@ by_answer rest last rows entries (answer.Unbounded case point ray) = Done (cost.
 by_answer rest last rows entries (answer.Basis relations spots free) =
     Done (cost.Limit limit.Pivots)
 
+-- the cost by the answer to the first question, where the row that asks for growth is the last
 unfoldable pub cost_asked : Polynomial → List Row → Row → Posing Cost
 cost_asked change rows last = answer_to (first_question rows change last)
     >>= by_answer change.rest last rows (entry_rows rows change)
@@ -106,6 +112,7 @@ unfoldable pub cost_of_change : Polynomial → List Row → Posing Cost
 cost_of_change change rows = if is_over_entry change then Done (cost.Exact change)
     else cost_by_last change rows (negation (without_constant change))
 
+-- the cost of a case by its rows and its change; a limit where the change is too wide
 unfoldable pub cost_by : List Row → Made → Posing Cost
 cost_by rows (Err e) = Done (cost.Limit (limit_of e))
 cost_by rows (Ok change) = cost_of_change change rows

@@ -23,6 +23,7 @@ yes_of (answer.Unbounded case point ray) = None
 yes_of (answer.Basis relations spots free) = None
 yes_of (answer.Limit limit) = None
 
+-- rows of the case and rows of entry monomials, with the multipliers of the yes to their question
 abbrev pub kept_part : List Row → List Row → List ℤ → Kept
 kept_part rows entries by = record { rows = rows; entries = entries; by = by }
 
@@ -31,6 +32,7 @@ abbrev pub fewer_rows : Kept → List Row → List Row → Option (List ℤ) →
 fewer_rows kept rows entries None = kept
 fewer_rows kept rows entries (Some by) = kept_part rows entries by
 
+-- the multipliers where a question is answered yes, else None
 unfoldable pub yes_to : Question → Posing (Option (List ℤ))
 yes_to question = answer_to question >>= λ answer. Done (yes_of answer)
 
@@ -39,12 +41,14 @@ unfoldable pub trial : Row → Kept → List Row → List Row → Posing Kept
 trial last kept rows entries = yes_to (Infeasible (cost_rows rows entries last))
     >>= λ by. Done (fewer_rows kept rows entries by)
 
+-- whether two kinds are the same
 abbrev pub is_of : Kind → Kind → Bool
 is_of AtMost AtMost = true
 is_of AtMost Equal = false
 is_of Equal AtMost = false
 is_of Equal Equal = true
 
+-- the trial without the row at a place, where there is one and it is of the kind
 abbrev pub row_trial : Kind → Row → Kept → ℕ → Option Row → Posing Kept
 row_trial kind last kept place None = Done kept
 row_trial kind last kept place (Some row) =
@@ -55,9 +59,11 @@ row_trial kind last kept place (Some row) =
 unfoldable pub without_row : Kind → Row → Kept → ℕ → Posing Kept
 without_row kind last kept place = row_trial kind last kept place (slice_get kept.rows place)
 
+-- what is kept without the rows of the kind that can be left out, tried from the last to the first
 abbrev pub without_rows : Kind → Row → Kept → Posing Kept
 without_rows kind last kept = down (without_row kind last) kept (length kept.rows)
 
+-- the trial without the entry monomial at a place, where there is one
 abbrev pub entry_trial : Row → Kept → ℕ → Option Row → Posing Kept
 entry_trial last kept place None = Done kept
 entry_trial last kept place (Some row) = trial last kept kept.rows (remove kept.entries place)
@@ -66,9 +72,12 @@ entry_trial last kept place (Some row) = trial last kept kept.rows (remove kept.
 unfoldable pub without_entry : Row → Kept → ℕ → Posing Kept
 without_entry last kept place = entry_trial last kept place (slice_get kept.entries place)
 
+-- what is kept without the entry monomials that can be left out, tried from the last to the first
 abbrev pub without_entries : Row → Kept → Posing Kept
 without_entries last kept = down (without_entry last) kept (length kept.entries)
 
+-- what is kept without all that can be left out: of the inequalities first, then of the equations,
+-- then of the entry monomials
 unfoldable pub least_kept : Row → Kept → Posing Kept
 least_kept last kept = without_rows AtMost last kept >>= λ fewer. without_rows Equal last fewer
     >>= λ least. without_entries last least

@@ -42,6 +42,7 @@ pub record IsCertified (text : List ℕ) (file : Certificate) : Type 0 where
   pub is_file : IsFileOf text answers report file
   pub back : certificate_of (file_text file) ≡ Ok file
 
+-- the answer where the file that is made is past the limit
 abbrev pub output_too_long : Reply
 output_too_long = record { status = ended.TooLong; text = codes "output is too long\n" }
 

@@ -34,6 +34,7 @@ abbrev pub answers_in : Version → List Answer → List ℕ → List Answer
 answers_in First answers order = answers
 answers_in Second answers order = map (answer_at answers) order
 
+-- the answers of a file by its version, in the order of their questions
 abbrev pub answers_of : Certificate → List Answer
 answers_of file = answers_in file.version file.answers file.order
 
@@ -52,6 +53,7 @@ pub record IsShown (rule : ℕ) (text : List ℕ) (answers : List Answer)
   pub is_posed : IsPosed rule text program answers posed
   pub met : IsMetBy program posed
 
+-- the answer to a file that passes
 abbrev pub passed_reply : Reply
 passed_reply = record { status = ended.CheckPassed; text = codes "check passed\n" }
 
@@ -86,6 +88,8 @@ abbrev pub TellsCheck : ℕ → List ℕ → List Answer → List ℕ → Reply 
 TellsCheck rule text answers told reply = (posed : Posed Report) × IsShown rule text answers posed
     × (reply ≡ posed_reply answers told posed)
 
+-- a text is answered with what its analysis comes to under listed answers and a rule, or with the
+-- reason of its refusal
 abbrev pub IsCheckUnder : ℕ → List ℕ → List Answer → List ℕ → Reply → Type 0
 IsCheckUnder rule text answers told reply =
     OrRefused text (TellsCheck rule text answers told) reply

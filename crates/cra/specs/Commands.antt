@@ -9,12 +9,15 @@ use Rattle.cra.specs.Words.{work_named, work_with}
 abbrev pub plain : List ℕ → Shape
 plain name = (new_app name).top
 
+-- the argument of `sample`, which must be there
 abbrev pub count_rule : Rule
 count_rule = record (new_rule (codes "count")) { required = true }
 
+-- the argument of `cost`, which must be there
 abbrev pub name_rule : Rule
 name_rule = record (new_rule (codes "name")) { required = true }
 
+-- the program's command with its version, before its subcommands
 abbrev pub top : App
 top = record { top = record (plain (codes "cra")) { has_version = true }; subs = [] }
 

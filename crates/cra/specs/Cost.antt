@@ -30,9 +30,11 @@ abbrev pub IsGlobal : Program → List ℕ → ℕ → Type 0
 IsGlobal program name number = (global : GlobalVar)
     × (slice_get program.globals number ≡ Some global) × (global.name ≡ name)
 
+-- some global of the program has the name
 abbrev pub HasGlobal : Program → List ℕ → Type 0
 HasGlobal program name = (number : ℕ) × IsGlobal program name number
 
+-- no global of the program has the name
 abbrev pub HasNoGlobal : Program → List ℕ → Type 0
 HasNoGlobal program name = (number : ℕ) → ¬ IsGlobal program name number
 
@@ -85,9 +87,11 @@ costs_text [] costs = []
 costs_text (block ∷ blocks) [] = []
 costs_text (block ∷ blocks) (made ∷ costs) = proc_costs_text block made ++ costs_text blocks costs
 
+-- the answer that tells the costs of the procedures
 abbrev pub costs_reply : List ProcBlock → List (List Cost) → Reply
 costs_reply blocks costs = record { status = ended.CostsTold; text = costs_text blocks costs }
 
+-- the answer where no global has the name
 abbrev pub no_global_reply : List ℕ → Reply
 no_global_reply name = record {
   status = ended.NoGlobal;

@@ -54,6 +54,7 @@ pub record IsAnalysedAfter (before : Option Last) (text : List ℕ) (last : Last
   pub analysed : IsAnalysed text (answers_for last) last.report
   pub counted : counts ≡ counts_of (count_made marks) (length last.groups.plan) last.report
 
+-- something is kept, and it is what the analysis of the text came to after the text before
 abbrev pub KeepsAfter : Option Last → List ℕ → Counts → Option Last → Type 0
 KeepsAfter before text counts None = ⊥
 KeepsAfter before text counts (Some last) = IsAnalysedAfter before text last counts
@@ -97,6 +98,7 @@ report_behind lines report = record {
   text = lines ++ (report_reply report).text;
 }
 
+-- the lines alone, where the last text is refused
 abbrev pub lines_reply : List ℕ → Reply
 lines_reply lines = record { status = ended.Refused; text = lines }
 

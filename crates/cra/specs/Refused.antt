@@ -17,6 +17,7 @@ pub record Line : Type 0 where
   pub word : List ℕ
   pub at : ℕ
 
+-- what the cut into tokens refuses, and where, in bytes from 0; want of memory has no word
 abbrev pub lexing_line : LexError → Line
 lexing_line (lexing.Byte at) = record { word = codes "byte"; at = at }
 lexing_line (lexing.Comment at) = record { word = codes "comment"; at = at }
@@ -24,6 +25,7 @@ lexing_line (lexing.Literal at) = record { word = codes "literal"; at = at }
 lexing_line (lexing.TooManyTokens at) = record { word = codes "tokens"; at = at }
 lexing_line lexing.Memory = record { word = []; at = 0 }
 
+-- what the grammar refuses, and where, in bytes from 0; want of memory has no word
 abbrev pub parsing_line : ParseError → Line
 parsing_line (parsing.Syntax at) = record { word = codes "syntax"; at = at }
 parsing_line (parsing.Unsupported at) = record { word = codes "unsupported"; at = at }
@@ -40,6 +42,7 @@ limited_word limited.Nodes = codes "many nodes"
 limited_word limited.Assertions = codes "many assertions"
 limited_word limited.Cases = codes "many cases"
 
+-- the fault of a tree, and where it stands, in bytes from 0; want of memory has no word
 abbrev pub typing_line : TypeError → Line
 typing_line (typing.Unknown at) = record { word = codes "unknown"; at = at }
 typing_line (typing.Twice at) = record { word = codes "twice"; at = at }
@@ -50,6 +53,7 @@ typing_line (typing.Many what at) = record { word = limited_word what; at = at }
 typing_line (typing.NoMain at) = record { word = codes "main"; at = at }
 typing_line typing.Memory = record { word = []; at = 0 }
 
+-- the word and the place of a refusal, of whichever of these kinds
 abbrev pub refusal_line : Refusal → Line
 refusal_line (Lex fault) = lexing_line fault
 refusal_line (Parse fault) = parsing_line fault

@@ -18,6 +18,8 @@ IsRenewedBy text checked reply =
     ((checked.status ≡ ended.CheckPassed) × OrRefused text (TellsFile text) reply)
     ⊎ ((checked.status ≢ ended.CheckPassed) × (reply ≡ checked))
 
+-- a file that passes is answered with the certificate file of its text, and every other one with
+-- the reply of its check
 pub record IsRenewed (file : Certificate) (reply : Reply) : Type 0 where
   pub checked : Reply
   pub is_checked : IsCheckOf file checked

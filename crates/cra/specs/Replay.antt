@@ -27,6 +27,7 @@ pub record IsFollowed (input : Input) (program : Program) (trace : Trace) : Type
   pub traced : IsTrace program input.values input.turns trace
   pub fails : (number : ℕ) → trace.stop ≡ Failed number → Fails program number
 
+-- the status of a trace: whether it ends at a failed assertion
 abbrev pub status_of : TraceStop → Status
 status_of stop = if is_failed stop then ended.SomeFailed else ended.NoneFailed
 
@@ -46,6 +47,7 @@ abbrev pub TellsTrace : Input → Reply → Type 0
 TellsTrace input reply = (program : Program) × (trace : Trace) × IsFollowed input program trace
     × (reply ≡ trace_reply input.text program trace)
 
+-- an input is answered with the trace of its program, or with the reason why its text is refused
 abbrev pub IsTraceOf : Input → Reply → Type 0
 IsTraceOf input reply = OrRefused input.text (TellsTrace input) reply
 

@@ -28,6 +28,7 @@ pub record IsReplyToRead (limit : ℕ) (Answers : List ℕ → Reply → Type 0)
   pub is_front : before ≡ prepend_known input after
   pub is_reply : Answers input reply
 
+-- the reply answers what the words ask for; where nothing is read, the source has left what it had
 abbrev pub IsReplyToWork : Option Work → Option (List ℕ) → Option (List ℕ) → Reply → Type 0
 IsReplyToWork None before after reply = (reply ≡ usage_reply) × (after ≡ before)
 IsReplyToWork (Some Help) before after reply = (reply ≡ help_reply) × (after ≡ before)

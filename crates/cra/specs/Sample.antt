@@ -42,6 +42,7 @@ counts_line count bytes counts =
     ++ decimal counts.proved ++ codes " proved, "
     ++ decimal counts.unproved ++ codes " unproved\n"
 
+-- the line of counts; the status tells whether all assertions are proved
 abbrev pub counts_reply : ℕ → ℕ → Counts → Reply
 counts_reply count bytes counts = record {
   status = if counts.unproved == 0 then ended.AllProved else ended.SomeUnproved;

@@ -3,6 +3,7 @@ use Rattle.std.specs.Prelude.{◌≢◌, ℕ}
 use Rattle.cra.specs.declared.status.Status.{Status}
 use Rattle.cra.specs.declared.status.Status.TheVariants.{AllProved, SomeUnproved, NoneFailed, SomeFailed, Certified, CheckPassed, CheckFailed, CostsTold, NoGlobal, Told, WrongWords, Refused, SourceFailed, SinkFailed, WantOfMemory, WrongInput, TooLong}
 
+-- the number with which the program exits, from 0 to 10
 abbrev pub code_of : Status → ℕ
 code_of AllProved = 0
 code_of SomeUnproved = 1

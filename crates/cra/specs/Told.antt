@@ -3,6 +3,7 @@ use Rattle.std.specs.Prelude.{ℕ, List, ◌++◌, codes}
 use Rattle.cra.specs.declared.reply.Reply.{Reply}
 use Rattle.cra.specs.declared.status.Status.TheVariants as ended
 
+-- the help: the usage, and a line for each command
 abbrev pub help_text : List ℕ
 help_text =
     codes "cra: a verified analyser of numeric C\n\nusage: cra analyse | certify | check | edit | sample N | renew | replay | cost NAME\n\n"
@@ -17,9 +18,11 @@ help_text =
     ++ codes "  --help     prints this\n"
     ++ codes "  --version  prints the version\n"
 
+-- the answer to `--help`
 abbrev pub help_reply : Reply
 help_reply = record { status = ended.Told; text = help_text }
 
+-- the answer to `--version`
 abbrev pub version_reply : Reply
 version_reply = record { status = ended.Told; text = codes "cra 0.1.0\n" }
 

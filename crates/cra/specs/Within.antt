@@ -8,6 +8,7 @@ use Rattle.cra.specs.declared.reply.Reply.{Reply}
 use Rattle.cra.specs.declared.status.Status.TheVariants as ended
 use Rattle.cra.specs.Refused.{refusal_line, refusal_text}
 
+-- the answer to an input past the limit
 abbrev pub too_long : Reply
 too_long = record { status = ended.TooLong; text = codes "input is too long\n" }
 
@@ -39,6 +40,7 @@ wrong_text (wrong.Version number) = codes "version " ++ decimal number ++ codes 
 wrong_text (wrong.Edit number) = codes "edit " ++ decimal number ++ codes " is out of range\n"
 wrong_text wrong.Memory = []
 
+-- the answer to an input with which something is wrong
 abbrev pub wrong_input : WireError → Reply
 wrong_input fault = record { status = ended.WrongInput; text = wrong_text fault }
 

@@ -19,6 +19,7 @@ work_named word =
     else (if bytes_eq word (codes "--help") then Some Help
     else (if bytes_eq word (codes "--version") then Some Version else None)))))))
 
+-- whether a byte is a decimal digit
 abbrev pub is_digit : ℕ → Bool
 is_digit code = nat_le 48 code && nat_le code 57
 
@@ -32,10 +33,12 @@ is_short_number (first ∷ rest) =
 abbrev pub most_procedures : ℕ
 most_procedures = 250
 
+-- the number of procedures that a word asks for, from 1 to 250; None where it is no such number
 abbrev pub count_of : List ℕ → Option ℕ
 count_of text = if is_short_number text && nat_le (digits_value 10 text) most_procedures
     then Some (digits_value 10 text) else None
 
+-- the sample of as many procedures as a word asks for; None where it is no such number
 abbrev pub sample_of : List ℕ → Option Work
 sample_of text = option_map Sample (count_of text)
 

@@ -39,17 +39,19 @@ is_refused s len = is_failing s.fails s.calls || (nat_lt 0 len && s.room == 0)
 abbrev pub taken_count : Writing → ℕ → ℕ
 taken_count s len = min len (min s.most s.room)
 
--- the source after a read that gave n bytes, and after one that failed
+-- the source after a read that gave n bytes, which are gone from its front
 abbrev pub after_read : Reading → ℕ → Reading
 after_read s n = record s { left = drop n s.left; calls = next_count s.calls }
 
+-- the source after a read that failed: its bytes are as they were, and a fault is counted
 abbrev pub after_failed_read : Reading → Reading
 after_failed_read s = record s { calls = next_count s.calls; faults = next_count s.faults }
 
--- the sink after a write that took n bytes of a piece, and after one that failed
+-- the sink after a write that took the first n bytes of a piece
 abbrev pub after_write : Writing → List ℕ → ℕ → Writing
 after_write s piece n =
     record s { taken = s.taken ++ take n piece; room = s.room - n; calls = next_count s.calls }
 
+-- the sink after a write that failed: it took nothing, and a fault is counted
 abbrev pub after_failed_write : Writing → Writing
 after_failed_write s = record s { calls = next_count s.calls; faults = next_count s.faults }

@@ -13,6 +13,7 @@ pub struct ReadSource<R> {
 }
 
 impl<R: Read> ReadSource<R> {
+    /// A source over this reader, with no fault so far.
     pub fn new(reader: R) -> ReadSource<R>
         ensures { read_faults result ≡ 0 }
     {

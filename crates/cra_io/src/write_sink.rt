@@ -13,6 +13,7 @@ pub struct WriteSink<W> {
 }
 
 impl<W: Write> WriteSink<W> {
+    /// A sink over this writer, with no fault so far.
     pub fn new(writer: W) -> WriteSink<W>
         ensures { write_faults result ≡ 0 }
     {

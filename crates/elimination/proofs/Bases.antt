@@ -14,7 +14,7 @@ use Rattle.elimination.specs.declared.vectors.Vector.{Vector}
 use Rattle.elimination.specs.declared.spaces.Space.{Space}
 use Rattle.elimination.specs.declared.spaces.Space.TheVariants.{Origin, Line, Plane, Whole}
 use Rattle.elimination.specs.Echelon.{number_in, IsSpanned, Zero, Own, Sum, IsEchelon}
-use Rattle.elimination.specs.Spaces.{coordinate, dot, IsZero, IsIn, IsOver, IsRowIn, IsSpanOf, HasWidth, IsRatioOf, IsBasisOf}
+use Rattle.elimination.specs.Spaces.{coordinate, vector_dot, IsZero, IsIn, IsOver, IsRowIn, IsSpanOf, HasWidth, IsRatioOf, IsBasisOf}
 use Rattle.elimination.proofs.Extensions.{one_some, zero_of_product, cross_self, IsProportional, proportional}
 use Rattle.elimination.proofs.Magnitudes.{past_third, one_positive, positive_each}
 use Rattle.elimination.proofs.Spanning.{row_in, zeros}
@@ -234,10 +234,10 @@ plane_by_z n width none one a b few wide apart en eo ha hb = rw (en, eo) record 
     second : (a b c : ℤ) → a *ℤ pos 0 +ℤ b *ℤ c +ℤ c *ℤ neg_ℤ b ≡ pos 0
     second a b c = simp ring (omega (arith, ints, times_zero a))
 
-    in_u : dot n u ≡ pos 0
+    in_u : vector_dot n u ≡ pos 0
     in_u = first n.x n.y n.z
 
-    in_t : dot n t ≡ pos 0
+    in_t : vector_dot n t ≡ pos 0
     in_t = second n.x n.y n.z
 
     by_x : (c i k : ℤ) → c *ℤ i ≡ i *ℤ c +ℤ k *ℤ pos 0
@@ -255,7 +255,7 @@ plane_by_z n width none one a b few wide apart en eo ha hb = rw (en, eo) record 
         turned : neg_ℤ (a *ℤ i +ℤ b *ℤ k) ≡ i *ℤ neg_ℤ a +ℤ k *ℤ neg_ℤ b
         turned = simp ring (omega (arith, ints))
 
-    pair : (w : Vector) → dot n w ≡ pos 0 → IsPair u t w
+    pair : (w : Vector) → vector_dot n w ≡ pos 0 → IsPair u t w
     pair w h = record { a = w.x; b = w.y; times = n.z; apart = apart; x = by_x n.z w.x w.y; y = by_y n.z w.x w.y; z = by_z n.x n.y n.z w.x w.y w.z h }
 
 -- unit vectors
@@ -268,7 +268,7 @@ unit_y = record { x = pos 0; y = pos 1; z = pos 0 }
 abbrev unit_z : Vector
 unit_z = record { x = pos 0; y = pos 0; z = pos 1 }
 
-in_z : (n : Vector) → n.z ≡ pos 0 → dot n unit_z ≡ pos 0
+in_z : (n : Vector) → n.z ≡ pos 0 → vector_dot n unit_z ≡ pos 0
 in_z n ez = plain n.x n.y n.z ez
   where
     plain : (a b c : ℤ) → c ≡ pos 0 → a *ℤ pos 0 +ℤ b *ℤ pos 0 +ℤ c *ℤ pos 1 ≡ pos 0
@@ -291,7 +291,7 @@ plane_by_y n width none one a few wide ez apart en eo ha = rw (en, eo) record {
     first : (a b c : ℤ) → a *ℤ b +ℤ b *ℤ neg_ℤ a +ℤ c *ℤ pos 0 ≡ pos 0
     first a b c = simp ring (omega (arith, ints, times_zero c))
 
-    in_u : dot n u ≡ pos 0
+    in_u : vector_dot n u ≡ pos 0
     in_u = first n.x n.y n.z
 
     by_x : (b i k : ℤ) → b *ℤ i ≡ i *ℤ b +ℤ k *ℤ pos 0
@@ -315,7 +315,7 @@ plane_by_y n width none one a few wide ez apart en eo ha = rw (en, eo) record {
     by_z : (i k : ℤ) → k ≡ i *ℤ pos 0 +ℤ k *ℤ pos 1
     by_z i k = omega (arith, ints, times_zero i)
 
-    pair : (w : Vector) → dot n w ≡ pos 0 → IsPair u unit_z w
+    pair : (w : Vector) → vector_dot n w ≡ pos 0 → IsPair u unit_z w
     pair w h = record { a = w.x; b = n.y *ℤ w.z; times = n.y; apart = apart; x = by_x n.y w.x (n.y *ℤ w.z); y = by_y n.x n.y n.z w.x w.y w.z ez h; z = by_z w.x (n.y *ℤ w.z) }
 
 pub plane_by_x : (n : Vector) (width : ℕ) (none one : Fraction) → width ≤ 3 → HasWidth width (Plane n) → (IsZero n → ⊥) → n.z ≡ pos 0 → n.y ≡ pos 0 → none ≡ whole (pos 0) → one ≡ whole (pos 1)
@@ -335,7 +335,7 @@ plane_by_x n width none one few wide some ez ey en eo = rw (en, eo) record {
     plain : (a b c : ℤ) → b ≡ pos 0 → a *ℤ pos 0 +ℤ b *ℤ pos 1 +ℤ c *ℤ pos 0 ≡ pos 0
     plain a b c e = rw (e, times_zero a, times_zero c) refl
 
-    in_y : dot n unit_y ≡ pos 0
+    in_y : vector_dot n unit_y ≡ pos 0
     in_y = plain n.x n.y n.z ey
 
     first : (a b c i k m : ℤ) → b ≡ pos 0 → c ≡ pos 0 → a *ℤ i +ℤ b *ℤ k +ℤ c *ℤ m ≡ pos 0 → a *ℤ i ≡ pos 0
@@ -353,7 +353,7 @@ plane_by_x n width none one few wide some ez ey en eo = rw (en, eo) record {
     by_z : (k m : ℤ) → pos 1 *ℤ m ≡ k *ℤ pos 0 +ℤ m *ℤ pos 1
     by_z k m = omega (arith, ints, times_zero k)
 
-    pair : (w : Vector) → dot n w ≡ pos 0 → IsPair unit_y unit_z w
+    pair : (w : Vector) → vector_dot n w ≡ pos 0 → IsPair unit_y unit_z w
     pair w h = record {
       a = w.y;
       b = w.z;

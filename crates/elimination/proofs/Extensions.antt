@@ -8,7 +8,7 @@ use Rattle.simplex.proofs.Exchanges.{times_zero, zero_factor}
 use Rattle.elimination.specs.declared.vectors.Vector.{Vector}
 use Rattle.elimination.specs.declared.spaces.Space.{Space}
 use Rattle.elimination.specs.declared.spaces.Space.TheVariants.{Origin, Line, Plane, Whole}
-use Rattle.elimination.specs.Spaces.{IsZero, IsUpTo, IsSome, IsIn, IsProper, IsSum, Extends, cross, dot}
+use Rattle.elimination.specs.Spaces.{IsZero, IsUpTo, IsSome, IsIn, IsProper, IsSum, Extends, cross, vector_dot}
 
 -- ---- single numbers
 
@@ -39,7 +39,7 @@ zero_less a b u t e f = rw (e, f, times_zero a, times_zero b) refl
 cross-zero : (p w : Vector) → IsZero w → IsZero (cross p w)
 cross-zero p w h = record { x = zero_less p.y p.z w.z w.y h.z h.y; y = zero_less p.z p.x w.x w.z h.x h.z; z = zero_less p.x p.y w.y w.x h.y h.x }
 
-dot-zero : (n w : Vector) → IsZero w → dot n w ≡ pos 0
+dot-zero : (n w : Vector) → IsZero w → vector_dot n w ≡ pos 0
 dot-zero n w h = rw (h.x, h.y, h.z, times_zero n.x, times_zero n.y, times_zero n.z) refl
 
 pub zero_in : (space : Space) (w : Vector) → IsZero w → IsIn space w
@@ -68,9 +68,9 @@ pair_closed c d fu fv su sv wu wv a b t some eu ev f s =
 
 -- the condition of a plane
 dot_closed : (n f s w : Vector) (a b t : ℤ) → (t ≡ pos 0 → ⊥) → t *ℤ w.x ≡ a *ℤ f.x +ℤ b *ℤ s.x → t *ℤ w.y ≡ a *ℤ f.y +ℤ b *ℤ s.y → t *ℤ w.z ≡ a *ℤ f.z +ℤ b *ℤ s.z
-    → dot n f ≡ pos 0 → dot n s ≡ pos 0 → dot n w ≡ pos 0
+    → vector_dot n f ≡ pos 0 → vector_dot n s ≡ pos 0 → vector_dot n w ≡ pos 0
 dot_closed n f s w a b t some ex ey ez hf hs =
-    zero_of_product t (dot n w) some (inward t n.x n.y n.z w.x w.y w.z ∙ rw (ex, ey, ez) (regroup a b n.x n.y n.z f.x f.y f.z s.x s.y s.z ∙ sum_of_none a b (dot n f) (dot n s) hf hs))
+    zero_of_product t (vector_dot n w) some (inward t n.x n.y n.z w.x w.y w.z ∙ rw (ex, ey, ez) (regroup a b n.x n.y n.z f.x f.y f.z s.x s.y s.z ∙ sum_of_none a b (vector_dot n f) (vector_dot n s) hf hs))
   where
     inward : (t c d e u v o : ℤ) → t *ℤ (c *ℤ u +ℤ d *ℤ v +ℤ e *ℤ o) ≡ c *ℤ (t *ℤ u) +ℤ d *ℤ (t *ℤ v) +ℤ e *ℤ (t *ℤ o)
     inward t c d e u v o = simp ring (omega (arith, ints))
@@ -179,17 +179,17 @@ pub line_kept : (p v : Vector) → IsSome (2 ^ 18) p → IsZero (cross p v) → 
 line_kept p v proper h = same (Line p) v proper h
 
 -- the product of three vectors, in two orders
-triple : (p v w : Vector) → dot (cross p v) w ≡ neg_ℤ (dot (cross p w) v)
+triple : (p v w : Vector) → vector_dot (cross p v) w ≡ neg_ℤ (vector_dot (cross p w) v)
 triple p v w = plain p.x p.y p.z v.x v.y v.z w.x w.y w.z
   where
     plain : (a b c d e f g h i : ℤ)
         → (b *ℤ f -ℤ c *ℤ e) *ℤ g +ℤ (c *ℤ d -ℤ a *ℤ f) *ℤ h +ℤ (a *ℤ e -ℤ b *ℤ d) *ℤ i ≡ neg_ℤ ((b *ℤ i -ℤ c *ℤ h) *ℤ d +ℤ (c *ℤ g -ℤ a *ℤ i) *ℤ e +ℤ (a *ℤ h -ℤ b *ℤ g) *ℤ f)
     plain a b c d e f g h i = simp ring (omega (arith, ints))
 
-zero-dot : (n w : Vector) → IsZero n → dot n w ≡ pos 0
+zero-dot : (n w : Vector) → IsZero n → vector_dot n w ≡ pos 0
 zero-dot n w h = rw (h.x, h.y, h.z, zero-*ℤ w.x, zero-*ℤ w.y, zero-*ℤ w.z) refl
 
-cross-dot : (p v : Vector) → dot (cross p v) v ≡ pos 0
+cross-dot : (p v : Vector) → vector_dot (cross p v) v ≡ pos 0
 cross-dot p v = plain p.x p.y p.z v.x v.y v.z
   where
     plain : (a b c d e f : ℤ) → (b *ℤ f -ℤ c *ℤ e) *ℤ d +ℤ (c *ℤ d -ℤ a *ℤ f) *ℤ e +ℤ (a *ℤ e -ℤ b *ℤ d) *ℤ f ≡ pos 0
@@ -235,7 +235,7 @@ line_to_plane p v some small = record {
     turn : (x y z : ℤ) → x +ℤ y +ℤ z ≡ pos 0 → y +ℤ z +ℤ x ≡ pos 0
     turn x y z e = omega (arith, ints, e)
 
-    by_z : (w : Vector) → dot (cross p v) w ≡ pos 0 → ((cross p v).z ≡ pos 0 → ⊥) → IsSum (Line p) v w
+    by_z : (w : Vector) → vector_dot (cross p v) w ≡ pos 0 → ((cross p v).z ≡ pos 0 → ⊥) → IsSum (Line p) v w
     by_z w h n = record {
       part = times (w.x *ℤ v.y -ℤ w.y *ℤ v.x);
       by = p.x *ℤ w.y -ℤ p.y *ℤ w.x;
@@ -247,7 +247,7 @@ line_to_plane p v some small = record {
       z = at_third p.x p.y p.z v.x v.y v.z w.x w.y w.z h;
     }
 
-    by_x : (w : Vector) → dot (cross p v) w ≡ pos 0 → ((cross p v).x ≡ pos 0 → ⊥) → IsSum (Line p) v w
+    by_x : (w : Vector) → vector_dot (cross p v) w ≡ pos 0 → ((cross p v).x ≡ pos 0 → ⊥) → IsSum (Line p) v w
     by_x w h n = record {
       part = times (w.y *ℤ v.z -ℤ w.z *ℤ v.y);
       by = p.y *ℤ w.z -ℤ p.z *ℤ w.y;
@@ -259,7 +259,7 @@ line_to_plane p v some small = record {
       z = at_second p.y p.z v.y v.z w.y w.z;
     }
 
-    by_y : (w : Vector) → dot (cross p v) w ≡ pos 0 → ((cross p v).y ≡ pos 0 → ⊥) → IsSum (Line p) v w
+    by_y : (w : Vector) → vector_dot (cross p v) w ≡ pos 0 → ((cross p v).y ≡ pos 0 → ⊥) → IsSum (Line p) v w
     by_y w h n = record {
       part = times (w.z *ℤ v.x -ℤ w.x *ℤ v.z);
       by = p.z *ℤ w.x -ℤ p.x *ℤ w.z;
@@ -273,15 +273,15 @@ line_to_plane p v some small = record {
 
 -- ---- a plane and a vector
 
-pub plane_kept : (n v : Vector) → IsSome (2 ^ 37) n → dot n v ≡ pos 0 → Extends (Plane n) v (Plane n)
+pub plane_kept : (n v : Vector) → IsSome (2 ^ 37) n → vector_dot n v ≡ pos 0 → Extends (Plane n) v (Plane n)
 plane_kept n v proper h = same (Plane n) v proper h
 
-pub plane_to_whole : (n v : Vector) → (dot n v ≡ pos 0 → ⊥) → Extends (Plane n) v Whole
+pub plane_to_whole : (n v : Vector) → (vector_dot n v ≡ pos 0 → ⊥) → Extends (Plane n) v Whole
 plane_to_whole n v some = record {
   proper = tt;
   kept = λ w h. tt;
   own = tt;
-  made = λ w h. made w (dot n v) (dot n w) refl refl;
+  made = λ w h. made w (vector_dot n v) (vector_dot n w) refl refl;
 }
   where
     cut : (k m x v : ℤ) → k *ℤ x ≡ k *ℤ x -ℤ m *ℤ v +ℤ m *ℤ v
@@ -291,13 +291,13 @@ plane_to_whole n v some = record {
         → a *ℤ (k *ℤ g -ℤ m *ℤ d) +ℤ b *ℤ (k *ℤ h -ℤ m *ℤ e) +ℤ c *ℤ (k *ℤ i -ℤ m *ℤ f) ≡ k *ℤ (a *ℤ g +ℤ b *ℤ h +ℤ c *ℤ i) -ℤ m *ℤ (a *ℤ d +ℤ b *ℤ e +ℤ c *ℤ f)
     regroup a b c k m d e f g h i = simp ring (omega (arith, ints))
 
-    made : (w : Vector) (k m : ℤ) → dot n v ≡ k → dot n w ≡ m → IsSum (Plane n) v w
+    made : (w : Vector) (k m : ℤ) → vector_dot n v ≡ k → vector_dot n w ≡ m → IsSum (Plane n) v w
     made w k m ek em = record {
       part = record { x = k *ℤ w.x -ℤ m *ℤ v.x; y = k *ℤ w.y -ℤ m *ℤ v.y; z = k *ℤ w.z -ℤ m *ℤ v.z };
       by = m;
       times = k;
       apart = λ e. some (ek ∙ e);
-      within = regroup n.x n.y n.z k m v.x v.y v.z w.x w.y w.z ∙ ap (λ z. k *ℤ z -ℤ m *ℤ dot n v) em ∙ ap (λ z. k *ℤ m -ℤ m *ℤ z) ek ∙ swapped k m;
+      within = regroup n.x n.y n.z k m v.x v.y v.z w.x w.y w.z ∙ ap (λ z. k *ℤ z -ℤ m *ℤ vector_dot n v) em ∙ ap (λ z. k *ℤ m -ℤ m *ℤ z) ek ∙ swapped k m;
       x = cut k m w.x v.x;
       y = cut k m w.y v.y;
       z = cut k m w.z v.z;

@@ -125,6 +125,8 @@ dual_multiples columns probes inners dual = multiples_over columns (entry dual (
 
 -- ---- the basis
 
+-- the relations, the spots and the multiples of spots that a kernel gives with an inner point for
+-- each probe
 pub record IsBasisOf (cs : List (List Col)) (cases : List Change) (lower : List Polynomial)
     (kernel : Kernel) (inners : List Inner) (relations : List Relation) (spots : List Spot)
     (free : List (List Fraction)) : Type 0 where

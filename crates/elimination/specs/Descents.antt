@@ -50,9 +50,11 @@ pub record HasNoDescent (count : ℕ) (lines : List (List ℤ)) : Type 0 where
 abbrev pub line_poly : List ℤ → Polynomial
 line_poly line = poly_from 0 (line ++ pos 1 ∷ [])
 
+-- the row that says that a line and 1 are at most 0
 abbrev pub line_row : List ℤ → Row
 line_row line = record { poly = line_poly line; kind = AtMost }
 
+-- the goal with the row of each line, in order, and the objective 0
 abbrev pub line_goal : List (List ℤ) → Goal
 line_goal lines = record { rows = map line_row lines; objective = constant_of (pos 0) }
 
@@ -65,6 +67,7 @@ point_of supremum.Pivots = None
 point_of (supremum.Bound cert point) = Some point
 point_of (supremum.Unbounded point ray) = Some point
 
+-- the point is a corner of the rows of the lines, over the columns of their goal
 abbrev pub IsLineCorner : List (List ℤ) → List Fraction → Type 0
 IsLineCorner lines point = IsCornerPoint (goal_columns (line_goal lines)) (map line_row lines) point
 
@@ -83,10 +86,12 @@ pub record HasColumns (cs : List (List Col)) (rows : List Row) : Type 0 where
   pub ordered : IsOrdered cs
   pub among : RowsAmong rows cs
 
+-- the kind is that of an inequality
 abbrev pub is_at_most : Kind → Bool
 is_at_most AtMost = true
 is_at_most Equal = false
 
+-- a row of these terms, this kind and this constant is true without columns, or is an inequality
 abbrev pub is_open_with : Terms → Kind → ℤ → Bool
 is_open_with [] kind rest = is_within kind rest
 is_open_with (t ∷ ts) kind rest = is_at_most kind
@@ -95,6 +100,7 @@ is_open_with (t ∷ ts) kind rest = is_at_most kind
 abbrev pub is_open : Row → Bool
 is_open row = is_open_with row.poly.terms row.kind row.poly.rest
 
+-- the line alone; no line where there are no terms
 abbrev pub line_unless : Terms → List ℤ → List (List ℤ)
 line_unless [] line = []
 line_unless (t ∷ ts) line = line ∷ []

@@ -101,6 +101,7 @@ abbrev pub IsNothing : List (List Col) → List Polynomial → List ℤ → Chan
 IsNothing cs lower numbers case = (place : ℕ)
     → difference_at cs place numbers (sides case.terms lower) ≡ pos 0
 
+-- small numbers, one for each unknown, whose difference is the polynomial 0 in each case
 pub record IsNullLine (cs : List (List Col)) (cases : List Change) (lower : List Polynomial)
     (numbers : List ℤ) : Type 0 where
   pub each : length numbers ≡ unknown_count cases lower

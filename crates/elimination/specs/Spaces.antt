@@ -17,6 +17,7 @@ coordinate v (suc zero) = v.y
 coordinate v (suc (suc zero)) = v.z
 coordinate v (suc (suc (suc place))) = pos 0
 
+-- each number of the vector is 0
 pub record IsZero (v : Vector) : Type 0 where
   pub x : v.x ≡ pos 0
   pub y : v.y ≡ pos 0
@@ -36,8 +37,9 @@ cross a b = record {
   z = a.x *ℤ b.y -ℤ a.y *ℤ b.x;
 }
 
-abbrev pub dot : Vector → Vector → ℤ
-dot a b = a.x *ℤ b.x +ℤ a.y *ℤ b.y +ℤ a.z *ℤ b.z
+-- the sum of the products of the numbers at the same place
+abbrev pub vector_dot : Vector → Vector → ℤ
+vector_dot a b = a.x *ℤ b.x +ℤ a.y *ℤ b.y +ℤ a.z *ℤ b.z
 
 -- ---- rows
 
@@ -54,6 +56,7 @@ cleared_row row = record {
   z = cleared_number row 2 0 1;
 }
 
+-- each denominator of the row is positive
 pub record ArePositive (row : List Fraction) : Type 0 where
   pub at : (j : ℕ) → pos 0 <ℤ (number_in row j).den
 
@@ -74,9 +77,10 @@ pub record IsOver (line : List Fraction) (v : Vector) (q : ℤ) : Type 0 where
 abbrev pub IsIn : Space → Vector → Type 0
 IsIn Origin w = IsZero w
 IsIn (Line p) w = IsZero (cross p w)
-IsIn (Plane n) w = dot n w ≡ pos 0
+IsIn (Plane n) w = vector_dot n w ≡ pos 0
 IsIn Whole w = Unit {0}
 
+-- the vector is not 0, and none of its numbers is greater in magnitude than `most`
 pub record IsSome (most : ℕ) (v : Vector) : Type 0 where
   pub some : IsZero v → ⊥
   pub small : IsUpTo most v

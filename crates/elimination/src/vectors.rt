@@ -1,6 +1,6 @@
 ghost use Rattle.std.specs.Prelude.{◌≡◌, ◌↔◌, ◌≤◌, ◌^◌, pos, ◌*ℤ◌, ◌<ℤ◌, length, unsigned_abs, All, IsTrue};
 ghost use Rattle.elimination.specs.Echelon.{number_in, IsSmallRatio};
-ghost use Rattle.elimination.specs.Spaces.{cross, dot, IsZero, IsUpTo, IsClearing};
+ghost use Rattle.elimination.specs.Spaces.{cross, vector_dot, IsZero, IsUpTo, IsClearing};
 
 use farkas_check::Ratio;
 
@@ -38,7 +38,7 @@ impl Vector {
     pub(crate) fn dot(&self, other: &Vector) -> i128
         requires own { IsUpTo (2 ^ 37) self.now }
         requires other { IsUpTo (2 ^ 18) other.now }
-        ensures { result ≡ dot self.now other.now }
+        ensures { result ≡ vector_dot self.now other.now }
     {
         product(&self.x, &other.x) + product(&self.y, &other.y) + product(&self.z, &other.z)
     }

@@ -21,9 +21,11 @@ pub record Stepped : Type 0 where
   pub event : Option Event
   pub next : Config
 
+-- a step that shows nothing, with the configuration behind it
 abbrev pub quietly : Config → Result Stepped Stop
 quietly next = Ok (record { event = None; next = next })
 
+-- a step that shows an event, with the configuration behind it
 abbrev pub showing : Event → Config → Result Stepped Stop
 showing event next = Ok (record { event = Some event; next = next })
 
@@ -33,6 +35,7 @@ as_needed (Ok (Some v)) = Ok v
 as_needed (Ok None) = Err stop.Zero
 as_needed (Err wide) = Err (stop.Wide wide)
 
+-- the value of an expression in a state, or why a step that needs it isn't there
 abbrev pub number_in : Term → State → Result ℤ Stop
 number_in e state = as_needed (evaluation_result e state)
 
@@ -41,19 +44,22 @@ abbrev pub numbers_in : List Term → State → Result (List ℤ) Stop
 numbers_in [] state = Ok []
 numbers_in (e ∷ rest) state = number_in e state >>= λ v. numbers_in rest state >>= λ vs. Ok (v ∷ vs)
 
--- a new frame; a well-formed program has the procedure
+-- so many columns that are 0
 abbrev pub zeros : ℕ → State
 zeros zero = []
 zeros (suc n) = pos 0 ∷ zeros n
 
+-- the columns of a new frame past the globals: the arguments, then 0 in all others
 abbrev pub first_columns : Option Proc → List ℤ → State
 first_columns None args = args
 first_columns (Some callee) args = args ++ zeros (length callee.columns + 1 - length args)
 
+-- what a new frame has to do: the body of its procedure; [] where there is none
 abbrev pub first_items : Option Proc → List Item
 first_items None = []
 first_items (Some callee) = pending (code_of callee.body) []
 
+-- a new frame for a call with these arguments; a well-formed program has the procedure
 abbrev pub new_frame : Program → ℕ → List ℤ → Option ℕ → Frame
 new_frame program proc args into = record {
   proc = proc;
@@ -66,6 +72,7 @@ new_frame program proc args into = record {
 abbrev pub after_assignment : Top → List Item → ℕ → ℤ → Config
 after_assignment top rest col v = with_state top (slice_set (state_of top) col v) rest
 
+-- the step of an assignment, or why there is none
 abbrev pub chosen_set : Top → List Item → ℕ → Term → Result Stepped Stop
 chosen_set top rest col value = number_in value (state_of top)
     >>= λ v. quietly (after_assignment top rest col v)
@@ -80,6 +87,8 @@ abbrev pub after_condition : Option Event → Stop → Top → List Item → ℤ
 after_condition event otherwise top rest v =
     if is_true v then Ok (record { event = event; next = with_items top rest }) else Err otherwise
 
+-- the step over a condition that has to be true, or why there is none: a false one stops for the
+-- given cause
 abbrev pub chosen_pass : Option Event → Stop → Top → List Item → Term → Result Stepped Stop
 chosen_pass event otherwise top rest cond = number_in cond (state_of top) >>= after_condition event otherwise
     top rest
@@ -89,6 +98,7 @@ abbrev pub after_branch : Top → List Item → List Item → ℤ → Config
 after_branch top on_true on_false v = if is_true v then with_items top on_true
     else with_items top on_false
 
+-- the step by a condition that chooses what is to do, or why there is none
 abbrev pub chosen_branch : Top → List Item → List Item → Term → Result Stepped Stop
 chosen_branch top on_true on_false cond = number_in cond (state_of top)
     >>= λ v. quietly (after_branch top on_true on_false v)
@@ -100,6 +110,7 @@ after_call program proc into top rest values = record {
   frames = new_frame program proc values into ∷ record top.frame { items = rest } ∷ top.below;
 }
 
+-- the step of a call, which shows the procedure and its arguments, or why there is none
 abbrev pub chosen_call : Program → Top → List Item → ℕ → List Term → Option ℕ → Result Stepped Stop
 chosen_call program top rest proc args into = numbers_in args (state_of top) >>= λ values.
     showing (event.Call proc values) (after_call program proc into top rest values)

@@ -27,10 +27,11 @@ ContinueInDo = (program : Program) (below : List Frame)
     → (steps : List Config) × Runs program (with_x 2 (Do count_down ∷ []) below) steps
     (with_x 0 [] below)
 
--- `while (1) { while (1) { break; } x = 5; break; }`
+-- `while (1) { break; }`
 abbrev pub inner_loop : Statement
 inner_loop = Loop End (Lit (pos 1)) (Then Break End) End false
 
+-- `while (1) { while (1) { break; } x = 5; break; }`
 abbrev pub outer_loop : Statement
 outer_loop = Loop End (Lit (pos 1)) (Then inner_loop (Then (Set 0 (Lit (pos 5))) (Then Break End)))
     End false

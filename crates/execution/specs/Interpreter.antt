@@ -14,6 +14,7 @@ use Rattle.execution.specs.declared.interpreter.Machine.{Machine}
 use Rattle.execution.specs.Chosen.{Stepped, cause}
 use Rattle.execution.specs.Machine.{Item, Do, Head, Test, Tail, LoopParts, Frame, Config, Top}
 
+-- a loop that the interpreter has begun, as one of the machine
 abbrev pub parts_of : Repeat → LoopParts
 parts_of r = record {
   pre = code_of r.pre.now;
@@ -23,12 +24,14 @@ parts_of r = record {
   first = r.first;
 }
 
+-- the item that a task stands for
 abbrev pub item_of : Task → Item
 item_of (task.Do stmt) = Do (statement_of stmt.now)
 item_of (task.Head r) = Head (parts_of r)
 item_of (task.Test r) = Test (parts_of r)
 item_of (task.Tail r) = Tail (parts_of r)
 
+-- the items of a list of tasks, the last task first, before those that follow
 abbrev pub items_onto : List Task → List Item → List Item
 items_onto [] rest = rest
 items_onto (t ∷ ts) rest = items_onto ts (item_of t ∷ rest)
@@ -37,6 +40,7 @@ items_onto (t ∷ ts) rest = items_onto ts (item_of t ∷ rest)
 abbrev pub items_of : List Task → List Item
 items_of tasks = items_onto tasks []
 
+-- the frame that a call of the interpreter stands for
 abbrev pub frame_of : Activation → Frame
 frame_of call = record {
   proc = call.proc;
@@ -45,6 +49,7 @@ frame_of call = record {
   into = call.into;
 }
 
+-- the frames of a list of calls, the last call first, before those below
 abbrev pub frames_onto : List Activation → List Frame → List Frame
 frames_onto [] rest = rest
 frames_onto (call ∷ calls) rest = frames_onto calls (frame_of call ∷ rest)
@@ -53,6 +58,7 @@ frames_onto (call ∷ calls) rest = frames_onto calls (frame_of call ∷ rest)
 abbrev pub frames_of : List Activation → List Frame
 frames_of calls = frames_onto calls []
 
+-- the configuration that the interpreter has come to
 abbrev pub machine_config : Machine → Config
 machine_config machine = record { globals = machine.globals; frames = frames_of machine.calls }
 

@@ -19,11 +19,12 @@ abbrev pub RunsJoin : Type 0
 RunsJoin = (program : Program) (a b c : Config) (first second : List Config)
     → Runs program a first b → Runs program b second c → Runs program a (first ++ second) c
 
--- the items of the top frame, and its own columns
+-- the items of the top frame; [] where there is no frame
 abbrev pub top_items : List Frame → List Item
 top_items [] = []
 top_items (frame ∷ below) = frame.items
 
+-- the columns of the top frame past the globals; [] where there is no frame
 abbrev pub top_own : List Frame → State
 top_own [] = []
 top_own (frame ∷ below) = frame.own
@@ -70,18 +71,19 @@ ChangesBy End before after = before ≡ after
 ChangesBy (Then statement code) before after =
     (between : State) × Changes statement before between × ChangesBy code between after
 
+-- how many statements a code has, those inside of a statement not counted
 abbrev pub code_length : Code → ℕ
 code_length End = 0
 code_length (Then statement code) = code_length code + 1
 
--- simple statements run as they change the state ..
+-- simple statements run as they change the state
 abbrev pub ChangesRun : Type 0
 ChangesRun = (program : Program) (top : Top) (code : Code) (rest : List Item) (after : State)
     → top.frame.items ≡ pending code rest → ChangesBy code (state_of top) after
     → (steps : List Config) × (length steps ≡ code_length code)
     × Runs program (config_of top) steps (with_state top after rest)
 
--- .. and only so
+-- the statement is an assignment, a guard or an assertion, or a column takes any number
 abbrev pub is_simple : Statement → Bool
 is_simple (Set col value) = true
 is_simple (Any col) = true
@@ -89,10 +91,12 @@ is_simple (Guard cond) = true
 is_simple (Check number cond) = true
 is_simple _ = false
 
+-- each statement of a code is simple
 abbrev pub is_straight : Code → Bool
 is_straight End = true
 is_straight (Then statement code) = is_simple statement && is_straight code
 
+-- simple statements run only so: as many steps as there are statements change the state by these
 abbrev pub RunsChange : Type 0
 RunsChange = (program : Program) (top : Top) (code : Code) (rest : List Item) (steps : List Config)
     (last : Config)
@@ -129,12 +133,13 @@ ChosenStops = (program : Program) (number : Option ℤ) (config : Config) (why :
     → ConfigCanRun program config
     → (chosen_step program number config ≡ Err why) ↔ StopsAt number config why
 
--- where it has none there is no step at all, unless a number is past 128 bits or none is handed in
+-- a cause ends all, unless a number is past 128 bits or none is handed in
 abbrev pub ends_all : Stop → Bool
 ends_all (stop.Wide wide) = false
 ends_all stop.Dry = false
 ends_all _ = true
 
+-- where the chosen execution stops for a cause that ends all, there is no step at all
 abbrev pub StopsHaveNoStep : Type 0
 StopsHaveNoStep = (program : Program) (number : Option ℤ) (config next : Config) (why : Stop)
     → StopsAt number config why → ends_all why ≡ true → Steps program config next → ⊥

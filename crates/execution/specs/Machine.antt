@@ -43,6 +43,7 @@ pub record Top : Type 0 where
   pub frame : Frame
   pub below : List Frame
 
+-- the configuration that has this frame on top
 abbrev pub config_of : Top → Config
 config_of top = record { globals = top.globals; frames = top.frame ∷ top.below }
 
@@ -55,13 +56,13 @@ abbrev pub pending : Code → List Item → List Item
 pending End rest = rest
 pending (Then statement code) rest = Do statement ∷ pending code rest
 
--- what is left after the innermost loop, and from the end of its body on; a well-formed program has
--- the loop
+-- what is left after the innermost loop; a well-formed program has the loop
 abbrev pub after_loop : List Item → List Item
 after_loop [] = []
 after_loop (Tail loop ∷ rest) = rest
 after_loop (_ ∷ rest) = after_loop rest
 
+-- what is left from the end of the body of the innermost loop on; [] where there is no loop
 abbrev pub to_tail : List Item → List Item
 to_tail [] = []
 to_tail (Tail loop ∷ rest) = Tail loop ∷ rest

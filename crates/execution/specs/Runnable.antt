@@ -41,17 +41,20 @@ abbrev mutual
   CodeCanRun program width (Then statement rest) = StatementCanRun program width statement
       × CodeCanRun program width rest
 
+-- each part of a loop that was begun can run with so many columns
 abbrev pub LoopCanRun : Program → ℕ → LoopParts → Type 0
 LoopCanRun program width loop =
     CodeCanRun program width loop.pre × IsTrue (columns_below width loop.cond)
     × CodeCanRun program width loop.body × CodeCanRun program width loop.step
 
+-- what an item has to do can run with so many columns
 abbrev pub ItemCanRun : Program → ℕ → Item → Type 0
 ItemCanRun program width (Do statement) = StatementCanRun program width statement
 ItemCanRun program width (Head loop) = LoopCanRun program width loop
 ItemCanRun program width (Test loop) = LoopCanRun program width loop
 ItemCanRun program width (Tail loop) = LoopCanRun program width loop
 
+-- each item of a list can run with so many columns
 abbrev pub ItemsCanRun : Program → ℕ → List Item → Type 0
 ItemsCanRun program width [] = Unit {0}
 ItemsCanRun program width (item ∷ rest) = ItemCanRun program width item
@@ -64,6 +67,8 @@ FramesCanRun program globals (frame ∷ below) =
     ItemsCanRun program (globals + length frame.own) frame.items
     × FramesCanRun program globals below
 
+-- each frame of a configuration can run, there is a frame, and the globals are as many as the
+-- program's
 pub record ConfigCanRun (program : Program) (config : Config) : Type 0 where
   pub frames : FramesCanRun program (length config.globals) config.frames
   pub globals : length config.globals ≡ length program.globals

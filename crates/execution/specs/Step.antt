@@ -8,11 +8,11 @@ use Rattle.syntax_tree.specs.Code.{Statement, Set, Any, Call, Guard, Check, If, 
 use Rattle.syntax_tree.specs.Value.{State, value_of}
 use Rattle.execution.specs.Machine.{Item, Do, Head, Test, Tail, LoopParts, Frame, Config, Top, after_loop, config_of, pending, returned_value, state_of, to_tail, with_items, with_state}
 
--- a condition is true where it has a value that isn't 0, and false where its value is 0 (C11
--- 6.8.4.1)
+-- a condition is true where it has a value that isn't 0 (C11 6.8.4.1)
 abbrev pub IsTrueIn : Term → State → Type 0
 IsTrueIn cond state = (v : ℤ) × (value_of cond state ≡ Some v) × (v ≢ pos 0)
 
+-- a condition is false where its value is 0 (C11 6.8.4.1)
 abbrev pub IsFalseIn : Term → State → Type 0
 IsFalseIn cond state = value_of cond state ≡ Some (pos 0)
 
@@ -32,12 +32,13 @@ Changes Break before after = ⊥
 Changes Continue before after = ⊥
 Changes Return before after = ⊥
 
--- the values of arguments, or none where one of them has none
+-- a value in front of others, or none where one of them is missing
 abbrev pub with_value : Option ℤ → Option (List ℤ) → Option (List ℤ)
 with_value None rest = None
 with_value (Some v) None = None
 with_value (Some v) (Some vs) = Some (v ∷ vs)
 
+-- the values of arguments from the left, or none where one of them has none
 abbrev pub values_of : List Term → State → Option (List ℤ)
 values_of [] state = Some []
 values_of (e ∷ rest) state = with_value (value_of e state) (values_of rest state)
@@ -90,6 +91,7 @@ after_return None value caller = config_of caller
 after_return (Some col) value caller = with_state caller (slice_set (state_of caller) col value)
     caller.frame.items
 
+-- a frame with nothing left goes back to its caller; the last frame has no step
 abbrev pub Resumes : Top → List Frame → Config → Type 0
 Resumes top [] next = ⊥
 Resumes top (caller ∷ below) next =
@@ -99,13 +101,15 @@ Resumes top (caller ∷ below) next =
       below = below;
     })
 
--- what a loop does when it is begun, before its test, and after its body (C11 6.8.5)
+-- what a loop does when it is begun: a `do` its body, the others what precedes the test (C11 6.8.5)
 abbrev pub at_begin : LoopParts → List Item → List Item
 at_begin loop rest = if loop.first then pending loop.body (Tail loop ∷ rest) else (Head loop ∷ rest)
 
+-- what a loop does before its test: `pre`, and then the test
 abbrev pub at_head : LoopParts → List Item → List Item
 at_head loop rest = pending loop.pre (Test loop ∷ rest)
 
+-- what a loop does after its body: a `do` goes on to its test, the others to their step
 abbrev pub at_tail : LoopParts → List Item → List Item
 at_tail loop rest = if loop.first then pending loop.pre (Test loop ∷ rest)
     else pending loop.step (Head loop ∷ rest)
@@ -139,6 +143,7 @@ StepsBy program top (Test loop ∷ rest) next =
     Chooses loop.cond top (pending loop.body (Tail loop ∷ rest)) rest next
 StepsBy program top (Tail loop ∷ rest) next = next ≡ with_items top (at_tail loop rest)
 
+-- one step from these globals and frames; without frames there is none
 abbrev pub StepsFrom : Program → State → List Frame → Config → Type 0
 StepsFrom program globals [] next = ⊥
 StepsFrom program globals (frame ∷ below) next =

@@ -8,7 +8,7 @@ use Rattle.execution.specs.declared.outcome.Stop.{Stop}
 use Rattle.execution.specs.declared.outcome.Stop.TheVariants as stop
 use Rattle.execution.specs.Machine.{Item, Do, Test, Frame, Config, Top, returned_value, state_of}
 
--- the expressions whose values the step by the first item needs, from the left
+-- the expressions whose values a statement needs, from the left
 abbrev pub needs_of : Statement → List Term
 needs_of (Set col value) = value ∷ []
 needs_of (Call proc args into) = args
@@ -17,11 +17,13 @@ needs_of (Check number cond) = cond ∷ []
 needs_of (If cond on_true on_false) = cond ∷ []
 needs_of _ = []
 
+-- the expressions whose values the step by the first item needs, from the left
 abbrev pub first_needs : List Item → List Term
 first_needs (Do statement ∷ rest) = needs_of statement
 first_needs (Test loop ∷ rest) = loop.cond ∷ []
 first_needs _ = []
 
+-- each of several expressions has a number in 128 bits
 abbrev pub HaveNumbers : List Term → State → Type 0
 HaveNumbers [] state = Unit {0}
 HaveNumbers (e ∷ rest) state = ((v : ℤ) × (evaluation_result e state ≡ Ok (Some v)))
@@ -54,6 +56,7 @@ StopsBy number top (stop.Wide wide) = IsFirstWithout (first_needs top.frame.item
     (Err wide)
 StopsBy number top stop.Memory = ⊥
 
+-- why there is no step from these globals and frames; nothing is a cause where there is no frame
 abbrev pub StopsFrom : Option ℤ → State → List Frame → Stop → Type 0
 StopsFrom number globals [] why = ⊥
 StopsFrom number globals (frame ∷ below) why = StopsBy number (record {
@@ -62,5 +65,6 @@ StopsFrom number globals (frame ∷ below) why = StopsBy number (record {
   below = below;
 }) why
 
+-- why there is no step from a configuration, where this number is handed in
 abbrev pub StopsAt : Option ℤ → Config → Stop → Type 0
 StopsAt number config why = StopsFrom number config.globals config.frames why

@@ -71,6 +71,7 @@ fn positive_ratios(numbers: &[Ratio])
     }
 }
 
+/// Shows that a stratum question is in canonical form: its rows, its terms and its lower terms are.
 pub fn canonical_stratum(stratum: &Stratum)
     ensures { IsCanonicalStratum stratum.now.cases stratum.now.lower }
 {

@@ -23,11 +23,13 @@ pub record CheckPlace : Type 0 where
   pub number : ℕ
   pub cond : Term
 
+-- a flow graph: how many nodes it has, its edges in order, and the places of its assertions
 pub record FlowGraph : Type 0 where
   pub nodes : ℕ
   pub arcs : List Arc
   pub checks : List CheckPlace
 
+-- the edge that leads from a node to another and does this
 abbrev pub arc : ℕ → ℕ → Statement → Arc
 arc from to act = record { from = from; to = to; act = act }
 
@@ -123,6 +125,7 @@ flow_of body = record {
   checks = code_checks_at 0 body;
 }
 
+-- the body of a procedure; without statements where there is no procedure
 abbrev pub body_of : Option Proc → Code
 body_of None = End
 body_of (Some p) = code_of p.body

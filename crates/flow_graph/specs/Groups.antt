@@ -29,6 +29,7 @@ abbrev pub CallsOver : Program → ℕ → List ℕ → ℕ → Type 0
 CallsOver program from [] to = Calls program from to
 CallsOver program from (next ∷ path) to = Calls program from next × CallsOver program next path to
 
+-- calls lead from a procedure to another; there is at least one call
 abbrev pub Reaches : Program → ℕ → ℕ → Type 0
 Reaches program from to = (path : List ℕ) × CallsOver program from path to
 
@@ -40,6 +41,7 @@ InOneGroup program p q = (p ≡ q) ⊎ (Reaches program p q × Reaches program q
 abbrev pub IsReady : Program → List ℕ → ℕ → Type 0
 IsReady program come p = (q : ℕ) → Reaches program p q → Contains come q ⊎ InOneGroup program p q
 
+-- the procedures are in the order of the text, each once
 abbrev pub IsAscending : List ℕ → Type 0
 IsAscending [] = Unit {0}
 IsAscending (p ∷ rest) = ((q : ℕ) → Contains rest q → p < q) × IsAscending rest
@@ -65,6 +67,7 @@ AreGroupsAfter program come [] = (q : ℕ) → q < length program.procs → Cont
 AreGroupsAfter program come (group ∷ rest) =
     IsNext program come group × AreGroupsAfter program (come ++ group.procs) rest
 
+-- These are all groups of a program, callees first.
 abbrev pub AreGroups : Program → List Group → Type 0
 AreGroups program groups = AreGroupsAfter program [] groups
 

@@ -8,6 +8,7 @@ use Rattle.execution.specs.Machine.{Item, Do, Head, Test, Tail, LoopParts, pendi
 use Rattle.flow_graph.specs.FlowGraph.{Arc, body_of, graph_of}
 use Rattle.flow_graph.specs.Walks.{Stands, WalksTo}
 
+-- a loop that was begun, by its parts
 abbrev pub parts : Code → Term → Code → Code → Bool → LoopParts
 parts pre cond body step first = record {
   pre = pre;
@@ -44,10 +45,11 @@ abbrev mutual
   items_in Continue rest after = after
   items_in Return rest after = after
 
--- .. of a body: nothing is left at its end, nor at the exit
+-- the items that are left at each node of a body, in order: none at its end, nor at the exit
 abbrev pub all_items : Code → List (List Item)
 all_items body = items_at body [] ([] ∷ [])
 
+-- these items are left at a node of a body
 abbrev pub At : Code → ℕ → List Item → Type 0
 At body node items = slice_get (all_items body) node ≡ Some items
 

@@ -7,15 +7,19 @@ use Rattle.flow_graph.specs.Groups.{called, IsAscending}
 use Rattle.flow_graph.specs.Components.{group_at}
 use Rattle.flow_graph.specs.Reaching.{Calls}
 
+-- the procedures that a code calls, in order, as far as their numbers are below `n`
 abbrev pub called_below : ℕ → Code → List ℕ
 called_below n code = filter (λ q. nat_lt q n) (called code)
 
+-- what each of some procedures calls below `n`, in the order of the procedures
 abbrev pub lists_of : ℕ → List Proc → List (List ℕ)
 lists_of n procs = map (λ p. called_below n (code_of p.body)) procs
 
+-- what each procedure of a program calls, in the order of the procedures
 abbrev pub call_lists : List Proc → List (List ℕ)
 call_lists procs = lists_of (length procs) procs
 
+-- so many empty lists
 abbrev pub empty_rows : ℕ → List (List ℕ)
 empty_rows zero = []
 empty_rows (suc n) = [] ∷ empty_rows n

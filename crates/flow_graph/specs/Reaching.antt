@@ -6,6 +6,7 @@ use Rattle.std.specs.List.{Contains}
 abbrev pub callees_of : List (List ℕ) → ℕ → List ℕ
 callees_of calls p = slice_index_or calls p []
 
+-- a number calls another; one past the end calls none
 abbrev pub Calls : List (List ℕ) → ℕ → ℕ → Type 0
 Calls calls p q = Contains (callees_of calls p) q
 

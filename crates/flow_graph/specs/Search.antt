@@ -14,6 +14,7 @@ pub record State : Type 0 where
   pub starts : List ℕ
   pub groups : ℕ
 
+-- the state that a search in memory has come to
 abbrev pub state_of : Search → State
 state_of s = record {
   marks = s.marks.items;
@@ -22,14 +23,17 @@ state_of s = record {
   groups = s.groups;
 }
 
+-- the search has not come to a number with this mark
 abbrev pub is_new : NumberMark → Bool
 is_new New = true
 is_new (OnPath at) = false
 is_new (Done group) = false
 
+-- how far a number is; new past the end
 abbrev pub mark_of : State → ℕ → NumberMark
 mark_of s p = slice_index_or s.marks p New
 
+-- the number at a place of the path, from 0; 0 past the end
 abbrev pub on_path : State → ℕ → ℕ
 on_path s at = slice_index_or s.path at 0
 
@@ -44,13 +48,14 @@ after_entry s p = record {
   groups = s.groups;
 }
 
--- the last group of the path, which starts at a place, is done
+-- a mark behind a group that is done: the places of the path from `at` on, and below `end`
 abbrev pub left_mark : ℕ → ℕ → ℕ → NumberMark → NumberMark
 left_mark at end groups New = New
 left_mark at end groups (OnPath place) = if nat_le at place && nat_lt place end then Done groups
     else OnPath place
 left_mark at end groups (Done group) = Done group
 
+-- the last group of the path, which starts at a place, is done
 abbrev pub after_leaving : State → ℕ → State
 after_leaving s at = record {
   marks = map (left_mark at (length s.path) s.groups) s.marks;
@@ -59,6 +64,7 @@ after_leaving s at = record {
   groups = s.groups + 1;
 }
 
+-- the state with other starts of groups on the path
 abbrev pub with_starts : State → List ℕ → State
 with_starts s starts = record s { starts = starts }
 
@@ -80,6 +86,8 @@ pub record IsMarked (s : State) : Type 0 where
   pub within : (start : ℕ) → Contains s.starts start → start < length s.path
   pub ascending : IsAscending s.starts
 
+-- what the search keeps: marks and path agree, each place of the path reaches the later ones, and
+-- each group that is done is strongly connected and calls no later one
 pub record IsSound (calls : List (List ℕ)) (s : State) : Type 0 where
   pub marked : IsMarked s
   -- each place of the path reaches all later ones, and those of its own group
@@ -105,13 +113,14 @@ pub record Follows (s t : State) : Type 0 where
   pub fewer : count_by is_new t.marks ≤ count_by is_new s.marks
   pub all : length t.marks ≡ length s.marks
 
--- a call from a place of the path is taken into account: it leads to what is done, or to no earlier
--- group
+-- a call from a place of the path leads to a number of the path, and to no earlier group
 pub record IsOnLater (s : State) (at q : ℕ) : Type 0 where
   pub place : ℕ
   pub marked : mark_of s q ≡ OnPath place
   pub joined : IsJoined s at place
 
+-- a call from a place of the path is taken into account: it leads to what is done, or to no earlier
+-- group
 abbrev pub IsSettled : State → ℕ → ℕ → Type 0
 IsSettled s at q = ((group : ℕ) × (mark_of s q ≡ Done group)) ⊎ IsOnLater s at q
 
@@ -127,9 +136,11 @@ pub record IsCut (old new : List ℕ) (place : ℕ) : Type 0 where
   pub low : (start : ℕ) → Contains new start → start ≤ place
   pub ascending : IsAscending new
 
+-- no group of the path starts behind a place
 abbrev pub AreLow : State → ℕ → Type 0
 AreLow s at = (start : ℕ) → Contains s.starts start → start ≤ at
 
+-- the place of the path at which its last group starts; 0 where the path is empty
 abbrev pub last_start : State → ℕ
 last_start s = slice_index_or s.starts (length s.starts - 1) 0
 
@@ -158,10 +169,12 @@ AllReach calls s p = (at : ℕ) → at < length s.path → Reaches calls (on_pat
 
 -- ---- all searches
 
+-- the marks of so many numbers to which no search has come
 abbrev pub all_new : ℕ → List NumberMark
 all_new zero = []
 all_new (suc n) = New ∷ all_new n
 
+-- the state before the first search: so many new numbers and an empty path
 abbrev pub fresh : ℕ → State
 fresh n = record { marks = all_new n; path = []; starts = []; groups = 0 }
 

@@ -48,8 +48,8 @@ StacksAreChains = (program : Program) (proc : ℕ) (globals args : State) (first
     → Begins program proc globals args first → Runs program first steps last
     → IsChain program (record { proc = proc; globals = globals; args = args }) last
 
--- A program that fails at an assertion has a chain of activations from `main` on, of which the last
--- stands at the assertion where its condition is false.
+-- A chain of activations from `main` on, of which the last stands at the assertion where its
+-- condition is false.
 pub record FailsInChain (program : Program) (number : ℕ) : Type 0 where
   pub config : Config
   pub chain : IsChain program (record {
@@ -62,6 +62,7 @@ pub record FailsInChain (program : Program) (number : ℕ) : Type 0 where
   pub next : chain.frame.items ≡ Do (Check number cond) ∷ rest
   pub fails : IsFalseIn cond (config.globals ++ chain.frame.own)
 
+-- Each program that fails at an assertion has such a chain.
 abbrev pub FailuresAreInChains : Type 0
 FailuresAreInChains = (program : Program) (number : ℕ) → Fails program number
     → FailsInChain program number

@@ -10,15 +10,19 @@ use Rattle.flow_graph.specs.Plans.{empty_rows}
 use Rattle.flow_graph.specs.Numbers.{no_bits}
 use Rattle.flow_graph.specs.Groups.{Calls, InOneGroup, IsAscending}
 
+-- the group of a procedure, by its number
 abbrev pub group : Plan → ℕ → ℕ
 group plan p = group_at plan.groups p
 
+-- the procedures of a group; [] past the end
 abbrev pub members_of : Plan → ℕ → List ℕ
 members_of plan g = slice_index_or plan.members g []
 
+-- the procedures that a group calls; [] past the end
 abbrev pub row_of : Plan → ℕ → List ℕ
 row_of plan g = slice_index_or plan.rows g []
 
+-- the first procedure of a group in the text; 0 where it has none
 abbrev pub first_of : Plan → ℕ → ℕ
 first_of plan g = slice_index_or (members_of plan g) 0 0
 
@@ -45,9 +49,11 @@ pub record Stage : Type 0 where
   pub next : List ℕ
   pub ready : ℕ → Bool
 
+-- a group has come; one past the end has not
 abbrev pub flag : List Bool → ℕ → Bool
 flag come g = slice_index_or come g false
 
+-- the groups that wait at a group; [] past the end
 abbrev pub waiters : Stage → ℕ → List ℕ
 waiters s g = slice_index_or s.waiting g []
 
@@ -63,6 +69,7 @@ pub record Waits (plan : Plan) (s : Stage) (g : ℕ) : Type 0 where
   pub late : flag s.come (group plan at) ≡ false
   pub waits : Contains (waiters s (group plan at)) g
 
+-- a procedure is the first of a group that has not come and need not wait at anything it calls
 pub record IsFirst (program : Program) (plan : Plan) (come : List Bool) (f : ℕ) : Type 0 where
   pub there : f < length program.procs
   pub first : first_of plan (group plan f) ≡ f
@@ -82,10 +89,12 @@ pub record Stands (program : Program) (plan : Plan) (count : ℕ) (s : Stage)
 
 -- ---- one group that is looked at
 
+-- a number is in a list
 abbrev pub mem : List ℕ → ℕ → Bool
 mem [] f = false
 mem (k ∷ ks) f = (k == f) || mem ks f
 
+-- the state that an order in memory has come to
 abbrev pub stage_of : Order → Stage
 stage_of o = record {
   come = o.come.items;
@@ -94,6 +103,7 @@ stage_of o = record {
   ready = mem o.ready.keys;
 }
 
+-- a group need not wait at a procedure: it is one of its own, or of a group that has come
 abbrev pub is_past : List ℕ → List Bool → ℕ → ℕ → Bool
 is_past groups come g q = (group_at groups q == g) || flag come (group_at groups q)
 
@@ -108,6 +118,7 @@ abbrev pub ArePast : Plan → Stage → Type 0
 ArePast plan s = (g i : ℕ) → i < slice_index_or s.next g 0 → i < length (row_of plan g)
     → is_past plan.groups s.come g (slice_index_or (row_of plan g) i 0) ≡ true
 
+-- a group was looked at: if it has not come it is ready or waits, and no other group has changed
 pub record Settled (plan : Plan) (s t : Stage) (g : ℕ) : Type 0 where
   pub come : t.come ≡ s.come
   pub past : ArePast plan t
@@ -127,6 +138,8 @@ AreWithin plan s g = (q : ℕ) → Contains (row_of plan g) q → group plan q <
 
 -- ---- between the turns
 
+-- what holds between the turns, with the sizes of the tables, but for groups that are still to be
+-- looked at
 pub record Going (program : Program) (plan : Plan) (s : Stage) (todo : List ℕ) : Type 0 where
   pub count : ℕ
   pub plans : IsPlan program plan count
@@ -143,15 +156,18 @@ abbrev pub leads_back : List ℕ → ℕ → List ℕ → Bool
 leads_back groups g [] = false
 leads_back groups g (q ∷ row) = (group_at groups q == g) || leads_back groups g row
 
+-- no group has come
 abbrev pub NoneCame : Stage → Type 0
 NoneCame s = (g : ℕ) → flag s.come g ≡ false
 
 -- ---- the beginning
 
+-- so many places that are 0
 abbrev pub zeros : ℕ → List ℕ
 zeros zero = []
 zeros (suc n) = 0 ∷ zeros n
 
+-- the state before the first turn: of so many groups none has come, waits or is ready
 abbrev pub at_first : ℕ → Stage
 at_first count = record {
   come = no_bits count;

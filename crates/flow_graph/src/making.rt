@@ -12,7 +12,7 @@ ghost use Rattle.flow_graph.specs.Plain.{arc_of, check_of, plain, statement_of_a
 use crate::error::GraphError;
 use crate::parts::{Act, CheckNode, Edge, Graph};
 use items::{Boxed, Items};
-use std::alloc::Global;
+use std::alloc::{AllocError, Global};
 use syntax_tree::{Core, MOST_NODES, Program, Sign, Stmt, copy_cores, count_nodes};
 
 // Where `break`, `continue` and `return` lead.
@@ -304,7 +304,7 @@ impl Made {
 
 /// The flow graph of the procedure at this place of a program. Its edges lead between its nodes,
 /// and its assertions stand at them.
-pub fn graph(alloc: Global, program: &Program, proc: u32) -> Result<Graph, GraphError>
+pub fn graph(alloc: Global, program: &Program, proc: u32) -> Result<Graph, AllocError>
     requires fit { IsWellFormed program.now }
     requires there { proc < length program.now.procs }
     ensures exact { IfOk result (λ g. plain g ≡ graph_of program.now proc) }
@@ -315,7 +315,18 @@ pub fn graph(alloc: Global, program: &Program, proc: u32) -> Result<Graph, Graph
     whole(alloc, program, proc)
 }
 
-fn whole(alloc: Global, program: &Program, proc: u32) -> Result<Graph, GraphError>
+fn whole(alloc: Global, program: &Program, proc: u32) -> Result<Graph, AllocError>
+    requires fit { IsWellFormed program.now }
+    requires there { proc < length program.now.procs }
+    ensures { IfOk result (λ g. plain g ≡ graph_of program.now proc) }
+{
+    match made_graph(alloc, program, proc) {
+        Ok(made) => Ok(made),
+        Err(_) => Err(AllocError),
+    }
+}
+
+fn made_graph(alloc: Global, program: &Program, proc: u32) -> Result<Graph, GraphError>
     requires fit { IsWellFormed program.now }
     requires there { proc < length program.now.procs }
     ensures { IfOk result (λ g. plain g ≡ graph_of program.now proc) }

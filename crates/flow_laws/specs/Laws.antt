@@ -24,6 +24,8 @@ LeadsTo p node edges = IsWalk (map link_of (own_graph p).arcs) 0 node edges
 abbrev pub TellsWay : Proc → NodeFormula → Type 0
 TellsWay p stop = (stop.formula ≡ None) ↔ ((edges : List ℕ) → ¬ LeadsTo p stop.node edges)
 
+-- the exit of a flow, its assertions and its calls have a formula exactly where a path leads to
+-- them
 pub record FlowTellsWays (p : Proc) (flow : Flow) : Type 0 where
   pub exit : TellsWay p flow.exit
   pub checks : All (TellsWay p) flow.checks
@@ -37,6 +39,7 @@ pub record IsTrueFlow (program : Program) (proc : ℕ) (p : Proc)
   pub ways : FlowTellsWays p flow
   pub holds : KnowsCallees p known → AreMet program known → FlowHolds program proc flow
 
+-- every end of the stated flow of a procedure of a well-formed program is true of it
 abbrev pub FlowsAreTrue : Type 0
 FlowsAreTrue =
     (program : Program) (proc : ℕ) (p : Proc) (known : List (Option Transition))
@@ -54,6 +57,7 @@ pub record IsTrueSummary (program : Program) (proc : ℕ) (p : Proc)
   pub fits : IsKnown program p f
   pub met : KnowsCallees p known → AreMet program known → SummaryIsMet program proc f
 
+-- every end of the stated summary of a procedure of a well-formed program is true of it
 abbrev pub SummariesAreTrue : Type 0
 SummariesAreTrue =
     (program : Program) (proc : ℕ) (p : Proc) (known : List (Option Transition))

@@ -2,6 +2,7 @@
 use Rattle.std.specs.Prelude.{ℕ, ◌+◌, ◌-◌, List, [], ◌∷◌, ◌++◌, Result, Ok, Err, if◌then◌else◌, nat_lt}
 use Rattle.items.specs.Gives.{◌>>=◌, err_map}
 
+-- the sum of two numbers where it is below 256; else the fault is that sum
 abbrev pub byte_sum : ℕ → ℕ → Result ℕ ℕ
 byte_sum a b = if nat_lt (a + b) 256 then Ok (a + b) else Err (a + b)
 

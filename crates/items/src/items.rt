@@ -43,12 +43,14 @@ impl<T> Items<T> {
         }
     }
 
+    /// The list of a vector's elements, in their order.
     pub fn from_vec(inner: Vec<T>) -> Items<T>
         ensures { result ≡ inner.items }
     {
         Items { inner }
     }
 
+    /// The vector that holds the elements, in their order.
     pub fn into_vec(self) -> Vec<T>
         ensures { result.items ≡ self }
     {
@@ -56,24 +58,28 @@ impl<T> Items<T> {
         inner
     }
 
+    /// The elements as a slice, first to last.
     pub fn as_slice(&self) -> &[T]
         ensures { result.now ≡ self.now }
     {
         self.inner.as_slice()
     }
 
+    /// How many elements there are.
     pub fn len(&self) -> usize
         ensures { result ≡ length self.now }
     {
         self.inner.len()
     }
 
+    /// Whether there is no element.
     pub fn is_empty(&self) -> bool
         ensures { IsTrue result ↔ (self.now ≡ []) }
     {
         self.inner.is_empty()
     }
 
+    /// An iterator over the elements, first to last.
     pub fn iter(&self) -> slice::Iter<'_, T>
         ensures { iter_rest result ≡ self.now }
     {

@@ -29,6 +29,7 @@ pub record IsTakenOver (program : Program) (known : List (Option Transition)) (p
   pub alike : IsAlikeAt program known planned kept place
   pub is : slice_get kept.parts place ≡ Some part
 
+-- this is the part of an alike group that was kept; where nothing was kept, no part is
 abbrev pub IsTakenFrom : Option KeptGroups → Program → List (Option Transition) → Planned → KeptPart
     → Type 0
 IsTakenFrom None program known planned part = ⊥

@@ -58,6 +58,7 @@ pub record AreKept (allows : Question → Answer → Type 0) (kept : KeptGroups)
   pub is_plan : IsPlan kept.program kept.plan
   pub parts : AllZip (IsPartOf (IsGood allows) kept.program (kept_summaries kept)) kept.plan kept.parts
 
+-- a part is kept for each group of a program, where anything is kept
 abbrev pub AreKeptIf : (Question → Answer → Type 0) → Option KeptGroups → Type 0
 AreKeptIf allows None = Unit {0}
 AreKeptIf allows (Some kept) = AreKept allows kept

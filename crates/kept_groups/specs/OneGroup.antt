@@ -32,9 +32,11 @@ abbrev pub known_if : Option KeptGroups → List (Option Transition)
 known_if None = []
 known_if (Some kept) = kept_summaries kept
 
+-- the groups that were kept of the program before, if any were
 abbrev pub groups_in : Earlier → Option KeptGroups
 groups_in earlier = option_copied earlier.groups
 
+-- the groups were kept under whatever answers, and their summaries are the known formulas
 pub record IsEarlier (earlier : Earlier) : Type 0 where
   pub kept : AreKeptIf Anything (groups_in earlier)
   pub known : earlier.known ≡ known_if (groups_in earlier)
@@ -81,6 +83,7 @@ pub record Ends {S A : Type 0} (O : Asking S) (Made : A → Type 0) (Declined : 
 
 -- ---- a group that is summed up by asking
 
+-- the part is of this group under the answers that the oracle had next, of which it refused none
 pub record IsMade {S : Type 0} (O : Asking S) (program : Program)
     (known : List (Option Transition)) (planned : Planned) (old new : S)
     (part : KeptPart) : Type 0 where
@@ -103,6 +106,8 @@ pub record IsDeclined {S : Type 0} (O : Asking S) (program : Program)
 
 -- ---- a group that takes a part over, where there is an alike one, and is summed up else
 
+-- the part is taken over without an answer and without a step, or made under the next answers in
+-- one step
 pub record IsComing {S : Type 0} (O : Asking S) (kept : Option KeptGroups) (program : Program)
     (known : List (Option Transition)) (planned : Planned) (old new : S) (from to : ℕ)
     (coming : ComingPart) : Type 0 where
@@ -120,9 +125,12 @@ pub record IsStuck {S : Type 0} (O : Asking S) (kept : Option KeptGroups) (progr
 
 -- ---- one group more
 
+-- what has come of so many procedures before the first group: nothing found, no part and no work
 abbrev pub nothing_yet : ℕ → FoundParts
 nothing_yet procs = record { found = nothing_found procs; parts = []; work = 0 }
 
+-- what has come, with the part of one group more behind the others, and one more of work where it
+-- was made
 abbrev pub with_coming : FoundParts → Planned → ComingPart → FoundParts
 with_coming made planned coming =
     record {
@@ -131,6 +139,7 @@ with_coming made planned coming =
       work = made.work + count_made (coming.taken ∷ []);
     }
 
+-- the part of one group more comes, by what is found of those before, and stands behind theirs
 pub record IsOneMore {S : Type 0} (O : Asking S) (kept : Option KeptGroups) (program : Program)
     (made : FoundParts) (planned : Planned) (old new : S) (from to : ℕ)
     (next : FoundParts) : Type 0 where

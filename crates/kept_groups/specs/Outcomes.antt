@@ -57,6 +57,8 @@ pub record IsDeclinedOver {S : Type 0} (O : Asking S) (kept : Option KeptGroups)
   pub declined : O.declines new question
   pub rose : Rose (O.refusals old) (O.refusals new)
 
+-- what a call over the groups of a plan ends with: the parts, or a question that the oracle
+-- declines, or want of memory, where nothing was refused
 abbrev pub CameOver : {S : Type 0} → Asking S → Option KeptGroups → Program → List Planned → S → S
     → ℕ → ℕ → Result FoundParts WorkError → Type 0
 CameOver O kept program plan old new from to (Ok made) = IsFoundOver O kept program plan old new

@@ -24,6 +24,7 @@ pub record Claim : Type 0 where
 abbrev pub rows_of : List Claim → List Row
 rows_of claims = filter_map (λ claim. row_of claim.kind claim.poly) claims
 
+-- what is noted of rows that have no answer, in their order
 abbrev pub claim_losses : List Claim → List Loss
 claim_losses claims = flat_map (λ claim. losses_of claim.poly) claims
 

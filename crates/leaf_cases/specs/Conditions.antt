@@ -44,10 +44,11 @@ pub record KnownCalls (known : List (Option Transition)) (proc : ℕ) (globals a
   pub same : length left ≡ length globals
   pub holds : Holds formula (globals ++ args) (take formula.to (left ++ value ∷ []))
 
--- how many columns the states of the procedure at this place have
+-- how many columns the states of a procedure have; 0 where there is none
 abbrev pub columns_in : Program → Option Proc → ℕ
 columns_in program None = 0
 columns_in program (Some p) = width_of program p
 
+-- how many columns the states of the procedure at this place have; 0 past the end
 abbrev pub columns_at : Program → ℕ → ℕ
 columns_at program proc = columns_in program (slice_get program.procs proc)

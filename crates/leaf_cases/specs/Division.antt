@@ -9,12 +9,15 @@ use Rattle.linear_terms.specs.Operations.{multiple_of, sum_of_polys, product_of_
 use Rattle.leaf_cases.specs.declared.division.Signs.{Signs}
 use Rattle.leaf_cases.specs.Claims.{Answer, Claim}
 
+-- the polynomial 0
 abbrev pub zero : Polynomial
 zero = constant_of (pos 0)
 
+-- the polynomial 1
 abbrev pub one : Polynomial
 one = constant_of (pos 1)
 
+-- the polynomial -1
 abbrev pub minus_one : Polynomial
 minus_one = constant_of (negsuc 0)
 
@@ -47,10 +50,11 @@ upper_bound false true b r = multiple_of b (negsuc 0) >>= λ turned. difference_
     >>= λ most. difference_of_polys r most
 upper_bound divisor false b r = difference_of_polys r zero
 
--- what must be 0, and what must be at most 0
+-- the row that says that a polynomial is 0
 abbrev pub is_zero : Answer → Claim
 is_zero poly = record { kind = Equal; poly = poly }
 
+-- the row that says that a polynomial is at most 0
 abbrev pub is_at_most_zero : Answer → Claim
 is_at_most_zero poly = record { kind = AtMost; poly = poly }
 

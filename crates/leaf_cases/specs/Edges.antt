@@ -15,9 +15,11 @@ use Rattle.leaf_cases.specs.Steps.{operand}
 
 -- ---- an assignment, and a column that takes any number
 
+-- a case of a value, as a case that puts the value into a column and leaves the others
 abbrev pub set_case : ℕ → ℕ → Case → Case
 set_case columns col case = with_posts (slice_set (columns_of columns) col (operand 0 case)) case
 
+-- the formula of an assignment to a column, by the cases of the value
 abbrev pub set_of : ℕ → ℕ → List Case → Transition
 set_of columns col cases = record {
   from = columns;
@@ -25,6 +27,7 @@ set_of columns col cases = record {
   cases = map (set_case columns col) cases;
 }
 
+-- the case in which a column takes any number, its one auxiliary, and the others stay
 abbrev pub any_case : ℕ → ℕ → Case
 any_case columns col = record {
   aux = 1;
@@ -32,6 +35,7 @@ any_case columns col = record {
   post = slice_set (columns_of columns) col (column_of (Aux 0));
 }
 
+-- the formula of a column that takes any number: one case
 abbrev pub any_of : ℕ → ℕ → Transition
 any_of columns col = record { from = columns; to = columns; cases = any_case columns col ∷ [] }
 
@@ -43,9 +47,11 @@ abbrev pub arguments_after : Listed → List Term → Listed
 arguments_after made [] = made
 arguments_after made (e ∷ rest) = arguments_after (together made (lists_of e).value) rest
 
+-- one case without rows and without a value
 abbrev pub no_values : Listed
 no_values = record { cases = record { aux = 0; rows = []; post = [] } ∷ []; lost = [] }
 
+-- the cases of the arguments of a call together, with a post for each argument in order
 unfoldable pub arguments_of : List Term → Listed
 arguments_of args = arguments_after no_values args
 
@@ -83,11 +89,13 @@ leaving_case columns globals into case =
     with_posts (posts_with_value into (operand globals case)
     (take globals case.post ++ drop globals (columns_of columns))) case
 
+-- the arguments, and then the callee's formula with the posts that are awaited
 abbrev pub call_sequence : ℕ → ℕ → List Term → Option ℕ → Transition → Transition
 call_sequence columns globals args into callee =
     sequence_of (entering columns globals (length args) (arguments_of args).cases)
     (cut (awaited_count globals into) callee)
 
+-- the formula of a call over the columns of the caller, by the formula of the callee
 abbrev pub call_of : ℕ → ℕ → List Term → Option ℕ → Transition → Transition
 call_of columns globals args into callee =
     record {
@@ -97,6 +105,7 @@ call_of columns globals args into callee =
           (call_sequence columns globals args into callee).cases;
     }
 
+-- what is lost where the formula of a call is made: in its arguments, then where the callee follows
 abbrev pub losses_in_call : ℕ → ℕ → List Term → Option ℕ → Transition → List Loss
 losses_in_call columns globals args into callee =
     (arguments_of args).lost
@@ -112,6 +121,7 @@ abbrev pub known_call : ℕ → ℕ → List Term → Option ℕ → Option (Opt
 known_call columns globals args into (Some (Some callee)) = call_of columns globals args into callee
 known_call columns globals args into _ = nothing_of columns
 
+-- what is lost where the formula of a call is made; [] where no formula is known
 abbrev pub losses_in_known_call : ℕ → ℕ → List Term → Option ℕ → Option (Option Transition)
     → List Loss
 losses_in_known_call columns globals args into (Some (Some callee)) =
@@ -120,6 +130,7 @@ losses_in_known_call columns globals args into _ = []
 
 -- ---- an edge, by what it does; the other statements stand at no edge
 
+-- the formula of an edge, by the known formulas of procedures
 abbrev pub leaf_of : ℕ → ℕ → List (Option Transition) → Statement → Transition
 leaf_of columns globals known (Guard cond) = guard_of columns (lists_of cond).truth.cases
 leaf_of columns globals known (Set col value) = set_of columns col (lists_of value).value.cases
@@ -128,6 +139,7 @@ leaf_of columns globals known (Call proc args into) =
     known_call columns globals args into (slice_get known proc)
 leaf_of columns globals known _ = nothing_of columns
 
+-- what is lost where the formula of an edge is made, in order
 abbrev pub losses_in_leaf : ℕ → ℕ → List (Option Transition) → Statement → List Loss
 losses_in_leaf columns globals known (Guard cond) = (lists_of cond).truth.lost
 losses_in_leaf columns globals known (Set col value) = (lists_of value).value.lost

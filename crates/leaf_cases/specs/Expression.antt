@@ -18,6 +18,7 @@ use Rattle.leaf_cases.specs.declared.step.Step.TheVariants.{Value, Divide, Test}
 use Rattle.leaf_cases.specs.Listed.{Listed, together, either}
 use Rattle.leaf_cases.specs.Steps.{cases_by, losses_by_steps, with_number}
 
+-- the cases of an expression: those of its value, of its truth and of its falsity
 pub record Lists : Type 0 where
   pub value : Listed
   pub truth : Listed
@@ -56,6 +57,7 @@ of_test truth falsity =
       falsity = falsity;
     }
 
+-- the cases of an expression with a sign before it, by those of its operand
 abbrev pub sign_lists : Sign → Lists → Lists
 sign_lists Plus inner = of_number inner.value
 sign_lists Minus inner = of_number (by (Value Negate ∷ []) inner.value)
@@ -85,9 +87,11 @@ opposite Eq = Ne
 opposite Ne = Eq
 opposite op = op
 
+-- the cases in which a comparison is true, by those of its operands
 abbrev pub comparison_list : Op → Lists → Lists → Listed
 comparison_list op left right = by (tests_of op) (together left.value right.value)
 
+-- the cases of a comparison, which is false where its opposite is true
 abbrev pub comparison : Op → Lists → Lists → Lists
 comparison op left right = of_test (comparison_list op left right) (comparison_list (opposite op) left right)
 
@@ -112,6 +116,7 @@ operator_lists Ge left right = comparison Ge left right
 operator_lists Eq left right = comparison Eq left right
 operator_lists Ne left right = comparison Ne left right
 
+-- the cases of an expression, over the columns of a state
 unfoldable pub lists_of : Term → Lists
 lists_of (Lit value) = of_number (one_case (constant_of value))
 lists_of (Col col) = of_number (one_case (column_of (At col)))

@@ -27,10 +27,11 @@ beside first second =
 unfoldable pub both : List Case → List Case → List Case
 both firsts seconds = flat_map (λ first. map (beside first) seconds) firsts
 
--- both of two, and one of two
+-- both of two: each case of the one with each of the other
 abbrev pub together : Listed → Listed → Listed
 together a b = record { cases = both a.cases b.cases; lost = a.lost ++ b.lost }
 
+-- one of two: the cases of the first before those of the second
 abbrev pub either : Listed → Listed → Listed
 either a b = record { cases = a.cases ++ b.cases; lost = a.lost ++ b.lost }
 
@@ -42,5 +43,6 @@ is_ready limit case = nat_lt case.aux limit && every_column_of (is_numbered case
 abbrev pub AreFew : ℕ → List Case → Type 0
 AreFew limit cases = IsTrue (list_all (λ case. nat_lt case.aux limit) cases)
 
+-- each has fewer auxiliaries than `limit`, which are all that its rows and posts have
 abbrev pub AreReady : ℕ → List Case → Type 0
 AreReady limit cases = IsTrue (list_all (is_ready limit) cases)

@@ -26,6 +26,7 @@ use Rattle.leaf_cases.specs.Division.{zero, one, minus_one, division, all_signs}
 abbrev pub operand : ℕ → Case → Polynomial
 operand n case = unwrap_or (slice_get case.post n) zero
 
+-- the value of a calculation with its operands; a negation has the first alone
 abbrev pub value_at : Arithmetic → Polynomial → Polynomial → Answer
 value_at Negate a b = multiple_of a (negsuc 0)
 value_at Sum a b = sum_of_polys a b
@@ -48,6 +49,7 @@ test_at Negative a b = difference_of_polys a minus_one
 test_at Positive a b = difference_of_polys one a
 test_at Zero a b = difference_of_polys a zero
 
+-- the kind of the row that a test says: an equation, or an inequality
 abbrev pub kind_of : TestRelation → Kind
 kind_of Same = kind.Equal
 kind_of Zero = kind.Equal
@@ -58,10 +60,12 @@ abbrev pub part_at : DivisionPart → ℕ → ℕ
 part_at Quotient next = next
 part_at Remainder next = next + 1
 
+-- the rows of a division, for one choice of signs, at a case of its operands
 abbrev pub division_at : Signs → Case → List Claim
 division_at signs case = division signs (operand 0 case) (operand 1 case) (column_of (Aux case.aux))
     (column_of (Aux (case.aux + 1)))
 
+-- the row of a test at a case of its operands
 abbrev pub test_claim : TestRelation → Case → Claim
 test_claim relation case = record {
   kind = kind_of relation;
@@ -77,6 +81,7 @@ cases_of_step (Divide part) case =
     (column_of (Aux (part_at part case.aux)) ∷ [])) all_signs
 cases_of_step (Test relation) case = case_with_claims case 0 (test_claim relation case ∷ []) [] ∷ []
 
+-- what is lost where a step is made at one case, in order
 abbrev pub losses_at : Step → Case → List Loss
 losses_at (Value arithmetic) case = losses_of (value_at arithmetic (operand 0 case) (operand 1 case))
 losses_at (Divide part) case = flat_map (λ signs. claim_losses (division_at signs case)) all_signs
@@ -90,5 +95,6 @@ with_number value case = case_with_claims case 0 [] (constant_of value ∷ [])
 unfoldable pub cases_by : List Step → List Case → List Case
 cases_by steps cases = flat_map (λ step. flat_map (cases_of_step step) cases) steps
 
+-- what is lost where steps are made at each case, one step after another
 unfoldable pub losses_by_steps : List Step → List Case → List Loss
 losses_by_steps steps cases = flat_map (λ step. flat_map (losses_at step) cases) steps

@@ -11,10 +11,11 @@ use Rattle.transition_formula.specs.Transition.{Transition}
 use Rattle.transition_formula.specs.Meaning.{Holds}
 use Rattle.leaf_cases.specs.Conditions.{AreKnown, KnownCalls}
 
--- the globals, and the returned value if there is one
+-- the globals, and behind them a value where it is returned
 abbrev pub if_returned : Bool → List ℤ → ℤ → List ℤ
 if_returned returns after value = if returns then after ++ value ∷ [] else after
 
+-- what the exit of a procedure tells: the globals, and the returned value if there is one
 abbrev pub exit_values : Proc → List ℤ → ℤ → List ℤ
 exit_values proc after value = if_returned proc.returns after value
 
@@ -37,7 +38,7 @@ KnowsCallee known (Call proc args into) = (formula : Transition)
 KnowsCallee known _ = Unit {0}
 
 -- Where the known formulas are met, a call that returns is a known call, if the formula of its
--- procedure is known ..
+-- procedure is known.
 abbrev pub MetCallsAreKnown : Type 0
 MetCallsAreKnown = (program : Program) (known : List (Option Transition)) → AreKnown program known
     → AreMet program known
@@ -45,7 +46,8 @@ MetCallsAreKnown = (program : Program) (known : List (Option Transition)) → Ar
     → (globals args after : State) (value : ℤ)
     → Returns program proc globals args after value → KnownCalls known proc globals args after value
 
--- .. and so an edge that relates two states by executions relates them by the known formulas.
+-- So an edge that relates two states by executions relates them by the known formulas, where these
+-- are met.
 abbrev pub MetEdgesAreKnown : Type 0
 MetEdgesAreKnown = (program : Program) (known : List (Option Transition)) → AreKnown program known
     → AreMet program known

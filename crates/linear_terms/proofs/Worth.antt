@@ -18,7 +18,8 @@ use Rattle.linear_terms.specs.declared.row.Row.{Row}
 use Rattle.linear_terms.specs.Polynomial.{Terms, Polynomial, constant_of, column_of}
 use Rattle.linear_terms.specs.Operations.{with_term, product_of_polys, multiple_of, sum_of_polys, difference_of_polys, substituted_polynomial}
 use Rattle.linear_terms.specs.Row.{RowHolds, IsWithin}
-use Rattle.linear_terms.specs.Value.{Valuation, mono_value, terms_value, value_of, dot}
+use Rattle.linear_terms.specs.Value.{Valuation, mono_value, terms_value, value_of}
+use Rattle.whole_numbers.specs.Dot.{dot}
 use Rattle.linear_terms.specs.Expressions.{Made, ◌⊠◌, ◌⊞◌, ◌⊟◌, whole, column, negative_of, at_most, equation, negation, all_of, coefficients, linear, sum_from, weighted_sum, combination, or_zero, when_made, when_all_made, put_into}
 use Rattle.linear_terms.proofs.Values.{int_eq-zero, sum_of_polys-value, multiple_of-value, difference_of_polys-value, product_of_polys-value, substituted-value}
 

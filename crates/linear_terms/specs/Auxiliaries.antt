@@ -37,11 +37,12 @@ abbrev pub put_for : ℕ → Polynomial → Col → Polynomial
 put_for n by (At m) = column_of (At m)
 put_for n by (Aux m) = if m == n then by else column_of (Aux m)
 
--- new numbers for the auxiliaries
+-- the column with a new number where it is an auxiliary
 abbrev pub renumbered_column : (ℕ → ℕ) → Col → Col
 renumbered_column number (At m) = At m
 renumbered_column number (Aux m) = Aux (number m)
 
+-- the polynomial with new numbers for its auxiliaries, each term at its place
 abbrev pub renumbered_polynomial : (ℕ → ℕ) → Polynomial → Polynomial
 renumbered_polynomial number p = record {
   terms = map (λ t. (map (renumbered_column number) t.0, t.1)) p.terms;

@@ -9,6 +9,7 @@ use Rattle.linear_terms.specs.Mono.{mono_cmp}
 use Rattle.linear_terms.specs.MonoOrder.{mono_cmp_total}
 use Rattle.linear_terms.specs.Polynomial.{Polynomial}
 
+-- the same monomial and the same coefficient
 abbrev pub term_eq : List Col × ℤ → List Col × ℤ → Bool
 term_eq t u = eq_by_cmp mono_cmp t.0 u.0 && int_eq t.1 u.1
 
@@ -16,6 +17,7 @@ term_eq t u = eq_by_cmp mono_cmp t.0 u.0 && int_eq t.1 u.1
 abbrev pub poly_eq : Polynomial → Polynomial → Bool
 poly_eq p q = pointwise term_eq p.terms q.terms && int_eq p.rest q.rest
 
+-- equality of polynomials is an equivalence
 pub poly_eq_equiv : IsEquivalence poly_eq
 poly_eq_equiv =
     and_equiv

@@ -99,6 +99,8 @@ abbrev pub when_made : (Col → Made) → List Col → Made → Made
 when_made values [] next = next
 when_made values (c ∷ cs) next = values c >>= λ p. when_made values cs next
 
+-- what follows, where each column of the terms has a value that can be made; else the first value
+-- that cannot, in the order of the terms
 abbrev pub when_all_made : (Col → Made) → Terms → Made → Made
 when_all_made values [] next = next
 when_all_made values (t ∷ ts) next = when_made values t.0 (when_all_made values ts next)

@@ -20,11 +20,12 @@ with_column (d ∷ m) c = if is_lt (col_cmp c d) then c ∷ with_column m d else
 abbrev pub in_order : List Col → List Col
 in_order columns = fold with_column [] columns
 
--- whether no column stands before a smaller one
+-- no smaller column than this one stands at the head of the list; so it is of an empty list
 abbrev pub starts_from : Col → List Col → Bool
 starts_from c [] = true
 starts_from c (d ∷ m) = not (is_gt (col_cmp c d))
 
+-- whether no column stands before a smaller one
 abbrev pub is_in_order : List Col → Bool
 is_in_order [] = true
 is_in_order (c ∷ m) = starts_from c m && is_in_order m

@@ -5,6 +5,7 @@ use Rattle.linear_terms.specs.declared.col.Col.TheVariants.{At}
 use Rattle.linear_terms.specs.declared.mono.Mono.TheInside.{Inside}
 use Rattle.linear_terms.specs.Mono.{is_in_order}
 
+-- the columns of a monomial, which are the first `len` of its cells
 abbrev pub columns_of : Inside → List Col
 columns_of m = take m.len m.cells
 

@@ -33,9 +33,11 @@ congr (Aux a) (At b) z h = cc
 congr (Aux a) (Aux b) (At c) h = refl
 congr (Aux a) (Aux b) (Aux c) h = nat_cmp_total.congr a b c h
 
+-- the order of columns is total
 pub col_cmp_total : IsTotalOrder col_cmp
 col_cmp_total = record { antisymm = antisymm; trans = trans; congr = congr }
 
+-- print order is a total order of monomials
 pub mono_cmp_total : IsTotalOrder mono_cmp
 mono_cmp_total = then_total (back_total (on_total (λ (m : List Col). length m) nat_cmp_total))
     (lists_total col_cmp_total)

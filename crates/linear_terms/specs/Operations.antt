@@ -28,6 +28,8 @@ abbrev pub put_all : Terms → Terms → Result Terms TermError
 put_all ts [] = Ok ts
 put_all ts (t ∷ more) = put t.0 t.1 ts >>= λ made. put_all made more
 
+-- the sum of two polynomials: the second's terms are put into the first's one after another, then
+-- the constants are added
 abbrev pub sum_of_polys : Polynomial → Polynomial → Result Polynomial TermError
 sum_of_polys a b = put_all a.terms b.terms >>= λ ts. plus a.rest b.rest >>= λ r. Ok record {
   terms = ts;
@@ -36,10 +38,12 @@ sum_of_polys a b = put_all a.terms b.terms >>= λ ts. plus a.rest b.rest >>= λ 
 
 -- ---- multiples: the polynomial's number is left
 
+-- the terms with each coefficient times a number, in order, and none where the product is zero
 abbrev pub times_each : Terms → ℤ → Result Terms TermError
 times_each [] by = Ok []
 times_each (t ∷ ts) by = times t.1 by >>= λ c. times_each ts by >>= λ made. Ok (with_term t.0 c made)
 
+-- the polynomial times a number, its terms first and then its constant
 abbrev pub multiple_of : Polynomial → ℤ → Result Polynomial TermError
 multiple_of p by = times_each p.terms by >>= λ ts. times p.rest by >>= λ r. Ok record {
   terms = ts;
@@ -61,6 +65,7 @@ parts p = p.terms ++ ([], p.rest) ∷ []
 abbrev pub put_term : List Col → ℤ → Polynomial → Result Polynomial TermError
 put_term m c p = put m c p.terms >>= λ ts. Ok record { terms = ts; rest = p.rest }
 
+-- the polynomial with c added to the coefficient of m, or to its constant where m has no columns
 abbrev pub put_part : List Col → ℤ → Polynomial → Result Polynomial TermError
 put_part [] c p = plus p.rest c >>= λ r. Ok record { terms = p.terms; rest = r }
 put_part (x ∷ m) c p = put_term (x ∷ m) c p
@@ -81,6 +86,7 @@ abbrev pub add_rows : Terms → Terms → Polynomial → Result Polynomial TermE
 add_rows [] others sum = Ok sum
 add_rows (t ∷ ts) others sum = add_row t.0 t.1 others sum >>= λ made. add_rows ts others made
 
+-- the product of two polynomials, each part of the first times each of the second, summed from zero
 abbrev pub product_of_polys : Polynomial → Polynomial → Result Polynomial TermError
 product_of_polys a b = add_rows (parts a) (parts b) (constant_of (pos 0))
 

@@ -11,6 +11,7 @@ use Rattle.linear_terms.specs.Mono.{mono_cmp}
 abbrev pub Terms : Type 0
 Terms = List (List Col × ℤ)
 
+-- a polynomial, as its terms and its constant `rest`
 pub record Polynomial : Type 0 where
   pub terms : Terms
   pub rest : ℤ
@@ -20,6 +21,7 @@ pub record IsCanonical (terms : Terms) : Type 0 where
   pub in_print_order : IsStrictlySortedBy mono_cmp (keys_of terms)
   pub no_zero : AllByRecursion (λ c. c ≢ pos 0) (values_of terms)
 
+-- a number as a polynomial without terms
 abbrev pub constant_of : ℤ → Polynomial
 constant_of value = record { terms = []; rest = value }
 

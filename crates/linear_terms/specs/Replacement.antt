@@ -14,6 +14,7 @@ IsBelow at aux (Aux number) = number < aux
 abbrev pub HasPoly : List Polynomial → List Polynomial → Col → Type 0
 HasPoly at aux col = IsBelow (length at) (length aux) col
 
+-- what is put in for a column, by its number in the list of its kind; 0 past the last
 abbrev pub put_in : List Polynomial → List Polynomial → Col → Polynomial
 put_in at aux (At number) = unwrap_or (slice_get at number) (constant_of (pos 0))
 put_in at aux (Aux number) = unwrap_or (slice_get aux number) (constant_of (pos 0))

@@ -95,6 +95,7 @@ IsNormal (Constant holds) = Unit {0}
 IsNormal (Kept row) = (gcd_of_all (values_of row.poly.terms) ≡ 1)
     × (row.kind ≡ Equal → StartsPositive row.poly.terms)
 
+-- the monomials of a row that is kept stand in print order, each once, and no coefficient is zero
 abbrev pub HasCanonicalTerms : Normal → Type 0
 HasCanonicalTerms (Constant holds) = Unit {0}
 HasCanonicalTerms (Kept row) = IsCanonical row.poly.terms

@@ -10,10 +10,11 @@ use Rattle.linear_terms.specs.declared.error.TermError.TheVariants.{Wide, Degree
 abbrev pub wide : Step.Wide → TermError
 wide step = Wide step.left step.right step.times
 
--- a sum of two numbers of 128 bits, and a product, or the error that names them
+-- a sum of two numbers of 128 bits, or the error that names them
 abbrev pub plus : ℤ → ℤ → Result ℤ TermError
 plus a b = err_map wide (sum_of a b)
 
+-- a product of two numbers of 128 bits, or the error that names them
 abbrev pub times : ℤ → ℤ → Result ℤ TermError
 times a b = err_map wide (product_of a b)
 

@@ -33,13 +33,16 @@ sign_text false false = codes " + "
 abbrev pub size_text : ℕ → List ℕ
 size_text n = if n == 1 then [] else decimal n ++ codes "*"
 
+-- a term, which is the first or not, as its sign, its size and its columns
 abbrev pub term_text : (Col → List ℕ) → Bool → List Col × ℤ → List ℕ
 term_text name first t = sign_text first (int_lt t.1 (pos 0)) ++ size_text (unsigned_abs t.1)
     ++ mono_text name t.0
 
+-- a constant, which stands first or not, as its sign and its size
 abbrev pub constant_text : Bool → ℤ → List ℕ
 constant_text first z = sign_text first (int_lt z (pos 0)) ++ decimal (unsigned_abs z)
 
+-- the terms in their order; no text where there are none
 abbrev pub terms_text : (Col → List ℕ) → Terms → List ℕ
 terms_text name [] = []
 terms_text name (t ∷ ts) = term_text name true t ++ flat_map (term_text name false) ts
@@ -49,14 +52,17 @@ abbrev pub rest_text : Terms → ℤ → List ℕ
 rest_text [] z = constant_text true z
 rest_text (t ∷ ts) z = if int_eq z (pos 0) then [] else constant_text false z
 
+-- a polynomial, its terms and then its constant
 abbrev pub poly_text : (Col → List ℕ) → Polynomial → List ℕ
 poly_text name p = terms_text name p.terms ++ rest_text p.terms p.rest
 
 -- ---- rows
 
+-- what stands behind the polynomial of a row of the kind
 abbrev pub relation_text : Kind → List ℕ
 relation_text AtMost = codes " <= 0"
 relation_text Equal = codes " = 0"
 
+-- a row, its polynomial and then ` <= 0` or ` = 0`
 abbrev pub row_text : (Col → List ℕ) → Row → List ℕ
 row_text name row = poly_text name row.poly ++ relation_text row.kind

@@ -5,7 +5,8 @@ ghost use Rattle.linear_terms.specs.declared.error.TermError.TheVariants.{Degree
 ghost use Rattle.linear_terms.specs.Operations.{difference_of_polys, sum_of_polys, product_of_polys};
 ghost use Rattle.linear_terms.specs.Expressions.{◌⊞◌, ◌⊠◌, whole, negative_of, negation, weighted_sum, sum_from};
 ghost use Rattle.linear_terms.specs.Row.{RowHolds};
-ghost use Rattle.linear_terms.specs.Value.{Valuation, value_of, dot};
+ghost use Rattle.linear_terms.specs.Value.{Valuation, value_of};
+ghost use Rattle.whole_numbers.specs.Dot.{dot};
 
 use crate::{Kind, Poly, Row, TermError, add, mul, scale};
 use std::alloc::Global;

@@ -5,6 +5,7 @@ use crate::Poly;
 use items::Items;
 use std::alloc::AllocError;
 
+/// What a row says of its polynomial, that it is at most zero or that it is zero.
 #[derive(Clone, Copy, Debug, PartialEq, Eq)]
 pub enum Kind {
     AtMost,

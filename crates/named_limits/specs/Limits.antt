@@ -20,6 +20,7 @@ limit_given (answer.Unbounded case point ray) = []
 limit_given (answer.Basis relations spots free) = []
 limit_given (answer.Limit limit) = limit ∷ []
 
+-- the limits that answers are, in their order
 abbrev pub limits_given : List Answer → List Limit
 limits_given answers = flat_map limit_given answers
 
@@ -37,6 +38,7 @@ limit_told (note.Limit limit) = limit ∷ []
 limit_told (note.Dropped proc row by) = limit_by by
 limit_told note.Facets = []
 
+-- the limits that notes tell, in their order
 abbrev pub limits_told : List Note → List Limit
 limits_told notes = flat_map limit_told notes
 

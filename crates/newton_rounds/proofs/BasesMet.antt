@@ -38,7 +38,7 @@ use Rattle.newton_rounds.specs.Members.{members_of}
 use Rattle.newton_rounds.specs.Pairs.{PairEnds, base_from, entry_told}
 use Rattle.newton_rounds.specs.Shapes.{AreEnds}
 use Rattle.newton_rounds.proofs.Called.{AreThere}
-use Rattle.newton_rounds.proofs.CanonicalOrder.{IsCanonicalFormula}
+use Rattle.recurrence.proofs.CanonicalOrder.{IsCanonicalFormula}
 use Rattle.newton_rounds.proofs.Matched.{IsBehind, each-match}
 use Rattle.newton_rounds.proofs.MemberTables.{IsProcedure, each-member}
 use Rattle.newton_rounds.proofs.Numbered.{HasFew, few-more, states-of}

@@ -31,8 +31,8 @@ use Rattle.checked_tree.proofs.Cells.{cells-fit, cells-found}
 use Rattle.checked_tree.proofs.Entries.{known-more, latest-has, paths-entry}
 use Rattle.checked_tree.proofs.Swept.{operations-ready}
 use Rattle.checked_tree.proofs.Whole.{AllAlong, AllKnown, Keeps, cell-holds, link-within, own-along, own-known}
-use Rattle.newton_rounds.proofs.CanonicalOrder.{IsCanonicalCase, IsCanonicalFormula, IsCanonicalRow, settled-canonical}
-use Rattle.newton_rounds.proofs.CanonicalStars.{directions-canonical, fitted-canonical, joined-canonical, star-canonical}
+use Rattle.recurrence.proofs.CanonicalOrder.{IsCanonicalCase, IsCanonicalFormula, IsCanonicalRow, settled-canonical}
+use Rattle.recurrence.proofs.CanonicalStars.{directions-canonical, fitted-canonical, joined-canonical, star-canonical}
 
 -- ---- two ways to say it
 

@@ -32,7 +32,7 @@ use Rattle.newton_rounds.specs.Closure.{chain_end, chains_of, closure_at, closed
 use Rattle.newton_rounds.specs.Pairs.{PairEnds, Stretch}
 use Rattle.newton_rounds.specs.Shapes.{AreEnds}
 use Rattle.newton_rounds.proofs.CanonicalEvaluations.{AreTrueCells, IsCanonicalCell, evaluated-true, formula-canonical, rows-canonical}
-use Rattle.newton_rounds.proofs.CanonicalOrder.{IsCanonicalCase, IsCanonicalFormula}
+use Rattle.recurrence.proofs.CanonicalOrder.{IsCanonicalCase, IsCanonicalFormula}
 use Rattle.newton_rounds.proofs.Below.{some_at}
 use Rattle.newton_rounds.proofs.Chained.{base-goes, chains-go, exits-from, exits-solvable, meets, member-at, places-there, told-fewer}
 use Rattle.newton_rounds.proofs.Grouped.{group-evaluated, vocabulary-is}

@@ -45,7 +45,7 @@ use Rattle.leaf_cases.proofs.Guards.{columns-read}
 use Rattle.newton_rounds.specs.declared.findings.Findings.{Findings}
 use Rattle.newton_rounds.specs.Candidates.{against, contrary, findings_in, found_left, outcome, outcome_by, refutation, with_answer, with_case, with_point}
 use Rattle.newton_rounds.specs.Shapes.{IsOverPairs, IsRefutable}
-use Rattle.newton_rounds.proofs.CanonicalOrder.{IsCanonicalCase, IsCanonicalFormula, IsCanonicalRow}
+use Rattle.recurrence.proofs.CanonicalOrder.{IsCanonicalCase, IsCanonicalFormula, IsCanonicalRow}
 use Rattle.newton_rounds.proofs.Opposite.{against-solvable, negation-covered}
 use Rattle.posing.proofs.Under.{under-bind, under-each, under-weaker}
 

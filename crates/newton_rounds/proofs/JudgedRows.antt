@@ -26,7 +26,7 @@ use Rattle.newton_rounds.specs.declared.dropping.JudgedRow.{JudgedRow}
 use Rattle.newton_rounds.specs.Candidates.{drop_notes_by, drop_notes_in, kept_row, members_with, refutation, unfolded_formula, unless_refuted, with_judged, with_round}
 use Rattle.newton_rounds.specs.Closure.{pair_ends, with_places_from}
 use Rattle.newton_rounds.specs.Shapes.{IsOverPairs, IsRefutable}
-use Rattle.newton_rounds.proofs.CanonicalOrder.{IsCanonicalFormula}
+use Rattle.recurrence.proofs.CanonicalOrder.{IsCanonicalFormula}
 use Rattle.newton_rounds.proofs.CandidateRows.{ArePairRows, IsPairRow}
 use Rattle.newton_rounds.proofs.MemberTables.{IsProcedure}
 use Rattle.posing.proofs.Under.{passing-always, under-bind, under-each, under-weaker}

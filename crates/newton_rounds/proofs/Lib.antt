@@ -35,8 +35,6 @@ pub mod Called
 pub mod BothSides
 pub mod Gathered
 -- ---- rows stay canonical, whatever the answers
-pub mod CanonicalOrder
-pub mod CanonicalStars
 pub mod CanonicalEvaluations
 -- ---- one more unfolding
 pub mod LeafFits

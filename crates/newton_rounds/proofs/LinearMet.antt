@@ -47,7 +47,7 @@ use Rattle.newton_rounds.proofs.Below.{some_at}
 use Rattle.newton_rounds.proofs.Called.{AreThere, calls-in, columns-at, ends-at, ends-many, member-at, placed-at}
 use Rattle.newton_rounds.proofs.CallPlaces.{HasSides, call-found, leaf-found, link-found, sides-found, the_call}
 use Rattle.newton_rounds.proofs.CanonicalEvaluations.{rows-canonical}
-use Rattle.newton_rounds.proofs.CanonicalOrder.{IsCanonicalFormula}
+use Rattle.recurrence.proofs.CanonicalOrder.{IsCanonicalFormula}
 use Rattle.newton_rounds.proofs.ClosedMet.{IsClosed, LeadsToBase, closed-holds}
 use Rattle.newton_rounds.proofs.Gathered.{group-is}
 use Rattle.newton_rounds.proofs.Matched.{IsBehind, each-match}

@@ -41,7 +41,7 @@ use Rattle.newton_rounds.specs.Pairs.{PairEnds, Stretch, along, call_entry, call
 use Rattle.newton_rounds.specs.Shapes.{IsStretchBetween}
 use Rattle.checked_tree.proofs.Between.{sequence-canonical}
 use Rattle.newton_rounds.proofs.CanonicalEvaluations.{formula-canonical, rows-canonical}
-use Rattle.newton_rounds.proofs.CanonicalOrder.{IsCanonicalFormula}
+use Rattle.recurrence.proofs.CanonicalOrder.{IsCanonicalFormula}
 use Rattle.newton_rounds.proofs.PairMeanings.{entry_told-holds, equated-canonical, longer-agree, posts-canonical, told-canonical, told-stand, whole-holds}
 use Rattle.newton_rounds.proofs.Paired.{after, entered-fits, first-fits, fourth-fits, returned-fits, second-fits, third-fits}
 use Rattle.newton_rounds.proofs.Unfolded.{IsCanonicalExit}

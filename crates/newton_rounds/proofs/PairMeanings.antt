@@ -27,7 +27,7 @@ use Rattle.proc_summary.specs.Claims.{FitsIf, HoldsIf}
 use Rattle.proc_summary.specs.Summary.{exit_formula, exit_places}
 use Rattle.newton_rounds.specs.Pairs.{PairEnds, base_from, entry_told}
 use Rattle.newton_rounds.specs.Shapes.{AreEnds}
-use Rattle.newton_rounds.proofs.CanonicalOrder.{IsCanonicalCase, IsCanonicalFormula, IsCanonicalRow}
+use Rattle.recurrence.proofs.CanonicalOrder.{IsCanonicalCase, IsCanonicalFormula, IsCanonicalRow}
 use Rattle.newton_rounds.proofs.Numbered.{states-of}
 use Rattle.newton_rounds.proofs.Told.{told-fewer}
 use Rattle.newton_rounds.proofs.Unfolded.{IsCanonicalExit, hidden-canonical}

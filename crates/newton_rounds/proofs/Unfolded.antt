@@ -38,7 +38,7 @@ use Rattle.proc_summary.proofs.Told.{entry-columns, entry-end, exit-end, exit-to
 use Rattle.newton_rounds.specs.Candidates.{unfolded_formula}
 use Rattle.newton_rounds.proofs.Below.{some_at}
 use Rattle.newton_rounds.proofs.CanonicalEvaluations.{AreCanonicalCells, AreTrueCells, IsCanonicalCell, evaluated-true, rows-canonical, settled_and_fitted-canonical}
-use Rattle.newton_rounds.proofs.CanonicalOrder.{IsCanonicalCase, IsCanonicalFormula, rows_by-canonical}
+use Rattle.recurrence.proofs.CanonicalOrder.{IsCanonicalCase, IsCanonicalFormula, rows_by-canonical}
 use Rattle.newton_rounds.proofs.LeafFits.{graph-evaluated, leaves-canonical, leaves-fit, links-inside}
 use Rattle.newton_rounds.proofs.Widths.{columns-are, some-nodes, states-at}
 use Rattle.newton_rounds.proofs.Zipped.{some-one}

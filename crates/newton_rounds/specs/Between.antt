@@ -48,7 +48,7 @@ pub record AddsBase (member : PairEnds) (made all : List Transition) : Type 0 wh
   pub is : all ≡ made ++ base ∷ []
   pub goes : GoesBetween 1000 member.pair.columns 0 base
 
--- the base of the member at a place, and the chains of calls that lead to it
+-- the base of the member at a place; past the end a formula without a case
 abbrev pub base_at : List PairEnds → List Transition → ℕ → Transition
 base_at members bases n = unwrap_or (slice_get bases n) record {
   from = width_at members n;
@@ -56,6 +56,7 @@ base_at members bases n = unwrap_or (slice_get bases n) record {
   cases = [];
 }
 
+-- the chains of calls from the member at a place to member n; none past the end of the cells
 abbrev pub chain_to : List PairEnds → List (Cell Transition) → ℕ → ℕ → Transition
 chain_to members cells place n =
     pair_cell (width_at members place) (width_at members n)
@@ -69,6 +70,7 @@ pub record AreChainsFrom (members : List PairEnds) (place : ℕ)
       GoesBetween 1000 (width_at members place) (width_at members n)
       (chain_to members cells place n)
 
+-- few members with their ends, a base for each, and the chains from the member at a place to each
 pub record AreChained (members : List PairEnds) (bases : List Transition) (place : ℕ)
     (cells : List (Cell Transition)) : Type 0 where
   pub few : length members < 2 ^ 32
@@ -88,6 +90,7 @@ pub record IsStretchIn (members : List PairEnds) (s : Stretch) : Type 0 where
       ≡ (ends_at members s.call.caller).ends.globals + length s.call.args
   pub is : IsStretchBetween (ends_at members s.call.caller) (ends_at members s.call.callee) s
 
+-- few members with their ends, and few calls, each between two of them
 pub record IsGroup (members : List PairEnds) (stretches : List Stretch) : Type 0 where
   pub few : length members < 2 ^ 32
   pub few_calls : length stretches < 2 ^ 32

@@ -58,6 +58,7 @@ candidate_by member from (case ∷ more) =
     each (rows_with_exit_bound (map (paired_case from) (case ∷ more)) (columns_of member.pair.columns)) []
     (directions member.pair)
 
+-- the candidate of a member by its formula: rows over its pair
 unfoldable pub candidate_of : PairEnds → Transition → Posing (List Row)
 candidate_of member f = candidate_by member f.from f.cases
 
@@ -72,6 +73,7 @@ candidate_formula member rows =
       cases = record { aux = 0; rows = rows; post = [] } ∷ [];
     })
 
+-- the candidates as formulas, in the order of the members, as far as both lists go
 abbrev pub table_of : List PairEnds → List (List Row) → List Transition
 table_of [] candidates = []
 table_of (member ∷ members) [] = []
@@ -104,6 +106,8 @@ with_point found point = record {
   limits = found.limits;
 }
 
+-- the findings with the answer to the question of these rows: a point, a limit behind the others,
+-- or nothing more
 abbrev pub with_answer : Findings → List Row → Answer → Findings
 with_answer found rows (answer.No point) = with_point found (witness.Point (columns rows []) point)
 with_answer found rows (answer.Limit limit) = record {
@@ -118,6 +122,8 @@ findings_in found [] = Done (with_point found (witness.Point [] []))
 findings_in found (row ∷ rows) =
     answer_to (Infeasible (row ∷ rows)) >>= λ answer. Done (with_answer found (row ∷ rows) answer)
 
+-- the findings with what is left of a case in order; where nothing is left, the case refutes
+-- nothing
 abbrev pub found_left : Findings → Option Case → Posing Findings
 found_left found None = Done found
 found_left found (Some case) = findings_in found case.rows
@@ -129,15 +135,18 @@ with_case from row found case =
     (losses_of (contrary from case row) ++ (in_order (against from case row)).losses))
     (found_left found (in_order (against from case row)).left)
 
--- limits that stand in no dropped note are noted by themselves
+-- each limit as a note, in order
 abbrev pub limit_notes : List Limit → List Note
 limit_notes limits = map (λ limit. note.Limit limit) limits
 
+-- a point, else the first limit, else None; limits that stand in no dropped note are noted by
+-- themselves
 abbrev pub outcome_by : Option Witness → List Limit → Posing (Option Witness)
 outcome_by (Some point) limits = Noted (limit_notes limits) (Done (Some point))
 outcome_by None [] = Done None
 outcome_by None (limit ∷ limits) = Noted (limit_notes limits) (Done (Some (witness.Limit limit)))
 
+-- what refutes a row, by what was found over the cases
 abbrev pub outcome : Findings → Posing (Option Witness)
 outcome found = outcome_by found.point found.limits
 
@@ -151,6 +160,7 @@ refutation f row = each (with_case f.from row) record {
 
 -- ---- a round
 
+-- a row more with what refutes it, if anything does, behind those that are judged
 unfoldable pub with_judged : Transition → List JudgedRow → Row → Posing (List JudgedRow)
 with_judged f made row = refutation f row >>= λ by. Done (made ++ record { row = row; by = by } ∷ [])
 
@@ -163,16 +173,19 @@ unfolded_formula program known p =
     (formula_at (state_columns (subject_of program p known)) cells
     (subject_of program p known).exit)
 
+-- the judged rows of one member more, by its unfolded formula, behind those of the others
 unfoldable pub with_round : Program → List (Option Transition) → List (List JudgedRow)
     → Proc × List Row → Posing (List (List JudgedRow))
 with_round program known made member =
     unfolded_formula program known member.0 >>= λ f.
     each (with_judged f) [] member.1 >>= λ judged. Done (made ++ judged ∷ [])
 
+-- the row where nothing refutes it, else None
 abbrev pub unless_refuted : Row → Option Witness → Option Row
 unless_refuted row None = Some row
 unless_refuted row (Some by) = None
 
+-- the row of a judgement, if it stays
 abbrev pub kept_row : JudgedRow → Option Row
 kept_row judged = unless_refuted judged.row judged.by
 
@@ -181,16 +194,20 @@ abbrev pub drop_notes_by : ℕ → Row → Option Witness → List Note
 drop_notes_by place row None = []
 drop_notes_by place row (Some by) = note.Dropped place row by ∷ []
 
+-- the notes of the dropped rows of the member at a place, in the order of its rows
 abbrev pub drop_notes_in : ℕ × List JudgedRow → List Note
 drop_notes_in member = flat_map (λ judged. drop_notes_by member.0 judged.row judged.by) member.1
 
+-- the notes of the dropped rows of all members, in the order of the group
 abbrev pub dropped_notes : List (List JudgedRow) → List Note
 dropped_notes judged = flat_map drop_notes_in (with_places_from 0 judged)
 
+-- whether there is a note
 abbrev pub some_note : List Note → Bool
 some_note [] = false
 some_note (n ∷ ns) = true
 
+-- the procedures with their candidates, as far as both lists go
 abbrev pub members_with : List Proc → List (List Row) → List (Proc × List Row)
 members_with [] candidates = []
 members_with (p ∷ ps) [] = []
@@ -208,10 +225,11 @@ round program procs known candidates =
     Noted (dropped_notes judged)
     (Done (map (filter_map kept_row) judged, some_note (dropped_notes judged)))
 
--- rounds until none is dropped: each but the last drops a row at least
+-- how many rounds there are at most: each but the last drops a row at least
 abbrev pub most_rounds : List (List Row) → ℕ
 most_rounds candidates = suc (length (flat_map (λ rows. rows) candidates))
 
+-- what stands of the candidates after rounds until none is dropped
 unfoldable pub kept_candidates : Program → List ℕ → List (Option Transition) → List (List Row)
     → Posing (List (List Row))
 kept_candidates program procs known candidates =

@@ -12,6 +12,7 @@ use Rattle.newton_rounds.specs.Candidates.{candidate_of, kept_candidates, table_
 unfoldable pub with_candidate : List (List Row) → PairEnds × Transition → Posing (List (List Row))
 with_candidate made member = candidate_of member.0 member.1 >>= λ rows. Done (made ++ rows ∷ [])
 
+-- the members' ends with their formulas, as far as both lists go
 abbrev pub pairs_of : List PairEnds → List Transition → List (PairEnds × Transition)
 pairs_of [] table = []
 pairs_of (member ∷ members) [] = []
@@ -28,7 +29,7 @@ closure_by_rounds program procs known bases =
     kept_candidates program procs known candidates >>= λ kept.
     Done (table_of (ends_of_members program procs) kept)
 
--- what stands of the candidates of a table, and of those of the closure of one
+-- what stands of the candidates of a table, as formulas
 unfoldable pub rounds_over : Program → List ℕ → List (Option Transition) → List Transition
     → Posing (List Transition)
 rounds_over program procs known table =
@@ -36,6 +37,7 @@ rounds_over program procs known table =
     kept_candidates program procs known candidates >>= λ kept.
     Done (table_of (ends_of_members program procs) kept)
 
+-- what stands of the candidates of a table's closure, as formulas
 unfoldable pub rounds_after : Program → List ℕ → List (Option Transition) → List Transition
     → List Transition → Posing (List Transition)
 rounds_after program procs known bases table =
@@ -47,6 +49,7 @@ abbrev pub closure_from : Bool → Program → List ℕ → List (Option Transit
 closure_from true program procs known bases = closure_of program procs known bases []
 closure_from false program procs known bases = closure_by_rounds program procs known bases
 
+-- the summaries of a group in the order of its procedures, by whether it is linear
 unfoldable pub group_closure : Bool → Program → List ℕ → List (Option Transition)
     → Posing (List Transition)
 group_closure linear program procs known =

@@ -34,6 +34,7 @@ pub record GroupCall : Type 0 where
   pub args : List Term
   pub into : Option ℕ
 
+-- a call on this edge of the member at a place of the group; [] where the callee is no member
 abbrev pub call_to : ℕ → Arc → List Term → Option ℕ → Option ℕ → List GroupCall
 call_to caller way args into None = []
 call_to caller way args into (Some callee) =
@@ -46,6 +47,7 @@ call_to caller way args into (Some callee) =
       into = into;
     } ∷ []
 
+-- the call of a member that the statement on this edge is; [] where it is none
 abbrev pub call_by : List ℕ → ℕ → Arc → Statement → List GroupCall
 call_by procs caller way (Call proc args into) = call_to caller way args into (place_of proc procs)
 call_by procs caller way _ = []

@@ -28,18 +28,20 @@ pub record PairEnds : Type 0 where
 
 -- ---- the activations without a call of the group
 
--- what the exit's formula says of a pair: the entry's other columns become auxiliaries, and a row
--- for each column of the exit says that it is the post there
+-- the exit's formula over the pair's columns: the entry's other columns become auxiliaries
 abbrev pub entry_told : PairEnds → Option Transition → Transition
 entry_told member f =
     raised_formula member.pair.columns
     (hidden member.ends.entry.columns (exit_formula member.ends.full.columns f))
 
+-- the base of a member by what holds at its exit: a row for each column of the exit says that it is
+-- the post there, and no post is left
 abbrev pub base_from : PairEnds → Option Transition → Transition
 base_from member exit =
     with_posts []
     (equated_formula member.ends.entry.columns (exit_places member.ends) (entry_told member exit))
 
+-- what is lost in making a base: in hiding the other columns, and then in the rows of the exit
 abbrev pub losses_in_base : PairEnds → Option Transition → List Loss
 losses_in_base member exit =
     losses_in_hiding member.ends.entry.columns (exit_formula member.ends.full.columns exit)
@@ -51,12 +53,14 @@ losses_in_base member exit =
 abbrev pub columns_from : ℕ → ℕ → List Polynomial
 columns_from first count = map (λ n. column_of (At n)) (range_with_len first count)
 
--- the arguments become the callee's entry: its globals and parameters stand behind the columns of
--- the caller
+-- a case of the arguments, made the callee's entry: its globals and parameters stand behind the
+-- columns of the caller
 abbrev pub entered_case : ℕ → ℕ → Case → Case
 entered_case columns globals case =
     cases.with_posts (columns_of columns ++ (columns_of globals ++ case.post)) case
 
+-- from the caller's columns to the same with the callee's entry behind them, by the cases of the
+-- arguments
 abbrev pub call_entry : ℕ → ℕ → List Term → Transition
 call_entry columns globals args =
     record {
@@ -93,10 +97,11 @@ call_exit columns globals into entry exit =
           } ∷ [];
     }
 
--- a formula between the caller's columns, with so many columns behind them that stay as they are
+-- a case between the caller's columns, with so many columns behind them that stay as they are
 abbrev pub carrying_case : ℕ → ℕ → Case → Case
 carrying_case columns more case = cases.with_posts (case.post ++ columns_from columns more) case
 
+-- a formula between the caller's columns, with so many behind them that stay as they are
 abbrev pub carrying : ℕ → ℕ → Transition → Transition
 carrying columns more f =
     record {
@@ -119,9 +124,13 @@ pub record Stations : Type 0 where
   pub third : Transition
   pub fourth : Transition
 
+-- how many columns a call carries behind those of the caller: the callee's entry, which is the
+-- globals and the arguments, and its exit
 abbrev pub callee_width : Ends → Ends → List Term → ℕ
 callee_width caller callee args = caller.globals + length args + callee.exit.columns
 
+-- the formulas that lead to the stations of a call, each from the columns at which the one before
+-- it ends
 abbrev pub stations_of : PairEnds → PairEnds → Stretch → Stations
 stations_of caller callee s =
     record {
@@ -136,9 +145,11 @@ stations_of caller callee s =
           (exit_formula caller.ends.full.columns s.after);
     }
 
+-- from the caller's entry through all stations of a call, in their order
 abbrev pub along : Stations → Transition
 along s = sequence_of (sequence_of (sequence_of s.first s.second) s.third) s.fourth
 
+-- what is lost in putting the stations together, from the first on
 abbrev pub losses_along : Stations → List Loss
 losses_along s =
     losses_in_sequence s.first s.second
@@ -153,6 +164,8 @@ pair_formula caller callee s =
     (equated_formula caller.ends.entry.columns (exit_places caller.ends)
     (along (stations_of caller callee s)))
 
+-- what is lost in making the formula of a call: before it, in its arguments, along its stations,
+-- and in the rows of the caller's exit
 abbrev pub losses_in_pair : PairEnds → PairEnds → Stretch → List Loss
 losses_in_pair caller callee s =
     losses_in_hiding caller.ends.entry.columns (exit_formula caller.ends.full.columns s.before)

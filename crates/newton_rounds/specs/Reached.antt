@@ -9,6 +9,7 @@ abbrev pub IsReached : List Link → List ℕ → ℕ → Type 0
 IsReached links starts node = (start : ℕ) × (word : List ℕ) × Contains starts start
     × IsWalk links start node word
 
+-- whether a node has a mark; past the end none has
 abbrev pub is_marked : List Bool → ℕ → Bool
 is_marked marks node = slice_index_or marks node false
 
@@ -24,9 +25,11 @@ pub record TellsReached (nodes : ℕ) (links : List Link) (starts : List ℕ)
 abbrev pub grows : List Bool → Link → Bool
 grows marks link = is_marked marks link.from && not (is_marked marks link.to)
 
+-- the marks behind a link: its end gets one where the link grows them
 abbrev pub after_link : List Bool → Link → List Bool
 after_link marks link = if grows marks link then slice_set marks link.to true else marks
 
+-- the marks behind links, from the first to the last
 abbrev pub after_links : List Bool → List Link → List Bool
 after_links marks [] = marks
 after_links marks (link ∷ links) = after_links (after_link marks link) links
@@ -36,6 +39,7 @@ abbrev pub grow_over : List Bool → List Link → Bool
 grow_over marks [] = false
 grow_over marks (link ∷ links) = grows marks link || grow_over (after_link marks link) links
 
+-- the marks, with one at each of these nodes
 abbrev pub with_marks : List Bool → List ℕ → List Bool
 with_marks marks [] = marks
 with_marks marks (node ∷ nodes) = with_marks (slice_set marks node true) nodes

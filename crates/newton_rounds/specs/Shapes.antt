@@ -67,6 +67,7 @@ plain_call call =
       into = call.into;
     }
 
+-- a call with its terms, and what holds at both sides of it
 abbrev pub stretch_of : own.GroupCall → Sides → Stretch
 stretch_of call sides = record {
   call = plain_call call;
@@ -113,6 +114,7 @@ pub record IsOverPairs (from : ℕ) (case : Case) (row : Row) : Type 0 where
   pub case_is : IsTrue (fits from (length case.post) case)
   pub few : case.aux + length case.post < 2 ^ 32
 
+-- the row is over the pairs of each case of the formula
 abbrev pub IsRefutable : Transition → Row → Type 0
 IsRefutable f row = All (λ case. IsOverPairs f.from case row) f.cases
 

@@ -9,8 +9,9 @@ ghost use Rattle.proc_summary.specs.Claims.{FitsIf};
 ghost use Rattle.proc_summary.specs.Subject.{subject_of};
 ghost use Rattle.newton_rounds.specs.Closure.{exit_from};
 
-use crate::sides::{columns_of, graph_of};
+use crate::sides::columns_of;
 use farkas_check::Oracle;
+use flow_graph::graph;
 use posing::{Log, WorkError};
 use proc_summary::{cells, formula_at};
 use std::alloc::{AllocError, Global};
@@ -49,6 +50,6 @@ fn exit_node(alloc: Global, program: &Program, proc: u32) -> Result<u32, AllocEr
     ensures { (p : Procedure) → slice_get program.now.procs proc ≡ Some p
         → IfOk result (λ node. node ≡ exit_of (code_of p.body)) }
 {
-    let graph = graph_of(alloc, program, proc)?;
+    let graph = graph(alloc, program, proc)?;
     Ok(graph.nodes - 1)
 }

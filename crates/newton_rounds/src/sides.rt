@@ -3,8 +3,7 @@ ghost use Rattle.std.specs.List.{AllByRecursion};
 ghost use Rattle.syntax_tree.specs.Code.{code_of};
 ghost use Rattle.syntax_tree.specs.WellFormed.{IsWellFormed, width_of};
 ghost use Rattle.syntax_tree.specs.declared.program.Proc.{Proc as Procedure};
-ghost use Rattle.flow_graph.specs.FlowGraph.{exit_of, graph_of};
-ghost use Rattle.flow_graph.specs.Plain.{plain};
+ghost use Rattle.flow_graph.specs.FlowGraph.{exit_of};
 ghost use Rattle.posing.specs.Follows.{Follows};
 ghost use Rattle.posing.specs.Posing.{each};
 ghost use Rattle.leaf_cases.specs.Conditions.{AreKnown};
@@ -16,7 +15,7 @@ ghost use Rattle.newton_rounds.specs.Shapes.{AddSides, FitCalls, FitSides, HasNo
 
 use crate::calls::{GroupCall, Sides, calls_of};
 use farkas_check::Oracle;
-use flow_graph::{Graph, graph};
+use flow_graph::graph;
 use items::Items;
 use path_expr::Cell;
 use posing::{Log, WorkError};
@@ -43,7 +42,7 @@ pub(crate) fn calls_from(
 {
     let mut calls = Items::new(alloc);
     for (place, proc) in procs.iter().enumerate() {
-        let graph = graph_of(alloc, program, *proc)?;
+        let graph = graph(alloc, program, *proc)?;
         calls.append(calls_of(alloc, graph.edges.as_slice(), procs, place as u32)?)?;
     }
     Ok(calls)
@@ -133,23 +132,9 @@ fn member_calls(
     ensures made { (p : Procedure) → slice_get program.now.procs (slice_index procs.now place)
         ≡ Some p → IfOk result (λ found. map plain_call found.1 ≡ calls_of procs.now place p) }
 {
-    let graph = graph_of(alloc, program, procs[place as usize])?;
+    let graph = graph(alloc, program, procs[place as usize])?;
     let calls = calls_of(alloc, graph.edges.as_slice(), procs, place)?;
     Ok((graph.nodes - 1, calls))
-}
-
-/// The flow graph of a procedure.
-pub(crate) fn graph_of(alloc: Global, program: &Program, proc: u32) -> Result<Graph, AllocError>
-    requires formed { IsWellFormed program.now }
-    requires procedure { proc < length program.now.procs }
-    ensures exact { IfOk result (λ g. plain g ≡ graph_of program.now proc) }
-    ensures edges { IfOk result
-        (λ g. All (λ edge. (edge.from < g.nodes) × (edge.to < g.nodes)) g.edges) }
-{
-    match graph(alloc, program, proc) {
-        Ok(made) => Ok(made),
-        Err(_) => Err(AllocError),
-    }
 }
 
 /// How many columns the states of a procedure have.

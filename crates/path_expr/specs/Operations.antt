@@ -11,13 +11,15 @@ is_item Zero = false
 is_item One = false
 is_item path = true
 
--- the operation of a sequence, of a join and of a star, where there is one
+-- the operation of a sequence, as a list of one; [] where an operand is no item
 abbrev pub seq_operation : PathExpr → PathExpr → List PathExpr
 seq_operation first second = if is_item first && is_item second then Seq first second ∷ [] else []
 
+-- the operation of a join, as a list of one; [] where an operand is no item
 abbrev pub join_operation : PathExpr → PathExpr → List PathExpr
 join_operation left right = if is_item left && is_item right then Join left right ∷ [] else []
 
+-- the operation of a star, as a list of one; [] where the operand is no item
 abbrev pub star_operation : PathExpr → List PathExpr
 star_operation turn = if is_item turn then Star turn ∷ [] else []
 

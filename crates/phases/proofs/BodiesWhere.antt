@@ -30,7 +30,7 @@ use Rattle.phases.specs.Phases.{body_where, case_where, turns_where}
 use Rattle.phases.specs.Splits.{contrary, inequality}
 use Rattle.phases.specs.Words.{IsHalvable, IsOverEntries}
 use Rattle.phases.proofs.CanonicalForms.{rows-canonical}
-use Rattle.phases.proofs.CanonicalOrder.{IsCanonicalCase, IsCanonicalFormula, IsCanonicalRow}
+use Rattle.recurrence.proofs.CanonicalOrder.{IsCanonicalCase, IsCanonicalFormula, IsCanonicalRow}
 
 -- ---- an inequality at a state
 

@@ -11,7 +11,7 @@ use Rattle.linear_terms.proofs.Canonical.{IsCanonical-substituted}
 use Rattle.transition_formula.specs.Composition.{after_case, row_of, rows_by, sequence_of, sequence_of_cases}
 use Rattle.transition_formula.specs.Transition.{Transition}
 use Rattle.polyhedra.specs.Laws.{HaveCanonicalRows}
-use Rattle.phases.proofs.CanonicalOrder.{IsCanonicalCase, IsCanonicalFormula, IsCanonicalRow}
+use Rattle.recurrence.proofs.CanonicalOrder.{IsCanonicalCase, IsCanonicalFormula, IsCanonicalRow}
 
 pub rows-canonical : (f : Transition) → IsCanonicalFormula f → HaveCanonicalRows f.cases
 rows-canonical f h =

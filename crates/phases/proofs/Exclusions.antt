@@ -32,7 +32,7 @@ use Rattle.phases.specs.Phases.{case_excludes, case_excludes_by, case_where, cas
 use Rattle.phases.specs.Splits.{inequality}
 use Rattle.phases.specs.Words.{AreExcludable, IsExcludable}
 use Rattle.phases.proofs.BodiesWhere.{IsTrueAt}
-use Rattle.phases.proofs.CanonicalOrder.{IsCanonicalCase, IsCanonicalRow}
+use Rattle.recurrence.proofs.CanonicalOrder.{IsCanonicalCase, IsCanonicalRow}
 
 -- ---- the inequality on the posts
 

@@ -22,7 +22,7 @@ use Rattle.phases.specs.Phases.{body_where, case_where, cases_exclude, first_hal
 use Rattle.phases.specs.Splits.{contrary, splits}
 use Rattle.phases.specs.Words.{AreExcludable, AreRoomy, IfFound, IsExcludable, IsHalvable, IsOverEntries, IsRoomy, IsSplittable}
 use Rattle.phases.proofs.BodiesWhere.{HoldsWhere, IsTrueAt, case-fits, contrary-true, truth-decided, turns_where-holds, where-canonical, where-fits}
-use Rattle.phases.proofs.CanonicalOrder.{IsCanonicalCase, IsCanonicalFormula, settled-canonical}
+use Rattle.recurrence.proofs.CanonicalOrder.{IsCanonicalCase, IsCanonicalFormula, settled-canonical}
 use Rattle.phases.proofs.Chains.{AreHalves}
 use Rattle.phases.proofs.Exclusions.{ExcludesAll, cases_exclude-true}
 use Rattle.phases.proofs.SettledRoom.{IsRoomyCase, settled_cases-spare}

@@ -13,6 +13,4 @@ pub mod SplitPolynomials
 -- ---- what settled cases keep
 pub mod SettledRoom
 -- rows stay canonical, whatever the answers
-pub mod CanonicalOrder
-pub mod CanonicalStars
 pub mod CanonicalForms

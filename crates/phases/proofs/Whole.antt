@@ -32,8 +32,8 @@ use Rattle.phases.specs.Phases.{in_turn, phased_star, star_by_halves, phases_of,
 use Rattle.phases.specs.Words.{AreInTurn, AreRoomy, IfFound, IsRoomy}
 use Rattle.phases.proofs.BodiesWhere.{AreFewAuxiliaries, few-solvable}
 use Rattle.phases.proofs.CanonicalForms.{formula-canonical, rows-canonical, sequence-canonical}
-use Rattle.phases.proofs.CanonicalOrder.{IsCanonicalFormula, settled-canonical}
-use Rattle.phases.proofs.CanonicalStars.{directions-canonical, fitted-canonical, star-canonical}
+use Rattle.recurrence.proofs.CanonicalOrder.{IsCanonicalFormula, settled-canonical}
+use Rattle.recurrence.proofs.CanonicalStars.{directions-canonical, fitted-canonical, star-canonical}
 use Rattle.phases.proofs.Chains.{halves-sequence}
 use Rattle.phases.proofs.Halved.{AreTrueHalves, roomy-splittable, split-roomy, split-true}
 

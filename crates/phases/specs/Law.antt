@@ -31,6 +31,8 @@ pub record IsPhased (columns : ℕ) (g : Transition) : Type 0 where
   pub fits : IsTransition columns columns g.cases
   pub fitted : IsFitted g.cases
 
+-- phases are a formula over the body's columns that is small enough to go on with, whatever the
+-- answers are, as long as they are true
 abbrev pub PhasesFit : Type 0
 PhasesFit = (body : Transition) (voc : Vocabulary) → IsPhasable body voc
     → Always (IsPhased body.to) (phases_of body voc)

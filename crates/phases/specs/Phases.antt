@@ -25,6 +25,7 @@ use Rattle.phases.specs.Splits.{inequality, contrary, splits}
 
 -- ---- turns that begin where an inequality is true
 
+-- the case with the inequality p <= 0 as one more row, behind its own
 abbrev pub case_where : Polynomial → Case → Case
 case_where p case = record {
   aux = case.aux;
@@ -32,6 +33,7 @@ case_where p case = record {
   post = case.post;
 }
 
+-- the body with the inequality p <= 0 as one more row of each case
 abbrev pub body_where : Polynomial → Transition → Transition
 body_where p body = record {
   from = body.from;
@@ -55,9 +57,11 @@ abbrev pub left_excludes : Option Case → Posing Bool
 left_excludes None = Done true
 left_excludes (Some case) = rows_exclude case.rows
 
+-- whether a case put in order has infeasible rows, or nothing left; its losses are noted first
 abbrev pub order_excludes : Ordered → Posing Bool
 order_excludes order = Noted (loss_notes order.losses) (left_excludes order.left)
 
+-- whether a case excludes an inequality on its posts; not where this cannot be made, which is noted
 abbrev pub case_excludes_by : Case → Made → Posing Bool
 case_excludes_by case (Ok q) = order_excludes (in_order (case_where q case))
 case_excludes_by case (Err e) = Noted (loss_notes (error_losses e)) (Done false)
@@ -74,6 +78,7 @@ cases_exclude q (case ∷ cases) = case_excludes q case >>= λ excluded. if excl
 
 -- ---- a split that stands
 
+-- the formula has some case
 abbrev pub has_cases : Transition → Bool
 has_cases f = not (length f.cases == 0)
 
@@ -86,6 +91,7 @@ abbrev pub is_apart : Transition → Transition → Transition → Bool
 is_apart body first second = has_cases second
     && not (is_as_long first body && is_as_long second body)
 
+-- two halves where the split stands; else None
 abbrev pub halves_if : Transition → Transition → Bool → Option Halves
 halves_if first second true = Some record { first = first; second = second }
 halves_if first second false = None
@@ -97,11 +103,14 @@ halves_of body q first second = if is_apart body first second
     then (cases_exclude q second.cases >>= λ excluded. Done (halves_if first second excluded))
     else Done None
 
+-- the halves by a first one and the turns that begin where p <= 0 is true; None where the first has
+-- no case
 unfoldable pub with_first : Transition → Polynomial → Polynomial → Transition
     → Posing (Option Halves)
 with_first body p q first = if has_cases first then turns_where p body >>= halves_of body q first
     else Done None
 
+-- the halves by p <= 0 and its contrary; None where the contrary cannot be made
 abbrev pub halves_by : Transition → Polynomial → Made → Posing (Option Halves)
 halves_by body p (Ok q) = turns_where q body >>= with_first body p q
 halves_by body p (Err e) = Done None
@@ -111,6 +120,7 @@ halves_by body p (Err e) = Done None
 unfoldable pub halves_at : Transition → Polynomial → Posing (Option Halves)
 halves_at body p = halves_by body p (contrary p)
 
+-- halves that are found; what follows where there are none
 abbrev pub or_next : Option Halves → Posing (Option Halves) → Posing (Option Halves)
 or_next None rest = rest
 or_next (Some found) rest = Done (Some found)
@@ -131,6 +141,8 @@ unfoldable pub in_turn : Vocabulary → Transition → Transition → Posing Tra
 in_turn voc a b =
     Noted (loss_notes (losses_in_sequence a b)) (settled_formula (sequence_of a b) >>= λ g. fitted_formula g voc voc)
 
+-- the first half and then the second, each by what `phases` makes of it; star of the body where it
+-- is not split
 abbrev pub star_by_halves : (Transition → Posing Transition) → Vocabulary → Transition → Option Halves
     → Posing Transition
 star_by_halves phases voc body None = star_of body voc
@@ -142,5 +154,6 @@ abbrev pub phased_star : ℕ → Vocabulary → Transition → Posing Transition
 phased_star zero voc body = star_of body voc
 phased_star (suc depth) voc body = split body >>= star_by_halves (phased_star depth voc) voc body
 
+-- phases of a body, split into halves no deeper than `most_depth`
 unfoldable pub phases_of : Transition → Vocabulary → Posing Transition
 phases_of body voc = phased_star most_depth voc body

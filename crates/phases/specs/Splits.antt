@@ -36,6 +36,7 @@ polynomial_in (Ok (Kept row)) = Some row.poly
 polynomial_in (Ok (Constant holds)) = None
 polynomial_in (Err e) = None
 
+-- the polynomial of an inequality in normal form; None where that is constant, or cannot be made
 abbrev pub normal_polynomial : Polynomial → Option Polynomial
 normal_polynomial p = polynomial_in (normal_form (inequality p))
 

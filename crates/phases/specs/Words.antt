@@ -13,13 +13,15 @@ use Rattle.phases.specs.Limits.{most_splits}
 
 -- ---- splits
 
--- one more while there is room, unless it is there
+-- there is room for one more split, and it is not there
 abbrev pub is_new : List Polynomial → Polynomial → Bool
 is_new made p = nat_lt (length made) most_splits && not (list_any (poly_eq p) made)
 
+-- the splits made, with one more behind them where it is new
 abbrev pub with_split : List Polynomial → Polynomial → List Polynomial
 with_split made p = if is_new made p then made ++ p ∷ [] else made
 
+-- the splits made, with each of a list behind them in turn where it is new
 abbrev pub with_splits : List Polynomial → List Polynomial → List Polynomial
 with_splits made ps = fold with_split made ps
 
@@ -46,6 +48,7 @@ pub record IsExcludable (q : Polynomial) (case : Case) : Type 0 where
   pub solvable : IsSolvable case
   pub over : IsOverEntries (length case.post) q
 
+-- each case can be put in order, and the inequality is over the columns that its posts are for
 abbrev pub AreExcludable : Polynomial → List Case → Type 0
 AreExcludable q cases = AllByRecursion (IsExcludable q) cases
 
@@ -60,6 +63,7 @@ abbrev pub IfFound : (Halves → Type 0) → Option Halves → Type 0
 IfFound R None = Unit {0}
 IfFound R (Some found) = R found
 
+-- of both bodies so many halves of halves can be made
 abbrev pub AreRoomy : ℕ → Vocabulary → Halves → Type 0
 AreRoomy depth voc found = IsRoomy depth found.first voc × IsRoomy depth found.second voc
 

@@ -7,7 +7,8 @@ use Rattle.whole_numbers.proofs.Ring.{ring}
 use Rattle.items.proofs.Each.{each-more, each-both}
 use Rattle.linear_terms.specs.Polynomial.{Polynomial}
 use Rattle.linear_terms.specs.Row.{RowsHold}
-use Rattle.linear_terms.specs.Value.{Valuation, value_of, dot}
+use Rattle.linear_terms.specs.Value.{Valuation, value_of}
+use Rattle.whole_numbers.specs.Dot.{dot}
 use Rattle.farkas_check.specs.declared.answer.Answer.{Answer}
 use Rattle.farkas_check.specs.declared.answer.Answer.TheVariants as answer
 use Rattle.farkas_check.specs.declared.question.Question.TheVariants.{Stratum}

@@ -13,7 +13,8 @@ use Rattle.linear_terms.specs.declared.row.Case.{Case}
 use Rattle.linear_terms.specs.Expressions.{◌⊟◌, column, or_zero}
 use Rattle.linear_terms.specs.Polynomial.{Polynomial, constant_of, column_of}
 use Rattle.linear_terms.specs.Row.{RowsHold}
-use Rattle.linear_terms.specs.Value.{Valuation, value_of, dot}
+use Rattle.linear_terms.specs.Value.{Valuation, value_of}
+use Rattle.whole_numbers.specs.Dot.{dot}
 use Rattle.linear_terms.proofs.Worth.{IsWorth-Ok, IsWorth-same, IsWorth-whole, IsWorth-column, IsWorth-difference, IsWorth-weighted, IsTrueIfMade-equation, column_of-value, dot-same}
 use Rattle.transition_formula.specs.Meaning.{numbers, HoldsCase, Holds}
 use Rattle.transition_formula.specs.Transition.{Transition}

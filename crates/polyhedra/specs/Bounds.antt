@@ -49,6 +49,7 @@ goals_of objective (case ∷ cases) =
 abbrev pub goals_behind : List Goal → Result (List Goal) TermError → Result (List Goal) TermError
 goals_behind made more = gives.◌>>=◌ more (λ goals. Ok (made ++ goals))
 
+-- the bound that an answer gives; None where it gives none
 abbrev pub bound_in : Answer → Option ℤ
 bound_in (answer.Yes by) = None
 bound_in (answer.No point) = None
@@ -57,6 +58,7 @@ bound_in (answer.Unbounded case point ray) = None
 bound_in (answer.Basis relations spots free) = None
 bound_in (answer.Limit limit) = None
 
+-- the greatest value over all goals, if it is known; None where they cannot be made, which is noted
 unfoldable pub bound_by : Result (List Goal) TermError → Posing (Option ℤ)
 bound_by (Ok goals) = answer_to (Sup goals) >>= λ answer. Noted (limits_of answer)
     (Done (bound_in answer))
@@ -72,6 +74,7 @@ unfoldable pub with_row : List Row → Result Row TermError → Posing (List Row
 with_row rows made =
     Noted (loss_notes (losses_of made)) (Done (rows ++ option_to_list (answer_of made)))
 
+-- the rows, with that of a bound behind them where there is one
 abbrev pub with_row_for : List Row → (ℤ → Result Row TermError) → Option ℤ → Posing (List Row)
 with_row_for rows row None = Done rows
 with_row_for rows row (Some most) = with_row rows (row most)
@@ -85,6 +88,7 @@ rows_with_bound cases objective row rows = bound_of cases objective >>= λ most.
 abbrev pub before_row : Polynomial → ℤ → Result Row TermError
 before_row d most = at_most (Ok d ⊟ whole most)
 
+-- the rows, with the bound of a direction on the entry columns behind them where it is known
 abbrev pub rows_with_entry_bound : List Case → List Row → Polynomial → Posing (List Row)
 rows_with_entry_bound cases rows d = rows_with_bound cases (λ case. Ok d) (before_row d) rows
 
@@ -92,20 +96,23 @@ rows_with_entry_bound cases rows d = rows_with_bound cases (λ case. Ok d) (befo
 abbrev pub after_row : List Polynomial → Polynomial → ℤ → Result Row TermError
 after_row after d most = at_most (put_in_for after d ⊟ whole most)
 
+-- the rows, with the bound of a direction on the posts behind them where it is known
 abbrev pub rows_with_exit_bound : List Case → List Polynomial → List Row → Polynomial → Posing (List Row)
 rows_with_exit_bound cases after rows d = rows_with_bound cases (λ case. put_in_for case.post d)
     (after_row after d) rows
 
--- the bound on differences: of a direction on the changes, where both ends have one vocabulary.
--- `moved` has what stands for each change in the row, which is at most the bound, or so many times
--- the bound as a column says
+-- a bound, or so many times the bound as a column says
 abbrev pub so_often : Option Col → Made → Made
 so_often None most = most
 so_often (Some turns) most = most ⊠ column turns
 
+-- the bound on differences: of a direction on the changes, where both ends have one vocabulary.
+-- `moved` has what stands for each change in the row, which is at most the bound, or so many times
+-- the bound as the column `turns` says
 abbrev pub change_row : List Polynomial → Option Col → Polynomial → ℤ → Result Row TermError
 change_row moved turns d most = at_most (put_in_for moved d ⊟ so_often turns (whole most))
 
+-- the rows, with the bound of a direction on the changes behind them where it is known
 abbrev pub bounded_change : List Case → List Polynomial → Option Col → List Row → Polynomial
     → Posing (List Row)
 bounded_change cases moved turns rows d =

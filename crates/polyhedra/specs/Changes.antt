@@ -24,6 +24,7 @@ abbrev pub change : Bool → Case → ℕ → Made
 change true case v = Ok (poly_at case.post v) ⊟ column (At v)
 change false case v = Ok (poly_at case.post v)
 
+-- the polynomial can be made and is zero
 abbrev pub is_zero : Made → Bool
 is_zero (Ok p) = poly_eq p (constant_of (pos 0))
 is_zero (Err e) = false
@@ -36,6 +37,7 @@ is_modified one cases v = list_any (λ case. not (is_zero (change one case v))) 
 abbrev pub is_exact : Bool → List Case → ℕ → Bool
 is_exact one cases v = list_all (λ case. is_ok (change one case v)) cases
 
+-- the variables whose change is not zero in some case, by number
 abbrev pub modified_variables : Bool → Transition → List ℕ
 modified_variables one f = filter (is_modified one f.cases) (range_with_len 0 f.to)
 
@@ -58,6 +60,7 @@ changes_in one variables case = record {
   terms = map (λ v. or_zero (change one case v)) variables;
 }
 
+-- for each case its rows, and the changes of the variables that move, in order
 abbrev pub changes_of : Bool → Transition → List Change
 changes_of one f = map (changes_in one (moving one f)) f.cases
 

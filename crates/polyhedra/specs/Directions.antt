@@ -10,14 +10,17 @@ use Rattle.polyhedra.specs.Vocabulary.{Vocabulary}
 
 -- ---- each element where it first stands
 
+-- the elements made, with one more behind them unless the same is there
 abbrev pub with_new : {A : Type 0} → (A → A → Bool) → List A → A → List A
 with_new same made x = if list_any (same x) made then made else made ++ x ∷ []
 
+-- the elements without those that have the same before them, in order
 abbrev pub distinct : {A : Type 0} → (A → A → Bool) → List A → List A
 distinct same xs = fold (with_new same) [] xs
 
 -- ---- directions
 
+-- an expression, and then its negative
 abbrev pub both_signs : Made → List Made
 both_signs a = a ∷ negative_of a ∷ []
 

@@ -16,12 +16,15 @@ told_count n = if nat_le n 4294967295 then n else 4294967295
 abbrev pub cut_notes : ℕ → List Note
 cut_notes rows = if nat_le rows 64 then [] else Cut (told_count (rows - 64)) ∷ []
 
+-- the case with the first 64 of its rows
 abbrev pub cut_case : Case → Case
 cut_case case = record { aux = case.aux; rows = take 64 case.rows; post = case.post }
 
+-- the case cut to 64 rows, with a note of how many more there were
 unfoldable pub cut : Case → Posing Case
 cut case = Noted (cut_notes (length case.rows)) (Done (cut_case case))
 
+-- a case that is left, thinned and then cut; None where none is
 abbrev pub finished_left : Option Case → Posing (Option Case)
 finished_left None = Done None
 finished_left (Some case) = thinned_case case >>= λ left. cut left >>= λ kept. Done (Some kept)

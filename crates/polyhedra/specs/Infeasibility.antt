@@ -19,6 +19,7 @@ limits_of (answer.Unbounded case point ray) = []
 limits_of (answer.Basis relations spots free) = []
 limits_of (answer.Limit limit) = note.Limit limit ∷ []
 
+-- the answer is yes
 abbrev pub is_yes : Answer → Bool
 is_yes (answer.Yes by) = true
 is_yes (answer.No point) = false

@@ -13,9 +13,11 @@ use Rattle.transition_formula.specs.Loss.{answer_of}
 use Rattle.transition_formula.specs.Places.{term_cmp}
 use Rattle.polyhedra.specs.Directions.{with_new}
 
+-- the terms of a direction, and its constant
 abbrev pub Key : Type 0
 Key = Terms × ℤ
 
+-- the key of a direction
 abbrev pub key_of : Polynomial → Key
 key_of p = (p.terms, p.rest)
 

@@ -50,6 +50,8 @@ pub record IsSmall (f g : Transition) : Type 0 where
   pub fits : IsTransition f.from f.to g.cases
   pub fitted : IsFitted g.cases
 
+-- what comes of fitting a formula goes between the formula's columns, and is small enough to go on
+-- with, whatever the answers are, as long as they are true
 abbrev pub FittingFits : Type 0
 FittingFits = (f : Transition) (from to : Vocabulary) → IsBetween f from to
     → Always (IsSmall f) (fitted_formula f from to)

@@ -8,6 +8,7 @@ use Rattle.posing.specs.Logs.{loss_notes}
 use Rattle.posing.specs.Posing.{Posing, Done, Noted, ◌>>=◌, each}
 use Rattle.polyhedra.specs.Infeasibility.{infeasible}
 
+-- the case; None where it is dropped
 abbrev pub unless : Bool → Case → Option Case
 unless drops case = if drops then None else Some case
 
@@ -16,9 +17,11 @@ abbrev pub feasible_by : Case → List Row → Posing (Option Case)
 feasible_by case [] = Done (Some case)
 feasible_by case (row ∷ rows) = infeasible case.rows >>= λ drops. Done (unless drops case)
 
+-- the case; None where an answer calls its rows infeasible
 unfoldable pub feasible : Case → Posing (Option Case)
 feasible case = feasible_by case case.rows
 
+-- a case that is left, unless an answer calls its rows infeasible; None where none is left
 abbrev pub feasible_left : Option Case → Posing (Option Case)
 feasible_left None = Done None
 feasible_left (Some case) = feasible case
@@ -28,6 +31,7 @@ feasible_left (Some case) = feasible case
 unfoldable pub settled_case : Case → Posing (Option Case)
 settled_case case = Noted (loss_notes (in_order case).losses) (feasible_left (in_order case).left)
 
+-- the cases made, and behind them what is left of one more
 unfoldable pub with_settled : List Case → Case → Posing (List Case)
 with_settled made case = settled_case case >>= λ left. Done (made ++ option_to_list left)
 
@@ -35,6 +39,7 @@ with_settled made case = settled_case case >>= λ left. Done (made ++ option_to_
 abbrev pub settled_cases : List Case → Posing (List Case)
 settled_cases cases = each with_settled [] cases
 
+-- the formula of what is left of each case, between the same columns
 unfoldable pub settled_formula : Transition → Posing Transition
 settled_formula f = settled_cases f.cases >>= λ cases. Done record {
   from = f.from;

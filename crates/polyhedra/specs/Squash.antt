@@ -41,14 +41,17 @@ abbrev pub change_after : Bool → List ℕ → ℕ → Polynomial
 change_after true us v = or_zero (Ok (after_from true 0 us v) ⊟ column (At v))
 change_after false us v = after_from false 0 us v
 
+-- what stands for each variable afterwards, by number
 abbrev pub posts_after : Bool → Transition → List Polynomial
 posts_after one f = map (after_from one 0 (modified_variables one f)) (range_with_len 0 f.to)
 
+-- what stands for the change of each variable, by number
 abbrev pub changes_after : Bool → Transition → List Polynomial
 changes_after one f = map (change_after one (modified_variables one f)) (range_with_len 0 f.to)
 
 -- ---- relations
 
+-- the entry columns of variables, in their order
 abbrev pub entries_of : List ℕ → List Polynomial
 entries_of variables = map (λ v. column_of (At v)) variables
 
@@ -56,20 +59,23 @@ entries_of variables = map (λ v. column_of (At v)) variables
 abbrev pub relation_row : List Polynomial → List Polynomial → Relation → Result Row TermError
 relation_row terms lower r = equation (weighted_sum r.a terms ⊟ weighted_sum r.b lower ⊟ whole r.c)
 
+-- the rows, with that of a relation behind them where it can be made
 abbrev pub with_relation : List Polynomial → List Polynomial → List Row → Relation
     → Posing (List Row)
 with_relation terms lower rows r = with_row rows (relation_row terms lower r)
 
+-- the rows of relations that can be made, in order; none where the relations are not known
 abbrev pub with_relations : List Polynomial → List Polynomial → Option (List Relation)
     → Posing (List Row)
 with_relations terms lower None = Done []
 with_relations terms lower (Some relations) = each (with_relation terms lower) [] relations
 
--- the rows of relations that can be made, and what is lost of the others
+-- the rows of relations that can be made, in order
 abbrev pub relation_rows : List Polynomial → List Polynomial → List Relation → List Row
 relation_rows terms lower relations = filter_map (λ r. answer_of (relation_row terms lower r))
     relations
 
+-- what is lost of the relations whose rows cannot be made, in order
 abbrev pub relation_losses : List Polynomial → List Polynomial → List Relation → List Loss
 relation_losses terms lower relations = flat_map (λ r. losses_of (relation_row terms lower r))
     relations
@@ -124,6 +130,7 @@ are_same v w =
     && (pointwise (λ m n. m == n) v.named w.named
     && (pointwise poly_eq v.harvested w.harvested && pointwise poly_eq v.extra w.extra)))
 
+-- the formula of one case for all, in order, thinned and cut; of no case where nothing is left
 unfoldable pub squashed_formula : Transition → Vocabulary → Vocabulary → Posing Transition
 squashed_formula f from to =
     squashed_case (are_same from to) f from to >>= λ case. finish_of_case case >>= λ left.

@@ -44,18 +44,23 @@ pub record AreTables (cases : List Case) (tables : List Moves) (d : Polynomial) 
 
 -- ---- the first fault in print order
 
+-- why what stands for a column cannot be made; None where it can, past the last, and for an
+-- auxiliary
 abbrev pub fault_at : List (Option TermError) → Col → Option TermError
 fault_at faults (At v) = unwrap_or (slice_get faults v) None
 fault_at faults (Aux n) = None
 
+-- a fault; the rest where there is none
 abbrev pub or_else : Option TermError → Option TermError → Option TermError
 or_else None rest = rest
 or_else (Some e) rest = Some e
 
+-- the first fault of the columns of a monomial, in order
 abbrev pub first_in : List (Option TermError) → List Col → Option TermError
 first_in faults [] = None
 first_in faults (c ∷ m) = or_else (fault_at faults c) (first_in faults m)
 
+-- the first fault of the columns of terms, in order
 abbrev pub first_fault : List (Option TermError) → Terms → Option TermError
 first_fault faults [] = None
 first_fault faults (t ∷ ts) = or_else (first_in faults t.0) (first_fault faults ts)
@@ -67,6 +72,7 @@ abbrev pub is_moved : ℕ → Moves → Bool
 is_moved v moves = is_some (fault_at moves.faults (At v))
     || not (poly_eq (poly_at moves.polys v) (constant_of (pos 0)))
 
+-- the change of a variable is not zero, or cannot be made, in some case
 abbrev pub is_moved_in : List Moves → ℕ → Bool
 is_moved_in tables v = list_any (is_moved v) tables
 
@@ -74,6 +80,7 @@ is_moved_in tables v = list_any (is_moved v) tables
 abbrev pub is_made : ℕ → Moves → Bool
 is_made v moves = is_none (fault_at moves.faults (At v))
 
+-- the change of a variable can be made in each case
 abbrev pub is_made_in : List Moves → ℕ → Bool
 is_made_in tables v = list_all (is_made v) tables
 
@@ -82,6 +89,7 @@ abbrev pub first_of : List Moves → ℕ → Option TermError
 first_of [] v = None
 first_of (moves ∷ tables) v = or_else (fault_at moves.faults (At v)) (first_of tables v)
 
+-- the losses of a fault; [] where there is none
 abbrev pub losses_at : Option TermError → List Loss
 losses_at None = []
 losses_at (Some e) = error_losses e

@@ -13,6 +13,7 @@ use Rattle.posing.specs.Logs.{loss_notes}
 use Rattle.posing.specs.Posing.{Posing, Done, Noted, ◌>>=◌, down}
 use Rattle.polyhedra.specs.Infeasibility.{infeasible}
 
+-- the rows, without that at a place where it is dropped
 abbrev pub without_if : Bool → ℕ → List Row → List Row
 without_if drops place rows = if drops then remove rows place else rows
 
@@ -31,16 +32,20 @@ abbrev pub thinning_of : Kind → Polynomial → ℕ → List Row → Posing (Li
 thinning_of AtMost poly place rows = thinning_by (negation poly) place rows
 thinning_of Equal poly place rows = Done rows
 
+-- the rows thinned at a place by the row there; as they are where there is none
 abbrev pub thinned_found : Option Row → ℕ → List Row → Posing (List Row)
 thinned_found None place rows = Done rows
 thinned_found (Some row) place rows = thinning_of row.kind row.poly place rows
 
+-- the rows, without that at a place where it is an inequality that the others entail
 unfoldable pub thinning_at : List Row → ℕ → Posing (List Row)
 thinning_at rows place = thinned_found (slice_get rows place) place rows
 
+-- the rows thinned at each place, from the last to the first
 abbrev pub thinned_rows : List Row → Posing (List Row)
 thinned_rows rows = down thinning_at rows (length rows)
 
+-- the case with its rows thinned
 unfoldable pub thinned_case : Case → Posing Case
 thinned_case case = thinned_rows case.rows >>= λ rows. Done record {
   aux = case.aux;

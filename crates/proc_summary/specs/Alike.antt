@@ -11,9 +11,9 @@ use Rattle.transition_formula.specs.Transition.{Transition}
 use Rattle.proc_summary.specs.Subject.{subject_of}
 use Rattle.proc_summary.specs.Summary.{ends_of}
 
--- Statements that are the same but for the numbers of assertions, and for the procedures that are
--- called, which are alike; and lists of such statements.
 mutual
+  -- Statements that are the same but for the numbers of assertions, and for the procedures that are
+  -- called, which are alike.
   pub data AreAlikeStatements (same : ℕ → ℕ → Type 0) : Statement → Statement → Type 0 where
     alike_sets : (col : ℕ) (value : Term) → AreAlikeStatements same (Set col value) (Set col value)
     alike_anys : (col : ℕ) → AreAlikeStatements same (Any col) (Any col)
@@ -36,6 +36,7 @@ mutual
     alike_continues : AreAlikeStatements same Continue Continue
     alike_returns : AreAlikeStatements same Return Return
 
+  -- lists of statements that are alike, one by one
   pub data AreAlike (same : ℕ → ℕ → Type 0) : Code → Code → Type 0 where
     alike_ends : AreAlike same End End
     alike_more : (statement other : Statement) (rest others : Code)

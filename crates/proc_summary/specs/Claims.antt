@@ -33,13 +33,16 @@ pub record IsBetweenStates (columns : ℕ) (f : Transition) : Type 0 where
   pub fits : IsTransition f.from f.to f.cases
   pub fitted : IsFitted f.cases
 
+-- a formula that may be missing is between states of so many columns
 abbrev pub FitsIf : ℕ → Option Transition → Type 0
 FitsIf columns None = Unit {0}
 FitsIf columns (Some f) = IsBetweenStates columns f
 
+-- the formula of a node, which may be missing, is between states of so many columns
 abbrev pub FitsStop : ℕ → NodeFormula → Type 0
 FitsStop columns stop = FitsIf columns stop.formula
 
+-- the nodes of formulas, in their order
 abbrev pub nodes_of : List NodeFormula → List ℕ
 nodes_of stops = map (λ stop. stop.node) stops
 
@@ -66,6 +69,7 @@ StopHolds program proc stop =
     (globals args final : State) → (walk : WalksTo program proc globals args stop.node final) →
     HoldsIf stop.formula (globals ++ (args ++ walk.others)) final
 
+-- each formula of a flow holds of the activations that come to its node
 pub record FlowHolds (program : Program) (proc : ℕ) (flow : Flow) : Type 0 where
   pub exit : StopHolds program proc flow.exit
   pub checks : All (StopHolds program proc) flow.checks

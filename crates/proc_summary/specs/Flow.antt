@@ -30,9 +30,11 @@ formula_of columns known.Zero = None
 formula_of columns known.One = Some (identity_of columns)
 formula_of columns (known.Item f) = Some f
 
+-- the formula at a node, over so many columns; None where no way leads, and past the end
 abbrev pub formula_at : ℕ → List (Cell Transition) → ℕ → Option Transition
 formula_at columns cells node = formula_of columns (unwrap_or (slice_get cells node) known.Zero)
 
+-- a node with the formula at it
 abbrev pub stop_at : ℕ → List (Cell Transition) → ℕ → NodeFormula
 stop_at columns cells node = record { node = node; formula = formula_at columns cells node }
 
@@ -40,6 +42,8 @@ stop_at columns cells node = record { node = node; formula = formula_at columns 
 abbrev pub columns_of : Subject → ℕ
 columns_of s = (vocabulary_at (graph_by s) 0).columns
 
+-- the formulas at the exit, at the assertions and at the calls, in order, by what stands at each
+-- node
 abbrev pub flow_in : Subject → List (Cell Transition) → Flow
 flow_in s cells =
     record {
@@ -48,5 +52,6 @@ flow_in s cells =
       calls = map (stop_at (columns_of s) cells) s.calls;
     }
 
+-- the flow of a procedure from its entry, node 0, behind the questions that it poses
 unfoldable pub flow_from : Subject → Posing Flow
 flow_from s = cells_from s 0 >>= λ cells. Done (flow_in s cells)

@@ -30,14 +30,16 @@ pub record IsGraphOf (program : Program) (proc : ℕ) (g : Graph) : Type 0 where
   pub edges : All (λ edge. (edge.from < g.nodes) × (edge.to < g.nodes)) g.edges
   pub checks : All (λ check. check.node < g.nodes) g.checks
 
+-- the two nodes of an edge of the made graph, without what it does
 abbrev pub edge_link : Edge → Link
 edge_link edge = record { from = edge.from; to = edge.to }
 
--- the formula of an edge, and what was lost in making it
+-- the formula of an edge of the made graph by the known formulas of procedures
 abbrev pub edge_leaf : Program → ℕ → List (Option Transition) → Edge → Transition
 edge_leaf program proc known edge = leaf_of (columns_at program proc) (length program.globals) known
     (statement_of_act edge.act)
 
+-- what was lost where the formula of an edge was made, in order
 abbrev pub losses_in_edge : Program → ℕ → List (Option Transition) → Edge → List Loss
 losses_in_edge program proc known edge =
     losses_in_leaf (columns_at program proc) (length program.globals) known
@@ -58,22 +60,26 @@ pub record ArePartsOf (s : Subject) (parts : Parts) : Type 0 where
   pub lost : parts.lost ≡ s.lost
   pub nodes : parts.nodes ≡ s.nodes
 
+-- the parts of a subject as a graph that can be evaluated
 abbrev pub graph_of_parts : Parts → graphs.Graph
 graph_of_parts parts = graphs.graph_of parts.links parts.leaves parts.nodes
 
 -- ---- the nodes that count, by the graph that was made
 
--- the stop of an edge that is a call
+-- the stop of a node from which a call leads; other acts have none
 abbrev pub act_stop : ℕ → List (Cell Transition) → ℕ → Act → List NodeFormula
 act_stop columns cells from (act.Call proc args into) = stop_at columns cells from ∷ []
 act_stop columns cells from _ = []
 
+-- the node from which an edge leads, with its formula, where the edge is a call: one or none
 abbrev pub call_stop : ℕ → List (Cell Transition) → Edge → List NodeFormula
 call_stop columns cells edge = act_stop columns cells edge.from edge.act
 
+-- the node of an assertion with the formula at it
 abbrev pub check_stop : ℕ → List (Cell Transition) → CheckNode → NodeFormula
 check_stop columns cells check = stop_at columns cells check.node
 
+-- the flow by the graph that was made, whose last node is the exit
 abbrev pub graph_flow : ℕ → List (Cell Transition) → Graph → Flow
 graph_flow columns cells g =
     record {

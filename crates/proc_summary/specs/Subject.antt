@@ -27,6 +27,7 @@ pub record Subject : Type 0 where
   pub checks : List ℕ
   pub calls : List ℕ
 
+-- the two nodes of an edge, without what it does
 abbrev pub link_of : Arc → Link
 link_of way = record { from = way.from; to = way.to }
 
@@ -35,9 +36,11 @@ abbrev pub call_node : ℕ → Statement → List ℕ
 call_node from (Call proc args into) = from ∷ []
 call_node from _ = []
 
+-- the nodes from which calls lead, in the order of the edges
 abbrev pub call_nodes : List Arc → List ℕ
 call_nodes ways = flat_map (λ way. call_node way.from way.act) ways
 
+-- the nodes of assertions, in the order of the graph
 abbrev pub check_nodes : List CheckPlace → List ℕ
 check_nodes checks = map (λ check. check.node) checks
 
@@ -45,10 +48,11 @@ check_nodes checks = map (λ check. check.node) checks
 abbrev pub own_graph : Proc → FlowGraph
 own_graph p = flow_of (code_of p.body)
 
--- the formula of an edge by the known formulas of procedures, and what was lost in making it
+-- the formula of an edge by the known formulas of procedures
 abbrev pub arc_leaf : Program → Proc → List (Option Transition) → Arc → Transition
 arc_leaf program p known way = leaf_of (width_of program p) (length program.globals) known way.act
 
+-- what was lost where the formula of an edge was made, in order
 abbrev pub losses_in_arc : Program → Proc → List (Option Transition) → Arc → List Loss
 losses_in_arc program p known way = losses_in_leaf (width_of program p) (length program.globals) known
     way.act

@@ -22,6 +22,7 @@ pub record Ends : Type 0 where
   pub entry : Vocabulary
   pub exit : Vocabulary
 
+-- the ends of a procedure of a program
 abbrev pub ends_of : Program → Proc → Ends
 ends_of program p =
     record {

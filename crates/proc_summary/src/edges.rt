@@ -22,10 +22,7 @@ pub(crate) fn graph_of(alloc: Global, program: &Program, proc: u32) -> Result<Gr
     requires procedure { proc < length program.now.procs }
     ensures { IfOk result (IsGraphOf program.now proc) }
 {
-    match graph(alloc, program, proc) {
-        Ok(made) => Ok(made),
-        Err(_) => Err(FormulaError::Memory),
-    }
+    Ok(graph(alloc, program, proc)?)
 }
 
 /// The edges of a procedure's graph as links, with the formula of each, what was lost in making

@@ -6,11 +6,11 @@ ghost use Rattle.syntax_tree.specs.WellFormed.{IsWellFormed};
 
 use flow_graph::{Graph, GraphError, Group};
 use items::Items;
-use std::alloc::Global;
+use std::alloc::{AllocError, Global};
 use syntax_tree::Program;
 
 /// The flow graph of the procedure at this place of a program.
-pub fn graph(alloc: Global, program: &Program, proc: u32) -> Result<Graph, GraphError>
+pub fn graph(alloc: Global, program: &Program, proc: u32) -> Result<Graph, AllocError>
     requires fit { IsWellFormed program.now }
     requires there { proc < length program.now.procs }
     ensures exact { IfOk result (λ g. plain g ≡ graph_of program.now proc) }

@@ -9,7 +9,8 @@ use Rattle.std.specs.Result.{is_ok}
 use Rattle.std.proofs.lemmas.Int.{ints}
 use Rattle.linear_terms.specs.declared.col.Col.TheVariants.{At}
 use Rattle.linear_terms.specs.declared.row.Case.{Case}
-use Rattle.linear_terms.specs.Value.{Valuation, value_of, dot}
+use Rattle.linear_terms.specs.Value.{Valuation, value_of}
+use Rattle.whole_numbers.specs.Dot.{dot}
 use Rattle.transition_formula.specs.Meaning.{numbers, HoldsAt}
 use Rattle.transition_formula.specs.Transition.{Transition}
 use Rattle.linear_terms.specs.Expressions.{or_zero}

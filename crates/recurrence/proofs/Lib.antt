@@ -1,5 +1,8 @@
 -- ---- the laws of star
 pub mod Whole
+-- ---- rows stay canonical, whatever the answers: in order and settled, and of a star
+pub mod CanonicalOrder
+pub mod CanonicalStars
 -- ---- it holds of every run
 pub mod Starred
 -- terms and progressions along a run

@@ -6,7 +6,8 @@ use Rattle.std.specs.List.{AllByRecursion, filter}
 use Rattle.linear_terms.specs.declared.error.TermError.{TermError}
 use Rattle.linear_terms.specs.declared.row.Row.{Row}
 use Rattle.linear_terms.specs.Polynomial.{Polynomial}
-use Rattle.linear_terms.specs.Value.{Valuation, dot}
+use Rattle.linear_terms.specs.Value.{Valuation}
+use Rattle.whole_numbers.specs.Dot.{dot}
 use Rattle.transition_formula.specs.Transition.{Transition}
 use Rattle.items.specs.Gives as gives
 use Rattle.items.proofs.Gives.{on_ok}

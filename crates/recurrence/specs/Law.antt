@@ -30,6 +30,8 @@ pub record IsStar (columns : ℕ) (g : Transition) : Type 0 where
   pub rows : AllByRecursion (λ (case : Case). length case.rows ≤ 64) g.cases
   pub auxiliaries : AllByRecursion (λ (case : Case). case.aux ≤ columns + 1) g.cases
 
+-- star is a formula of at most two small cases over the body's columns, whatever the answers are,
+-- as long as they are true
 abbrev pub StarFits : Type 0
 StarFits = (body : Transition) (voc : Vocabulary) → IsStarred body voc
     → Always (IsStar body.to) (star_of body voc)

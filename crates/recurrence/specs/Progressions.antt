@@ -27,6 +27,7 @@ pub record Progression : Type 0 where
   pub term : Term
   pub by : ℤ
 
+-- the numbers 1 and -1, in this order
 abbrev pub signs : List ℤ
 signs = pos 1 ∷ negsuc 0 ∷ []
 
@@ -74,6 +75,7 @@ progression_row moved count p most =
     times p.by p.term.relation.c >>= λ growth.
     (whole p.by ⊠ Ok p.term.recurrence.start) >>= λ s. sum_row change s growth most count
 
+-- the rows, with that of a progression behind them where its excess has a bound that is known
 abbrev pub bounded_progression : List Case → (ℕ → Made) → Col → List Row → Progression
     → Posing (List Row)
 bounded_progression cases moved count rows p =

@@ -34,6 +34,7 @@ abbrev pub after_from : ℕ → List ℕ → ℕ → Col
 after_from n [] v = At v
 after_from n (u ∷ us) v = if u == v then Aux n else after_from (n + 1) us v
 
+-- the column that has a variable's number after the turns of a body
 abbrev pub after : Transition → ℕ → Col
 after body v = after_from 0 (modified_variables true body) v
 
@@ -45,9 +46,11 @@ count body = Aux (length (modified_variables true body))
 abbrev pub change_over_turns : Transition → ℕ → Made
 change_over_turns body v = column (after body v) ⊟ column (At v)
 
+-- the posts of the second case, for each variable its column after the turns, by number
 abbrev pub posts : Transition → List Polynomial
 posts body = map (λ v. column_of (after body v)) (range_with_len 0 body.to)
 
+-- the change of each variable over the turns, by number; 0 where it cannot be made
 abbrev pub moves : Transition → List Polynomial
 moves body = map (λ v. or_zero (change_over_turns body v)) (range_with_len 0 body.to)
 
@@ -97,6 +100,7 @@ turns body voc =
 
 -- ---- star
 
+-- star by the cases of the body, the identity alone where there are none
 abbrev pub star_by : Transition → Vocabulary → List Case → Posing Transition
 star_by body voc [] = Done (identity_of body.from)
 star_by body voc (case ∷ cases) =

@@ -47,6 +47,7 @@ recurrence_of variables lower r = record {
   third = combination r.b (map (λ l. l.second) lower);
 }
 
+-- the term of a relation, with its difference equation over the variables and the lower terms
 abbrev pub term_of : List ℕ → List Recurrence → Relation → Term
 term_of variables lower r = record { relation = r; recurrence = recurrence_of variables lower r }
 
@@ -95,5 +96,6 @@ strata body =
     >>= λ v3.
     Done record { first = unwrap_or v1 []; second = unwrap_or v2 []; third = unwrap_or v3 [] }
 
+-- the terms of the three strata, from the first on
 abbrev pub all_terms : Strata → List Term
 all_terms s = s.first ++ s.second ++ s.third

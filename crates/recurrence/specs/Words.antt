@@ -35,6 +35,7 @@ abbrev pub Ascend : List Col → Type 0
 Ascend [] = Unit {0}
 Ascend (c ∷ cs) = AllByRecursion (λ d. mono_cmp (d ∷ []) (c ∷ []) ≡ Greater) cs × Ascend cs
 
+-- the number is one of the listed ones
 abbrev pub is_among : List ℕ → ℕ → Bool
 is_among numbers v = list_any (λ u. u == v) numbers
 
@@ -56,6 +57,8 @@ pub record AreModified (body : Transition) (variables : List ℕ) : Type 0 where
 abbrev pub change_over_turns_by : List ℕ → ℕ → Made
 change_over_turns_by modified_variables v = column (after_from 0 modified_variables v) ⊟ column (At v)
 
+-- the rows, with that of a progression behind them where its bound is known, by the modified
+-- variables
 abbrev pub rows_with_progression_bound : List Case → List ℕ → List Row → Progression → Posing (List Row)
 rows_with_progression_bound cases modified_variables = bounded_progression cases (change_over_turns_by modified_variables) (Aux (length modified_variables))
 

@@ -21,14 +21,17 @@ pub record Reached : Type 0 where
   pub taken : ℕ
   pub events : List Event
 
+-- how many values are taken behind a step that shows this: one more behind a choice
 abbrev pub count_after : Option Event → ℕ → ℕ
 count_after (Some (event.Any v)) taken = taken + 1
 count_after _ taken = taken
 
+-- what the steps have shown in order, this one last; a step may show nothing
 abbrev pub events_after : Option Event → List Event → List Event
 events_after None events = events
 events_after (Some shown) events = events ++ shown ∷ []
 
+-- what is reached behind a step
 abbrev pub further : Reached → Stepped → Reached
 further here stepped = record {
   config = stepped.next;

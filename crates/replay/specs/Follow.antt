@@ -8,6 +8,7 @@ use Rattle.replay.specs.declared.trace.TraceStop.{Stop as TraceStop}
 use Rattle.replay.specs.declared.trace.TraceStop.TheVariants as stop
 use Rattle.replay.specs.Chosen.{Reached}
 
+-- what a run in memory has reached: its configuration, the values taken and the events
 abbrev pub reached_state : Run → Reached
 reached_state run = record {
   config = machine_config run.machine;

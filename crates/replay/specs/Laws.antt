@@ -18,6 +18,8 @@ pub record IsExecution (program : Program) (steps : ℕ) (last : Config) : Type 
   pub as_many : length over ≡ steps
   pub runs : Runs program first over last
 
+-- what the chosen execution of a well-formed program comes to is the end of an execution of as many
+-- steps
 abbrev pub ChosenIsExecution : Type 0
 ChosenIsExecution = (program : Program) (values : List ℤ) (steps : ℕ) (here : Reached)
     → IsWellFormed program

@@ -16,6 +16,7 @@ use Rattle.replay.specs.declared.trace.Trace.{Trace}
 
 -- ---- procedures, by their places in the program
 
+-- the name of a procedure; [] where there is none
 abbrev pub name_of : Option Proc → List ℕ
 name_of None = []
 name_of (Some proc) = proc.name
@@ -27,6 +28,7 @@ returned_text (Some proc) value = if proc.returns then codes " " ++ signed_decim
 
 -- ---- what an execution shows
 
+-- what an execution shows, as a text without its line end
 abbrev pub event_text : Program → Event → List ℕ
 event_text program (event.Call proc args) =
     codes "call " ++ name_of (slice_get program.procs proc) ++ codes "(" ++ join_by signed_decimal
@@ -36,6 +38,7 @@ event_text program (event.Holds number) = codes "check " ++ decimal number ++ co
 event_text program (event.Return proc value) =
     codes "return" ++ returned_text (slice_get program.procs proc) value
 
+-- what an execution shows, as a line with its end
 abbrev pub event_line : Program → Event → List ℕ
 event_line program shown = event_text program shown ++ codes "\n"
 
@@ -71,11 +74,13 @@ cause_text program place (stop.Wide left right op) = codes "wide " ++ signed_dec
     ++ codes " " ++ op_text op ++ codes " " ++ signed_decimal right
 cause_text program place stop.Spent = codes "turns spent"
 
+-- the last line: why the execution stopped, and after how many steps
 abbrev pub last_line : Program → LineColumn → Trace → List ℕ
 last_line program place trace =
     codes "stopped: " ++ cause_text program place trace.stop ++ codes " after "
     ++ decimal trace.steps ++ codes " steps\n"
 
+-- the text of a trace: a line for each event in order, and the last one
 abbrev pub trace_text : Program → LineColumn → Trace → List ℕ
 trace_text program place trace = flat_map (event_line program) trace.events ++ last_line program
     place trace
@@ -86,6 +91,7 @@ abbrev pub failure_place : Program → TraceStop → ℕ
 failure_place program (stop.Failed number) = slice_index_or program.checks (number - 1) 0
 failure_place program _ = 0
 
+-- the trace stops at a failed assertion
 abbrev pub is_failed : TraceStop → Bool
 is_failed (stop.Failed number) = true
 is_failed _ = false

@@ -49,6 +49,7 @@ costs_from names number [] = []
 costs_from names number (made ∷ costs) = cost_text names number made
     ++ costs_from names (number + 1) costs
 
+-- all cases, numbered from 1; `none` where there is no case
 abbrev pub costs_text : Names → List Cost → List ℕ
 costs_text names [] = codes "none\n"
 costs_text names (made ∷ costs) = costs_from names 1 (made ∷ costs)

@@ -48,6 +48,7 @@ abbrev pub ratio_text : Fraction → List ℕ
 ratio_text z =
     signed_decimal z.num ++ (if int_eq z.den (pos 1) then [] else codes "/" ++ signed_decimal z.den)
 
+-- a monomial and its number
 abbrev pub value_text : Names → List Col → Fraction → List ℕ
 value_text names m z = mono_text (column_text names) m ++ codes " = " ++ ratio_text z
 
@@ -70,6 +71,7 @@ wide_text left right times =
     codes "wide " ++ signed_decimal left ++ (if times then codes " * " else codes " + ")
     ++ signed_decimal right
 
+-- a limit by its kind; of one that is too wide the two numbers are told
 abbrev pub limit_text : Limit → List ℕ
 limit_text (limit.Wide left right times) = codes "limit " ++ wide_text left right times
 limit_text limit.Pivots = codes "limit pivots"
@@ -94,6 +96,7 @@ exit_name after i = if nat_lt i (length after) then name_at after i ++ codes "'"
 abbrev pub entry_names : Names → Names
 entry_names before = map (λ i. shown_name before i i) (range_with_len 0 (length before))
 
+-- the names of the columns at the exit: the globals, each with a prime, and `$ret` last
 abbrev pub exit_names : Names → Names
 exit_names after = map (λ name. name ++ codes "'") after ++ codes "$ret" ∷ []
 
@@ -102,6 +105,7 @@ exit_names after = map (λ name. name ++ codes "'") after ++ codes "$ret" ∷ []
 abbrev pub column_names : ProcBlock → Names
 column_names block = entry_names block.before ++ exit_names block.after
 
+-- the names that a procedure's rows have; [] where there is no procedure
 abbrev pub names_if : Option ProcBlock → Names
 names_if None = []
 names_if (Some block) = column_names block
@@ -112,10 +116,12 @@ names_of blocks proc = names_if (slice_get blocks proc)
 
 -- ---- notes
 
+-- what was lost: two numbers whose product or sum is too wide, or a monomial of too many columns
 abbrev pub loss_text : Loss → List ℕ
 loss_text (loss.Wide left right times) = wide_text left right times
 loss_text loss.Degree = codes "degree"
 
+-- what speaks against a row: a point or a limit
 abbrev pub witness_text : Names → Witness → List ℕ
 witness_text names (witness.Point of at) = point_text names of at
 witness_text names (witness.Limit l) = limit_text l
@@ -125,6 +131,7 @@ unfoldable pub dropped_text : Names → Row → Witness → List ℕ
 dropped_text names row by = codes "dropped " ++ row_text (column_text names) row ++ codes " "
     ++ witness_text names by
 
+-- a note without its line; a dropped row has the names of its own procedure
 abbrev pub note_text : List ProcBlock → Note → List ℕ
 note_text blocks (note.Loss l) = loss_text l
 note_text blocks (note.Squash n) = codes "squash " ++ decimal n ++ codes " cases"
@@ -133,14 +140,17 @@ note_text blocks (note.Limit l) = limit_text l
 note_text blocks (note.Dropped proc row by) = dropped_text (names_of blocks proc) row by
 note_text blocks note.Facets = codes "facets beyond"
 
+-- the line of a note
 abbrev pub note_line : List ProcBlock → Note → List ℕ
 note_line blocks n = codes "note " ++ note_text blocks n ++ codes "\n"
 
 -- ---- procedures
 
+-- the line of a row, indented by two spaces
 abbrev pub row_line : Names → Row → List ℕ
 row_line names row = codes "  " ++ row_text (column_text names) row ++ codes "\n"
 
+-- the line of a post behind its name, indented by two spaces
 abbrev pub post_line : Names → List ℕ → Polynomial → List ℕ
 post_line names name p = codes "  " ++ name ++ codes " = " ++ poly_text (column_text names) p
     ++ codes "\n"
@@ -151,6 +161,7 @@ post_lines names name i [] = []
 post_lines names name i (p ∷ posts) = post_line names (name i) p ++ post_lines names name (i + 1)
     posts
 
+-- a case with its number: its rows, and then its posts by the names at the exit
 abbrev pub case_text : Names → Names → ℕ → Case → List ℕ
 case_text names after number case =
     codes "case " ++ decimal number ++ codes "\n" ++ flat_map (row_line names) case.rows
@@ -162,6 +173,7 @@ cases_from names after number [] = []
 cases_from names after number (case ∷ cases) = case_text names after number case ++ cases_from names
     after (number + 1) cases
 
+-- all cases, numbered from 1; `none` where there is no case
 abbrev pub cases_text : Names → Names → List Case → List ℕ
 cases_text names after [] = codes "none\n"
 cases_text names after (case ∷ cases) = cases_from names after 1 (case ∷ cases)
@@ -184,6 +196,7 @@ abbrev pub refuting_text : Names → List ℕ → Case → List ℕ
 refuting_text named shown case = flat_map (row_line []) case.rows ++ post_lines []
     (shown_name_at named shown) 0 case.post
 
+-- the rest of an assertion's line, and below it the case and the point or limit of an unproved one
 abbrev pub verdict_text : Names → List ℕ → Verdict → List ℕ
 verdict_text named shown Proved = codes " proved\n"
 verdict_text named shown (Unproved case point) =
@@ -193,6 +206,7 @@ verdict_text named shown (UnprovedLimit case l) =
     codes " unproved\n" ++ refuting_text named shown case ++ codes "  " ++ limit_text l
     ++ codes "\n"
 
+-- an assertion with its number, its line and column, its verdict and its notes
 abbrev pub judged_text : List ProcBlock → ℕ → Judged → List ℕ
 judged_text blocks number j =
     codes "assertion " ++ decimal number ++ codes " at " ++ decimal j.line ++ codes ":"
@@ -207,22 +221,28 @@ assertions_text_from blocks number (j ∷ js) = judged_text blocks number j ++ a
 
 -- ---- the whole
 
+-- whether a verdict is that it is proved
 abbrev pub is_proof : Verdict → Bool
 is_proof Proved = true
 is_proof (Unproved case point) = false
 is_proof (UnprovedLimit case l) = false
 
+-- whether an assertion is proved
 abbrev pub is_proved : Judged → Bool
 is_proved j = is_proof j.verdict
 
+-- how many of the assertions are proved
 abbrev pub proved_count : List Judged → ℕ
 proved_count js = count_by is_proved js
 
+-- the last line: how many assertions are proved, and how many are not
 abbrev pub total_text : List Judged → List ℕ
 total_text js =
     codes "total " ++ decimal (proved_count js) ++ codes " proved, "
     ++ decimal (length js - proved_count js) ++ codes " unproved\n"
 
+-- the whole report: the procedures, the notes on their entries, the assertions numbered from 1, and
+-- the total
 abbrev pub text_of : Report → List ℕ
 text_of report =
     flat_map (proc_text report.procs) report.procs ++ flat_map (note_line report.procs) report.notes

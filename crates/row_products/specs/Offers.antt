@@ -15,5 +15,6 @@ with_offer most rows made None = made
 with_offer most rows made (Some row) =
     if is_left_out most rows made row then made else made ++ row ∷ []
 
+-- the rows made, with each in turn that is offered, is not there yet and has room
 abbrev pub with_offers : (most : ℕ) (rows : List Row) → List Row → List (Option Row) → List Row
 with_offers most rows made offers = fold (with_offer most rows) made offers

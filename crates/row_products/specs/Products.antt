@@ -22,6 +22,7 @@ use Rattle.row_products.specs.Limits.{most_products}
 
 -- ---- monomials of degree 2 and more
 
+-- the monomial has degree 2 or more
 abbrev pub is_high : List Col → Bool
 is_high m = nat_lt 1 (length m)
 
@@ -50,18 +51,22 @@ telling (Ok (Constant true)) = None
 telling (Ok (Constant false)) = Some never
 telling (Ok (Kept row)) = Some row
 
--- the row that says that an expression is not positive
+-- the normal form of the row that says that an expression is not positive
 abbrev pub form_of : Made → Result Normal TermError
 form_of made = at_most made >>= normal_form
 
+-- the row in normal form that says that an expression is not positive; None where a step was lost,
+-- or where it is always true
 abbrev pub row_of : Made → Option Row
 row_of made = telling (form_of made)
 
 -- ---- squares: a whole number and its opposite are at most its square
 
+-- a column less its square, which is never positive
 abbrev pub below_square : Col → Made
 below_square x = column x ⊟ column x ⊠ column x
 
+-- minus the sum of a column's square and the column, which is never positive
 abbrev pub above_square : Col → Made
 above_square x = negative_of (column x ⊠ column x ⊞ column x)
 
@@ -75,12 +80,13 @@ square_rows (x ∷ y ∷ z ∷ m) = []
 
 -- ---- products: of two numbers that are not positive the product is not negative
 
--- an inequality of degree 1 that has a column of the monomials
+-- a row of the kind with the terms is an inequality of degree 1 that has a column of the monomials
 abbrev pub is_factor_by : Kind → List (List Col) → Terms → Bool
 is_factor_by AtMost monos terms =
     list_all (λ t. length t.0 == 1) terms && list_any (λ t. list_any (occurs_in monos) t.0) terms
 is_factor_by Equal monos terms = false
 
+-- the row is an inequality of degree 1 that has a column of the monomials
 abbrev pub is_factor : List (List Col) → Row → Bool
 is_factor monos row = is_factor_by row.kind monos row.poly.terms
 
@@ -97,6 +103,8 @@ abbrev pub with_one_of : List (List Col) → Option Row → Option Row
 with_one_of monos None = None
 with_one_of monos (Some row) = if has_one_of monos row.poly then Some row else None
 
+-- the row that says that the product of two polynomials is not negative, if it has one of the
+-- monomials
 abbrev pub product_row : List (List Col) → Polynomial → Polynomial → Option Row
 product_row monos p q = with_one_of monos (row_of (minus_product p q))
 
@@ -107,13 +115,14 @@ product_rows monos (p ∷ ps) = map (product_row monos p) (p ∷ ps) ++ product_
 
 -- ---- together
 
--- the same polynomial, and both inequalities or both equations
+-- both are inequalities, or both are equations
 abbrev pub same_kind : Kind → Kind → Bool
 same_kind AtMost AtMost = true
 same_kind AtMost Equal = false
 same_kind Equal AtMost = false
 same_kind Equal Equal = true
 
+-- the same polynomial, and both inequalities or both equations
 abbrev pub same_row : Row → Row → Bool
 same_row r s = poly_eq r.poly s.poly && same_kind r.kind s.kind
 

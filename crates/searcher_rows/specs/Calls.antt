@@ -17,6 +17,7 @@ limits_of (answer.Unbounded case point ray) = []
 limits_of (answer.Basis relations spots free) = []
 limits_of (answer.Limit limit) = note.Limit limit ∷ []
 
+-- the answer is yes
 abbrev pub is_yes : Answer → Bool
 is_yes (answer.Yes by) = true
 is_yes (answer.No point) = false
@@ -34,6 +35,7 @@ exclusion rows = answer_to (Infeasible rows) >>= λ answer. Noted (limits_of ans
 unfoldable pub with_exclusion : List Bool → List Row → Posing (List Bool)
 with_exclusion made rows = exclusion rows >>= λ excluded. Done (made ++ excluded ∷ [])
 
+-- whether rows are infeasible, of each list in order
 abbrev pub exclusions : List (List Row) → Posing (List Bool)
 exclusions lists = each with_exclusion [] lists
 

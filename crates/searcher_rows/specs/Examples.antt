@@ -9,13 +9,15 @@ use Rattle.farkas_check.specs.declared.question.Question.{Question}
 use Rattle.farkas_check.specs.declared.question.Question.TheVariants.{Infeasible}
 use Rattle.farkas_check.specs.Frames.{Frame}
 
--- the monomials x0 and x1
+-- the monomial x0
 abbrev pub x0 : List Col
 x0 = At 0 ∷ []
 
+-- the monomial x1
 abbrev pub x1 : List Col
 x1 = At 1 ∷ []
 
+-- the row that says that a polynomial is not positive
 abbrev pub at_most : Polynomial → Row
 at_most p = record { poly = p; kind = AtMost }
 
@@ -26,6 +28,7 @@ exclusive_rows =
     ∷ at_most (record { terms = (x0, negsuc 0) ∷ []; rest = pos 1 })
     ∷ at_most (record { terms = (x1, negsuc 0) ∷ []; rest = pos 1 }) ∷ []
 
+-- the question whether the exclusive rows are infeasible
 abbrev pub exclusive : Question
 exclusive = Infeasible exclusive_rows
 

@@ -27,6 +27,7 @@ use Rattle.simplex.specs.declared.tableau.Tableau.{Tableau}
 abbrev pub IsHonest : Question → Answer → Type 0
 IsHonest question a = (b : Bool) → outcome question a ≡ Ok b → b ≡ true
 
+-- no part of the test of an answer to whether rows are infeasible is false
 abbrev pub IsHonestOf : List Row → Answer → Type 0
 IsHonestOf rows a = IsHonest (Infeasible rows) a
 

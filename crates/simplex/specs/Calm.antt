@@ -17,6 +17,7 @@ IsSmallLine n line = (j : ℕ) → unsigned_abs (entry line j) ≤ n
 abbrev pub HasSmallLines : ℕ → Tableau → Type 0
 HasSmallLines n t = (i j : ℕ) → unsigned_abs (entry (get_or t.lines i []) j) ≤ n
 
+-- the stop is want of memory
 abbrev pub IsMemory : SearchStop → Type 0
 IsMemory (Wide step) = ⊥
 IsMemory Memory = ⊤

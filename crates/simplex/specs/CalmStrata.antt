@@ -22,6 +22,8 @@ pub record IsStrayUnder (count : ℕ) (lines : List (List ℤ)) (step : Step.Wid
   pub leaves : LeavesBits step
   pub great : IsCalmUpTo 1048576 (frame_of_lines count lines) → ⊥
 
+-- the stop is a step that leaves 128 bits where the frame of the spots' lines is not calm, or want
+-- of memory
 abbrev pub IsRefusalUnder : ℕ → List (List ℤ) → SearchStop → Type 0
 IsRefusalUnder count lines (Wide step) = IsStrayUnder count lines step
 IsRefusalUnder count lines Memory = ⊤
@@ -44,6 +46,7 @@ pub record IsStray (s : StrataQuestion) (step : Step.Wide) : Type 0 where
   pub leaves : LeavesBits step
   pub great : IsCalmAsked s → ⊥
 
+-- the stop is a step that leaves 128 bits where the question is not calm, or want of memory
 abbrev pub IsRefusalOf : StrataQuestion → SearchStop → Type 0
 IsRefusalOf s (Wide step) = IsStray s step
 IsRefusalOf s Memory = ⊤

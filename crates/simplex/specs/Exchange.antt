@@ -32,6 +32,7 @@ sum_of_lines p (a ∷ more) q [] = Ok []
 sum_of_lines p (a ∷ more) q (b ∷ bs) = sum_of_products p a q b >>= λ z. sum_of_lines p more q bs
     >>= λ made. Ok (z ∷ made)
 
+-- a line times a number, or the first product that leaves 128 bits
 abbrev pub line_multiple : List ℤ → ℤ → Result (List ℤ) Step.Wide
 line_multiple [] by = Ok []
 line_multiple (a ∷ more) by = product_of a by >>= λ z. line_multiple more by
@@ -78,6 +79,7 @@ exchange t line column =
 
 -- ---- what is put behind what is made
 
+-- a list with what is made behind it, or the step at which that stopped
 abbrev pub behind : {X : Type 0} → List X → Result (List X) Step.Wide → Result (List X) Step.Wide
 behind front rest = rest >>= λ made. Ok (front ++ made)
 
@@ -88,10 +90,11 @@ pub record HasShape (columns : ℕ) (t : Tableau) : Type 0 where
   pub wide : (i : ℕ) → i < length t.lines → length (get_or t.lines i []) ≡ columns
   pub choices : length t.chosen ≡ length t.lines
 
--- the numbers of a tableau's lines, and its choices
+-- the number of a tableau's line at a column; 0 past the last line or column
 abbrev pub numbers_of : Tableau → ℕ → ℕ → ℤ
 numbers_of t i j = entry (get_or t.lines i []) j
 
+-- the column that a tableau's line chooses; 0 past the last line
 abbrev pub choices_of : Tableau → ℕ → ℕ
 choices_of t i = get_or t.chosen i 0
 

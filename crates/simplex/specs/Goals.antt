@@ -65,6 +65,8 @@ pub record IsReachOf (budget : ℕ) (goals : List Goal) (certs : List Cert) (at 
   pub here : at ≡ whole_bound cert
   pub greatest : (l : ℕ) (other : Cert) → slice_get certs l ≡ Some other → whole_bound other ≤ℤ at
 
+-- the reach is the greatest of the bounds, with its case and its corner; None where there are no
+-- bounds
 abbrev pub ReachAt : ℕ → List Goal → List Cert → Option Reach → Type 0
 ReachAt budget goals certs None = certs ≡ []
 ReachAt budget goals certs (Some r) = IsReachOf budget goals certs r.at r.case r.point

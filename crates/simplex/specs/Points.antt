@@ -38,6 +38,7 @@ pub record IsRayPoint (cs : List (List Col)) (rows : List Row) (at : List Fracti
   pub along : IsRayOf tableau column up (length cs) ray
   pub sum : sums_of point ray ≡ Ok at
 
+-- a corner of the rows, or a corner and a ray from it
 abbrev pub IsPointOf : List (List Col) → List Row → List Fraction → Type 0
 IsPointOf cs rows at = IsCornerPoint cs rows at ⊎ IsRayPoint cs rows at
 

@@ -18,6 +18,7 @@ pub record Framed : Type 0 where
   pub rows : ℕ
   pub frame : ℕ → ℕ → ℤ
 
+-- 1 where an objective or a column goes up, and -1 where it goes down
 abbrev pub sign_of : Bool → ℤ
 sign_of true = pos 1
 sign_of false = negsuc 0
@@ -79,6 +80,8 @@ pub record IsLeast (count : ℕ) (enters : List Bool) (constants : ℕ) (keys : 
       → IsLexNotNegative
       (lexical_view constants (behind_of column (get_or t.lines i []) (get_or t.lines line []))) keys
 
+-- among the first lines that may leave the least that is positive at the column, or none is
+-- positive there
 abbrev pub LeavingOf : ℕ → List Bool → ℕ → List ℕ → ℕ → Tableau → Option ℕ → Type 0
 LeavingOf count enters constants keys column t None = NoneLeaves count enters column t
 LeavingOf count enters constants keys column t (Some line) =

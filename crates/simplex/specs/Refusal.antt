@@ -10,10 +10,12 @@ use Rattle.simplex.specs.declared.stop.SearchStop.{SearchStop}
 use Rattle.simplex.specs.declared.stop.SearchStop.TheVariants.{Wide, Memory}
 use Rattle.simplex.specs.declared.tableau.Tableau.{Tableau}
 
+-- the sum or the product that the step names is no number of 128 bits
 abbrev pub LeavesBits : Step.Wide → Type 0
 LeavesBits step = fits (if step.times then step.left *ℤ step.right else step.left +ℤ step.right)
     ≡ false
 
+-- the stop is a step that leaves 128 bits, or want of memory
 abbrev pub IsRefusal : SearchStop → Type 0
 IsRefusal (Wide step) = LeavesBits step
 IsRefusal Memory = ⊤
@@ -29,6 +31,8 @@ pub record IsOverrun (over : Framed) (count : ℕ) (step : Step.Wide) : Type 0 w
   pub leaves : LeavesBits step
   pub great : (n : ℕ) → HasSquares n → IsSmallFrame n over count → ⊥
 
+-- the stop is a step that leaves 128 bits in the search of a frame whose tableaux are not small, or
+-- want of memory
 abbrev pub IsRefusalIn : Framed → ℕ → SearchStop → Type 0
 IsRefusalIn over count (Wide step) = IsOverrun over count step
 IsRefusalIn over count Memory = ⊤

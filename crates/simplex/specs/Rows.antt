@@ -10,9 +10,11 @@ use Rattle.simplex.specs.Exchange.{numbers_of}
 use Rattle.simplex.specs.Raise.{Framed}
 use Rattle.simplex.specs.declared.tableau.Tableau.{Tableau}
 
+-- the kinds of rows, in their order
 abbrev pub kinds_of : List Row → List Kind
 kinds_of rows = map (λ (row : Row). row.kind) rows
 
+-- the kind at a place; that of an inequality past the last
 abbrev pub kind_at : List Kind → ℕ → Kind
 kind_at kinds l = get_or kinds l AtMost
 
@@ -25,6 +27,8 @@ abbrev pub units_to : ℕ → ℕ → List ℤ
 units_to zero place = []
 units_to (suc n) place = units_to n place ++ (if nat_eq n place then pos 1 else pos 0) ∷ []
 
+-- a row's line in its frame, which has its numbers at the columns, its constant, and 1 at its own
+-- unit column
 abbrev pub whole_line : List (List Col) → ℕ → ℕ → Row → List ℤ
 whole_line columns count place row = (coefficients row columns ++ row.poly.rest ∷ [])
     ++ units_to count place

@@ -80,10 +80,14 @@ pub record IsRefuted (over : Framed) (constants : ℕ) (kinds : List Kind) (t : 
       × ((m : ℕ) → m < length t.lines → kind_at kinds m ≡ AtMost
       → pos 0 ≤ℤ numbers_of t i (over.units + m)))
 
+-- what the equation at a place came to: its line refutes the rows, or the equations up to it are
+-- solved
 abbrev pub EquationAt : Framed → ℕ → List Kind → ℕ → Tableau → Bool → Type 0
 EquationAt over constants kinds i t true = IsRefuted over constants kinds t i
 EquationAt over constants kinds i t false = IsSolving over constants kinds (i + 1) t
 
+-- what all equations came to: the line at a place refutes the rows, or with None all of them are
+-- solved
 abbrev pub EquationsAt : Framed → ℕ → List Kind → Tableau → Option ℕ → Type 0
 EquationsAt over constants kinds t None = IsSolving over constants kinds (length kinds) t
 EquationsAt over constants kinds t (Some i) = IsRefuted over constants kinds t i
@@ -123,13 +127,15 @@ abbrev pub AreKept : Framed → List Kind → ℕ → List Bool → Type 0
 AreKept over kinds count enters = (l : ℕ) → l < count → kind_at kinds l ≡ AtMost
     → enters_at enters (over.units + l) ≡ true
 
--- what a turn for a row came to
+-- a turn kept its row at a corner, and each column that could enter before still can
 pub record IsKept (over : Framed) (constants : ℕ) (kinds : List Kind) (i : ℕ)
     (before enters : List Bool) (t : Tableau) : Type 0 where
   pub placed : IsPlaced over constants kinds enters t
   pub own : kind_at kinds i ≡ AtMost → enters_at enters (over.units + i) ≡ true
   pub others : (j : ℕ) → enters_at before j ≡ true → enters_at enters j ≡ true
 
+-- what a turn for a row came to: the row is kept, its line refutes the rows, or the turns are used
+-- up
 abbrev pub TurnedAt : Framed → ℕ → List Kind → ℕ → ℕ → List Bool → List Bool → Tableau → TurnEnd
     → Type 0
 TurnedAt over constants kinds budget i before enters t turn_end.Kept =
@@ -169,10 +175,12 @@ pub record CornerAt (t : Tableau) (constants column : ℕ) (r : Fraction) : Type
   pub free : ((k : ℕ) → k < length t.lines → choices_of t k ≢ column) → r.num ≡ pos 0
   pub lowest : IsLowest r
 
+-- the point has for each of the first so many columns its number at the corner
 pub record IsCornerOf (t : Tableau) (constants count : ℕ) (point : List Fraction) : Type 0 where
   pub each : length point ≡ count
   pub same : (j : ℕ) → j < count → CornerAt t constants j (get_or point j (whole (pos 0)))
 
+-- minus a line's constant over its number at the column it chooses, in lowest terms
 abbrev pub chosen_number : List ℤ → ℕ → ℕ → Result Fraction Step.Wide
 chosen_number line constants column = product_of (entry line constants) (negsuc 0)
     >>= λ n. Ok (lowest_terms n (entry line column))

@@ -116,34 +116,43 @@ pub record HasSmallMultipliers (s : StrataQuestion) (cert : Cert) : Type 0 where
   pub scale : IsCalmAsked s → unsigned_abs cert.scale ≤ 1048576
   pub by : IsCalmAsked s → AreAtMost 1048576 cert.by
 
+-- the tie is small where the question is calm
 pub record HasSmallTie (s : StrataQuestion) (tie : Tie) : Type 0 where
   pub small : IsCalmAsked s → IsSmallTie tie
 
+-- each of the ties is small where the question is calm
 pub record HasSmallTies (s : StrataQuestion) (ties : List Tie) : Type 0 where
   pub small : IsCalmAsked s → AllByRecursion IsSmallTie ties
 
+-- the certificate of a half, if it has one, is small where the question is calm
 abbrev pub HasSmallHalf : StrataQuestion → DifferenceHalf → Type 0
 HasSmallHalf s (half.Tied cert) = HasSmallMultipliers s cert
 HasSmallHalf s (half.Apart at) = ⊤
 HasSmallHalf s half.Pivots = ⊤
 
+-- the tie of a case, if it has one, is small where the question is calm
 abbrev pub HasSmallBond : StrataQuestion → Bond → Type 0
 HasSmallBond s (bond.Tied tie) = HasSmallTie s tie
 HasSmallBond s (bond.Apart at) = ⊤
 HasSmallBond s bond.Pivots = ⊤
 
+-- the ties of a relation, if it is tied in each case, are small where the question is calm
 abbrev pub HasSmallVerdict : StrataQuestion → RelationVerdict → Type 0
 HasSmallVerdict s (verdict.Tied ties) = HasSmallTies s ties
 HasSmallVerdict s (verdict.Apart place at) = ⊤
 HasSmallVerdict s verdict.Pivots = ⊤
 
+-- the basis of an answer, if it is one, is small where the question is calm
 pub record IsSmallIn (s : StrataQuestion) (a : Answer) : Type 0 where
   pub small : IsCalmAsked s → IsSmallFound s.columns.now s.cases.now s.lower.now a
 
+-- the basis with which a search ends, if it ends with one, is small where the question is calm
 abbrev pub HasSmallEnd : StrataQuestion → Course → Type 0
 HasSmallEnd s (course.On known) = ⊤
 HasSmallEnd s (course.End a) = IsSmallIn s a
 
+-- the basis of an answer, if it is one, is small where the cases, at most 2 ^ 32 of them, and the
+-- lower terms are calm over the columns
 pub record IsSmallOver (cs : List (List Col)) (cases : List Change) (lower : List Polynomial)
     (a : Answer) : Type 0 where
   pub small : length cases ≤ 4294967296 → IsCalmStratum cs cases lower

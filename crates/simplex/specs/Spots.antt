@@ -28,6 +28,7 @@ abbrev pub denominator_from : ℤ → List Fraction → Result ℤ Step.Wide
 denominator_from common [] = Ok common
 denominator_from common (r ∷ rs) = common_multiple common r.den >>= λ next. denominator_from next rs
 
+-- the least common multiple of the denominators of ratios; 1 where there are none
 abbrev pub common_denominator : List Fraction → Result ℤ Step.Wide
 common_denominator rs = denominator_from (pos 1) rs
 

@@ -123,17 +123,23 @@ pub record IsApartAt (s : StrataQuestion) (numbers : List ℤ) (place : ℕ) (at
   pub is : slice_get s.cases.now place ≡ Some case
   pub point : IsApartIn s numbers case at
 
+-- what a half of a difference comes to in a case: a certificate, a point at which the difference is
+-- not 0, or no answer
 abbrev pub HalfAt : StrataQuestion → List ℤ → Change → Bool → DifferenceHalf → Type 0
 HalfAt s numbers case up (half.Tied cert) = IsHonestHalf s.columns.now s.lower.now numbers case up
     cert
 HalfAt s numbers case up (half.Apart at) = IsApartIn s numbers case at
 HalfAt s numbers case up half.Pivots = HasNoEnd s.columns.now s.budget case.rows
 
+-- what both halves of a difference come to in a case: a tie, a point at which the difference is not
+-- 0, or no answer
 abbrev pub BondAt : StrataQuestion → List ℤ → Change → Bond → Type 0
 BondAt s numbers case (bond.Tied tie) = IsHonestTie s.columns.now s.lower.now numbers case tie
 BondAt s numbers case (bond.Apart at) = IsApartIn s numbers case at
 BondAt s numbers case bond.Pivots = HasNoEnd s.columns.now s.budget case.rows
 
+-- what a relation comes to in all cases: a tie of each, a point of one at which its difference is
+-- not 0, or no answer of one
 abbrev pub VerdictAt : StrataQuestion → List ℤ → RelationVerdict → Type 0
 VerdictAt s numbers (verdict.Tied ties) = AreTies s.columns.now s.lower.now numbers s.cases.now
     (length s.cases.now) ties
@@ -173,9 +179,12 @@ IsFoundOver cs budget cases lower (answer.No point) = ⊥
 IsFoundOver cs budget cases lower (answer.Bound at certs case point) = ⊥
 IsFoundOver cs budget cases lower (answer.Unbounded case point ray) = ⊥
 
+-- what is found of the question, a basis or a case without an answer
 abbrev pub IsFoundIn : StrataQuestion → Answer → Type 0
 IsFoundIn s a = IsFoundOver s.columns.now s.budget s.cases.now s.lower.now a
 
+-- what a turn of the search comes to: more is known and fewer turns are left, or it ends with what
+-- is found
 abbrev pub CourseAt : StrataQuestion → KnownRelations → Course → Type 0
 CourseAt s before (course.On known) = AreKnown s known
     × (turns_left s.count known < turns_left s.count before)

@@ -36,6 +36,7 @@ frame_over cs rows p = record {
   frame = numbers_of (framed_tableau cs (with_goal rows p));
 }
 
+-- the frame of a goal's rows and its objective over its own columns
 abbrev pub goal_frame : Goal → Framed
 goal_frame goal = frame_over (goal_columns goal) goal.rows goal.objective
 
@@ -56,6 +57,8 @@ pub record IsOpened (over : Framed) (constants : ℕ) (kinds : List Kind) (enter
       ⊎ ((enters_at enters column ≡ true) × (up ≡ true) × NoneLeaves (length t.lines) enters column
       t)
 
+-- what the raise of an objective came to: its top, a column along which it grows without end, or
+-- the turns are used up
 abbrev pub TopAt : Framed → ℕ → List Kind → ℕ → List Bool → Tableau → Top → Type 0
 TopAt over constants kinds budget enters t top.Best = IsTopped over constants kinds enters t
 TopAt over constants kinds budget enters t (top.Open column up) =
@@ -74,11 +77,14 @@ pub record SlopeAt (t : Tableau) (column : ℕ) (up : Bool) (own : ℕ) (r : Fra
       → r.num *ℤ numbers_of t k own ≡ numbers_of t k column *ℤ sign_of (not up) *ℤ r.den
   pub free : own ≢ column → ((k : ℕ) → k < length t.lines → choices_of t k ≢ own) → r.num ≡ pos 0
 
+-- the ray has for each of the first so many columns its number along the column that grows
 pub record IsRayOf (t : Tableau) (column : ℕ) (up : Bool) (count : ℕ)
     (ray : List Fraction) : Type 0 where
   pub each : length ray ≡ count
   pub same : (j : ℕ) → j < count → SlopeAt t column up j (get_or ray j (whole (pos 0)))
 
+-- a line's number at the column that grows, negated on the way up, over that at the column it
+-- chooses, in lowest terms
 abbrev pub chosen_slope : List ℤ → ℕ → Bool → ℕ → Result Fraction Step.Wide
 chosen_slope line column up own = product_of (entry line column) (sign_of (not up))
     >>= λ n. Ok (lowest_terms n (entry line own))
@@ -112,10 +118,12 @@ SupremumAt over constants kinds budget (supremum.Unbounded point ray) =
     × (IsOpened over constants kinds enters column up t × IsCornerOf t constants constants point
     × IsRayOf t column up constants ray))))
 
+-- what the supremum of a polynomial over rows comes to, in their frame over the columns
 abbrev pub IsSupremumOver : List (List Col) → List Row → Polynomial → ℕ → Supremum → Type 0
 IsSupremumOver cs rows p budget found = SupremumAt (frame_over cs rows p) (length cs)
     (kinds_of (with_goal rows p)) budget found
 
+-- what the supremum of a goal comes to, in the frame over its own columns
 abbrev pub IsSupremumOf : Goal → ℕ → Supremum → Type 0
 IsSupremumOf goal budget found = IsSupremumOver (goal_columns goal) goal.rows goal.objective budget
     found

@@ -22,10 +22,11 @@ widened_numbers (d ∷ ds) (c ∷ cs) (n ∷ ns) =
     if eq_by_cmp mono_cmp d c then n ∷ widened_numbers ds cs ns
     else whole (pos 0) ∷ widened_numbers (d ∷ ds) cs (n ∷ ns)
 
--- the ray along one monomial
+-- the number of the ray along one monomial at a column, 1 or -1 at the monomial and else 0
 abbrev pub number_along : List Col → Bool → List Col → Fraction
 number_along mono up c = if eq_by_cmp mono_cmp mono c then whole (sign_of up) else whole (pos 0)
 
+-- the ray along one monomial, up or down, by its numbers in the order of the columns
 abbrev pub unit_ray : List Col → Bool → List (List Col) → List Fraction
 unit_ray mono up cs = map (λ (c : List Col). number_along mono up c) cs
 

@@ -58,10 +58,12 @@ abbrev pub IsOutcome : List ℕ → Result Program TextError → Type 0
 IsOutcome text (Ok program) = Accepts text program
 IsOutcome text (Err error) = IsErrorOf text error
 
+-- what the cut of a text into tokens comes to: these are its tokens, or an error is true of it
 abbrev pub TokensOrRefusal : List ℕ → Result (List Token) TextError → Type 0
 TokensOrRefusal text (Ok tokens) = Tokenizes text tokens
 TokensOrRefusal text (Err error) = IsErrorOf text error
 
+-- what reading a text as a tree comes to: the text spells the tree, or an error is true of it
 abbrev pub TreeOrRefusal : List ℕ → Result Tree TextError → Type 0
 TreeOrRefusal text (Ok tree) = Spells text tree
 TreeOrRefusal text (Err error) = IsErrorOf text error

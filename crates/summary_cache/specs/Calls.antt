@@ -34,6 +34,7 @@ abbrev mutual
   all_expression_names expr.End = []
   all_expression_names (expr.Then first rest) = expression_names first ++ all_expression_names rest
 
+-- the names that an expression calls, where there is one; else []
 abbrev pub value_names : Option SourceExpr → List (List ℕ)
 value_names None = []
 value_names (Some value) = expression_names value
@@ -76,6 +77,7 @@ callees_in proc = called (code_of proc.body)
 abbrev pub callees : Program → List (List ℕ)
 callees program = map callees_in program.procs
 
+-- the name of a procedure, in bytes
 abbrev pub proc_name : Proc → List ℕ
 proc_name proc = proc.name
 

@@ -32,16 +32,21 @@ pub record IsUnanswered {S : Type 0} (O : Asking S) (rule : ℕ) (old new : S)
   pub planned : IsPlanned rule text program plan
   pub declined : IsDeclined O old new (analysis_of rule text program plan)
 
+-- what an error says where no text was accepted before: why this one is refused, or that a question
+-- is declined, or that memory was wanting and nothing was refused
 abbrev pub IsFirstCause : {S : Type 0} → Asking S → ℕ → S → S → List ℕ → SubmitError → Type 0
 IsFirstCause O rule old new text (Text refusal) = IsRefusedBy text refusal × (new ≡ old)
 IsFirstCause O rule old new text Refused = IsUnanswered O rule old new text
 IsFirstCause O rule old new text Memory = O.refusals new ≡ O.refusals old
 
+-- something is kept of a first text, and it is what its analysis came to
 abbrev pub KeepsFirst : {S : Type 0} → Asking S → ℕ → S → S → List ℕ → Counts → Option Last → Type 0
 KeepsFirst O rule old new text counts None = ⊥
 KeepsFirst O rule old new text counts (Some last) = IsWorked O rule old new text (last_analysis last)
     counts
 
+-- what a session that has accepted none comes to with a text: counts and what is kept of it, or an
+-- error with its cause
 abbrev pub ComesFirst : {S : Type 0} → Asking S → ℕ → S → S → List ℕ → Option Last
     → Result Counts SubmitError → Type 0
 ComesFirst O rule old new text last (Ok counts) = KeepsFirst O rule old new text counts last

@@ -10,6 +10,7 @@ use Rattle.kept_groups.specs.Kept.{AreKeptIf, answers_in}
 use Rattle.summary_cache.specs.declared.last.Analysed.{Analysed}
 use Rattle.summary_cache.specs.declared.last.Last.{Last}
 
+-- a session's rule, and what is kept of the text that was accepted last; None where none was
 pub record Kept : Type 0 where
   pub rule : ℕ
   pub last : Option Last
@@ -26,12 +27,16 @@ last_analysis last = record { report = last.report; answers = answers_for last }
 
 -- ---- of the text that was accepted last, if one was
 
+-- the groups of the text that was accepted last; None where none was
 abbrev pub groups_of : Option Last → Option KeptGroups
 groups_of last = option_map (λ (kept : Last). kept.groups) last
 
+-- the report of the text that was accepted last; None where none was
 abbrev pub report_of : Option Last → Option Report
 report_of last = option_map (λ (kept : Last). kept.report) last
 
+-- the answers of the text that was accepted last, in the order of their questions; [] where none
+-- was
 abbrev pub answers_of : Option Last → List Answer
 answers_of None = []
 answers_of (Some last) = answers_for last

@@ -28,9 +28,12 @@ use Rattle.summary_cache.specs.Stated.{IsAnalysedBy, IsPlanned, analysis_of}
 
 -- ---- what a session holds
 
+-- the report of the text that was accepted last; None where none was
 abbrev pub report_in : Kept → Option Report
 report_in session = report_of session.last
 
+-- the answers of the text that was accepted last, in the order of their questions; [] where none
+-- was
 abbrev pub answers_in_session : Kept → List Answer
 answers_in_session session = answers_of session.last
 
@@ -112,6 +115,8 @@ abbrev pub IsWorkCause : {S : Type 0} → Asking S → ℕ → Option Last → S
 IsWorkCause O rule before old new text work.Refused = IsUnansweredOver O rule before old new text
 IsWorkCause O rule before old new text work.Memory = O.refusals new ≡ O.refusals old
 
+-- what the work on an accepted text ends with: what is kept of it and its counts, or an error with
+-- its cause
 abbrev pub Works : {S : Type 0} → Asking S → ℕ → Option Last → S → S → List ℕ
     → Result (Last × Counts) WorkError → Type 0
 Works O rule before old new text (Ok made) = IsSubmittedOver O rule before old new text made.0 made.1
@@ -124,6 +129,8 @@ IsCause O rule before old new text (Text refusal) = IsRefusedBy text refusal × 
 IsCause O rule before old new text Refused = IsUnansweredOver O rule before old new text
 IsCause O rule before old new text Memory = O.refusals new ≡ O.refusals old
 
+-- what a session comes to with a text: what is kept of it and its counts, or an error with its
+-- cause
 abbrev pub Comes : {S : Type 0} → Asking S → ℕ → Option Last → S → S → List ℕ
     → Result (Last × Counts) SubmitError → Type 0
 Comes O rule before old new text (Ok made) = IsSubmittedOver O rule before old new text made.0 made.1

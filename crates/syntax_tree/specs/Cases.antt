@@ -16,6 +16,7 @@ of_number value = record { value = value; truth = 2 * value; falsity = value }
 abbrev pub of_test : ℕ → ℕ → Cases
 of_test truth falsity = record { value = truth + falsity; truth = truth; falsity = falsity }
 
+-- the cases of a sign at its operand: `!` exchanges truth and falsity, the others are numbers
 abbrev pub sign_cases : Sign → Cases → Cases
 sign_cases Not inner = of_test inner.falsity inner.truth
 sign_cases _ inner = of_number inner.value

@@ -6,6 +6,8 @@ use Rattle.syntax_tree.specs.declared.stmt.Stmt.TheOpen.{Stmt-F}
 use Rattle.syntax_tree.specs.Term.{Term, term_of}
 
 mutual
+  -- a statement of the core program, with columns and procedures by their places (from 0) and
+  -- assertions by their numbers (from 1)
   pub data Statement : Type 0 where
     Set : (col : ℕ) (value : Term) → Statement
     Any : (col : ℕ) → Statement
@@ -18,14 +20,17 @@ mutual
     Continue : Statement
     Return : Statement
 
+  -- a list of statements, in the order in which they are run
   pub data Code : Type 0 where
     End : Code
     Then : (statement : Statement) (rest : Code) → Code
 
+-- the `Code` of these statements, in their order
 abbrev pub code_from : List Statement → Code
 code_from [] = End
 code_from (statement ∷ rest) = Then statement (code_from rest)
 
+-- the plain form of a statement whose inner statements are in plain form already
 abbrev pub statement_layer : Stmt-F Statement → Statement
 statement_layer (Stmt-F.Set col value) = Set col (term_of value)
 statement_layer (Stmt-F.Any col) = Any col

@@ -7,6 +7,7 @@ use Rattle.syntax_tree.specs.declared.expr.Expr.{Expr, fold-Expr}
 use Rattle.syntax_tree.specs.declared.expr.Expr.TheOpen.{Expr-F}
 
 mutual
+  -- an expression of a text, each part with the place of its first token, a byte offset
   pub data SourceExpr : Type 0 where
     Lit : (at : ℕ) (value : ℤ) → SourceExpr
     Var : (at : ℕ) (name : List ℕ) → SourceExpr
@@ -14,14 +15,17 @@ mutual
     Unary : (at : ℕ) (sign : Sign) (inner : SourceExpr) → SourceExpr
     Binary : (at : ℕ) (op : Op) (left right : SourceExpr) → SourceExpr
 
+  -- a list of expressions, in the order of the text
   pub data SourceExprs : Type 0 where
     End : SourceExprs
     Then : (expr : SourceExpr) (rest : SourceExprs) → SourceExprs
 
+-- the `SourceExprs` of these expressions, in their order
 abbrev pub exprs_from : List SourceExpr → SourceExprs
 exprs_from [] = End
 exprs_from (expr ∷ rest) = Then expr (exprs_from rest)
 
+-- the plain form of an expression whose operands and arguments are in plain form already
 abbrev pub source_expr_layer : Expr-F SourceExpr → SourceExpr
 source_expr_layer (Expr-F.Lit at value) = Lit at value
 source_expr_layer (Expr-F.Var at name) = Var at name

@@ -7,6 +7,7 @@ use Rattle.syntax_tree.specs.declared.line.Line.TheOpen.{Line-F}
 use Rattle.syntax_tree.specs.SourceExpr.{SourceExpr, source_expr_of}
 
 mutual
+  -- a line of a body: a block, the declaration of a local, or a statement; a place is a byte offset
   pub data SourceLine : Type 0 where
     Block : (lines : SourceLines) → SourceLine
     Local : (name : List ℕ) (at : ℕ) (init : Option SourceExpr) → SourceLine
@@ -19,14 +20,17 @@ mutual
     Continue : (at : ℕ) → SourceLine
     Return : (at : ℕ) (value : Option SourceExpr) → SourceLine
 
+  -- a list of lines, in the order of the text
   pub data SourceLines : Type 0 where
     End : SourceLines
     Then : (line : SourceLine) (rest : SourceLines) → SourceLines
 
+-- the `SourceLines` of these lines, in their order
 abbrev pub lines_from : List SourceLine → SourceLines
 lines_from [] = End
 lines_from (line ∷ rest) = Then line (lines_from rest)
 
+-- the plain form of a line whose inner lines are in plain form already
 abbrev pub source_line_layer : Line-F SourceLine → SourceLine
 source_line_layer (Line-F.Block lines) = Block (lines_from lines)
 source_line_layer (Line-F.Local name at init) = Local name at (option_map source_expr_of init)

@@ -23,6 +23,7 @@ abbrev mutual
 abbrev pub has_fewer : ℕ → SourceExpr → Bool
 has_fewer n e = nat_lt (source_operators e) n
 
+-- whether an expression that may be missing has fewer operators than a number: true where it is
 abbrev pub if_fewer : ℕ → Option SourceExpr → Bool
 if_fewer n None = true
 if_fewer n (Some e) = has_fewer n e

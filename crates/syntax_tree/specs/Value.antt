@@ -79,6 +79,7 @@ pub record Step : Type 0 where
   pub left : ℤ
   pub right : ℤ
 
+-- the value of a step: None where it divides by 0
 abbrev pub step_value : Step → Option ℤ
 step_value step = result_of step.op step.left step.right
 
@@ -105,14 +106,16 @@ steps_of (Binary op left right) s = steps_of left s ++ steps_after (value_of lef
       right = y;
     } ∷ [])))
 
--- a step is wide where its value is a number past 128 bits
+-- whether a value is a number past 128 bits: false for None
 abbrev pub is_past : Option ℤ → Bool
 is_past None = false
 is_past (Some z) = not (fits z)
 
+-- a step is wide where its value is a number past 128 bits
 abbrev pub is_wide : Step → Bool
 is_wide step = is_past (step_value step)
 
+-- what is told of a wide step: its operator and the values of its operands
 abbrev pub wide_of : Step → EvalWide
 wide_of step = record { left = step.left; right = step.right; op = step.op }
 

@@ -20,36 +20,45 @@ columns_below width (Col col) = nat_lt col width
 columns_below width (Unary sign inner) = columns_below width inner
 columns_below width (Binary op left right) = columns_below width left && columns_below width right
 
+-- each column of each of these expressions is below `width`
 abbrev pub all_columns_below : ℕ → List Term → Bool
 all_columns_below width [] = true
 all_columns_below width (e ∷ rest) = columns_below width e && all_columns_below width rest
 
--- the operators of an expression, and of several together
+-- how many operators an expression has, those with one operand among them
 abbrev pub operators_of : Term → ℕ
 operators_of (Lit value) = 0
 operators_of (Col col) = 0
 operators_of (Unary sign inner) = 1 + operators_of inner
 operators_of (Binary op left right) = 1 + operators_of left + operators_of right
 
+-- how many operators several expressions have together: 0 for none
 abbrev pub joint_operators : List Term → ℕ
 joint_operators [] = 0
 joint_operators (e ∷ rest) = operators_of e + joint_operators rest
 
+-- whether an expression may be a value: its columns are below `width`, its operators and the cases
+-- of its value within the limits
 abbrev pub value_fits : ℕ → Term → Bool
 value_fits width e =
     columns_below width e && nat_le (operators_of e) most_operators && nat_le (cases_of e).value
     most_cases
 
+-- whether an expression may be a condition: its columns are below `width`, its operators and the
+-- cases of its truth and of its falsity within the limits
 abbrev pub cond_fits : ℕ → Term → Bool
 cond_fits width e =
     columns_below width e && nat_le (operators_of e) most_operators
     && nat_le (cases_of e).truth most_cases && nat_le (cases_of e).falsity most_cases
 
+-- whether expressions may be the arguments of a call: their columns are below `width`, and their
+-- operators and cases together within the limits
 abbrev pub args_fit : ℕ → List Term → Bool
 args_fit width args =
     all_columns_below width args && nat_le (joint_operators args) most_operators
     && nat_le (joint_cases args) most_cases
 
+-- the column that takes a call's value, where there is one, is below `width`
 abbrev pub into_fits : ℕ → Option ℕ → Bool
 into_fits width None = true
 into_fits width (Some col) = nat_lt col width
@@ -111,6 +120,7 @@ abbrev mutual
   code_checks k End = 0
   code_checks k (Then statement rest) = statement_checks k statement + code_checks k rest
 
+-- how often the assertion with this number stands in the bodies of these procedures
 abbrev pub procs_checks : ℕ → List Proc → ℕ
 procs_checks k [] = 0
 procs_checks k (p ∷ rest) = code_checks k (code_of p.body) + procs_checks k rest
@@ -119,9 +129,12 @@ procs_checks k (p ∷ rest) = code_checks k (code_of p.body) + procs_checks k re
 abbrev pub width_of : Program → Proc → ℕ
 width_of program p = length program.globals + length p.columns + 1
 
+-- whether the column has a name, as a temporary has not
 abbrev pub has_name : Column → Bool
 has_name column = is_some column.name
 
+-- a procedure of the program is within the limits, its parameters are its first columns, and its
+-- body names what there is
 pub record IsProcFit (program : Program) (p : Proc) : Type 0 where
   pub params : p.params ≤ most_parameters
   pub slots : length p.columns ≤ most_slots
@@ -131,6 +144,8 @@ pub record IsProcFit (program : Program) (p : Proc) : Type 0 where
   pub body : IsTrue (code_fits program (width_of program p) Outside (code_of p.body))
   pub nodes : graph_nodes (code_of p.body) ≤ most_nodes
 
+-- a program is within the limits, it has its `main`, its procedures fit, and each of its assertions
+-- stands in one place
 pub record IsWellFormed (program : Program) : Type 0 where
   pub procedures : length program.procs ≤ most_procedures
   pub globals : length program.globals ≤ most_globals

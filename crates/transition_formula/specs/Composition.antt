@@ -37,11 +37,12 @@ union_of a b = record { from = a.from; to = a.to; cases = a.cases ++ b.cases }
 abbrev pub Operation : Type 0
 Operation = Polynomial → Result Polynomial TermError
 
--- rows where there is an answer; the others are lost
+-- the row of an answer; None where there is none, and the row is lost
 abbrev pub row_of : Kind → Result Polynomial TermError → Option Row
 row_of kind (Ok p) = Some record { poly = p; kind = kind }
 row_of kind (Err e) = None
 
+-- the rows of the answers of an operation, in order, without those that are lost
 abbrev pub rows_by : Operation → List Row → List Row
 rows_by f rows = filter_map (λ row. row_of row.kind (f row.poly)) rows
 
@@ -51,6 +52,8 @@ filled_posts next [] = []
 filled_posts next (None ∷ posts) = column_of (Aux next) ∷ filled_posts (next + 1) posts
 filled_posts next (Some p ∷ posts) = p ∷ filled_posts next posts
 
+-- the posts of the answers of an operation, in order, with an auxiliary from `next` on for each
+-- that is lost
 abbrev pub posts_by : Operation → ℕ → List Polynomial → List Polynomial
 posts_by f next posts = filled_posts next (map (λ p. answer_of (f p)) posts)
 
@@ -63,6 +66,7 @@ by f case =
       post = posts_by f case.aux case.post;
     }
 
+-- the losses of an operation on a case, those of its rows and then those of its posts
 abbrev pub losses_by : Operation → Case → List Loss
 losses_by f case = flat_map (λ row. losses_of (f row.poly)) case.rows
     ++ flat_map (λ p. losses_of (f p)) case.post
@@ -95,6 +99,7 @@ sequence_of a b =
       cases = flat_map (λ first. map (sequence_of_cases first) b.cases) a.cases;
     }
 
+-- the losses of a sequence, for each case of the first those with each of the second
 abbrev pub losses_in_sequence : Transition → Transition → List Loss
 losses_in_sequence a b =
     flat_map (λ first. flat_map (λ second. losses_by (after_case first second) second) b.cases)

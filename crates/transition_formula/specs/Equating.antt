@@ -32,6 +32,8 @@ equated_case first places case =
       post = case.post;
     }
 
+-- the losses of the rows that a case should have and that cannot be made, in the order of the
+-- places
 abbrev pub losses_in_equating_case : ℕ → List ℕ → Case → List Loss
 losses_in_equating_case first places case =
     flat_map losses_of (differences first (posts_at places case.post))
@@ -45,5 +47,6 @@ equated_formula first places f = record {
   cases = map (equated_case first places) f.cases;
 }
 
+-- the losses of the rows that say that entry columns are posts, case by case
 abbrev pub losses_in_equating : ℕ → List ℕ → Transition → List Loss
 losses_in_equating first places f = flat_map (losses_in_equating_case first places) f.cases

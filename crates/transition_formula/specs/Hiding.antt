@@ -20,10 +20,12 @@ entries_hidden n from first = map (λ k. column_of (At k)) (range_with_len 0 n)
 abbrev pub own_auxiliaries : ℕ → List Polynomial
 own_auxiliaries count = map (λ k. column_of (Aux k)) (range_with_len 0 count)
 
+-- the operation that puts auxiliaries in for the entry columns of a case from number n on
 abbrev pub hiding : (n from : ℕ) → Case → Operation
 hiding n from case =
     substituted_polynomial (put_in (entries_hidden n from case.aux) (own_auxiliaries case.aux))
 
+-- the case with auxiliaries, behind its own, for its entry columns from number n on
 abbrev pub hidden_case : (n from : ℕ) → Case → Case
 hidden_case n from case = by (hiding n from case) record {
   aux = case.aux + (from - n);
@@ -35,5 +37,6 @@ hidden_case n from case = by (hiding n from case) record {
 abbrev pub hidden : ℕ → Transition → Transition
 hidden n f = record { from = n; to = f.to; cases = map (hidden_case n f.from) f.cases }
 
+-- the losses where entry columns are hidden, case by case
 abbrev pub losses_in_hiding : ℕ → Transition → List Loss
 losses_in_hiding n f = flat_map (λ case. losses_by (hiding n f.from case) case) f.cases

@@ -59,6 +59,7 @@ abbrev pub IsChain : Transition → List ℤ → List (List ℤ) → Type 0
 IsChain f first [] = Unit {0}
 IsChain f first (next ∷ more) = Holds f first next × IsChain f next more
 
+-- the last state of a chain, which is the first one where no other follows
 abbrev pub last_of : List ℤ → List (List ℤ) → List ℤ
 last_of first [] = first
 last_of first (next ∷ more) = last_of next more

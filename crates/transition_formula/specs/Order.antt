@@ -27,6 +27,7 @@ abbrev pub or_else : Option ℕ → Option ℕ → Option ℕ
 or_else (Some n) later = Some n
 or_else None later = later
 
+-- the auxiliary of the first term that solves for one; None where no term does
 abbrev pub first_solved : Terms → Terms → Option ℕ
 first_solved all [] = None
 first_solved all (t ∷ ts) = or_else (solves all t) (first_solved all ts)
@@ -36,11 +37,14 @@ abbrev pub solvable_auxiliary : Kind → Polynomial → Option ℕ
 solvable_auxiliary AtMost p = None
 solvable_auxiliary Equal p = first_solved p.terms p.terms
 
--- the place of the first equation that can be solved, and its auxiliary
+-- the place 0 and the auxiliary of the first row, if it has one; else what is found behind it, one
+-- place further
 abbrev pub place_from : Option ℕ → Option (ℕ × ℕ) → Option (ℕ × ℕ)
 place_from (Some n) later = Some (0, n)
 place_from None later = option_map (λ found. (found.0 + 1, found.1)) later
 
+-- the place of the first equation that can be solved, from 0, and its auxiliary; None where none
+-- can
 abbrev pub first_equation : List Row → Option (ℕ × ℕ)
 first_equation [] = None
 first_equation (row ∷ rows) = place_from (solvable_auxiliary row.kind row.poly) (first_equation rows)

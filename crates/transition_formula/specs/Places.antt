@@ -18,17 +18,20 @@ use Rattle.linear_terms.specs.Polynomial.{Terms, Polynomial}
 abbrev pub Key : Type 0
 Key = Option ℤ × Terms
 
+-- the key of a row of the kind with the polynomial
 abbrev pub key_by : Kind → Polynomial → Key
 key_by AtMost p = (None, p.terms)
 key_by Equal p = (Some p.rest, p.terms)
 
+-- the key of a row, which it shares with those that are alike
 abbrev pub key_of : Row → Key
 key_of row = key_by row.kind row.poly
 
--- an order of keys
+-- an order of terms, by the monomial and then by the coefficient
 abbrev pub term_cmp : List Col × ℤ → List Col × ℤ → Ordering
 term_cmp t u = ordering_then (mono_cmp t.0 u.0) (int_cmp t.1 u.1)
 
+-- an order of keys, by the constant, if there is one, and then by the terms from the first on
 abbrev pub key_cmp : Key → Key → Ordering
 key_cmp k l = ordering_then (option_cmp int_cmp k.0 l.0) (slice_cmp term_cmp k.1 l.1)
 

@@ -14,6 +14,7 @@ posts_at places posts = map (λ place. unwrap_or (slice_get posts place) (consta
 abbrev pub numbers_at : List ℕ → List ℤ → List ℤ
 numbers_at places after = map (λ place. unwrap_or (slice_get after place) (pos 0)) places
 
+-- the case with the posts at these places, in this order
 abbrev pub case_with_posts : List ℕ → Case → Case
 case_with_posts places case = record {
   aux = case.aux;
@@ -31,9 +32,11 @@ with_posts places f = record {
 
 -- ---- entry columns as posts
 
+-- the entry columns of these numbers, in this order
 abbrev pub entries_at : List ℕ → List Polynomial
 entries_at places = map (λ place. column_of (At place)) places
 
+-- the case with the entry columns of these numbers as its posts, in this order
 abbrev pub case_with_entries : List ℕ → Case → Case
 case_with_entries places case = record {
   aux = case.aux;

@@ -19,12 +19,14 @@ count_below test (suc n) = if test n then count_below test n + 1 else count_belo
 abbrev pub new_number : Case → ℕ → ℕ
 new_number case n = count_below (occurs_in case) n
 
+-- the row with new numbers for its auxiliaries
 abbrev pub renumbered_row : (ℕ → ℕ) → Row → Row
 renumbered_row number row = record {
   poly = auxiliaries.renumbered number row.poly;
   kind = row.kind;
 }
 
+-- the case with new numbers for its auxiliaries, and the new number of their count as the count
 abbrev pub case_renumbered_by : (ℕ → ℕ) → Case → Case
 case_renumbered_by number case =
     record {
@@ -33,5 +35,6 @@ case_renumbered_by number case =
       post = map (auxiliaries.renumbered number) case.post;
     }
 
+-- the case without the auxiliaries that occur nowhere, the others numbered from 0 in their order
 abbrev pub renumbered_case : Case → Case
 renumbered_case case = case_renumbered_by (new_number case) case

@@ -20,9 +20,11 @@ pub record Ordered : Type 0 where
   pub left : Option Case
   pub losses : List Loss
 
+-- what is left of a case, with earlier losses before its own
 abbrev pub after_losses : List Loss → Ordered → Ordered
 after_losses losses rest = record { left = rest.left; losses = losses ++ rest.losses }
 
+-- the case with other rows
 abbrev pub with_rows : Case → List Row → Case
 with_rows case rows = record { aux = case.aux; rows = rows; post = case.post }
 
@@ -36,6 +38,7 @@ abbrev pub with_solved : Result Polynomial TermError → ℕ → Case → Case
 with_solved (Ok p) n case = by (with_solution n p) case
 with_solved (Err e) n case = case
 
+-- the losses where a solution is put in, or that of the solution itself where it cannot be made
 abbrev pub losses_with_solved : Result Polynomial TermError → ℕ → Case → List Loss
 losses_with_solved (Ok p) n case = losses_by (with_solution n p) case
 losses_with_solved (Err e) n case = error_losses e
@@ -47,11 +50,14 @@ round_at next left n (Some row) =
     after_losses (losses_with_solved (solution row.poly n) n left)
     (next (with_solved (solution row.poly n) n left))
 
+-- what comes of a case by the place and the auxiliary of the first equation that can be solved;
+-- where there is none, the end
 abbrev pub solved_first : (Case → Ordered) → Case → Option (ℕ × ℕ) → Ordered
 solved_first next case None = end_of_order case
 solved_first next case (Some found) = round_at next (with_rows case (remove case.rows found.0))
     found.1 (slice_get case.rows found.0)
 
+-- one round over tidied rows; nothing is left of the case where these can't all be true
 abbrev pub round : (Case → Ordered) → Case → Option (List Row) → Ordered
 round next case None = record { left = None; losses = [] }
 round next case (Some rows) = solved_first next (with_rows case rows) (first_equation rows)

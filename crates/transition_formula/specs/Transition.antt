@@ -36,14 +36,15 @@ fits from to case = length case.post == to && every_column_of (is_below from cas
 abbrev pub IsTransition : ℕ → ℕ → List Case → Type 0
 IsTransition from to cases = IsTrue (list_all (fits from to) cases)
 
--- how many cases a formula, and how many rows and auxiliaries a case may have where the analysis
--- goes on with them as they are
+-- how many cases a formula may have where the analysis goes on with it as it is
 abbrev pub most_cases : ℕ
 most_cases = 16
 
+-- how many rows a case may have where the analysis goes on with it as it is
 abbrev pub most_rows : ℕ
 most_rows = 64
 
+-- how many auxiliaries a case may have where the analysis goes on with it as it is
 abbrev pub most_auxiliaries : ℕ
 most_auxiliaries = 64
 
@@ -54,6 +55,7 @@ is_fitted cases =
     && list_all (λ case. nat_le (length case.rows) most_rows
     && nat_le case.aux most_auxiliaries) cases
 
+-- there are at most 16 cases, of at most 64 rows and 64 auxiliaries each
 abbrev pub IsFitted : List Case → Type 0
 IsFitted cases = IsTrue (is_fitted cases)
 

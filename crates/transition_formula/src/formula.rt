@@ -87,6 +87,7 @@ impl Formula {
         self.to
     }
 
+    /// The cases, one of which holds of any two states that the formula holds of.
     pub fn cases(&self) -> &[Case]
         ensures cases { result.now ≡ self.now.cases }
         ensures fit { IsTransition self.now.from self.now.to result.now }

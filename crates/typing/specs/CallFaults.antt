@@ -65,9 +65,11 @@ many_together terms End = []
 many_together terms (Then expr rest) =
     when (nat_lt most_cases (joint_cases (map term_of terms))) (Many limited.Cases (place_of expr))
 
+-- the fault of arguments with too many cases together: one or none
 abbrev pub joint_faults : Env → SourceExprs → List TypeError
 joint_faults env args = many_together (terms_in env args) args
 
+-- the operator is `&&` or `||`
 abbrev pub is_logical : Op → Bool
 is_logical And = true
 is_logical Or = true
@@ -114,10 +116,12 @@ abbrev pub has_many_ways : Term → Bool
 has_many_ways cond = nat_lt most_cases (cases_of cond).truth
     || nat_lt most_cases (cases_of cond).falsity
 
+-- the fault of a condition with too many cases, told at its place: one or none
 abbrev pub truth_faults : Env → SourceExpr → List TypeError
 truth_faults env cond = when (has_many_ways (term_of (term_in env cond)))
     (Many limited.Cases (place_of cond))
 
+-- the faults of a condition: those of its expression, and too many cases
 abbrev pub condition_faults : Env → SourceExpr → List TypeError
 condition_faults env cond = expression_faults env false cond ++ truth_faults env cond
 
@@ -142,12 +146,16 @@ special_faults number terms Error at args = number_faults number at
 special_faults number terms Abort at args = []
 special_faults number terms Exit at args = []
 
+-- what is wrong with all arguments of a call by itself, beside the faults of each: too many cases
+-- together, or what a special call asks for
 abbrev pub argument_faults : ℕ → List Core → Callee → ℕ → SourceExprs → List TypeError
 argument_faults number terms (callee.Special special) at args =
     special_faults number terms special at args
 argument_faults number terms (callee.Own signature) at args = many_together terms args
 argument_faults number terms callee.Nobody at args = many_together terms args
 
+-- the faults of a call that is a statement by itself: of the call, of each argument, and of all
+-- arguments
 abbrev pub act_faults : Env → SourceExpr → List TypeError
 act_faults env (Call at name args) =
     statement_call_faults (callee_of env.scopes name) at name (count_of args)

@@ -45,6 +45,7 @@ put_in env col (Call at name args) =
     all_calls_in env args ++ call_statement (callee_of env.scopes name) (terms_in env args) col ∷ []
 put_in env col value = calls_in env value ++ stmt.Set col (term_in env value) ∷ []
 
+-- how many temporaries a whole right side takes: where it is a call, those of its arguments alone
 abbrev pub put_temporaries : SourceExpr → ℕ
 put_temporaries (Call at name args) = all_temporaries args
 put_temporaries value = temporaries value
@@ -64,6 +65,8 @@ special_statements number Error args = stmt.Check number (core.Lit (pos 0)) ∷ 
 special_statements number Abort args = stmt.Guard (core.Lit (pos 0)) ∷ []
 special_statements number Exit args = stmt.Guard (core.Lit (pos 0)) ∷ []
 
+-- the statements of a call by itself, with this number where it is an assertion: one, or none where
+-- its value would be any number
 abbrev pub act_statements : ℕ → Callee → List Core → List Stmt
 act_statements number (callee.Special special) args = special_statements number special args
 act_statements number (callee.Own signature) args = stmt.Call signature.number args None ∷ []
@@ -77,20 +80,23 @@ act_in env (Call at name args) =
     (terms_in env args)
 act_in env other = calls_in env other
 
+-- the call of a name is an assertion; never where the name isn't special
 abbrev pub if_assertion : Option Special → Bool
 if_assertion (Some special) = is_assertion special
 if_assertion None = false
 
+-- a call of this callee is an assertion
 abbrev pub callee_asserts : Callee → Bool
 callee_asserts (callee.Special special) = is_assertion special
 callee_asserts (callee.Own signature) = false
 callee_asserts callee.Nobody = false
 
--- the places of the assertions in it: one or none
+-- a place where a test holds, and else none
 abbrev pub listed_if : Bool → ℕ → List ℕ
 listed_if true at = at ∷ []
 listed_if false at = []
 
+-- the places of the assertions in a call that is a statement by itself: one or none
 abbrev pub act_checks : SourceExpr → List ℕ
 act_checks (Call at name args) = listed_if (if_assertion (special_of name)) at
 act_checks other = []

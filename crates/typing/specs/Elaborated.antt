@@ -13,6 +13,7 @@ use Rattle.typing.specs.Scopes.{Scope}
 use Rattle.typing.specs.Specials.{is_main}
 use Rattle.typing.specs.Texts.{body_columns, body_env, count_globals, declarations}
 
+-- the globals with their names and first values, in the order of the text
 abbrev pub globals_of : List Item → List GlobalVar
 globals_of [] = []
 globals_of (Global name at init ∷ rest) = record { name = name; init = init } ∷ globals_of rest
@@ -56,6 +57,7 @@ main_from procs (Proto name at returns params ∷ rest) = main_from procs rest
 main_from procs (Body name at returns params lines end ∷ rest) =
     if is_main name then Some procs else main_from (procs + 1) rest
 
+-- the core program that a text stands for; its `main` is 0 where the text has none
 abbrev pub elaborated_program : List Item → Program
 elaborated_program items = record {
   globals = globals_of items;

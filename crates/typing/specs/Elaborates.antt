@@ -5,6 +5,7 @@ use Rattle.syntax_tree.specs.declared.tree.Item.{Item}
 use Rattle.typing.specs.Elaborated.{elaborated_program}
 use Rattle.typing.specs.Faults.{elaboration_of, faults_of}
 
+-- the text has no fault, and stands for this program
 pub record Elaborates (items : List Item) (length_of_text : ℕ) (program : Program) : Type 0 where
   pub faultless : faults_of items length_of_text ≡ []
   pub same : program ≡ elaborated_program items

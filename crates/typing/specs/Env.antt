@@ -19,13 +19,15 @@ with_variable name env =
 unfoldable pub with_assertions : ℕ → Env → Env
 with_assertions assertions env = record env { number = env.number + assertions }
 
--- in a scope of its own, and behind it
+-- in a scope of its own, which has no declaration yet
 unfoldable pub with_scope : Env → Env
 with_scope env = record env { scopes = [] ∷ env.scopes }
 
+-- behind the innermost scope, whose declarations are gone
 unfoldable pub without_scope : Env → Env
 without_scope env = record env { scopes = outer_of env.scopes }
 
+-- at another place with respect to loops: outside, in a body or in a step
 unfoldable pub with_place : LoopPlace → Env → Env
 with_place place env = record env { place = place }
 

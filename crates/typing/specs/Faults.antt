@@ -60,6 +60,7 @@ abbrev pub agrees_in_number : Option ℕ → ℕ → Bool
 agrees_in_number None params = true
 agrees_in_number (Some count) params = count == params
 
+-- a prototype and a procedure both return a value, or neither does
 abbrev pub agrees_in_value : Bool → Bool → Bool
 agrees_in_value true returns = returns
 agrees_in_value false returns = not returns
@@ -71,6 +72,7 @@ agrees returns params (Some (Procedure signature)) =
 agrees returns params (Some (Variable col)) = true
 agrees returns params None = true
 
+-- the prototypes that don't agree with the procedure of their name, in the order of the text
 abbrev pub prototype_faults : Scope → List Item → List TypeError
 prototype_faults procs [] = []
 prototype_faults procs (Global name at init ∷ rest) = prototype_faults procs rest
@@ -81,6 +83,7 @@ prototype_faults procs (Body name at returns params lines end ∷ rest) = protot
 
 -- ---- procedures
 
+-- the faults of the declarations of parameters, in their order
 abbrev pub params_faults : Env → List Param → List TypeError
 params_faults env [] = []
 params_faults env (param ∷ rest) = declare_faults env param.at param.name ++ params_faults
@@ -92,6 +95,7 @@ node_faults env lines end =
     when (nat_lt most_nodes (graph_nodes (code_of (all_statements_of env lines))))
     (Many limited.Nodes end)
 
+-- the faults of a procedure: of its parameters, of its lines, and too many nodes
 abbrev pub body_faults : Scope → ℕ → ℕ → Bool → List Param → List Line → ℕ → List TypeError
 body_faults text globals number returns params lines end =
     params_faults (beginning text globals number returns (length (body_columns params lines)))
@@ -99,6 +103,7 @@ body_faults text globals number returns params lines end =
     ++ all_faults_in (body_env text globals number returns params lines) (source_lines_of lines)
     ++ node_faults (body_env text globals number returns params lines) (source_lines_of lines) end
 
+-- the faults of all procedures, in the order of the text, behind so many assertions
 abbrev pub procs_faults : Scope → ℕ → ℕ → List Item → List TypeError
 procs_faults text globals number [] = []
 procs_faults text globals number (Global name at init ∷ rest) =
@@ -111,6 +116,7 @@ procs_faults text globals number (Body name at returns params lines end ∷ rest
 
 -- ---- all of them
 
+-- all faults of a text; want of a `main` is told at its end
 abbrev pub faults_of : List Item → ℕ → List TypeError
 faults_of items length_of_text =
     declaration_faults [] 0 0 items
@@ -118,7 +124,7 @@ faults_of items length_of_text =
     ++ procs_faults (declarations 0 0 items) (count_globals items) 0 items
     ++ when (is_none (main_from 0 items)) (NoMain length_of_text)
 
--- the place of a fault, and its rank among those at one place
+-- the place of a fault in the text; 0 for want of memory
 abbrev pub fault_place : TypeError → ℕ
 fault_place (Unknown at) = at
 fault_place (Twice at) = at
@@ -129,6 +135,7 @@ fault_place (Many what at) = at
 fault_place (NoMain at) = at
 fault_place Memory = 0
 
+-- the rank of a limit that is passed among the faults at one place, from 5 to 11
 abbrev pub limited_rank : Limited → ℕ
 limited_rank limited.Procedures = 5
 limited_rank limited.Parameters = 6
@@ -138,6 +145,7 @@ limited_rank limited.Nodes = 9
 limited_rank limited.Assertions = 10
 limited_rank limited.Cases = 11
 
+-- the rank of a fault among those at one place, from 0, in the order of the variants
 abbrev pub fault_rank : TypeError → ℕ
 fault_rank (Unknown at) = 0
 fault_rank (Twice at) = 1
@@ -154,6 +162,7 @@ comes_before fault other =
     nat_lt (fault_place fault) (fault_place other)
     || (fault_place fault == fault_place other && nat_lt (fault_rank fault) (fault_rank other))
 
+-- the one of two faults that comes before the other; the only one where none stands already
 abbrev pub lesser : Option TypeError → TypeError → TypeError
 lesser None fault = fault
 lesser (Some least) fault = if comes_before fault least then fault else least
@@ -163,6 +172,7 @@ abbrev pub least_of : Option TypeError → List TypeError → Option TypeError
 least_of least [] = least
 least_of least (fault ∷ rest) = least_of (Some (lesser least fault)) rest
 
+-- the fault if there is one, and else the program
 abbrev pub unless_fault : Option TypeError → Program → Result Program TypeError
 unless_fault None program = Ok program
 unless_fault (Some fault) program = Err fault

@@ -7,6 +7,8 @@ use Rattle.typing.specs.declared.scopes.Held.{Held}
 use Rattle.typing.specs.declared.scopes.Declaration.{Declaration}
 use Rattle.typing.specs.Scopes.{Entry, Scope, meaning_in}
 
+-- the declaration in a scope with so many around it, and the one in force outside where the scope
+-- has none
 abbrev pub or_held : ℕ → Option Meaning → Option Held → Option Held
 or_held depth None outer = outer
 or_held depth (Some meaning) outer = Some record { depth = depth; meaning = meaning }
@@ -17,6 +19,7 @@ abbrev pub in_force : List Scope → List ℕ → Option Held
 in_force [] name = None
 in_force (scope ∷ outer) name = or_held (length outer) (meaning_in scope name) (in_force outer name)
 
+-- the declaration that is held, if there is an entry and it holds one
 abbrev pub flat : Option (Option Held) → Option Held
 flat None = None
 flat (Some held) = held

@@ -17,6 +17,7 @@ use Rattle.typing.specs.Specials.{is_special}
 abbrev pub twice_faults : List Scope → ℕ → List ℕ → List TypeError
 twice_faults scopes at name = when (is_special name || is_declared_here scopes name) (Twice at)
 
+-- the faults of a declaration in the innermost scope: of its name, and a column too many
 abbrev pub declare_faults : Env → ℕ → List ℕ → List TypeError
 declare_faults env at name = twice_faults env.scopes at name ++ slot_faults env at
 
@@ -26,9 +27,11 @@ may_leave Outside = false
 may_leave InBody = true
 may_leave InStep = false
 
+-- the fault of a `break` or `continue` outside of the body of a loop: one or none
 abbrev pub leave_faults : Env → ℕ → List TypeError
 leave_faults env at = when (not (may_leave env.place)) (Unknown at)
 
+-- the faults of the value with which a local begins; [] where there is none
 abbrev pub init_faults : Env → Option SourceExpr → List TypeError
 init_faults env None = []
 init_faults env (Some value) = put_faults env value

@@ -17,12 +17,15 @@ use Rattle.typing.specs.Terms.{temporaries, term_in}
 
 -- ---- columns
 
+-- the column of a parameter or a local, with its name
 abbrev pub named_column : List ℕ → Column
 named_column name = record { name = Some name }
 
+-- so many columns without a name, as temporaries are
 abbrev pub nameless : ℕ → List Column
 nameless count = replicate count (record { name = None })
 
+-- the temporaries of a value that goes into a column; [] where there is no value
 abbrev pub value_columns : Option SourceExpr → List Column
 value_columns None = []
 value_columns (Some value) = nameless (put_temporaries value)
@@ -74,17 +77,20 @@ abbrev mutual
 
 -- ---- what is left behind
 
+-- behind a value, whose temporaries are taken; nothing changes where there is none
 abbrev pub with_value : Option SourceExpr → Env → Env
 with_value None env = env
 with_value (Some value) env = with_columns_taken (put_temporaries value) env
 
--- in the body of a loop, which is a scope, and behind it
+-- in the body of a loop, which is a scope
 abbrev pub in_body : Env → Env
 in_body env = with_scope (with_place (body_place env.place) env)
 
+-- behind the body of a loop that stands at this place: the body's scope is gone
 abbrev pub behind_body : LoopPlace → Env → Env
 behind_body place env = with_place place (without_scope env)
 
+-- in the step of a loop, which nothing leaves
 abbrev pub in_step : Env → Env
 in_step env = with_place InStep env
 
@@ -119,37 +125,43 @@ abbrev mutual
 
 -- ---- the parts of a line
 
--- the second branch of an `if` stands behind the first
+-- in the first branch of an `if`, which is a scope, behind the temporaries of the condition
 abbrev pub in_branch : Env → SourceExpr → Env
 in_branch env cond = with_scope (with_columns_taken (temporaries cond) env)
 
+-- in the second branch of an `if`, behind the columns and assertions of the first
 abbrev pub in_second_branch : Env → SourceExpr → SourceLines → Env
 in_second_branch env cond on_true =
     with_scope (without_scope (after_all (in_branch env cond) on_true))
 
--- the condition of a loop that tests first, its step and its body
+-- at the condition of a loop that tests first, behind its initialiser
 abbrev pub at_test : Env → SourceLines → Env
 at_test env init = after_all (with_scope env) init
 
+-- at the step of a loop that tests first, behind its condition
 abbrev pub at_step : Env → SourceLines → SourceExpr → Env
 at_step env init cond = in_step (with_columns_taken (temporaries cond) (at_test env init))
 
+-- at the body of a loop that tests first, behind its step
 abbrev pub at_body : Env → SourceLines → SourceExpr → SourceLines → Env
 at_body env init cond step = in_body (with_place env.place (after_all (at_step env init cond) step))
 
--- the body of a `do`, its condition and its step
+-- at the body of a `do`, which comes first
 abbrev pub at_first_body : Env → SourceLines → Env
 at_first_body env init = in_body (after_all (with_scope env) init)
 
+-- at the condition of a `do`, behind its body
 abbrev pub at_last_test : Env → SourceLines → SourceLines → Env
 at_last_test env init body = behind_body env.place (after_all (at_first_body env init) body)
 
+-- at the step of a `do`, behind its condition
 abbrev pub at_last_step : Env → SourceLines → SourceLines → SourceExpr → Env
 at_last_step env init body cond =
     in_step (with_columns_taken (temporaries cond) (at_last_test env init body))
 
 -- ---- statements
 
+-- the statements that put a value into a column; [] where there is no value
 abbrev pub value_statements : Env → ℕ → Option SourceExpr → List Stmt
 value_statements env col None = []
 value_statements env col (Some value) = put_in env col value

@@ -22,6 +22,7 @@ meaning_in [] name = None
 meaning_in (entry ∷ rest) name = if bytes_eq entry.0 name then Some entry.1
     else meaning_in rest name
 
+-- the meaning in a scope, and the one in the scopes around it where the scope has none
 abbrev pub or_outer : Option Meaning → Option Meaning → Option Meaning
 or_outer None outer = outer
 or_outer (Some meaning) outer = Some meaning
@@ -47,6 +48,7 @@ abbrev pub outer_of : List Scope → List Scope
 outer_of [] = []
 outer_of (scope ∷ outer) = outer
 
+-- the column of a variable; None where a name means a procedure or nothing
 abbrev pub if_variable : Option Meaning → Option ℕ
 if_variable (Some (Variable col)) = Some col
 if_variable (Some (Procedure signature)) = None
@@ -60,11 +62,14 @@ variable_of scopes name = if is_special name then None else if_variable (meaning
 abbrev pub column_of : List Scope → List ℕ → ℕ
 column_of scopes name = unwrap_or (variable_of scopes name) 0
 
+-- the callee where a name means a procedure of the text; nobody where it means a variable or
+-- nothing
 abbrev pub if_procedure : Option Meaning → Callee
 if_procedure (Some (Procedure signature)) = callee.Own signature
 if_procedure (Some (Variable col)) = callee.Nobody
 if_procedure None = callee.Nobody
 
+-- the special callee of a name that is special, and the other callee where it is none
 abbrev pub if_special : Option Special → Callee → Callee
 if_special (Some special) other = callee.Special special
 if_special None other = other

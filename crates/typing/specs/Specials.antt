@@ -17,6 +17,7 @@ special_of name =
     if bytes_eq name (codes "abort") then Some Abort else (
     if bytes_eq name (codes "exit") then Some Exit else None)))))
 
+-- the name is one of the special ones
 abbrev pub is_special : List ℕ → Bool
 is_special name = is_some (special_of name)
 

@@ -17,6 +17,7 @@ place_of (Call at name args) = at
 place_of (Unary at sign inner) = at
 place_of (Binary at op left right) = at
 
+-- how many expressions there are
 abbrev pub count_of : SourceExprs → ℕ
 count_of End = 0
 count_of (Then expr rest) = 1 + count_of rest
@@ -43,6 +44,7 @@ term_in env (Unary at sign inner) = core.Unary sign (term_in env inner)
 term_in env (Binary at op left right) =
     core.Binary op (term_in env left) (term_in (with_columns_taken (temporaries left) env) right)
 
+-- several expressions in their order, each with its temporaries behind those of the ones before it
 abbrev pub terms_in : Env → SourceExprs → List Core
 terms_in env End = []
 terms_in env (Then expr rest) =

@@ -15,6 +15,8 @@ use Rattle.typing.specs.Env.{with_variable}
 use Rattle.typing.specs.Lines.{all_columns_of, named_column}
 use Rattle.typing.specs.Scopes.{Scope}
 
+-- what the name of a procedure means: its number, how many parameters it has, and whether it
+-- returns a value
 abbrev pub procedure : ℕ → Bool → List Param → Meaning
 procedure number returns params = Procedure (record {
   number = number;
@@ -44,18 +46,21 @@ abbrev pub top : List Scope → Scope
 top [] = []
 top (scope ∷ outer) = scope
 
+-- how many globals a text declares
 abbrev pub count_globals : List Item → ℕ
 count_globals [] = 0
 count_globals (Global name at init ∷ rest) = 1 + count_globals rest
 count_globals (Proto name at returns params ∷ rest) = count_globals rest
 count_globals (Body name at returns params lines end ∷ rest) = count_globals rest
 
+-- how many procedures with a body a text has
 abbrev pub count_bodies : List Item → ℕ
 count_bodies [] = 0
 count_bodies (Global name at init ∷ rest) = count_bodies rest
 count_bodies (Proto name at returns params ∷ rest) = count_bodies rest
 count_bodies (Body name at returns params lines end ∷ rest) = 1 + count_bodies rest
 
+-- the column of a parameter, which has its name
 abbrev pub param_column : Param → Column
 param_column param = named_column param.name
 
@@ -63,6 +68,7 @@ param_column param = named_column param.name
 abbrev pub body_columns : List Param → List Line → List Column
 body_columns params lines = map param_column params ++ all_columns_of (source_lines_of lines)
 
+-- behind the declarations of parameters, which take the next columns in their order
 abbrev pub with_params : Env → List Param → Env
 with_params env [] = env
 with_params env (param ∷ rest) = with_params (with_variable param.name env) rest

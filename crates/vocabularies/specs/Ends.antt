@@ -17,6 +17,7 @@ use Rattle.vocabularies.specs.Harvest.{harvest_of}
 abbrev pub entry_width : Program → Proc → ℕ
 entry_width program p = length program.globals + p.params
 
+-- the number of columns for a returned value, 1 where there is one and else 0
 abbrev pub value_width : Bool → ℕ
 value_width true = 1
 value_width false = 0

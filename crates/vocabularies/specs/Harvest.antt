@@ -24,6 +24,7 @@ use Rattle.syntax_tree.specs.Code.{Statement, Set, Any, Call, Guard, Check, If, 
 
 -- ---- expressions that are polynomials
 
+-- the sign is `+` or `-`
 abbrev pub keeps_polynomials : Sign → Bool
 keeps_polynomials Plus = true
 keeps_polynomials Minus = true
@@ -44,11 +45,13 @@ is_polynomial (Unary sign inner) = keeps_polynomials sign && is_polynomial inner
 is_polynomial (Binary op left right) = is_ring_operator op
     && (is_polynomial left && is_polynomial right)
 
+-- a polynomial under a sign; 0 under `!`
 abbrev pub with_sign : Sign → Polynomial → Made
 with_sign Plus p = Ok p
 with_sign Minus p = negative_of (Ok p)
 with_sign Not p = whole (pos 0)
 
+-- the sum, the difference or the product of two polynomials; 0 for another operator
 abbrev pub combination_of : Op → Polynomial → Polynomial → Made
 combination_of Add p q = Ok p ⊞ Ok q
 combination_of Sub p q = Ok p ⊟ Ok q
@@ -65,6 +68,7 @@ polynomial_of (Binary op left right) = polynomial_of left >>= λ p. polynomial_o
 
 -- ---- the term of a comparison
 
+-- the operator compares two numbers
 abbrev pub is_comparison : Op → Bool
 is_comparison Lt = true
 is_comparison Le = true
@@ -83,9 +87,11 @@ abbrev pub is_linear : Terms → Bool
 is_linear [] = false
 is_linear (t ∷ ts) = are_single (t ∷ ts)
 
+-- the row that says that a polynomial without its constant is zero
 abbrev pub equation_of : Polynomial → Row
 equation_of p = record { poly = without_constant p; kind = Equal }
 
+-- the polynomial of a normal form; None where that is constant, or cannot be made
 abbrev pub kept_term : Result Normal TermError → Option Polynomial
 kept_term (Ok (Constant holds)) = None
 kept_term (Ok (Kept row)) = Some row.poly
@@ -108,6 +114,7 @@ compared_term op left right =
 -- stand, a loop by its
 -- preparation, condition, body and step
 
+-- the terms of the comparisons in an expression, its own before those of its operands
 abbrev pub compared_terms : Term → List Polynomial
 compared_terms (Lit value) = []
 compared_terms (Col col) = []
@@ -115,6 +122,7 @@ compared_terms (Unary sign inner) = compared_terms inner
 compared_terms (Binary op left right) = option_to_list (compared_term op left right)
     ++ (compared_terms left ++ compared_terms right)
 
+-- the terms of the comparisons in a list of expressions, in order
 abbrev pub compared_each : List Term → List Polynomial
 compared_each [] = []
 compared_each (e ∷ es) = compared_terms e ++ compared_each es

@@ -19,11 +19,13 @@ use Rattle.wire.specs.declared.answers.AnswerKind.TheVariants.{Infeasible, Point
 use Rattle.wire.specs.Numbers.{ratio, whole}
 use Rattle.wire.specs.Shapes.{Reading, boolean, field, list, small}
 
+-- a certificate of a bound: the multipliers of the rows of a case, the scale and the sum
 abbrev pub cert : Reading Cert
 cert d = field (codes "by") (list whole) d >>= λ by. field (codes "scale") whole d
     >>= λ scale. field (codes "sum") whole d
     >>= λ sum. Ok record { scale = scale; sum = sum; by = by }
 
+-- what ties a relation to 0 in a case: multipliers and a scale downwards, and upwards
 abbrev pub tie : Reading Tie
 tie d = field (codes "down") (list whole) d >>= λ down. field (codes "down_scale") whole d
     >>= λ down_scale. field (codes "up") (list whole) d
@@ -34,6 +36,7 @@ tie d = field (codes "down") (list whole) d >>= λ down. field (codes "down_scal
       down = down;
     }
 
+-- a relation, with a tie for each case
 abbrev pub relation : Reading Relation
 relation d = field (codes "a") (list whole) d >>= λ a. field (codes "b") (list whole) d
     >>= λ b. field (codes "c") whole d
@@ -44,6 +47,7 @@ relation d = field (codes "a") (list whole) d >>= λ a. field (codes "b") (list 
       ties = ties;
     }
 
+-- a point of a case, with the number of the case
 abbrev pub spot : Reading Spot
 spot d = field (codes "at") (list ratio) d >>= λ at. field (codes "case") small d
     >>= λ case. Ok record {
@@ -51,6 +55,7 @@ spot d = field (codes "at") (list ratio) d >>= λ at. field (codes "case") small
       at = at;
     }
 
+-- two numbers whose product or sum, as `times` says, leaves 128 bits
 abbrev pub wide : Reading Why
 wide d = field (codes "left") whole d >>= λ left. field (codes "right") whole d
     >>= λ right. field (codes "times") boolean d
@@ -61,25 +66,30 @@ abbrev pub is_pivots : Option (List ℕ) → Bool
 is_pivots None = false
 is_pivots (Some word) = bytes_eq word (codes "pivots")
 
+-- why there is no other answer: too many pivots, or a number that leaves 128 bits
 abbrev pub limit : Reading Why
 limit d = if is_pivots (as_str d) then Ok Pivots else wide d
 
+-- the answer that there is a greatest number, with certificates and a point that reaches it
 abbrev pub bound : Reading Answer
 bound d = field (codes "at") whole d >>= λ at. field (codes "case") small d
     >>= λ case. field (codes "certs") (list cert) d
     >>= λ certs. field (codes "point") (list ratio) d >>= λ point. Ok (Bound at certs case point)
 
+-- the answer that there is no supremum, with a point of a case and a ray
 abbrev pub unbounded_answer : Reading Answer
 unbounded_answer d = field (codes "case") small d >>= λ case. field (codes "point") (list ratio) d
     >>= λ point. field (codes "ray") (list ratio) d
     >>= λ ray. Ok (Unbounded case point ray)
 
+-- the answer that lists all relations, with spots and the numbers that show that there are no more
 abbrev pub basis : Reading Answer
 basis d = field (codes "free") (list (list ratio)) d >>= λ free. field (codes "relations")
     (list relation) d
     >>= λ relations. field (codes "spots") (list spot) d
     >>= λ spots. Ok (Basis relations spots free)
 
+-- the key of a kind of answers
 abbrev pub kind_key : AnswerKind → List ℕ
 kind_key Infeasible = codes "infeasible"
 kind_key Point = codes "point"
@@ -97,9 +107,11 @@ of_kind UnboundedKind d = unbounded_answer d
 of_kind BasisKind d = basis d
 of_kind LimitKind d = limit d >>= λ why. Ok (Limit why)
 
+-- all kinds of answers, each once
 abbrev pub kinds : List AnswerKind
 kinds = Infeasible ∷ Point ∷ BoundKind ∷ UnboundedKind ∷ BasisKind ∷ LimitKind ∷ []
 
+-- the key of a kind is there
 abbrev pub has_kind : Data → AnswerKind → Bool
 has_kind d kind = is_some (get (kind_key kind) d)
 
@@ -113,5 +125,6 @@ abbrev pub of_sole : Option AnswerKind → Reading Answer
 of_sole None d = Err []
 of_sole (Some kind) d = field (kind_key kind) (of_kind kind) d
 
+-- an answer: an object with the key of one kind alone
 abbrev pub answer : Reading Answer
 answer d = of_sole (sole_kind kinds d) d

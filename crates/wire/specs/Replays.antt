@@ -27,10 +27,11 @@ abbrev pub next_place : Option (List ℕ) → ℕ → ℕ
 next_place None taken = taken
 next_place (Some places) taken = slice_index places taken
 
--- the next answer, and all behind those that were taken
+-- the next answer, meant where one is left
 abbrev pub next_of : List Answer → Option (List ℕ) → ℕ → Answer
 next_of answers places taken = answer_at answers (next_place places taken)
 
+-- all answers behind those that were taken, in the order in which they are handed out
 abbrev pub answers_left : List Answer → Option (List ℕ) → ℕ → List Answer
 answers_left answers None taken = drop taken answers
 answers_left answers (Some places) taken = map (answer_at answers) (drop taken places)

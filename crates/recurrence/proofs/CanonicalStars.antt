@@ -28,7 +28,7 @@ use Rattle.polyhedra.proofs.Directed.{directions-over}
 use Rattle.polyhedra.proofs.Shaped.{HasIfMade, bounded-keeps, each-keeps, with_row-keeps}
 use Rattle.recurrence.specs.Star.{star_by, star_of, turns}
 use Rattle.recurrence.proofs.Shaped.{IsCanonicalIfMade, canonical-Ok, canonical-at_most, canonical-difference, canonical-put_in_for, turns-canonical}
-use Rattle.phases.proofs.CanonicalOrder.{AreCanonicalCases, IsCanonicalCase, IsCanonicalFormula, IsCanonicalIf, IsCanonicalRow, finished-canonical}
+use Rattle.recurrence.proofs.CanonicalOrder.{AreCanonicalCases, IsCanonicalCase, IsCanonicalFormula, IsCanonicalIf, IsCanonicalRow, finished-canonical}
 
 -- ---- sums, and the rows of relations
 
