@@ -1,5 +1,0 @@
-use Rattle.graph_rows.proofs.Knowing.{KnownBelow}
-use Rattle.graph_rows.proofs.leaves.are_known.Given as goal
-
-abbrev pub invariant-loop-n : goal.invariant-loop-n
-invariant-loop-n l = KnownBelow l.program l.known l.n
