@@ -1,0 +1,54 @@
+ghost use Rattle.std.specs.Prelude.{◌≡◌, ◌≤◌, length, IfOk};
+ghost use Rattle.summary_cache.specs.Limits.{most_bytes};
+ghost use Rattle.commands.specs.Analyse.{IsReplyToAnalyse, TellsReport, report_reply};
+ghost use Rattle.commands.specs.Status.{IsAnswer};
+ghost use Rattle.commands.specs.Within.{OrRefused};
+
+use crate::reply::{Reply, refused_reply, too_long};
+use crate::status::Status;
+use crate::submitting::analysis_by_finder;
+use items::Items;
+use report::{Report, print, unproved_assertions};
+use std::alloc::{AllocError, Global};
+use summary_cache::{MOST_BYTES, TextError};
+
+/// The answer that tells a report.
+pub(crate) fn report_reply(alloc: Global, report: &Report) -> Result<Reply, AllocError>
+    ensures reply { IfOk result (λ reply. reply ≡ report_reply report.now) }
+    ensures status { IfOk result (λ reply. IsAnswer reply.status) }
+{
+    let text = print(alloc, report)?;
+    let all_proved = unproved_assertions(report) == 0;
+    Ok(Reply {
+        status: if all_proved {
+            Status::AllProved
+        } else {
+            Status::SomeUnproved
+        },
+        text: Items::from_vec(text),
+    })
+}
+
+/// The answer to a text.
+fn text_reply(alloc: Global, text: &[u8]) -> Result<Reply, AllocError>
+    requires { length text.now ≤ most_bytes }
+    ensures reply { IfOk result (OrRefused text.now (TellsReport text.now)) }
+    ensures status { IfOk result (λ reply. IsAnswer reply.status) }
+{
+    match analysis_by_finder(alloc, text) {
+        Ok(last) => report_reply(alloc, &last.report),
+        Err(TextError::Refused(refusal)) => refused_reply(alloc, text, refusal),
+        Err(TextError::Memory) => Err(AllocError),
+    }
+}
+
+/// The answer to an input that is to be analysed.
+pub fn analyse_reply(alloc: Global, input: &[u8]) -> Result<Reply, AllocError>
+    ensures reply { IfOk result (IsReplyToAnalyse input.now) }
+    ensures status { IfOk result (λ reply. IsAnswer reply.status) }
+{
+    if input.len() > MOST_BYTES {
+        return too_long(alloc);
+    }
+    text_reply(alloc, input)
+}

@@ -1,0 +1,28 @@
+//! The commands of `cra`: what the words of the command line and the input are answered with. All
+//! of it goes through `run`, whose contract says what the program does.
+#![tactic(auto)]
+
+mod analysing;
+mod certifying;
+mod checking;
+mod costing;
+mod editing;
+mod help;
+mod input;
+mod laws;
+mod limits;
+mod output;
+mod refusal;
+mod renewing;
+mod replaying;
+mod reply;
+mod run;
+mod sampling;
+mod status;
+mod submitting;
+mod text;
+mod words;
+
+pub use limits::{MOST_FILE, MOST_INPUT};
+pub use run::run;
+pub use status::Status;

@@ -1,7 +1,0 @@
-use Rattle.std.proofs.Common.{◌≡◌, ◌++◌}
-use Rattle.std.specs.List.{flat_map, range_with_len}
-use Rattle.cra.specs.Sample.{call_text}
-use Rattle.cra.proofs.sampling.put_calls.Given as goal
-
-abbrev pub invariant-loop-number : goal.invariant-loop-number
-invariant-loop-number l = l.text.bytes.items ≡ l.initial.text.bytes.items ++ flat_map call_text (range_with_len 1 l.number)

@@ -1,4 +1,0 @@
-use Rattle.cra.proofs.sampling.put_procedure.Goals as goal
-
-pub returns : goal.returns
-returns c = c.put_between.ensures

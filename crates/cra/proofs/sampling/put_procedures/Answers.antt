@@ -1,7 +1,0 @@
-use Rattle.cra.specs.Sample.{procedure_text}
-use Rattle.cra.proofs.Sampled.{parts-more}
-use Rattle.cra.proofs.sampling.put_procedures.Goals as goal
-
-pub loop-number-preserved : goal.loop-number-preserved
-loop-number-preserved c =
-    parts-more procedure_text c.loop-number.number c.args.text.now.bytes.items c.loop-number.text.bytes.items c.put_procedure.new.text.bytes.items c.loop-number.invariant c.in_ok-put_procedure.ensures

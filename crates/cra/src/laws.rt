@@ -1,7 +1,0 @@
-//! Each law is the contract of a function that does nothing.
-ghost use Rattle.cra.specs.Tame.{TameTextsHaveNoLimit};
-
-/// Where every question posed is tame, the report of a text has no limit.
-pub fn law_of_tame_texts()
-    ensures { TameTextsHaveNoLimit }
-{}
