@@ -4,6 +4,7 @@
 #![tactic(auto)]
 
 pub mod group_calls;
+pub mod kept_calls;
 pub mod report_calls;
 pub mod session_calls;
 pub mod summary_calls;
