@@ -120,7 +120,7 @@ impl Total {
     fn store(&mut self, term: (Mono, i128)) -> Result<(), AllocError>
         ensures { OnOk result
             (self.new ≡ record {
-              terms = stored term.0 term.1 self.old.terms;
+              terms = with_coefficient term.0 term.1 self.old.terms;
               rest = self.old.rest;
             }) }
     {

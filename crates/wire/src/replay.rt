@@ -26,7 +26,7 @@ impl Model for ListedAnswers {
 
     ghost view = { λ r.
         record {
-          left = left_from r.answers r.places r.taken;
+          left = answers_left r.answers r.places r.taken;
           taken = r.taken;
           refusals = r.refusals;
         } };
