@@ -249,7 +249,7 @@ bracketed_reads opened inner closed reads (suc level) ops total later spots cut 
     let whole : spots ≡ mark opened marks.OpenRound ∷ inside =
     cut ∙ ap (λ rest. mark opened marks.OpenRound ∷ rest) (append_assoc (grammar.expression_spots inner) (mark closed marks.CloseRound ∷ []) later) in
     begun (suc level) total spots (mark opened marks.OpenRound) inside whole
-    ∙ ap (λ came. came >>= λ read. behind marks.CloseRound read.1 >>= λ after. Ok (grammar.placed opened read.0, after))
+    ∙ ap (λ came. came >>= λ read. behind marks.CloseRound read.1 >>= λ after. Ok (grammar.with_place opened read.0, after))
     (reads level ops total (mark closed marks.CloseRound ∷ later) inside refl count made (omega arith) (closing-ends closed later))
 
 signed_reads : (at : ℕ) (sign : Sign) (inner : Operand) → OperandReads inner → OperandReads (Signed at sign inner)

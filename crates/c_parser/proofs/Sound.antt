@@ -283,9 +283,9 @@ call_found levels at name rest read deeper_found e =
 bracketed_found : (levels at : ℕ) (rest : Rest) (read : SourceExpr × Rest) → Deeper levels → bracketed_expression_by operand levels at rest ≡ Ok read
     → OperandFound levels (state (mark at marks.OpenRound ∷ rest.spots) rest.operators) read
 bracketed_found levels at rest read deeper_found e =
-    on_ok (deeper levels at) (λ level. expression_below (operand level) 6 rest >>= λ inner. behind marks.CloseRound inner.1 >>= λ after. Ok (grammar.placed at inner.0, after)) read e
-    (λ level went e1. on_ok (expression_below (operand level) 6 rest) (λ inner. behind marks.CloseRound inner.1 >>= λ after. Ok (grammar.placed at inner.0, after)) read e1
-    (λ inner came e2. on_ok (behind marks.CloseRound inner.1) (λ after. Ok (grammar.placed at inner.0, after)) read e2
+    on_ok (deeper levels at) (λ level. expression_below (operand level) 6 rest >>= λ inner. behind marks.CloseRound inner.1 >>= λ after. Ok (grammar.with_place at inner.0, after)) read e
+    (λ level went e1. on_ok (expression_below (operand level) 6 rest) (λ inner. behind marks.CloseRound inner.1 >>= λ after. Ok (grammar.with_place at inner.0, after)) read e1
+    (λ inner came e2. on_ok (behind marks.CloseRound inner.1) (λ after. Ok (grammar.with_place at inner.0, after)) read e2
     (λ after closes ended.
     let less = deeper-level levels at level went in
     let closed = behind-mark marks.CloseRound inner.1 after closes in
@@ -301,7 +301,7 @@ bracketed_found levels at rest read deeper_found e =
       counts = omega (arith, closed.2, has.counts);
       made = has.made;
       deep = omega (arith, has.deep, less);
-      stands_for = ap (grammar.placed at) has.stands_for;
+      stands_for = ap (grammar.with_place at) has.stands_for;
     }))))
 
 signed_found : (levels at : ℕ) (found : Sign) (rest : Rest) (read : SourceExpr × Rest) → Deeper levels → signed_operand_by operand levels at found rest ≡ Ok read

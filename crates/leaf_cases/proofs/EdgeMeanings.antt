@@ -129,9 +129,9 @@ cut-reads to s = record { reads = λ case aux. sym (take-map (value_of (numbers 
 
 -- what a callee leaves, put into the caller's state
 abbrev left_in : ℕ → Option ℕ → List ℤ → List ℤ → List ℤ
-left_in globals into s t = walks.received into (number_at globals t) (take globals t ++ drop globals s)
+left_in globals into s t = walks.state_with_value into (number_at globals t) (take globals t ++ drop globals s)
 
-received-read : (w : Valuation) (into : Option ℕ) (value : Polynomial) (posts : List Polynomial) → map (value_of w) (posts_with_value into value posts) ≡ walks.received into (value_of w value) (map (value_of w) posts)
+received-read : (w : Valuation) (into : Option ℕ) (value : Polynomial) (posts : List Polynomial) → map (value_of w) (posts_with_value into value posts) ≡ walks.state_with_value into (value_of w value) (map (value_of w) posts)
 received-read w None value posts = refl
 received-read w (Some col) value posts = map-set (value_of w) posts col value
 
@@ -141,7 +141,7 @@ leaving-reads columns globals into s long = record {
   reads = λ case aux.
       let w = numbers s aux in
       received-read w into (operand globals case) (take globals case.post ++ drop globals (columns_of columns))
-      ∙ (λ i. walks.received into (operand-read s aux case globals i)
+      ∙ (λ i. walks.state_with_value into (operand-read s aux case globals i)
       ((map-append (value_of w) (take globals case.post) (drop globals (columns_of columns))
       ∙ (λ j. sym (take-map (value_of w) globals case.post) j ++ (sym (drop-map (value_of w) globals (columns_of columns)) ∙ ap (drop globals) (columns-read columns s aux long)) j)) i));
 }
@@ -162,12 +162,12 @@ module _ (globals : ℕ) (left : List ℤ) (value : ℤ) (rest : List ℤ) (same
       at-end (x ∷ xs) (suc n) e = at-end xs n (omega arith)
 
   -- what is asked of the callee is the globals, and the value where it is awaited
-  pub left-asked : (into : Option ℕ) → walks.received into (number_at globals (take (awaited_count globals into) (left ++ value ∷ []))) (take globals (take (awaited_count globals into) (left ++ value ∷ [])) ++ rest)
-      ≡ walks.received into value (left ++ rest)
+  pub left-asked : (into : Option ℕ) → walks.state_with_value into (number_at globals (take (awaited_count globals into) (left ++ value ∷ []))) (take globals (take (awaited_count globals into) (left ++ value ∷ [])) ++ rest)
+      ≡ walks.state_with_value into value (left ++ rest)
   left-asked None = ap (λ l. l ++ rest) (take-take globals globals (left ++ value ∷ []) (omega arith) ∙ front-left)
   left-asked (Some col) =
       let all : take (globals + 1) (left ++ value ∷ []) ≡ left ++ value ∷ [] = take_all (globals + 1) (left ++ value ∷ []) (omega (arith, length-append left (value ∷ []))) in
-      (λ i. walks.received (Some col) (number_at globals (all i)) (take globals (all i) ++ rest)) ∙ (λ i. walks.received (Some col) (number-left i) (front-left i ++ rest))
+      (λ i. walks.state_with_value (Some col) (number_at globals (all i)) (take globals (all i) ++ rest)) ∙ (λ i. walks.state_with_value (Some col) (number-left i) (front-left i ++ rest))
 
 -- numbers that a callee leaves, of which only those that are asked are known
 number-taken : (n : ℕ) (t : List ℤ) → number_at n (take (n + 1) t) ≡ number_at n t
@@ -176,7 +176,7 @@ number-taken zero (x ∷ t) = refl
 number-taken (suc n) [] = let e : suc n + 1 ≡ suc (n + 1) = omega arith in ap (λ k. number_at (suc n) (take k [])) e
 number-taken (suc n) (x ∷ t) = let e : suc n + 1 ≡ suc (n + 1) = omega arith in ap (λ k. number_at (suc n) (take k (x ∷ t))) e ∙ number-taken n t
 
-pub asked-left : (globals : ℕ) (into : Option ℕ) (t rest : List ℤ) → walks.received into (number_at globals (take (awaited_count globals into) t)) (take globals (take (awaited_count globals into) t) ++ rest) ≡ walks.received into (number_at globals t) (take globals t ++ rest)
+pub asked-left : (globals : ℕ) (into : Option ℕ) (t rest : List ℤ) → walks.state_with_value into (number_at globals (take (awaited_count globals into) t)) (take globals (take (awaited_count globals into) t) ++ rest) ≡ walks.state_with_value into (number_at globals t) (take globals t ++ rest)
 asked-left globals None t rest = ap (λ l. l ++ rest) (take-take globals globals t (omega arith))
 asked-left globals (Some col) t rest = λ i. slice_set (take-take globals (globals + 1) t (omega arith) i ++ rest) col (number-taken globals t i)
 

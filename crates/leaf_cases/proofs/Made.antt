@@ -235,8 +235,8 @@ each-held step (case ∷ cases) s y none h =
     go n (inl k) ih = let one = step-held case s y step n k in record { numbers_are = one.numbers_are; holds = inl one.holds; gives = one.gives }
     go n (inr k) ih = let one = ih k in record { numbers_are = one.numbers_are; holds = inr one.holds; gives = one.gives }
 
-pub steps-held : (all : List Step) (cases : List Case) (s y : List ℤ) → steps.lost_by all cases ≡ [] → HoldsSome (steps.cases_by all cases) s y → Stepped all (HoldsSome cases) s y
-unfolding steps.cases_by steps.lost_by
+pub steps-held : (all : List Step) (cases : List Case) (s y : List ℤ) → steps.losses_by_steps all cases ≡ [] → HoldsSome (steps.cases_by all cases) s y → Stepped all (HoldsSome cases) s y
+unfolding steps.cases_by steps.losses_by_steps
 steps-held [] cases s y none h = absurd h
 steps-held (step ∷ more) cases s y none h =
     let parts = none-of (flat_map (losses_at step) cases) (flat_map (λ step. flat_map (losses_at step) cases) more) none in

@@ -76,7 +76,7 @@ relations-tell cases lower = answered-tells _ (relations_in cases lower)
 bound-tells : (goals : Result (List Goal) TermError) → TellsAll (bound_by goals)
 unfolding bound_by
 bound-tells (Ok goals) = answered-tells (Sup goals) bound_in
-bound-tells (Err e) = tells-noted (losses-tell_none (loss.noted e)) (tells-done None)
+bound-tells (Err e) = tells-noted (losses-tell_none (loss.error_losses e)) (tells-done None)
 
 pub with_row-tells : (rows : List Row) (made : Result Row TermError) → TellsAll (with_row rows made)
 unfolding with_row
@@ -125,7 +125,7 @@ thinned_with-tells row place rows = tells-then _ (assent-tells _)
 thinned_by-tells : (made : Result Row TermError) (place : ℕ) (rows : List Row) → TellsAll (thinning_by made place rows)
 unfolding thinning_by
 thinned_by-tells (Ok row) place rows = thinned_with-tells row place rows
-thinned_by-tells (Err e) place rows = tells-noted (losses-tell_none (loss.noted e)) (tells-done rows)
+thinned_by-tells (Err e) place rows = tells-noted (losses-tell_none (loss.error_losses e)) (tells-done rows)
 
 thinned_of-tells : (kind : Kind) (poly : Polynomial) (place : ℕ) (rows : List Row) → TellsAll (thinning_of kind poly place rows)
 thinned_of-tells AtMost poly place rows = thinned_by-tells (negation poly) place rows

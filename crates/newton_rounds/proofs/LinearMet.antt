@@ -74,7 +74,7 @@ state-long : (width : ℕ) (f : Option Transition) → FitsIf width f → (befor
 state-long width None fit before after h = absurd h
 state-long width (Some f) fit before after h = length-after f before after fit.fits h ∙ fit.to
 
-received-long : (into : Option ℕ) (value : ℤ) (state : State) → length (walks.received into value state) ≡ length state
+received-long : (into : Option ℕ) (value : ℤ) (state : State) → length (walks.state_with_value into value state) ≡ length state
 received-long None value state = refl
 received-long (Some col) value state = length-set state col value
 

@@ -105,13 +105,13 @@ call_entry-holds columns globals args le below there values long are =
 
 -- ---- its exit
 
-received-read : (at : Valuation) (into : Option ℕ) (value : Polynomial) (posts : List Polynomial) → map (value_of at) (posts_with_value into value posts) ≡ walks.received into (value_of at value) (map (value_of at) posts)
+received-read : (at : Valuation) (into : Option ℕ) (value : Polynomial) (posts : List Polynomial) → map (value_of at) (posts_with_value into value posts) ≡ walks.state_with_value into (value_of at value) (map (value_of at) posts)
 received-read at None value posts = refl
 received-read at (Some col) value posts = map-set (value_of at) posts col value
 
 -- what is returned is read where it is awaited
 received-same : (into : Option ℕ) (returns : Bool) (left : List ℤ) (value : ℤ) (state : List ℤ) → IsTrue (returns || not (is_some into))
-    → walks.received into (read_number (if_returned returns left value) (length left)) state ≡ walks.received into value state
+    → walks.state_with_value into (read_number (if_returned returns left value) (length left)) state ≡ walks.state_with_value into value state
 unfolding read_number
 received-same None returns left value state h = refl
 received-same (Some col) true left value state h =
@@ -124,7 +124,7 @@ first-left false left value = take_all (length left) left (omega arith)
 
 call_exit-holds : (columns globals : ℕ) (into : Option ℕ) (there entry left : List ℤ) (value : ℤ) (returns : Bool) → length there ≡ columns → length left ≡ globals → IsTrue (returns || not (is_some into))
     → Holds (call_exit columns globals into (length entry) (length (if_returned returns left value))) (there ++ entry)
-    (walks.received into value (left ++ drop globals there) ++ (entry ++ if_returned returns left value))
+    (walks.state_with_value into value (left ++ drop globals there) ++ (entry ++ if_returned returns left value))
 unfolding read_number
 call_exit-holds columns globals into there entry left value returns long short awaits =
     let exits = if_returned returns left value in
@@ -140,9 +140,9 @@ call_exit-holds columns globals into there entry left value returns long short a
     let back : map (value_of at) (drop globals (cases.columns_of columns)) ≡ drop globals there = map-drop (value_of at) globals (cases.columns_of columns) ∙ ap (drop globals) own in
     let first : value_of at (operand globals record { aux = 0; rows = []; post = values }) ≡ read_number exits (length left) =
     got (value_of at) (constant_of (pos 0)) values globals refl ∙ (λ i. unwrap_or (slice_get (read i) (sym short i)) (pos 0)) in
-    let state : map (value_of at) (posts_after_return columns globals into values) ≡ walks.received into value (left ++ drop globals there) =
+    let state : map (value_of at) (posts_after_return columns globals into values) ≡ walks.state_with_value into value (left ++ drop globals there) =
     received-read at into (operand globals record { aux = 0; rows = []; post = values }) (take globals values ++ drop globals (cases.columns_of columns))
-    ∙ (λ i. walks.received into (first i) ((map-append (value_of at) (take globals values) (drop globals (cases.columns_of columns)) ∙ (λ j. front j ++ back j)) i))
+    ∙ (λ i. walks.state_with_value into (first i) ((map-append (value_of at) (take globals values) (drop globals (cases.columns_of columns)) ∙ (λ j. front j ++ back j)) i))
     ∙ received-same into returns left value (left ++ drop globals there) awaits in
     let carried : map (value_of at) (columns_from columns (length entry)) ≡ entry = (λ i. map (value_of at) (columns_from (sym long i) (length entry))) ∙ from-read there entry (read_number exits) in
     record {
@@ -207,7 +207,7 @@ module _ (caller callee : PairEnds) (s : Stretch) (is : IsStretchBetween caller 
     pub short : length left ≡ globals
     pub wide : length (if_returned returns left value) ≡ callee.ends.exit.columns
     pub awaits : IsTrue (returns || not (is_some s.call.into))
-    pub back_is : back ≡ walks.received s.call.into value (left ++ drop globals there)
+    pub back_is : back ≡ walks.state_with_value s.call.into value (left ++ drop globals there)
     pub stops : HoldsIf s.after back final
     pub told : numbers_at (exit_places caller.ends) final ≡ exits
     pub long : length exits ≡ caller.ends.exit.columns
@@ -248,8 +248,8 @@ module _ (caller callee : PairEnds) (s : Stretch) (is : IsStretchBetween caller 
     third-holds : Holds stations.third (there ++ entry_state) (back ++ rest)
     third-holds =
         subst (λ b. Holds stations.third (there ++ entry_state) (b ++ rest)) (sym called.back_is)
-        (subst (λ n. Holds (call_exit columns globals s.call.into n callee.ends.exit.columns) (there ++ entry_state) (walks.received s.call.into value (left ++ drop globals there) ++ rest)) entry-long
-        (subst (λ n. Holds (call_exit columns globals s.call.into (length entry_state) n) (there ++ entry_state) (walks.received s.call.into value (left ++ drop globals there) ++ rest)) called.wide
+        (subst (λ n. Holds (call_exit columns globals s.call.into n callee.ends.exit.columns) (there ++ entry_state) (walks.state_with_value s.call.into value (left ++ drop globals there) ++ rest)) entry-long
+        (subst (λ n. Holds (call_exit columns globals s.call.into (length entry_state) n) (there ++ entry_state) (walks.state_with_value s.call.into value (left ++ drop globals there) ++ rest)) called.wide
         (call_exit-holds columns globals s.call.into there entry_state left value returns there-long called.short called.awaits)))
 
     fourth-holds : Holds stations.fourth (back ++ rest) (final ++ rest)

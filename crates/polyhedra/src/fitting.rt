@@ -168,7 +168,7 @@ fn noted_posts(
     log: &mut Log,
 ) -> Result<Items<Poly>, AllocError>
     requires few { length movement.now.modified < 2 ^ 32 }
-    requires modified { movement.now.modified ≡ changes.modified one f.now }
+    requires modified { movement.now.modified ≡ changes.modified_variables one f.now }
     requires lost { loss_notes movement.now.lost ≡ changes.lost_changes one f.now }
     ensures noted { Adds (changes.lost_changes one f.now) log.old log.new result }
     ensures exact { IfOk result (λ posts. posts ≡ posts_after one f.now) }
@@ -192,7 +192,7 @@ fn squash_rows<O: Oracle>(
 ) -> Result<Items<Row>, WorkError>
     requires between { IsBetween f.now from.now to.now }
     requires one { one ≡ are_same from.now to.now }
-    requires modified { movement.modified ≡ changes.modified one f.now }
+    requires modified { movement.modified ≡ changes.modified_variables one f.now }
     requires moving { movement.moving ≡ changes.moving one f.now }
     requires cases { movement.cases ≡ changes.changes_of one f.now }
     requires occurring { movement.occurring ≡ changes.occurring one f.now }
@@ -244,7 +244,7 @@ fn change_relations<O: Oracle>(
     log: &mut Log,
 ) -> Result<Items<Row>, WorkError>
     requires few { length modified.now < 2 ^ 32 }
-    requires modified { modified.now ≡ changes.modified one f.now }
+    requires modified { modified.now ≡ changes.modified_variables one f.now }
     requires moving { moving.now ≡ changes.moving one f.now }
     requires cases { cases ≡ changes.changes_of one f.now }
     requires occurring { occurring.now ≡ changes.occurring one f.now }
@@ -310,7 +310,7 @@ fn bounds<O: Oracle>(
 ) -> Result<Items<Row>, WorkError>
     requires between { IsBetween f.now from.now to.now }
     requires one { one ≡ are_same from.now to.now }
-    requires modified { modified.now ≡ changes.modified one f.now }
+    requires modified { modified.now ≡ changes.modified_variables one f.now }
     ensures { Follows O.asking oracle.old oracle.new log.old log.new result
         (with_bounds one f.now from.now to.now rows) }
 {
@@ -345,7 +345,7 @@ fn exit_bounds<O: Oracle>(
     requires columns { to.now.columns ≡ f.now.to }
     requires valid { IsVocabulary to.now }
     requires few { length modified.now < 2 ^ 32 }
-    requires modified { modified.now ≡ changes.modified one f.now }
+    requires modified { modified.now ≡ changes.modified_variables one f.now }
     ensures { Follows O.asking oracle.old oracle.new log.old log.new result
         (each (rows_with_exit_bound f.now.cases (posts_after one f.now)) rows (directions to.now)) }
 {
@@ -378,7 +378,7 @@ fn differences<O: Oracle>(
     requires valid { IsVocabulary from.now }
     requires ends { one ≡ true → f.now.from ≡ f.now.to }
     requires few { length modified.now < 2 ^ 32 }
-    requires modified { modified.now ≡ changes.modified one f.now }
+    requires modified { modified.now ≡ changes.modified_variables one f.now }
     requires entry { entry.now ≡ directions from.now }
     ensures { Follows O.asking oracle.old oracle.new log.old log.new result
         (with_differences one f.now from.now rows) }

@@ -180,8 +180,8 @@ thinned-canonical case k =
     always_bind (AllByRecursion IsCanonicalRow) IsCanonicalCase (thinned_rows case.rows) (λ rows. Done record { aux = case.aux; rows = rows; post = case.post })
     (thinned_rows-keep (AllByRecursion IsCanonicalRow) removed-canonical case.rows k) (λ rows h. h)
 
-pub finished-canonical : (case : Case) → IsCanonicalCase case → Always IsCanonicalIf (finish.finished case)
-unfolding finish.finished cut ◌>>=◌
+pub finished-canonical : (case : Case) → IsCanonicalCase case → Always IsCanonicalIf (finish.finish_of_case case)
+unfolding finish.finish_of_case cut ◌>>=◌
 finished-canonical case k = go (in_order case).left (in_order-canonical case k)
   where
     go : (o : Option Case) → IsCanonicalIf o → Always IsCanonicalIf (finished_left o)

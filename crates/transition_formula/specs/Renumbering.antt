@@ -22,7 +22,7 @@ new_number case n = count_below (occurs_in case) n
 -- the row with new numbers for its auxiliaries
 abbrev pub renumbered_row : (ℕ → ℕ) → Row → Row
 renumbered_row number row = record {
-  poly = auxiliaries.renumbered number row.poly;
+  poly = auxiliaries.renumbered_polynomial number row.poly;
   kind = row.kind;
 }
 
@@ -32,7 +32,7 @@ case_renumbered_by number case =
     record {
       aux = number case.aux;
       rows = map (renumbered_row number) case.rows;
-      post = map (auxiliaries.renumbered number) case.post;
+      post = map (auxiliaries.renumbered_polynomial number) case.post;
     }
 
 -- the case without the auxiliaries that occur nowhere, the others numbered from 0 in their order

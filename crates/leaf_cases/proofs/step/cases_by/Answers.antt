@@ -26,7 +26,7 @@ returns-clause-exact c =
     c.loop-step-test.false c.loop-step.invariant.made
 
 pub returns-clause-noted : goal.returns-clause-noted
-unfolding steps.lost_by
+unfolding steps.losses_by_steps
 returns-clause-noted c =
     all_gathered (λ step. flat_map (losses_at step) c.args.cases.now) c.args.steps.now c.loop-step.step-index c.loop-step.losses (c.args.losses.now ++ flat_map (λ step. flat_map (losses_at step) c.args.cases.now) c.args.steps.now)
     c.loop-step-test.false c.loop-step.invariant.noted
