@@ -345,14 +345,14 @@ known_call-canonical columns globals args into None = tt
 known_call-canonical columns globals args into (Some None) = tt
 known_call-canonical columns globals args into (Some (Some callee)) = call-canonical columns globals args into callee
 
-pub leaf-canonical : (columns globals : ℕ) (one_case : List (Option Transition)) (s : Statement) → HaveCanonicalRows (leaf_of columns globals one_case s).cases
-leaf-canonical columns globals one_case (Guard cond) = posts-canonical (λ case. columns_of columns) (lists_of cond).truth.cases (rows-alone (lists_of cond).truth.cases (lists-fine cond).truth)
-leaf-canonical columns globals one_case (Set col value) = posts-canonical (λ case. (set_case columns col case).post) (lists_of value).value.cases (rows-alone (lists_of value).value.cases (lists-fine value).value)
-leaf-canonical columns globals one_case (Any col) = (tt, tt)
-leaf-canonical columns globals one_case (Call proc args into) = known_call-canonical columns globals args into (slice_get one_case proc)
-leaf-canonical columns globals one_case (Check number cond) = tt
-leaf-canonical columns globals one_case (If cond a b) = tt
-leaf-canonical columns globals one_case (Loop pre cond body step first) = tt
-leaf-canonical columns globals one_case Break = tt
-leaf-canonical columns globals one_case Continue = tt
-leaf-canonical columns globals one_case Return = tt
+pub leaf-canonical : (columns globals : ℕ) (known : List (Option Transition)) (s : Statement) → HaveCanonicalRows (leaf_of columns globals known s).cases
+leaf-canonical columns globals known (Guard cond) = posts-canonical (λ case. columns_of columns) (lists_of cond).truth.cases (rows-alone (lists_of cond).truth.cases (lists-fine cond).truth)
+leaf-canonical columns globals known (Set col value) = posts-canonical (λ case. (set_case columns col case).post) (lists_of value).value.cases (rows-alone (lists_of value).value.cases (lists-fine value).value)
+leaf-canonical columns globals known (Any col) = (tt, tt)
+leaf-canonical columns globals known (Call proc args into) = known_call-canonical columns globals args into (slice_get known proc)
+leaf-canonical columns globals known (Check number cond) = tt
+leaf-canonical columns globals known (If cond a b) = tt
+leaf-canonical columns globals known (Loop pre cond body step first) = tt
+leaf-canonical columns globals known Break = tt
+leaf-canonical columns globals known Continue = tt
+leaf-canonical columns globals known Return = tt

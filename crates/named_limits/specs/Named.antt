@@ -74,12 +74,12 @@ verdict_on (Some a) = verdict_of (place_of a.program a.p) a.cond a.entry a.stand
 
 -- The share of an assertion. The limit that its verdict carries, if it carries one, was the answer
 -- to the question whether the rows of its case are infeasible.
-pub record IsAssertionNamed (numbered_assertion : Option Asserted) (share : List Answer)
+pub record IsAssertionNamed (asserted : Option Asserted) (share : List Answer)
     (judged : Judged) : Type 0 where
-  pub leads : LeadsTo (verdict_on numbered_assertion) judged.notes share (Done judged.verdict)
+  pub leads : LeadsTo (verdict_on asserted) judged.notes share (Done judged.verdict)
   pub same : AreSame (limits_given share) (limits_judged judged)
   pub own : (case : Case) (limit : Limit) → judged.verdict ≡ UnprovedLimit case limit
-      → WasAsked (verdict_on numbered_assertion) share (Infeasible case.rows) (answer.Limit limit)
+      → WasAsked (verdict_on asserted) share (Infeasible case.rows) (answer.Limit limit)
 
 -- the answers are the shares of the assertions with these numbers, one after another
 pub data AreAssertionsNamed (program : Program) (entries : List (Option Transition))

@@ -127,9 +127,9 @@ module _ (columns : ℕ) where
   difference-made : (a b : Made) → IsPlainIfMade a → IsPlainIfMade b → IsPlainIfMade (a ⊟ b)
   difference-made a b of_a of_b = record {
     as_made = λ r e.
-        on_ok a (λ p. b >>= λ q. multiple_of q (negsuc 0) >>= λ negative_of. sum_of_polys p negative_of) r e (λ p f g.
-        on_ok b (λ q. multiple_of q (negsuc 0) >>= λ negative_of. sum_of_polys p negative_of) r g (λ q h l.
-        on_ok (multiple_of q (negsuc 0)) (λ negative_of. sum_of_polys p negative_of) r l (λ t m n.
+        on_ok a (λ p. b >>= λ q. multiple_of q (negsuc 0) >>= λ turned. sum_of_polys p turned) r e (λ p f g.
+        on_ok b (λ q. multiple_of q (negsuc 0) >>= λ turned. sum_of_polys p turned) r g (λ q h l.
+        on_ok (multiple_of q (negsuc 0)) (λ turned. sum_of_polys p turned) r l (λ t m n.
         sum-plain p t r n (of_a.as_made p f) (multiple-plain q (negsuc 0) t m (of_b.as_made q h)))));
   }
 

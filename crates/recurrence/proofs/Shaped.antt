@@ -122,10 +122,10 @@ sum_row-canonical d s g most k =
     (canonical-difference (whole (pos 2) ⊠ Ok d ⊟ whole (pos 2) ⊠ column k ⊠ Ok s) (whole g ⊠ column k ⊠ (column k ⊟ whole (pos 1)))
     (canonical-difference (whole (pos 2) ⊠ Ok d) (whole (pos 2) ⊠ column k ⊠ Ok s) (canonical-product (whole (pos 2)) (Ok d)))))
 
-progression_row-canonical : (change_over_turns : ℕ → Made) (k : Col) (p : Progression) (most : ℤ) → IsCanonicalRow (progression_row change_over_turns k p most)
-progression_row-canonical change_over_turns k p most = record {
+progression_row-canonical : (moved : ℕ → Made) (k : Col) (p : Progression) (most : ℤ) → IsCanonicalRow (progression_row moved k p most)
+progression_row-canonical moved k p most = record {
   as_made = λ r e.
-      on_ok (whole p.up ⊠ change_over_turns p.variable) (λ d. times p.by p.term.relation.c >>= λ g. (whole p.by ⊠ Ok p.term.recurrence.start) >>= λ s. sum_row d s g most k) r e (λ d e1 f.
+      on_ok (whole p.up ⊠ moved p.variable) (λ d. times p.by p.term.relation.c >>= λ g. (whole p.by ⊠ Ok p.term.recurrence.start) >>= λ s. sum_row d s g most k) r e (λ d e1 f.
       on_ok (times p.by p.term.relation.c) (λ g. (whole p.by ⊠ Ok p.term.recurrence.start) >>= λ s. sum_row d s g most k) r f (λ g e2 h.
       on_ok (whole p.by ⊠ Ok p.term.recurrence.start) (λ s. sum_row d s g most k) r h (λ s e3 l. (sum_row-canonical d s g most k).as_made r l)));
 }

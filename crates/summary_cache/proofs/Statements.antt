@@ -325,10 +325,10 @@ module _ {S : Type 0} (O : Asking S) (rule : ℕ) (old new : S) (text : List ℕ
   pub first-submitted : (last : Last) (counts : Counts) → IsSubmittedOver O rule None old new text last counts → IsWorked O rule old new text (last_analysis last) counts
   first-submitted last counts h =
       let none = none-kept O.allows last.groups.program (findings_by_kept (length h.program.procs) [] []) last.groups.plan last.groups.parts h.marks h.come in
-      let report_by_plan = (h.allowed tt).0 in
-      let long = plan-long h.program report_by_plan.program last.groups.plan report_by_plan.plan h.planned report_by_plan.planned in
+      let analysed = (h.allowed tt).0 in
+      let long = plan-long h.program analysed.program last.groups.plan analysed.plan h.planned analysed.planned in
       record {
-        analysed = report_by_plan;
+        analysed = analysed;
         taken = h.taken ∙ ap (λ answers. with_all (answers ++ last.rest) (O.left new)) none.0;
         refused_none = h.refused_none;
         counted = h.counted ∙ ap (λ n. counts_of n (length last.groups.plan) last.report) none.1 ∙ ap (λ n. counts_of n n last.report) long;
