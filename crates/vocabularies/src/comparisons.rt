@@ -41,7 +41,7 @@ pub(crate) fn body_harvest(alloc: Global, body: &[Stmt]) -> Result<Items<Poly>, 
 }
 
 /// Adds what statements compare, as long as there is room.
-#[cycle(compared_terms)]
+#[cycle(compared)]
 #[tactic(auto, using(crate::proofs::Rooms::rooms, syntax_tree::proofs::Codes::statements))]
 fn add_compared_in(alloc: Global, stmts: &[Stmt], terms: &mut Items<Poly>) -> Result<(), AllocError>
     ensures { OnOk result (terms.new ≡ with_terms terms.old (compared_in (code_of stmts.now))) }
@@ -52,7 +52,7 @@ fn add_compared_in(alloc: Global, stmts: &[Stmt], terms: &mut Items<Poly>) -> Re
     Ok(())
 }
 
-#[cycle(compared_terms)]
+#[cycle(compared)]
 #[tactic(auto, using(crate::proofs::Rooms::rooms, syntax_tree::proofs::Codes::statements))]
 fn add_compared_by(alloc: Global, stmt: &Stmt, terms: &mut Items<Poly>) -> Result<(), AllocError>
     ensures { OnOk result (terms.new ≡ with_terms terms.old (compared_by (statement_of stmt.now))) }

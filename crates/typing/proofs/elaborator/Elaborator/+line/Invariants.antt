@@ -32,8 +32,8 @@ decreases-do_loop l = 5 * (lines_size (source_lines_of l.init.now) + lines_size 
 abbrev pub decreases-block : goal.decreases-block
 decreases-block l = 5 * lines_size (source_lines_of l.lines.now) + 2
 
-abbrev pub decreases-scoped : goal.decreases-scoped
-decreases-scoped l = 5 * lines_size (source_lines_of l.lines.now) + 2
+abbrev pub decreases-scope_statements : goal.decreases-scope_statements
+decreases-scope_statements l = 5 * lines_size (source_lines_of l.lines.now) + 2
 
 abbrev pub decreases-body : goal.decreases-body
 decreases-body l = 5 * lines_size (source_lines_of l.lines.now) + 3
