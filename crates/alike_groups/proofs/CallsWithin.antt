@@ -14,8 +14,8 @@ use Rattle.flow_graph.proofs.Reaching.{reaches_join}
 use Rattle.newton_rounds.specs.Alike.{AreAlikeCallees, AreAlikeGroups, AreAlikeMembers}
 use Rattle.newton_rounds.specs.Members.{place_of}
 use Rattle.newton_rounds.proofs.ApartWalks.{no-place}
-use Rattle.newton_rounds.proofs.Called.{placed-at}
-use Rattle.newton_rounds.proofs.Zipped.{some-one, zipped-at}
+use Rattle.newton_rounds.proofs.GroupCalls.{placed-at}
+use Rattle.newton_rounds.proofs.PairLists.{some-one, zipped-at}
 use Rattle.alike_groups.proofs.CalledAlike.{code-called, contains-at}
 
 -- a member calls a member

@@ -1,6 +1,6 @@
 -- ---- the code
 -- The tests decide what they test.
-pub mod Deciding
+pub mod TestTruth
 -- Lists of statements and of expressions.
 pub mod Lists
 -- ---- what is found of alike groups

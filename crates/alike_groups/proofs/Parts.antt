@@ -20,9 +20,9 @@ use Rattle.newton_rounds.specs.Close.{group_closure}
 use Rattle.newton_rounds.specs.Members.{IsLinear, members_of, place_of, with_table}
 use Rattle.newton_rounds.proofs.Alike.{alike_groups_are_one}
 use Rattle.newton_rounds.proofs.AlikeMembers.{AreMembers, alike-members, alike-subjects}
-use Rattle.newton_rounds.proofs.Called.{placed-at}
+use Rattle.newton_rounds.proofs.GroupCalls.{placed-at}
 use Rattle.newton_rounds.proofs.MemberTables.{first-member}
-use Rattle.newton_rounds.proofs.Zipped.{some-one, zipped-at, zipped-each}
+use Rattle.newton_rounds.proofs.PairLists.{some-one, zipped-at, zipped-each}
 use Rattle.analysis.specs.declared.planning.GroupKind.{GroupKind}
 use Rattle.analysis.specs.declared.planning.GroupKind.TheVariants.{Plain, Linear, Rounds}
 use Rattle.analysis.specs.declared.planning.Planned.{Planned}

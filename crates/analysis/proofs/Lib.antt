@@ -3,21 +3,21 @@ pub mod NotesApart
 -- elements at places
 pub mod Puts
 -- loops
-pub mod Looped
+pub mod ListLoops
 -- what the procedures of a group call
-pub mod Called
-pub mod Grouped
+pub mod BodyCalls
+pub mod NextGroups
 pub mod Ready
 -- the plan
 pub mod OnePlan
 -- what is found, group after group
-pub mod Finding
+pub mod GroupFindings
 -- assertions, and blocks
 pub mod ChecksStand
-pub mod Asserting
+pub mod AssertionParts
 pub mod BlocksKnown
 -- that nothing is left out
-pub mod Covering
-pub mod Ending
+pub mod ReportCover
+pub mod ReportParts
 -- no notes beside the report
 pub mod Quiet

@@ -12,7 +12,7 @@ use Rattle.analysis.specs.declared.planning.GroupKind.{GroupKind}
 use Rattle.analysis.specs.declared.planning.GroupKind.TheVariants.{Plain, Linear, Rounds}
 use Rattle.analysis.specs.declared.planning.Planned.{Planned}
 use Rattle.analysis.specs.Plan.{ArePlannedOf, IsKindOf, IsPlan, IsPlannedOf}
-use Rattle.analysis.proofs.Grouped.{group-there}
+use Rattle.analysis.proofs.NextGroups.{group-there}
 
 module _ (program : Program) where
   pub planned-next : (groups : List Group) (plan : List Planned) (group : Group) (planned : Planned) → ArePlannedOf program groups plan → IsPlannedOf program group planned

@@ -15,7 +15,7 @@ use Rattle.proc_summary.specs.Subject.{own_graph}
 use Rattle.newton_rounds.specs.Claims.{AreKnownMembers, AreMetMembers}
 use Rattle.newton_rounds.specs.Laws.{CallsMember, KnowsOthers}
 use Rattle.newton_rounds.specs.Members.{with_table}
-use Rattle.newton_rounds.proofs.Tabled.{tabled-known}
+use Rattle.newton_rounds.proofs.KnownTables.{tabled-known}
 use Rattle.analysis.specs.Claims.{KnowAllCallees}
 use Rattle.analysis.specs.Found.{put_at}
 use Rattle.analysis.proofs.Puts.{put-come, put-keeps, put-stays, tabled-put}

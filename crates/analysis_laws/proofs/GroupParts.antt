@@ -26,15 +26,15 @@ use Rattle.proc_summary.specs.declared.stop.Flow.{Flow}
 use Rattle.proc_summary.specs.Flow.{flow_from}
 use Rattle.proc_summary.specs.Subject.{subject_of}
 use Rattle.proc_summary.specs.Summary.{ends_of, summary_from}
-use Rattle.proc_summary.proofs.Below.{some_at}
+use Rattle.proc_summary.proofs.CratesBelow.{some_at}
 use Rattle.newton_rounds.specs.Claims.{AreKnownMembers, AreMetMembers}
 use Rattle.newton_rounds.specs.Close.{group_closure}
 use Rattle.newton_rounds.specs.Laws.{KnowsOthers}
 use Rattle.newton_rounds.specs.Members.{IsLinear, members_of, with_table}
-use Rattle.newton_rounds.proofs.Called.{AreThere, member-at, members-many}
+use Rattle.newton_rounds.proofs.GroupCalls.{AreThere, member-at, members-many}
 use Rattle.newton_rounds.proofs.MemberTables.{IsProcedure}
 use Rattle.newton_rounds.proofs.SummariesMet.{summaries-met}
-use Rattle.newton_rounds.proofs.Zipped.{some-one, zipped-at, zipped-length}
+use Rattle.newton_rounds.proofs.PairLists.{some-one, zipped-at, zipped-length}
 use Rattle.flow_laws.specs.Laws.{IsTrueFlow, IsTrueSummary, summary_by_flow}
 use Rattle.flow_laws.proofs.TrueFlows.{flows-true, summaries-true}
 use Rattle.analysis.specs.declared.planning.GroupKind.{GroupKind}

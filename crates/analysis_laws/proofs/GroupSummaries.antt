@@ -24,16 +24,16 @@ use Rattle.newton_rounds.specs.Members.{GroupCall, calls_from, members_of, with_
 use Rattle.newton_rounds.specs.Pairs.{PairEnds}
 use Rattle.newton_rounds.specs.Shapes.{FitCalls, FitSides, IsCallIn}
 use Rattle.newton_rounds.proofs.BasesMet.{IsBase}
-use Rattle.newton_rounds.proofs.Below.{some_at}
-use Rattle.newton_rounds.proofs.Called.{AreThere, calls-in, columns-at, ends-many, member-at}
-use Rattle.newton_rounds.proofs.Closed.{candidates-over, empty-fits}
-use Rattle.newton_rounds.proofs.Gathered.{all-members, group-is}
+use Rattle.newton_rounds.proofs.CratesBelow.{some_at}
+use Rattle.newton_rounds.proofs.GroupCalls.{AreThere, calls-in, columns-at, ends-many, member-at}
+use Rattle.newton_rounds.proofs.MemberLoops.{candidates-over, empty-fits}
+use Rattle.newton_rounds.proofs.GroupMembers.{all-members, group-is}
 use Rattle.newton_rounds.proofs.LinearMet.{bases-met}
-use Rattle.newton_rounds.proofs.Rounded.{round-keeps, summaries-fit, summaries-known}
-use Rattle.newton_rounds.proofs.Rowed.{candidates-length, table-summaries}
+use Rattle.newton_rounds.proofs.RoundRows.{round-keeps, summaries-fit, summaries-known}
+use Rattle.newton_rounds.proofs.CandidateSummaries.{candidates-length, table-summaries}
 use Rattle.newton_rounds.proofs.SidesMet.{IsSideOf, sides-true}
-use Rattle.newton_rounds.proofs.Summed.{closed-summaries, summaries-length}
-use Rattle.newton_rounds.proofs.Tabled.{tabled-known}
+use Rattle.newton_rounds.proofs.ClosureSummaries.{closed-summaries, summaries-length}
+use Rattle.newton_rounds.proofs.KnownTables.{tabled-known}
 
 -- both sides of a call, by the function that reads them
 abbrev Element : {A B : Type 0} → (List A → B) → Type 0

@@ -1,7 +1,7 @@
 -- assertions that stand in no graph
-pub mod Unreached
+pub mod DeadAssertions
 -- ---- the stated analysis covers its program
 pub mod GroupSummaries
 pub mod GroupParts
-pub mod Covered
+pub mod AnalysisCover
 pub mod Points

@@ -22,7 +22,7 @@ use Rattle.proc_summary.specs.declared.stop.Flow.{Flow}
 use Rattle.context.specs.Entries.{entries_from}
 use Rattle.context.specs.Judging.{IsAnswered}
 use Rattle.context.specs.Verdicts.{case_verdict, else_by, failure_verdict_from, failing_of, is_limited, is_refuted, verdict_on_cases_from, limits_of, place_of, reach_from, verdict_at, verdict_by, verdict_from, verdict_left, verdict_of, with_verdict}
-use Rattle.context.proofs.Answered.{empty-known, no-known}
+use Rattle.context.proofs.GoodAnswers.{empty-known, no-known}
 use Rattle.report.specs.declared.blocks.Judged.{Judged}
 use Rattle.report.specs.declared.verdict.Verdict.{Verdict}
 use Rattle.report.specs.Claims.{IsRefuted, PointsMeetRows}
@@ -33,7 +33,7 @@ use Rattle.analysis.specs.Apart.{apart}
 use Rattle.analysis.specs.Claims.{AreRefuted}
 use Rattle.analysis.specs.Found.{flows_in, findings_by_plan}
 use Rattle.analysis.specs.Judging.{Asserted, numbered_assertion, judgements_on_all, judgement_of, place_in, with_judged}
-use Rattle.analysis.proofs.Asserting.{refuted-next}
+use Rattle.analysis.proofs.AssertionParts.{refuted-next}
 use Rattle.analysis_laws.specs.Laws.{ReportedPointsMeetRows}
 use Rattle.analysis_laws.proofs.GroupParts.{under-any, under-apart}
 

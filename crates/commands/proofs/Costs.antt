@@ -18,7 +18,7 @@ use Rattle.syntax_tree.specs.declared.program.Program.{Program}
 use Rattle.execution.specs.Execution.{Returns}
 use Rattle.leaf_cases.specs.Conditions.{exits_of}
 use Rattle.leaf_cases.specs.Summaries.{exit_values}
-use Rattle.proc_summary.proofs.Below.{some_at}
+use Rattle.proc_summary.proofs.CratesBelow.{some_at}
 use Rattle.cost_bounds.specs.declared.cost.Cost.{Cost}
 use Rattle.cost_bounds.specs.declared.cost.Cost.TheVariants as cost
 use Rattle.cost_bounds.specs.Says.{Says}

@@ -1,7 +1,7 @@
 -- Main theorems: a text that is accepted is analysed.
 pub mod Complete
 -- Certificate files pass or do not, and the output of `certify` passes.
-pub mod Passing
+pub mod FilePasses
 -- What the ends of a run say of executions.
 pub mod Sentences
 -- What is read and written.
@@ -19,9 +19,9 @@ pub mod Costs
 pub mod Globals
 pub mod Pairs
 -- Texts that are made.
-pub mod Sampled
+pub mod SampleTexts
 -- What clap makes of the words that are listed.
-pub mod Listed
+pub mod ClapWords
 -- What the analysis under listed answers comes to.
 pub mod Checks
 -- Tame questions.

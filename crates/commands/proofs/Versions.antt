@@ -16,7 +16,7 @@ use Rattle.summary_cache.specs.Submitted.{IsSubmittedOver, Keeps}
 use Rattle.commands.specs.declared.editing.Submission.{Submission}
 use Rattle.commands.specs.Edit.{AreSubmissions, IsAnalysedAfter, IsSubmission, KeepsAfter, version_line, version_lines}
 use Rattle.commands.specs.Editing.{AreTold, AreToldSoFar}
-use Rattle.commands.proofs.Sampled.{finding}
+use Rattle.commands.proofs.SampleTexts.{finding}
 
 -- ---- one text
 

@@ -21,7 +21,7 @@ use Rattle.proc_summary.specs.Claims.{FitsFlow}
 use Rattle.proc_summary.specs.Subject.{call_node, call_nodes, own_graph}
 use Rattle.context.specs.Entries.{calling_by, callings_in}
 use Rattle.context.specs.Made.{IsCallFit, callings_on}
-use Rattle.context.proofs.Numbered.{proc-fit}
+use Rattle.context.proofs.AssertionPlaces.{proc-fit}
 use Rattle.context.proofs.WaysFit.{arcs-fit}
 
 call-fit : (program : Program) (columns : ℕ) (statement : Statement) → IsWellFormed program → EdgeFits program columns statement → IsCallFit columns statement

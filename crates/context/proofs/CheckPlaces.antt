@@ -21,7 +21,7 @@ use Rattle.proc_summary.specs.declared.stop.NodeFormula.{NodeFormula}
 use Rattle.proc_summary.specs.Claims.{FitsFlow, FitsIf, FitsStop}
 use Rattle.proc_summary.specs.Subject.{own_graph}
 use Rattle.context.specs.Ends.{IsCondition}
-use Rattle.context.proofs.Numbered.{check-fits, proc-fit, some-one, two}
+use Rattle.context.proofs.AssertionPlaces.{check-fits, proc-fit, some-one, two}
 
 condition : (columns : ℕ) (cond : Term) → IsTrue (cond_fits columns cond) → IsCondition columns cond
 condition columns cond h =

@@ -21,8 +21,8 @@ use Rattle.checked_tree.specs.Law.{IsEnd, IsEvaluated, IsFrom, IsLeaf}
 use Rattle.transition_formula.specs.Transition.{AreSolvable, Transition}
 use Rattle.proc_summary.specs.declared.stop.Flow.{Flow}
 use Rattle.context.specs.Entries.{Way, entry_graph, main_entry, node_of, nodes_of, others_from, unless_main, ways_of}
-use Rattle.context.proofs.Numbered.{proc-fit, some-one}
-use Rattle.context.proofs.Placed.{got}
+use Rattle.context.proofs.AssertionPlaces.{proc-fit, some-one}
+use Rattle.context.proofs.PlaceColumns.{got}
 
 -- ---- vocabularies
 

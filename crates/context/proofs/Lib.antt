@@ -1,5 +1,5 @@
 -- ---- entries
-pub mod Entered
+pub mod EntryWalks
 pub mod WaysFit
 pub mod EntryGraph
 pub mod CallLeaves
@@ -7,14 +7,14 @@ pub mod CallEdges
 pub mod Ways
 pub mod Loops
 -- ---- where an assertion stands
-pub mod Numbered
+pub mod AssertionPlaces
 pub mod Sound
-pub mod Placed
+pub mod PlaceColumns
 pub mod CheckPlaces
 -- ---- the way to an assertion
-pub mod Reached
-pub mod Extended
+pub mod WaysToAssertions
+pub mod FurtherPosts
 pub mod Few
 -- ---- the verdicts on cases
-pub mod Answered
+pub mod GoodAnswers
 pub mod Chosen

@@ -27,7 +27,7 @@ use Rattle.proc_summary.specs.Subject.{check_nodes, own_graph}
 use Rattle.context.specs.Claims.{EntryHolds, start_of_main}
 use Rattle.context.specs.Ends.{NoneFails}
 use Rattle.context.specs.Verdicts.{place_of}
-use Rattle.context.proofs.Numbered.{one-place, some-one}
+use Rattle.context.proofs.AssertionPlaces.{one-place, some-one}
 
 pub stands-top : (program : Program) (bottom top : Beginning) (globals : State) (items : List Item) (frame : Frame) (below : List Frame) → StandsOver program bottom top globals items frame below → Stands program top.proc top.globals top.args items (globals ++ frame.own)
 stands-top program bottom top globals items frame [] h = h.2

@@ -31,7 +31,7 @@ use Rattle.context.specs.Entries.{Calling, call_way, call_ways, calling_by, call
 use Rattle.context.specs.Made.{AreArguments, AreWidths}
 use Rattle.context.proofs.CallLeaves.{leaf-fits, leaf-solvable}
 use Rattle.context.proofs.EntryGraph.{AreWays, IsWay, entry-columns, node-found, none-columns}
-use Rattle.context.proofs.Numbered.{proc-fit}
+use Rattle.context.proofs.AssertionPlaces.{proc-fit}
 
 pub each-by-place : {X : Type 0} (P : X → Type 0) (xs : List X) → ((k : ℕ) (x : X) → slice_get xs k ≡ Some x → P x) → AllByRecursion P xs
 each-by-place P [] h = tt

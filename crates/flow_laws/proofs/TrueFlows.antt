@@ -41,13 +41,13 @@ use Rattle.proc_summary.specs.Claims.{FitsStop, HoldsIf, KnowsCallees, StopHolds
 use Rattle.proc_summary.specs.Flow.{cells_from, columns_of, flow_from, flow_in, formula_at, formula_of, stop_at}
 use Rattle.proc_summary.specs.Subject.{Subject, call_nodes, check_nodes, graph_by, link_of, own_graph, subject_of}
 use Rattle.proc_summary.specs.Summary.{ends_of, summary_from}
-use Rattle.proc_summary.proofs.Below.{all_get, met_edges_are_known, some_at}
+use Rattle.proc_summary.proofs.CratesBelow.{all_get, met_edges_are_known, some_at}
 use Rattle.proc_summary.proofs.Graphs.{graph-is}
-use Rattle.proc_summary.proofs.Told.{summary-known, summary-met}
+use Rattle.proc_summary.proofs.ExitSummaries.{summary-known, summary-met}
 use Rattle.newton_rounds.proofs.LeafFits.{links-inside}
-use Rattle.newton_rounds.proofs.Unfolded.{AreTrueAt, IsCanonicalExit, IsTold, cells-true, summary-told}
+use Rattle.newton_rounds.proofs.Unfoldings.{AreTrueAt, IsCanonicalExit, IsTold, cells-true, summary-told}
 use Rattle.newton_rounds.proofs.Widths.{columns-are, some-nodes}
-use Rattle.newton_rounds.proofs.Zipped.{some-one}
+use Rattle.newton_rounds.proofs.PairLists.{some-one}
 use Rattle.flow_laws.specs.Laws.{FlowsAreTrue, IsTrueFlow, IsTrueSummary, LeadsTo, SummariesAreTrue, TellsWay, summary_by_flow}
 
 -- ---- lists of stops

@@ -15,7 +15,7 @@ use Rattle.flow_graph.specs.FlowGraph.{body_of}
 use Rattle.flow_graph.specs.Groups.{Calls, InOneGroup, IsAscending, IsNext, Reaches, called}
 use Rattle.flow_graph.proofs.Reaching.{reaches_join}
 use Rattle.proc_summary.specs.Alike.{AreAlike, AreAlikeStatements, alike_anys, alike_breaks, alike_calls, alike_checks, alike_continues, alike_ends, alike_guards, alike_ifs, alike_loops, alike_more, alike_returns, alike_sets}
-use Rattle.proc_summary.proofs.Below.{some_at}
+use Rattle.proc_summary.proofs.CratesBelow.{some_at}
 use Rattle.newton_rounds.specs.Alike.{AreAlikeCallees, AreAlikeGroups, AreAlikeMembers, StandOnce}
 use Rattle.newton_rounds.specs.Members.{place_of}
 use Rattle.newton_rounds.proofs.ApartWalks.{no-place}

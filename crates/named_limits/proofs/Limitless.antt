@@ -16,7 +16,7 @@ use Rattle.named_limits.specs.Laws.{AnswersTame, AsksTame, TameQuestionsNameNone
 use Rattle.named_limits.specs.Limits.{AreSame, count, limit_given, limits_given}
 use Rattle.named_limits.specs.Named.{LimitsAreNamed}
 use Rattle.named_limits.specs.Reported.{HasNoLimit, limits_in}
-use Rattle.named_limits.proofs.Asking.{answers-limitless}
+use Rattle.named_limits.proofs.LeadingQuestions.{answers-limitless}
 
 none-counted : (limits : List Limit) → count (λ limit. true) limits ≡ 0 → limits ≡ []
 none-counted [] e = refl

@@ -29,7 +29,7 @@ use Rattle.newton_rounds.specs.Members.{GroupCall}
 use Rattle.newton_rounds.specs.Pairs.{PairEnds, Stretch}
 use Rattle.named_limits.specs.Limits.{AreSame, count, limit_by, limit_given, limit_told, limits_told}
 use Rattle.named_limits.proofs.Balance.{Balances, TellsAll, balances-asked, balances-bind, balances-done, balances-each, balances-frame, balances-noted, balances-quiet, count-append, no_limit, same-of, same-refl, tells-bind, tells-done, tells-each, tells-frame, tells-noted, tells-then, tells-until}
-use Rattle.named_limits.proofs.Fitting.{bounded-tells, losses-tell_none}
+use Rattle.named_limits.proofs.FittingLimits.{bounded-tells, losses-tell_none}
 use Rattle.named_limits.proofs.Stars.{cells-tell, evaluated-tells, settled_and_fitted-tells, summary-tells}
 
 -- types that their crate keeps to itself

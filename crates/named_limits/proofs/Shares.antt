@@ -44,7 +44,7 @@ use Rattle.named_limits.proofs.Balance.{TellsAll, count-append, given, given-app
 use Rattle.named_limits.proofs.Cuts.{from-Done, path-cut}
 use Rattle.named_limits.proofs.NewGroups.{AreNew, plan-new}
 use Rattle.named_limits.proofs.PathsApart.{path-apart}
-use Rattle.named_limits.proofs.Placing.{IsClear, all_told, blank-clear, blank-told, blocks-noted, placed}
+use Rattle.named_limits.proofs.NotePlaces.{IsClear, all_told, blank-clear, blank-told, blocks-noted, placed}
 use Rattle.named_limits.proofs.Rounds.{closed-tells}
 use Rattle.named_limits.proofs.Stars.{flow-tells, summary-tells}
 use Rattle.named_limits.proofs.Verdicts.{entries-tell, verdict-balances, verdict-owns}

@@ -17,7 +17,7 @@ use Rattle.proc_summary.specs.Flow.{cells_from, flow_from}
 use Rattle.proc_summary.specs.Subject.{Subject}
 use Rattle.proc_summary.specs.Summary.{Ends, summary_from}
 use Rattle.named_limits.proofs.Balance.{TellsAll, tells-bind, tells-done, tells-each, tells-noted, tells-then}
-use Rattle.named_limits.proofs.Fitting.{bounded-tells, finished-tells, fitted-tells, losses-tell_none, relations-tell, settled-tells, with_row-tells}
+use Rattle.named_limits.proofs.FittingLimits.{bounded-tells, finished-tells, fitted-tells, losses-tell_none, relations-tell, settled-tells, with_row-tells}
 
 -- ---- stars
 

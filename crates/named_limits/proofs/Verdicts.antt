@@ -26,10 +26,10 @@ use Rattle.report.specs.declared.verdict.Verdict.TheVariants.{Proved, Unproved, 
 use Rattle.named_limits.specs.Leading.{LeadsTo, WasAsked}
 use Rattle.named_limits.specs.Limits.{AreSame, count, limit_given, limits_told}
 use Rattle.named_limits.specs.Reported.{limit_carried}
-use Rattle.named_limits.proofs.Asking.{Never, Owns, asked-now, owns-bind, owns-done, owns-each, owns-frame, owns-none, owns-noted}
+use Rattle.named_limits.proofs.LeadingQuestions.{Never, Owns, asked-now, owns-bind, owns-done, owns-each, owns-frame, owns-none, owns-noted}
 use Rattle.named_limits.proofs.Balance.{Balances, TellsAll, balances-asked, balances-bind, balances-done, balances-each, balances-frame, balances-noted, balances-quiet, no_limit, same-of, same-refl, tells-noted, tells-then, told}
 use Rattle.named_limits.proofs.Cuts.{from-Asked, from-Done}
-use Rattle.named_limits.proofs.Fitting.{losses-tell_none}
+use Rattle.named_limits.proofs.FittingLimits.{losses-tell_none}
 use Rattle.named_limits.proofs.Stars.{evaluated-tells, settled_and_fitted-tells}
 
 pub entries-tell : (program : Program) (flows : List Flow) → TellsAll (entries_from program flows)

@@ -17,7 +17,7 @@ use Rattle.newton_rounds.specs.Closure.{base_of, bases_of, closure_of, ends_of_m
 use Rattle.newton_rounds.specs.Members.{calls_from, calls_of, members_of, with_table}
 use Rattle.newton_rounds.specs.Pairs.{base_from, losses_in_base}
 use Rattle.newton_rounds.proofs.AlikeMembers.{AreMembers, alike-ends, alike-linear, alike-members, alike-subjects, all-calls-alike, own-calls-alike}
-use Rattle.newton_rounds.proofs.Zipped.{zipped-each, zipped-length, zipped-map}
+use Rattle.newton_rounds.proofs.PairLists.{zipped-each, zipped-length, zipped-map}
 
 module _ (program other : Program) (procs others : List ℕ) (known other_known : List (Option Transition)) (alike : AreAlikeGroups program other procs others known other_known) where
   abbrev Are : Proc → Proc → Type 0

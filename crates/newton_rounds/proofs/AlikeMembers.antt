@@ -17,11 +17,11 @@ use Rattle.proc_summary.proofs.Alike.{AreAlikeArcs, alike_procs_are_one, arcs-al
 use Rattle.newton_rounds.specs.Alike.{AreAlikeCallees, AreAlikeGroups, AreAlikeMembers}
 use Rattle.newton_rounds.specs.Closure.{pair_ends}
 use Rattle.newton_rounds.specs.Members.{AreApart, IsLinear, call_by, call_to, calls_from, calls_in, calls_of, is_call_to, members_of, place_of, with_table}
-use Rattle.newton_rounds.proofs.Apart.{element_of_map, from_element_of_map}
+use Rattle.newton_rounds.proofs.LinearGroups.{element_of_map, from_element_of_map}
 use Rattle.newton_rounds.proofs.ApartWalks.{no-place}
-use Rattle.newton_rounds.proofs.Called.{placed-at}
+use Rattle.newton_rounds.proofs.GroupCalls.{placed-at}
 use Rattle.newton_rounds.proofs.MemberTables.{first-member, table-leaves, table-tells}
-use Rattle.newton_rounds.proofs.Zipped.{some-one, zipped-at, zipped-both}
+use Rattle.newton_rounds.proofs.PairLists.{some-one, zipped-at, zipped-both}
 
 -- ---- links tell whether calls are apart
 

@@ -31,21 +31,21 @@ use Rattle.proc_summary.specs.Flow.{cells_from, formula_at}
 use Rattle.proc_summary.specs.Subject.{own_graph, subject_of}
 use Rattle.proc_summary.specs.Summary.{exit_formula, exit_places}
 use Rattle.proc_summary.proofs.Graphs.{full-columns, length-after}
-use Rattle.proc_summary.proofs.Told.{entry-columns, numbers-told}
+use Rattle.proc_summary.proofs.ExitSummaries.{entry-columns, numbers-told}
 use Rattle.newton_rounds.specs.Between.{GoesBetween}
 use Rattle.newton_rounds.specs.Closure.{base_of, pair_ends, with_base}
 use Rattle.newton_rounds.specs.Members.{members_of}
 use Rattle.newton_rounds.specs.Pairs.{PairEnds, base_from, entry_told}
 use Rattle.newton_rounds.specs.Shapes.{AreEnds}
-use Rattle.newton_rounds.proofs.Called.{AreThere}
+use Rattle.newton_rounds.proofs.GroupCalls.{AreThere}
 use Rattle.recurrence.proofs.CanonicalOrder.{IsCanonicalFormula}
-use Rattle.newton_rounds.proofs.Matched.{IsBehind, each-match}
+use Rattle.newton_rounds.proofs.MatchLoops.{IsBehind, each-match}
 use Rattle.newton_rounds.proofs.MemberTables.{IsProcedure, each-member}
-use Rattle.newton_rounds.proofs.Numbered.{HasFew, few-more, states-of}
+use Rattle.newton_rounds.proofs.PairNumbers.{HasFew, few-more, states-of}
 use Rattle.newton_rounds.proofs.PairMeanings.{base-canonical, base-holds, whole-holds}
-use Rattle.newton_rounds.proofs.Placed.{pair-holds, places-length}
-use Rattle.newton_rounds.proofs.Told.{told-fits, told-has, told-there, told-to}
-use Rattle.newton_rounds.proofs.Unfolded.{AreTrueAt, before-long, cells-true, own-callee, own-walk}
+use Rattle.newton_rounds.proofs.ExitColumns.{pair-holds, places-length}
+use Rattle.newton_rounds.proofs.PairStates.{told-fits, told-has, told-there, told-to}
+use Rattle.newton_rounds.proofs.Unfoldings.{AreTrueAt, before-long, cells-true, own-callee, own-walk}
 use Rattle.newton_rounds.proofs.Widths.{columns-are, ends-are, some-nodes}
 
 -- ---- a base goes from the pairs

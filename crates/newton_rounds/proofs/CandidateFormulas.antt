@@ -22,15 +22,15 @@ use Rattle.transition_formula.proofs.HiddenColumns.{hidden-fits, hidden-holds}
 use Rattle.transition_formula.proofs.SomePosts.{with_entries-fits, with_entries-least}
 use Rattle.leaf_cases.specs.Conditions.{IsKnown}
 use Rattle.vocabularies.specs.Ends.{value_width}
-use Rattle.proc_summary.proofs.Told.{entry-columns, exit-columns, numbers-range}
+use Rattle.proc_summary.proofs.ExitSummaries.{entry-columns, exit-columns, numbers-range}
 use Rattle.newton_rounds.specs.Candidates.{candidate_formula, table_of}
 use Rattle.newton_rounds.specs.Closure.{pair_ends}
 use Rattle.newton_rounds.specs.Pairs.{PairEnds}
 use Rattle.newton_rounds.specs.Shapes.{AreEnds}
 use Rattle.newton_rounds.proofs.CandidateRows.{ArePairRows, IsPairRow}
-use Rattle.newton_rounds.proofs.Numbered.{HasFew, few-more, hidden-few}
-use Rattle.newton_rounds.proofs.Placed.{exit-few, range-below}
-use Rattle.newton_rounds.proofs.Entailed.{pair_numbers}
+use Rattle.newton_rounds.proofs.PairNumbers.{HasFew, few-more, hidden-few}
+use Rattle.newton_rounds.proofs.ExitColumns.{exit-few, range-below}
+use Rattle.newton_rounds.proofs.TrueRows.{pair_numbers}
 use Rattle.newton_rounds.proofs.Widths.{ends-are}
 
 module _ (m : PairEnds) (ends : AreEnds m) (rows : List Row) (are : ArePairRows m.pair.columns rows) where

@@ -26,18 +26,18 @@ use Rattle.checked_tree.specs.Graph.{Graph, vocabulary_at}
 use Rattle.checked_tree.specs.Evaluation.{evaluated_cells, settled_and_fitted}
 use Rattle.checked_tree.specs.Law.{HaveCanonicalLeaves, HoldsCell, IsEvaluated, IsRun}
 use Rattle.checked_tree.proofs.Between.{sequence-canonical, settled_and_fitted-covers}
-use Rattle.proc_summary.proofs.Told.{numbers-range}
+use Rattle.proc_summary.proofs.ExitSummaries.{numbers-range}
 use Rattle.newton_rounds.specs.Between.{AreBases, AreChained, GoesBetween, IsGroup, IsMember, base_at, chain_to, width_at}
 use Rattle.newton_rounds.specs.Closure.{chain_end, chains_of, closure_at, closed_member, ends_at, exits_told, group_graph, losses_in_group_leaf, order_from, others_in, pair_cell}
 use Rattle.newton_rounds.specs.Pairs.{PairEnds, Stretch}
 use Rattle.newton_rounds.specs.Shapes.{AreEnds}
 use Rattle.newton_rounds.proofs.CanonicalEvaluations.{AreTrueCells, IsCanonicalCell, evaluated-true, formula-canonical, rows-canonical}
 use Rattle.recurrence.proofs.CanonicalOrder.{IsCanonicalCase, IsCanonicalFormula}
-use Rattle.newton_rounds.proofs.Below.{some_at}
-use Rattle.newton_rounds.proofs.Chained.{base-goes, chains-go, exits-from, exits-solvable, meets, member-at, places-there, told-fewer}
-use Rattle.newton_rounds.proofs.Grouped.{group-evaluated, vocabulary-is}
-use Rattle.newton_rounds.proofs.Leading.{StaysAt, cells-stay, chains-from}
-use Rattle.newton_rounds.proofs.Unfolded.{hidden-canonical}
+use Rattle.newton_rounds.proofs.CratesBelow.{some_at}
+use Rattle.newton_rounds.proofs.ChainFormulas.{base-goes, chains-go, exits-from, exits-solvable, meets, member-at, places-there, told-fewer}
+use Rattle.newton_rounds.proofs.GroupGraphs.{group-evaluated, vocabulary-is}
+use Rattle.newton_rounds.proofs.PairCells.{StaysAt, cells-stay, chains-from}
+use Rattle.newton_rounds.proofs.Unfoldings.{hidden-canonical}
 
 -- ---- the exit's columns as posts
 

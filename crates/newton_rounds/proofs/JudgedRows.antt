@@ -30,10 +30,10 @@ use Rattle.recurrence.proofs.CanonicalOrder.{IsCanonicalFormula}
 use Rattle.newton_rounds.proofs.CandidateRows.{ArePairRows, IsPairRow}
 use Rattle.newton_rounds.proofs.MemberTables.{IsProcedure}
 use Rattle.posing.proofs.Under.{passing-always, under-bind, under-each, under-weaker}
-use Rattle.newton_rounds.proofs.Placed.{exit-few}
-use Rattle.newton_rounds.proofs.Entailed.{Entails, pair_numbers, refuted-entails}
-use Rattle.newton_rounds.proofs.Rounded.{AreOf, kept-over}
-use Rattle.newton_rounds.proofs.Unfolded.{IsUnfolded, unfolded-tells}
+use Rattle.newton_rounds.proofs.ExitColumns.{exit-few}
+use Rattle.newton_rounds.proofs.TrueRows.{Entails, pair_numbers, refuted-entails}
+use Rattle.newton_rounds.proofs.RoundRows.{AreOf, kept-over}
+use Rattle.newton_rounds.proofs.Unfoldings.{IsUnfolded, unfolded-tells}
 use Rattle.newton_rounds.proofs.Widths.{ends-are}
 
 -- ---- rows and what refutes them

@@ -1,50 +1,50 @@
 -- marks that spread along links
 pub mod Marks
 -- a group without a call that follows another
-pub mod Apart
+pub mod LinearGroups
 -- what is proved in the crates below
-pub mod Below
+pub mod CratesBelow
 -- ---- which columns formulas of pairs have, and how many auxiliaries
-pub mod Placed
-pub mod Posted
-pub mod Numbered
+pub mod ExitColumns
+pub mod PostFormulas
+pub mod PairNumbers
 pub mod Opposite
-pub mod Told
-pub mod Stretched
+pub mod PairStates
+pub mod CallStations
 -- ---- two lists whose elements belong together
-pub mod Zipped
+pub mod PairLists
 -- ---- the ends of procedures, and known formulas
 pub mod Widths
-pub mod Tabled
-pub mod Membered
+pub mod KnownTables
+pub mod ProcedureLoops
 -- ---- chains of calls
-pub mod Matched
-pub mod Chained
-pub mod Paired
-pub mod Grouped
-pub mod Leading
-pub mod Summed
+pub mod MatchLoops
+pub mod ChainFormulas
+pub mod PairFormulas
+pub mod GroupGraphs
+pub mod PairCells
+pub mod ClosureSummaries
 -- ---- candidates
-pub mod Rowed
-pub mod Rounded
-pub mod Closed
+pub mod CandidateSummaries
+pub mod RoundRows
+pub mod MemberLoops
 -- ---- numbers of few procedures
-pub mod Ascending
+pub mod NumberCounts
 -- ---- the calls of a group, and both sides of them
-pub mod Called
+pub mod GroupCalls
 pub mod BothSides
-pub mod Gathered
+pub mod GroupMembers
 -- ---- rows stay canonical, whatever the answers
 pub mod CanonicalEvaluations
 -- ---- one more unfolding
 pub mod LeafFits
-pub mod Unfolded
+pub mod Unfoldings
 pub mod ToldCalls
 -- ---- candidates, and what rounds leave of them
 pub mod MemberTables
 pub mod CandidateRows
 pub mod CandidateFormulas
-pub mod Entailed
+pub mod TrueRows
 pub mod JudgedRows
 pub mod RoundsMet
 -- ---- what formulas of pairs hold of
@@ -61,11 +61,11 @@ pub mod LinearMet
 -- ---- the summaries are met
 pub mod SummariesMet
 -- ---- what refutes a row
-pub mod Refuted
+pub mod RowRefutations
 -- ---- bases
-pub mod Based
+pub mod BaseFormulas
 -- ---- what begins with what holds at an exit
-pub mod Exited
+pub mod ExitFormulas
 -- ---- groups that nothing tells apart
 pub mod AlikeMembers
 pub mod Alike

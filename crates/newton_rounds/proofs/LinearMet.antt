@@ -32,7 +32,7 @@ use Rattle.polyhedra.specs.Laws.{HaveCanonicalRows}
 use Rattle.proc_summary.specs.Claims.{FitsIf, HoldsIf}
 use Rattle.proc_summary.specs.Subject.{own_graph}
 use Rattle.proc_summary.proofs.Graphs.{full-columns, graph-is, length-after}
-use Rattle.proc_summary.proofs.Told.{entry-columns, exit-columns}
+use Rattle.proc_summary.proofs.ExitSummaries.{entry-columns, exit-columns}
 use Rattle.newton_rounds.specs.declared.calls.Sides.{Sides}
 use Rattle.newton_rounds.specs.Between.{AreBases, IsGroup, IsStretchIn, width_at}
 use Rattle.newton_rounds.specs.Claims.{AreMetMembers}
@@ -43,23 +43,23 @@ use Rattle.newton_rounds.specs.Pairs.{PairEnds, Stretch, pair_formula}
 use Rattle.newton_rounds.specs.Shapes.{FitCalls, FitSides, IsCallIn, IsStretchBetween}
 use Rattle.newton_rounds.proofs.ApartWalks.{IsSplit, no-place, split-apart, with-none}
 use Rattle.newton_rounds.proofs.BasesMet.{IsBase, bases-true, entry-front, exits-long, exits-told}
-use Rattle.newton_rounds.proofs.Below.{some_at}
-use Rattle.newton_rounds.proofs.Called.{AreThere, calls-in, columns-at, ends-at, ends-many, member-at, placed-at}
+use Rattle.newton_rounds.proofs.CratesBelow.{some_at}
+use Rattle.newton_rounds.proofs.GroupCalls.{AreThere, calls-in, columns-at, ends-at, ends-many, member-at, placed-at}
 use Rattle.newton_rounds.proofs.CallPlaces.{HasSides, call-found, leaf-found, link-found, sides-found, the_call}
 use Rattle.newton_rounds.proofs.CanonicalEvaluations.{rows-canonical}
 use Rattle.recurrence.proofs.CanonicalOrder.{IsCanonicalFormula}
 use Rattle.newton_rounds.proofs.ClosedMet.{IsClosed, LeadsToBase, closed-holds}
-use Rattle.newton_rounds.proofs.Gathered.{group-is}
-use Rattle.newton_rounds.proofs.Matched.{IsBehind, each-match}
+use Rattle.newton_rounds.proofs.GroupMembers.{group-is}
+use Rattle.newton_rounds.proofs.MatchLoops.{IsBehind, each-match}
 use Rattle.newton_rounds.proofs.MemberTables.{table-either}
 use Rattle.newton_rounds.proofs.PairCalls.{IsCalled, pair-canonical, pair-holds}
-use Rattle.newton_rounds.proofs.Placed.{range-below}
+use Rattle.newton_rounds.proofs.ExitColumns.{range-below}
 use Rattle.newton_rounds.proofs.RoundsMet.{exit-long}
 use Rattle.newton_rounds.proofs.SidesMet.{IsSide, IsSideOf, sides-true}
-use Rattle.newton_rounds.proofs.Tabled.{untabled-known}
+use Rattle.newton_rounds.proofs.KnownTables.{untabled-known}
 use Rattle.newton_rounds.proofs.ToldCalls.{TellsCall}
-use Rattle.newton_rounds.proofs.Unfolded.{IsCanonicalExit, before-long, own-callee, own-walk}
-use Rattle.newton_rounds.proofs.Zipped.{some-one, zipped-at}
+use Rattle.newton_rounds.proofs.Unfoldings.{IsCanonicalExit, before-long, own-callee, own-walk}
+use Rattle.newton_rounds.proofs.PairLists.{some-one, zipped-at}
 
 -- ---- places
 

@@ -8,9 +8,9 @@ use Rattle.syntax_tree.specs.declared.program.Program.{Program}
 use Rattle.transition_formula.specs.Transition.{Transition}
 use Rattle.newton_rounds.specs.Alike.{StandOnce}
 use Rattle.newton_rounds.specs.Members.{members_of, with_table}
-use Rattle.newton_rounds.proofs.Below.{some_at}
-use Rattle.newton_rounds.proofs.Called.{AreThere}
-use Rattle.newton_rounds.proofs.Tabled.{set-get}
+use Rattle.newton_rounds.proofs.CratesBelow.{some_at}
+use Rattle.newton_rounds.proofs.GroupCalls.{AreThere}
+use Rattle.newton_rounds.proofs.KnownTables.{set-get}
 
 -- ---- members
 

@@ -26,7 +26,7 @@ use Rattle.transition_formula.proofs.Fitting.{below-true, columns_pass, fitting,
 use Rattle.leaf_cases.specs.Guard.{columns_of}
 use Rattle.newton_rounds.specs.Candidates.{against, contrary}
 use Rattle.newton_rounds.specs.Shapes.{IsOverPairs}
-use Rattle.newton_rounds.proofs.Posted.{appended, columns-covered, columns-length}
+use Rattle.newton_rounds.proofs.PostFormulas.{appended, columns-covered, columns-length}
 
 bind-ok : {A B : Type 0} (r : Result A TermError) (f : A → Result B TermError) (b : B) → r >>= f ≡ Ok b → (a : A) × (r ≡ Ok a) × (f a ≡ Ok b)
 bind-ok (Ok a) f b e = (a, refl, e)

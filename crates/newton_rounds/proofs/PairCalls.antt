@@ -36,18 +36,18 @@ use Rattle.leaf_cases.proofs.Guards.{columns-read}
 use Rattle.proc_summary.specs.Claims.{HoldsIf}
 use Rattle.proc_summary.specs.Summary.{exit_formula, exit_places}
 use Rattle.proc_summary.proofs.Graphs.{length-after}
-use Rattle.proc_summary.proofs.Told.{numbers-range}
+use Rattle.proc_summary.proofs.ExitSummaries.{numbers-range}
 use Rattle.newton_rounds.specs.Pairs.{PairEnds, Stretch, along, call_entry, call_exit, callee_width, carrying, carrying_case, columns_from, entered_case, exit_columns, pair_formula, posts_after_return, Stations, stations_of}
 use Rattle.newton_rounds.specs.Shapes.{IsStretchBetween}
 use Rattle.checked_tree.proofs.Between.{sequence-canonical}
 use Rattle.newton_rounds.proofs.CanonicalEvaluations.{formula-canonical, rows-canonical}
 use Rattle.recurrence.proofs.CanonicalOrder.{IsCanonicalFormula}
 use Rattle.newton_rounds.proofs.PairMeanings.{entry_told-holds, equated-canonical, longer-agree, posts-canonical, told-canonical, told-stand, whole-holds}
-use Rattle.newton_rounds.proofs.Paired.{after, entered-fits, first-fits, fourth-fits, returned-fits, second-fits, third-fits}
-use Rattle.newton_rounds.proofs.Unfolded.{IsCanonicalExit}
-use Rattle.newton_rounds.proofs.Placed.{places-below}
-use Rattle.newton_rounds.proofs.Entailed.{got}
-use Rattle.newton_rounds.proofs.Stretched.{fewer, first-to}
+use Rattle.newton_rounds.proofs.PairFormulas.{after, entered-fits, first-fits, fourth-fits, returned-fits, second-fits, third-fits}
+use Rattle.newton_rounds.proofs.Unfoldings.{IsCanonicalExit}
+use Rattle.newton_rounds.proofs.ExitColumns.{places-below}
+use Rattle.newton_rounds.proofs.TrueRows.{got}
+use Rattle.newton_rounds.proofs.CallStations.{fewer, first-to}
 
 -- ---- columns that are read
 

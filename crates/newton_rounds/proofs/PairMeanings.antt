@@ -28,9 +28,9 @@ use Rattle.proc_summary.specs.Summary.{exit_formula, exit_places}
 use Rattle.newton_rounds.specs.Pairs.{PairEnds, base_from, entry_told}
 use Rattle.newton_rounds.specs.Shapes.{AreEnds}
 use Rattle.recurrence.proofs.CanonicalOrder.{IsCanonicalCase, IsCanonicalFormula, IsCanonicalRow}
-use Rattle.newton_rounds.proofs.Numbered.{states-of}
-use Rattle.newton_rounds.proofs.Told.{told-fewer}
-use Rattle.newton_rounds.proofs.Unfolded.{IsCanonicalExit, hidden-canonical}
+use Rattle.newton_rounds.proofs.PairNumbers.{states-of}
+use Rattle.newton_rounds.proofs.PairStates.{told-fewer}
+use Rattle.newton_rounds.proofs.Unfoldings.{IsCanonicalExit, hidden-canonical}
 
 -- ---- more entry columns
 

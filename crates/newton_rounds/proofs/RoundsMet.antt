@@ -14,7 +14,7 @@ use Rattle.posing.proofs.Paths.{always_any, always_bind, always_each, always_wea
 use Rattle.syntax_tree.specs.declared.program.Proc.{Proc}
 use Rattle.syntax_tree.specs.declared.program.Program.{Program}
 use Rattle.vocabularies.specs.Ends.{value_width}
-use Rattle.proc_summary.proofs.Told.{entry-columns, exit-columns}
+use Rattle.proc_summary.proofs.ExitSummaries.{entry-columns, exit-columns}
 use Rattle.syntax_tree.specs.Code.{Statement, Set, Any, Call, Guard, Check, If, Loop, Break, Continue, Return}
 use Rattle.syntax_tree.specs.Value.{State}
 use Rattle.syntax_tree.specs.WellFormed.{IsWellFormed}
@@ -38,18 +38,18 @@ use Rattle.newton_rounds.specs.Closure.{closed_member, closure_of, ends_of_membe
 use Rattle.newton_rounds.specs.Laws.{CallsMember, KnowsOthers}
 use Rattle.newton_rounds.specs.Members.{calls_from, members_of, with_table}
 use Rattle.newton_rounds.specs.Pairs.{PairEnds, Stretch}
-use Rattle.newton_rounds.proofs.Called.{AreThere, member-at, members-many}
+use Rattle.newton_rounds.proofs.GroupCalls.{AreThere, member-at, members-many}
 use Rattle.newton_rounds.proofs.CandidateFormulas.{candidate-holds, candidate-known, table-at, table-long}
 use Rattle.newton_rounds.proofs.CandidateRows.{ArePairRows, candidate-rows}
 use Rattle.newton_rounds.proofs.JudgedRows.{AreAllJudged, AreCandidates, AreTrueOf, IsTrueOf, all-judged, all-of, all-ready, kept-candidates, kept-true}
 use Rattle.newton_rounds.proofs.MemberTables.{IsKnownAt, each-member, table-either, table-keeps, table-knows}
 use Rattle.posing.proofs.Under.{IsRound, passing-always, under-bind, under-until}
-use Rattle.newton_rounds.proofs.Entailed.{pair_numbers}
-use Rattle.newton_rounds.proofs.Tabled.{AreFor, tabled-known}
+use Rattle.newton_rounds.proofs.TrueRows.{pair_numbers}
+use Rattle.newton_rounds.proofs.KnownTables.{AreFor, tabled-known}
 use Rattle.newton_rounds.proofs.ToldCalls.{TellsArcs, TellsCall, returns-told}
-use Rattle.newton_rounds.proofs.Rounded.{all-counted, rows-counted}
+use Rattle.newton_rounds.proofs.RoundRows.{all-counted, rows-counted}
 use Rattle.newton_rounds.proofs.Widths.{ends-are}
-use Rattle.newton_rounds.proofs.Zipped.{some-one}
+use Rattle.newton_rounds.proofs.PairLists.{some-one}
 
 -- ---- as many formulas as members
 

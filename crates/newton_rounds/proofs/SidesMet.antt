@@ -23,12 +23,12 @@ use Rattle.proc_summary.specs.Subject.{own_graph, subject_of}
 use Rattle.newton_rounds.specs.declared.calls.Sides.{Sides}
 use Rattle.newton_rounds.specs.Closure.{with_places_from, sides_from, sides_of, with_member, with_sides}
 use Rattle.newton_rounds.specs.Members.{GroupCall, call_by, call_to, calls_from, calls_of, members_of, place_of}
-use Rattle.newton_rounds.proofs.Called.{AreThere, calls-from, each-got, member-at}
-use Rattle.newton_rounds.proofs.Matched.{AreBehind, IsBehind, each-behind}
-use Rattle.newton_rounds.proofs.Below.{some_at}
-use Rattle.newton_rounds.proofs.Unfolded.{AreTrueAt, IsCanonicalExit, cells-true}
+use Rattle.newton_rounds.proofs.GroupCalls.{AreThere, calls-from, each-got, member-at}
+use Rattle.newton_rounds.proofs.MatchLoops.{AreBehind, IsBehind, each-behind}
+use Rattle.newton_rounds.proofs.CratesBelow.{some_at}
+use Rattle.newton_rounds.proofs.Unfoldings.{AreTrueAt, IsCanonicalExit, cells-true}
 use Rattle.newton_rounds.proofs.Widths.{columns-are, some-nodes}
-use Rattle.newton_rounds.proofs.Zipped.{some-one}
+use Rattle.newton_rounds.proofs.PairLists.{some-one}
 
 -- a call between nodes of its caller's graph
 abbrev pub IsBetweenNodes : Proc → GroupCall → Type 0

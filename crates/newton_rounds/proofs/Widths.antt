@@ -27,7 +27,7 @@ use Rattle.proc_summary.specs.Flow.{columns_of, formula_at, formula_of}
 use Rattle.proc_summary.specs.Subject.{graph_by, own_graph, subject_of}
 use Rattle.newton_rounds.specs.Closure.{pair_ends}
 use Rattle.newton_rounds.specs.Shapes.{AreEnds}
-use Rattle.newton_rounds.proofs.Below.{full-columns, identity-fits, narrow, proc-fit, vocabulary-is}
+use Rattle.newton_rounds.proofs.CratesBelow.{full-columns, identity-fits, narrow, proc-fit, vocabulary-is}
 
 module _ (program : Program) (proc : ℕ) (p : Proc) (formed : IsWellFormed program) (is : slice_get program.procs proc ≡ Some p) where
   pub ends-are : AreEnds (pair_ends program p)

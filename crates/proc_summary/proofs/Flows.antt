@@ -35,7 +35,7 @@ use Rattle.proc_summary.specs.Flow.{columns_of, flow_in, formula_of, stop_at}
 use Rattle.proc_summary.specs.Claims.{FitsFlow, FitsIf, FitsStop, FlowHolds, HoldsIf, HoldsOfWalks, IsBetweenStates, KnowsCallees, StopHolds, nodes_of}
 use Rattle.proc_summary.specs.Parts.{IsGraphOf, act_stop, call_stop, check_stop, graph_flow}
 use Rattle.proc_summary.proofs.Graphs.{arcs-are, flat-arcs, full-columns, graph-is, nodes-are, plain-is, vocabulary-is}
-use Rattle.proc_summary.proofs.Below.{identity-fits, identity-holds, met_edges_are_known, some_at}
+use Rattle.proc_summary.proofs.CratesBelow.{identity-fits, identity-holds, met_edges_are_known, some_at}
 
 -- ---- the same flow by the graph and by the subject
 

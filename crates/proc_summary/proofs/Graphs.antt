@@ -38,7 +38,7 @@ use Rattle.proc_summary.specs.Subject.{Subject, arc_leaf, graph_by, link_of, los
 use Rattle.proc_summary.specs.Claims.{HoldsOfWalks}
 use Rattle.proc_summary.specs.declared.edges.Parts.{Parts}
 use Rattle.proc_summary.specs.Parts.{AreActsOf, ArePartsOf, IsFit, IsGraphOf, edge_leaf, edge_link, graph_of_parts, losses_in_edge}
-use Rattle.proc_summary.proofs.Below.{IsVocabulary-full, act-fits, act_of_edge, all_get, fits-solvable, leaf_few, leaf_holds, some_at}
+use Rattle.proc_summary.proofs.CratesBelow.{IsVocabulary-full, act-fits, act_of_edge, all_get, fits-solvable, leaf_few, leaf_holds, some_at}
 
 -- ---- lists of edges
 

@@ -2,7 +2,7 @@
 pub mod Graphs
 pub mod Flows
 -- ---- summaries
-pub mod Told
+pub mod ExitSummaries
 -- ---- procedures that nothing tells apart
 pub mod Alike
-pub mod Below
+pub mod CratesBelow

@@ -2,7 +2,7 @@
 -- its calls are statements.
 pub mod Complete
 pub mod Shapes
-pub mod Ascending
+pub mod AscendingPlaces
 pub mod Calls
 pub mod SameTrees
 -- No execution knows the rule.
@@ -14,4 +14,4 @@ pub mod Places
 -- What the stated analysis of a text came to.
 pub mod Statements
 -- The answers of parts, one after another.
-pub mod Joining
+pub mod PartAnswers

@@ -29,7 +29,7 @@ use Rattle.analysis.specs.Plan.{IsPlan}
 use Rattle.analysis.proofs.OnePlan.{plan-one}
 use Rattle.analysis.proofs.Quiet.{IsQuiet, ended-quiet, quiet-path}
 use Rattle.named_limits.specs.Named.{LimitsAreNamed}
-use Rattle.named_limits.proofs.Asking.{any-leads}
+use Rattle.named_limits.proofs.LeadingQuestions.{any-leads}
 use Rattle.named_limits.proofs.Shares.{analysis-names}
 use Rattle.kept_groups.specs.declared.kept.KeptGroups.{KeptGroups}
 use Rattle.kept_groups.specs.declared.kept.KeptPart.{KeptPart}
@@ -37,7 +37,7 @@ use Rattle.kept_groups.specs.declared.over.FoundParts.{FoundParts}
 use Rattle.kept_groups.specs.Coming.{AreCome, answers_asked, count_made}
 use Rattle.kept_groups.specs.Kept.{AreKept, AreKeptIf, Anything, answers_in, findings_by_kept}
 use Rattle.kept_groups.specs.Outcomes.{CameOver, FindsOver, IsDeclinedOver, IsFoundOver}
-use Rattle.kept_groups.proofs.Leading.{all_come-weaker, declined-leads, declined-next, none-kept, parts-kept, parts-lead}
+use Rattle.kept_groups.proofs.PartAnswers.{all_come-weaker, declined-leads, declined-next, none-kept, parts-kept, parts-lead}
 use Rattle.summary_cache.specs.declared.last.Last.{Last}
 use Rattle.summary_cache.specs.declared.working.Counts.{Counts}
 use Rattle.summary_cache.specs.Counted.{counts_of}

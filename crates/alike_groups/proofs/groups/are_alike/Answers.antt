@@ -1,7 +1,7 @@
 use Rattle.std.proofs.lemmas.Bool.Decides.{Decides-at}
 use Rattle.alike_groups.specs.Groups.{test_of}
 use Rattle.alike_groups.specs.Tests.{are_alike_groups}
-use Rattle.alike_groups.proofs.Deciding.{groups-decided}
+use Rattle.alike_groups.proofs.TestTruth.{groups-decided}
 use Rattle.alike_groups.proofs.groups.are_alike.Goals as goal
 
 pub returns : goal.returns

@@ -6,7 +6,7 @@ use Rattle.posing.proofs.Following.{leads_none, loop_ends, stops}
 use Rattle.posing.proofs.Steps.{each_fails, each_next}
 use Rattle.analysis.specs.Claims.{FitsFound, FoundIsMet, IsLeft}
 use Rattle.analysis.specs.Found.{findings_by_plan, nothing_found, with_group}
-use Rattle.analysis.proofs.Finding.{left-all, left-next, left-ready, nothing-fits, nothing-left, nothing-met}
+use Rattle.analysis.proofs.GroupFindings.{left-all, left-next, left-ready, nothing-fits, nothing-left, nothing-met}
 use Rattle.analysis.proofs.found.findings_by_plan.Goals as goal
 
 pub loop-planned-init : goal.loop-planned-init

@@ -4,7 +4,7 @@ use Rattle.leaf_cases.specs.Summaries.{AreMet}
 use Rattle.analysis.specs.Claims.{FitsFound, FoundIsMet, HasFound}
 use Rattle.analysis.specs.Found.{with_group, with_part}
 use Rattle.analysis.specs.Parts.{part_of}
-use Rattle.analysis.proofs.Finding.{found-fits, found-has, found-met}
+use Rattle.analysis.proofs.GroupFindings.{found-fits, found-has, found-met}
 use Rattle.analysis.proofs.found.with_group.Goals as goal
 
 pub returns-clause-follows : goal.returns-clause-follows

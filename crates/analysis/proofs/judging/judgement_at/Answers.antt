@@ -2,7 +2,7 @@ use Rattle.std.proofs.Common.{refl, sym, ap, subst}
 use Rattle.execution.specs.Execution.{Fails}
 use Rattle.posing.proofs.Steps.{at_end, error_first, in_other_words, value_first}
 use Rattle.analysis.specs.Judging.{judgement_of}
-use Rattle.analysis.proofs.Asserting.{stands-at}
+use Rattle.analysis.proofs.AssertionParts.{stands-at}
 use Rattle.analysis.proofs.ChecksStand.{graph-is, graph-within}
 use Rattle.analysis.proofs.judging.judgement_at.Goals as goal
 

@@ -7,7 +7,7 @@ use Rattle.posing.proofs.Following.{leads_none, loop_ends, stops}
 use Rattle.posing.proofs.Steps.{each_fails, each_next}
 use Rattle.analysis.specs.Claims.{AreJudged, AreRefuted}
 use Rattle.analysis.specs.Judging.{judgements_on_all, with_judged}
-use Rattle.analysis.proofs.Asserting.{judged-next, refuted-next}
+use Rattle.analysis.proofs.AssertionParts.{judged-next, refuted-next}
 use Rattle.analysis.proofs.judging.judgements_on_all.Goals as goal
 
 pub returns-in_err-standing-clause-follows : goal.returns-in_err-standing-clause-follows

@@ -1,7 +1,7 @@
 use Rattle.analysis.specs.Judging.{column_names, names_onto}
 use Rattle.syntax_tree.specs.declared.program.Column.{Column}
 use Rattle.std.proofs.Common.{[]}
-use Rattle.analysis.proofs.Looped.{loop-next, names-front}
+use Rattle.analysis.proofs.ListLoops.{loop-next, names-front}
 use Rattle.analysis.proofs.names.add_names.Goals as goal
 
 pub loop-column-preserved : goal.loop-column-preserved

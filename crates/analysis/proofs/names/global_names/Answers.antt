@@ -1,6 +1,6 @@
 use Rattle.std.proofs.Common.{[], ◌∷◌, map, refl}
 use Rattle.syntax_tree.specs.declared.program.GlobalVar.{GlobalVar}
-use Rattle.analysis.proofs.Looped.{loop-next}
+use Rattle.analysis.proofs.ListLoops.{loop-next}
 use Rattle.analysis.proofs.names.global_names.Goals as goal
 
 pub loop-global-preserved : goal.loop-global-preserved

@@ -5,9 +5,9 @@ use Rattle.posing.specs.Posing.{each}
 use Rattle.posing.proofs.Following.{leads_none}
 use Rattle.posing.proofs.Steps.{all_left, error_first, first_left, in_other_words}
 use Rattle.proc_summary.specs.Claims.{FlowHolds}
-use Rattle.proc_summary.proofs.Below.{some_at}
+use Rattle.proc_summary.proofs.CratesBelow.{some_at}
 use Rattle.newton_rounds.specs.Members.{members_of}
-use Rattle.newton_rounds.proofs.Membered.{members-next}
+use Rattle.newton_rounds.proofs.ProcedureLoops.{members-next}
 use Rattle.analysis.specs.Claims.{EachOf, FitsAt}
 use Rattle.analysis.specs.Parts.{with_flow}
 use Rattle.analysis.proofs.Puts.{each-next, each-none}

@@ -1,7 +1,7 @@
 use Rattle.std.proofs.Common.{◌<◌, ◌++◌, length, map, ap, arith}
 use Rattle.flow_graph.specs.Plain.{plain}
 use Rattle.proc_summary.specs.Subject.{own_graph}
-use Rattle.proc_summary.proofs.Below.{some_at}
+use Rattle.proc_summary.proofs.CratesBelow.{some_at}
 use Rattle.analysis.specs.Judging.{checks_of}
 use Rattle.analysis.proofs.ChecksStand.{graph-next, proc-next, procs-end}
 use Rattle.analysis.proofs.standing.standing_of.Goals as goal

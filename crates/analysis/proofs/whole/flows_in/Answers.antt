@@ -1,4 +1,4 @@
-use Rattle.analysis.proofs.Looped.{flows-more, flows-same}
+use Rattle.analysis.proofs.ListLoops.{flows-more, flows-same}
 use Rattle.analysis.proofs.whole.flows_in.Goals as goal
 
 pub loop-flow-preserved-in-Continue-1 : goal.loop-flow-preserved-in-Continue-1

@@ -8,8 +8,8 @@ use Rattle.context.specs.Entries.{entries_from}
 use Rattle.analysis.specs.Analysis.{blocks_by, report_by_findings, report_by}
 use Rattle.analysis.specs.Apart.{apart}
 use Rattle.analysis.specs.Judging.{judgements_on_all}
-use Rattle.analysis.proofs.Covering.{always-judged_by}
-use Rattle.analysis.proofs.Ending.{blocks-all, blocks-fit, blocks-met, flows-are, flows-hold}
+use Rattle.analysis.proofs.ReportCover.{always-judged_by}
+use Rattle.analysis.proofs.ReportParts.{blocks-all, blocks-fit, blocks-met, flows-are, flows-hold}
 use Rattle.analysis.proofs.whole.report_by_findings.Goals as goal
 
 pub entries_apart-requires-clause-flows : goal.entries_apart-requires-clause-flows

@@ -1,4 +1,4 @@
-use Rattle.analysis_laws.proofs.Covered.{found-whole, reports-cover, summaries-hold}
+use Rattle.analysis_laws.proofs.AnalysisCover.{found-whole, reports-cover, summaries-hold}
 use Rattle.analysis_laws.proofs.Points.{points-meet}
 use Rattle.analysis_laws.proofs.laws.law_of_reports.Goals as goal
 

@@ -1,4 +1,4 @@
-use Rattle.analysis_laws.proofs.Unreached.{unreached-fail, unreached-stand}
+use Rattle.analysis_laws.proofs.DeadAssertions.{unreached-fail, unreached-stand}
 use Rattle.analysis_laws.proofs.laws.law_of_unreached.Goals as goal
 
 pub returns-clause-nowhere : goal.returns-clause-nowhere

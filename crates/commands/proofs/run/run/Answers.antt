@@ -6,7 +6,7 @@ use Rattle.commands.specs.declared.status.Status.TheVariants.{AllProved, SomeUnp
 use Rattle.commands.proofs.Complete.{complete, complete-certify, complete-replay}
 use Rattle.commands.proofs.Costs.{complete-cost, sound-cost}
 use Rattle.commands.proofs.Edits.{complete-edit, sound-edit, true-end}
-use Rattle.commands.proofs.Passing.{certified-passes, certified-renewed, complete-check, complete-renew}
+use Rattle.commands.proofs.FilePasses.{certified-passes, certified-renewed, complete-check, complete-renew}
 use Rattle.commands.proofs.Sentences.{failing, sound, sound-check, true-text}
 use Rattle.commands.proofs.run.run.Goals as goal
 

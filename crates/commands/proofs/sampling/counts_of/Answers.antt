@@ -1,6 +1,6 @@
 use Rattle.std.proofs.Common.{ap}
 use Rattle.summary_cache.specs.Kept.{Kept}
-use Rattle.commands.proofs.Sampled.{kept-counted}
+use Rattle.commands.proofs.SampleTexts.{kept-counted}
 use Rattle.commands.proofs.sampling.counts_of.Goals as goal
 
 pub returns-in-Ok : goal.returns-in-Ok

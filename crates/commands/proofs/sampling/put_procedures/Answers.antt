@@ -1,5 +1,5 @@
 use Rattle.commands.specs.Sample.{procedure_text}
-use Rattle.commands.proofs.Sampled.{parts-more}
+use Rattle.commands.proofs.SampleTexts.{parts-more}
 use Rattle.commands.proofs.sampling.put_procedures.Goals as goal
 
 pub loop-number-preserved : goal.loop-number-preserved

@@ -1,6 +1,6 @@
 use Rattle.std.proofs.Common.{ap, sym, ◌∙◌}
 use Rattle.context.specs.Verdicts.{entry_from_start}
-use Rattle.context.proofs.Reached.{begun-known, extendable}
+use Rattle.context.proofs.WaysToAssertions.{begun-known, extendable}
 use Rattle.context.proofs.assertion.entry_from_start.Goals as goal
 
 pub extended_formula-requires-clause-more : goal.extended_formula-requires-clause-more

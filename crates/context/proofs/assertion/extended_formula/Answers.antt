@@ -2,7 +2,7 @@ use Rattle.std.proofs.Common.{◌≤◌, sym, subst}
 use Rattle.std.specs.Prelude.{All}
 use Rattle.linear_terms.specs.declared.row.Case.{Case}
 use Rattle.transition_formula.specs.Transition.{IsTransition}
-use Rattle.context.proofs.Extended.{extended-made-fits}
+use Rattle.context.proofs.FurtherPosts.{extended-made-fits}
 use Rattle.context.proofs.assertion.extended_formula.Goals as goal
 
 pub extended_cases-requires-clause-few : goal.extended_cases-requires-clause-few

@@ -4,7 +4,7 @@ use Rattle.transition_formula.specs.Posts.{numbers_at, with_posts}
 use Rattle.transition_formula.specs.Composition.{sequence_of}
 use Rattle.transition_formula.specs.Meaning.{Holds}
 use Rattle.syntax_tree.specs.Term.{term_of}
-use Rattle.context.proofs.Reached.{failing-from, failing-solvable, falsity-meets, falsity-pairs, shown-few, shown-there, state-length}
+use Rattle.context.proofs.WaysToAssertions.{failing-from, failing-solvable, falsity-meets, falsity-pairs, shown-few, shown-there, state-length}
 use Rattle.context.proofs.assertion.failing.Goals as goal
 
 pub seq-requires-clause-between : goal.seq-requires-clause-between

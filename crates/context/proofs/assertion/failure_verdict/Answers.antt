@@ -8,7 +8,7 @@ use Rattle.report.specs.Claims.{IsRefuted}
 use Rattle.context.specs.Claims.{FitsVerdict}
 use Rattle.context.specs.Judging.{IsVerdictOnAll}
 use Rattle.context.specs.Verdicts.{failure_verdict_from, verdict_on_cases_from}
-use Rattle.context.proofs.Reached.{cases-fit-shown, dead-of, if_ok-more, none-fails-at}
+use Rattle.context.proofs.WaysToAssertions.{cases-fit-shown, dead-of, if_ok-more, none-fails-at}
 use Rattle.context.proofs.assertion.failure_verdict.Goals as goal
 
 pub returns-clause-follows : goal.returns-clause-follows

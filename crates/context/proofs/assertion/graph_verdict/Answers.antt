@@ -12,8 +12,8 @@ use Rattle.context.specs.Claims.{IsEntryIf}
 use Rattle.context.specs.Ends.{IsCondition, NoneFails}
 use Rattle.context.specs.Verdicts.{verdict_of}
 use Rattle.context.proofs.CheckPlaces.{check-within, cond-fits, cond-is, stand-fits}
-use Rattle.context.proofs.Numbered.{some-one}
-use Rattle.context.proofs.Placed.{got}
+use Rattle.context.proofs.AssertionPlaces.{some-one}
+use Rattle.context.proofs.PlaceColumns.{got}
 use Rattle.context.proofs.Sound.{never-fails}
 use Rattle.context.proofs.assertion.graph_verdict.Goals as goal
 

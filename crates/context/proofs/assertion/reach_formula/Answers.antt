@@ -11,7 +11,7 @@ use Rattle.checked_tree.specs.Law.{IsFrom}
 use Rattle.checked_tree.proofs.Between.{between, settled-from}
 use Rattle.context.specs.Ends.{HasFew, HoldsAfter, IsFromStart}
 use Rattle.context.specs.Verdicts.{reach_from}
-use Rattle.context.proofs.Reached.{if_ok-more, sequence-from, sequence-meets, sequence-pairs, sequence-solvable, small-few, small-from}
+use Rattle.context.proofs.WaysToAssertions.{if_ok-more, sequence-from, sequence-meets, sequence-pairs, sequence-solvable, small-few, small-from}
 use Rattle.context.proofs.assertion.reach_formula.Goals as goal
 
 pub seq-requires-clause-between : goal.seq-requires-clause-between

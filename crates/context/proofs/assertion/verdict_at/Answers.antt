@@ -1,7 +1,7 @@
 use Rattle.posing.proofs.Steps.{value_first}
 use Rattle.syntax_tree.specs.Term.{term_of}
 use Rattle.context.specs.Verdicts.{failure_verdict_from, reach_from, verdict_of}
-use Rattle.context.proofs.Reached.{none-fails}
+use Rattle.context.proofs.WaysToAssertions.{none-fails}
 use Rattle.context.proofs.assertion.verdict_at.Goals as goal
 
 pub returns-clause-follows : goal.returns-clause-follows

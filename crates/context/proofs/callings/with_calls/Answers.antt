@@ -7,7 +7,7 @@ use Rattle.proc_summary.specs.Claims.{FitsStop}
 use Rattle.context.specs.declared.stand.Widths.{Widths}
 use Rattle.context.specs.Made.{IsCallFit, callings_on}
 use Rattle.context.proofs.CallEdges.{as-many, calls-fit}
-use Rattle.context.proofs.Placed.{got}
+use Rattle.context.proofs.PlaceColumns.{got}
 use Rattle.context.proofs.callings.with_calls.Goals as goal
 
 pub with_callings-requires-clause-calls : goal.with_callings-requires-clause-calls

@@ -3,7 +3,7 @@ use Rattle.std.proofs.lemmas.Option.{slice_get_read}
 use Rattle.context.specs.Entries.{ways_from}
 use Rattle.context.specs.Made.{with_ways}
 use Rattle.context.proofs.Loops.{proc-next}
-use Rattle.context.proofs.Placed.{got}
+use Rattle.context.proofs.PlaceColumns.{got}
 use Rattle.context.proofs.edges.edges_of.Goals as goal
 
 pub loop-number-init : goal.loop-number-init

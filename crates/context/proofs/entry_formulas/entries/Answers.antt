@@ -9,7 +9,7 @@ use Rattle.checked_tree.specs.Graph.{graph_of}
 use Rattle.checked_tree.specs.Law.{AreFittedCells, CellsHold, IsEvaluated}
 use Rattle.context.specs.declared.edges.Edges.{Edges}
 use Rattle.context.specs.Entries.{entries_from, entries_in}
-use Rattle.context.proofs.Entered.{NeverOne, few-made, few-made-nodes, graph-made, made-evaluated, made-fit, made-hold, made-never}
+use Rattle.context.proofs.EntryWalks.{NeverOne, few-made, few-made-nodes, graph-made, made-evaluated, made-fit, made-hold, made-never}
 use Rattle.context.proofs.entry_formulas.entries.Goals as goal
 
 pub evaluate_formulas-requires-clause-graph : goal.evaluate_formulas-requires-clause-graph

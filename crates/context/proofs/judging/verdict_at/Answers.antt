@@ -2,7 +2,7 @@ use Rattle.std.proofs.Common.{ap}
 use Rattle.posing.specs.Posing.{Done, answer_to}
 use Rattle.posing.proofs.Steps.{at_end, in_other_words, value_first}
 use Rattle.context.specs.Verdicts.{verdict_by}
-use Rattle.context.proofs.Answered.{answered, asked-of, empty-known}
+use Rattle.context.proofs.GoodAnswers.{answered, asked-of, empty-known}
 use Rattle.context.proofs.judging.verdict_at.Goals as goal
 
 pub returns-then-is_empty-clause-known : goal.returns-then-is_empty-clause-known

@@ -1,4 +1,4 @@
-use Rattle.context.proofs.Answered.{yes-known, no-known}
+use Rattle.context.proofs.GoodAnswers.{yes-known, no-known}
 use Rattle.context.proofs.judging.verdict_by.Goals as goal
 
 pub returns-in-Yes-clause-known : goal.returns-in-Yes-clause-known

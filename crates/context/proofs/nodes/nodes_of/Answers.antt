@@ -1,6 +1,6 @@
 use Rattle.std.proofs.Common.{arith}
 use Rattle.context.proofs.Loops.{node-next}
-use Rattle.context.proofs.Placed.{got}
+use Rattle.context.proofs.PlaceColumns.{got}
 use Rattle.context.proofs.nodes.nodes_of.Goals as goal
 
 pub loop-number-preserved : goal.loop-number-preserved

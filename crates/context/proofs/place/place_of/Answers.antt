@@ -4,8 +4,8 @@ use Rattle.syntax_tree.specs.declared.program.Proc.{Proc}
 use Rattle.vocabularies.proofs.Columns.{IsVocabulary-full}
 use Rattle.context.specs.Ends.{IsPlace}
 use Rattle.context.proofs.EntryGraph.{start-end}
-use Rattle.context.proofs.Numbered.{proc-fit}
-use Rattle.context.proofs.Placed.{full-columns, got, named-some, place-is, shown-is}
+use Rattle.context.proofs.AssertionPlaces.{proc-fit}
+use Rattle.context.proofs.PlaceColumns.{full-columns, got, named-some, place-is, shown-is}
 use Rattle.context.proofs.place.place_of.Goals as goal
 
 pub shown_columns-requires : goal.shown_columns-requires

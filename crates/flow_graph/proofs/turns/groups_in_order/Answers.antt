@@ -46,10 +46,10 @@ loop-first-preserved c =
     let taken = taken_is _ _ f c.in-Some.ensures.removal c.in-Some.ensures.all_above in
     let g : c.group_at-group.result ≡ group plan f = c.group_at-group.ensures ∙ ap (λ (xs : List ℕ). group_at xs f) c.as_slice.ensures in
     let same : c.wake.new.self.come.items ≡ set s.come (group plan f) true = c.in_ok-wake.ensures.1 ∙ ap (λ (k : ℕ). set s.come k true) g in
-    let made : c.in_ok-group_with_number.made ≡ record { procs = members_of plan (group plan f); recursive = leads_back plan.groups (group plan f) (row_of plan (group plan f)) } =
+    let made : c.in_ok-made.made ≡ record { procs = members_of plan (group plan f); recursive = leads_back plan.groups (group plan f) (row_of plan (group plan f)) } =
     (λ i. record {
-      procs = (c.in_ok-group_with_number.ensures.0 ∙ ap (members_of plan) g) i;
-      recursive = (c.in_ok-group_with_number.ensures.1 ∙ ap (λ (k : ℕ). leads_back plan.groups k (row_of plan k)) g) i;
+      procs = (c.in_ok-made.ensures.0 ∙ ap (members_of plan) g) i;
+      recursive = (c.in_ok-made.ensures.1 ∙ ap (λ (k : ℕ). leads_back plan.groups k (row_of plan k)) g) i;
     }) in
     subst (Ordered program plan (stage_of c.wake.new.self)) (sym (c.in_ok-push.ensures.ok ∙ ap (λ (x : Group). c.loop-first.groups ++ x ∷ []) made))
     (ordered_after program plan s c.loop-first.groups f (mem c.pop_first.new.self.keys) c.loop-first.invariant taken (stage_of c.wake.new.self) c.in_ok-wake.ensures.0 same)

@@ -2,7 +2,7 @@ use Rattle.std.proofs.Common.{◌∙◌, ◌≤◌, ap, length, sym, subst}
 use Rattle.std.proofs.lemmas.Bool.{false≢true}
 use Rattle.std.specs.Prelude.{slice_get}
 use Rattle.std.specs.Option.{option_copied}
-use Rattle.kept_groups.proofs.Searching.{alike-found, alike-words, got, none-all, none-next, placed}
+use Rattle.kept_groups.proofs.AlikeSearch.{alike-found, alike-words, got, none-all, none-next, placed}
 use Rattle.kept_groups.proofs.alike.alike_part_of.Goals as goal
 
 pub returns-then-is_alike : goal.returns-then-is_alike

@@ -1,4 +1,4 @@
-use Rattle.kept_groups.proofs.Searching.{NoneBefore}
+use Rattle.kept_groups.proofs.AlikeSearch.{NoneBefore}
 use Rattle.kept_groups.proofs.alike.alike_part_of.Given as goal
 
 abbrev pub invariant-loop-place : goal.invariant-loop-place

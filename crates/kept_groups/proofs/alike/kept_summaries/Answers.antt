@@ -5,7 +5,7 @@ use Rattle.std.proofs.lemmas.Slice.Zip.{AllZip-long}
 use Rattle.posing.specs.Follows.{IsGood}
 use Rattle.kept_groups.specs.Kept.{Anything, IsPartOf, kept_summaries}
 use Rattle.kept_groups.specs.OneGroup.{summaries_with}
-use Rattle.kept_groups.proofs.Searching.{known-kept}
+use Rattle.kept_groups.proofs.AlikeSearch.{known-kept}
 use Rattle.kept_groups.proofs.alike.kept_summaries.Goals as goal
 
 pub summaries_with-requires : goal.summaries_with-requires

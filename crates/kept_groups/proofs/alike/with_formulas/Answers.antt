@@ -1,6 +1,6 @@
 use Rattle.std.proofs.Common.{◌∙◌, ap, get_or}
 use Rattle.kept_groups.specs.OneGroup.{with_summary_at}
-use Rattle.kept_groups.proofs.Searching.{got, put-next}
+use Rattle.kept_groups.proofs.AlikeSearch.{got, put-next}
 use Rattle.kept_groups.proofs.alike.with_formulas.Goals as goal
 
 pub loop-index-preserved : goal.loop-index-preserved

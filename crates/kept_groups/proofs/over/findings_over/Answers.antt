@@ -1,7 +1,7 @@
 use Rattle.std.proofs.Common.{◌∙◌, Err, ap, subst}
 use Rattle.std.specs.Option.{option_copied}
 use Rattle.kept_groups.specs.OneGroup.{Ends, IsOneMore, IsStuck, nothing_yet}
-use Rattle.kept_groups.proofs.Going.{goes-begin, goes-next, goes-over, goes-ready, goes-stuck, goes-whole}
+use Rattle.kept_groups.proofs.PlanLoop.{goes-begin, goes-next, goes-over, goes-ready, goes-stuck, goes-whole}
 use Rattle.kept_groups.proofs.over.findings_over.Goals as goal
 
 pub loop-planned-init : goal.loop-planned-init

@@ -1,5 +1,5 @@
 use Rattle.std.specs.Option.{option_copied}
-use Rattle.kept_groups.proofs.Going.{Goes}
+use Rattle.kept_groups.proofs.PlanLoop.{Goes}
 use Rattle.kept_groups.proofs.over.findings_over.Given as goal
 
 abbrev pub invariant-loop-planned : goal.invariant-loop-planned

@@ -1,4 +1,4 @@
-use Rattle.kept_groups.proofs.Made.{part-declined, part-made}
+use Rattle.kept_groups.proofs.GroupCall.{part-declined, part-made}
 use Rattle.kept_groups.proofs.over.new_part.Goals as goal
 
 pub returns-in_err-summaries-clause-makes : goal.returns-in_err-summaries-clause-makes

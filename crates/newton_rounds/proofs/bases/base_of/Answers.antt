@@ -7,9 +7,9 @@ use Rattle.newton_rounds.specs.Between.{GoesBetween}
 use Rattle.newton_rounds.specs.Closure.{pair_ends}
 use Rattle.newton_rounds.specs.Pairs.{base_from, losses_in_base}
 use Rattle.newton_rounds.specs.Shapes.{AreEnds}
-use Rattle.newton_rounds.proofs.Based.{base-goes}
-use Rattle.newton_rounds.proofs.Below.{full-columns, some_at}
-use Rattle.newton_rounds.proofs.Exited.{base-by-exit, noted_base}
+use Rattle.newton_rounds.proofs.BaseFormulas.{base-goes}
+use Rattle.newton_rounds.proofs.CratesBelow.{full-columns, some_at}
+use Rattle.newton_rounds.proofs.ExitFormulas.{base-by-exit, noted_base}
 use Rattle.newton_rounds.proofs.Widths.{ends-are}
 use Rattle.newton_rounds.proofs.bases.base_of.Goals as goal
 

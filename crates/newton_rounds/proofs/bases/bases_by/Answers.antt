@@ -8,8 +8,8 @@ use Rattle.posing.proofs.Steps.{all_left, at_end, error_first, first_left, in_ot
 use Rattle.newton_rounds.specs.Between.{AreBases}
 use Rattle.newton_rounds.specs.Closure.{ends_of_members, pair_ends, with_base}
 use Rattle.newton_rounds.specs.Members.{members_of}
-use Rattle.newton_rounds.proofs.Below.{some_at}
-use Rattle.newton_rounds.proofs.Membered.{members-next}
+use Rattle.newton_rounds.proofs.CratesBelow.{some_at}
+use Rattle.newton_rounds.proofs.ProcedureLoops.{members-next}
 use Rattle.newton_rounds.proofs.bases.bases_by.Goals as goal
 
 pub loop-proc-init : goal.loop-proc-init

@@ -1,7 +1,7 @@
 use Rattle.std.proofs.Common.{◌≡◌, ◌<◌, ◌∙◌, [], length, sym, subst}
 use Rattle.std.specs.Prelude.{All}
 use Rattle.leaf_cases.specs.Conditions.{AreKnown}
-use Rattle.newton_rounds.proofs.Tabled.{untabled-known}
+use Rattle.newton_rounds.proofs.KnownTables.{untabled-known}
 use Rattle.newton_rounds.proofs.bases.bases_of.Goals as goal
 
 pub with_table-requires : goal.with_table-requires

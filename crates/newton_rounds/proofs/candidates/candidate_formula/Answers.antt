@@ -6,7 +6,7 @@ use Rattle.newton_rounds.specs.Between.{GoesBetween}
 use Rattle.newton_rounds.specs.Candidates.{candidate_formula}
 use Rattle.newton_rounds.specs.Closure.{exits_told}
 use Rattle.newton_rounds.specs.Pairs.{PairEnds}
-use Rattle.newton_rounds.proofs.Rowed.{pairs-go, pairs_with}
+use Rattle.newton_rounds.proofs.CandidateSummaries.{pairs-go, pairs_with}
 use Rattle.newton_rounds.proofs.candidates.candidate_formula.Goals as goal
 
 pub from_cases-pairs-requires : goal.from_cases-pairs-requires

@@ -11,7 +11,7 @@ use Rattle.posing.proofs.Steps.{in_other_words}
 use Rattle.polyhedra.proofs.Results.{result_has}
 use Rattle.newton_rounds.specs.Candidates.{candidate_of}
 use Rattle.newton_rounds.specs.Between.{IsRowOver}
-use Rattle.newton_rounds.proofs.Rowed.{after-covered, candidate-over, candidate-some, posts-covered}
+use Rattle.newton_rounds.proofs.CandidateSummaries.{after-covered, candidate-over, candidate-some, posts-covered}
 use Rattle.newton_rounds.proofs.candidates.candidate_of.Goals as goal
 
 pub pair_bounds-requires-clause-posts : goal.pair_bounds-requires-clause-posts

@@ -2,8 +2,8 @@ use Rattle.std.proofs.Common.{◌≡◌, ◌<◌, ◌++◌, ◌∷◌, [], ◌+�
 use Rattle.std.proofs.lemmas.List.{drop_all}
 use Rattle.newton_rounds.specs.Between.{IsMember}
 use Rattle.newton_rounds.specs.Candidates.{candidate_formula, table_of}
-use Rattle.newton_rounds.proofs.Grouped.{behind-more, each-read}
-use Rattle.newton_rounds.proofs.Rowed.{candidate-at, candidates-length, next-candidate}
+use Rattle.newton_rounds.proofs.GroupGraphs.{behind-more, each-read}
+use Rattle.newton_rounds.proofs.CandidateSummaries.{candidate-at, candidates-length, next-candidate}
 use Rattle.newton_rounds.proofs.candidates.table_of.Goals as goal
 
 pub bounds-candidates-place : goal.bounds-candidates-place

@@ -3,7 +3,7 @@ use Rattle.std.specs.Prelude.{IfOk, OnOk}
 use Rattle.transition_formula.specs.Composition.{sequence_of, losses_in_sequence}
 use Rattle.transition_formula.specs.Transition.{AreFew, Transition}
 use Rattle.newton_rounds.specs.Between.{chain_to}
-use Rattle.newton_rounds.proofs.Chained.{base-read, bases-length, chain-read, end-few, meets}
+use Rattle.newton_rounds.proofs.ChainFormulas.{base-read, bases-length, chain-read, end-few, meets}
 use Rattle.newton_rounds.proofs.chains.chain_end.Goals as goal
 
 pub bounds-bases-n : goal.bounds-bases-n

@@ -2,7 +2,7 @@ use Rattle.std.proofs.Common.{◌≡◌, ◌∙◌, length, sym, ap, subst, refl
 use Rattle.transition_formula.specs.Transition.{IsTransition}
 use Rattle.newton_rounds.specs.Between.{width_at}
 use Rattle.newton_rounds.specs.Closure.{chain_end, chains_of, losses_in_chain_end}
-use Rattle.newton_rounds.proofs.Chained.{chains-go, others-end, others-next}
+use Rattle.newton_rounds.proofs.ChainFormulas.{chains-go, others-end, others-next}
 use Rattle.newton_rounds.proofs.chains.chains_of.Goals as goal
 
 pub loop-n-preserved : goal.loop-n-preserved

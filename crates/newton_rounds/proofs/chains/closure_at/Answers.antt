@@ -8,7 +8,7 @@ use Rattle.checked_tree.specs.Law.{IsFrom}
 use Rattle.newton_rounds.specs.Closure.{chains_of, closure_at, ends_at, exits_told, losses_in_chains, losses_in_exits, no_pair}
 use Rattle.newton_rounds.specs.Pairs.{PairEnds}
 use Rattle.newton_rounds.specs.Between.{GoesBetween}
-use Rattle.newton_rounds.proofs.Chained.{chains-go, exits-from, exits-solvable, member-at, read-at}
+use Rattle.newton_rounds.proofs.ChainFormulas.{chains-go, exits-from, exits-solvable, member-at, read-at}
 use Rattle.newton_rounds.proofs.chains.closure_at.Goals as goal
 
 pub exits_told-requires-clause-over : goal.exits_told-requires-clause-over

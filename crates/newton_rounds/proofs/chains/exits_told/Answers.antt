@@ -5,7 +5,7 @@ use Rattle.linear_terms.specs.declared.row.Case.{Case}
 use Rattle.transition_formula.specs.Posts.{with_entries}
 use Rattle.transition_formula.specs.Transition.{Transition}
 use Rattle.newton_rounds.specs.Pairs.{PairEnds}
-use Rattle.newton_rounds.proofs.Chained.{places-few, places-there, told-few}
+use Rattle.newton_rounds.proofs.ChainFormulas.{places-few, places-there, told-few}
 use Rattle.newton_rounds.proofs.chains.exits_told.Goals as goal
 
 pub with_entries-requires-clause-there : goal.with_entries-requires-clause-there

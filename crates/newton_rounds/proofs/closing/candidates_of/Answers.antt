@@ -5,9 +5,9 @@ use Rattle.posing.proofs.Following.{leads_none}
 use Rattle.posing.proofs.Steps.{all_left, at_end, error_first, first_left, in_other_words, value_has}
 use Rattle.newton_rounds.specs.Between.{AreCandidates, IsMember}
 use Rattle.newton_rounds.specs.Close.{pairs_of, with_candidate}
-use Rattle.newton_rounds.proofs.Closed.{candidates-over, next-paired, paired-end, summary-read}
-use Rattle.newton_rounds.proofs.Grouped.{each-read}
-use Rattle.newton_rounds.proofs.Summed.{summaries-length}
+use Rattle.newton_rounds.proofs.MemberLoops.{candidates-over, next-paired, paired-end, summary-read}
+use Rattle.newton_rounds.proofs.GroupGraphs.{each-read}
+use Rattle.newton_rounds.proofs.ClosureSummaries.{summaries-length}
 use Rattle.newton_rounds.proofs.closing.candidates_of.Goals as goal
 
 pub loop-place-init : goal.loop-place-init

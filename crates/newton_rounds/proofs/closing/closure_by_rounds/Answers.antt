@@ -3,7 +3,7 @@ use Rattle.std.proofs.lemmas.List.Elements.{recursion_from_All}
 use Rattle.posing.proofs.Steps.{in_other_words, value_first}
 use Rattle.newton_rounds.specs.Between.{FitTable}
 use Rattle.newton_rounds.specs.Close.{closure_by_rounds, rounds_after, rounds_over}
-use Rattle.newton_rounds.proofs.Rounded.{summaries-fit}
+use Rattle.newton_rounds.proofs.RoundRows.{summaries-fit}
 use Rattle.newton_rounds.proofs.closing.closure_by_rounds.Goals as goal
 
 pub rounds_after-requires-clause-members : goal.rounds_after-requires-clause-members

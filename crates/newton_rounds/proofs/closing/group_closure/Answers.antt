@@ -3,8 +3,8 @@ use Rattle.std.proofs.lemmas.List.Elements.{recursion_from_All}
 use Rattle.newton_rounds.specs.Between.{AreBases, AreSummaries}
 use Rattle.newton_rounds.specs.Claims.{AreKnownMembers}
 use Rattle.newton_rounds.specs.Closure.{ends_of_members}
-use Rattle.newton_rounds.proofs.Matched.{if_ok-more}
-use Rattle.newton_rounds.proofs.Rounded.{summaries-known}
+use Rattle.newton_rounds.proofs.MatchLoops.{if_ok-more}
+use Rattle.newton_rounds.proofs.RoundRows.{summaries-known}
 use Rattle.newton_rounds.proofs.closing.group_closure.Goals as goal
 
 pub closure_of-requires-clause-bases : goal.closure_of-requires-clause-bases

@@ -9,8 +9,8 @@ use Rattle.newton_rounds.specs.Candidates.{kept_candidates, table_of}
 use Rattle.newton_rounds.specs.Close.{pairs_of, rounds_over, with_candidate}
 use Rattle.newton_rounds.specs.Closure.{ends_of_members}
 use Rattle.newton_rounds.specs.Pairs.{PairEnds}
-use Rattle.newton_rounds.proofs.Gathered.{all-members}
-use Rattle.newton_rounds.proofs.Rowed.{table-summaries}
+use Rattle.newton_rounds.proofs.GroupMembers.{all-members}
+use Rattle.newton_rounds.proofs.CandidateSummaries.{table-summaries}
 use Rattle.newton_rounds.proofs.closing.rounds_over.Goals as goal
 
 pub candidates_of-requires-clause-members : goal.candidates_of-requires-clause-members

@@ -3,7 +3,7 @@ use Rattle.posing.proofs.Steps.{in_other_words, value_first}
 use Rattle.newton_rounds.specs.Between.{AreChained}
 use Rattle.newton_rounds.specs.Closure.{closure_at, closed_member, stretches_with}
 use Rattle.newton_rounds.specs.Shapes.{plain_call}
-use Rattle.newton_rounds.proofs.Summed.{chained-by}
+use Rattle.newton_rounds.proofs.ClosureSummaries.{chained-by}
 use Rattle.newton_rounds.proofs.closure.closed_member.Goals as goal
 
 pub closure_at-requires : goal.closure_at-requires

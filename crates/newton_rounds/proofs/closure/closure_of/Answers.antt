@@ -14,8 +14,8 @@ use Rattle.newton_rounds.specs.Between.{AreBases, AreSummaries, IsGroup}
 use Rattle.newton_rounds.specs.Closure.{closure_of, ends_of_members, pair_ends, stretches_with, with_closed}
 use Rattle.newton_rounds.specs.Members.{calls_from, members_of}
 use Rattle.newton_rounds.specs.Shapes.{FitCalls, IsCallIn, plain_call}
-use Rattle.newton_rounds.proofs.Gathered.{few-procs, group-is, sides-many}
-use Rattle.newton_rounds.proofs.Summed.{closed-summaries}
+use Rattle.newton_rounds.proofs.GroupMembers.{few-procs, group-is, sides-many}
+use Rattle.newton_rounds.proofs.ClosureSummaries.{closed-summaries}
 use Rattle.newton_rounds.proofs.closure.closure_of.Goals as goal
 
 pub calls_from-requires-clause-few : goal.calls_from-requires-clause-few

@@ -9,9 +9,9 @@ use Rattle.checked_tree.specs.Law.{AreFittedCells, IsEvaluated}
 use Rattle.newton_rounds.specs.Between.{AreChainsFrom}
 use Rattle.newton_rounds.specs.Closure.{group_graph, group_link, stretches_with}
 use Rattle.newton_rounds.specs.Shapes.{plain_call}
-use Rattle.newton_rounds.proofs.Grouped.{group-evaluated, links-are}
-use Rattle.newton_rounds.proofs.Leading.{StaysAt, cells-stay, chains-from}
-use Rattle.newton_rounds.proofs.Matched.{if_ok-both}
+use Rattle.newton_rounds.proofs.GroupGraphs.{group-evaluated, links-are}
+use Rattle.newton_rounds.proofs.PairCells.{StaysAt, cells-stay, chains-from}
+use Rattle.newton_rounds.proofs.MatchLoops.{if_ok-both}
 use Rattle.newton_rounds.proofs.closure.group_cells.Goals as goal
 
 pub evaluate_formulas-requires-clause-graph : goal.evaluate_formulas-requires-clause-graph

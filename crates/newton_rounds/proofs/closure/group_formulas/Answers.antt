@@ -6,7 +6,7 @@ use Rattle.posing.proofs.Following.{leads_none}
 use Rattle.posing.proofs.Steps.{all_left, at_end, error_first, first_left, in_other_words}
 use Rattle.newton_rounds.specs.Closure.{stretches_with, with_closed}
 use Rattle.newton_rounds.specs.Shapes.{plain_call}
-use Rattle.newton_rounds.proofs.Chained.{range-end, range-first}
+use Rattle.newton_rounds.proofs.ChainFormulas.{range-end, range-first}
 use Rattle.newton_rounds.proofs.closure.group_formulas.Goals as goal
 
 pub loop-place-init : goal.loop-place-init

@@ -5,8 +5,8 @@ use Rattle.newton_rounds.specs.Between.{IsStretchIn}
 use Rattle.newton_rounds.specs.Closure.{ends_at, group_leaf, losses_in_group_leaf, no_pair, stretches_with}
 use Rattle.newton_rounds.specs.Pairs.{PairEnds, losses_in_pair, pair_formula}
 use Rattle.newton_rounds.specs.Shapes.{IsStretchBetween, plain_call, stretch_of}
-use Rattle.newton_rounds.proofs.Chained.{read-at}
-use Rattle.newton_rounds.proofs.Grouped.{behind-more, call-at, each-read, next-stretch, stretch-at}
+use Rattle.newton_rounds.proofs.ChainFormulas.{read-at}
+use Rattle.newton_rounds.proofs.GroupGraphs.{behind-more, call-at, each-read, next-stretch, stretch-at}
 use Rattle.newton_rounds.proofs.closure.leaves_of.Goals as goal
 
 pub bounds-members-call : goal.bounds-members-call

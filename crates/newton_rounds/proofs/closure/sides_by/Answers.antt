@@ -3,7 +3,7 @@ use Rattle.std.specs.Prelude.{All}
 use Rattle.posing.proofs.Steps.{in_other_words}
 use Rattle.leaf_cases.specs.Conditions.{AreKnown}
 use Rattle.newton_rounds.specs.Closure.{sides_of}
-use Rattle.newton_rounds.proofs.Tabled.{tabled-known}
+use Rattle.newton_rounds.proofs.KnownTables.{tabled-known}
 use Rattle.newton_rounds.proofs.closure.sides_by.Goals as goal
 
 pub with_table-requires : goal.with_table-requires

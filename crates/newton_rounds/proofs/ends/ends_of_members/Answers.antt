@@ -1,7 +1,7 @@
 use Rattle.std.proofs.Common.{[], ◌∷◌, ◌+◌, ◌++◌, map, drop, get_or, sym, ap, ◌∙◌, append_assoc}
 use Rattle.newton_rounds.specs.Closure.{ends_of_members, pair_ends}
-use Rattle.newton_rounds.proofs.Below.{some_at}
-use Rattle.newton_rounds.proofs.Membered.{members-next}
+use Rattle.newton_rounds.proofs.CratesBelow.{some_at}
+use Rattle.newton_rounds.proofs.ProcedureLoops.{members-next}
 use Rattle.newton_rounds.proofs.ends.ends_of_members.Goals as goal
 
 pub loop-proc-preserved : goal.loop-proc-preserved

@@ -1,5 +1,5 @@
 use Rattle.std.proofs.Common.{arith}
-use Rattle.newton_rounds.proofs.Below.{range-more}
+use Rattle.newton_rounds.proofs.CratesBelow.{range-more}
 use Rattle.newton_rounds.proofs.ends.numbers_from.Goals as goal
 
 pub loop-number-preserved : goal.loop-number-preserved

@@ -2,7 +2,7 @@ use Rattle.std.proofs.Common.{◌≡◌, ◌↔◌, ◌∙◌, IsTrue, map, subs
 use Rattle.flow_graph.specs.Plain.{arc_of}
 use Rattle.newton_rounds.specs.Members.{AreApart}
 use Rattle.newton_rounds.specs.Reached.{TellsReached}
-use Rattle.newton_rounds.proofs.Apart.{told_apart, links_within, ends_within}
+use Rattle.newton_rounds.proofs.LinearGroups.{told_apart, links_within, ends_within}
 use Rattle.newton_rounds.proofs.linear.edges_are_apart.Goals as goal
 
 pub reach_marks-requires-clause-graph : goal.reach_marks-requires-clause-graph

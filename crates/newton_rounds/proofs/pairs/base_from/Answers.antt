@@ -3,8 +3,8 @@ use Rattle.std.specs.Prelude.{All}
 use Rattle.transition_formula.specs.Transition.{Transition}
 use Rattle.proc_summary.specs.Summary.{exit_places}
 use Rattle.newton_rounds.specs.Pairs.{PairEnds, entry_told}
-use Rattle.newton_rounds.proofs.Placed.{pair-holds}
-use Rattle.newton_rounds.proofs.Told.{told-there}
+use Rattle.newton_rounds.proofs.ExitColumns.{pair-holds}
+use Rattle.newton_rounds.proofs.PairStates.{told-there}
 use Rattle.newton_rounds.proofs.pairs.base_from.Goals as goal
 
 pub equated_formula-requires-clause-there : goal.equated_formula-requires-clause-there

@@ -1,7 +1,7 @@
 use Rattle.std.proofs.Common.{arith}
 use Rattle.linear_terms.specs.declared.col.Col.TheVariants.{At}
 use Rattle.linear_terms.specs.Polynomial.{column_of}
-use Rattle.newton_rounds.proofs.Below.{counted_from}
+use Rattle.newton_rounds.proofs.CratesBelow.{counted_from}
 use Rattle.newton_rounds.proofs.pairs.columns_from.Goals as goal
 
 pub loop-number-preserved : goal.loop-number-preserved

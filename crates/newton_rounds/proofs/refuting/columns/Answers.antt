@@ -1,7 +1,7 @@
 use Rattle.std.proofs.Common.{arith, refl, sym}
 use Rattle.linear_terms.specs.declared.col.Col.TheVariants.{At}
 use Rattle.linear_terms.specs.Polynomial.{column_of}
-use Rattle.newton_rounds.proofs.Below.{counted_more}
+use Rattle.newton_rounds.proofs.CratesBelow.{counted_more}
 use Rattle.newton_rounds.proofs.Opposite.{one-ok}
 use Rattle.newton_rounds.proofs.refuting.columns.Goals as goal
 

@@ -6,7 +6,7 @@ use Rattle.linear_terms.specs.Polynomial.{Polynomial}
 use Rattle.linear_terms.specs.Replacement.{HasPoly, put_in}
 use Rattle.linear_terms.specs.TermError.{cause}
 use Rattle.newton_rounds.proofs.Opposite.{one-ok, opposite-has}
-use Rattle.newton_rounds.proofs.Refuted.{contrary-fails, contrary-made}
+use Rattle.newton_rounds.proofs.RowRefutations.{contrary-fails, contrary-made}
 use Rattle.newton_rounds.proofs.refuting.contrary.Goals as goal
 
 pub subst-requires : goal.subst-requires

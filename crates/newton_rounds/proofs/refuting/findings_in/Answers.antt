@@ -3,7 +3,7 @@ use Rattle.farkas_check.specs.Columns.{columns}
 use Rattle.posing.specs.Posing.{Done}
 use Rattle.posing.proofs.Steps.{at_end, in_other_words, value_first}
 use Rattle.newton_rounds.specs.Candidates.{with_answer}
-use Rattle.newton_rounds.proofs.Refuted.{asked-in}
+use Rattle.newton_rounds.proofs.RowRefutations.{asked-in}
 use Rattle.newton_rounds.proofs.refuting.findings_in.Goals as goal
 
 pub returns : goal.returns

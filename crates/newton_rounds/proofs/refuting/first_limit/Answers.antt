@@ -1,7 +1,7 @@
 use Rattle.std.proofs.Common.{refl, ap, ◌∙◌}
 use Rattle.posing.proofs.Steps.{at_end, in_other_words, notes_first}
 use Rattle.newton_rounds.specs.Candidates.{limit_notes}
-use Rattle.newton_rounds.proofs.Refuted.{first-told, others-are}
+use Rattle.newton_rounds.proofs.RowRefutations.{first-told, others-are}
 use Rattle.newton_rounds.proofs.refuting.first_limit.Goals as goal
 
 pub returns-in_ok-add_notes-in-len1-up : goal.returns-in_ok-add_notes-in-len1-up

@@ -8,7 +8,7 @@ use Rattle.posing.proofs.Steps.{in_other_words, notes_first}
 use Rattle.newton_rounds.specs.Candidates.{against, contrary, found_left, with_case}
 use Rattle.newton_rounds.specs.Shapes.{case_left_of}
 use Rattle.newton_rounds.proofs.Opposite.{against-solvable}
-use Rattle.newton_rounds.proofs.Refuted.{kept-solved}
+use Rattle.newton_rounds.proofs.RowRefutations.{kept-solved}
 use Rattle.newton_rounds.proofs.refuting.with_case.Goals as goal
 
 pub solve-requires-clause-numbered : goal.solve-requires-clause-numbered

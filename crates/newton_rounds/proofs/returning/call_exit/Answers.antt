@@ -2,7 +2,7 @@ use Rattle.std.proofs.Common.{◌≡◌, ◌+◌, ◌∙◌, [], ◌∷◌, ◌+
 use Rattle.linear_terms.specs.declared.row.Case.{Case}
 use Rattle.transition_formula.specs.Transition.{IsTransition}
 use Rattle.newton_rounds.specs.Pairs.{call_exit, columns_from, exit_columns, posts_after_return}
-use Rattle.newton_rounds.proofs.Posted.{exit-fits, exits-length}
+use Rattle.newton_rounds.proofs.PostFormulas.{exit-fits, exits-length}
 use Rattle.newton_rounds.proofs.returning.call_exit.Goals as goal
 
 pub posts_after_return-requires-clause-values : goal.posts_after_return-requires-clause-values

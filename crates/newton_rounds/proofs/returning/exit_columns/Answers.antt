@@ -1,7 +1,7 @@
 use Rattle.std.proofs.Common.{arith}
 use Rattle.linear_terms.specs.declared.col.Col.TheVariants.{Aux}
 use Rattle.linear_terms.specs.Polynomial.{column_of}
-use Rattle.newton_rounds.proofs.Below.{counted_more}
+use Rattle.newton_rounds.proofs.CratesBelow.{counted_more}
 use Rattle.newton_rounds.proofs.returning.exit_columns.Goals as goal
 
 pub loop-number-preserved : goal.loop-number-preserved

@@ -5,7 +5,7 @@ use Rattle.posing.proofs.Following.{leads_none}
 use Rattle.posing.proofs.Steps.{each_fails, each_next}
 use Rattle.newton_rounds.specs.Candidates.{with_judged}
 use Rattle.newton_rounds.specs.Shapes.{IsRefutable}
-use Rattle.newton_rounds.proofs.Grouped.{each-read}
+use Rattle.newton_rounds.proofs.GroupGraphs.{each-read}
 use Rattle.newton_rounds.proofs.rounds.judgements_by.Goals as goal
 
 pub loop-row-init : goal.loop-row-init

@@ -11,10 +11,10 @@ use Rattle.newton_rounds.specs.Pairs.{PairEnds}
 use Rattle.newton_rounds.specs.Candidates.{members_with, with_round}
 use Rattle.newton_rounds.specs.Closure.{ends_of_members, pair_ends}
 use Rattle.newton_rounds.specs.Members.{members_of}
-use Rattle.newton_rounds.proofs.Below.{some_at}
-use Rattle.newton_rounds.proofs.Called.{ends-at, ends-many, number-at}
-use Rattle.newton_rounds.proofs.Rounded.{members-end, next-member}
-use Rattle.newton_rounds.proofs.Rowed.{candidate-over-at, candidates-length}
+use Rattle.newton_rounds.proofs.CratesBelow.{some_at}
+use Rattle.newton_rounds.proofs.GroupCalls.{ends-at, ends-many, number-at}
+use Rattle.newton_rounds.proofs.RoundRows.{members-end, next-member}
+use Rattle.newton_rounds.proofs.CandidateSummaries.{candidate-over-at, candidates-length}
 use Rattle.newton_rounds.proofs.rounds.judgements_in.Goals as goal
 
 pub loop-place-init : goal.loop-place-init

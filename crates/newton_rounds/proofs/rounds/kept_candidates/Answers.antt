@@ -6,7 +6,7 @@ use Rattle.posing.proofs.Steps.{in_other_words}
 use Rattle.newton_rounds.specs.Between.{AreCandidates, IsFewer, row_count}
 use Rattle.newton_rounds.specs.Candidates.{kept_candidates, round}
 use Rattle.newton_rounds.specs.Pairs.{PairEnds}
-use Rattle.newton_rounds.proofs.Rounded.{rounds-begin, rounds-end, rounds-fail, rounds-next}
+use Rattle.newton_rounds.proofs.RoundRows.{rounds-begin, rounds-end, rounds-fail, rounds-next}
 use Rattle.newton_rounds.proofs.rounds.kept_candidates.Goals as goal
 
 pub loop-dropped-init : goal.loop-dropped-init

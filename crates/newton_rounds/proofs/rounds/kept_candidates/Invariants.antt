@@ -4,7 +4,7 @@ use Rattle.posing.specs.Posing.{until}
 use Rattle.newton_rounds.specs.Between.{AreCandidates, row_count}
 use Rattle.newton_rounds.specs.Candidates.{most_rounds, round}
 use Rattle.newton_rounds.specs.Closure.{ends_of_members}
-use Rattle.newton_rounds.proofs.Rounded.{AreRounds}
+use Rattle.newton_rounds.proofs.RoundRows.{AreRounds}
 use Rattle.newton_rounds.proofs.rounds.kept_candidates.Given as goal
 
 abbrev pub invariant-loop-dropped : goal.invariant-loop-dropped

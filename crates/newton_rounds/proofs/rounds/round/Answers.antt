@@ -11,11 +11,11 @@ use Rattle.newton_rounds.specs.Between.{AreCandidates, IsFewer, IsMember}
 use Rattle.newton_rounds.specs.Candidates.{dropped_notes, kept_row, members_with, round, some_note, table_of, with_round}
 use Rattle.newton_rounds.specs.Closure.{ends_of_members}
 use Rattle.newton_rounds.specs.Members.{members_of, with_table}
-use Rattle.newton_rounds.proofs.Called.{ends-many, members-many}
-use Rattle.newton_rounds.proofs.Gathered.{all-members, few-procs}
-use Rattle.newton_rounds.proofs.Rounded.{AreOf, round-keeps, rows-judged, summaries-fit}
-use Rattle.newton_rounds.proofs.Rowed.{candidates-length, table-summaries}
-use Rattle.newton_rounds.proofs.Tabled.{tabled-known}
+use Rattle.newton_rounds.proofs.GroupCalls.{ends-many, members-many}
+use Rattle.newton_rounds.proofs.GroupMembers.{all-members, few-procs}
+use Rattle.newton_rounds.proofs.RoundRows.{AreOf, round-keeps, rows-judged, summaries-fit}
+use Rattle.newton_rounds.proofs.CandidateSummaries.{candidates-length, table-summaries}
+use Rattle.newton_rounds.proofs.KnownTables.{tabled-known}
 use Rattle.newton_rounds.proofs.rounds.round.Goals as goal
 
 pub known_formulas_with-requires-clause-procs : goal.known_formulas_with-requires-clause-procs

@@ -1,7 +1,7 @@
 use Rattle.std.proofs.Common.{ap, subst, ◌∙◌}
 use Rattle.posing.specs.Logs.{HasNoted}
 use Rattle.newton_rounds.specs.Candidates.{some_note}
-use Rattle.newton_rounds.proofs.Rounded.{none-noted}
+use Rattle.newton_rounds.proofs.RoundRows.{none-noted}
 use Rattle.newton_rounds.proofs.rounds.rows_left.Goals as goal
 
 pub returns-clause-noted : goal.returns-clause-noted

@@ -1,7 +1,7 @@
 use Rattle.std.proofs.Common.{refl}
 use Rattle.posing.proofs.Steps.{error_first, in_other_words, value_first}
 use Rattle.proc_summary.specs.Summary.{ends_of, summary_from}
-use Rattle.newton_rounds.proofs.Exited.{unfolded-by-exit}
+use Rattle.newton_rounds.proofs.ExitFormulas.{unfolded-by-exit}
 use Rattle.newton_rounds.proofs.rounds.unfolded_formula.Goals as goal
 
 pub exit_summary-requires-clause-exit : goal.exit_summary-requires-clause-exit

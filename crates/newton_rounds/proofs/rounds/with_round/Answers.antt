@@ -6,8 +6,8 @@ use Rattle.newton_rounds.specs.Between.{IsRowOver}
 use Rattle.newton_rounds.specs.Candidates.{with_judged, with_round}
 use Rattle.newton_rounds.specs.Closure.{pair_ends}
 use Rattle.newton_rounds.specs.Shapes.{IsRefutable}
-use Rattle.newton_rounds.proofs.Below.{some_at}
-use Rattle.newton_rounds.proofs.Rounded.{row-refutable}
+use Rattle.newton_rounds.proofs.CratesBelow.{some_at}
+use Rattle.newton_rounds.proofs.RoundRows.{row-refutable}
 use Rattle.newton_rounds.proofs.rounds.with_round.Goals as goal
 
 pub judgements_by-requires : goal.judgements_by-requires

@@ -5,9 +5,9 @@ use Rattle.std.proofs.lemmas.List.Elements.{recursion_from_All}
 use Rattle.newton_rounds.specs.Closure.{ends_of_members}
 use Rattle.newton_rounds.specs.Members.{calls_from, calls_of, members_of}
 use Rattle.newton_rounds.specs.Shapes.{IsCallIn, plain_call}
-use Rattle.newton_rounds.proofs.Below.{some_at}
-use Rattle.newton_rounds.proofs.Called.{calls-in, calls-made, each-mapped}
-use Rattle.newton_rounds.proofs.Membered.{members-next}
+use Rattle.newton_rounds.proofs.CratesBelow.{some_at}
+use Rattle.newton_rounds.proofs.GroupCalls.{calls-in, calls-made, each-mapped}
+use Rattle.newton_rounds.proofs.ProcedureLoops.{members-next}
 use Rattle.newton_rounds.proofs.sides.calls_from.Goals as goal
 
 pub loop-place-preserved : goal.loop-place-preserved

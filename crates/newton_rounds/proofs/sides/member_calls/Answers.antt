@@ -1,5 +1,5 @@
 use Rattle.std.proofs.Common.{◌∙◌, get_or}
-use Rattle.newton_rounds.proofs.Called.{call-nodes, calls-made}
+use Rattle.newton_rounds.proofs.GroupCalls.{call-nodes, calls-made}
 use Rattle.newton_rounds.proofs.Widths.{exit-node}
 use Rattle.newton_rounds.proofs.sides.member_calls.Goals as goal
 

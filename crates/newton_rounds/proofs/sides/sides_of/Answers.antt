@@ -11,10 +11,10 @@ use Rattle.newton_rounds.specs.declared.calls.Sides.{Sides}
 use Rattle.newton_rounds.specs.Closure.{ends_at, ends_of_members, with_places_from, sides_of, with_member}
 use Rattle.newton_rounds.specs.Members.{calls_from, calls_of, members_of}
 use Rattle.newton_rounds.specs.Shapes.{FitCalls}
-use Rattle.newton_rounds.proofs.Below.{some_at}
+use Rattle.newton_rounds.proofs.CratesBelow.{some_at}
 use Rattle.newton_rounds.proofs.BothSides.{calls-fit}
-use Rattle.newton_rounds.proofs.Called.{calls-from, columns-at, number-at}
-use Rattle.newton_rounds.proofs.Membered.{members-next}
+use Rattle.newton_rounds.proofs.GroupCalls.{calls-from, columns-at, number-at}
+use Rattle.newton_rounds.proofs.ProcedureLoops.{members-next}
 use Rattle.newton_rounds.proofs.sides.sides_of.Goals as goal
 
 pub loop-place-init : goal.loop-place-init

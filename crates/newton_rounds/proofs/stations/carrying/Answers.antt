@@ -3,7 +3,7 @@ use Rattle.linear_terms.specs.declared.row.Case.{Case}
 use Rattle.transition_formula.specs.Transition.{IsTransition}
 use Rattle.leaf_cases.specs.Guard.{with_posts}
 use Rattle.newton_rounds.specs.Pairs.{carrying_case, columns_from}
-use Rattle.newton_rounds.proofs.Posted.{carrying-fits}
+use Rattle.newton_rounds.proofs.PostFormulas.{carrying-fits}
 use Rattle.newton_rounds.proofs.stations.carrying.Goals as goal
 
 pub from_cases-requires : goal.from_cases-requires

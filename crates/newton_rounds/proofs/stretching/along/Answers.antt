@@ -6,7 +6,7 @@ use Rattle.transition_formula.specs.Composition.{losses_in_sequence, sequence_of
 use Rattle.transition_formula.specs.Transition.{Transition, AreFew, IsTransition}
 use Rattle.newton_rounds.specs.Pairs.{stations_of}
 use Rattle.newton_rounds.specs.Shapes.{stretch_of}
-use Rattle.newton_rounds.proofs.Stretched.{entered-third, first-few, noted-along, returned-fourth}
+use Rattle.newton_rounds.proofs.CallStations.{entered-third, first-few, noted-along, returned-fourth}
 use Rattle.newton_rounds.proofs.stretching.along.Goals as goal
 
 pub seq-requires-clause-few : goal.seq-requires-clause-few

@@ -2,7 +2,7 @@ use Rattle.std.proofs.Common.{◌≡◌, sym, subst}
 use Rattle.std.specs.Prelude.{IfOk}
 use Rattle.proc_summary.specs.Claims.{IsBetweenStates}
 use Rattle.newton_rounds.specs.Pairs.{carrying}
-use Rattle.newton_rounds.proofs.Numbered.{states-of}
+use Rattle.newton_rounds.proofs.PairNumbers.{states-of}
 use Rattle.newton_rounds.proofs.stretching.carried_exit.Goals as goal
 
 pub carrying-requires-clause-states : goal.carrying-requires-clause-states

@@ -10,8 +10,8 @@ use Rattle.transition_formula.specs.Transition.{Transition}
 use Rattle.proc_summary.specs.Summary.{exit_places}
 use Rattle.newton_rounds.specs.Pairs.{PairEnds, along, callee_width, stations_of}
 use Rattle.newton_rounds.specs.Shapes.{stretch_of}
-use Rattle.newton_rounds.proofs.Placed.{pair-holds}
-use Rattle.newton_rounds.proofs.Stretched.{callee-along, few-along, narrow, told-along}
+use Rattle.newton_rounds.proofs.ExitColumns.{pair-holds}
+use Rattle.newton_rounds.proofs.CallStations.{callee-along, few-along, narrow, told-along}
 use Rattle.newton_rounds.proofs.stretching.pair_formula.Goals as goal
 
 pub equated_formula-requires-clause-there : goal.equated_formula-requires-clause-there

@@ -1,6 +1,6 @@
 use Rattle.std.proofs.Common.{◌∙◌, ap, get_or, length, refl}
 use Rattle.std.proofs.lemmas.List.{length-set}
-use Rattle.newton_rounds.proofs.Tabled.{one-placed}
+use Rattle.newton_rounds.proofs.KnownTables.{one-placed}
 use Rattle.newton_rounds.proofs.tables.with_table.Goals as goal
 
 pub loop-place-preserved : goal.loop-place-preserved

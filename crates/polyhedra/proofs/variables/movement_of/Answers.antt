@@ -22,7 +22,7 @@ changes_of-requires c =
 pub returns-clause-modified : goal.returns-clause-modified
 returns-clause-modified c =
     let tables = c.in_ok-tables.ensures ∙ (λ i. map (table_of c.args.one (c.to.ensures i)) (c.cases.ensures.cases i)) in
-    c.in_ok-modified_variables.ensures ∙ (λ i. filter (is_moved_in ((c.as_slice.ensures ∙ tables) i)) (range_with_len 0 (c.to-2.ensures i))) ∙ modified-tables c.args.one c.args.f.now
+    c.in_ok-modified.ensures ∙ (λ i. filter (is_moved_in ((c.as_slice.ensures ∙ tables) i)) (range_with_len 0 (c.to-2.ensures i))) ∙ modified-tables c.args.one c.args.f.now
 
 pub returns-clause-moving : goal.returns-clause-moving
 returns-clause-moving c =

@@ -1,4 +1,4 @@
-use Rattle.proc_summary.proofs.Below.{range-next}
+use Rattle.proc_summary.proofs.CratesBelow.{range-next}
 use Rattle.proc_summary.proofs.columns.first_columns.Goals as goal
 
 pub loop-number-preserved : goal.loop-number-preserved

@@ -1,5 +1,5 @@
 use Rattle.std.proofs.Common.{◌<◌, sym, subst}
-use Rattle.proc_summary.proofs.Below.{some_at}
+use Rattle.proc_summary.proofs.CratesBelow.{some_at}
 use Rattle.proc_summary.proofs.Graphs.{nodes-are}
 use Rattle.proc_summary.proofs.nodes.cells.Goals as goal
 

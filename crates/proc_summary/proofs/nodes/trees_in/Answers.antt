@@ -11,7 +11,7 @@ use Rattle.proc_summary.specs.Claims.{HoldsOfWalks}
 use Rattle.proc_summary.specs.Flow.{cells_from}
 use Rattle.proc_summary.specs.Parts.{graph_of_parts}
 use Rattle.proc_summary.specs.Subject.{graph_by, subject_of}
-use Rattle.proc_summary.proofs.Below.{some_at}
+use Rattle.proc_summary.proofs.CratesBelow.{some_at}
 use Rattle.proc_summary.proofs.Graphs.{few-links, few-nodes, graph-made, parts-evaluated, parts-hold}
 use Rattle.proc_summary.proofs.nodes.trees_in.Goals as goal
 

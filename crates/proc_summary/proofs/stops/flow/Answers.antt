@@ -5,7 +5,7 @@ use Rattle.proc_summary.specs.Claims.{FitsFlow, FlowHolds}
 use Rattle.proc_summary.specs.Flow.{flow_from, flow_in}
 use Rattle.proc_summary.specs.Parts.{graph_flow}
 use Rattle.proc_summary.specs.Subject.{subject_of}
-use Rattle.proc_summary.proofs.Below.{some_at}
+use Rattle.proc_summary.proofs.CratesBelow.{some_at}
 use Rattle.proc_summary.proofs.Flows.{flow-fits, flow-holds, flow-is, some-graph}
 use Rattle.proc_summary.proofs.Graphs.{columns-is}
 use Rattle.proc_summary.proofs.stops.flow.Goals as goal

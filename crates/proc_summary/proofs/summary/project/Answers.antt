@@ -4,8 +4,8 @@ use Rattle.syntax_tree.specs.WellFormed.{width_of}
 use Rattle.vocabularies.specs.Ends.{entry_width}
 use Rattle.leaf_cases.specs.Summaries.{SummaryIsMet}
 use Rattle.proc_summary.specs.Summary.{ends_of, exit_formula, exit_places, projection_of}
-use Rattle.proc_summary.proofs.Below.{some_at}
-use Rattle.proc_summary.proofs.Told.{summary-met}
+use Rattle.proc_summary.proofs.CratesBelow.{some_at}
+use Rattle.proc_summary.proofs.ExitSummaries.{summary-met}
 use Rattle.proc_summary.proofs.summary.project.Goals as goal
 
 pub exit_summary-requires-clause-exit : goal.exit_summary-requires-clause-exit

@@ -1,7 +1,7 @@
 use Rattle.std.proofs.Common.{◌<◌, arith, sym, subst}
 use Rattle.std.specs.Prelude.{All}
 use Rattle.transition_formula.specs.Transition.{Transition}
-use Rattle.proc_summary.proofs.Told.{hidden-few}
+use Rattle.proc_summary.proofs.ExitSummaries.{hidden-few}
 use Rattle.proc_summary.proofs.summary.projection_of.Goals as goal
 
 pub hidden-requires-clause-few : goal.hidden-requires-clause-few

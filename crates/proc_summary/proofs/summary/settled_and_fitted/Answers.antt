@@ -2,8 +2,8 @@ use Rattle.std.proofs.lemmas.Result.{IfOk-weaker}
 use Rattle.posing.proofs.Steps.{value_has}
 use Rattle.polyhedra.specs.Laws.{IsSmall}
 use Rattle.checked_tree.specs.Law.{IsBetweenEnds, IsFrom}
-use Rattle.proc_summary.proofs.Below.{between, settled-from}
-use Rattle.proc_summary.proofs.Told.{small-between}
+use Rattle.proc_summary.proofs.CratesBelow.{between, settled-from}
+use Rattle.proc_summary.proofs.ExitSummaries.{small-between}
 use Rattle.proc_summary.proofs.summary.settled_and_fitted.Goals as goal
 
 pub fit-requires : goal.fit-requires

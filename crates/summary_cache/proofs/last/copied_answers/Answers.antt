@@ -3,7 +3,7 @@ use Rattle.std.specs.Prelude.{take}
 use Rattle.std.proofs.lemmas.List.{take_more}
 use Rattle.std.specs.List.{each_same}
 use Rattle.kept_groups.specs.Kept.{answers_in}
-use Rattle.summary_cache.proofs.Joining.{answers-more}
+use Rattle.summary_cache.proofs.PartAnswers.{answers-more}
 use Rattle.summary_cache.proofs.last.copied_answers.Goals as goal
 
 pub loop-part-preserved : goal.loop-part-preserved

@@ -1,5 +1,5 @@
 use Rattle.std.proofs.Common.{◌++◌, sym, ap, ◌∙◌}
-use Rattle.summary_cache.proofs.Joining.{answers-more}
+use Rattle.summary_cache.proofs.PartAnswers.{answers-more}
 use Rattle.summary_cache.proofs.last.joined_answers.Goals as goal
 
 pub loop-part-preserved : goal.loop-part-preserved

@@ -1,4 +1,4 @@
-use Rattle.summary_cache.proofs.Ascending as ascending
+use Rattle.summary_cache.proofs.AscendingPlaces as ascending
 use Rattle.summary_cache.proofs.laws.assertions_ascend.Goals as goal
 
 pub returns : goal.returns

@@ -36,14 +36,14 @@ came_false end at left whole start noted noted2 o lt e f g h = round_false (end 
 
 pub returns-in_default-clause-exact : goal.returns-in_default-clause-exact
 returns-in_default-clause-exact c =
-    (came_false (length c.args.case.now.rows) c.loop-round._round c.loop-round.left (in_order c.args.case.now) c.args.losses.now c.loop-round.losses c.tidied_case.new.losses c.in_ok-tidied_case.field-0 (omega arith) c.loop-round.invariant.same c.in_default.is c.in_ok-tidied_case.ensures.exact c.in_ok-tidied_case.ensures.noted).is
+    (came_false (length c.args.case.now.rows) c.loop-round._round c.loop-round.left (in_order c.args.case.now) c.args.losses.now c.loop-round.losses c.tidied_case.new.losses c.in_ok-tidied.field-0 (omega arith) c.loop-round.invariant.same c.in_default.is c.in_ok-tidied.ensures.exact c.in_ok-tidied.ensures.noted).is
 
 pub returns-in_default-clause-noted : goal.returns-in_default-clause-noted
 returns-in_default-clause-noted c =
-    (came_false (length c.args.case.now.rows) c.loop-round._round c.loop-round.left (in_order c.args.case.now) c.args.losses.now c.loop-round.losses c.tidied_case.new.losses c.in_ok-tidied_case.field-0 (omega arith) c.loop-round.invariant.same c.in_default.is c.in_ok-tidied_case.ensures.exact c.in_ok-tidied_case.ensures.noted).losses
+    (came_false (length c.args.case.now.rows) c.loop-round._round c.loop-round.left (in_order c.args.case.now) c.args.losses.now c.loop-round.losses c.tidied_case.new.losses c.in_ok-tidied.field-0 (omega arith) c.loop-round.invariant.same c.in_default.is c.in_ok-tidied.ensures.exact c.in_ok-tidied.ensures.noted).losses
 
 pub kept_case-requires : goal.kept_case-requires
-kept_case-requires c = tidied-numbered c.loop-round.left c.in-Some.tidied (mapped_some c.loop-round.left c.in-Some.tidied (sym c.in-Some.is ∙ c.in_ok-tidied_case.ensures.exact)) c.loop-round.invariant.numbered
+kept_case-requires c = tidied-numbered c.loop-round.left c.in-Some.tidied (mapped_some c.loop-round.left c.in-Some.tidied (sym c.in-Some.is ∙ c.in_ok-tidied.ensures.exact)) c.loop-round.invariant.numbered
 
 came_last : (end at : ℕ) (left made final : Case) (whole : Ordered) (start noted noted2 : List Loss) → at < end → Leaves noted (rounds (end - at) left) start whole → IsTidied left made → noted2 ≡ noted ++ (tidied_rows left.rows).losses
     → None ≡ first_equation made.rows → final ≡ renumbered_case made → Comes whole start (Kept final) noted2
@@ -53,13 +53,13 @@ pub returns-in_default-first_equation-clause-exact : goal.returns-in_default-fir
 returns-in_default-first_equation-clause-exact c =
     c.in_ok-made.ensures
     ∙ (came_last (length c.args.case.now.rows) c.loop-round._round c.loop-round.left c.in-Some.tidied (renumbered_case c.in-Some.tidied) (in_order c.args.case.now) c.args.losses.now c.loop-round.losses c.tidied_case.new.losses (omega arith) c.loop-round.invariant.same
-    (mapped_some c.loop-round.left c.in-Some.tidied (sym c.in-Some.is ∙ c.in_ok-tidied_case.ensures.exact)) c.in_ok-tidied_case.ensures.noted
+    (mapped_some c.loop-round.left c.in-Some.tidied (sym c.in-Some.is ∙ c.in_ok-tidied.ensures.exact)) c.in_ok-tidied.ensures.noted
     (sym c.in_default-first_equation.is ∙ c.first_equation.ensures ∙ ap first_equation c.as_slice.ensures) refl).is
 
 pub returns-in_default-first_equation-clause-noted : goal.returns-in_default-first_equation-clause-noted
 returns-in_default-first_equation-clause-noted c =
     (came_last (length c.args.case.now.rows) c.loop-round._round c.loop-round.left c.in-Some.tidied (renumbered_case c.in-Some.tidied) (in_order c.args.case.now) c.args.losses.now c.loop-round.losses c.tidied_case.new.losses (omega arith) c.loop-round.invariant.same
-    (mapped_some c.loop-round.left c.in-Some.tidied (sym c.in-Some.is ∙ c.in_ok-tidied_case.ensures.exact)) c.in_ok-tidied_case.ensures.noted
+    (mapped_some c.loop-round.left c.in-Some.tidied (sym c.in-Some.is ∙ c.in_ok-tidied.ensures.exact)) c.in_ok-tidied.ensures.noted
     (sym c.in_default-first_equation.is ∙ c.first_equation.ensures ∙ ap first_equation c.as_slice.ensures) refl).losses
 
 pub without_equation-requires-clause-there : goal.without_equation-requires-clause-there
@@ -79,7 +79,7 @@ without_equation-requires-clause-few c row is =
     let n = c.in-Some-first_equation.aux in
     let found : found_at place n ≡ first_equation made.rows = sym c.in-Some-first_equation.is ∙ c.first_equation.ensures ∙ ap first_equation c.as_slice.ensures in
     room-few case.aux (length case.post) (with_solved (solution row.poly n) n (with_rows made (remove made.rows place)))
-    (came_room case c.loop-round.left made place n row (mapped_some c.loop-round.left made (sym c.in-Some.is ∙ c.in_ok-tidied_case.ensures.exact)) c.loop-round.invariant.room found (sym is)) c.requires.few
+    (came_room case c.loop-round.left made place n row (mapped_some c.loop-round.left made (sym c.in-Some.is ∙ c.in_ok-tidied.ensures.exact)) c.loop-round.invariant.room found (sym is)) c.requires.few
 
 came_next : (end at : ℕ) (left made next : Case) (place n : ℕ) (row : Row) (whole : Ordered) (start noted noted2 noted3 : List Loss) → at < end → Leaves noted (rounds (end - at) left) start whole → AllNumbered left → IsTidied left made → noted2 ≡ noted ++ (tidied_rows left.rows).losses
     → found_at place n ≡ first_equation made.rows → Some row ≡ slice_get made.rows place → next ≡ with_solved (solution row.poly n) n (with_rows made (remove made.rows place))
@@ -100,14 +100,14 @@ loop-round-preserved c =
     let row = there.1.0 in
     let both =
     came_next (length c.args.case.now.rows) c.loop-round._round c.loop-round.left made c.in_ok-left-2.left place n row (in_order c.args.case.now) c.args.losses.now c.loop-round.losses c.tidied_case.new.losses c.without_equation.new.losses (omega arith) c.loop-round.invariant.same
-    c.loop-round.invariant.numbered (mapped_some c.loop-round.left made (sym c.in-Some.is ∙ c.in_ok-tidied_case.ensures.exact)) c.in_ok-tidied_case.ensures.noted found there.1.1
+    c.loop-round.invariant.numbered (mapped_some c.loop-round.left made (sym c.in-Some.is ∙ c.in_ok-tidied.ensures.exact)) c.in_ok-tidied.ensures.noted found there.1.1
     (c.in_ok-left-2.ensures.exact row (sym there.1.1)) (c.in_ok-left-2.ensures.noted row (sym there.1.1)) in
     record {
       same = both.0;
       numbered = both.1;
       room =
           subst (HasRoom c.args.case.now.aux (length c.args.case.now.post)) (sym (c.in_ok-left-2.ensures.exact row (sym there.1.1)))
-          (came_room c.args.case.now c.loop-round.left made place n row (mapped_some c.loop-round.left made (sym c.in-Some.is ∙ c.in_ok-tidied_case.ensures.exact)) c.loop-round.invariant.room found there.1.1);
+          (came_room c.args.case.now c.loop-round.left made place n row (mapped_some c.loop-round.left made (sym c.in-Some.is ∙ c.in_ok-tidied.ensures.exact)) c.loop-round.invariant.room found there.1.1);
     }
 
 pub kept_case-requires-2 : goal.kept_case-requires-2

@@ -24,7 +24,7 @@ use Rattle.context.specs.Ends.{HasFew, HoldsAfter, HoldsBegun, HoldsFailing, IsF
 use Rattle.context.specs.Entries.{stand_of}
 use Rattle.context.specs.Judging.{IsDead, IsVerdictOnAll}
 use Rattle.context.specs.Verdicts.{entry_from_start, extended_formula, falsity_of}
-use Rattle.context.proofs.Extended.{extended-fits, extended-few, extended-holds}
+use Rattle.context.proofs.FurtherPosts.{extended-fits, extended-few, extended-holds}
 use Rattle.context.proofs.Few.{few-below, few-pairs, few-solvable, fitted-few, posts-few, sequence-few}
 
 pub if_ok-more : {A E : Type 0} (P Q : A → Type 0) (r : Result A E) → ((x : A) → P x → Q x) → IfOk r P → IfOk r Q

@@ -27,8 +27,8 @@ use Rattle.newton_rounds.specs.Between.{AreBases, AreChained, GoesBetween, IsMem
 use Rattle.newton_rounds.specs.Closure.{chain_end, chains_of, ends_at, exits_told, order_from, others_in, pair_cell}
 use Rattle.newton_rounds.specs.Pairs.{PairEnds}
 use Rattle.newton_rounds.specs.Shapes.{AreEnds}
-use Rattle.newton_rounds.proofs.Numbered.{HasFew, both-few, hidden-few, hiding-few, sequence-few}
-use Rattle.newton_rounds.proofs.Placed.{exit-few, range-below}
+use Rattle.newton_rounds.proofs.PairNumbers.{HasFew, both-few, hidden-few, hiding-few, sequence-few}
+use Rattle.newton_rounds.proofs.ExitColumns.{exit-few, range-below}
 
 -- ---- elements at places
 

@@ -15,8 +15,8 @@ use Rattle.newton_rounds.specs.Between.{AreCandidates, AreSummaries, FitTable, I
 use Rattle.newton_rounds.specs.Candidates.{candidate_of}
 use Rattle.newton_rounds.specs.Close.{pairs_of, with_candidate}
 use Rattle.newton_rounds.specs.Pairs.{PairEnds}
-use Rattle.newton_rounds.proofs.Matched.{IsBehind, each-match}
-use Rattle.newton_rounds.proofs.Rowed.{candidate-over}
+use Rattle.newton_rounds.proofs.MatchLoops.{IsBehind, each-match}
+use Rattle.newton_rounds.proofs.CandidateSummaries.{candidate-over}
 
 -- a table without formulas fits
 pub empty-fits : (program : Program) (procs : List ℕ) → FitTable program procs []

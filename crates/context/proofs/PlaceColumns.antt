@@ -13,7 +13,7 @@ use Rattle.syntax_tree.specs.WellFormed.{IsProcFit, IsWellFormed, has_name, widt
 use Rattle.vocabularies.specs.Ends.{full_of, named_columns_from, named_if, start_of}
 use Rattle.context.specs.Ends.{IsPlace}
 use Rattle.context.specs.Verdicts.{place_of, shown_columns_of}
-use Rattle.context.proofs.Extended.{length-range}
+use Rattle.context.proofs.FurtherPosts.{length-range}
 
 pub got : {A : Type 0} (xs : List A) (k : ℕ) → k < length xs → (x : A) × (slice_get xs k ≡ Some x)
 got [] k lt = absurd (omega arith)

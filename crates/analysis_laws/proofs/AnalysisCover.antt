@@ -23,9 +23,9 @@ use Rattle.analysis.specs.Found.{flows_in, findings_by_plan, nothing_found, with
 use Rattle.analysis.specs.Judging.{judgements_on_all}
 use Rattle.analysis.specs.Parts.{part_of}
 use Rattle.analysis.specs.Plan.{IsPlan}
-use Rattle.analysis.proofs.Covering.{always-judged_by}
-use Rattle.analysis.proofs.Ending.{blocks-all, blocks-fit, blocks-met}
-use Rattle.analysis.proofs.Finding.{found-fits, found-has, found-met, left-all, left-next, left-ready, nothing-fits, nothing-left, nothing-met}
+use Rattle.analysis.proofs.ReportCover.{always-judged_by}
+use Rattle.analysis.proofs.ReportParts.{blocks-all, blocks-fit, blocks-met}
+use Rattle.analysis.proofs.GroupFindings.{found-fits, found-has, found-met, left-all, left-next, left-ready, nothing-fits, nothing-left, nothing-met}
 use Rattle.analysis_laws.specs.Laws.{FoundIsWhole, IsFinePart, IsWhole, ReportedSummariesHold, ReportsCover, SummariesHold}
 use Rattle.analysis_laws.proofs.GroupParts.{part-fine, under-any}
 

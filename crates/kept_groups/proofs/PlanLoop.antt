@@ -13,7 +13,7 @@ use Rattle.analysis.specs.declared.planning.Planned.{Planned}
 use Rattle.analysis.specs.Claims.{FitsFound, FoundIsMet, IsLeft, IsReadyGroup}
 use Rattle.analysis.specs.Parts.{part_with}
 use Rattle.analysis.specs.Plan.{IsPlan}
-use Rattle.analysis.proofs.Finding.{found-fits, found-has, found-met, left-all, left-next, left-ready, nothing-fits, nothing-left, nothing-met}
+use Rattle.analysis.proofs.GroupFindings.{found-fits, found-has, found-met, left-all, left-next, left-ready, nothing-fits, nothing-left, nothing-met}
 use Rattle.analysis_laws.specs.Laws.{IsFinePart, IsWhole}
 use Rattle.alike_groups.proofs.Parts.{plans_are_planned}
 use Rattle.kept_groups.specs.declared.kept.KeptGroups.{KeptGroups}
@@ -23,9 +23,9 @@ use Rattle.kept_groups.specs.Coming.{count_made}
 use Rattle.kept_groups.specs.Kept.{AreKeptIf, Anything, IsPartOf, with_kept}
 use Rattle.kept_groups.specs.OneGroup.{Ends, IsOneMore, IsStuck, nothing_yet, with_coming}
 use Rattle.kept_groups.specs.Outcomes.{FindsOver, IsFoundOver}
-use Rattle.kept_groups.proofs.Ended.{ends-came, error-ends}
-use Rattle.kept_groups.proofs.Keeping.{come-part, come-weaker, part-fine}
-use Rattle.kept_groups.proofs.Searching.{placed}
+use Rattle.kept_groups.proofs.CallEnds.{ends-came, error-ends}
+use Rattle.kept_groups.proofs.KeptParts.{come-part, come-weaker, part-fine}
+use Rattle.kept_groups.proofs.AlikeSearch.{placed}
 use Rattle.kept_groups.proofs.SoFar.{more-over, none-over, stuck-over}
 
 made-few : (taken : Bool) → count_made (taken ∷ []) ≤ 1

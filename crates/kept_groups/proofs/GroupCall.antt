@@ -18,7 +18,7 @@ use Rattle.analysis.specs.Apart.{apart}
 use Rattle.analysis.specs.Parts.{summaries_by}
 use Rattle.kept_groups.specs.declared.kept.KeptPart.{KeptPart}
 use Rattle.kept_groups.specs.OneGroup.{Ends, EndsIn, IsDeclined, IsMade}
-use Rattle.kept_groups.proofs.Ended.{error-ends}
+use Rattle.kept_groups.proofs.CallEnds.{error-ends}
 use Rattle.kept_groups.proofs.Together.{path-question, path-value}
 
 module _ {S : Type 0} (O : Asking S) (program : Program) (known : List (Option Transition)) (planned : Planned) (old new : S) where

@@ -10,8 +10,8 @@ use Rattle.proc_summary.specs.Claims.{FitsIf, IsBetweenStates}
 use Rattle.proc_summary.specs.Summary.{exit_formula, exit_places}
 use Rattle.newton_rounds.specs.Pairs.{PairEnds, entry_told}
 use Rattle.newton_rounds.specs.Shapes.{AreEnds}
-use Rattle.newton_rounds.proofs.Numbered.{HasFew, few-more, hidden-few, hiding-few, states-few, states-of}
-use Rattle.newton_rounds.proofs.Placed.{pair-holds, places-below}
+use Rattle.newton_rounds.proofs.PairNumbers.{HasFew, few-more, hidden-few, hiding-few, states-few, states-of}
+use Rattle.newton_rounds.proofs.ExitColumns.{pair-holds, places-below}
 
 module _ (m : PairEnds) (ends : AreEnds m) (f : Option Transition) (fits : FitsIf m.ends.full.columns f) where
   abbrev whole : Transition

@@ -34,14 +34,14 @@ use Rattle.proc_summary.specs.Flow.{cells_from, columns_of, formula_at, formula_
 use Rattle.proc_summary.specs.Subject.{graph_by, own_graph, subject_of}
 use Rattle.proc_summary.specs.Summary.{ends_of, exit_formula, exit_places, summary_from, projection_of}
 use Rattle.proc_summary.proofs.Graphs.{full-columns, graph-is, holds-of-walks}
-use Rattle.proc_summary.proofs.Told.{entry-columns, entry-end, exit-end, exit-told, told-between, told-is, told-solved}
+use Rattle.proc_summary.proofs.ExitSummaries.{entry-columns, entry-end, exit-end, exit-told, told-between, told-is, told-solved}
 use Rattle.newton_rounds.specs.Candidates.{unfolded_formula}
-use Rattle.newton_rounds.proofs.Below.{some_at}
+use Rattle.newton_rounds.proofs.CratesBelow.{some_at}
 use Rattle.newton_rounds.proofs.CanonicalEvaluations.{AreCanonicalCells, AreTrueCells, IsCanonicalCell, evaluated-true, rows-canonical, settled_and_fitted-canonical}
 use Rattle.recurrence.proofs.CanonicalOrder.{IsCanonicalCase, IsCanonicalFormula, rows_by-canonical}
 use Rattle.newton_rounds.proofs.LeafFits.{graph-evaluated, leaves-canonical, leaves-fit, links-inside}
 use Rattle.newton_rounds.proofs.Widths.{columns-are, some-nodes, states-at}
-use Rattle.newton_rounds.proofs.Zipped.{some-one}
+use Rattle.newton_rounds.proofs.PairLists.{some-one}
 
 -- ---- rows of what is told
 

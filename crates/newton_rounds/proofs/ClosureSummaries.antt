@@ -18,12 +18,12 @@ use Rattle.checked_tree.proofs.Cells.{cells-fit}
 use Rattle.newton_rounds.specs.Between.{AreBases, AreChained, AreChainsFrom, AreSummaries, GoesBetween, IsGroup, IsSummary}
 use Rattle.newton_rounds.specs.Closure.{chains_of, closure_at, closed_member, ends_at, exits_told, group_graph, losses_in_group_leaf, with_closed}
 use Rattle.newton_rounds.specs.Pairs.{PairEnds, Stretch}
-use Rattle.newton_rounds.proofs.Below.{fitted-few}
-use Rattle.newton_rounds.proofs.Chained.{chains-go, exits-from, member-at}
-use Rattle.newton_rounds.proofs.Grouped.{group-evaluated}
-use Rattle.newton_rounds.proofs.Leading.{StaysAt, cells-stay, chains-from}
-use Rattle.newton_rounds.proofs.Matched.{IsBehind, always_both, each-match}
-use Rattle.newton_rounds.proofs.Placed.{range-below}
+use Rattle.newton_rounds.proofs.CratesBelow.{fitted-few}
+use Rattle.newton_rounds.proofs.ChainFormulas.{chains-go, exits-from, member-at}
+use Rattle.newton_rounds.proofs.GroupGraphs.{group-evaluated}
+use Rattle.newton_rounds.proofs.PairCells.{StaysAt, cells-stay, chains-from}
+use Rattle.newton_rounds.proofs.MatchLoops.{IsBehind, always_both, each-match}
+use Rattle.newton_rounds.proofs.ExitColumns.{range-below}
 
 between-summary : (m : PairEnds) (f : Transition) → IsBetweenEnds m.ends.entry m.ends.exit f → IsSummary m f
 between-summary m f is = record {

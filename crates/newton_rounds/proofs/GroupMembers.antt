@@ -23,10 +23,10 @@ use Rattle.newton_rounds.specs.Closure.{ends_at, ends_of_members, pair_ends, str
 use Rattle.newton_rounds.specs.Members.{GroupCall, call_by, call_to, calls_from, calls_of, members_of, place_of}
 use Rattle.newton_rounds.specs.Pairs.{PairEnds, Stretch}
 use Rattle.newton_rounds.specs.Shapes.{FitCalls, IsCallIn, plain_call}
-use Rattle.newton_rounds.proofs.Below.{proc-fit, some_at}
-use Rattle.newton_rounds.proofs.Called.{AreThere, ends-many, members-many}
-use Rattle.newton_rounds.proofs.Chained.{member-at}
-use Rattle.newton_rounds.proofs.Placed.{value-few}
+use Rattle.newton_rounds.proofs.CratesBelow.{proc-fit, some_at}
+use Rattle.newton_rounds.proofs.GroupCalls.{AreThere, ends-many, members-many}
+use Rattle.newton_rounds.proofs.ChainFormulas.{member-at}
+use Rattle.newton_rounds.proofs.ExitColumns.{value-few}
 use Rattle.newton_rounds.proofs.Widths.{ends-are}
 
 -- ---- members

@@ -57,8 +57,8 @@ use Rattle.context.specs.Entries.{Calling, Way, call_leaf, call_way, call_ways, 
 use Rattle.context.specs.Made.{edges_by}
 use Rattle.context.proofs.CallLeaves.{leaf-holds}
 use Rattle.context.proofs.EntryGraph.{entry-columns, entry-graph-evaluated, few-nodes, no_vocabulary, node-found, none-columns}
-use Rattle.context.proofs.Numbered.{proc-fit}
-use Rattle.context.proofs.Placed.{got}
+use Rattle.context.proofs.AssertionPlaces.{proc-fit}
+use Rattle.context.proofs.PlaceColumns.{got}
 use Rattle.context.proofs.Sound.{stands-top}
 use Rattle.context.proofs.Ways.{call-place, found-mapped, way-found, ways-found}
 use Rattle.context.proofs.WaysFit.{IsCalling, callings-fit, few-ways, main-is, ways-fit, widths-fit}

@@ -21,11 +21,11 @@ use Rattle.proc_summary.specs.Summary.{exit_formula, exit_places}
 use Rattle.newton_rounds.specs.Between.{GoesBetween}
 use Rattle.newton_rounds.specs.Pairs.{PairEnds, Stretch, along, call_entry, callee_width, columns_from, entered_case, pair_formula, stations_of}
 use Rattle.newton_rounds.specs.Shapes.{AreEnds, IsStretchBetween}
-use Rattle.newton_rounds.proofs.Numbered.{HasFew, few-more, sequence-few, states-few, states-of}
-use Rattle.newton_rounds.proofs.Placed.{exit-few, pair-holds}
-use Rattle.newton_rounds.proofs.Posted.{appended, carrying-fits, columns-covered, columns-length, exit-fits, fronted-few, posted-fits}
-use Rattle.newton_rounds.proofs.Stretched.{callee-along, enough, fewer, narrow, told-along}
-use Rattle.newton_rounds.proofs.Told.{told-fits, told-has}
+use Rattle.newton_rounds.proofs.PairNumbers.{HasFew, few-more, sequence-few, states-few, states-of}
+use Rattle.newton_rounds.proofs.ExitColumns.{exit-few, pair-holds}
+use Rattle.newton_rounds.proofs.PostFormulas.{appended, carrying-fits, columns-covered, columns-length, exit-fits, fronted-few, posted-fits}
+use Rattle.newton_rounds.proofs.CallStations.{callee-along, enough, fewer, narrow, told-along}
+use Rattle.newton_rounds.proofs.PairStates.{told-fits, told-has}
 
 module _ (caller callee : PairEnds) (s : Stretch) (is : IsStretchBetween caller callee s) where
   abbrev columns : ℕ

@@ -13,10 +13,10 @@ use Rattle.proc_summary.specs.Claims.{IsBetweenStates}
 use Rattle.proc_summary.specs.Summary.{exit_formula, exit_places}
 use Rattle.newton_rounds.specs.Pairs.{PairEnds, Stretch, along, callee_width, carrying_case, stations_of}
 use Rattle.newton_rounds.specs.Shapes.{AreEnds, IsStretchBetween}
-use Rattle.newton_rounds.proofs.Numbered.{HasFew, both-few, few-more, sequence-few, states-few, states-of}
-use Rattle.newton_rounds.proofs.Placed.{exit-few, pair-holds, places-below, range-below}
-use Rattle.newton_rounds.proofs.Posted.{carrying-fits, exit-fits}
-use Rattle.newton_rounds.proofs.Told.{told-has, told-to}
+use Rattle.newton_rounds.proofs.PairNumbers.{HasFew, both-few, few-more, sequence-few, states-few, states-of}
+use Rattle.newton_rounds.proofs.ExitColumns.{exit-few, pair-holds, places-below, range-below}
+use Rattle.newton_rounds.proofs.PostFormulas.{carrying-fits, exit-fits}
+use Rattle.newton_rounds.proofs.PairStates.{told-has, told-to}
 
 carrying-few : (columns more : ℕ) (cases : List Case) → HasFew 64 cases → HasFew 64 (map (carrying_case columns more) cases)
 carrying-few columns more [] h = tt

@@ -26,7 +26,7 @@ use Rattle.analysis.specs.declared.planning.GroupKind.TheVariants.{Plain, Linear
 use Rattle.analysis.specs.declared.planning.Planned.{Planned}
 use Rattle.analysis.specs.Claims.{HasFound, IsLinearIf, IsReadyGroup, KnowAllCallees, KnowsFor}
 use Rattle.analysis.specs.Plan.{IsKindOf, IsPlannedOf}
-use Rattle.analysis.proofs.Called.{IsCallOf, graph-calls}
+use Rattle.analysis.proofs.BodyCalls.{IsCallOf, graph-calls}
 use Rattle.analysis.proofs.Puts.{each-here}
 
 -- numbers in ascending order from one on and below another

@@ -20,9 +20,9 @@ use Rattle.newton_rounds.specs.Candidates.{candidate_by, candidate_formula, cand
 use Rattle.newton_rounds.specs.Closure.{ends_at}
 use Rattle.newton_rounds.specs.Pairs.{PairEnds}
 use Rattle.newton_rounds.proofs.CandidateRows.{ArePairRows, IsPairRow, candidate-rows}
-use Rattle.newton_rounds.proofs.Chained.{exits-few, exits-go}
-use Rattle.newton_rounds.proofs.Numbered.{few-more}
-use Rattle.newton_rounds.proofs.Posted.{columns-length, fronted-fits}
+use Rattle.newton_rounds.proofs.ChainFormulas.{exits-few, exits-go}
+use Rattle.newton_rounds.proofs.PairNumbers.{few-more}
+use Rattle.newton_rounds.proofs.PostFormulas.{columns-length, fronted-fits}
 
 -- ---- what is asked for a candidate
 

@@ -23,7 +23,7 @@ use Rattle.newton_rounds.specs.Members.{GroupCall, call_by, call_to, calls_from,
 use Rattle.newton_rounds.specs.Pairs.{PairEnds}
 use Rattle.newton_rounds.specs.declared.calls.GroupCall as own
 use Rattle.newton_rounds.specs.Shapes.{IsCallIn, plain_call}
-use Rattle.newton_rounds.proofs.Below.{EdgeFits, act-fits, full-columns, proc-fit, some_at}
+use Rattle.newton_rounds.proofs.CratesBelow.{EdgeFits, act-fits, full-columns, proc-fit, some_at}
 
 -- what is so at each place is so of each element
 pub each-got : {A : Type 0} (P : A → Type 0) (xs : List A) → ((k : ℕ) (x : A) → slice_get xs k ≡ Some x → P x) → AllByRecursion P xs

@@ -22,9 +22,9 @@ use Rattle.newton_rounds.specs.Between.{AreChainsFrom, GoesBetween, IsGroup, IsM
 use Rattle.newton_rounds.specs.Closure.{ends_at, group_graph, group_leaf, group_link, no_pair, no_vocabulary, stretches_with}
 use Rattle.newton_rounds.specs.Pairs.{PairEnds, Stretch}
 use Rattle.newton_rounds.specs.Shapes.{plain_call, stretch_of}
-use Rattle.newton_rounds.proofs.Below.{some_at}
-use Rattle.newton_rounds.proofs.Chained.{member-at}
-use Rattle.newton_rounds.proofs.Paired.{pair-goes}
+use Rattle.newton_rounds.proofs.CratesBelow.{some_at}
+use Rattle.newton_rounds.proofs.ChainFormulas.{member-at}
+use Rattle.newton_rounds.proofs.PairFormulas.{pair-goes}
 
 -- what is so of each element is so of the one that is read
 pub each-read : {X : Type 0} (P : X → Type 0) (xs : List X) (i : ℕ) (x : X) → i < length xs → x ≡ get_or xs i x → AllByRecursion P xs → P x

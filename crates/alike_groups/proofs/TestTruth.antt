@@ -30,7 +30,7 @@ use Rattle.proc_summary.specs.Alike.{AreAlike, AreAlikeProcs, AreAlikeStatements
 use Rattle.newton_rounds.specs.Alike.{AreAlikeCallees, AreAlikeGroups, AreAlikeMembers, StandOnce}
 use Rattle.newton_rounds.specs.Members.{place_of}
 use Rattle.newton_rounds.proofs.ApartWalks.{no-place}
-use Rattle.newton_rounds.proofs.Called.{placed-at}
+use Rattle.newton_rounds.proofs.GroupCalls.{placed-at}
 use Rattle.alike_groups.specs.Tests.{are_alike_groups, are_found_alike, is_alike_callee, is_alike_code, is_alike_member, is_alike_place, is_alike_proc, is_alike_statement, is_same_case, is_same_formula, is_same_term, stand_once}
 
 -- ---- parts of tests

@@ -33,10 +33,10 @@ use Rattle.newton_rounds.specs.Closure.{ends_of_members, pair_ends, with_places_
 use Rattle.newton_rounds.specs.Members.{members_of, with_table}
 use Rattle.newton_rounds.specs.Pairs.{PairEnds}
 use Rattle.newton_rounds.specs.Shapes.{IsOverPairs, IsRefutable}
-use Rattle.newton_rounds.proofs.Called.{AreThere, ends-at, ends-many}
-use Rattle.newton_rounds.proofs.Matched.{IsBehind, each-match}
-use Rattle.newton_rounds.proofs.Membered.{members-next}
-use Rattle.newton_rounds.proofs.Summed.{summaries-length, summary-at}
+use Rattle.newton_rounds.proofs.GroupCalls.{AreThere, ends-at, ends-many}
+use Rattle.newton_rounds.proofs.MatchLoops.{IsBehind, each-match}
+use Rattle.newton_rounds.proofs.ProcedureLoops.{members-next}
+use Rattle.newton_rounds.proofs.ClosureSummaries.{summaries-length, summary-at}
 
 -- ---- summaries as known formulas
 

@@ -39,7 +39,7 @@ use Rattle.proc_summary.specs.Claims.{FitsFlow, FitsIf, FlowHolds, HoldsIf, IsBe
 use Rattle.proc_summary.specs.Summary.{Ends, ends_of, exit_formula, exit_places, projection_of, value_place}
 use Rattle.proc_summary.specs.Parts.{IsFit, IsToldBy, IsToldFrom}
 use Rattle.proc_summary.proofs.Graphs.{few-solvable, full-columns, length-after, narrow, post-length, proc-fit}
-use Rattle.proc_summary.proofs.Below.{IsVocabulary-below, hidden-fits, hidden-holds, returns_are_walks, some_at, with_posts-fits, with_posts-holds}
+use Rattle.proc_summary.proofs.CratesBelow.{IsVocabulary-below, hidden-fits, hidden-holds, returns_are_walks, some_at, with_posts-fits, with_posts-holds}
 
 -- ---- few auxiliaries
 

@@ -21,7 +21,7 @@ use Rattle.analysis.specs.declared.planning.Planned.{Planned}
 use Rattle.analysis.specs.Claims.{FitsAt, FitsFound, FitsGroup, FoundIsMet, GroupIsMet, HasAll, HasFound, IsFoundAt, IsKnownAt, IsLeft, IsReadyGroup}
 use Rattle.analysis.specs.Found.{with_notes_at, nothing_found, with_part}
 use Rattle.analysis.specs.Plan.{ArePlannedOf, IsPlan}
-use Rattle.analysis.proofs.Grouped.{group-ready}
+use Rattle.analysis.proofs.NextGroups.{group-ready}
 use Rattle.analysis.proofs.Puts.{put-come, put-keeps, put-long, put-stays}
 
 -- ---- with a group

@@ -15,7 +15,7 @@ use Rattle.transition_formula.proofs.Covered.{both}
 use Rattle.transition_formula.proofs.Fitting.{fitting}
 use Rattle.proc_summary.specs.Claims.{FitsIf, IsBetweenStates}
 use Rattle.proc_summary.specs.Summary.{exit_formula}
-use Rattle.newton_rounds.proofs.Below.{fitted-few}
+use Rattle.newton_rounds.proofs.CratesBelow.{fitted-few}
 
 -- each case has so many auxiliaries at most
 abbrev pub HasFew : ℕ → List Case → Type 0

@@ -19,7 +19,7 @@ use Rattle.posing.proofs.Paths.{path_into, path_map}
 use Rattle.posing.proofs.Under.{under-path}
 use Rattle.leaf_cases.specs.Conditions.{AreKnown}
 use Rattle.newton_rounds.specs.Alike.{AreAlikeGroups}
-use Rattle.newton_rounds.proofs.Zipped.{some-one, zipped-at}
+use Rattle.newton_rounds.proofs.PairLists.{some-one, zipped-at}
 use Rattle.analysis.specs.declared.planning.Planned.{Planned}
 use Rattle.analysis.specs.Apart.{apart, apart_from}
 use Rattle.analysis.specs.Claims.{IsReadyGroup}

@@ -42,7 +42,7 @@ use Rattle.analysis.specs.Plan.{ArePlannedOf, IsPlan}
 use Rattle.analysis.proofs.NotesApart.{path_apart}
 use Rattle.analysis.proofs.Puts.{each-here, put-long}
 use Rattle.analysis_laws.specs.Laws.{IsWhole}
-use Rattle.analysis_laws.proofs.Covered.{found-whole}
+use Rattle.analysis_laws.proofs.AnalysisCover.{found-whole}
 use Rattle.alike_groups.specs.Parts.{IsPlannedIn}
 use Rattle.alike_groups.proofs.CalledAlike.{contains-at}
 use Rattle.alike_groups.proofs.Parts.{alike_parts_are_one, plans_are_planned}
@@ -53,7 +53,7 @@ use Rattle.kept_groups.specs.Coming.{AreCome, IsAlikeAt, IsCome, answers_asked, 
 use Rattle.kept_groups.specs.Kept.{AreKept, AreKeptIf, IsPartOf, answers_in, findings_by_kept, findings_with, with_kept}
 use Rattle.kept_groups.specs.Outcomes.{IsDeclinedOver}
 use Rattle.kept_groups.proofs.Itself.{KnowSame, group-itself, know-same}
-use Rattle.kept_groups.proofs.Keeping.{come-part, come-weaker, good-passing, good-weaker, part-path}
+use Rattle.kept_groups.proofs.KeptParts.{come-part, come-weaker, good-passing, good-weaker, part-path}
 
 -- ---- a part for each group, by what is found before it
 

@@ -3,6 +3,6 @@ pub use Rattle.transition_formula.proofs.Fitting.{identity-fits}
 pub use Rattle.transition_formula.proofs.Ranges.{counted_from, counted_more}
 pub use Rattle.leaf_cases.proofs.Moved.{range-more}
 pub use Rattle.leaf_cases.proofs.Graphs.{EdgeFits, act-fits}
-pub use Rattle.proc_summary.proofs.Below.{some_at}
+pub use Rattle.proc_summary.proofs.CratesBelow.{some_at}
 pub use Rattle.proc_summary.proofs.Graphs.{full-columns, narrow, proc-fit, vocabulary-is}
-pub use Rattle.proc_summary.proofs.Told.{fitted-few}
+pub use Rattle.proc_summary.proofs.ExitSummaries.{fitted-few}

@@ -14,8 +14,8 @@ use Rattle.proc_summary.specs.Summary.{exit_places}
 use Rattle.newton_rounds.specs.Between.{GoesBetween}
 use Rattle.newton_rounds.specs.Pairs.{PairEnds, base_from, entry_told}
 use Rattle.newton_rounds.specs.Shapes.{AreEnds}
-use Rattle.newton_rounds.proofs.Placed.{pair-holds}
-use Rattle.newton_rounds.proofs.Told.{told-fits, told-has, told-there, told-to}
+use Rattle.newton_rounds.proofs.ExitColumns.{pair-holds}
+use Rattle.newton_rounds.proofs.PairStates.{told-fits, told-has, told-there, told-to}
 
 module _ (m : PairEnds) (ends : AreEnds m) (exit : Option Transition) (fits : FitsIf m.ends.full.columns exit) where
   abbrev told : Transition

@@ -18,7 +18,7 @@ use Rattle.analysis.specs.Analysis.{blocks_by}
 use Rattle.analysis.specs.Claims.{FitsFound, FoundIsMet, HasAll}
 use Rattle.analysis.specs.Found.{flows_in}
 use Rattle.analysis.proofs.BlocksKnown.{block-known, flow-known, flows-long}
-use Rattle.analysis.proofs.Covering.{blocks-cover}
+use Rattle.analysis.proofs.ReportCover.{blocks-cover}
 
 module _ (program : Program) (found : Found) (fits : FitsFound program found) (all : HasAll program found) where
   flow-there : (i : ℕ) → i < length found.flows → (flow : Flow) × (slice_get found.flows i ≡ Some (Some flow))

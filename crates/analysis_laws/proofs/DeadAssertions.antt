@@ -13,11 +13,11 @@ use Rattle.transition_formula.specs.Transition.{Transition}
 use Rattle.flow_graph.specs.FlowGraph.{CheckPlace}
 use Rattle.proc_summary.specs.declared.stop.Flow.{Flow}
 use Rattle.proc_summary.specs.Subject.{own_graph}
-use Rattle.proc_summary.proofs.Below.{some_at}
+use Rattle.proc_summary.proofs.CratesBelow.{some_at}
 use Rattle.context.specs.Claims.{AreEntries, AreFlows}
 use Rattle.analysis.specs.Judging.{Asserted, numbered_assertion, assertion_at, assertion_by, assertion_of, check_with, checks_from, checks_of}
 use Rattle.analysis_laws.specs.Laws.{StandsInGraph, UnreachedNeverFail, UnreachedStandNowhere}
-use Rattle.analysis.proofs.Asserting.{asserted-is, check-within}
+use Rattle.analysis.proofs.AssertionParts.{asserted-is, check-within}
 use Rattle.analysis.proofs.ChecksStand.{check-is, check-none}
 
 -- where an assertion stands, by the function that reads it

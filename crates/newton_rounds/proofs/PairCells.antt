@@ -23,8 +23,8 @@ use Rattle.checked_tree.specs.Law.{AreFittedCells, FitsCell, IsEvaluated}
 use Rattle.newton_rounds.specs.Between.{AreChainsFrom, GoesBetween, IsGroup, chain_to, width_at}
 use Rattle.newton_rounds.specs.Closure.{ends_at, group_graph, pair_cell}
 use Rattle.newton_rounds.specs.Pairs.{PairEnds, Stretch}
-use Rattle.newton_rounds.proofs.Below.{fitted-few, identity-fits, some_at}
-use Rattle.newton_rounds.proofs.Grouped.{vocabulary-is}
+use Rattle.newton_rounds.proofs.CratesBelow.{fitted-few, identity-fits, some_at}
+use Rattle.newton_rounds.proofs.GroupGraphs.{vocabulary-is}
 
 -- ---- nothing was done at the source alone
 

@@ -14,7 +14,7 @@ use Rattle.proc_summary.specs.declared.stop.Flow.{Flow}
 use Rattle.proc_summary.specs.declared.stop.NodeFormula.{NodeFormula}
 use Rattle.proc_summary.specs.Claims.{FitsFlow}
 use Rattle.proc_summary.specs.Subject.{own_graph}
-use Rattle.proc_summary.proofs.Below.{some_at}
+use Rattle.proc_summary.proofs.CratesBelow.{some_at}
 use Rattle.context.specs.Claims.{AreEntries, AreFlows}
 use Rattle.report.specs.declared.blocks.Judged.{Judged}
 use Rattle.report.specs.Claims.{IsRefuted}
