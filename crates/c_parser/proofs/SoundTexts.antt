@@ -40,8 +40,8 @@ number_at-number (spot ∷ rest) read e = number_by-number spot.kind spot.at res
 
 pub record SharedFound (at : ℕ) (name : List ℕ) (rest : List Spot) (read : SourceItem × List Spot) : Type 0 where
   pub shared : Shared
-  pub spells : word at name ∷ rest ≡ grammar.shared_spots global_item ++ read.1
-  pub stands_for : read.0 ≡ grammar.shared_item global_item
+  pub spells : word at name ∷ rest ≡ grammar.shared_spots shared ++ read.1
+  pub stands_for : read.0 ≡ grammar.shared_item shared
 
 negative_found : (at : ℕ) (name : List ℕ) (rest : List Spot) (assign minus digits : ℕ) (z : ℤ) (after : List Spot) (refusal : ParseError) (read : ℤ × List Spot)
     → opposite z after refusal ≡ Ok read → rest ≡ mark assign marks.Assign ∷ mark minus marks.Minus ∷ number digits z ∷ after

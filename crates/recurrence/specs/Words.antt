@@ -55,16 +55,16 @@ pub record AreModified (body : Transition) (variables : List ℕ) : Type 0 where
 
 -- a variable's change over the turns, by the modified variables
 abbrev pub change_over_turns_by : List ℕ → ℕ → Made
-change_over_turns_by modified_variables v = column (after_from 0 modified_variables v) ⊟ column (At v)
+change_over_turns_by modified v = column (after_from 0 modified v) ⊟ column (At v)
 
 -- the rows, with that of a progression behind them where its bound is known, by the modified
 -- variables
 abbrev pub rows_with_progression_bound : List Case → List ℕ → List Row → Progression → Posing (List Row)
-rows_with_progression_bound cases modified_variables = bounded_progression cases (change_over_turns_by modified_variables) (Aux (length modified_variables))
+rows_with_progression_bound cases modified = bounded_progression cases (change_over_turns_by modified) (Aux (length modified))
 
 -- of one variable and one sign, over both signs of a term
 abbrev pub by_term : List Case → List ℕ → ℕ → ℤ → List Row → Term → Posing (List Row)
-by_term cases modified_variables v up rows t = each (rows_with_progression_bound cases modified_variables) rows (map (λ by. record {
+by_term cases modified v up rows t = each (rows_with_progression_bound cases modified) rows (map (λ by. record {
   variable = v;
   up = up;
   term = t;
@@ -73,18 +73,18 @@ by_term cases modified_variables v up rows t = each (rows_with_progression_bound
 
 -- of one variable
 abbrev pub by_variable : List Case → List ℕ → List Term → List Row → ℕ → Posing (List Row)
-by_variable cases modified_variables terms rows v =
-    each (rows_with_progression_bound cases modified_variables) rows (progressions_of terms v)
+by_variable cases modified terms rows v =
+    each (rows_with_progression_bound cases modified) rows (progressions_of terms v)
 
 -- ---- rows
 
 -- the row of a term, by the modified variables and those whose change can be made
 abbrev pub row_of_term : List ℕ → List ℕ → Term → Result Row TermError
-row_of_term modified_variables moving t =
+row_of_term modified moving t =
     gives.◌>>=◌ t.recurrence.first
     (λ d1. gives.◌>>=◌ t.recurrence.second (λ d2. gives.◌>>=◌ t.recurrence.third (λ d3.
-    closed_row (linear t.relation.a (map (after_from 0 modified_variables) moving)) t.recurrence.start d1 d2
-    d3 (Aux (length modified_variables)))))
+    closed_row (linear t.relation.a (map (after_from 0 modified) moving)) t.recurrence.start d1 d2
+    d3 (Aux (length modified)))))
 
 -- a column is at least 1
 abbrev pub turn_row : Col → Row

@@ -18,7 +18,7 @@ use Rattle.execution.specs.Execution.{Runs}
 use Rattle.execution.specs.Chosen.{Stepped, cause, chosen_step}
 use Rattle.execution.specs.Stops.{StopsAt, StopsFrom}
 use Rattle.execution.proofs.Stops.{chosen_stops, evaluated-value}
-use Rattle.replay.specs.declared.trace.TraceStop.{Stop as TraceStop}
+use Rattle.replay.specs.declared.trace.TraceStop.{TraceStop}
 use Rattle.replay.specs.declared.trace.TraceStop.TheVariants as stop
 use Rattle.replay.specs.declared.trace.Trace.{Trace}
 use Rattle.replay.specs.declared.turns.End.{End}

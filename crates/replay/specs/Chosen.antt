@@ -11,7 +11,7 @@ use Rattle.execution.specs.declared.outcome.Stop.TheVariants as why
 use Rattle.execution.specs.Machine.{Config}
 use Rattle.execution.specs.Chosen.{Stepped, chosen_start, chosen_step}
 use Rattle.execution.specs.Stops.{StopsAt}
-use Rattle.replay.specs.declared.trace.TraceStop.{Stop as TraceStop}
+use Rattle.replay.specs.declared.trace.TraceStop.{TraceStop}
 use Rattle.replay.specs.declared.trace.TraceStop.TheVariants as stop
 use Rattle.replay.specs.declared.trace.Trace.{Trace}
 

@@ -4,7 +4,7 @@ use Rattle.execution.specs.declared.outcome.Stop.{Stop}
 use Rattle.execution.specs.declared.outcome.Stop.TheVariants as why
 use Rattle.execution.specs.Interpreter.{machine_config}
 use Rattle.replay.specs.declared.turns.Run.{Run}
-use Rattle.replay.specs.declared.trace.TraceStop.{Stop as TraceStop}
+use Rattle.replay.specs.declared.trace.TraceStop.{TraceStop}
 use Rattle.replay.specs.declared.trace.TraceStop.TheVariants as stop
 use Rattle.replay.specs.Chosen.{Reached}
 
