@@ -181,13 +181,13 @@ fn equations(
     moving: &[u32],
     log: &mut Log,
 ) -> Result<Items<Row>, AllocError>
-    requires few { length modified_variables.now < 2 ^ 32 }
-    requires ascending { Ascend (map (after_from 0 modified_variables.now) moving.now) }
+    requires few { length modified.now < 2 ^ 32 }
+    requires ascending { Ascend (map (after_from 0 modified.now) moving.now) }
     ensures noted { Adds
-        (loss_notes (flat_map (λ t. losses_of (row_of_term modified_variables.now moving.now t)) terms.now))
+        (loss_notes (flat_map (λ t. losses_of (row_of_term modified.now moving.now t)) terms.now))
         log.old log.new result }
     ensures exact { IfOk result
-        (λ rows. rows ≡ filter_map (λ t. answer_of (row_of_term modified_variables.now moving.now t))
+        (λ rows. rows ≡ filter_map (λ t. answer_of (row_of_term modified.now moving.now t))
         terms.now) }
 {
     let columns = columns_after(alloc, modified, moving)?;
@@ -207,9 +207,9 @@ fn columns_after(
     modified: &[u32],
     variables: &[u32],
 ) -> Result<Items<Poly>, AllocError>
-    requires { length modified_variables.now < 2 ^ 32 }
+    requires { length modified.now < 2 ^ 32 }
     ensures { IfOk result
-        (λ columns. columns ≡ map column_of (map (after_from 0 modified_variables.now) variables.now)) }
+        (λ columns. columns ≡ map column_of (map (after_from 0 modified.now) variables.now)) }
 {
     let mut columns = Items::new(alloc);
     for v in variables {
@@ -225,10 +225,10 @@ fn term_row(
     columns: &[Poly],
     modified: &[u32],
 ) -> Result<Row, TermError>
-    requires { length modified_variables.now < 2 ^ 32 }
-    ensures { (moving : List ℕ) → Ascend (map (after_from 0 modified_variables.now) moving)
-        → columns.now ≡ map column_of (map (after_from 0 modified_variables.now) moving) →
-        Gives cause (λ r. r) result (row_of_term modified_variables.now moving term.now) }
+    requires { length modified.now < 2 ^ 32 }
+    ensures { (moving : List ℕ) → Ascend (map (after_from 0 modified.now) moving)
+        → columns.now ≡ map column_of (map (after_from 0 modified.now) moving) →
+        Gives cause (λ r. r) result (row_of_term modified.now moving term.now) }
 {
     let first = made_part(&term.recurrence.first)?;
     let second = made_part(&term.recurrence.second)?;
@@ -261,8 +261,8 @@ fn with_some_turn(
     rows: Items<Row>,
     modified: &[u32],
 ) -> Result<Items<Row>, AllocError>
-    requires { length modified_variables.now < 2 ^ 32 }
-    ensures { IfOk result (λ all. all ≡ rows ++ turn_row (Aux (length modified_variables.now)) ∷ []) }
+    requires { length modified.now < 2 ^ 32 }
+    ensures { IfOk result (λ all. all ≡ rows ++ turn_row (Aux (length modified.now)) ∷ []) }
 {
     let mut all = rows;
     let poly = one_less(alloc, turn_count(modified))?;
@@ -305,7 +305,7 @@ fn bound_rows<O: Oracle>(
     log: &mut Log,
 ) -> Result<Items<Row>, WorkError>
     requires starred { IsStarred body.now voc.now }
-    requires modified { AreModified body.now modified_variables.now }
+    requires modified { AreModified body.now modified.now }
     ensures { Follows O.asking oracle.old oracle.new log.old log.new result
         (bound_rows body.now voc.now rows) }
 {
