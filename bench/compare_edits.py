@@ -6,10 +6,10 @@ with what the program's `analyse` says of that text by itself.
 
 usage: compare_edits.py MODEL_FOLDER PROGRAM [COUNT] [SEED]
 
-A refuting point is free, so its line is compared by what stands before its numbers alone. Which questions end with a limit depends on
-the search: a script one of whose versions has a report that tells of a limit is not compared with the model, and that is counted. Nor
-is such a version compared with `analyse`: a searcher that was asked before may meet a limit elsewhere. A script for which one run takes
-more than ten seconds is left out, and counted.
+A refuting point is free, so its line is compared by what stands before its numbers alone. Which questions end with a limit
+depends on the search: a script where a report of the program or of the model tells of a limit is not compared with the model, and
+that is counted. Nor is such a version compared with `analyse`: a searcher that was asked before may meet a limit elsewhere. A
+script for which one run takes more than ten seconds is left out, and counted.
 """
 import json, os, random, re, subprocess, sys
 
@@ -216,7 +216,7 @@ class Tally:
 
 def compare(program, model, script, texts, tally):
     given, wanted = run(program, "edit", bytes_of(script)), run(model, "edit", bytes_of(script))
-    limits = False
+    limits = b"limit " in wanted[1]
     for number, text in enumerate(texts):
         found = version_differs(program, script, number, text)
         limits = limits or found is None
