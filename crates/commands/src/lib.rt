@@ -16,7 +16,7 @@ mod refusal;
 mod renewing;
 mod replaying;
 mod reply;
-mod run;
+mod running;
 mod sampling;
 mod status;
 mod submitting;
@@ -24,5 +24,5 @@ mod text;
 mod words;
 
 pub use limits::{MOST_FILE, MOST_INPUT};
-pub use run::run;
+pub use running::run;
 pub use status::Status;

@@ -13,7 +13,7 @@ use Rattle.commands.specs.Edit.{IsReplyToEdit}
 use Rattle.commands.specs.Renew.{IsReplyToRenew}
 use Rattle.commands.specs.Replay.{IsReplyToReplay}
 use Rattle.commands.specs.Replies.{IsReplyToRead, IsReplyToWork}
-use Rattle.commands.proofs.run.answer_to.Goals as goal
+use Rattle.commands.proofs.running.answer_to.Goals as goal
 
 to-read : (limit : ℕ) (Answers : List ℕ → Reply → Type 0) (before after : Option (List ℕ)) (input : List ℕ) (reply : Reply) → IsInput limit before input
     → before ≡ prepend_known input after → Answers input reply → IsReplyToRead limit Answers before after reply

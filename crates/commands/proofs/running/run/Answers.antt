@@ -8,7 +8,7 @@ use Rattle.commands.proofs.Costs.{complete-cost, sound-cost}
 use Rattle.commands.proofs.Edits.{complete-edit, sound-edit, true-end}
 use Rattle.commands.proofs.FilePasses.{certified-passes, certified-renewed, complete-check, complete-renew}
 use Rattle.commands.proofs.Sentences.{failing, sound, sound-check, true-text}
-use Rattle.commands.proofs.run.run.Goals as goal
+use Rattle.commands.proofs.running.run.Goals as goal
 
 or-memory : (status : Status) → (status ≡ AllProved) ⊎ (status ≡ SomeUnproved) → (status ≡ AllProved) ⊎ (status ≡ SomeUnproved) ⊎ (status ≡ WantOfMemory)
 or-memory status (inl all) = inl all
