@@ -15,7 +15,7 @@ with_callings-requires-clause-calls c =
     let there = got c.args.program.now.procs c.args.number c.requires.procedure in
     subst (λ n. All (λ (edge : Edge). IsCallFit n (statement_of_act edge.act)) c.as_slice-edges.result.now) (sym (ap (λ (w : Widths). w.columns) (c.widths_of.ensures.exact there.0 there.1)))
     (subst (All (λ (edge : Edge). IsCallFit (width_of c.args.program.now there.0) (statement_of_act edge.act))) (sym c.as_slice-edges.ensures)
-    (calls-fit c.args.program.now c.args.number there.0 there.1 c.in_ok-graph.graph c.in_ok-graph.ensures c.requires.formed))
+    (calls-fit c.args.program.now c.args.number there.0 there.1 c.in_ok-graph.graph c.in_ok-graph.ensures.exact c.requires.formed))
 
 pub with_callings-requires-clause-stops : goal.with_callings-requires-clause-stops
 with_callings-requires-clause-stops c =
@@ -27,5 +27,5 @@ pub with_callings-requires-clause-as_many : goal.with_callings-requires-clause-a
 with_callings-requires-clause-as_many c =
     let there = got c.args.program.now.procs c.args.number c.requires.procedure in
     ap (λ edges. length (callings_on edges)) c.as_slice-edges.ensures
-    ∙ as-many c.args.program.now c.args.number there.0 there.1 c.in_ok-graph.graph c.in_ok-graph.ensures c.args.flow.now (c.requires.flow there.0 there.1)
+    ∙ as-many c.args.program.now c.args.number there.0 there.1 c.in_ok-graph.graph c.in_ok-graph.ensures.exact c.args.flow.now (c.requires.flow there.0 there.1)
     ∙ sym (ap length c.as_slice.ensures)
