@@ -38,6 +38,17 @@ use Rattle.checked_tree.specs.Law.{IsFrom, IsEnd, IsBetweenEnds}
 
 -- ---- settled and fitted
 
+-- what is small, and between as many columns as one that goes between two vocabularies
+pub small-between : (from to : Vocabulary) (f g : Transition) → IsFrom from to f → IsSmall f g → IsBetweenEnds from to g
+small-between from to f g is small = record {
+  between = record {
+    from_is = small.from ∙ is.from_is;
+    to_is = small.to ∙ is.to_is;
+    fits = subst (λ m. IsTransition m g.to g.cases) (sym small.from) (subst (λ m. IsTransition f.from m g.cases) (sym small.to) small.fits);
+  };
+  fitted = small.fitted;
+}
+
 module _ (from to : Vocabulary) (start : IsEnd from) (end : IsEnd to) where
   pub settled-from : (f : Transition) → IsFrom from to f → Always (IsFrom from to) (settled_formula f)
   unfolding settled_formula
@@ -57,16 +68,7 @@ module _ (from to : Vocabulary) (start : IsEnd from) (end : IsEnd to) where
   }
 
   pub fitted-between : (f : Transition) → IsFrom from to f → Always (IsBetweenEnds from to) (fitted_formula f from to)
-  fitted-between f is =
-      always_weaker (IsSmall f) (IsBetweenEnds from to) (fitted_formula f from to)
-      (λ g small. record {
-        between = record {
-          from_is = small.from ∙ is.from_is;
-          to_is = small.to ∙ is.to_is;
-          fits = subst (λ m. IsTransition m g.to g.cases) (sym small.from) (subst (λ m. IsTransition f.from m g.cases) (sym small.to) small.fits);
-        };
-        fitted = small.fitted;
-      }) (fitted-small f from to (between f is))
+  fitted-between f is = always_weaker (IsSmall f) (IsBetweenEnds from to) (fitted_formula f from to) (λ g. small-between from to f g is) (fitted-small f from to (between f is))
 
   pub fitted-covered : (f : Transition) → IsFrom from to f → Always (λ g. Covers g f) (fitted_formula f from to)
   fitted-covered f is = fitted-covers f from to (between f is)

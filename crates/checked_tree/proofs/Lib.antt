@@ -1,6 +1,8 @@
 -- ---- the laws of an evaluation
 pub mod Whole
 pub mod Cells
+-- what comes of canonical leaves is canonical, whatever the answers
+pub mod CanonicalEvaluations
 -- the laws of checked trees
 pub mod Trees
 -- formulas between vocabularies, and runs along words

@@ -18,7 +18,7 @@ pub use checked::Checked;
 pub use evaluating::{evaluate, evaluate_formulas};
 pub use key::Key;
 pub use law::{law_of_evaluation, law_of_plans, law_of_trees};
-pub use operations::{either, leaf, sequence};
+pub use operations::{either, leaf, sequence, settled_and_fitted};
 pub use plan::{EliminationPlan, elimination_plan};
 pub use step::{Node, TreeStep};
 pub use table::formulas_of;

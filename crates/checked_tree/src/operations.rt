@@ -1,8 +1,9 @@
-ghost use Rattle.std.specs.Prelude.{◌≡◌};
+ghost use Rattle.std.specs.Prelude.{◌≡◌, IfOk};
+ghost use Rattle.transition_formula.specs.Meaning.{Covers};
 ghost use Rattle.transition_formula.specs.Transition.{AreSolvable};
 ghost use Rattle.posing.specs.Follows.{Follows};
 ghost use Rattle.checked_tree.specs.Evaluation.{settled_and_fitted, leaf_formula, sequence_formula, join_formula};
-ghost use Rattle.checked_tree.specs.Law.{IsFrom, IsEnd};
+ghost use Rattle.checked_tree.specs.Law.{IsFrom, IsEnd, IsBetweenEnds};
 ghost use Rattle.checked_tree.specs.Operands.{AreInSequence, AreEither};
 
 use farkas_check::Oracle;
@@ -11,9 +12,14 @@ use polyhedra::{Log, Vocabulary, WorkError, fit, settle};
 use std::alloc::Global;
 use transition_formula::{Formula, join, seq};
 
-/// The formula settled, then fitted between two vocabularies.
+/// The formula settled, then fitted between two vocabularies, the ends of a walk. It holds of all
+/// that the formula holds of.
+///
+/// # Errors
+///
+/// A question that the oracle refused, or want of memory.
 #[tactic(auto, using(posing::proofs::Following::following), unfolding(crate::specs::Evaluation::settled_and_fitted))]
-fn settled_and_fitted<O: Oracle>(
+pub fn settled_and_fitted<O: Oracle>(
     alloc: Global,
     f: &Formula,
     from: &Vocabulary,
@@ -25,8 +31,10 @@ fn settled_and_fitted<O: Oracle>(
     requires start { IsEnd from.now }
     requires end { IsEnd to.now }
     requires solvable { AreSolvable f.now.cases }
-    ensures { Follows O.asking oracle.old oracle.new log.old log.new result
+    ensures follows { Follows O.asking oracle.old oracle.new log.old log.new result
         (settled_and_fitted f.now from.now to.now) }
+    ensures fits { IfOk result (IsBetweenEnds from.now to.now) }
+    ensures covers { IfOk result (λ g. Covers g f.now) }
 {
     let settled = settle(alloc, f, oracle, log)?;
     fit(alloc, &settled, from, to, oracle, log)

@@ -11,8 +11,7 @@ use Rattle.transition_formula.specs.Meaning.{Holds, HoldsSome}
 use Rattle.transition_formula.specs.Posts.{numbers_at, with_posts}
 use Rattle.transition_formula.specs.Transition.{Transition, AreFew, AreSolvable, IsTransition, fits}
 use Rattle.transition_formula.proofs.Fitting.{sequence_of-fits}
-use Rattle.polyhedra.specs.Laws.{IsSmall}
-use Rattle.checked_tree.specs.Law.{IsFrom}
+use Rattle.checked_tree.specs.Law.{IsBetweenEnds, IsFrom}
 use Rattle.checked_tree.proofs.Between.{some-length}
 use Rattle.posing.specs.declared.error.WorkError.{WorkError}
 use Rattle.proc_summary.specs.Claims.{HoldsIf, IsBetweenStates}
@@ -117,16 +116,13 @@ sequence-solvable place begun stand f at h few k e =
     subst (λ (g : Transition). AreSolvable g.cases) (sym e)
     (few-solvable (127 + 64 + stand.to) (sequence_of begun stand) from.fits (sequence-few 127 64 begun stand k.fits few (fitted-few stand k.fitted)) (omega (arith, narrow, same, to)))
 
-pub small-from : (place : AssertionPlace) (f g : Transition) → IsPlace place → IsFrom place.start place.full f → IsSmall f g → IsFromStart place.columns g
-small-from place f g at from small =
+pub ends-from_start : (place : AssertionPlace) (f : Transition) → IsPlace place → IsBetweenEnds place.start place.full f → IsFromStart place.columns f
+ends-from_start place f at is =
     record {
-      from = small.from ∙ from.from_is ∙ at.start_columns;
-      to = small.to ∙ from.to_is ∙ at.full_columns;
-      fits = subst (λ n. IsTransition n g.to g.cases) (sym small.from) (subst (λ n. IsTransition f.from n g.cases) (sym small.to) small.fits);
+      from = is.between.from_is ∙ at.start_columns;
+      to = is.between.to_is ∙ at.full_columns;
+      fits = is.between.fits;
     }
-
-pub small-few : (f g : Transition) → IsSmall f g → HasFew 64 g
-small-few f g small = fitted-few g small.fitted
 
 -- ---- where the condition is false
 

@@ -24,12 +24,12 @@ ghost use Rattle.context.specs.Verdicts.{entry_from_start, extended_formula, ext
 use crate::judging::verdict_on_cases;
 use crate::place::{AssertionPlace, place_of};
 use crate::stand::stand_of;
+use checked_tree::settled_and_fitted;
 use farkas_check::Oracle;
 use flow_graph::{Graph, graph};
 use items::Items;
 use leaf_cases::falsity;
 use linear_terms::{Case, Col, Poly};
-use polyhedra::{fit, settle};
 use posing::{Log, WorkError};
 use proc_summary::Flow;
 use report::Verdict;
@@ -238,7 +238,7 @@ fn auxiliary(alloc: Global, number: u32) -> Result<Poly, FormulaError>
 }
 
 /// One formula and then the other, settled and fitted; losses are noted before the first question.
-#[tactic(auto, using(posing::proofs::Following::following), unfolding(crate::specs::Verdicts::reach_from, checked_tree::specs::Evaluation::settled_and_fitted))]
+#[tactic(auto, using(posing::proofs::Following::following), unfolding(crate::specs::Verdicts::reach_from))]
 fn reach_formula<O: Oracle>(
     alloc: Global,
     place: &AssertionPlace,
@@ -260,8 +260,7 @@ fn reach_formula<O: Oracle>(
     let mut losses = Items::new(alloc);
     let f = seq(alloc, begun, stand, &mut losses)?;
     log.add_losses(alloc, losses.as_slice())?;
-    let settled = settle(alloc, &f, oracle, log)?;
-    fit(alloc, &settled, &place.start, &place.full, oracle, log)
+    settled_and_fitted(alloc, &f, &place.start, &place.full, oracle, log)
 }
 
 /// The verdict on the cases in which the condition is false.

@@ -31,7 +31,7 @@ use Rattle.newton_rounds.specs.Between.{AreBases, AreChained, GoesBetween, IsGro
 use Rattle.newton_rounds.specs.Closure.{chain_end, chains_of, closure_at, closed_member, ends_at, exits_told, group_graph, losses_in_group_leaf, order_from, others_in, pair_cell}
 use Rattle.newton_rounds.specs.Pairs.{PairEnds, Stretch}
 use Rattle.newton_rounds.specs.Shapes.{AreEnds}
-use Rattle.newton_rounds.proofs.CanonicalEvaluations.{AreTrueCells, IsCanonicalCell, evaluated-true, formula-canonical, rows-canonical}
+use Rattle.checked_tree.proofs.CanonicalEvaluations.{AreTrueCells, IsCanonicalCell, evaluated-true, formula-canonical, rows-canonical}
 use Rattle.recurrence.proofs.CanonicalOrder.{IsCanonicalCase, IsCanonicalFormula}
 use Rattle.newton_rounds.proofs.CratesBelow.{some_at}
 use Rattle.newton_rounds.proofs.ChainFormulas.{base-goes, chains-go, exits-from, exits-solvable, meets, member-at, places-there, told-fewer}

@@ -31,7 +31,7 @@ use Rattle.proc_summary.specs.Parts.{IsFit}
 use Rattle.proc_summary.specs.Subject.{arc_leaf, graph_by, link_of, own_graph, subject_of}
 use Rattle.proc_summary.proofs.Graphs.{graph-is, is-evaluated}
 use Rattle.newton_rounds.proofs.GroupCalls.{each-got}
-use Rattle.newton_rounds.proofs.CanonicalEvaluations.{rows-canonical}
+use Rattle.checked_tree.proofs.CanonicalEvaluations.{rows-canonical}
 
 module _ (program : Program) (width : ℕ) (wide : length program.globals ≤ width) (known : List (Option Transition)) (are : AreKnown program known) where
   abbrev globals : ℕ

@@ -34,8 +34,6 @@ pub mod NumberCounts
 pub mod GroupCalls
 pub mod BothSides
 pub mod GroupMembers
--- ---- rows stay canonical, whatever the answers
-pub mod CanonicalEvaluations
 -- ---- one more unfolding
 pub mod LeafFits
 pub mod Unfoldings

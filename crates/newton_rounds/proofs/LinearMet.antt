@@ -46,7 +46,7 @@ use Rattle.newton_rounds.proofs.BasesMet.{IsBase, bases-true, entry-front, exits
 use Rattle.newton_rounds.proofs.CratesBelow.{some_at}
 use Rattle.newton_rounds.proofs.GroupCalls.{AreThere, calls-in, columns-at, ends-at, ends-many, member-at, placed-at}
 use Rattle.newton_rounds.proofs.CallPlaces.{HasSides, call-found, leaf-found, link-found, sides-found, the_call}
-use Rattle.newton_rounds.proofs.CanonicalEvaluations.{rows-canonical}
+use Rattle.checked_tree.proofs.CanonicalEvaluations.{rows-canonical}
 use Rattle.recurrence.proofs.CanonicalOrder.{IsCanonicalFormula}
 use Rattle.newton_rounds.proofs.ClosedMet.{IsClosed, LeadsToBase, closed-holds}
 use Rattle.newton_rounds.proofs.GroupMembers.{group-is}

@@ -40,7 +40,7 @@ use Rattle.proc_summary.proofs.ExitSummaries.{numbers-range}
 use Rattle.newton_rounds.specs.Pairs.{PairEnds, Stretch, along, call_entry, call_exit, callee_width, carrying, carrying_case, columns_from, entered_case, exit_columns, pair_formula, posts_after_return, Stations, stations_of}
 use Rattle.newton_rounds.specs.Shapes.{IsStretchBetween}
 use Rattle.checked_tree.proofs.Between.{sequence-canonical}
-use Rattle.newton_rounds.proofs.CanonicalEvaluations.{formula-canonical, rows-canonical}
+use Rattle.checked_tree.proofs.CanonicalEvaluations.{formula-canonical, rows-canonical}
 use Rattle.recurrence.proofs.CanonicalOrder.{IsCanonicalFormula}
 use Rattle.newton_rounds.proofs.PairMeanings.{entry_told-holds, equated-canonical, longer-agree, posts-canonical, told-canonical, told-stand, whole-holds}
 use Rattle.newton_rounds.proofs.PairFormulas.{after, entered-fits, first-fits, fourth-fits, returned-fits, second-fits, third-fits}

@@ -37,7 +37,7 @@ use Rattle.proc_summary.proofs.Graphs.{full-columns, graph-is, holds-of-walks}
 use Rattle.proc_summary.proofs.ExitSummaries.{entry-columns, entry-end, exit-end, exit-told, told-between, told-is, told-solved}
 use Rattle.newton_rounds.specs.Candidates.{unfolded_formula}
 use Rattle.newton_rounds.proofs.CratesBelow.{some_at}
-use Rattle.newton_rounds.proofs.CanonicalEvaluations.{AreCanonicalCells, AreTrueCells, IsCanonicalCell, evaluated-true, rows-canonical, settled_and_fitted-canonical}
+use Rattle.checked_tree.proofs.CanonicalEvaluations.{AreCanonicalCells, AreTrueCells, IsCanonicalCell, evaluated-true, rows-canonical, settled_and_fitted-canonical}
 use Rattle.recurrence.proofs.CanonicalOrder.{IsCanonicalCase, IsCanonicalFormula, rows_by-canonical}
 use Rattle.newton_rounds.proofs.LeafFits.{graph-evaluated, leaves-canonical, leaves-fit, links-inside}
 use Rattle.newton_rounds.proofs.Widths.{columns-are, some-nodes, states-at}

@@ -18,7 +18,6 @@ use Rattle.transition_formula.specs.Loss.{answer_of}
 use Rattle.transition_formula.specs.Meaning.{Covers, Holds}
 use Rattle.transition_formula.specs.Posts.{case_with_posts, numbers_at, with_posts}
 use Rattle.transition_formula.specs.Transition.{Transition, IsTransition, IsFitted, IsSolvable, AreSolvable, fits, is_fitted}
-use Rattle.polyhedra.specs.Laws.{IsSmall}
 use Rattle.polyhedra.specs.Vocabulary.{Vocabulary, IsVocabulary}
 use Rattle.syntax_tree.specs.declared.program.Proc.{Proc}
 use Rattle.syntax_tree.specs.declared.program.Program.{Program}
@@ -66,17 +65,6 @@ told-few n from to places [] few small h k = tt
 told-few n from to places (case ∷ cases) few small h k =
     let parts = and_parts (fits from to case) (list_all (fits from to) cases) h in
     (hidden-aux n from to case few small (post-length from to case parts.0) k.0, told-few n from to places cases few small parts.1 k.1)
-
--- what is small, and between as many columns as one that goes between two vocabularies
-pub small-between : (from to : Vocabulary) (f g : Transition) → IsFrom from to f → IsSmall f g → IsBetweenEnds from to g
-small-between from to f g h small = record {
-  between = record {
-    from_is = small.from ∙ h.from_is;
-    to_is = small.to ∙ h.to_is;
-    fits = subst (λ n. IsTransition n g.to g.cases) (sym small.from) (subst (λ n. IsTransition f.from n g.cases) (sym small.to) small.fits);
-  };
-  fitted = small.fitted;
-}
 
 -- ---- a formula of which some is told
 

@@ -4,21 +4,19 @@ ghost use Rattle.vocabularies.specs.Ends.{entry_width};
 ghost use Rattle.syntax_tree.specs.declared.program.Proc.{Proc as Procedure};
 ghost use Rattle.transition_formula.specs.Hiding.{losses_in_hiding};
 ghost use Rattle.transition_formula.specs.Meaning.{Covers};
-ghost use Rattle.transition_formula.specs.Transition.{AreSolvable};
 ghost use Rattle.posing.specs.Follows.{Follows};
 ghost use Rattle.leaf_cases.specs.Conditions.{IsKnown};
 ghost use Rattle.leaf_cases.specs.Summaries.{SummaryIsMet};
-ghost use Rattle.checked_tree.specs.Evaluation.{settled_and_fitted};
-ghost use Rattle.checked_tree.specs.Law.{IsBetweenEnds, IsEnd, IsFrom};
 ghost use Rattle.proc_summary.specs.Summary.{ends_of, exit_formula, exit_places, summary_from, projection_of};
 ghost use Rattle.proc_summary.specs.Claims.{FitsFlow, FitsIf, FlowHolds};
 ghost use Rattle.proc_summary.specs.Parts.{IsToldBy, IsToldFrom};
 
 use crate::columns::{columns_of, exit_places};
 use crate::stop::Flow;
+use checked_tree::settled_and_fitted;
 use farkas_check::Oracle;
 use items::Items;
-use polyhedra::{Log, Vocabulary, WorkError, fit, settle};
+use polyhedra::{Log, WorkError};
 use std::alloc::Global;
 use syntax_tree::Program;
 use transition_formula::{Formula, FormulaError, Loss, hidden, with_posts};
@@ -130,28 +128,4 @@ fn projection_of(
 {
     let hidden = hidden(alloc, f, entry, lost)?;
     with_posts(alloc, &hidden, places)
-}
-
-/// The formula settled, then fitted between two vocabularies. It holds of all that the formula
-/// holds of.
-#[tactic(auto, using(posing::proofs::Following::following), unfolding(checked_tree::specs::Evaluation::settled_and_fitted))]
-fn settled_and_fitted<O: Oracle>(
-    alloc: Global,
-    f: &Formula,
-    from: &Vocabulary,
-    to: &Vocabulary,
-    oracle: &mut O,
-    log: &mut Log,
-) -> Result<Formula, WorkError>
-    requires between { IsFrom from.now to.now f.now }
-    requires start { IsEnd from.now }
-    requires end { IsEnd to.now }
-    requires solvable { AreSolvable f.now.cases }
-    ensures follows { Follows O.asking oracle.old oracle.new log.old log.new result
-        (settled_and_fitted f.now from.now to.now) }
-    ensures fits { IfOk result (IsBetweenEnds from.now to.now) }
-    ensures covers { IfOk result (λ g. Covers g f.now) }
-{
-    let settled = settle(alloc, f, oracle, log)?;
-    fit(alloc, &settled, from, to, oracle, log)
 }
