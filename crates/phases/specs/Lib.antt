@@ -7,6 +7,8 @@ pub use Rattle.recurrence.specs.Star
 
 -- the numbers
 pub mod Limits
+-- which rule has phases
+pub mod Rules
 -- what holds of phases, whatever the answers are, as long as they are true
 pub mod Law
 -- one phase and then another

@@ -5,7 +5,9 @@
 mod halving;
 mod law;
 mod phasing;
+mod rules;
 mod splitting;
 
 pub use law::law_of_phases;
 pub use phasing::star;
+pub use rules::has_phases;
