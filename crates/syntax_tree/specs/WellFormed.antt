@@ -153,8 +153,8 @@ pub record IsWellFormed (program : Program) : Type 0 where
   -- `main` is a procedure without parameters
   pub main : IsSomeAnd (slice_get program.procs program.main) (λ p. p.params ≡ 0)
   pub each : All (IsProcFit program) program.procs
-  -- the rule by which iterations are summed up is one of the three that there are
+  -- the rule by which iterations are summed up is one of the four that there are
   pub first_rule : 1 ≤ program.rule
-  pub last_rule : program.rule ≤ 3
+  pub last_rule : program.rule ≤ 4
   -- each assertion stands in one place
   pub once : (k : ℕ) → 1 ≤ k → k ≤ length program.checks → procs_checks k program.procs ≡ 1

@@ -32,7 +32,8 @@ pub struct Proc {
 /// A program. A call names a procedure by its place in `procs`, and `main` is the place of `main`.
 /// `checks` has the places of the assertions in the text, the first of which has the number 1.
 /// `rule` is the rule by which the iterations of a loop are summed up: 1 bounds differences, 2
-/// progressions too, and 3 also takes the facets of the loop's body as directions.
+/// progressions too, 3 also takes the facets of the loop's body as directions, and 4 is as 2, phase
+/// by phase.
 #[derive(PartialEq, Eq, Drop)]
 pub struct Program {
     pub globals: Items<GlobalVar>,

@@ -228,7 +228,7 @@ impl Program {
     pub fn is_well_formed(&self) -> bool
         ensures { IsTrue result ↔ IsWellFormed self.now }
     {
-        (1..=3).contains(&self.rule)
+        (1..=4).contains(&self.rule)
             && self.procs.len() <= MOST_PROCEDURES
             && self.globals.len() <= MOST_GLOBALS
             && self.checks.len() <= MOST_CHECKS
