@@ -69,7 +69,7 @@ def replace(module_name, name, wrapped):
 def watch():
     plain = lambda f: polyhedra.Vocabulary(f, (), (), 1, ())
     replace("polyhedra", "settle", lambda old: lambda f, work: keep("settle", plain(f.start), plain(f.end), f, lambda: old(f, work), work))
-    replace("polyhedra", "fit", lambda old: lambda f, a, b, work: keep("fit", a, b, f, lambda: old(f, a, b, work), work))
+    replace("polyhedra", "fit", lambda old: lambda f, a, b, work, *most: keep("fit", a, b, f, lambda: old(f, a, b, work, *most), work))
     replace("star", "star", lambda old: lambda f, voc, work: keep("star", voc, voc, f, lambda: old(f, voc, work), work))
 
 
