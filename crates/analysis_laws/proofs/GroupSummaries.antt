@@ -1,22 +1,20 @@
 -- Every end of the stated summaries of a recursive group is a table of one summary for each of its
 -- procedures, which goes from its entry to its exit.
 --     closure-summaries     the closure of a table
---     rounds-summaries      what stands of candidates
+--     rounds-summaries      what the last round leaves
 --     group-known           the stated summaries of a group
-use Rattle.std.proofs.Common.{◌≡◌, ℕ, ◌<◌, ◌≤◌, Bool, true, false, List, [], ◌∷◌, length, map, Option, refl, sym, subst, ◌∙◌, arith}
+use Rattle.std.proofs.Common.{◌≡◌, ℕ, ◌<◌, ◌≤◌, Bool, true, false, List, [], ◌∷◌, length, map, Option, refl, sym, subst, arith}
 use Rattle.std.specs.List.{AllByRecursion, AllZip, range_with_len}
 use Rattle.std.proofs.lemmas.List.{length-map}
 use Rattle.items.proofs.Each.{each-get}
-use Rattle.linear_terms.specs.declared.row.Row.{Row}
-use Rattle.posing.specs.Posing.{Done, each, Always}
-use Rattle.posing.proofs.Paths.{always_bind, always_until, always_weaker}
+use Rattle.posing.specs.Posing.{each, Always}
+use Rattle.posing.proofs.Paths.{always_bind, always_weaker}
 use Rattle.syntax_tree.specs.declared.program.Proc.{Proc}
 use Rattle.syntax_tree.specs.declared.program.Program.{Program}
 use Rattle.syntax_tree.specs.WellFormed.{IsWellFormed}
 use Rattle.transition_formula.specs.Transition.{Transition}
 use Rattle.leaf_cases.specs.Conditions.{AreKnown}
 use Rattle.newton_rounds.specs.Between.{AreBases, AreCandidates, AreSummaries, FitTable}
-use Rattle.newton_rounds.specs.Candidates.{kept_candidates, most_rounds, round, table_of}
 use Rattle.newton_rounds.specs.Claims.{AreKnownMembers}
 use Rattle.newton_rounds.specs.Close.{closure_by_rounds, closure_from, group_closure, pairs_of, with_candidate}
 use Rattle.newton_rounds.specs.Closure.{bases_of, closure_of, ends_of_members, pair_ends, sides_of, stretches_with, with_closed}
@@ -27,10 +25,10 @@ use Rattle.newton_rounds.proofs.BasesMet.{IsBase}
 use Rattle.newton_rounds.proofs.CratesBelow.{some_at}
 use Rattle.newton_rounds.proofs.GroupCalls.{AreThere, calls-in, columns-at, ends-many, member-at}
 use Rattle.newton_rounds.proofs.MemberLoops.{candidates-over, empty-fits}
-use Rattle.newton_rounds.proofs.GroupMembers.{all-members, group-is}
+use Rattle.newton_rounds.proofs.GroupMembers.{group-is}
 use Rattle.newton_rounds.proofs.LinearMet.{bases-met}
-use Rattle.newton_rounds.proofs.RoundRows.{round-keeps, summaries-fit, summaries-known}
-use Rattle.newton_rounds.proofs.CandidateSummaries.{candidates-length, table-summaries}
+use Rattle.newton_rounds.proofs.RoundFormulas.{rounds-fit}
+use Rattle.newton_rounds.proofs.RoundRows.{summaries-fit, summaries-known}
 use Rattle.newton_rounds.proofs.SidesMet.{IsSideOf, sides-true}
 use Rattle.newton_rounds.proofs.ClosureSummaries.{closed-summaries, summaries-length}
 use Rattle.newton_rounds.proofs.KnownTables.{tabled-known}
@@ -104,23 +102,15 @@ module _ (program : Program) (procs : List ℕ) (known : List (Option Transition
         subst (λ n. Always (AreSummaries members) (each (with_closed members (stretches_with calls sides) bases) [] (range_with_len 0 n))) many
         (closed-summaries members (stretches_with calls sides) group bases based))
 
-  -- ---- what stands of candidates
-
-  kept-are : (candidates : List (List Row)) → AreCandidates members candidates → Always (AreCandidates members) (kept_candidates program procs known candidates)
-  unfolding kept_candidates
-  kept-are candidates over =
-      always_until (AreCandidates members) (round program procs known) (most_rounds candidates) candidates
-      (λ made kept. always_weaker _ (λ next. AreCandidates members next.0) (round program procs known made) (λ next both. both.0)
-      (round-keeps program procs known made (candidates-length members made kept ∙ many) kept)) over
+  -- ---- what the last round leaves
 
   pub rounds-summaries : (bases : List Transition) → AreBases members bases → Always (AreSummaries members) (closure_by_rounds program procs known bases)
   unfolding closure_by_rounds
   rounds-summaries bases based =
       always_bind (AreSummaries members) (AreSummaries members) (closure_of program procs known bases []) _ (closure-summaries [] (empty-fits program procs) bases based) (λ first one.
       always_bind (AreSummaries members) (AreSummaries members) (closure_of program procs known bases first) _ (closure-summaries first (summaries-fit program procs there first one) bases based) (λ second two.
-      always_bind (AreCandidates members) (AreSummaries members) (each with_candidate [] (pairs_of members second)) _ (candidates-over members second (summaries-length members second two)) (λ candidates over.
-      always_bind (AreCandidates members) (AreSummaries members) (kept_candidates program procs known candidates) (λ kept. Done (table_of members kept)) (kept-are candidates over)
-      (λ kept still. table-summaries members kept (all-members program formed procs there few) still))))
+      always_bind (AreCandidates members) (AreSummaries members) (each with_candidate [] (pairs_of members second)) _ (candidates-over members second (summaries-length members second two))
+      (λ candidates over. rounds-fit program procs known formed there few are candidates over)))
 
   -- ---- the stated summaries
 

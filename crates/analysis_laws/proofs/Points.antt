@@ -12,15 +12,18 @@ use Rattle.farkas_check.specs.declared.answer.Answer.{Answer}
 use Rattle.farkas_check.specs.declared.answer.Answer.TheVariants as answer
 use Rattle.farkas_check.specs.declared.question.Question.TheVariants.{Infeasible}
 use Rattle.farkas_check.specs.Tested.{is_passed}
-use Rattle.posing.specs.Posing.{Done, Noted, each, ◌>>=◌, AlwaysPassing, IsPassing}
+use Rattle.posing.specs.Posing.{Posing, Done, Noted, each, ◌>>=◌, AlwaysPassing, IsPassing}
 use Rattle.posing.proofs.Under.{under-bind, under-each}
 use Rattle.syntax_tree.specs.declared.program.Program.{Program}
 use Rattle.syntax_tree.specs.Term.{Term}
 use Rattle.transition_formula.specs.Rounds.{in_order}
 use Rattle.transition_formula.specs.Transition.{Transition}
+use Rattle.polyhedra.specs.Infeasibility.{is_yes}
+use Rattle.phases.specs.Rules.{has_phases}
 use Rattle.proc_summary.specs.declared.stop.Flow.{Flow}
 use Rattle.context.specs.Entries.{entries_from}
 use Rattle.context.specs.Judging.{IsAnswered}
+use Rattle.context.specs.SecondQuestions.{by_rule, proved_if, second_rows, second_verdict, verdict_after}
 use Rattle.context.specs.Verdicts.{case_verdict, else_by, failure_verdict_from, failing_of, is_limited, is_refuted, verdict_on_cases_from, limits_of, place_of, reach_from, verdict_at, verdict_by, verdict_from, verdict_left, verdict_of, with_verdict}
 use Rattle.context.proofs.GoodAnswers.{empty-known, no-known}
 use Rattle.report.specs.declared.blocks.Judged.{Judged}
@@ -54,13 +57,31 @@ by-rows case (row ∷ rows) same = λ a good.
     let own : IsPassing (Infeasible case.rows) a = subst (λ rows. IsPassing (Infeasible rows) a) (sym same) good in
     by-answer case a record { passes = own.passes; is_true = own.is_true }
 
-left-refuted : (left : Option Case) → AlwaysPassing IsRefuted (verdict_left left)
-left-refuted None = tt
-left-refuted (Some case) = by-rows case case.rows refl
+-- a second question tells no point of its own
+after-refuted : (rows : List Row) (verdict : Verdict) → IsRefuted verdict → AlwaysPassing IsRefuted (verdict_after rows verdict)
+unfolding ◌>>=◌
+after-refuted [] verdict own = own
+after-refuted (row ∷ rows) verdict own = λ a good. go (is_yes a)
+  where
+    go : (yes : Bool) → IsRefuted (proved_if yes verdict)
+    go true = tt
+    go false = own
 
-case-refuted : (case : Case) → AlwaysPassing IsRefuted (case_verdict case)
+second-refuted : (verdict : Verdict) → IsRefuted verdict → AlwaysPassing IsRefuted (second_verdict verdict)
+unfolding second_verdict
+second-refuted verdict own = after-refuted (second_rows verdict) verdict own
+
+rule-refuted : (phases : Bool) (first : Posing Verdict) → AlwaysPassing IsRefuted first → AlwaysPassing IsRefuted (by_rule phases first)
+rule-refuted true first h = under-bind IsPassing IsRefuted IsRefuted first second_verdict h (λ verdict own. second-refuted verdict own)
+rule-refuted false first h = h
+
+left-refuted : (rule : ℕ) (left : Option Case) → AlwaysPassing IsRefuted (verdict_left rule left)
+left-refuted rule None = tt
+left-refuted rule (Some case) = rule-refuted (has_phases rule) (verdict_at case case.rows) (by-rows case case.rows refl)
+
+case-refuted : (rule : ℕ) (case : Case) → AlwaysPassing IsRefuted (case_verdict rule case)
 unfolding case_verdict
-case-refuted case = left-refuted (in_order case).left
+case-refuted rule case = left-refuted rule (in_order case).left
 
 -- ---- several cases
 
@@ -81,17 +102,17 @@ else-refuted (Some verdict) second h k = h
 else-refuted None None h k = tt
 else-refuted None (Some verdict) h k = k
 
-next-refuted : (case : Case) (rest : List Case) (made : List Verdict) → AllByRecursion IsRefuted made → AlwaysPassing (AllByRecursion IsRefuted) (with_verdict made case)
+next-refuted : (rule : ℕ) (case : Case) (rest : List Case) (made : List Verdict) → AllByRecursion IsRefuted made → AlwaysPassing (AllByRecursion IsRefuted) (with_verdict rule made case)
 unfolding with_verdict
-next-refuted case rest made h =
-    under-bind IsPassing IsRefuted (AllByRecursion IsRefuted) (case_verdict case) (λ verdict. Done (made ++ verdict ∷ [])) (case-refuted case)
+next-refuted rule case rest made h =
+    under-bind IsPassing IsRefuted (AllByRecursion IsRefuted) (case_verdict rule case) (λ verdict. Done (made ++ verdict ∷ [])) (case-refuted rule case)
     (λ verdict own. each-append IsRefuted made (verdict ∷ []) h (own, tt))
 
-cases-refuted : (cases : List Case) → AlwaysPassing IsRefuted (verdict_on_cases_from cases)
+cases-refuted : (rule : ℕ) (cases : List Case) → AlwaysPassing IsRefuted (verdict_on_cases_from rule cases)
 unfolding verdict_on_cases_from
-cases-refuted cases =
-    under-bind IsPassing (AllByRecursion IsRefuted) IsRefuted (each with_verdict [] cases) (λ verdicts. Noted (limits_of verdicts) (Done (verdict_from verdicts)))
-    (under-each IsPassing (λ rest made. AllByRecursion IsRefuted made) with_verdict [] cases next-refuted tt)
+cases-refuted rule cases =
+    under-bind IsPassing (AllByRecursion IsRefuted) IsRefuted (each (with_verdict rule) [] cases) (λ verdicts. Noted (limits_of verdicts) (Done (verdict_from verdicts)))
+    (under-each IsPassing (λ rest made. AllByRecursion IsRefuted made) (with_verdict rule) [] cases (next-refuted rule) tt)
     (λ verdicts h. else-refuted (find is_refuted verdicts) (find is_limited verdicts) (found-refuted is_refuted verdicts h) (found-refuted is_limited verdicts h))
 
 -- ---- assertions
@@ -100,7 +121,7 @@ verdict-refuted : (place : _) (cond : Term) (entry stand : Option Transition) �
 unfolding verdict_of failure_verdict_from
 verdict-refuted place cond entry stand =
     under-bind IsPassing (λ f. Unit {0}) IsRefuted (reach_from place _ _) (failure_verdict_from place cond) (under-any IsPassing (reach_from place _ _))
-    (λ f any. cases-refuted (failing_of place cond f).cases)
+    (λ f any. cases-refuted place.full.rule (failing_of place cond f).cases)
 
 judged-refuted : (at : TextPlace) (a : Option Asserted) → AlwaysPassing (λ (j : Judged). IsRefuted j.verdict) (judgement_of at a)
 unfolding judgement_of

@@ -1,8 +1,8 @@
--- Formulas between vocabularies: settled and fitted ones, sequences, joins and stars.
-use Rattle.std.proofs.Common.{◌≡◌, ℕ, ◌+◌, ◌≤◌, ℤ, List, [], ◌∷◌, map, length, Option, refl, sym, ◌∙◌, ap, subst, inl, inr, arith, Ok, Err}
-use Rattle.std.specs.Prelude.{IsTrue, Result, ◌&&◌, nat_le, nat_lt, option_to_list}
+-- Formulas between vocabularies: settled and fitted ones, sequences, joins and repetitions.
+use Rattle.std.proofs.Common.{◌≡◌, ℕ, ◌≤◌, ℤ, List, [], ◌∷◌, map, length, refl, sym, ◌∙◌, ap, subst, inl, inr, arith, Ok, Err}
+use Rattle.std.specs.Prelude.{IsTrue, Result, ◌&&◌, nat_le, nat_lt}
 use Rattle.std.specs.List.{AllByRecursion, list_all, cons_option}
-use Rattle.std.proofs.lemmas.Bool.{leb-true, le-leb}
+use Rattle.std.proofs.lemmas.Bool.{leb-true}
 use Rattle.std.proofs.lemmas.List.{length-map}
 use Rattle.std.proofs.lemmas.List.Elements.{All-from_recursion, recursion_from_All}
 use Rattle.std.proofs.lemmas.List.Sums.{count_by-le-length}
@@ -13,26 +13,26 @@ use Rattle.linear_terms.specs.declared.row.Case.{Case}
 use Rattle.linear_terms.specs.Polynomial.{Polynomial, IsCanonical}
 use Rattle.linear_terms.specs.Value.{value_of}
 use Rattle.linear_terms.proofs.Canonical.{IsCanonical-substituted}
-use Rattle.transition_formula.specs.Composition.{Operation, identity_of, union_of, row_of, rows_by, sequence_of_cases, sequence_of, after_case}
+use Rattle.transition_formula.specs.Composition.{Operation, union_of, row_of, rows_by, sequence_of_cases, sequence_of, after_case}
 use Rattle.transition_formula.specs.Meaning.{Holds, HoldsSome, numbers, Covers}
 use Rattle.transition_formula.specs.Transition.{Transition, IsTransition, IsFitted, IsSolvable, AreSolvable, AreFew, fits}
-use Rattle.transition_formula.proofs.Covered.{both, both_true, lost, each_from_test, test_from_each}
+use Rattle.transition_formula.proofs.Covered.{both, lost, each_from_test, test_from_each}
 use Rattle.transition_formula.proofs.Fitted.{fits-solvable}
 use Rattle.transition_formula.proofs.Few.{all_few}
 use Rattle.transition_formula.proofs.Fitting.{below-true, fitting, joined-fits, sequence_of-fits}
-use Rattle.posing.specs.Posing.{Done, ◌>>=◌, Always}
-use Rattle.posing.proofs.Paths.{always_bind, always_weaker, always_any}
-use Rattle.polyhedra.specs.Finish.{finish_of_case}
+use Rattle.posing.specs.Posing.{Done, Always}
+use Rattle.posing.proofs.Paths.{always_bind, always_weaker}
 use Rattle.polyhedra.specs.Laws.{HaveCanonicalRows, IsBetween, IsSmall}
 use Rattle.polyhedra.specs.Settle.{settled_formula, settled_cases}
 use Rattle.polyhedra.specs.Squash.{fitted_formula}
 use Rattle.polyhedra.specs.Vocabulary.{Vocabulary}
 use Rattle.polyhedra.proofs.Fitted.{fitted-covers, fitted-small}
 use Rattle.polyhedra.proofs.Settled.{settled-covers, settled_cases-fit}
-use Rattle.recurrence.specs.Law.{IsStarred, IsStar}
-use Rattle.recurrence.specs.Star.{turns, star_by, star_of}
+use Rattle.recurrence.specs.Law.{IsStarred}
 use Rattle.recurrence.proofs.Starred.{always_both}
-use Rattle.recurrence.proofs.Whole.{star-fits}
+use Rattle.phases.specs.Law.{IsPhasable, IsPhased}
+use Rattle.phases.specs.Repetition.{repetition}
+use Rattle.phases.proofs.Repetitions.{repetitions-fit}
 use Rattle.checked_tree.specs.Evaluation.{settled_and_fitted}
 use Rattle.checked_tree.specs.Law.{IsFrom, IsEnd, IsBetweenEnds}
 
@@ -183,7 +183,7 @@ module _ (from to : Vocabulary) (a b : Transition) (first : IsBetweenEnds from t
         (subst (λ m. IsTransition m a.to b.cases) (sym same_from) (subst (λ m. IsTransition b.from m b.cases) (sym same_to) second.between.fits));
   }
 
--- ---- stars
+-- ---- repetitions
 
 module _ (voc : Vocabulary) (end : IsEnd voc) (a : Transition) (body : IsBetweenEnds voc voc a) where
   pub same_ends : a.from ≡ a.to
@@ -192,7 +192,7 @@ module _ (voc : Vocabulary) (end : IsEnd voc) (a : Transition) (body : IsBetween
   few_columns : a.to ≤ 63
   few_columns = subst (λ n. n ≤ 63) (sym body.between.to_is) end.few
 
-  pub starred : IsStarred a voc
+  starred : IsStarred a voc
   starred = record {
     body_fits = body.between.fits;
     same_ends = same_ends;
@@ -201,39 +201,21 @@ module _ (voc : Vocabulary) (end : IsEnd voc) (a : Transition) (body : IsBetween
     few = let few = few_columns in omega arith;
   }
 
-  abbrev StaysAt : Transition → Type 0
-  StaysAt g = (g.from ≡ a.from) × (g.to ≡ a.from)
+  pub phasable : IsPhasable a voc
+  phasable = record { starred = starred; few_columns = few_columns; few_auxiliaries = few-cases a.cases body.fitted }
 
-  star-stays : Always StaysAt (star_of a voc)
-  unfolding star_of
-  star-stays = by_cases a.cases
-    where
-      by_cases : (cases : List Case) → Always StaysAt (star_by a voc cases)
-      by_cases [] = (refl, refl)
-      by_cases (case ∷ cases) =
-          always_bind (λ (left : Option Case). Unit {0}) StaysAt (turns a voc >>= finish_of_case) (λ left. Done (union_of (identity_of a.from) record { from = a.from; to = a.to; cases = option_to_list left }))
-          (always_any (λ left. Unit {0}) (turns a voc >>= finish_of_case) (λ left. tt)) (λ left any. (refl, refl))
-
-  star-fitted : (g : Transition) → IsStar a.to g → IsFitted g.cases
-  star-fitted g is =
-      both_true (nat_le (length g.cases) 16) (list_all (λ case. nat_le (length case.rows) 64 && nat_le case.aux 64) g.cases)
-      (let two = is.two in le-leb (length g.cases) 16 (omega arith))
-      (test_from_each (λ case. nat_le (length case.rows) 64 && nat_le case.aux 64) (λ (case : Case). (length case.rows ≤ 64) × (case.aux ≤ a.to + 1))
-      (λ case h. let few = few_columns in let most = h.1 in both_true (nat_le (length case.rows) 64) (nat_le case.aux 64) (le-leb (length case.rows) 64 h.0) (le-leb case.aux 64 (omega arith)))
-      g.cases (each-both (λ (case : Case). length case.rows ≤ 64) (λ (case : Case). case.aux ≤ a.to + 1) g.cases is.rows is.auxiliaries))
-
-  pub star-between : Always (IsBetweenEnds voc voc) (star_of a voc)
-  star-between =
-      always_weaker (λ g. IsStar a.to g × StaysAt g) (IsBetweenEnds voc voc) (star_of a voc)
+  pub repetition-between : Always (IsBetweenEnds voc voc) (repetition a voc)
+  repetition-between =
+      always_weaker (IsPhased a.to) (IsBetweenEnds voc voc) (repetition a voc)
       (λ g h. record {
         between = record {
-          from_is = h.1.0 ∙ body.between.from_is;
-          to_is = h.1.1 ∙ body.between.from_is;
-          fits = subst (λ m. IsTransition m g.to g.cases) (sym (h.1.0 ∙ same_ends)) (subst (λ m. IsTransition a.to m g.cases) (sym (h.1.1 ∙ same_ends)) h.0.fits);
+          from_is = h.from_is ∙ body.between.to_is;
+          to_is = h.to_is ∙ body.between.to_is;
+          fits = subst (λ m. IsTransition m g.to g.cases) (sym h.from_is) (subst (λ m. IsTransition a.to m g.cases) (sym h.to_is) h.fits);
         };
-        fitted = star-fitted g h.0;
+        fitted = h.fitted;
       })
-      (always_both (IsStar a.to) StaysAt (star_of a voc) (star-fits a voc starred) star-stays)
+      (repetitions-fit a voc phasable)
 
 -- ---- the state after a formula has its columns
 

@@ -32,7 +32,8 @@ use Rattle.checked_tree.proofs.Entries.{known-more, latest-has, paths-entry}
 use Rattle.checked_tree.proofs.Swept.{operations-ready}
 use Rattle.checked_tree.proofs.Whole.{AllAlong, AllKnown, Keeps, cell-holds, link-within, own-along, own-known}
 use Rattle.recurrence.proofs.CanonicalOrder.{IsCanonicalCase, IsCanonicalFormula, IsCanonicalRow, settled-canonical}
-use Rattle.recurrence.proofs.CanonicalStars.{directions-canonical, fitted-canonical, joined-canonical, star-canonical}
+use Rattle.recurrence.proofs.CanonicalStars.{directions-canonical, fitted-canonical, joined-canonical}
+use Rattle.phases.proofs.Repetitions.{repetition-canonical}
 
 -- ---- two ways to say it
 
@@ -90,7 +91,7 @@ module _ (g : Graph) (source : ℕ) (is : IsEvaluated g source) (leaves : HaveCa
           let fb = formula_at made b in
           fitted-canonical (union_of fa fb) (start_vocabulary g a) (end_vocabulary g a) (directions-canonical (start_vocabulary g a) (all_known a ready.0).starts.is)
           (joined-canonical fa fb (of-path a) (of-path b))
-      own-canonical (Star a) ready = star-canonical (formula_at made a) (start_vocabulary g a) (directions-canonical (start_vocabulary g a) (all_known a ready.0).starts.is)
+      own-canonical (Star a) ready = repetition-canonical (formula_at made a) (start_vocabulary g a) (all_known a ready.0).starts.is
 
     -- ---- a cell
 

@@ -17,7 +17,7 @@ use Rattle.posing.proofs.Paths.{path_map}
 use Rattle.posing.proofs.Steps.{all_left, each_fails, error_first, in_other_words}
 use Rattle.polyhedra.specs.Laws.{HaveCanonicalRows}
 use Rattle.polyhedra.specs.Vocabulary.{Vocabulary}
-use Rattle.recurrence.specs.Law.{IsStarred}
+use Rattle.phases.specs.Law.{IsPhasable}
 use Rattle.transition_formula.specs.Transition.{Transition}
 use Rattle.checked_tree.specs.declared.mark.LogMark.{LogMark}
 use Rattle.checked_tree.specs.Law.{IsBetweenEnds}
@@ -26,7 +26,7 @@ use Rattle.checked_tree.specs.Tree.{Own, Tree, own_of, formula_of}
 use Rattle.checked_tree.specs.Checked.{IsMade, IsChecked}
 use Rattle.checked_tree.specs.Grown.{result_map}
 use Rattle.checked_tree.specs.Growing.{log_gain, own_with, IsNew}
-use Rattle.checked_tree.proofs.Between.{starred}
+use Rattle.checked_tree.proofs.Between.{phasable}
 use Rattle.checked_tree.proofs.Trees.{tree-ends, trees-fit}
 
 -- a list behind what it had before
@@ -155,10 +155,10 @@ join-operands a b from to f g from_is to_is one other h k starts ends =
           (subst (λ v. IsBetweenEnds (own_of b).from v (formula_of b)) (sym ends) (trees-fit b k));
     }))))
 
-pub star-operand : (a : Tree) (voc : Vocabulary) (f : Transition) → voc ≡ (own_of a).from → f ≡ formula_of a → IsChecked a → (own_of a).to ≡ (own_of a).from → IsStarred f voc
+pub star-operand : (a : Tree) (voc : Vocabulary) (f : Transition) → voc ≡ (own_of a).from → f ≡ formula_of a → IsChecked a → (own_of a).to ≡ (own_of a).from → IsPhasable f voc
 star-operand a voc f voc_is one h turns =
-    subst (IsStarred f) (sym voc_is) (subst (λ x. IsStarred x (own_of a).from) (sym one)
-    (starred (own_of a).from (tree-ends a h).0 (formula_of a) (subst (λ v. IsBetweenEnds (own_of a).from v (formula_of a)) turns (trees-fit a h))))
+    subst (IsPhasable f) (sym voc_is) (subst (λ x. IsPhasable x (own_of a).from) (sym one)
+    (phasable (own_of a).from (tree-ends a h).0 (formula_of a) (subst (λ v. IsBetweenEnds (own_of a).from v (formula_of a)) turns (trees-fit a h))))
 
 -- ---- clauses of a value
 

@@ -15,7 +15,7 @@ use Rattle.path_expr.specs.Operations.{operations}
 use Rattle.transition_formula.specs.Transition.{Transition}
 use Rattle.posing.specs.Posing.{Posing, Done, ◌>>=◌, each}
 use Rattle.posing.proofs.Paths.{bind-assoc}
-use Rattle.recurrence.specs.Star.{star_of}
+use Rattle.phases.specs.Repetition.{repetition}
 use Rattle.checked_tree.specs.declared.key.Key.{Key}
 use Rattle.checked_tree.specs.declared.key.Key.TheVariants as key
 use Rattle.checked_tree.specs.Graph.{Graph, start_of, end_of, vocabulary_at}
@@ -175,7 +175,7 @@ module _ (g : Graph) (keys : List Key) (distinct : AreDistinct keys) where
   same-formula made entries (Star a) n agrees is ready =
       let turn = agrees.same a is.0 is.2 ready.0 in
       sym (ap (formula_by g entries) (found_key n (key.Star is.0) is.1)
-      ∙ (λ i. star_of (turn i).formula (vocabulary_at g (turn i).from)))
+      ∙ (λ i. repetition (turn i).formula (vocabulary_at g (turn i).from)))
 
   same-ends : (made : Made) (entries : Entries) (p : PathExpr) (n : ℕ) → Agrees g keys made entries → IsPathOf keys p n → IsReady g (paths_of made) p → (f : Transition) →
       entry_of g entries (key_at keys n) f ≡ record { from = start_of g p; to = end_of g p; formula = f }

@@ -12,8 +12,8 @@ use Rattle.posing.specs.Replay.{Keeps}
 use Rattle.posing.proofs.Paths.{always_path}
 use Rattle.polyhedra.specs.Laws.{HaveCanonicalRows}
 use Rattle.polyhedra.specs.Vocabulary.{Vocabulary}
-use Rattle.recurrence.specs.Star.{star_of}
-use Rattle.recurrence.proofs.Whole.{star-holds-of-chains}
+use Rattle.phases.specs.Repetition.{repetition}
+use Rattle.phases.proofs.Repetitions.{repetitions-hold}
 use Rattle.transition_formula.specs.Composition.{sequence_of, union_of}
 use Rattle.transition_formula.specs.Meaning.{Holds, Covers, IsChain, last_of, HoldsOfChains}
 use Rattle.transition_formula.specs.Transition.{Transition}
@@ -25,7 +25,7 @@ use Rattle.checked_tree.specs.Tree.{Own, Tree, Leaf, Seq, Join, Star, own_of, fo
 use Rattle.checked_tree.specs.Checked.{IsLeafStep, IsSeqStep, IsJoinStep, IsStarStep, IsChecked}
 use Rattle.checked_tree.specs.TreeLaw.{IsLinked, Relates, TreesHold, TreesFit, RunsAreRelated}
 use Rattle.checked_tree.proofs.Along.{run-split}
-use Rattle.checked_tree.proofs.Between.{settled_and_fitted-between, settled_and_fitted-covers, sequence-from, sequence-solvable, sequence-canonical, joined-from, fitted-between, fitted-covered, starred, star-between, same_from, after-length}
+use Rattle.checked_tree.proofs.Between.{settled_and_fitted-between, settled_and_fitted-covers, sequence-from, sequence-solvable, sequence-canonical, joined-from, fitted-between, fitted-covered, phasable, repetition-between, same_from, after-length}
 
 -- what every end of a computation has, so long as the answers are true, its value under answers
 -- that pass has
@@ -121,13 +121,13 @@ module _ (a own : Own) (step : IsStarStep a own) (start : IsEnd own.from) (one :
   pub star-fits-ends : IsBetweenEnds own.from own.to own.formula
   star-fits-ends =
       subst (λ v. IsBetweenEnds own.from v own.formula) (step.from_is ∙ sym step.to_is)
-      (kept-always (star_of a.formula own.from) own.formula own.log.notes own.log.answers (IsBetweenEnds own.from own.from) step.made.kept
-      (star-between own.from start a.formula star-turn))
+      (kept-always (repetition a.formula own.from) own.formula own.log.notes own.log.answers (IsBetweenEnds own.from own.from) step.made.kept
+      (repetition-between own.from start a.formula star-turn))
 
-  pub star-chains : HoldsOfChains a.formula own.formula
-  star-chains =
-      kept-always (star_of a.formula own.from) own.formula own.log.notes own.log.answers (HoldsOfChains a.formula) step.made.kept
-      (star-holds-of-chains a.formula own.from (starred own.from start a.formula star-turn))
+  pub star-chains : HaveCanonicalRows a.formula.cases → HoldsOfChains a.formula own.formula
+  star-chains canonical =
+      kept-always (repetition a.formula own.from) own.formula own.log.notes own.log.answers (HoldsOfChains a.formula) step.made.kept
+      (repetitions-hold a.formula own.from (phasable own.from start a.formula star-turn) canonical)
 
 -- ---- all steps
 
@@ -194,7 +194,7 @@ trees-hold (Star turn own) h before after long related =
     let chain = chain-of (Relates turn) a.formula a.from.columns (λ s t l r. trees-hold turn h.0 s t l r)
     (λ s t held. tree-after turn h.0 s t held ∙ ap (λ (v : Vocabulary). v.columns) h.1.turns) before related.0 here related.1 in
     subst (Holds own.formula before) related.2
-    (star-chains a own h.1 ends.0 one before related.0 (here ∙ sym one.between.from_is) chain)
+    (star-chains a own h.1 ends.0 one (tree-canonical turn h.0) before related.0 (here ∙ sym one.between.from_is) chain)
 
 -- ---- runs along words
 

@@ -19,16 +19,16 @@ use Rattle.posing.specs.Posing.{Posing, Done, Noted, Asked, Always}
 use Rattle.posing.proofs.Paths.{always_bind, always_weaker, always_each}
 use Rattle.polyhedra.specs.Laws.{HaveCanonicalRows}
 use Rattle.polyhedra.specs.Squash.{fitted_formula}
-use Rattle.recurrence.specs.Star.{star_of}
+use Rattle.phases.specs.Repetition.{repetition}
 use Rattle.recurrence.proofs.Starred.{always_both}
-use Rattle.recurrence.proofs.Whole.{star-holds-of-chains}
+use Rattle.phases.proofs.Repetitions.{repetitions-hold}
 use Rattle.checked_tree.specs.Graph.{Graph, nothing, link_at, leaf_at, vocabulary_at, start_of, end_of, start_vocabulary, end_vocabulary}
 use Rattle.checked_tree.specs.Evaluation.{Made, formula_at, settled_and_fitted, leaf_formula, sequence_formula, join_formula, own, with_entry, with_made, evaluation, cell_of, cell_at, paths_of}
 use Rattle.checked_tree.specs.Law.{IsEvaluated, IsRun, HoldsCell, HoldsAlong, HaveCanonicalLeaves, AreCanonicalMade, HoldsOfWalks, EvaluationHolds, IsBetweenEnds, FitsCell, EvaluationFits}
 use Rattle.checked_tree.specs.Ready.{IsAmong, IsReady, AreReady}
 use Rattle.checked_tree.specs.UnderWay.{IsKnown}
 use Rattle.checked_tree.proofs.Along.{edge-along, sequence-along, join-along, star-along}
-use Rattle.checked_tree.proofs.Between.{fitted-between, fitted-covered, settled_and_fitted-between, settled_and_fitted-covers, sequence-from, sequence-solvable, sequence-canonical, joined-from, starred, star-between}
+use Rattle.checked_tree.proofs.Between.{fitted-between, fitted-covered, settled_and_fitted-between, settled_and_fitted-covers, sequence-from, sequence-solvable, sequence-canonical, joined-from, phasable, repetition-between}
 use Rattle.checked_tree.proofs.Entries.{paths-entry, latest-has, known-more}
 use Rattle.checked_tree.proofs.Stands.{Stands}
 use Rattle.checked_tree.proofs.Swept.{operations-ready, path_at-stands}
@@ -101,9 +101,9 @@ module _ (g : Graph) (source : ℕ) (is : IsEvaluated g source) where
     own-known (Star a) ready =
         let turn = known a ready.0 in
         let fa = formula_at made a in
-        always_weaker (IsBetweenEnds (start_vocabulary g a) (start_vocabulary g a)) (IsKnown g (Star a)) (star_of fa (start_vocabulary g a))
+        always_weaker (IsBetweenEnds (start_vocabulary g a) (start_vocabulary g a)) (IsKnown g (Star a)) (repetition fa (start_vocabulary g a))
         (λ f h. record { starts = turn.starts; ends = turn.starts; start_within = turn.start_within; end_within = turn.start_within; formula = h })
-        (star-between (start_vocabulary g a) turn.starts fa (moved_both (start_of g a) (start_of g a) (start_of g a) (end_of g a) fa refl ready.1 turn.formula))
+        (repetition-between (start_vocabulary g a) turn.starts fa (moved_both (start_of g a) (start_of g a) (start_of g a) (end_of g a) fa refl ready.1 turn.formula))
 
     -- ---- and it holds of each run along a word of the path
 
@@ -148,9 +148,9 @@ module _ (g : Graph) (source : ℕ) (is : IsEvaluated g source) where
           let turn = known a ready.0 in
           let fa = formula_at made a in
           let body = moved_both (start_of g a) (start_of g a) (start_of g a) (end_of g a) fa refl ready.1 turn.formula in
-          always_weaker (HoldsOfChains fa) (HoldsAlong g (Star a)) (star_of fa (start_vocabulary g a))
+          always_weaker (HoldsOfChains fa) (HoldsAlong g (Star a)) (repetition fa (start_vocabulary g a))
           (λ f holds. star-along g a fa ready.1 turn.formula (along a ready.0) f holds)
-          (star-holds-of-chains fa (start_vocabulary g a) (starred (start_vocabulary g a) turn.starts fa body))
+          (repetitions-hold fa (start_vocabulary g a) (phasable (start_vocabulary g a) turn.starts fa body) (of_path a))
 
   -- ---- all operations
 

@@ -7,7 +7,7 @@ use Rattle.path_expr.specs.declared.cell.Cell.TheVariants as known
 use Rattle.path_expr.specs.declared.link.Link.{Link}
 use Rattle.transition_formula.specs.Transition.{Transition}
 use Rattle.posing.specs.Posing.{Posing, Done, ◌>>=◌, each}
-use Rattle.recurrence.specs.Star.{star_of}
+use Rattle.phases.specs.Repetition.{repetition}
 use Rattle.checked_tree.specs.declared.key.Key.{Key}
 use Rattle.checked_tree.specs.declared.key.Key.TheVariants as key
 use Rattle.checked_tree.specs.Graph.{Graph, nothing, link_at, leaf_at, vocabulary_at}
@@ -70,7 +70,7 @@ formula_by g entries (key.Join i j) =
     join_formula (entry_at entries i).formula (entry_at entries j).formula
     (vocabulary_at g (entry_at entries i).from) (vocabulary_at g (entry_at entries i).to)
 formula_by g entries (key.Star i) =
-    star_of (entry_at entries i).formula (vocabulary_at g (entry_at entries i).from)
+    repetition (entry_at entries i).formula (vocabulary_at g (entry_at entries i).from)
 
 -- what is made of a key's path with this formula
 abbrev pub entry_of : Graph → Entries → Key → Transition → Entry

@@ -5,7 +5,7 @@ use Rattle.farkas_check.specs.Tested.{Passes}
 use Rattle.posing.specs.Posing.{Posing}
 use Rattle.posing.specs.Replay.{Keeps}
 use Rattle.polyhedra.specs.Laws.{HaveCanonicalRows}
-use Rattle.recurrence.specs.Star.{star_of}
+use Rattle.phases.specs.Repetition.{repetition}
 use Rattle.transition_formula.specs.Transition.{Transition, AreSolvable}
 use Rattle.checked_tree.specs.Evaluation.{leaf_formula, sequence_formula, join_formula}
 use Rattle.checked_tree.specs.Law.{IsEnd, IsFrom}
@@ -46,7 +46,7 @@ pub record IsStarStep (turn own : Own) : Type 0 where
   pub from_is : own.from ≡ turn.from
   pub turns : turn.to ≡ turn.from
   pub to_is : own.to ≡ turn.from
-  pub made : IsMade own (star_of turn.formula own.from)
+  pub made : IsMade own (repetition turn.formula own.from)
 
 -- each step of the tree has the formula that its operation makes of its operands, under the answers
 -- that it kept

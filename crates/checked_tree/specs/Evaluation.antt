@@ -14,7 +14,7 @@ use Rattle.posing.specs.Posing.{Posing, Done, Noted, ◌>>=◌, each}
 use Rattle.polyhedra.specs.Settle.{settled_formula}
 use Rattle.polyhedra.specs.Squash.{fitted_formula}
 use Rattle.polyhedra.specs.Vocabulary.{Vocabulary}
-use Rattle.recurrence.specs.Star.{star_of}
+use Rattle.phases.specs.Repetition.{repetition}
 use Rattle.checked_tree.specs.Graph.{Graph, nothing, leaf_at, start_vocabulary, end_vocabulary, same_path}
 
 -- the formula of each operation so far, in their order
@@ -56,8 +56,8 @@ sequence_formula first second from to =
 unfoldable pub join_formula : Transition → Transition → Vocabulary → Vocabulary → Posing Transition
 join_formula left right from to = fitted_formula (union_of left right) from to
 
--- the formula of an operation, from those of its operands: a leaf's, a sequence's, a join's, or
--- star at its node's vocabulary
+-- the formula of an operation, from those of its operands: a leaf's, a sequence's, a join's, or a
+-- repetition at its node's vocabulary
 abbrev pub own : Graph → Made → PathExpr → Posing Transition
 own g made Zero = Done nothing
 own g made One = Done nothing
@@ -69,7 +69,7 @@ own g made (Seq a b) =
     (end_vocabulary g b)
 own g made (Join a b) = join_formula (formula_at made a) (formula_at made b) (start_vocabulary g a)
     (end_vocabulary g a)
-own g made (Star a) = star_of (formula_at made a) (start_vocabulary g a)
+own g made (Star a) = repetition (formula_at made a) (start_vocabulary g a)
 
 -- ---- all operations
 

@@ -1,7 +1,7 @@
 ghost use Rattle.std.specs.Prelude.{◌≡◌, ◌≤◌, length, IfOk};
 ghost use Rattle.posing.specs.Follows.{Follows};
 ghost use Rattle.polyhedra.specs.Laws.{HaveCanonicalRows};
-ghost use Rattle.recurrence.specs.Star.{star_of};
+ghost use Rattle.phases.specs.Repetition.{repetition};
 ghost use Rattle.transition_formula.specs.Transition.{AreSolvable};
 ghost use Rattle.checked_tree.specs.Evaluation.{leaf_formula, sequence_formula, join_formula};
 ghost use Rattle.checked_tree.specs.Law.{IsEnd, IsFrom};
@@ -15,8 +15,8 @@ use crate::operations::{either, leaf, sequence};
 use crate::step::{Node, TreeStep};
 use crate::table::see_cases;
 use farkas_check::Oracle;
+use phases::repetition;
 use polyhedra::{Log, Vocabulary, WorkError};
-use recurrence::star;
 use std::alloc::{AllocError, Global};
 use std::marker::Model;
 use std::rc::Rc;
@@ -314,7 +314,7 @@ impl Checked {
         requires { (own_of (tree_of turn.now)).to ≡ (own_of (tree_of turn.now)).from }
         ensures follows { Follows O.asking oracle.old oracle.new log.old log.new
             (result_map (λ tree. formula_of (tree_of tree)) result)
-            (star_of (formula_of (tree_of turn.now)) (own_of (tree_of turn.now)).from) }
+            (repetition (formula_of (tree_of turn.now)) (own_of (tree_of turn.now)).from) }
         ensures is { IfOk result
             (λ tree. tree_of tree ≡ Star (tree_of turn.now) (own_of (tree_of tree))) }
         ensures new { IfOk result (λ tree. IsNew log.old log.new (tree_of tree)) }
@@ -334,12 +334,12 @@ impl Checked {
     ) -> Result<Formula, WorkError>
         requires { (own_of (tree_of turn.now)).to ≡ (own_of (tree_of turn.now)).from }
         ensures follows { Follows O.asking oracle.old oracle.new log.old log.new result
-            (star_of (formula_of (tree_of turn.now)) (own_of (tree_of turn.now)).from) }
+            (repetition (formula_of (tree_of turn.now)) (own_of (tree_of turn.now)).from) }
         ensures canonical { IfOk result (λ f. HaveCanonicalRows f.cases) }
     {
         let voc = turn.from();
         let body = turn.formula();
-        let formula = star(alloc, body, voc, oracle, log)?;
+        let formula = repetition(alloc, body, voc, oracle, log)?;
         see_cases(formula.cases());
         Ok(formula)
     }

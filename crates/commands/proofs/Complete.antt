@@ -14,7 +14,7 @@ use Rattle.commands.specs.declared.status.Status.{Status}
 use Rattle.commands.specs.declared.status.Status.TheVariants.{AllProved, SomeUnproved, NoneFailed, SomeFailed, Certified, TooLong}
 use Rattle.commands.specs.Input.{IsInput}
 use Rattle.commands.specs.Limits.{most_input}
-use Rattle.commands.specs.Analyse.{IsReplyToAnalyse, IsToAnalyse}
+use Rattle.commands.specs.Analyse.{IsReplyToAnalyse, IsReplyToProve, IsReplyUnder, IsToAnalyse, IsToProve}
 use Rattle.commands.specs.Certify.{IsReplyToCertify, IsToCertify, TellsFile, output_too_long}
 use Rattle.commands.specs.Replay.{IsReplyToReplay, IsToReplay, IsTraceOf}
 use Rattle.commands.specs.Replies.{IsReply, IsReplyToRead, IsReplyToWork}
@@ -28,18 +28,25 @@ pub zero-or-one : (all : Bool) (status : Status) → status ≡ (if all then All
 zero-or-one true status e = inl e
 zero-or-one false status e = inr e
 
-analysed : (all : List ℕ) (program : Program) (reply : Reply) → length all ≤ most_bytes → Accepts all program → IsReplyToAnalyse all reply
+analysed : (rule : ℕ) (all : List ℕ) (program : Program) (reply : Reply) → length all ≤ most_bytes → Accepts all program → IsReplyUnder rule all reply
     → (reply.status ≡ AllProved) ⊎ (reply.status ≡ SomeUnproved)
-analysed all program reply short a (inl (long, is)) = absurd (omega arith)
-analysed all program reply short a (inr (fits, inl (report, answers, is, e))) = zero-or-one _ reply.status (ap (λ r. r.status) e)
-analysed all program reply short a (inr (fits, inr (refusal, is, e))) = absurd (not-refused all program refusal a is)
+analysed rule all program reply short a (inl (long, is)) = absurd (omega arith)
+analysed rule all program reply short a (inr (fits, inl (report, answers, is, e))) = zero-or-one _ reply.status (ap (λ r. r.status) e)
+analysed rule all program reply short a (inr (fits, inr (refusal, is, e))) = absurd (not-refused all program refusal a is)
 
 pub complete : (words : List (List ℕ)) (before after : Option (List ℕ)) (reply : Reply) → IsToAnalyse words before → IsReply words before after reply
     → (reply.status ≡ AllProved) ⊎ (reply.status ≡ SomeUnproved)
 complete words before after reply a answer =
     let read : IsReplyToRead most_bytes IsReplyToAnalyse before after reply = subst (λ work. IsReplyToWork work before after reply) a.asked answer in
     let all = whole-input most_bytes a.input read.input a.short (subst (λ before. IsInput most_bytes before read.input) a.whole read.is_input) in
-    analysed a.input a.program reply a.short a.accepted (subst (λ input. IsReplyToAnalyse input reply) all read.is_reply)
+    analysed 2 a.input a.program reply a.short a.accepted (subst (λ input. IsReplyToAnalyse input reply) all read.is_reply)
+
+pub complete-prove : (words : List (List ℕ)) (before after : Option (List ℕ)) (reply : Reply) → IsToProve words before → IsReply words before after reply
+    → (reply.status ≡ AllProved) ⊎ (reply.status ≡ SomeUnproved)
+complete-prove words before after reply a answer =
+    let read : IsReplyToRead most_bytes IsReplyToProve before after reply = subst (λ work. IsReplyToWork work before after reply) a.asked answer in
+    let all = whole-input most_bytes a.input read.input a.short (subst (λ before. IsInput most_bytes before read.input) a.whole read.is_input) in
+    analysed 4 a.input a.program reply a.short a.accepted (subst (λ input. IsReplyToProve input reply) all read.is_reply)
 
 -- ---- certificate files
 

@@ -126,5 +126,5 @@ true-end words before after reply a answer =
       lines = end.lines;
       report = end.report;
       is = ap (λ (r : Reply). r.text) end.is;
-      true_text = true-report a.last a.program end.answers end.report a.accepted end.analysed;
+      true_text = true-report 2 a.last a.program end.answers end.report a.accepted end.analysed;
     }

@@ -1,5 +1,5 @@
 -- What the ends of a run say of executions.
---     sound          a text all of whose assertions are proved
+--     sound, sound-prove    a text all of whose assertions are proved
 --     sound-check    a certificate file that passes
 --     failing        an execution that ends at a failed assertion
 use Rattle.std.proofs.Common.{◌≡◌, ◌≢◌, ℕ, zero, suc, ◌+◌, ◌<◌, ◌≤◌, ◌⊎◌, inl, inr, true, false, cond, List, [], ◌∷◌, length, Option, Some, Result, Ok, Err, refl, sym, ap, subst, ◌∙◌, arith}
@@ -33,11 +33,11 @@ use Rattle.wire.specs.Inputs.{input_of}
 use Rattle.commands.specs.declared.reply.Reply.{Reply}
 use Rattle.commands.specs.declared.status.Status.{Status}
 use Rattle.commands.specs.declared.status.Status.TheVariants.{AllProved, SomeUnproved, NoneFailed, SomeFailed, CheckPassed, CheckFailed}
-use Rattle.commands.specs.Analyse.{IsReplyToAnalyse, IsToAnalyse}
+use Rattle.commands.specs.Analyse.{IsReplyToAnalyse, IsReplyToProve, IsReplyUnder, IsToAnalyse, IsToProve}
 use Rattle.commands.specs.Check.{IsCheckOf, IsReplyToCheck, IsShown, IsToCheck, answers_of, compared_reply, finished_reply, posed_reply, rule_of}
 use Rattle.commands.specs.Replay.{IsReplyToReplay, IsToReplay, IsTraceOf}
 use Rattle.commands.specs.Replies.{IsReply, IsReplyToRead, IsReplyToWork}
-use Rattle.commands.specs.Stated.{IsAnalysed}
+use Rattle.commands.specs.Stated.{IsAnalysedUnder}
 use Rattle.commands.specs.Within.{OrWrong}
 use Rattle.commands.specs.Input.{IsInput}
 use Rattle.commands.specs.Limits.{most_file, most_input}
@@ -91,25 +91,32 @@ all-or-some false e = absurd (cc e)
 pub zero-of : (n : ℕ) → (if n == 0 then AllProved else SomeUnproved) ≡ AllProved → n ≡ 0
 zero-of n e = eqb-true n 0 (all-or-some (n == 0) e)
 
-sound-text : (all : List ℕ) (program : Program) (reply : Reply) → Accepts all program → IsReplyToAnalyse all reply → reply.status ≡ AllProved → NoAssertionFails program
-sound-text all program reply a (inl (long, is)) e = absurd (cc (sym (ap (λ (r : Reply). r.status) is) ∙ e))
-sound-text all program reply a (inr (fits, inl (report, answers, is, told))) e =
+sound-text : (rule : ℕ) (all : List ℕ) (program : Program) (reply : Reply) → Accepts all program → IsReplyUnder rule all reply → reply.status ≡ AllProved → NoAssertionFails program
+sound-text rule all program reply a (inl (long, is)) e = absurd (cc (sym (ap (λ (r : Reply). r.status) is) ∙ e))
+sound-text rule all program reply a (inr (fits, inl (report, answers, is, told))) e =
     let none = zero-of (length report.judged - proved_count report.judged) (sym (ap (λ (r : Reply). r.status) told) ∙ e) in
     let same : is.program ≡ program = accepted-once all is.program program is.planned.accepted a in
     subst NoAssertionFails same (none-fails is.program report is.covers is.met none)
-sound-text all program reply a (inr (fits, inr (refusal, is, told))) e = absurd (cc (sym (ap (λ (r : Reply). r.status) told) ∙ e))
+sound-text rule all program reply a (inr (fits, inr (refusal, is, told))) e = absurd (cc (sym (ap (λ (r : Reply). r.status) told) ∙ e))
 
 pub sound : (words : List (List ℕ)) (before after : Option (List ℕ)) (reply : Reply) (asked : IsToAnalyse words before) → IsReply words before after reply → reply.status ≡ AllProved
     → NoAssertionFails asked.program
 sound words before after reply a answer e =
     let read : IsReplyToRead most_bytes IsReplyToAnalyse before after reply = subst (λ work. IsReplyToWork work before after reply) a.asked answer in
     let all = whole-input most_bytes a.input read.input a.short (subst (λ before. IsInput most_bytes before read.input) a.whole read.is_input) in
-    sound-text a.input a.program reply a.accepted (subst (λ input. IsReplyToAnalyse input reply) all read.is_reply) e
+    sound-text 2 a.input a.program reply a.accepted (subst (λ input. IsReplyToAnalyse input reply) all read.is_reply) e
+
+pub sound-prove : (words : List (List ℕ)) (before after : Option (List ℕ)) (reply : Reply) (asked : IsToProve words before) → IsReply words before after reply → reply.status ≡ AllProved
+    → NoAssertionFails asked.program
+sound-prove words before after reply a answer e =
+    let read : IsReplyToRead most_bytes IsReplyToProve before after reply = subst (λ work. IsReplyToWork work before after reply) a.asked answer in
+    let all = whole-input most_bytes a.input read.input a.short (subst (λ before. IsInput most_bytes before read.input) a.whole read.is_input) in
+    sound-text 4 a.input a.program reply a.accepted (subst (λ input. IsReplyToProve input reply) all read.is_reply) e
 
 -- the text of a report of an accepted text is true of its program
-pub true-report : (all : List ℕ) (program : Program) (answers : List Answer) (report : Report) → Accepts all program → IsAnalysed all answers report
+pub true-report : (rule : ℕ) (all : List ℕ) (program : Program) (answers : List Answer) (report : Report) → Accepts all program → IsAnalysedUnder rule all answers report
     → IsTrueText program (text_of report)
-true-report all program answers report a is =
+true-report rule all program answers report a is =
     let same : is.program ≡ program = accepted-once all is.program program is.planned.accepted a in
     record {
       report = report;
@@ -120,17 +127,23 @@ true-report all program answers report a is =
     }
 
 -- a text within the limit that is accepted has a report, which is true of its program
-told-text : (all : List ℕ) (program : Program) (reply : Reply) → length all ≤ most_bytes → Accepts all program → IsReplyToAnalyse all reply → IsTrueText program reply.text
-told-text all program reply short a (inl (long, is)) = absurd (omega (arith, short, long))
-told-text all program reply short a (inr (fits, inl (report, answers, is, told))) =
-    subst (IsTrueText program) (sym (ap (λ (r : Reply). r.text) told)) (true-report all program answers report a is)
-told-text all program reply short a (inr (fits, inr (refusal, is, told))) = absurd (not-refused all program refusal a is)
+told-text : (rule : ℕ) (all : List ℕ) (program : Program) (reply : Reply) → length all ≤ most_bytes → Accepts all program → IsReplyUnder rule all reply → IsTrueText program reply.text
+told-text rule all program reply short a (inl (long, is)) = absurd (omega (arith, short, long))
+told-text rule all program reply short a (inr (fits, inl (report, answers, is, told))) =
+    subst (IsTrueText program) (sym (ap (λ (r : Reply). r.text) told)) (true-report rule all program answers report a is)
+told-text rule all program reply short a (inr (fits, inr (refusal, is, told))) = absurd (not-refused all program refusal a is)
 
 pub true-text : (words : List (List ℕ)) (before after : Option (List ℕ)) (reply : Reply) (asked : IsToAnalyse words before) → IsReply words before after reply → IsTrueText asked.program reply.text
 true-text words before after reply a answer =
     let read : IsReplyToRead most_bytes IsReplyToAnalyse before after reply = subst (λ work. IsReplyToWork work before after reply) a.asked answer in
     let all = whole-input most_bytes a.input read.input a.short (subst (λ before. IsInput most_bytes before read.input) a.whole read.is_input) in
-    told-text a.input a.program reply a.short a.accepted (subst (λ input. IsReplyToAnalyse input reply) all read.is_reply)
+    told-text 2 a.input a.program reply a.short a.accepted (subst (λ input. IsReplyToAnalyse input reply) all read.is_reply)
+
+pub proved-text : (words : List (List ℕ)) (before after : Option (List ℕ)) (reply : Reply) (asked : IsToProve words before) → IsReply words before after reply → IsTrueText asked.program reply.text
+proved-text words before after reply a answer =
+    let read : IsReplyToRead most_bytes IsReplyToProve before after reply = subst (λ work. IsReplyToWork work before after reply) a.asked answer in
+    let all = whole-input most_bytes a.input read.input a.short (subst (λ before. IsInput most_bytes before read.input) a.whole read.is_input) in
+    told-text 4 a.input a.program reply a.short a.accepted (subst (λ input. IsReplyToProve input reply) all read.is_reply)
 
 -- ---- a certificate file
 

@@ -1,5 +1,5 @@
 -- Where every question posed is tame, a report that is made with the finder has no limit.
-use Rattle.std.proofs.Common.{inl, inr, []}
+use Rattle.std.proofs.Common.{inl, inr, [], refl}
 use Rattle.farkas_check.specs.declared.answer.Answer.{Answer}
 use Rattle.farkas_check.specs.declared.question.Question.{Question}
 use Rattle.finder.specs.Found.{IsFound}
@@ -20,4 +20,4 @@ owed question a good (inr live) limit = good.allowed.live live limit
 pub tame-texts : TameTextsHaveNoLimit
 tame-texts text answers report is tame =
     let p = analysis_of 2 text is.program is.plan in
-    tame-limitless (with_rule 2 is.program) is.plan p answers report (path_map (IsGood IsFound) AnswersTame p (Done report) [] answers owed is.leads) is.named tame
+    tame-limitless (with_rule 2 is.program) is.plan p answers report (path_map (IsGood IsFound) AnswersTame p (Done report) [] answers owed is.leads) (is.named refl) tame

@@ -27,6 +27,7 @@ commands =
     with_subcommand
     (with_subcommand
     (with_subcommand
+    (with_subcommand
     (with_subcommand (with_subcommand (with_subcommand (with_subcommand (with_subcommand top
     (plain (codes "analyse")))
     (plain (codes "certify")))
@@ -35,7 +36,8 @@ commands =
     (with_rule (new_app (codes "sample")) count_rule).top)
     (plain (codes "renew")))
     (plain (codes "replay")))
-    (with_rule (new_app (codes "cost")) name_rule).top
+    (with_rule (new_app (codes "cost")) name_rule).top)
+    (plain (codes "prove"))
 
 -- what words ask for that name this subcommand
 abbrev pub matched_work : Option (List ℕ) → List (List ℕ) → Option Work

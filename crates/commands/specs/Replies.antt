@@ -5,8 +5,8 @@ use Rattle.std.specs.Io.KnownBytes.{prepend_known}
 use Rattle.summary_cache.specs.Limits.{most_bytes}
 use Rattle.commands.specs.declared.reply.Reply.{Reply}
 use Rattle.commands.specs.declared.words.Work.{Work}
-use Rattle.commands.specs.declared.words.Work.TheVariants.{Analyse, Certify, Check, Edit, Sample, Renew, Replay, Cost, Help, Version}
-use Rattle.commands.specs.Analyse.{IsReplyToAnalyse}
+use Rattle.commands.specs.declared.words.Work.TheVariants.{Analyse, Certify, Check, Edit, Sample, Renew, Replay, Cost, Prove, Help, Version}
+use Rattle.commands.specs.Analyse.{IsReplyToAnalyse, IsReplyToProve}
 use Rattle.commands.specs.Certify.{IsReplyToCertify}
 use Rattle.commands.specs.Check.{IsReplyToCheck}
 use Rattle.commands.specs.Cost.{IsReplyToCost}
@@ -37,6 +37,8 @@ IsReplyToWork (Some (Sample count)) before after reply = IsReplyToSample count r
     × (after ≡ before)
 IsReplyToWork (Some Analyse) before after reply = IsReplyToRead most_bytes IsReplyToAnalyse before
     after reply
+IsReplyToWork (Some Prove) before after reply = IsReplyToRead most_bytes IsReplyToProve before after
+    reply
 IsReplyToWork (Some Certify) before after reply = IsReplyToRead most_bytes IsReplyToCertify before
     after reply
 IsReplyToWork (Some Check) before after reply = IsReplyToRead most_file IsReplyToCheck before after

@@ -5,7 +5,7 @@ use Rattle.std.specs.Str.{bytes_eq}
 use Rattle.std.specs.Str.Parse.{digits_value}
 use Rattle.c_lexer.specs.Kinds.{is_word_shape}
 use Rattle.commands.specs.declared.words.Work.{Work}
-use Rattle.commands.specs.declared.words.Work.TheVariants.{Analyse, Certify, Check, Edit, Sample, Renew, Replay, Cost, Help, Version}
+use Rattle.commands.specs.declared.words.Work.TheVariants.{Analyse, Certify, Check, Edit, Sample, Renew, Replay, Cost, Prove, Help, Version}
 
 -- what one word asks for
 abbrev pub work_named : List ℕ → Option Work
@@ -16,8 +16,9 @@ work_named word =
     else (if bytes_eq word (codes "edit") then Some Edit
     else (if bytes_eq word (codes "renew") then Some Renew
     else (if bytes_eq word (codes "replay") then Some Replay
+    else (if bytes_eq word (codes "prove") then Some Prove
     else (if bytes_eq word (codes "--help") then Some Help
-    else (if bytes_eq word (codes "--version") then Some Version else None)))))))
+    else (if bytes_eq word (codes "--version") then Some Version else None))))))))
 
 -- whether a byte is a decimal digit
 abbrev pub is_digit : ℕ → Bool
@@ -70,6 +71,7 @@ reads_source (Some (Sample count)) = false
 reads_source (Some Renew) = true
 reads_source (Some Replay) = true
 reads_source (Some (Cost name)) = true
+reads_source (Some Prove) = true
 reads_source (Some Help) = false
 reads_source (Some Version) = false
 reads_source None = false

@@ -1,6 +1,7 @@
 ghost use Rattle.std.specs.Prelude.{◌≡◌, ◌≤◌, length, IfOk};
 ghost use Rattle.summary_cache.specs.Limits.{most_bytes};
-ghost use Rattle.commands.specs.Analyse.{IsReplyToAnalyse, TellsReport, report_reply};
+ghost use Rattle.summary_cache.specs.Rules.{IsRule};
+ghost use Rattle.commands.specs.Analyse.{IsReplyToAnalyse, IsReplyToProve, IsReplyUnder, TellsReport, report_reply};
 ghost use Rattle.commands.specs.Status.{IsAnswer};
 ghost use Rattle.commands.specs.Within.{OrRefused};
 
@@ -29,17 +30,30 @@ pub(crate) fn report_reply(alloc: Global, report: &Report) -> Result<Reply, Allo
     })
 }
 
-/// The answer to a text.
-fn text_reply(alloc: Global, text: &[u8]) -> Result<Reply, AllocError>
-    requires { length text.now ≤ most_bytes }
-    ensures reply { IfOk result (OrRefused text.now (TellsReport text.now)) }
+/// The answer to a text, whose analysis is under a rule.
+fn text_reply(alloc: Global, text: &[u8], rule: u32) -> Result<Reply, AllocError>
+    requires short { length text.now ≤ most_bytes }
+    requires rule { IsRule rule }
+    ensures reply { IfOk result (OrRefused text.now (TellsReport rule text.now)) }
     ensures status { IfOk result (λ reply. IsAnswer reply.status) }
 {
-    match analysis_by_finder(alloc, text) {
+    match analysis_by_finder(alloc, text, rule) {
         Ok(last) => report_reply(alloc, &last.report),
         Err(TextError::Refused(refusal)) => refused_reply(alloc, text, refusal),
         Err(TextError::Memory) => Err(AllocError),
     }
+}
+
+/// The answer to an input that is to be analysed under a rule.
+fn input_reply(alloc: Global, input: &[u8], rule: u32) -> Result<Reply, AllocError>
+    requires { IsRule rule }
+    ensures reply { IfOk result (IsReplyUnder rule input.now) }
+    ensures status { IfOk result (λ reply. IsAnswer reply.status) }
+{
+    if input.len() > MOST_BYTES {
+        return too_long(alloc);
+    }
+    text_reply(alloc, input, rule)
 }
 
 /// The answer to an input that is to be analysed.
@@ -47,8 +61,13 @@ pub fn analyse_reply(alloc: Global, input: &[u8]) -> Result<Reply, AllocError>
     ensures reply { IfOk result (IsReplyToAnalyse input.now) }
     ensures status { IfOk result (λ reply. IsAnswer reply.status) }
 {
-    if input.len() > MOST_BYTES {
-        return too_long(alloc);
-    }
-    text_reply(alloc, input)
+    input_reply(alloc, input, 2)
+}
+
+/// The answer to an input of which as much as can be is to be proved.
+pub fn prove_reply(alloc: Global, input: &[u8]) -> Result<Reply, AllocError>
+    ensures reply { IfOk result (IsReplyToProve input.now) }
+    ensures status { IfOk result (λ reply. IsAnswer reply.status) }
+{
+    input_reply(alloc, input, 4)
 }

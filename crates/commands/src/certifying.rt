@@ -87,7 +87,7 @@ pub fn certificate_reply(alloc: Global, text: &[u8]) -> Result<Reply, AllocError
     ensures reply { IfOk result (OrRefused text.now (TellsFile text.now)) }
     ensures status { IfOk result (λ reply. IsAnswer reply.status) }
 {
-    match analysis_by_finder(alloc, text) {
+    match analysis_by_finder(alloc, text, 2) {
         Ok(last) => reply_to_analysed(alloc, text, last),
         Err(TextError::Refused(refusal)) => refused_reply(alloc, text, refusal),
         Err(TextError::Memory) => Err(AllocError),

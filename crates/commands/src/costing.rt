@@ -183,7 +183,7 @@ fn global_reply(alloc: Global, name: &[u8], text: &[u8], number: u32) -> Result<
     ensures reply { IfOk result (OrRefused text.now (TellsCosts name.now text.now)) }
     ensures status { IfOk result (λ reply. IsAnswer reply.status) }
 {
-    match analysis_by_finder(alloc, text) {
+    match analysis_by_finder(alloc, text, 2) {
         Ok(last) => report_reply(alloc, last.report.procs.as_slice(), number),
         Err(TextError::Refused(refusal)) => refused_reply(alloc, text, refusal),
         Err(TextError::Memory) => Err(AllocError),

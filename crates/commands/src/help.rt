@@ -13,6 +13,7 @@ cra: a verified analyser of numeric C
 usage: cra analyse | certify | check | edit | sample N | renew | replay | cost NAME
 
   analyse    reads the text of a program, and prints what is proved of it
+  prove      reads the text of a program, and prints what is proved of it with phases of loops and products of rows
   certify    reads the text of a program, and prints its report with all that shows it, as JSON
   check      reads a certificate file, and prints whether its answers show its report
   edit       reads a text with edits as JSON, and prints what comes of each version, and the report of the last

@@ -3,7 +3,7 @@ ghost use Rattle.std.specs.Io.KnownBytes.{append_known};
 ghost use Rattle.whole_numbers.specs.Counters.{Rose};
 ghost use Rattle.commands.specs.Output.{TookPart};
 ghost use Rattle.commands.specs.declared.reply.Reply.{Reply as Answer};
-ghost use Rattle.commands.specs.Analyse.{IsToAnalyse};
+ghost use Rattle.commands.specs.Analyse.{IsToAnalyse, IsToProve};
 ghost use Rattle.commands.specs.Bounded.{TellsTrueBounds};
 ghost use Rattle.commands.specs.Certify.{IsToCertify};
 ghost use Rattle.commands.specs.Check.{IsToCheck, IsToCheckCertified};
@@ -17,7 +17,7 @@ ghost use Rattle.commands.specs.Status.{IsAnswer};
 ghost use Rattle.commands.specs.Tame.{TameTextsHaveNoLimit};
 ghost use Rattle.commands.specs.Words.{reads_source, work_of};
 
-use crate::analysing::analyse_reply;
+use crate::analysing::{analyse_reply, prove_reply};
 use crate::certifying::certify_reply;
 use crate::checking::check_reply;
 use crate::costing::cost_reply;
@@ -56,6 +56,10 @@ fn answer_to<R: Source>(
         Some(Work::Analyse) => {
             let input = read_input(alloc, source, MOST_BYTES, PIECE)?;
             Ok(analyse_reply(alloc, &input)?)
+        }
+        Some(Work::Prove) => {
+            let input = read_input(alloc, source, MOST_BYTES, PIECE)?;
+            Ok(prove_reply(alloc, &input)?)
         }
         Some(Work::Certify) => {
             let input = read_input(alloc, source, MOST_BYTES, PIECE)?;
@@ -121,6 +125,12 @@ pub fn run<R: Source, W: Sink>(
     ensures told { (asked : IsToAnalyse (map string_bytes words.now) (R.left source.old))
         → IsAnswer result
         → TellsTrueText asked.program (W.taken sink.old) (W.taken sink.new) }
+    // Asked to prove, it says and writes the same.
+    ensures sound_prove { (asked : IsToProve (map string_bytes words.now) (R.left source.old))
+        → result ≡ Status.AllProved → NoAssertionFails asked.program }
+    ensures told_prove { (asked : IsToProve (map string_bytes words.now) (R.left source.old))
+        → IsAnswer result
+        → TellsTrueText asked.program (W.taken sink.old) (W.taken sink.new) }
     // Asked for the versions of a text the last of which is accepted, `AllProved` says so of the
     // program of the last one, and the report of that is written behind the lines of the versions.
     ensures sound_edit { (asked : IsToEdit (map string_bytes words.now) (R.left source.old))
@@ -157,6 +167,13 @@ pub fn run<R: Source, W: Sink>(
     // A text that is accepted has its report, where memory is not wanting and no count of faults
     // rose.
     ensures complete { IsToAnalyse (map string_bytes words.now) (R.left source.old)
+        → ¬ Rose (R.faults source.old) (R.faults source.new)
+        → ¬ Rose (W.faults sink.old) (W.faults sink.new)
+        → (result ≡ Status.AllProved) ⊎ (result ≡ Status.SomeUnproved)
+        ⊎ (result ≡ Status.WantOfMemory) }
+
+    // So has one of which as much as can be is to be proved.
+    ensures complete_prove { IsToProve (map string_bytes words.now) (R.left source.old)
         → ¬ Rose (R.faults source.old) (R.faults source.new)
         → ¬ Rose (W.faults sink.old) (W.faults sink.new)
         → (result ≡ Status.AllProved) ⊎ (result ≡ Status.SomeUnproved)

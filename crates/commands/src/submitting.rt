@@ -5,7 +5,7 @@ ghost use Rattle.summary_cache.specs.Kept.{last_analysis};
 ghost use Rattle.summary_cache.specs.Limits.{most_bytes};
 ghost use Rattle.summary_cache.specs.Rules.{IsRule};
 ghost use Rattle.summary_cache.specs.Submitted.{Submits};
-ghost use Rattle.commands.specs.Stated.{IsFoundOf};
+ghost use Rattle.commands.specs.Stated.{IsFoundUnder};
 ghost use Rattle.commands.specs.Submitted.{IsSubmitted};
 
 use farkas_check::Oracle;
@@ -87,13 +87,14 @@ pub fn analysis_by_oracle<O: Oracle>(
     }
 }
 
-/// What comes of a text where the finder answers, which refuses no question.
-pub fn analysis_by_finder(alloc: Global, text: &[u8]) -> Result<Analysed, TextError>
-    requires { length text.now ≤ most_bytes }
-    ensures { IsFoundOf text.now result }
+/// What comes of a text under a rule where the finder answers, which refuses no question.
+pub fn analysis_by_finder(alloc: Global, text: &[u8], rule: u32) -> Result<Analysed, TextError>
+    requires short { length text.now ≤ most_bytes }
+    requires rule { IsRule rule }
+    ensures { IsFoundUnder rule text.now result }
 {
     let mut finder = Finder::new(alloc);
-    match analysis_by_oracle(alloc, text, 2, &mut finder) {
+    match analysis_by_oracle(alloc, text, rule, &mut finder) {
         Ok(last) => Ok(last),
         Err(SubmitError::Text(refusal)) => Err(TextError::Refused(refusal)),
         Err(SubmitError::Refused) => unreachable!(),

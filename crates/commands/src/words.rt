@@ -31,6 +31,8 @@ pub enum Work {
     Replay,
     /// The bounds on the change of the global of this name.
     Cost(Items<u8>),
+    /// The report of a text under the rule of phases.
+    Prove,
     Help,
     Version,
 }
@@ -46,6 +48,7 @@ fn work_named(word: &str) -> Option<Work>
         "edit" => Some(Work::Edit),
         "renew" => Some(Work::Renew),
         "replay" => Some(Work::Replay),
+        "prove" => Some(Work::Prove),
         "--help" => Some(Work::Help),
         "--version" => Some(Work::Version),
         _ => None,
@@ -70,7 +73,8 @@ fn command<'a>(alloc: Global) -> Result<Command<'a>, AllocError>
             .subcommand(sample)?
             .subcommand(Command::new(alloc, "renew"))?
             .subcommand(Command::new(alloc, "replay"))?
-            .subcommand(cost)?,
+            .subcommand(cost)?
+            .subcommand(Command::new(alloc, "prove"))?,
     )
 }
 

@@ -17,4 +17,5 @@ pub mod FurtherPosts
 pub mod Few
 -- ---- the verdicts on cases
 pub mod GoodAnswers
+pub mod SecondQuestions
 pub mod Chosen

@@ -6,6 +6,8 @@ pub use Rattle.proc_summary.specs.Flow
 
 -- the verdict on an assertion
 pub mod Verdicts
+-- what is asked once more, with products of rows
+pub mod SecondQuestions
 -- what is known of it
 pub mod Judging
 -- what entries and verdicts say of executions from `main`

@@ -26,10 +26,12 @@ use Rattle.posing.specs.declared.note.Note.TheVariants as note
 use Rattle.posing.specs.Logs.{loss_notes}
 use Rattle.posing.specs.Posing.{Posing, Done, Noted, answer_to, ◌>>=◌, each}
 use Rattle.checked_tree.specs.Evaluation.{settled_and_fitted}
+use Rattle.phases.specs.Rules.{has_phases}
 use Rattle.report.specs.declared.verdict.Verdict.{Verdict}
 use Rattle.report.specs.declared.verdict.Verdict.TheVariants.{Proved, Unproved, UnprovedLimit}
 use Rattle.context.specs.declared.place.AssertionPlace.{AssertionPlace}
 use Rattle.context.specs.Entries.{stand_of}
+use Rattle.context.specs.SecondQuestions.{by_rule}
 
 -- ---- where it stands
 
@@ -115,18 +117,20 @@ verdict_at case [] = Done (Unproved case [])
 verdict_at case (row ∷ rows) = answer_to (Infeasible (row ∷ rows))
     >>= λ answer. Done (verdict_by case answer)
 
--- the verdict on what is left of a case in order; where nothing is left, it is proved
-abbrev pub verdict_left : Option Case → Posing Verdict
-verdict_left None = Done Proved
-verdict_left (Some case) = verdict_at case case.rows
+-- the verdict on what is left of a case in order; where nothing is left, it is proved. The number
+-- is that of the rule, here and below
+abbrev pub verdict_left : ℕ → Option Case → Posing Verdict
+verdict_left rule None = Done Proved
+verdict_left rule (Some case) = by_rule (has_phases rule) (verdict_at case case.rows)
 
 -- it is put in order first, and what is lost in that is noted
-unfoldable pub case_verdict : Case → Posing Verdict
-case_verdict case = Noted (loss_notes (in_order case).losses) (verdict_left (in_order case).left)
+unfoldable pub case_verdict : ℕ → Case → Posing Verdict
+case_verdict rule case =
+    Noted (loss_notes (in_order case).losses) (verdict_left rule (in_order case).left)
 
 -- the verdict on one case more, behind those that are made
-unfoldable pub with_verdict : List Verdict → Case → Posing (List Verdict)
-with_verdict made case = case_verdict case >>= λ verdict. Done (made ++ verdict ∷ [])
+unfoldable pub with_verdict : ℕ → List Verdict → Case → Posing (List Verdict)
+with_verdict rule made case = case_verdict rule case >>= λ verdict. Done (made ++ verdict ∷ [])
 
 -- ---- all cases
 
@@ -163,9 +167,9 @@ limits_of verdicts =
     drop (if list_any is_refuted verdicts then 0 else 1) (filter_map limit_of verdicts)
 
 -- all cases are asked about, whatever is found of the first ones; limits are noted last
-unfoldable pub verdict_on_cases_from : List Case → Posing Verdict
-verdict_on_cases_from cases =
-    each with_verdict [] cases >>= λ verdicts. Noted (limits_of verdicts)
+unfoldable pub verdict_on_cases_from : ℕ → List Case → Posing Verdict
+verdict_on_cases_from rule cases =
+    each (with_verdict rule) [] cases >>= λ verdicts. Noted (limits_of verdicts)
     (Done (verdict_from verdicts))
 
 -- ---- the assertion
@@ -174,7 +178,8 @@ verdict_on_cases_from cases =
 -- in making the failing cases is noted first
 unfoldable pub failure_verdict_from : AssertionPlace → Term → Transition → Posing Verdict
 failure_verdict_from place cond f =
-    Noted (loss_notes (losses_in_failing place cond f)) (verdict_on_cases_from (failing_of place cond f).cases)
+    Noted (loss_notes (losses_in_failing place cond f))
+    (verdict_on_cases_from place.full.rule (failing_of place cond f).cases)
 
 -- by its condition, the entry of its procedure, and the formula of where it stands
 unfoldable pub verdict_of : AssertionPlace → Term → Option Transition → Option Transition → Posing Verdict

@@ -284,7 +284,7 @@ fn failure_verdict<O: Oracle>(
     ensures fits { IfOk result (FitsVerdict (length place.now.shown)) }
 {
     let failing = failing(alloc, place, cond, f, log)?;
-    verdict_on_cases(alloc, failing.cases(), oracle, log)
+    verdict_on_cases(alloc, place.full.rule(), failing.cases(), oracle, log)
 }
 
 /// The formula where the condition is false, with the posts of the columns that are told; what is

@@ -1,4 +1,4 @@
-ghost use Rattle.std.specs.Prelude.{◌≡◌, ◌++◌, ◌∷◌, [], drop, IfOk};
+ghost use Rattle.std.specs.Prelude.{◌≡◌, ◌++◌, ◌∷◌, [], Some, drop, IfOk};
 ghost use Rattle.std.specs.List.{filter_map, list_any};
 ghost use Rattle.farkas_check.specs.declared.question.Question.TheVariants.{Infeasible};
 ghost use Rattle.transition_formula.specs.Rounds.{in_order};
@@ -6,12 +6,15 @@ ghost use Rattle.transition_formula.specs.Transition.{IsSolvable, AreSolvable};
 ghost use Rattle.posing.specs.Follows.{Follows};
 ghost use Rattle.posing.specs.Posing.{each};
 ghost use Rattle.posing.specs.Logs.{Adds, loss_notes};
-ghost use Rattle.context.specs.Verdicts.{case_verdict, is_refuted, verdict_on_cases_from, limit_of, limits_of, verdict_at, verdict_by, verdict_from, with_verdict};
+ghost use Rattle.context.specs.SecondQuestions.{twofold};
+ghost use Rattle.context.specs.Verdicts.{case_verdict, is_refuted, verdict_on_cases_from, limit_of, limits_of, verdict_at, verdict_by, verdict_from, verdict_left, with_verdict};
 ghost use Rattle.context.specs.Judging.{AddsVerdict, AreVerdictsOn, IsAnswered, IsLeftOf, IsVerdictOn, IsVerdictOnAll, stronger};
 
+use crate::second_questions::second_verdict;
 use farkas_check::{Answer, Oracle, Question};
 use items::Items;
 use linear_terms::Case;
+use phases::has_phases;
 use posing::{Log, Note, WorkError, ask};
 use report::Verdict;
 use std::alloc::{AllocError, Global};
@@ -21,7 +24,8 @@ use transition_formula::{FormulaError, Solved, solve};
 /// first with a limit, else it is proved. Each case is put in order and it is asked whether its
 /// rows are infeasible; a case without rows has the empty point. All cases are asked about,
 /// whatever is found of the first ones; limits are noted last, but for the one that the verdict
-/// carries.
+/// carries. Under a rule with phases a case that is not proved is asked about once more, with
+/// products of its rows: a Yes proves it, and any other answer changes nothing.
 ///
 /// # Errors
 ///
@@ -29,34 +33,36 @@ use transition_formula::{FormulaError, Solved, solve};
 #[tactic(auto, using(posing::proofs::Following::following), unfolding(crate::specs::Verdicts::verdict_on_cases_from))]
 pub fn verdict_on_cases<O: Oracle>(
     alloc: Global,
+    rule: u32,
     cases: &[Case],
     oracle: &mut O,
     log: &mut Log,
 ) -> Result<Verdict, WorkError>
     requires { AreSolvable cases.now }
     ensures follows { Follows O.asking oracle.old oracle.new log.old log.new result
-        (verdict_on_cases_from cases.now) }
+        (verdict_on_cases_from rule cases.now) }
     ensures known { IfOk result (IsVerdictOnAll cases.now) }
 {
-    let verdicts = verdicts_on(alloc, cases, oracle, log)?;
+    let verdicts = verdicts_on(alloc, rule, cases, oracle, log)?;
     log.add_notes(limits_of(alloc, verdicts.as_slice())?)?;
     Ok(verdict_from(verdicts))
 }
 
 fn verdicts_on<O: Oracle>(
     alloc: Global,
+    rule: u32,
     cases: &[Case],
     oracle: &mut O,
     log: &mut Log,
 ) -> Result<Items<Verdict>, WorkError>
     requires { AreSolvable cases.now }
     ensures follows { Follows O.asking oracle.old oracle.new log.old log.new result
-        (each with_verdict [] cases.now) }
+        (each (with_verdict rule) [] cases.now) }
     ensures known { IfOk result (AreVerdictsOn cases.now) }
 {
     let mut made = Items::new(alloc);
     for case in cases {
-        made = with_verdict(alloc, made, case, oracle, log)?;
+        made = with_verdict(alloc, rule, made, case, oracle, log)?;
     }
     Ok(made)
 }
@@ -65,6 +71,7 @@ fn verdicts_on<O: Oracle>(
 #[tactic(auto, using(posing::proofs::Following::following), unfolding(crate::specs::Verdicts::with_verdict))]
 fn with_verdict<O: Oracle>(
     alloc: Global,
+    rule: u32,
     made: Items<Verdict>,
     case: &Case,
     oracle: &mut O,
@@ -72,10 +79,10 @@ fn with_verdict<O: Oracle>(
 ) -> Result<Items<Verdict>, WorkError>
     requires { IsSolvable case.now }
     ensures follows { Follows O.asking oracle.old oracle.new log.old log.new result
-        (with_verdict made case.now) }
+        (with_verdict rule made case.now) }
     ensures known { IfOk result (AddsVerdict case.now made) }
 {
-    let verdict = case_verdict(alloc, case, oracle, log)?;
+    let verdict = case_verdict(alloc, rule, case, oracle, log)?;
     let mut all = made;
     all.push(verdict)?;
     Ok(all)
@@ -85,18 +92,19 @@ fn with_verdict<O: Oracle>(
 #[tactic(auto, using(posing::proofs::Following::following), unfolding(crate::specs::Verdicts::case_verdict))]
 fn case_verdict<O: Oracle>(
     alloc: Global,
+    rule: u32,
     case: &Case,
     oracle: &mut O,
     log: &mut Log,
 ) -> Result<Verdict, WorkError>
     requires { IsSolvable case.now }
     ensures follows { Follows O.asking oracle.old oracle.new log.old log.new result
-        (case_verdict case.now) }
+        (case_verdict rule case.now) }
     ensures known { IfOk result (IsVerdictOn case.now) }
 {
     match solve_noted(alloc, case, log)? {
         None => Ok(Verdict::Proved),
-        Some(left) => verdict_at(alloc, left, oracle, log),
+        Some(left) => verdict_left(alloc, rule, left, oracle, log),
     }
 }
 
@@ -114,6 +122,41 @@ fn solve_noted(alloc: Global, case: &Case, log: &mut Log) -> Result<Option<Case>
         Solved::Kept(left) => Ok(Some(left)),
         Solved::False => Ok(None),
     }
+}
+
+/// The verdict on a case in order, by the rule.
+fn verdict_left<O: Oracle>(
+    alloc: Global,
+    rule: u32,
+    case: Case,
+    oracle: &mut O,
+    log: &mut Log,
+) -> Result<Verdict, WorkError>
+    ensures follows { Follows O.asking oracle.old oracle.new log.old log.new result
+        (verdict_left rule (Some case)) }
+    ensures known { IfOk result (IsVerdictOn case) }
+{
+    if has_phases(rule) {
+        return twofold_verdict(alloc, case, oracle, log);
+    }
+    verdict_at(alloc, case, oracle, log)
+}
+
+/// A case that the first question leaves unproved is asked about once more, with products of its
+/// rows.
+#[tactic(auto, using(posing::proofs::Following::following))]
+fn twofold_verdict<O: Oracle>(
+    alloc: Global,
+    case: Case,
+    oracle: &mut O,
+    log: &mut Log,
+) -> Result<Verdict, WorkError>
+    ensures follows { Follows O.asking oracle.old oracle.new log.old log.new result
+        (twofold (verdict_at case case.rows)) }
+    ensures known { IfOk result (IsVerdictOn case) }
+{
+    let verdict = verdict_at(alloc, case, oracle, log)?;
+    second_verdict(alloc, verdict, oracle, log)
 }
 
 /// The empty point refutes a case without rows; another is asked about.

@@ -10,6 +10,7 @@ mod judging;
 mod laws;
 mod nodes;
 mod place;
+mod second_questions;
 mod stand;
 
 pub use assertion::{graph_verdict, verdict};

@@ -81,14 +81,15 @@ pub fn verdict<O: Oracle>(
 /// The verdict on cases in which an assertion would fail.
 pub fn verdict_on_cases<O: Oracle>(
     alloc: Global,
+    rule: u32,
     cases: &[Case],
     oracle: &mut O,
     log: &mut Log,
 ) -> Result<Verdict, WorkError>
     requires { AreSolvable cases.now }
     ensures follows { Follows O.asking oracle.old oracle.new log.old log.new result
-        (verdict_on_cases_from cases.now) }
+        (verdict_on_cases_from rule cases.now) }
     ensures known { IfOk result (IsVerdictOnAll cases.now) }
 {
-    context::verdict_on_cases(alloc, cases, oracle, log)
+    context::verdict_on_cases(alloc, rule, cases, oracle, log)
 }

@@ -158,5 +158,9 @@ owns-frame before names p owns =
     go answers question answer asks (inl old) = inl old
     go answers question answer asks (inr own) = last answers question answer (asks own)
 
+-- those before alone
+pub owns-before : {A : Type 0} (before : Question → Answer → Type 0) (p : Posing A) → Owns before (λ x. before) p
+owns-before before p = record { own = λ notes answers value path question answer h. inl h }
+
 pub owns-none : {A : Type 0} (p : Posing A) → Owns Never (λ x. Never) p
 owns-none p = record { own = λ notes answers value path question answer h. absurd h }

@@ -1,11 +1,11 @@
 -- The summaries of a recursive group tell each limit: at once, or at the end of the round that drops
--- a row for it.
+-- a row for it. The program's rule has no phases.
 --     refuted-balances      what refutes a row carries one limit at most, and tells the others
 --     round-tells           a round tells those of its rows at its end
 --     closed-tells          the whole
 use Rattle.std.proofs.Common.{◌≡◌, ℕ, ◌+◌, List, [], ◌∷◌, ◌++◌, Bool, true, false, refl, sym, ap, ◌∙◌, append_assoc, append-nil, arith}
-use Rattle.std.specs.Prelude.{Option, None, Some, unwrap_or}
-use Rattle.std.specs.List.{flat_map}
+use Rattle.std.specs.Prelude.{Option, None, Some, map, unwrap_or}
+use Rattle.std.specs.List.{AllByRecursion, flat_map}
 use Rattle.std.proofs.lemmas.Grind.{flat_map-append}
 use Rattle.linear_terms.specs.declared.row.Case.{Case}
 use Rattle.linear_terms.specs.declared.row.Row.{Row}
@@ -21,20 +21,25 @@ use Rattle.posing.specs.declared.note.Witness.{Witness}
 use Rattle.posing.specs.declared.note.Witness.TheVariants as witness
 use Rattle.posing.specs.Posing.{Done, ◌>>=◌, each}
 use Rattle.path_expr.specs.declared.cell.Cell.{Cell}
-use Rattle.proc_summary.specs.Subject.{Subject}
-use Rattle.newton_rounds.specs.Candidates.{candidate_by, candidate_of, drop_notes_by, drop_notes_in, dropped_notes, findings_in, found_left, kept_candidates, kept_row, limit_notes, most_rounds, outcome, outcome_by, refutation, round, unfolded_formula, with_answer, with_case, with_judged, with_point, with_round}
+use Rattle.phases.specs.Rules.{has_phases}
+use Rattle.vocabularies.specs.Ends.{pair_of}
+use Rattle.proc_summary.specs.Subject.{Subject, graph_by, subject_of}
+use Rattle.newton_rounds.specs.Candidates.{before_rounds, candidate_by, candidate_of, drop_notes_by, drop_notes_in, dropped_notes, end_of_round, findings_in, found_left, kept_row, last_round, limit_notes, most_rounds, no_judgements, outcome, outcome_by, refutation, round, unfolded_formula, with_answer, with_case, with_judged, with_point, with_round}
 use Rattle.newton_rounds.specs.Close.{closure_by_rounds, closure_from, group_closure, with_candidate}
-use Rattle.newton_rounds.specs.Closure.{base_of, bases_of, closure_at, closed_member, closure_of, with_places_from, sides_from, sides_of, with_base, with_closed, with_member, with_sides}
-use Rattle.newton_rounds.specs.Members.{GroupCall}
+use Rattle.newton_rounds.specs.Closure.{base_of, bases_of, closure_at, closed_member, closure_of, ends_of_members, group_graph, pair_ends, with_places_from, sides_from, sides_of, with_base, with_closed, with_member, with_sides}
+use Rattle.newton_rounds.specs.Members.{GroupCall, members_of}
 use Rattle.newton_rounds.specs.Pairs.{PairEnds, Stretch}
 use Rattle.named_limits.specs.Limits.{AreSame, count, limit_by, limit_given, limit_told, limits_told}
 use Rattle.named_limits.proofs.Balance.{Balances, TellsAll, balances-asked, balances-bind, balances-done, balances-each, balances-frame, balances-noted, balances-quiet, count-append, no_limit, same-of, same-refl, tells-bind, tells-done, tells-each, tells-frame, tells-noted, tells-then, tells-until}
 use Rattle.named_limits.proofs.FittingLimits.{bounded-tells, losses-tell_none}
-use Rattle.named_limits.proofs.Stars.{cells-tell, evaluated-tells, settled_and_fitted-tells, summary-tells}
+use Rattle.named_limits.proofs.Stars.{HasNoPhases, HaveNoPhases, cells-tell, evaluated-tells, nodes-plain, settled_and_fitted-tells, subject-plain, summary-tells}
 
 -- types that their crate keeps to itself
 abbrev Domain : {A B : Type 0} → (A → B) → Type 0
 Domain {A} f = A
+
+abbrev Codomain : {A B : Type 0} → (A → B) → Type 0
+Codomain {A} {B} f = B
 
 abbrev Findings : Type 0
 Findings = Domain outcome
@@ -42,52 +47,70 @@ Findings = Domain outcome
 abbrev Judged : Type 0
 Judged = Domain kept_row
 
+abbrev Judgements : Type 0
+Judgements = Domain end_of_round
+
+abbrev RoundEnd : Type 0
+RoundEnd = Codomain end_of_round
+
 -- ---- closures
 
-sides-tell : (s : Subject) (starts : List (Cell Transition)) (call : GroupCall) → TellsAll (sides_from s starts call)
+sides-tell : (s : Subject) (starts : List (Cell Transition)) (call : GroupCall) → HaveNoPhases (graph_by s) → TellsAll (sides_from s starts call)
 unfolding sides_from
-sides-tell s starts call = tells-then _ (cells-tell s call.to)
+sides-tell s starts call no_phases = tells-then _ (cells-tell s call.to no_phases)
 
-with_sides-tells : (s : Subject) (starts : List (Cell Transition)) (made : _) (call : GroupCall) → TellsAll (with_sides s starts made call)
+with_sides-tells : (s : Subject) (starts : List (Cell Transition)) (made : _) (call : GroupCall) → HaveNoPhases (graph_by s) → TellsAll (with_sides s starts made call)
 unfolding with_sides
-with_sides-tells s starts made call = tells-then _ (sides-tell s starts call)
+with_sides-tells s starts made call no_phases = tells-then _ (sides-tell s starts call no_phases)
 
-with_member-tells : (program : Program) (procs : List ℕ) (known : List (Option Transition)) (made : _) (member : ℕ × Proc) → TellsAll (with_member program procs known made member)
+with_member-tells : (program : Program) (procs : List ℕ) (known : List (Option Transition)) (made : _) (member : ℕ × Proc) → has_phases program.rule ≡ false → TellsAll (with_member program procs known made member)
 unfolding with_member
-with_member-tells program procs known made member = tells-bind (cells-tell _ 0) (λ starts. tells-each _ made _ (λ made call. with_sides-tells _ starts made call))
+with_member-tells program procs known made member no_phases =
+    let s = subject_of program member.1 known in
+    let plain = subject-plain program member.1 known no_phases in tells-bind (cells-tell s 0 plain) (λ starts. tells-each _ made _ (λ made call. with_sides-tells s starts made call plain))
 
-sides_of-tells : (program : Program) (procs : List ℕ) (known : List (Option Transition)) → TellsAll (sides_of program procs known)
+sides_of-tells : (program : Program) (procs : List ℕ) (known : List (Option Transition)) → has_phases program.rule ≡ false → TellsAll (sides_of program procs known)
 unfolding sides_of
-sides_of-tells program procs known = tells-each _ [] _ (λ made member. with_member-tells program procs known made member)
+sides_of-tells program procs known no_phases = tells-each _ [] _ (λ made member. with_member-tells program procs known made member no_phases)
 
 closed_by-tells : (members : List PairEnds) (bases : List Transition) (place : ℕ) (cells : List (Cell Transition)) → TellsAll (closure_at members bases place cells)
 unfolding closure_at
 closed_by-tells members bases place cells = tells-noted (losses-tell_none _) (settled_and_fitted-tells _ _ _)
 
-closed_member-tells : (members : List PairEnds) (stretches : List Stretch) (bases : List Transition) (place : ℕ) → TellsAll (closed_member members stretches bases place)
+-- the vocabularies of a group's pairs
+abbrev ArePlain : List PairEnds → Type 0
+ArePlain members = AllByRecursion HasNoPhases (map (λ (member : PairEnds). member.pair) members)
+
+pairs-plain : (program : Program) (procs : List Proc) → has_phases program.rule ≡ false → ArePlain (map (pair_ends program) procs)
+unfolding pair_of
+pairs-plain program [] no_phases = tt
+pairs-plain program (p ∷ procs) no_phases = (no_phases, pairs-plain program procs no_phases)
+
+closed_member-tells : (members : List PairEnds) (stretches : List Stretch) (bases : List Transition) (place : ℕ) → ArePlain members → TellsAll (closed_member members stretches bases place)
 unfolding closed_member
-closed_member-tells members stretches bases place = tells-bind (tells-noted (losses-tell_none _) (evaluated-tells _ place)) (λ cells. closed_by-tells members bases place cells)
+closed_member-tells members stretches bases place plain = tells-bind (tells-noted (losses-tell_none _) (evaluated-tells (group_graph members stretches) place (nodes-plain (group_graph members stretches) plain))) (λ cells. closed_by-tells members bases place cells)
 
-with_closed-tells : (members : List PairEnds) (stretches : List Stretch) (bases made : List Transition) (place : ℕ) → TellsAll (with_closed members stretches bases made place)
+with_closed-tells : (members : List PairEnds) (stretches : List Stretch) (bases made : List Transition) (place : ℕ) → ArePlain members → TellsAll (with_closed members stretches bases made place)
 unfolding with_closed
-with_closed-tells members stretches bases made place = tells-then _ (closed_member-tells members stretches bases place)
+with_closed-tells members stretches bases made place plain = tells-then _ (closed_member-tells members stretches bases place plain)
 
-closure-tells : (program : Program) (procs : List ℕ) (known : List (Option Transition)) (bases table : List Transition) → TellsAll (closure_of program procs known bases table)
+closure-tells : (program : Program) (procs : List ℕ) (known : List (Option Transition)) (bases table : List Transition) → has_phases program.rule ≡ false → TellsAll (closure_of program procs known bases table)
 unfolding closure_of
-closure-tells program procs known bases table =
-    tells-bind (sides_of-tells program procs _) (λ sides. tells-each _ [] _ (λ made place. with_closed-tells _ _ bases made place))
+closure-tells program procs known bases table no_phases =
+    tells-bind (sides_of-tells program procs _ no_phases)
+    (λ sides. tells-each _ [] _ (λ made place. with_closed-tells (ends_of_members program procs) _ bases made place (pairs-plain program (members_of program procs) no_phases)))
 
-base-tells : (program : Program) (known : List (Option Transition)) (p : Proc) → TellsAll (base_of program known p)
+base-tells : (program : Program) (known : List (Option Transition)) (p : Proc) → has_phases program.rule ≡ false → TellsAll (base_of program known p)
 unfolding base_of
-base-tells program known p = tells-bind (cells-tell _ 0) (λ cells. tells-noted (losses-tell_none _) (tells-done _))
+base-tells program known p no_phases = tells-bind (cells-tell (subject_of program p known) 0 (subject-plain program p known no_phases)) (λ cells. tells-noted (losses-tell_none _) (tells-done _))
 
-with_base-tells : (program : Program) (known : List (Option Transition)) (made : List Transition) (p : Proc) → TellsAll (with_base program known made p)
+with_base-tells : (program : Program) (known : List (Option Transition)) (made : List Transition) (p : Proc) → has_phases program.rule ≡ false → TellsAll (with_base program known made p)
 unfolding with_base
-with_base-tells program known made p = tells-then _ (base-tells program known p)
+with_base-tells program known made p no_phases = tells-then _ (base-tells program known p no_phases)
 
-bases-tell : (program : Program) (procs : List ℕ) (known : List (Option Transition)) → TellsAll (bases_of program procs known)
+bases-tell : (program : Program) (procs : List ℕ) (known : List (Option Transition)) → has_phases program.rule ≡ false → TellsAll (bases_of program procs known)
 unfolding bases_of
-bases-tell program procs known = tells-each _ [] _ (λ made p. with_base-tells program _ made p)
+bases-tell program procs known no_phases = tells-each _ [] _ (λ made p. with_base-tells program _ made p no_phases)
 
 -- ---- candidates
 
@@ -176,6 +199,9 @@ limits_of_member judged = flat_map (λ j. limit_if j.by) judged
 abbrev limits_of_all : List (List Judged) → List Limit
 limits_of_all judged = flat_map limits_of_member judged
 
+abbrev limits_of : Judgements → List Limit
+limits_of made = limits_of_all made.rows
+
 one-more : {X : Type 0} (f : X → List Limit) (xs : List X) (x : X) → f x ++ [] ≡ f x → flat_map f xs ++ f x ≡ flat_map f (xs ++ x ∷ [])
 one-more f xs x e = ap (λ l. flat_map f xs ++ l) (sym e) ∙ sym (flat_map-append f xs (x ∷ []))
 
@@ -186,20 +212,20 @@ with_judged-balances f made row =
     (balances-frame (limits_of_member made) limit_if (refutation f row) (refuted-balances f row))
     (λ by. balances-done (limits_of_member made ++ limit_if by) limits_of_member _ (same-of (one-more (λ j. limit_if j.by) made _ (append-nil (limit_if by)))))
 
-unfolded-tells : (program : Program) (known : List (Option Transition)) (p : Proc) → TellsAll (unfolded_formula program known p)
+unfolded-tells : (program : Program) (known : List (Option Transition)) (p : Proc) → has_phases program.rule ≡ false → TellsAll (unfolded_formula program known p)
 unfolding unfolded_formula
-unfolded-tells program known p = tells-bind (cells-tell _ 0) (λ cells. summary-tells _ _)
+unfolded-tells program known p no_phases = tells-bind (cells-tell (subject_of program p known) 0 (subject-plain program p known no_phases)) (λ cells. summary-tells _ _)
 
-with_round-balances : (program : Program) (known : List (Option Transition)) (made : List (List Judged)) (member : Proc × List Row)
-    → Balances (limits_of_all made) limits_of_all (with_round program known made member)
+with_round-balances : (program : Program) (known : List (Option Transition)) (made : Judgements) (member : Proc × List Row)
+    → has_phases program.rule ≡ false → Balances (limits_of made) limits_of (with_round program known made member)
 unfolding with_round
-with_round-balances program known made member =
-    balances-bind (limits_of_all made) (λ f. limits_of_all made) limits_of_all (unfolded_formula program known member.0) _ (tells-frame (limits_of_all made) (unfolded-tells program known member.0))
-    (λ f. balances-bind (limits_of_all made) (λ judged. limits_of_all made ++ limits_of_member judged) limits_of_all (each (with_judged f) [] member.1) _
-    (balances-frame (limits_of_all made) limits_of_member (each (with_judged f) [] member.1)
+with_round-balances program known made member no_phases =
+    balances-bind (limits_of made) (λ f. limits_of made) limits_of (unfolded_formula program known member.0) _ (tells-frame (limits_of made) (unfolded-tells program known member.0 no_phases))
+    (λ f. balances-bind (limits_of made) (λ judged. limits_of made ++ limits_of_member judged) limits_of (each (with_judged f) [] member.1) _
+    (balances-frame (limits_of made) limits_of_member (each (with_judged f) [] member.1)
     (balances-each limits_of_member (with_judged f) [] member.1 (λ made row. with_judged-balances f made row)))
-    (λ judged. balances-done (limits_of_all made ++ limits_of_member judged) limits_of_all _
-    (same-of (one-more limits_of_member made judged (append-nil (limits_of_member judged))))))
+    (λ judged. balances-done (limits_of made ++ limits_of_member judged) limits_of _
+    (same-of (one-more limits_of_member made.rows judged (append-nil (limits_of_member judged))))))
 
 dropped_by-told : (place : ℕ) (row : Row) (by : Option Witness) → limits_told (drop_notes_by place row by) ≡ limit_if by
 dropped_by-told place row None = refl
@@ -217,33 +243,34 @@ all-told place (own ∷ judged) =
     flat_map-append limit_told (drop_notes_in (place, own)) (flat_map drop_notes_in (with_places_from (place + 1) judged))
     ∙ (λ i. member-told place own i ++ all-told (place + 1) judged i)
 
-pub round-tells : (program : Program) (procs : List ℕ) (known : List (Option Transition)) (candidates : List (List Row)) → TellsAll (round program procs known candidates)
+pub round-tells : (program : Program) (procs : List ℕ) (known : List (Option Transition)) (candidates : List (List Row)) → has_phases program.rule ≡ false → TellsAll (round program procs known candidates)
 unfolding round
-round-tells program procs known candidates =
+round-tells program procs known candidates no_phases =
     record {
-      balances = balances-bind [] limits_of_all no_limit _ _ (balances-each limits_of_all _ [] _ (λ made member. with_round-balances program _ made member))
-          (λ judged. balances-noted (limits_of_all judged) [] no_limit (dropped_notes judged) (Done _)
-          (λ test. let told = ap (count test) (all-told 0 judged) in omega (arith, told))
+      balances = balances-bind [] limits_of no_limit _ _ (balances-each limits_of _ no_judgements _ (λ made member. with_round-balances program _ made member no_phases))
+          (λ judged. balances-noted (limits_of judged) [] no_limit (dropped_notes judged.rows) (Done _)
+          (λ test. let told = ap (count test) (all-told 0 judged.rows) in omega (arith, told))
           (balances-done [] no_limit _ (same-refl [])));
     }
 
-kept-tells : (program : Program) (procs : List ℕ) (known : List (Option Transition)) (candidates : List (List Row)) → TellsAll (kept_candidates program procs known candidates)
-unfolding kept_candidates
-kept-tells program procs known candidates = tells-until (round program procs known) (most_rounds candidates) candidates (λ made. round-tells program procs known made)
+last_round-tells : (program : Program) (procs : List ℕ) (known : List (Option Transition)) (candidates : List (List Row)) → has_phases program.rule ≡ false → TellsAll (last_round program procs known candidates)
+unfolding last_round
+last_round-tells program procs known candidates no_phases =
+    tells-until (λ (end : RoundEnd). round program procs known end.candidates) (most_rounds candidates) (before_rounds candidates) (λ end. round-tells program procs known end.candidates no_phases)
 
 -- ---- the whole
 
-rounds-tell : (program : Program) (procs : List ℕ) (known : List (Option Transition)) (bases : List Transition) → TellsAll (closure_by_rounds program procs known bases)
+rounds-tell : (program : Program) (procs : List ℕ) (known : List (Option Transition)) (bases : List Transition) → has_phases program.rule ≡ false → TellsAll (closure_by_rounds program procs known bases)
 unfolding closure_by_rounds
-rounds-tell program procs known bases =
-    tells-bind (closure-tells program procs known bases []) (λ first.
-    tells-bind (closure-tells program procs known bases first) (λ second.
-    tells-bind (tells-each with_candidate [] _ with_candidate-tells) (λ candidates. tells-then _ (kept-tells program procs known candidates))))
+rounds-tell program procs known bases no_phases =
+    tells-bind (closure-tells program procs known bases [] no_phases) (λ first.
+    tells-bind (closure-tells program procs known bases first no_phases) (λ second.
+    tells-bind (tells-each with_candidate [] _ with_candidate-tells) (λ candidates. tells-then _ (last_round-tells program procs known candidates no_phases))))
 
-closed_from-tells : (linear : Bool) (program : Program) (procs : List ℕ) (known : List (Option Transition)) (bases : List Transition) → TellsAll (closure_from linear program procs known bases)
-closed_from-tells true program procs known bases = closure-tells program procs known bases []
-closed_from-tells false program procs known bases = rounds-tell program procs known bases
+closed_from-tells : (linear : Bool) (program : Program) (procs : List ℕ) (known : List (Option Transition)) (bases : List Transition) → has_phases program.rule ≡ false → TellsAll (closure_from linear program procs known bases)
+closed_from-tells true program procs known bases no_phases = closure-tells program procs known bases [] no_phases
+closed_from-tells false program procs known bases no_phases = rounds-tell program procs known bases no_phases
 
-pub closed-tells : (linear : Bool) (program : Program) (procs : List ℕ) (known : List (Option Transition)) → TellsAll (group_closure linear program procs known)
+pub closed-tells : (linear : Bool) (program : Program) (procs : List ℕ) (known : List (Option Transition)) → has_phases program.rule ≡ false → TellsAll (group_closure linear program procs known)
 unfolding group_closure
-closed-tells linear program procs known = tells-bind (bases-tell program procs known) (λ bases. closed_from-tells linear program procs known bases)
+closed-tells linear program procs known no_phases = tells-bind (bases-tell program procs known no_phases) (λ bases. closed_from-tells linear program procs known bases no_phases)

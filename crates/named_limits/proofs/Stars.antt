@@ -1,20 +1,28 @@
 -- Stars, evaluations, flows and summaries tell each limit at once.
---     star-tells                          a star
+--     star-tells                          a star, and a repetition under a rule without phases
 --     settled_and_fitted-tells            an operation
 --     evaluated-tells                     all operations of a graph
 --     cells-tell, flow-tells, summary-tells
-use Rattle.std.proofs.Common.{ℕ, List, [], ◌∷◌, Bool, true, false}
-use Rattle.std.specs.Prelude.{Option, None}
+-- Under a rule with phases a limit may let a split fall, and is then told nowhere.
+use Rattle.std.proofs.Common.{◌≡◌, ℕ, zero, suc, List, [], ◌∷◌, Bool, true, false, refl, sym, subst}
+use Rattle.std.specs.Prelude.{Option, None, replicate}
+use Rattle.std.specs.List.{AllByRecursion}
 use Rattle.linear_terms.specs.declared.row.Case.{Case}
 use Rattle.transition_formula.specs.Transition.{Transition}
 use Rattle.path_expr.specs.PathExpr.{PathExpr, Zero, One, Edge, Seq, Join, Star}
 use Rattle.polyhedra.specs.Vocabulary.{Vocabulary}
 use Rattle.recurrence.specs.Star.{rows_of, star_by, star_of, turns}
 use Rattle.recurrence.specs.Strata.{strata, stratum, stratum_if}
-use Rattle.checked_tree.specs.Evaluation.{Made, evaluated_cells, evaluation, join_formula, leaf_formula, own, sequence_formula, settled_and_fitted, with_made}
-use Rattle.checked_tree.specs.Graph.{Graph}
+use Rattle.phases.specs.Repetition.{repetition}
+use Rattle.phases.specs.Rules.{has_phases}
+use Rattle.phases.proofs.Repetitions.{repetition-plain}
+use Rattle.syntax_tree.specs.declared.program.Proc.{Proc}
+use Rattle.syntax_tree.specs.declared.program.Program.{Program}
+use Rattle.vocabularies.specs.Ends.{full_of}
+use Rattle.checked_tree.specs.Evaluation.{Made, evaluated_cells, evaluation, formula_at, join_formula, leaf_formula, own, sequence_formula, settled_and_fitted, with_made}
+use Rattle.checked_tree.specs.Graph.{Graph, bare, start_of, start_vocabulary, vocabulary_at}
 use Rattle.proc_summary.specs.Flow.{cells_from, flow_from}
-use Rattle.proc_summary.specs.Subject.{Subject}
+use Rattle.proc_summary.specs.Subject.{Subject, graph_by, own_graph, subject_of}
 use Rattle.proc_summary.specs.Summary.{Ends, summary_from}
 use Rattle.named_limits.proofs.Balance.{TellsAll, tells-bind, tells-done, tells-each, tells-noted, tells-then}
 use Rattle.named_limits.proofs.FittingLimits.{bounded-tells, finished-tells, fitted-tells, losses-tell_none, relations-tell, settled-tells, with_row-tells}
@@ -53,6 +61,40 @@ pub star-tells : (body : Transition) (voc : Vocabulary) → TellsAll (star_of bo
 unfolding star_of
 star-tells body voc = star_by-tells body voc body.cases
 
+-- ---- rules without phases
+
+-- the rule of a vocabulary has no phases
+abbrev pub HasNoPhases : Vocabulary → Type 0
+HasNoPhases voc = has_phases voc.rule ≡ false
+
+-- nor has that of any node
+abbrev pub HaveNoPhases : Graph → Type 0
+HaveNoPhases g = (node : ℕ) → HasNoPhases (vocabulary_at g node)
+
+bare-plain : (nodes : List Vocabulary) → AllByRecursion HasNoPhases nodes → HaveNoPhases (bare nodes)
+bare-plain [] all zero = refl
+bare-plain [] all (suc n) = refl
+bare-plain (voc ∷ nodes) all zero = all.0
+bare-plain (voc ∷ nodes) all (suc n) = bare-plain nodes all.1 n
+
+pub nodes-plain : (g : Graph) → AllByRecursion HasNoPhases g.nodes → HaveNoPhases g
+nodes-plain g all node = bare-plain g.nodes all node
+
+copies-plain : (voc : Vocabulary) → HasNoPhases voc → (count : ℕ) → AllByRecursion HasNoPhases (replicate count voc)
+copies-plain voc no_phases zero = tt
+copies-plain voc no_phases (suc count) = (no_phases, copies-plain voc no_phases count)
+
+full-plain : (program : Program) (p : Proc) → has_phases program.rule ≡ false → HasNoPhases (full_of program p)
+unfolding full_of
+full-plain program p no_phases = no_phases
+
+pub subject-plain : (program : Program) (p : Proc) (known : List (Option Transition)) → has_phases program.rule ≡ false → HaveNoPhases (graph_by (subject_of program p known))
+subject-plain program p known no_phases =
+    nodes-plain (graph_by (subject_of program p known)) (copies-plain (full_of program p) (full-plain program p no_phases) (own_graph p).nodes)
+
+pub repetition-tells : (body : Transition) (voc : Vocabulary) → HasNoPhases voc → TellsAll (repetition body voc)
+repetition-tells body voc no_phases = subst TellsAll (sym (repetition-plain body voc no_phases)) (star-tells body voc)
+
 -- ---- evaluations
 
 pub settled_and_fitted-tells : (f : Transition) (from to : Vocabulary) → TellsAll (settled_and_fitted f from to)
@@ -71,35 +113,35 @@ join-tells : (left right : Transition) (from to : Vocabulary) → TellsAll (join
 unfolding join_formula
 join-tells left right from to = fitted-tells _ from to
 
-own-tells : (g : Graph) (made : Made) (path : PathExpr) → TellsAll (own g made path)
-own-tells g made Zero = tells-done _
-own-tells g made One = tells-done _
-own-tells g made (Edge number) = leaf-tells _ _ _
-own-tells g made (Seq a b) = sequence-tells _ _ _ _
-own-tells g made (Join a b) = join-tells _ _ _ _
-own-tells g made (Star a) = star-tells _ _
+own-tells : (g : Graph) (made : Made) (path : PathExpr) → HaveNoPhases g → TellsAll (own g made path)
+own-tells g made Zero no_phases = tells-done _
+own-tells g made One no_phases = tells-done _
+own-tells g made (Edge number) no_phases = leaf-tells _ _ _
+own-tells g made (Seq a b) no_phases = sequence-tells _ _ _ _
+own-tells g made (Join a b) no_phases = join-tells _ _ _ _
+own-tells g made (Star a) no_phases = repetition-tells (formula_at made a) (start_vocabulary g a) (no_phases (start_of g a))
 
-with_made-tells : (g : Graph) (made : Made) (path : PathExpr) → TellsAll (with_made g made path)
+with_made-tells : (g : Graph) (made : Made) (path : PathExpr) → HaveNoPhases g → TellsAll (with_made g made path)
 unfolding with_made
-with_made-tells g made path = tells-then _ (own-tells g made path)
+with_made-tells g made path no_phases = tells-then _ (own-tells g made path no_phases)
 
-evaluation-tells : (g : Graph) (source : ℕ) → TellsAll (evaluation g source)
+evaluation-tells : (g : Graph) (source : ℕ) → HaveNoPhases g → TellsAll (evaluation g source)
 unfolding evaluation
-evaluation-tells g source = tells-each (with_made g) [] _ (with_made-tells g)
+evaluation-tells g source no_phases = tells-each (with_made g) [] _ (λ made path. with_made-tells g made path no_phases)
 
-pub evaluated-tells : (g : Graph) (source : ℕ) → TellsAll (evaluated_cells g source)
+pub evaluated-tells : (g : Graph) (source : ℕ) → HaveNoPhases g → TellsAll (evaluated_cells g source)
 unfolding evaluated_cells
-evaluated-tells g source = tells-then _ (evaluation-tells g source)
+evaluated-tells g source no_phases = tells-then _ (evaluation-tells g source no_phases)
 
 -- ---- procedures
 
-pub cells-tell : (s : Subject) (source : ℕ) → TellsAll (cells_from s source)
+pub cells-tell : (s : Subject) (source : ℕ) → HaveNoPhases (graph_by s) → TellsAll (cells_from s source)
 unfolding cells_from
-cells-tell s source = tells-noted (losses-tell_none _) (evaluated-tells _ source)
+cells-tell s source no_phases = tells-noted (losses-tell_none _) (evaluated-tells (graph_by s) source no_phases)
 
-pub flow-tells : (s : Subject) → TellsAll (flow_from s)
+pub flow-tells : (s : Subject) → HaveNoPhases (graph_by s) → TellsAll (flow_from s)
 unfolding flow_from
-flow-tells s = tells-then _ (cells-tell s 0)
+flow-tells s no_phases = tells-then _ (cells-tell s 0 no_phases)
 
 pub summary-tells : (ends : Ends) (exit : Option Transition) → TellsAll (summary_from ends exit)
 unfolding summary_from

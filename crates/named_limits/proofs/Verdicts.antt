@@ -1,11 +1,13 @@
 -- Entries tell each limit; a verdict carries the first where no case is refuted, and tells the others.
---     entries-tell             the entries
---     verdict-balances         the verdict on an assertion
+-- Under a rule with phases the limit of a second question is told nowhere.
+--     entries-tell             the entries, under a rule without phases
+--     verdict-balances         the verdict on an assertion, under a rule without phases
 --     verdict-owns             the limit that it carries was the answer to the question about its case
-use Rattle.std.proofs.Common.{◌≡◌, ◌+◌, ◌⊎◌, inl, inr, List, [], ◌∷◌, ◌++◌, Bool, true, false, refl, sym, ap, ◌∙◌, subst, append-nil, arith}
-use Rattle.std.specs.Prelude.{Option, None, Some, cond, drop, if◌then◌else◌}
-use Rattle.std.specs.List.{filter_map, find, flat_map, list_any}
+use Rattle.std.proofs.Common.{◌≡◌, ℕ, ◌+◌, ◌⊎◌, inl, inr, List, [], ◌∷◌, ◌++◌, Bool, true, false, refl, sym, ap, ◌∙◌, subst, append-nil, arith}
+use Rattle.std.specs.Prelude.{Option, None, Some, ◌==◌, cond, drop, map, option_to_list, slice_get, if◌then◌else◌}
+use Rattle.std.specs.List.{AllByRecursion, filter_map, find, flat_map, list_any}
 use Rattle.std.proofs.lemmas.Grind.{flat_map-append}
+use Rattle.items.proofs.Each.{each-append}
 use Rattle.linear_terms.specs.declared.row.Case.{Case}
 use Rattle.linear_terms.specs.declared.row.Row.{Row}
 use Rattle.farkas_check.specs.declared.answer.Answer.{Answer}
@@ -13,28 +15,62 @@ use Rattle.farkas_check.specs.declared.answer.Answer.TheVariants as answer
 use Rattle.farkas_check.specs.declared.answer.Limit.{Limit}
 use Rattle.farkas_check.specs.declared.question.Question.{Question}
 use Rattle.farkas_check.specs.declared.question.Question.TheVariants.{Infeasible}
+use Rattle.syntax_tree.specs.declared.program.Proc.{Proc}
 use Rattle.syntax_tree.specs.declared.program.Program.{Program}
 use Rattle.syntax_tree.specs.Term.{Term}
 use Rattle.transition_formula.specs.Transition.{Transition}
 use Rattle.posing.specs.declared.note.Note.{Note}
-use Rattle.posing.specs.Posing.{Done, ◌>>=◌, each}
+use Rattle.posing.specs.Posing.{Posing, Done, answer_to, ◌>>=◌, each}
+use Rattle.polyhedra.specs.Infeasibility.{is_yes}
+use Rattle.polyhedra.specs.Vocabulary.{Vocabulary}
+use Rattle.phases.specs.Rules.{has_phases}
+use Rattle.vocabularies.specs.Ends.{entry_of, full_of, start_of}
 use Rattle.proc_summary.specs.declared.stop.Flow.{Flow}
-use Rattle.context.specs.Entries.{entries_from}
-use Rattle.context.specs.Verdicts.{case_verdict, else_by, failure_verdict_from, is_limited, is_refuted, verdict_on_cases_from, limit_of, limits_of, reach_from, verdict_at, verdict_by, verdict_from, verdict_left, verdict_of, with_verdict}
+use Rattle.context.specs.Entries.{entries_from, entry_graph, main_entry, nodes_of, others_from, unless_main}
+use Rattle.context.specs.SecondQuestions.{by_rule, proved_if, second_rows, second_verdict, verdict_after}
+use Rattle.context.specs.Verdicts.{case_verdict, else_by, failure_verdict_from, is_limited, is_refuted, verdict_on_cases_from, limit_of, limits_of, place_of, reach_from, verdict_at, verdict_by, verdict_from, verdict_left, verdict_of, with_verdict}
 use Rattle.report.specs.declared.verdict.Verdict.{Verdict}
 use Rattle.report.specs.declared.verdict.Verdict.TheVariants.{Proved, Unproved, UnprovedLimit}
 use Rattle.named_limits.specs.Leading.{LeadsTo, WasAsked}
 use Rattle.named_limits.specs.Limits.{AreSame, count, limit_given, limits_told}
 use Rattle.named_limits.specs.Reported.{limit_carried}
-use Rattle.named_limits.proofs.LeadingQuestions.{Never, Owns, asked-now, owns-bind, owns-done, owns-each, owns-frame, owns-none, owns-noted}
+use Rattle.named_limits.proofs.LeadingQuestions.{Never, Owns, asked-now, owns-before, owns-bind, owns-done, owns-each, owns-frame, owns-none, owns-noted}
 use Rattle.named_limits.proofs.Balance.{Balances, TellsAll, balances-asked, balances-bind, balances-done, balances-each, balances-frame, balances-noted, balances-quiet, no_limit, same-of, same-refl, tells-noted, tells-then, told}
 use Rattle.named_limits.proofs.Cuts.{from-Asked, from-Done}
 use Rattle.named_limits.proofs.FittingLimits.{losses-tell_none}
-use Rattle.named_limits.proofs.Stars.{evaluated-tells, settled_and_fitted-tells}
+use Rattle.named_limits.proofs.Stars.{HasNoPhases, evaluated-tells, nodes-plain, settled_and_fitted-tells}
 
-pub entries-tell : (program : Program) (flows : List Flow) → TellsAll (entries_from program flows)
+-- ---- entries
+
+module _ (program : Program) (no_phases : has_phases program.rule ≡ false) where
+  start-plain : HasNoPhases (start_of program)
+  unfolding start_of
+  start-plain = no_phases
+
+  entry-plain : (p : Proc) → HasNoPhases (entry_of program p)
+  unfolding entry_of
+  entry-plain p = no_phases
+
+  main-plain : (procs : List Proc) → AllByRecursion HasNoPhases (map (entry_of program) procs)
+  main-plain [] = tt
+  main-plain (p ∷ procs) = (entry-plain p, main-plain procs)
+
+  others-plain : (number : ℕ) (procs : List Proc) → AllByRecursion HasNoPhases (others_from program number procs)
+  others-plain number [] = tt
+  others-plain number (p ∷ procs) = go (number == program.main) (others_from program (number + 1) procs) (others-plain (number + 1) procs)
+    where
+      go : (is_main : Bool) (others : List Vocabulary) → AllByRecursion HasNoPhases others → AllByRecursion HasNoPhases (unless_main is_main (entry_of program p) others)
+      go true others all = all
+      go false others all = (entry-plain p, all)
+
+  entry_nodes-plain : AllByRecursion HasNoPhases (nodes_of program)
+  entry_nodes-plain =
+      (start-plain, each-append HasNoPhases (main_entry program) (others_from program 0 program.procs) (main-plain (option_to_list (slice_get program.procs program.main))) (others-plain 0 program.procs))
+
+pub entries-tell : (program : Program) (flows : List Flow) → has_phases program.rule ≡ false → TellsAll (entries_from program flows)
 unfolding entries_from
-entries-tell program flows = tells-noted (losses-tell_none _) (tells-then _ (evaluated-tells _ 0))
+entries-tell program flows no_phases =
+    tells-noted (losses-tell_none _) (tells-then _ (evaluated-tells (entry_graph program flows) 0 (nodes-plain (entry_graph program flows) (entry_nodes-plain program no_phases))))
 
 reached-tells : (place : _) (begun stand : Transition) → TellsAll (reach_from place begun stand)
 unfolding reach_from
@@ -56,24 +92,25 @@ verdict_at-balances case [] = balances-done [] limit_carried (Unproved case []) 
 verdict_at-balances case (row ∷ rows) =
     balances-asked [] limit_carried (Infeasible (row ∷ rows)) _ (λ a. balances-done (limit_given a) limit_carried (verdict_by case a) (verdict-same case a))
 
-verdict_left-balances : (left : Option Case) → Balances [] limit_carried (verdict_left left)
-verdict_left-balances None = balances-done [] limit_carried Proved (same-refl [])
-verdict_left-balances (Some case) = verdict_at-balances case case.rows
+verdict_left-balances : (rule : ℕ) (left : Option Case) → has_phases rule ≡ false → Balances [] limit_carried (verdict_left rule left)
+verdict_left-balances rule None no_phases = balances-done [] limit_carried Proved (same-refl [])
+verdict_left-balances rule (Some case) no_phases =
+    subst (λ phases. Balances [] limit_carried (by_rule phases (verdict_at case case.rows))) (sym no_phases) (verdict_at-balances case case.rows)
 
-case-balances : (case : Case) → Balances [] limit_carried (case_verdict case)
+case-balances : (rule : ℕ) (case : Case) → has_phases rule ≡ false → Balances [] limit_carried (case_verdict rule case)
 unfolding case_verdict
-case-balances case = balances-quiet (losses-tell_none _) (verdict_left-balances _)
+case-balances rule case no_phases = balances-quiet (losses-tell_none _) (verdict_left-balances rule _ no_phases)
 
 -- ---- all cases
 
 abbrev all_carried : List Verdict → List Limit
 all_carried verdicts = flat_map limit_carried verdicts
 
-with_verdict-balances : (made : List Verdict) (case : Case) → Balances (all_carried made) all_carried (with_verdict made case)
+with_verdict-balances : (rule : ℕ) (made : List Verdict) (case : Case) → has_phases rule ≡ false → Balances (all_carried made) all_carried (with_verdict rule made case)
 unfolding with_verdict
-with_verdict-balances made case =
-    balances-bind (all_carried made) (λ verdict. all_carried made ++ limit_carried verdict) all_carried (case_verdict case) _
-    (balances-frame (all_carried made) limit_carried (case_verdict case) (case-balances case))
+with_verdict-balances rule made case no_phases =
+    balances-bind (all_carried made) (λ verdict. all_carried made ++ limit_carried verdict) all_carried (case_verdict rule case) _
+    (balances-frame (all_carried made) limit_carried (case_verdict rule case) (case-balances rule case no_phases))
     (λ verdict. balances-done (all_carried made ++ limit_carried verdict) all_carried (made ++ verdict ∷ [])
     (same-of (ap (λ l. all_carried made ++ l) (sym (append-nil (limit_carried verdict))) ∙ sym (flat_map-append limit_carried made (verdict ∷ [])))))
 
@@ -118,23 +155,23 @@ all-told test verdicts = go (list_any is_refuted verdicts) refl
         omega (arith, others, own)
     go false e = first-carried test verdicts e
 
-judged-balances : (cases : List Case) → Balances [] limit_carried (verdict_on_cases_from cases)
+judged-balances : (rule : ℕ) (cases : List Case) → has_phases rule ≡ false → Balances [] limit_carried (verdict_on_cases_from rule cases)
 unfolding verdict_on_cases_from
-judged-balances cases =
-    balances-bind [] all_carried limit_carried (each with_verdict [] cases) _ (balances-each all_carried with_verdict [] cases with_verdict-balances)
+judged-balances rule cases no_phases =
+    balances-bind [] all_carried limit_carried (each (with_verdict rule) [] cases) _ (balances-each all_carried (with_verdict rule) [] cases (λ made case. with_verdict-balances rule made case no_phases))
     (λ verdicts. balances-noted (all_carried verdicts) (limit_carried (verdict_from verdicts)) limit_carried (limits_of verdicts) (Done (verdict_from verdicts)) (λ test. all-told test verdicts)
     (balances-done (limit_carried (verdict_from verdicts)) limit_carried (verdict_from verdicts) (same-refl (limit_carried (verdict_from verdicts)))))
 
 -- ---- the assertion
 
-failed-balances : (place : _) (cond : Term) (f : Transition) → Balances [] limit_carried (failure_verdict_from place cond f)
-unfolding failure_verdict_from
-failed-balances place cond f = balances-quiet (losses-tell_none _) (judged-balances _)
+failed-balances : (program : Program) (p : Proc) (cond : Term) (f : Transition) → has_phases program.rule ≡ false → Balances [] limit_carried (failure_verdict_from (place_of program p) cond f)
+unfolding failure_verdict_from full_of
+failed-balances program p cond f no_phases = balances-quiet (losses-tell_none _) (judged-balances program.rule _ no_phases)
 
-pub verdict-balances : (place : _) (cond : Term) (entry stand : Option Transition) → Balances [] limit_carried (verdict_of place cond entry stand)
+pub verdict-balances : (program : Program) (p : Proc) (cond : Term) (entry stand : Option Transition) → has_phases program.rule ≡ false → Balances [] limit_carried (verdict_of (place_of program p) cond entry stand)
 unfolding verdict_of
-verdict-balances place cond entry stand =
-    balances-bind [] no_limit limit_carried _ (failure_verdict_from place cond) ((reached-tells place _ _).balances) (λ f. failed-balances place cond f)
+verdict-balances program p cond entry stand no_phases =
+    balances-bind [] no_limit limit_carried _ (failure_verdict_from (place_of program p) cond) ((reached-tells (place_of program p) _ _).balances) (λ f. failed-balances program p cond f no_phases)
 
 -- ---- whose question it was
 
@@ -188,13 +225,32 @@ verdict_at-owns case (row ∷ rows) same =
         (subst (λ x. WasAsked (verdict_at case (row ∷ rows)) others x a) (sym f)
         (subst (λ x. WasAsked (verdict_at case (row ∷ rows)) others q x) (sym g) was))
 
-verdict_left-owns : (left : Option Case) → Owns Never Carries (verdict_left left)
-verdict_left-owns None = owns-done Never Carries Proved (λ question a h. absurd (cc (h.is)))
-verdict_left-owns (Some case) = verdict_at-owns case case.rows refl
+-- a second question leaves the limit as it was
+after-owns : (rows : List Row) (verdict : Verdict) → Owns (Carries verdict) Carries (verdict_after rows verdict)
+after-owns [] verdict = owns-done (Carries verdict) Carries verdict (λ question a h. h)
+after-owns (row ∷ rows) verdict =
+    owns-bind (Carries verdict) (λ answer. Carries verdict) Carries (answer_to (Infeasible (row ∷ rows))) (λ answer. Done (proved_if (is_yes answer) verdict))
+    (owns-before (Carries verdict) (answer_to (Infeasible (row ∷ rows)))) (λ answer. owns-done (Carries verdict) Carries (proved_if (is_yes answer) verdict) (kept (is_yes answer)))
+  where
+    kept : (yes : Bool) (question : Question) (a : Answer) → Carries (proved_if yes verdict) question a → Carries verdict question a
+    kept true question a h = absurd (cc (h.is))
+    kept false question a h = h
 
-case-owns : (case : Case) → Owns Never Carries (case_verdict case)
+second-owns : (verdict : Verdict) → Owns (Carries verdict) Carries (second_verdict verdict)
+unfolding second_verdict
+second-owns verdict = after-owns (second_rows verdict) verdict
+
+rule-owns : (phases : Bool) (first : Posing Verdict) → Owns Never Carries first → Owns Never Carries (by_rule phases first)
+rule-owns true first owns = owns-bind Never Carries Carries first second_verdict owns second-owns
+rule-owns false first owns = owns
+
+verdict_left-owns : (rule : ℕ) (left : Option Case) → Owns Never Carries (verdict_left rule left)
+verdict_left-owns rule None = owns-done Never Carries Proved (λ question a h. absurd (cc (h.is)))
+verdict_left-owns rule (Some case) = rule-owns (has_phases rule) (verdict_at case case.rows) (verdict_at-owns case case.rows refl)
+
+case-owns : (rule : ℕ) (case : Case) → Owns Never Carries (case_verdict rule case)
 unfolding case_verdict
-case-owns case = owns-noted Never Carries _ _ (verdict_left-owns _)
+case-owns rule case = owns-noted Never Carries _ _ (verdict_left-owns rule _)
 
 one-more : (made : List Verdict) (verdict : Verdict) (question : Question) (a : Answer) → CarriedIn (made ++ verdict ∷ []) question a → CarriedIn made question a ⊎ Carries verdict question a
 one-more [] verdict question a (inl own) = inr own
@@ -206,11 +262,11 @@ one-more (first ∷ made) verdict question a (inr later) = go (one-more made ver
     go (inl there) = inl (inr there)
     go (inr own) = inr own
 
-with_verdict-owns : (made : List Verdict) (case : Case) → Owns (CarriedIn made) CarriedIn (with_verdict made case)
+with_verdict-owns : (rule : ℕ) (made : List Verdict) (case : Case) → Owns (CarriedIn made) CarriedIn (with_verdict rule made case)
 unfolding with_verdict
-with_verdict-owns made case =
-    owns-bind (CarriedIn made) (λ verdict question a. CarriedIn made question a ⊎ Carries verdict question a) CarriedIn (case_verdict case) _
-    (owns-frame (CarriedIn made) Carries (case_verdict case) (case-owns case))
+with_verdict-owns rule made case =
+    owns-bind (CarriedIn made) (λ verdict question a. CarriedIn made question a ⊎ Carries verdict question a) CarriedIn (case_verdict rule case) _
+    (owns-frame (CarriedIn made) Carries (case_verdict rule case) (case-owns rule case))
     (λ verdict. owns-done _ CarriedIn (made ++ verdict ∷ []) (λ question a h. one-more made verdict question a h))
 
 found-in : (test : Verdict → Bool) (verdicts : List Verdict) (verdict : Verdict) (question : Question) (a : Answer) → find test verdicts ≡ Some verdict → Carries verdict question a → CarriedIn verdicts question a
@@ -229,15 +285,15 @@ chosen-in verdicts question a h = go (find is_refuted verdicts) (find is_limited
     go None (Some verdict) e f own = found-in is_limited verdicts verdict question a f own
     go None None e f own = absurd (cc (own.is))
 
-judged-owns : (cases : List Case) → Owns Never Carries (verdict_on_cases_from cases)
+judged-owns : (rule : ℕ) (cases : List Case) → Owns Never Carries (verdict_on_cases_from rule cases)
 unfolding verdict_on_cases_from
-judged-owns cases =
-    owns-bind Never CarriedIn Carries (each with_verdict [] cases) _ (owns-each CarriedIn with_verdict [] cases with_verdict-owns)
+judged-owns rule cases =
+    owns-bind Never CarriedIn Carries (each (with_verdict rule) [] cases) _ (owns-each CarriedIn (with_verdict rule) [] cases (with_verdict-owns rule))
     (λ verdicts. owns-noted (CarriedIn verdicts) Carries (limits_of verdicts) (Done (verdict_from verdicts)) (owns-done (CarriedIn verdicts) Carries (verdict_from verdicts) (chosen-in verdicts)))
 
 failed-owns : (place : _) (cond : Term) (f : Transition) → Owns Never Carries (failure_verdict_from place cond f)
 unfolding failure_verdict_from
-failed-owns place cond f = owns-noted Never Carries _ _ (judged-owns _)
+failed-owns place cond f = owns-noted Never Carries _ _ (judged-owns place.full.rule _)
 
 verdict_of-owns : (place : _) (cond : Term) (entry stand : Option Transition) → Owns Never Carries (verdict_of place cond entry stand)
 unfolding verdict_of

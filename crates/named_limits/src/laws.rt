@@ -2,8 +2,8 @@
 ghost use Rattle.named_limits.specs.Laws.{AnalysisNamesLimits, LimitlessAnswersNameNone};
 ghost use Rattle.named_limits.specs.Laws.{TameQuestionsNameNone};
 
-/// The limits of a report are those of the answers under which it was made, and each part names
-/// those of its own share of the answers.
+/// The limits of a report, under a rule without phases, are those of the answers under which it was
+/// made, and each part names those of its own share of the answers.
 pub fn law_of_named_limits()
     ensures { AnalysisNamesLimits }
 {}

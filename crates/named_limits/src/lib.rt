@@ -1,5 +1,5 @@
-//! The limits that a report names are exactly those among the answers under which it was made, part
-//! by part: none is hidden, and none is made up.
+//! The limits that a report names, under a rule without phases, are exactly those among the answers
+//! under which it was made, part by part: none is hidden, and none is made up.
 #![tactic(auto)]
 
 mod laws;

@@ -1,17 +1,20 @@
 -- Alike groups are both linear or neither, and their summaries are one computation.
-use Rattle.std.proofs.Common.{◌≡◌, ℕ, ◌+◌, Bool, true, false, List, [], ◌∷◌, ◌++◌, map, Option, refl, ◌∙◌}
-use Rattle.std.specs.List.{AllZip, filter_map, range_with_len}
+use Rattle.std.proofs.Common.{◌≡◌, ℕ, ◌+◌, Bool, true, false, List, [], ◌∷◌, ◌++◌, map, Option, refl, sym, ap, ◌∙◌}
+use Rattle.std.specs.Prelude.{if◌then◌else◌}
+use Rattle.std.specs.List.{AllZip, range_with_len}
 use Rattle.linear_terms.specs.declared.row.Row.{Row}
 use Rattle.syntax_tree.specs.declared.program.Proc.{Proc}
 use Rattle.syntax_tree.specs.declared.program.Program.{Program}
 use Rattle.transition_formula.specs.Transition.{Transition}
 use Rattle.posing.specs.Logs.{loss_notes}
-use Rattle.posing.specs.Posing.{Done, Noted, ◌>>=◌, each, until}
+use Rattle.posing.specs.Posing.{Posing, Done, Noted, ◌>>=◌, each, until}
+use Rattle.phases.specs.Rules.{has_phases}
 use Rattle.proc_summary.specs.Flow.{cells_from, columns_of, formula_at}
 use Rattle.proc_summary.specs.Subject.{subject_of}
 use Rattle.proc_summary.specs.Summary.{summary_from}
 use Rattle.newton_rounds.specs.Alike.{AlikeGroupsAreOne, AreAlikeGroups, subjects_by}
-use Rattle.newton_rounds.specs.Candidates.{dropped_notes, kept_candidates, kept_row, members_with, most_rounds, round, some_note, table_of, unfolded_formula, with_judged, with_round}
+use Rattle.newton_rounds.specs.declared.findings.RoundEnd.{RoundEnd}
+use Rattle.newton_rounds.specs.Candidates.{before_rounds, dropped_notes, end_of_round, judgements_and, last_round, members_with, most_rounds, no_judgements, round, some_note, summaries_by_round, table_of, unfolded_formula, with_judged, with_round}
 use Rattle.newton_rounds.specs.Close.{closure_by_rounds, closure_from, group_closure, pairs_of, with_candidate}
 use Rattle.newton_rounds.specs.Closure.{base_of, bases_of, closure_of, ends_of_members, pair_ends, with_places_from, sides_of, stretches_with, with_base, with_closed, with_member, with_sides}
 use Rattle.newton_rounds.specs.Members.{calls_from, calls_of, members_of, with_table}
@@ -119,28 +122,58 @@ module _ (program other : Program) (procs others : List ℕ) (known other_known 
   judged (x ∷ xs) (y ∷ ys) [] h = tt
   judged (x ∷ xs) (y ∷ ys) (rows ∷ candidates) h = ((h.0, refl), judged xs ys candidates h.1)
 
-  row-one : (table : List Transition) (made : List (List _)) (a b : Proc × List Row) → AreJudged a b → with_round program (by table) made a ≡ with_round other (other_by table) made b
+  row-one : (table : List Transition) (made : _) (a b : Proc × List Row) → AreJudged a b → with_round program (by table) made a ≡ with_round other (other_by table) made b
   unfolding with_round
   row-one table made a b h =
-      λ i. unfolded-one table a.0 b.0 h.0 i >>= λ f. each (with_judged f) [] (h.1 i) >>= λ all. Done (made ++ all ∷ [])
+      λ i. unfolded-one table a.0 b.0 h.0 i >>= λ f. each (with_judged f) [] (h.1 i) >>= λ all. Done (judgements_and made f all)
 
   rows-one : (candidates : List (List Row))
-      → each (with_round program (by (table_of (ends_of_members program procs) candidates))) [] (members_with ps candidates)
-      ≡ each (with_round other (other_by (table_of (ends_of_members other others) candidates))) [] (members_with qs candidates)
+      → each (with_round program (by (table_of (ends_of_members program procs) candidates))) no_judgements (members_with ps candidates)
+      ≡ each (with_round other (other_by (table_of (ends_of_members other others) candidates))) no_judgements (members_with qs candidates)
   rows-one candidates =
       let table = table_of (ends_of_members other others) candidates in
-      (λ i. each (with_round program (by (table_of (all-ends i) candidates))) [] (members_with ps candidates))
+      (λ i. each (with_round program (by (table_of (all-ends i) candidates))) no_judgements (members_with ps candidates))
       ∙ zipped-each AreJudged (with_round program (by table)) (with_round other (other_by table)) (row-one table)
-      [] (members_with ps candidates) (members_with qs candidates) (judged ps qs candidates members)
+      no_judgements (members_with ps candidates) (members_with qs candidates) (judged ps qs candidates members)
 
   round-one : (candidates : List (List Row)) → round program procs known candidates ≡ round other others other_known candidates
   unfolding round
   round-one candidates =
-      λ i. rows-one candidates i >>= λ all. Noted (dropped_notes all) (Done (map (filter_map kept_row) all, some_note (dropped_notes all)))
+      λ i. rows-one candidates i >>= λ all. Noted (dropped_notes all.rows) (Done (end_of_round all, some_note (dropped_notes all.rows)))
 
-  kept-one : (candidates : List (List Row)) → kept_candidates program procs known candidates ≡ kept_candidates other others other_known candidates
-  unfolding kept_candidates
-  kept-one candidates = λ i. until (λ rows. round-one rows i) (most_rounds candidates) candidates
+  last-one : (candidates : List (List Row)) → last_round program procs known candidates ≡ last_round other others other_known candidates
+  unfolding last_round
+  last-one candidates = λ i. until (λ (end : RoundEnd). round-one end.candidates i) (most_rounds candidates) (before_rounds candidates)
+
+  -- a group without members leaves nothing, whatever the rule is
+  none-left : (candidates : List (List Row)) → qs ≡ [] → last_round other others other_known candidates ≡ Noted [] (Done (before_rounds []))
+  unfolding last_round round ◌>>=◌
+  none-left candidates none =
+      λ i. until (λ (end : RoundEnd). each (with_round other (other_by (table_of (map (pair_ends other) (none i)) end.candidates))) no_judgements (members_with (none i) end.candidates) >>= λ judged.
+      Noted (dropped_notes judged.rows) (Done (end_of_round judged, some_note (dropped_notes judged.rows)))) (most_rounds candidates) (before_rounds candidates)
+
+  abbrev no_formulas : List Transition
+  no_formulas = []
+
+  abbrev left_by : ℕ → List (List Row) → Posing (List Transition)
+  left_by rule candidates = last_round other others other_known candidates >>= λ end. Done (summaries_by_round rule (ends_of_members other others) end)
+
+  left-one : (candidates : List (List Row)) → left_by program.rule candidates ≡ left_by other.rule candidates
+  unfolding ◌>>=◌
+  left-one candidates = go ps qs members refl
+    where
+      nothing : (phases : Bool) → (if phases then no_formulas else no_formulas) ≡ no_formulas
+      nothing true = refl
+      nothing false = refl
+
+      without : (rule : ℕ) → qs ≡ [] → left_by rule candidates ≡ Noted [] (Done [])
+      without rule none = (λ i. none-left candidates none i >>= λ end. Done (summaries_by_round rule (map (pair_ends other) (none i)) end)) ∙ ap (λ table. Noted [] (Done table)) (nothing (has_phases rule))
+
+      go : (xs ys : List Proc) → AllZip Are xs ys → qs ≡ ys → left_by program.rule candidates ≡ left_by other.rule candidates
+      go [] [] h e = without program.rule e ∙ sym (without other.rule e)
+      go [] (y ∷ ys) h e = absurd h
+      go (x ∷ xs) [] h e = absurd h
+      go (x ∷ xs) (y ∷ ys) h e = ap (λ rule. left_by rule candidates) h.0.rule
 
   -- ---- summaries
 
@@ -150,8 +183,7 @@ module _ (program other : Program) (procs others : List ℕ) (known other_known 
       λ i. closure-one bases [] i >>= λ first.
       closure-one bases first i >>= λ second.
       each with_candidate [] (pairs_of (all-ends i) second) >>= λ candidates.
-      kept-one candidates i >>= λ kept.
-      Done (table_of (all-ends i) kept)
+      ((λ j. last-one candidates j >>= λ end. Done (summaries_by_round program.rule (all-ends j) end)) ∙ left-one candidates) i
 
   from-one : (linear : Bool) (bases : List Transition) → closure_from linear program procs known bases ≡ closure_from linear other others other_known bases
   from-one true bases = closure-one bases []

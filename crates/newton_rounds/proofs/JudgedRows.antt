@@ -3,7 +3,7 @@ use Rattle.std.proofs.Common.{◌≡◌, ℕ, ◌+◌, ◌≤◌, ℤ, List, [],
 use Rattle.std.specs.Prelude.{IsTrue, slice_get}
 use Rattle.std.specs.List.{AllByRecursion, AllZip, cons_option, filter_map, flat_map}
 use Rattle.std.proofs.lemmas.List.Elements.{All-from_recursion}
-use Rattle.items.proofs.Each.{each-both, each-more, each_from_test}
+use Rattle.items.proofs.Each.{each-any, each-both, each-more, each_from_test}
 use Rattle.linear_terms.specs.declared.row.Row.{Row}
 use Rattle.linear_terms.specs.declared.row.Case.{Case}
 use Rattle.linear_terms.specs.Row.{RowHolds}
@@ -23,14 +23,17 @@ use Rattle.leaf_cases.specs.Summaries.{exit_values}
 use Rattle.checked_tree.specs.Law.{IsBetweenEnds}
 use Rattle.checked_tree.proofs.Between.{IsFewCase, few-cases}
 use Rattle.newton_rounds.specs.declared.dropping.JudgedRow.{JudgedRow}
-use Rattle.newton_rounds.specs.Candidates.{drop_notes_by, drop_notes_in, kept_row, members_with, refutation, unfolded_formula, unless_refuted, with_judged, with_round}
+use Rattle.newton_rounds.specs.declared.findings.Judgements.{Judgements}
+use Rattle.newton_rounds.specs.Candidates.{drop_notes_by, drop_notes_in, judgements_and, kept_row, members_with, no_judgements, refutation, unfolded_formula, unless_refuted, with_judged, with_round}
 use Rattle.newton_rounds.specs.Closure.{pair_ends, with_places_from}
 use Rattle.newton_rounds.specs.Shapes.{IsOverPairs, IsRefutable}
 use Rattle.recurrence.proofs.CanonicalOrder.{IsCanonicalFormula}
 use Rattle.newton_rounds.proofs.CandidateRows.{ArePairRows, IsPairRow}
 use Rattle.newton_rounds.proofs.MemberTables.{IsProcedure}
+use Rattle.posing.proofs.Paths.{always_any, always_bind, always_weaker}
 use Rattle.posing.proofs.Under.{passing-always, under-bind, under-each, under-weaker}
 use Rattle.newton_rounds.proofs.ExitColumns.{exit-few}
+use Rattle.newton_rounds.proofs.MatchLoops.{IsBehind, each-part_match}
 use Rattle.newton_rounds.proofs.TrueRows.{Entails, pair_numbers, refuted-entails}
 use Rattle.newton_rounds.proofs.RoundRows.{AreOf, kept-over}
 use Rattle.newton_rounds.proofs.Unfoldings.{IsUnfolded, unfolded-tells}
@@ -159,13 +162,19 @@ module _ (program : Program) (formed : IsWellFormed program) where
     AllSoFar all rest made = (jss : List (List JudgedRow)) → AreAllJudged rest jss → AreAllJudged all (made ++ jss)
 
     -- it does not matter by which number the procedure goes
-    every-number : (p : Proc) → Always (λ f. (number : (proc : ℕ) × (slice_get program.procs proc ≡ Some p)) → IsUnfolded program number.0 p known number.1 formed are f) (unfolded_formula program known p)
+    abbrev pub IsUnfoldingOf : Proc → Transition → Type 0
+    IsUnfoldingOf p f = (number : (proc : ℕ) × (slice_get program.procs proc ≡ Some p)) → IsUnfolded program number.0 p known number.1 formed are f
+
+    abbrev IsMade : Proc × List Row → Transition → Type 0
+    IsMade m f = IsUnfoldingOf m.0 f
+
+    every-number : (p : Proc) → Always (IsUnfoldingOf p) (unfolded_formula program known p)
     every-number p =
         always_every (λ number f. IsUnfolded program number.0 p known number.1 formed are f) (unfolded_formula program known p)
         (λ (number : (proc : ℕ) × (slice_get program.procs proc ≡ Some p)). unfolded-tells program number.0 p known number.1 formed are)
 
     member-judged : (p : Proc) (rows : List Row) → IsProcedure program p → ArePairRows (columns_of_pair p) rows → (f : Transition)
-        → ((number : (proc : ℕ) × (slice_get program.procs proc ≡ Some p)) → IsUnfolded program number.0 p known number.1 formed are f) → AlwaysPassing (AreJudged (IsTrueOf known p) rows) (each (with_judged f) [] rows)
+        → IsUnfoldingOf p f → AlwaysPassing (AreJudged (IsTrueOf known p) rows) (each (with_judged f) [] rows)
     member-judged p rows member over f tells =
         let own = tells member in
         let ends = ends-are program member.0 p formed member.1 in
@@ -176,21 +185,51 @@ module _ (program : Program) (formed : IsWellFormed program) where
         (rows-judged f (columns_of_pair p) own.canonical
         (refutable f (columns_of_pair p) (pair_ends program p).ends.entry (pair_ends program p).ends.exit own.between (sym wide) (omega (arith, few))) rows over)
 
-    with_round-judged : (all : List (Proc × List Row)) (m : Proc × List Row) (rest : List (Proc × List Row)) (made : List (List JudgedRow)) → AllByRecursion IsReady (m ∷ rest) × AllSoFar all (m ∷ rest) made
-        → AlwaysPassing (λ next. AllByRecursion IsReady rest × AllSoFar all rest next) (with_round program known made m)
+    abbrev AreLeft : List (Proc × List Row) → List (Proc × List Row) → Judgements → Type 0
+    AreLeft all rest made = AllByRecursion IsReady rest × AllSoFar all rest made.rows
+
+    with_round-judged : (all : List (Proc × List Row)) (m : Proc × List Row) (rest : List (Proc × List Row)) (made : Judgements) → AreLeft all (m ∷ rest) made
+        → AlwaysPassing (AreLeft all rest) (with_round program known made m)
     unfolding with_round
     with_round-judged all m rest made k =
-        under-bind IsPassing (λ f. (number : (proc : ℕ) × (slice_get program.procs proc ≡ Some m.0)) → IsUnfolded program number.0 m.0 known number.1 formed are f) (λ next. AllByRecursion IsReady rest × AllSoFar all rest next)
-        (unfolded_formula program known m.0) (λ f. each (with_judged f) [] m.1 >>= λ judged. Done (made ++ judged ∷ []))
+        under-bind IsPassing (IsUnfoldingOf m.0) (AreLeft all rest)
+        (unfolded_formula program known m.0) (λ f. each (with_judged f) [] m.1 >>= λ judged. Done (judgements_and made f judged))
         (passing-always _ (unfolded_formula program known m.0) (every-number m.0))
-        (λ f tells. under-bind IsPassing (AreJudged (IsTrueOf known m.0) m.1) (λ next. AllByRecursion IsReady rest × AllSoFar all rest next) (each (with_judged f) [] m.1) (λ judged. Done (made ++ judged ∷ []))
+        (λ f tells. under-bind IsPassing (AreJudged (IsTrueOf known m.0) m.1) (AreLeft all rest) (each (with_judged f) [] m.1) (λ judged. Done (judgements_and made f judged))
         (member-judged m.0 m.1 k.0.0.0 k.0.0.1 f tells)
-        (λ judged h. (k.0.1, λ jss more. subst (AreAllJudged all) (sym (append_assoc made (judged ∷ []) jss)) (k.1 (judged ∷ jss) (h, more)))))
+        (λ judged h. (k.0.1, λ jss more. subst (AreAllJudged all) (sym (append_assoc made.rows (judged ∷ []) jss)) (k.1 (judged ∷ jss) (h, more)))))
 
-    pub all-judged : (all : List (Proc × List Row)) → AllByRecursion IsReady all → AlwaysPassing (AreAllJudged all) (each (with_round program known) [] all)
+    pub all-judged : (all : List (Proc × List Row)) → AllByRecursion IsReady all → AlwaysPassing (λ (made : Judgements). AreAllJudged all made.rows) (each (with_round program known) no_judgements all)
     all-judged all ready =
-        under-weaker IsPassing (λ made. AllByRecursion IsReady [] × AllSoFar all [] made) (AreAllJudged all) (each (with_round program known) [] all) (λ made k. subst (AreAllJudged all) (append-nil made) (k.1 [] tt))
-        (under-each IsPassing (λ rest made. AllByRecursion IsReady rest × AllSoFar all rest made) (with_round program known) [] all (λ m rest made k. with_round-judged all m rest made k) (ready, λ jss h. h))
+        under-weaker IsPassing (AreLeft all []) (λ (made : Judgements). AreAllJudged all made.rows) (each (with_round program known) no_judgements all) (λ made k. subst (AreAllJudged all) (append-nil made.rows) (k.1 [] tt))
+        (under-each IsPassing (AreLeft all) (with_round program known) no_judgements all (λ m rest made k. with_round-judged all m rest made k) (ready, λ jss h. h))
+
+    -- ---- the formulas by which they are judged
+
+    formula-behind : (made : Judgements) (m : Proc × List Row) → Always (λ (next : Judgements). IsBehind IsMade made.formulas m next.formulas) (with_round program known made m)
+    unfolding with_round
+    formula-behind made m =
+        always_bind (IsUnfoldingOf m.0) (λ (next : Judgements). IsBehind IsMade made.formulas m next.formulas) (unfolded_formula program known m.0)
+        (λ f. each (with_judged f) [] m.1 >>= λ judged. Done (judgements_and made f judged))
+        (every-number m.0)
+        (λ f tells. always_bind (λ judged. Unit {0}) (λ (next : Judgements). IsBehind IsMade made.formulas m next.formulas) (each (with_judged f) [] m.1) (λ judged. Done (judgements_and made f judged))
+        (always_any (λ judged. Unit {0}) (each (with_judged f) [] m.1) (λ judged. tt)) (λ judged any. record { value = f; is = refl; holds = tells }))
+
+    by-members : (ps : List Proc) (candidates : List (List Row)) (fs : List Transition) → length candidates ≡ length ps → AllZip IsMade (members_with ps candidates) fs → AllZip IsUnfoldingOf ps fs
+    by-members [] [] fs e h = h
+    by-members [] (rows ∷ candidates) fs e h = absurd (omega (arith, e))
+    by-members (p ∷ ps) [] fs e h = absurd (omega (arith, e))
+    by-members (p ∷ ps) (rows ∷ candidates) [] e h = h
+    by-members (p ∷ ps) (rows ∷ candidates) (f ∷ fs) e h = (h.0, by-members ps candidates fs (omega (arith, e)) h.1)
+
+    -- one for each member
+    pub all-unfolded : (ps : List Proc) (candidates : List (List Row)) → length candidates ≡ length ps
+        → Always (λ (made : Judgements). AllZip IsUnfoldingOf ps made.formulas) (each (with_round program known) no_judgements (members_with ps candidates))
+    all-unfolded ps candidates e =
+        let all = members_with ps candidates in
+        always_weaker (λ (made : Judgements). AllZip IsMade all made.formulas) (λ (made : Judgements). AllZip IsUnfoldingOf ps made.formulas) (each (with_round program known) no_judgements all)
+        (λ made h. by-members ps candidates made.formulas e h)
+        (each-part_match (λ (made : Judgements). made.formulas) (λ m. Unit {0}) IsMade (with_round program known) (λ made m any. formula-behind made m) no_judgements refl all (each-any (λ m. Unit {0}) (λ m. tt) all))
 
     -- ---- what a round keeps
 

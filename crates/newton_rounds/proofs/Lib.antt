@@ -44,6 +44,7 @@ pub mod CandidateRows
 pub mod CandidateFormulas
 pub mod TrueRows
 pub mod JudgedRows
+pub mod RoundFormulas
 pub mod RoundsMet
 -- ---- what formulas of pairs hold of
 pub mod PairMeanings

@@ -27,14 +27,16 @@ use Rattle.vocabularies.specs.Ends as ends
 use Rattle.leaf_cases.specs.Conditions.{IsKnown, exits_of}
 use Rattle.newton_rounds.specs.declared.dropping.JudgedRow.{JudgedRow}
 use Rattle.newton_rounds.specs.Between.{AreCandidates, AreSummaries, FitTable, IsFewer, IsRowOver, IsSummary, row_count}
-use Rattle.newton_rounds.specs.Candidates.{drop_notes_by, drop_notes_in, dropped_notes, kept_row, most_rounds, members_with, refutation, round, some_note, table_of, unfolded_formula, unless_refuted, with_judged, with_round}
+use Rattle.newton_rounds.specs.declared.findings.Judgements.{Judgements}
+use Rattle.newton_rounds.specs.declared.findings.RoundEnd.{RoundEnd}
+use Rattle.newton_rounds.specs.Candidates.{before_rounds, drop_notes_by, drop_notes_in, dropped_notes, end_of_round, judgements_and, kept_row, most_rounds, members_with, no_judgements, refutation, round, some_note, table_of, unfolded_formula, unless_refuted, with_judged, with_round}
 use Rattle.newton_rounds.specs.Claims.{AreKnownMembers}
 use Rattle.newton_rounds.specs.Closure.{ends_of_members, pair_ends, with_places_from}
 use Rattle.newton_rounds.specs.Members.{members_of, with_table}
 use Rattle.newton_rounds.specs.Pairs.{PairEnds}
 use Rattle.newton_rounds.specs.Shapes.{IsOverPairs, IsRefutable}
 use Rattle.newton_rounds.proofs.GroupCalls.{AreThere, ends-at, ends-many}
-use Rattle.newton_rounds.proofs.MatchLoops.{IsBehind, each-match}
+use Rattle.newton_rounds.proofs.MatchLoops.{IsBehind, each-match, each-part_match}
 use Rattle.newton_rounds.proofs.ProcedureLoops.{members-next}
 use Rattle.newton_rounds.proofs.ClosureSummaries.{summaries-length, summary-at}
 
@@ -121,19 +123,24 @@ judged-behind f made row =
 judged-rows : (f : Transition) (rows : List Row) → Always (AreOf rows) (each (with_judged f) [] rows)
 judged-rows f rows = each-match (λ row. Unit {0}) IsOf (with_judged f) (λ made row any. judged-behind f made row) rows (each-any (λ row. Unit {0}) (λ row. tt) rows)
 
-member-behind : (program : Program) (known : List (Option Transition)) (made : List (List JudgedRow)) (member : Proc × List Row) → Always (IsBehind (λ (m : Proc × List Row) judged. AreOf m.1 judged) made member) (with_round program known made member)
+abbrev AreOfMember : Proc × List Row → List JudgedRow → Type 0
+AreOfMember member judged = AreOf member.1 judged
+
+member-behind : (program : Program) (known : List (Option Transition)) (made : Judgements) (member : Proc × List Row) → Always (λ (next : Judgements). IsBehind AreOfMember made.rows member next.rows) (with_round program known made member)
 unfolding with_round
 member-behind program known made member =
-    always_bind (λ f. Unit {0}) (IsBehind (λ (m : Proc × List Row) judged. AreOf m.1 judged) made member) (unfolded_formula program known member.0) (λ f. each (with_judged f) [] member.1 >>= λ judged. Done (made ++ judged ∷ []))
+    always_bind (λ f. Unit {0}) (λ (next : Judgements). IsBehind AreOfMember made.rows member next.rows) (unfolded_formula program known member.0)
+    (λ f. each (with_judged f) [] member.1 >>= λ judged. Done (judgements_and made f judged))
     (always_any (λ f. Unit {0}) (unfolded_formula program known member.0) (λ f. tt))
-    (λ f any. always_bind (AreOf member.1) (IsBehind (λ (m : Proc × List Row) judged. AreOf m.1 judged) made member) (each (with_judged f) [] member.1) (λ judged. Done (made ++ judged ∷ [])) (judged-rows f member.1)
+    (λ f any. always_bind (AreOf member.1) (λ (next : Judgements). IsBehind AreOfMember made.rows member next.rows) (each (with_judged f) [] member.1) (λ judged. Done (judgements_and made f judged)) (judged-rows f member.1)
     (λ judged are. record { value = judged; is = refl; holds = are }))
 
-all-judged : (program : Program) (known : List (Option Transition)) (members : List (Proc × List Row)) → Always (AllZip (λ (m : Proc × List Row) judged. AreOf m.1 judged) members) (each (with_round program known) [] members)
+all-judged : (program : Program) (known : List (Option Transition)) (members : List (Proc × List Row)) → Always (λ (made : Judgements). AllZip AreOfMember members made.rows) (each (with_round program known) no_judgements members)
 all-judged program known members =
-    each-match (λ member. Unit {0}) (λ (m : Proc × List Row) judged. AreOf m.1 judged) (with_round program known) (λ made member any. member-behind program known made member) members (each-any (λ member. Unit {0}) (λ member. tt) members)
+    each-part_match (λ (made : Judgements). made.rows) (λ member. Unit {0}) AreOfMember (with_round program known) (λ made member any. member-behind program known made member) no_judgements refl members
+    (each-any (λ member. Unit {0}) (λ member. tt) members)
 
-by-rows : (ps : List Proc) (candidates : List (List Row)) (judged : List (List JudgedRow)) → length candidates ≡ length ps → AllZip (λ (m : Proc × List Row) judged. AreOf m.1 judged) (members_with ps candidates) judged → AllZip AreOf candidates judged
+by-rows : (ps : List Proc) (candidates : List (List Row)) (judged : List (List JudgedRow)) → length candidates ≡ length ps → AllZip AreOfMember (members_with ps candidates) judged → AllZip AreOf candidates judged
 by-rows [] [] [] e h = h
 by-rows [] [] (js ∷ judged) e h = h
 by-rows [] (rows ∷ candidates) judged e h = absurd (omega (arith, e))
@@ -142,10 +149,10 @@ by-rows (p ∷ ps) (rows ∷ candidates) [] e h = h
 by-rows (p ∷ ps) (rows ∷ candidates) (js ∷ judged) e h = (h.0, by-rows ps candidates judged (omega (arith, e)) h.1)
 
 pub rows-judged : (program : Program) (known : List (Option Transition)) (ps : List Proc) (candidates : List (List Row)) → length candidates ≡ length ps
-    → Always (AllZip AreOf candidates) (each (with_round program known) [] (members_with ps candidates))
+    → Always (λ (made : Judgements). AllZip AreOf candidates made.rows) (each (with_round program known) no_judgements (members_with ps candidates))
 rows-judged program known ps candidates e =
-    always_weaker (AllZip (λ (m : Proc × List Row) judged. AreOf m.1 judged) (members_with ps candidates)) (AllZip AreOf candidates) (each (with_round program known) [] (members_with ps candidates))
-    (λ judged h. by-rows ps candidates judged e h) (all-judged program known (members_with ps candidates))
+    always_weaker (λ (made : Judgements). AllZip AreOfMember (members_with ps candidates) made.rows) (λ (made : Judgements). AllZip AreOf candidates made.rows) (each (with_round program known) no_judgements (members_with ps candidates))
+    (λ made h. by-rows ps candidates made.rows e h) (all-judged program known (members_with ps candidates))
 
 -- ---- rows that are kept
 
@@ -203,17 +210,18 @@ some-counted (n ∷ ns) = omega arith
 
 -- a round over the members keeps candidates, and has dropped a row where it says so
 pub round-keeps : (program : Program) (procs : List ℕ) (known : List (Option Transition)) (candidates : List (List Row)) → length candidates ≡ length (members_of program procs) → AreCandidates (ends_of_members program procs) candidates
-    → Always (λ next. AreCandidates (ends_of_members program procs) next.0 × IsFewer candidates next) (round program procs known candidates)
+    → Always (λ (next : RoundEnd × Bool). AreCandidates (ends_of_members program procs) next.0.candidates × IsFewer candidates next) (round program procs known candidates)
 unfolding round
 round-keeps program procs known candidates e are =
     let members = ends_of_members program procs in
     let all = with_table procs (table_of members candidates) known in
-    always_bind (AllZip AreOf candidates) (λ next. AreCandidates members next.0 × IsFewer candidates next) (each (with_round program all) [] (members_with (members_of program procs) candidates))
-    (λ judged. Noted (dropped_notes judged) (Done (map (filter_map kept_row) judged, some_note (dropped_notes judged))))
+    always_bind (λ (made : Judgements). AllZip AreOf candidates made.rows) (λ (next : RoundEnd × Bool). AreCandidates members next.0.candidates × IsFewer candidates next)
+    (each (with_round program all) no_judgements (members_with (members_of program procs) candidates))
+    (λ judged. Noted (dropped_notes judged.rows) (Done (end_of_round judged, some_note (dropped_notes judged.rows))))
     (rows-judged program all (members_of program procs) candidates e)
     (λ judged h. (
-      kept-candidates members candidates judged h are,
-      let all = all-counted 0 candidates judged h in let some = some-counted (dropped_notes judged) in omega (arith, all, some),
+      kept-candidates members candidates judged.rows h are,
+      let all = all-counted 0 candidates judged.rows h in let some = some-counted (dropped_notes judged.rows) in omega (arith, all, some),
     ))
 
 -- ---- loops over members and rows
@@ -240,42 +248,42 @@ members-end program procs candidates i end same = ap (λ ns. members_with (membe
 -- ---- rounds until none drops a row
 
 -- so far rounds were made, and if the last one dropped a row more of them are left than rows
-pub record AreRounds {S : Type 0} (O : Asking S) (old now : S) (before between : Log) (whole : Posing (List (List Row))) (step : List (List Row) → Posing (List (List Row) × Bool)) (left : List (List Row)) (dropped : Bool) : Type 0 where
+pub record AreRounds {S : Type 0} (O : Asking S) (old now : S) (before between : Log) (whole : Posing RoundEnd) (step : RoundEnd → Posing (RoundEnd × Bool)) (left : RoundEnd) (dropped : Bool) : Type 0 where
   pub rounds : ℕ
-  pub enough : row_count left + (if dropped then 1 else 0) ≤ rounds
+  pub enough : row_count left.candidates + (if dropped then 1 else 0) ≤ rounds
   pub leads : Leads O old now before between whole (if dropped then until step rounds left else Done left)
 
-pub rounds-begin : {S : Type 0} (O : Asking S) (state : S) (log : Log) (step : List (List Row) → Posing (List (List Row) × Bool)) (candidates : List (List Row))
-    → AreRounds O state state log log (until step (most_rounds candidates) candidates) step candidates true
+pub rounds-begin : {S : Type 0} (O : Asking S) (state : S) (log : Log) (step : RoundEnd → Posing (RoundEnd × Bool)) (candidates : List (List Row))
+    → AreRounds O state state log log (until step (most_rounds candidates) (before_rounds candidates)) step (before_rounds candidates) true
 rounds-begin O state log step candidates = record { rounds = most_rounds candidates; enough = let many = rows-counted candidates in omega (arith, many); leads = leads_none _ _ _ _ }
 
-pub rounds-next : {S : Type 0} {O : Asking S} {old now new : S} {before between after : Log} {whole : Posing (List (List Row))} {step : List (List Row) → Posing (List (List Row) × Bool)} {left : List (List Row)} {dropped : Bool}
-    (next : List (List Row) × Bool) → dropped ≡ true → AreRounds O old now before between whole step left dropped → Follows O now new between after (Ok next) (step left) → IsFewer left next
+pub rounds-next : {S : Type 0} {O : Asking S} {old now new : S} {before between after : Log} {whole : Posing RoundEnd} {step : RoundEnd → Posing (RoundEnd × Bool)} {left : RoundEnd} {dropped : Bool}
+    (next : RoundEnd × Bool) → dropped ≡ true → AreRounds O old now before between whole step left dropped → Follows O now new between after (Ok next) (step left) → IsFewer left.candidates next
     → AreRounds O old new before after whole step next.0 next.1
 rounds-next {O = O} {old = old} {now = now} {new = new} {before = before} {between = between} {after = after} {whole = whole} {step = step} {left = left} next true_is are one fewer =
-    go are.rounds (subst (λ d. row_count left + (if d then 1 else 0) ≤ are.rounds) true_is are.enough)
+    go are.rounds (subst (λ d. row_count left.candidates + (if d then 1 else 0) ≤ are.rounds) true_is are.enough)
     (subst (λ d. Leads O old now before between whole (if d then until step are.rounds left else Done left)) true_is are.leads)
   where
-    go : (n : ℕ) → row_count left + 1 ≤ n → Leads O old now before between whole (until step n left) → AreRounds O old new before after whole step next.0 next.1
+    go : (n : ℕ) → row_count left.candidates + 1 ≤ n → Leads O old now before between whole (until step n left) → AreRounds O old new before after whole step next.0 next.1
     go zero enough leads = absurd (omega (arith, enough))
     go (suc n) enough leads = record {
       rounds = n;
       enough = omega (arith, enough, fewer);
-      leads = first_left (λ (r : List (List Row) × Bool). if r.1 then until step n r.0 else Done r.0) leads refl one refl;
+      leads = first_left (λ (r : RoundEnd × Bool). if r.1 then until step n r.0 else Done r.0) leads refl one refl;
     }
 
-pub rounds-fail : {S : Type 0} {O : Asking S} {old now new : S} {before between after : Log} {whole : Posing (List (List Row))} {step : List (List Row) → Posing (List (List Row) × Bool)} {left : List (List Row)} {dropped : Bool}
-    {result : Result (List (List Row)) WorkError} {error : WorkError} → dropped ≡ true → AreRounds O old now before between whole step left dropped → Follows O now new between after (Err error) (step left) → IsErrAnd result (λ e. e ≡ error)
+pub rounds-fail : {S : Type 0} {O : Asking S} {old now new : S} {before between after : Log} {whole : Posing RoundEnd} {step : RoundEnd → Posing (RoundEnd × Bool)} {left : RoundEnd} {dropped : Bool}
+    {result : Result RoundEnd WorkError} {error : WorkError} → dropped ≡ true → AreRounds O old now before between whole step left dropped → Follows O now new between after (Err error) (step left) → IsErrAnd result (λ e. e ≡ error)
     → Follows O old new before after result whole
 rounds-fail {O = O} {old = old} {now = now} {new = new} {before = before} {between = between} {after = after} {whole = whole} {step = step} {left = left} {result = result} true_is are one failed =
-    go are.rounds (subst (λ d. row_count left + (if d then 1 else 0) ≤ are.rounds) true_is are.enough)
+    go are.rounds (subst (λ d. row_count left.candidates + (if d then 1 else 0) ≤ are.rounds) true_is are.enough)
     (subst (λ d. Leads O old now before between whole (if d then until step are.rounds left else Done left)) true_is are.leads)
   where
-    go : (n : ℕ) → row_count left + 1 ≤ n → Leads O old now before between whole (until step n left) → Follows O old new before after result whole
+    go : (n : ℕ) → row_count left.candidates + 1 ≤ n → Leads O old now before between whole (until step n left) → Follows O old new before after result whole
     go zero enough leads = absurd (omega (arith, enough))
-    go (suc n) enough leads = all_left leads (error_first (λ (r : List (List Row) × Bool). if r.1 then until step n r.0 else Done r.0) one refl failed)
+    go (suc n) enough leads = all_left leads (error_first (λ (r : RoundEnd × Bool). if r.1 then until step n r.0 else Done r.0) one refl failed)
 
-pub rounds-end : {S : Type 0} {O : Asking S} {old now : S} {before between : Log} {whole : Posing (List (List Row))} {step : List (List Row) → Posing (List (List Row) × Bool)} {left : List (List Row)} {dropped : Bool}
+pub rounds-end : {S : Type 0} {O : Asking S} {old now : S} {before between : Log} {whole : Posing RoundEnd} {step : RoundEnd → Posing (RoundEnd × Bool)} {left : RoundEnd} {dropped : Bool}
     → dropped ≡ false → AreRounds O old now before between whole step left dropped → Follows O old now before between (Ok left) whole
 rounds-end {O = O} {old = old} {now = now} {before = before} {between = between} {whole = whole} {step = step} {left = left} false_is are =
     all_left (subst (λ d. Leads O old now before between whole (if d then until step are.rounds left else Done left)) false_is are.leads) (at_end refl)

@@ -1,6 +1,8 @@
--- The summaries that rounds leave are met.
+-- The summaries that rounds leave are met: the candidates, and the formulas that the last round made
+-- of the procedures.
 use Rattle.std.proofs.Common.{◌≡◌, ◌⊎◌, inl, inr, ℕ, zero, suc, ◌+◌, ◌<◌, ◌≤◌, ℤ, Bool, true, false, List, [], ◌∷◌, ◌++◌, length, map, take, Option, Some, refl, sym, ap, subst, ◌∙◌, append-nil, append_assoc, length-append, arith}
-use Rattle.std.specs.List.{AllByRecursion, filter_map, range_with_len, slice_get}
+use Rattle.std.specs.Prelude.{if◌then◌else◌}
+use Rattle.std.specs.List.{AllByRecursion, AllZip, range_with_len, slice_get}
 use Rattle.std.specs.Option.{option_map}
 use Rattle.std.proofs.lemmas.List.{length-map}
 use Rattle.std.proofs.lemmas.List.FromFn.{length-range_with_len}
@@ -22,16 +24,19 @@ use Rattle.execution.specs.Execution.{Returns}
 use Rattle.transition_formula.specs.Meaning.{Holds}
 use Rattle.transition_formula.specs.Transition.{Transition}
 use Rattle.flow_graph.specs.FlowGraph.{Arc, FlowGraph, graph_of}
-use Rattle.flow_graph.specs.Heights.{ReturnsOver}
+use Rattle.flow_graph.specs.Heights.{ReturnsOver, ReturnsWithin}
 use Rattle.flow_graph.specs.Walks.{CallMeaning}
 use Rattle.flow_graph.proofs.Heights.{over-returns, returns-by_height, returns-more, returns_have_heights}
+use Rattle.phases.specs.Rules.{has_phases}
 use Rattle.leaf_cases.specs.Conditions.{AreKnown, IsKnown, KnownCalls, exits_of}
 use Rattle.leaf_cases.specs.Summaries.{AreMet, KnowsCallee, exit_values, if_returned}
 use Rattle.leaf_cases.proofs.MetCalls.{exits_are, returns-globals}
 use Rattle.proc_summary.specs.Subject.{own_graph}
 use Rattle.proc_summary.proofs.Graphs.{graph-is}
 use Rattle.newton_rounds.specs.Between.{row_count}
-use Rattle.newton_rounds.specs.Candidates.{candidate_formula, candidate_of, dropped_notes, kept_candidates, kept_row, members_with, most_rounds, round, some_note, table_of, with_round}
+use Rattle.newton_rounds.specs.declared.findings.Judgements.{Judgements}
+use Rattle.newton_rounds.specs.declared.findings.RoundEnd.{RoundEnd}
+use Rattle.newton_rounds.specs.Candidates.{before_rounds, candidate_formula, candidate_of, dropped_notes, end_of_round, last_round, members_with, most_rounds, no_judgements, round, some_note, summaries_by_round, table_of, with_round}
 use Rattle.newton_rounds.specs.Claims.{AreMetMembers}
 use Rattle.newton_rounds.specs.Close.{closure_by_rounds, pairs_of, with_candidate}
 use Rattle.newton_rounds.specs.Closure.{closed_member, closure_of, ends_of_members, pair_ends, sides_of, stretches_with, with_closed}
@@ -41,15 +46,15 @@ use Rattle.newton_rounds.specs.Pairs.{PairEnds, Stretch}
 use Rattle.newton_rounds.proofs.GroupCalls.{AreThere, member-at, members-many}
 use Rattle.newton_rounds.proofs.CandidateFormulas.{candidate-holds, candidate-known, table-at, table-long}
 use Rattle.newton_rounds.proofs.CandidateRows.{ArePairRows, candidate-rows}
-use Rattle.newton_rounds.proofs.JudgedRows.{AreAllJudged, AreCandidates, AreTrueOf, IsTrueOf, all-judged, all-of, all-ready, kept-candidates, kept-true}
+use Rattle.newton_rounds.proofs.JudgedRows.{AreAllJudged, AreCandidates, AreTrueOf, IsTrueOf, IsUnfoldingOf, all-judged, all-of, all-ready, all-unfolded, kept-candidates, kept-true}
 use Rattle.newton_rounds.proofs.MemberTables.{IsKnownAt, each-member, table-either, table-keeps, table-knows}
-use Rattle.posing.proofs.Under.{IsRound, passing-always, under-bind, under-until}
+use Rattle.posing.proofs.Under.{IsRound, passing-always, under-bind, under-both, under-until}
 use Rattle.newton_rounds.proofs.TrueRows.{pair_numbers}
 use Rattle.newton_rounds.proofs.KnownTables.{AreFor, tabled-known}
 use Rattle.newton_rounds.proofs.ToldCalls.{TellsArcs, TellsCall, returns-told}
 use Rattle.newton_rounds.proofs.RoundRows.{all-counted, rows-counted}
 use Rattle.newton_rounds.proofs.Widths.{ends-are}
-use Rattle.newton_rounds.proofs.PairLists.{some-one}
+use Rattle.newton_rounds.proofs.PairLists.{some-one, zipped-at}
 
 -- ---- as many formulas as members
 
@@ -187,6 +192,32 @@ module _ (program : Program) (procs : List ℕ) (known : List (Option Transition
   abbrev pub AreSettled : List (List Row) → Type 0
   AreSettled candidates = AreTrueOf program formed (known_with candidates) ps candidates
 
+  -- and each formula holds of the activations of its procedure
+  abbrev IsToldBy : List (Option Transition) → Proc → Transition → Type 0
+  IsToldBy all p f =
+      (proc : ℕ) → slice_get program.procs proc ≡ Some p → (globals args after : State) (value : ℤ) → ReturnsOver (KnownCalls all) program proc globals args after value
+      → Holds f (globals ++ args) (exit_values p after value)
+
+  abbrev AreToldBy : List (Option Transition) → List Proc → List Transition → Type 0
+  AreToldBy all qs formulas = AllZip (IsToldBy all) qs formulas
+
+  all-told : (all : List (Option Transition)) (fine : AreKnown program all) (qs : List Proc) (formulas : List Transition) → AllZip (IsUnfoldingOf program formed all fine) qs formulas → AreToldBy all qs formulas
+  all-told all fine [] [] h = tt
+  all-told all fine [] (f ∷ formulas) h = absurd h
+  all-told all fine (q ∷ qs) [] h = absurd h
+  all-told all fine (q ∷ qs) (f ∷ formulas) h = ((λ proc is globals args after value r. (h.0 (proc, is)).tells globals args after value r), all-told all fine qs formulas h.1)
+
+  -- ---- the end of a round
+
+  abbrev AreOver : RoundEnd → Type 0
+  AreOver end = AreCandidates program formed ps end.candidates
+
+  abbrev IsSettled : RoundEnd → Type 0
+  IsSettled end = AreSettled end.candidates × AreToldBy (known_with end.candidates) ps end.formulas
+
+  abbrev rows_left : RoundEnd → ℕ
+  rows_left end = row_count end.candidates
+
   noted : (notes : List Note) → some_note notes ≡ true → 0 < length notes
   noted [] e = absurd (cc)
   noted (n ∷ ns) e = omega arith
@@ -195,31 +226,37 @@ module _ (program : Program) (procs : List ℕ) (known : List (Option Transition
   unnoted [] e = refl
   unnoted (n ∷ ns) e = absurd (cc)
 
-  round-kept : (candidates : List (List Row)) → AreCandidates program formed ps candidates
-      → AlwaysPassing (IsRound (AreCandidates program formed ps) AreSettled row_count candidates) (round program procs known candidates)
+  round-kept : (end : RoundEnd) → AreOver end → AlwaysPassing (IsRound AreOver IsSettled rows_left end) (round program procs known end.candidates)
   unfolding round
-  round-kept candidates over =
+  round-kept end over =
+      let candidates = end.candidates in
+      let all = known_with candidates in
       let fine = with-known candidates over in
-      under-bind IsPassing (AreAllJudged program formed (known_with candidates) fine (members_with ps candidates)) (IsRound (AreCandidates program formed ps) AreSettled row_count candidates)
-      (each (with_round program (known_with candidates)) [] (members_with ps candidates)) (λ judged. Noted (dropped_notes judged) (Done (map (filter_map kept_row) judged, some_note (dropped_notes judged))))
-      (all-judged program formed (known_with candidates) fine (members_with ps candidates) (all-ready program formed (known_with candidates) fine ps candidates (each-member program procs there) over))
+      under-bind IsPassing (λ (made : Judgements). AreAllJudged program formed all fine (members_with ps candidates) made.rows × AllZip (IsUnfoldingOf program formed all fine) ps made.formulas)
+      (IsRound AreOver IsSettled rows_left end)
+      (each (with_round program all) no_judgements (members_with ps candidates)) (λ judged. Noted (dropped_notes judged.rows) (Done (end_of_round judged, some_note (dropped_notes judged.rows))))
+      (under-both IsPassing (λ (made : Judgements). AreAllJudged program formed all fine (members_with ps candidates) made.rows) (λ (made : Judgements). AllZip (IsUnfoldingOf program formed all fine) ps made.formulas)
+      (each (with_round program all) no_judgements (members_with ps candidates))
+      (all-judged program formed all fine (members_with ps candidates) (all-ready program formed all fine ps candidates (each-member program procs there) over))
+      (passing-always (λ (made : Judgements). AllZip (IsUnfoldingOf program formed all fine) ps made.formulas) (each (with_round program all) no_judgements (members_with ps candidates))
+      (all-unfolded program formed all fine ps candidates (sym (candidates-long program formed ps candidates over)))))
       (λ judged h. record {
-        keeps = kept-candidates program formed (known_with candidates) fine ps candidates judged over h;
+        keeps = kept-candidates program formed all fine ps candidates judged.rows over h.0;
         falls = λ e.
-            let some = noted (dropped_notes judged) e in
-            let count = all-counted 0 candidates judged (all-of program formed (known_with candidates) fine ps candidates judged over h) in
+            let some = noted (dropped_notes judged.rows) e in
+            let count = all-counted 0 candidates judged.rows (all-of program formed all fine ps candidates judged.rows over h.0) in
             omega (arith, some, count);
         fine = λ e.
-            let all = kept-true program formed (known_with candidates) fine 0 ps candidates judged over h (unnoted (dropped_notes judged) e) in
-            subst AreSettled (sym all.0) all.1;
+            let kept = kept-true program formed all fine 0 ps candidates judged.rows over h.0 (unnoted (dropped_notes judged.rows) e) in
+            (subst AreSettled (sym kept.0) kept.1, subst (λ cs. AreToldBy (known_with cs) ps judged.formulas) (sym kept.0) (all-told all fine ps judged.formulas h.1));
       })
 
-  pub candidates-settled : (candidates : List (List Row)) → AreCandidates program formed ps candidates
-      → AlwaysPassing (λ kept. AreCandidates program formed ps kept × AreSettled kept) (kept_candidates program procs known candidates)
-  unfolding kept_candidates
+  candidates-settled : (candidates : List (List Row)) → AreCandidates program formed ps candidates → AlwaysPassing (λ end. AreOver end × IsSettled end) (last_round program procs known candidates)
+  unfolding last_round
   candidates-settled candidates over =
       let many = rows-counted candidates in
-      under-until IsPassing (AreCandidates program formed ps) AreSettled row_count (round program procs known) (most_rounds candidates) candidates round-kept (omega (arith, many)) over
+      under-until IsPassing AreOver IsSettled rows_left (λ (end : RoundEnd). round program procs known end.candidates) (most_rounds candidates) (before_rounds candidates)
+      round-kept (omega (arith, many)) over
 
   -- ---- settled candidates are met
 
@@ -313,7 +350,33 @@ module _ (program : Program) (procs : List ℕ) (known : List (Option Transition
         let tree = (returns_have_heights program proc globals args after value).0 returns in
         formula-true proc globals args after value (returns-by_height program RowsTrue rows-true-over tree.0 proc globals args after value tree.1) place p f e is g
 
+    -- ---- so are the formulas by which they were judged
+
+    formulas-met : (formulas : List Transition) → AreToldBy (known_with kept) ps formulas → AreMetMembers program procs formulas
+    formulas-met formulas told place proc f e g p is globals args after value returns = go tree.0 tree.1
+      where
+        tree : (n : ℕ) × ReturnsWithin program n proc globals args after value
+        tree = (returns_have_heights program proc globals args after value).0 returns
+
+        own : (h : Transition) × (slice_get formulas place ≡ Some h) × IsToldBy (known_with kept) p h
+        own = zipped-at (IsToldBy (known_with kept)) ps formulas told place p (member-at program procs place proc p there e is)
+
+        go : (n : ℕ) → ReturnsWithin program n proc globals args after value → Holds f (globals ++ args) (exit_values p after value)
+        go zero none = absurd none
+        go (suc n) r =
+            subst (λ h. Holds h (globals ++ args) (exit_values p after value)) (some-one own.1 g)
+            (own.2 proc is globals args after value
+            (returns-told RowsTrue (KnownCalls (known_with kept)) program proc (arcs-told place proc p e is) globals args after value
+            (returns-more (ReturnsWithin program n) RowsTrue (returns-by_height program RowsTrue rows-true-over n) program proc globals args after value r)))
+
   -- ---- where calls of the group may follow one another
+
+  summaries_by_round-met : AreMet program known → KnowsOthers program procs known → (end : RoundEnd) → AreOver end → IsSettled end → AreMetMembers program procs (summaries_by_round program.rule (map (pair_ends program) ps) end)
+  summaries_by_round-met met knows end over settled = go (has_phases program.rule)
+    where
+      go : (phases : Bool) → AreMetMembers program procs (if phases then end.formulas else table end.candidates)
+      go true = formulas-met met knows end.candidates over settled.0 end.formulas settled.1
+      go false = rounds-met met knows end.candidates over settled.0
 
   pub closed_by_rounds-met : AreMet program known → KnowsOthers program procs known → (bases : List Transition) → AlwaysPassing (AreMetMembers program procs) (closure_by_rounds program procs known bases)
   unfolding closure_by_rounds
@@ -324,5 +387,5 @@ module _ (program : Program) (procs : List ℕ) (known : List (Option Transition
       (passing-always (λ t. length t ≡ length ps) (closure_of program procs known bases first) (closure-long program procs known bases first)) (λ second long.
       under-bind IsPassing (AreRowsFor (pairs_of (map (pair_ends program) ps) second)) (AreMetMembers program procs) (each with_candidate [] (pairs_of (map (pair_ends program) ps) second)) _
       (passing-always (AreRowsFor (pairs_of (map (pair_ends program) ps) second)) (each with_candidate [] (pairs_of (map (pair_ends program) ps) second)) (rows-for (pairs_of (map (pair_ends program) ps) second))) (λ candidates rows.
-      under-bind IsPassing (λ kept. AreCandidates program formed ps kept × AreSettled kept) (AreMetMembers program procs) (kept_candidates program procs known candidates) (λ kept. Done (table kept))
-      (candidates-settled candidates (candidates-for program formed ps second candidates long rows)) (λ kept both. rounds-met met knows kept both.0 both.1))))
+      under-bind IsPassing (λ end. AreOver end × IsSettled end) (AreMetMembers program procs) (last_round program procs known candidates) (λ end. Done (summaries_by_round program.rule (map (pair_ends program) ps) end))
+      (candidates-settled candidates (candidates-for program formed ps second candidates long rows)) (λ end both. summaries_by_round-met met knows end both.0 both.1))))

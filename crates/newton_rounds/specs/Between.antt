@@ -10,6 +10,7 @@ use Rattle.leaf_cases.specs.Conditions.{IsKnown}
 use Rattle.path_expr.specs.declared.cell.Cell.{Cell}
 use Rattle.path_expr.specs.declared.cell.Cell.TheVariants as known
 use Rattle.checked_tree.specs.Law.{IsEnd}
+use Rattle.newton_rounds.specs.declared.findings.RoundEnd.{RoundEnd}
 use Rattle.newton_rounds.specs.Pairs.{PairEnds, Stretch}
 use Rattle.newton_rounds.specs.Closure.{ends_at, pair_cell}
 use Rattle.newton_rounds.specs.Shapes.{AreEnds, IsStretchBetween}
@@ -137,5 +138,6 @@ row_count [] = 0
 row_count (rows ∷ candidates) = length rows + row_count candidates
 
 -- a round whose result says that it dropped a row has dropped one
-abbrev pub IsFewer : List (List Row) → List (List Row) × Bool → Type 0
-IsFewer candidates next = row_count next.0 + (if next.1 then 1 else 0) ≤ row_count candidates
+abbrev pub IsFewer : List (List Row) → RoundEnd × Bool → Type 0
+IsFewer candidates next =
+    row_count next.0.candidates + (if next.1 then 1 else 0) ≤ row_count candidates

@@ -1,6 +1,6 @@
 -- Candidates: rows over the pairs of entry and exit that may hold of all activations, and rounds
 -- that drop those that one more unfolding does not show.
-use Rattle.std.specs.Prelude.{ℕ, suc, ◌+◌, Bool, true, false, List, [], ◌∷◌, ◌++◌, Option, None, Some, Result, Ok, Err, length, map, option_to_list}
+use Rattle.std.specs.Prelude.{ℕ, suc, ◌+◌, Bool, true, false, if◌then◌else◌, List, [], ◌∷◌, ◌++◌, Option, None, Some, Result, Ok, Err, length, map, option_to_list}
 use Rattle.std.specs.List.{filter_map, flat_map, range_with_len}
 use Rattle.std.specs.Option.{unwrap_or}
 use Rattle.items.specs.Gives as gives
@@ -33,6 +33,7 @@ use Rattle.posing.specs.Logs.{loss_notes}
 use Rattle.posing.specs.Posing.{Posing, Done, Noted, answer_to, ◌>>=◌, each, until}
 use Rattle.polyhedra.specs.Bounds.{rows_with_exit_bound}
 use Rattle.polyhedra.specs.Directions.{directions}
+use Rattle.phases.specs.Rules.{has_phases}
 use Rattle.leaf_cases.specs.Guard.{columns_of}
 use Rattle.leaf_cases.specs.Guard as cases
 use Rattle.proc_summary.specs.Flow.{cells_from, columns_of as state_columns, formula_at}
@@ -40,6 +41,8 @@ use Rattle.proc_summary.specs.Subject.{subject_of}
 use Rattle.proc_summary.specs.Summary.{ends_of, summary_from}
 use Rattle.newton_rounds.specs.declared.findings.Findings.{Findings}
 use Rattle.newton_rounds.specs.declared.dropping.JudgedRow.{JudgedRow}
+use Rattle.newton_rounds.specs.declared.findings.Judgements.{Judgements}
+use Rattle.newton_rounds.specs.declared.findings.RoundEnd.{RoundEnd}
 use Rattle.newton_rounds.specs.Members.{members_of, with_table}
 use Rattle.newton_rounds.specs.Pairs.{PairEnds}
 use Rattle.newton_rounds.specs.Closure.{ends_at, pair_ends, with_places_from}
@@ -173,12 +176,23 @@ unfolded_formula program known p =
     (formula_at (state_columns (subject_of program p known)) cells
     (subject_of program p known).exit)
 
--- the judged rows of one member more, by its unfolded formula, behind those of the others
-unfoldable pub with_round : Program → List (Option Transition) → List (List JudgedRow)
-    → Proc × List Row → Posing (List (List JudgedRow))
+-- where there is no member, nothing is judged
+abbrev pub no_judgements : Judgements
+no_judgements = record { rows = []; formulas = [] }
+
+-- with one member more: its judged rows, and the formula by which they are judged
+abbrev pub judgements_and : Judgements → Transition → List JudgedRow → Judgements
+judgements_and made f judged = record {
+  rows = made.rows ++ judged ∷ [];
+  formulas = made.formulas ++ f ∷ [];
+}
+
+-- with one member more, by its unfolded formula
+unfoldable pub with_round : Program → List (Option Transition) → Judgements → Proc × List Row
+    → Posing Judgements
 with_round program known made member =
     unfolded_formula program known member.0 >>= λ f.
-    each (with_judged f) [] member.1 >>= λ judged. Done (made ++ judged ∷ [])
+    each (with_judged f) [] member.1 >>= λ judged. Done (judgements_and made f judged)
 
 -- the row where nothing refutes it, else None
 abbrev pub unless_refuted : Row → Option Witness → Option Row
@@ -213,24 +227,43 @@ members_with [] candidates = []
 members_with (p ∷ ps) [] = []
 members_with (p ∷ ps) (rows ∷ candidates) = (p, rows) ∷ members_with ps candidates
 
+-- the rows that stay, with the formulas by which they were judged
+abbrev pub end_of_round : Judgements → RoundEnd
+end_of_round judged = record {
+  candidates = map (filter_map kept_row) judged.rows;
+  formulas = judged.formulas;
+}
+
 -- all rows that are refuted are dropped together at its end; whether any was
 unfoldable pub round : Program → List ℕ → List (Option Transition) → List (List Row)
-    → Posing (List (List Row) × Bool)
+    → Posing (RoundEnd × Bool)
 round program procs known candidates =
     each
     (with_round program
     (with_table procs (table_of (map (pair_ends program) (members_of program procs)) candidates)
     known))
-    [] (members_with (members_of program procs) candidates) >>= λ judged.
-    Noted (dropped_notes judged)
-    (Done (map (filter_map kept_row) judged, some_note (dropped_notes judged)))
+    no_judgements (members_with (members_of program procs) candidates) >>= λ judged.
+    Noted (dropped_notes judged.rows)
+    (Done (end_of_round judged, some_note (dropped_notes judged.rows)))
 
 -- how many rounds there are at most: each but the last drops a row at least
 abbrev pub most_rounds : List (List Row) → ℕ
 most_rounds candidates = suc (length (flat_map (λ rows. rows) candidates))
 
--- what stands of the candidates after rounds until none is dropped
-unfoldable pub kept_candidates : Program → List ℕ → List (Option Transition) → List (List Row)
-    → Posing (List (List Row))
-kept_candidates program procs known candidates =
-    until (round program procs known) (most_rounds candidates) candidates
+-- what stands before the first round
+abbrev pub before_rounds : List (List Row) → RoundEnd
+before_rounds candidates = record { candidates = candidates; formulas = [] }
+
+-- the end of the last round, after rounds until none drops a row
+unfoldable pub last_round : Program → List ℕ → List (Option Transition) → List (List Row)
+    → Posing RoundEnd
+last_round program procs known candidates =
+    until (λ (end : RoundEnd). round program procs known end.candidates) (most_rounds candidates)
+    (before_rounds candidates)
+
+-- ---- summaries
+
+-- under a rule with phases the formulas that the last round made, else the candidates as formulas
+abbrev pub summaries_by_round : ℕ → List PairEnds → RoundEnd → List Transition
+summaries_by_round rule members end = if has_phases rule then end.formulas
+    else table_of members end.candidates

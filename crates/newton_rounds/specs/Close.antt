@@ -1,12 +1,12 @@
 -- The summaries of a recursive group.
-use Rattle.std.specs.Prelude.{ℕ, Bool, true, false, List, [], ◌∷◌, ◌++◌, Option, map}
+use Rattle.std.specs.Prelude.{ℕ, Bool, true, false, List, [], ◌∷◌, ◌++◌, Option}
 use Rattle.linear_terms.specs.declared.row.Row.{Row}
 use Rattle.syntax_tree.specs.declared.program.Program.{Program}
 use Rattle.transition_formula.specs.Transition.{Transition}
 use Rattle.posing.specs.Posing.{Posing, Done, ◌>>=◌, each}
 use Rattle.newton_rounds.specs.Pairs.{PairEnds}
 use Rattle.newton_rounds.specs.Closure.{bases_of, closure_of, ends_of_members}
-use Rattle.newton_rounds.specs.Candidates.{candidate_of, kept_candidates, table_of}
+use Rattle.newton_rounds.specs.Candidates.{candidate_of, last_round, summaries_by_round}
 
 -- the candidate of each member, by its formula
 unfoldable pub with_candidate : List (List Row) → PairEnds × Transition → Posing (List (List Row))
@@ -19,25 +19,25 @@ pairs_of (member ∷ members) [] = []
 pairs_of (member ∷ members) (f ∷ table) = (member, f) ∷ pairs_of members table
 
 -- where calls of the group may follow one another: two closures, the candidates of the second, and
--- what stands of these
+-- what the last round on these leaves
 unfoldable pub closure_by_rounds : Program → List ℕ → List (Option Transition) → List Transition
     → Posing (List Transition)
 closure_by_rounds program procs known bases =
     closure_of program procs known bases [] >>= λ first.
     closure_of program procs known bases first >>= λ second.
     each with_candidate [] (pairs_of (ends_of_members program procs) second) >>= λ candidates.
-    kept_candidates program procs known candidates >>= λ kept.
-    Done (table_of (ends_of_members program procs) kept)
+    last_round program procs known candidates >>= λ end.
+    Done (summaries_by_round program.rule (ends_of_members program procs) end)
 
--- what stands of the candidates of a table, as formulas
+-- what the last round on the candidates of a table leaves
 unfoldable pub rounds_over : Program → List ℕ → List (Option Transition) → List Transition
     → Posing (List Transition)
 rounds_over program procs known table =
     each with_candidate [] (pairs_of (ends_of_members program procs) table) >>= λ candidates.
-    kept_candidates program procs known candidates >>= λ kept.
-    Done (table_of (ends_of_members program procs) kept)
+    last_round program procs known candidates >>= λ end.
+    Done (summaries_by_round program.rule (ends_of_members program procs) end)
 
--- what stands of the candidates of a table's closure, as formulas
+-- what the last round on the candidates of a table's closure leaves
 unfoldable pub rounds_after : Program → List ℕ → List (Option Transition) → List Transition
     → List Transition → Posing (List Transition)
 rounds_after program procs known bases table =

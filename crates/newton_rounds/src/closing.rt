@@ -6,6 +6,7 @@ ghost use Rattle.posing.specs.Posing.{each};
 ghost use Rattle.leaf_cases.specs.Conditions.{AreKnown};
 ghost use Rattle.leaf_cases.specs.Summaries.{AreMet};
 ghost use Rattle.newton_rounds.specs.Claims.{AreKnownMembers, AreMetMembers};
+ghost use Rattle.newton_rounds.specs.Candidates.{summaries_by_round};
 ghost use Rattle.newton_rounds.specs.Close.{closure_by_rounds, group_closure, pairs_of, rounds_after, rounds_over, with_candidate};
 ghost use Rattle.newton_rounds.specs.Closure.{ends_of_members};
 ghost use Rattle.newton_rounds.specs.Laws.{KnowsOthers};
@@ -16,14 +17,16 @@ use crate::bases::bases_of;
 use crate::candidates::{candidate_of, table_of};
 use crate::closure::closure_of;
 use crate::ends::{PairEnds, ends_of_members};
-use crate::rounds::kept_candidates;
+use crate::findings::RoundEnd;
+use crate::rounds::last_round;
 use farkas_check::Oracle;
 use items::Items;
 use linear_terms::Row;
+use phases::has_phases;
 use posing::{Log, WorkError};
 use std::alloc::Global;
 use syntax_tree::Program;
-use transition_formula::Formula;
+use transition_formula::{Formula, FormulaError};
 
 /// The summaries of a recursive group, in the order of its procedures. `linear` says whether no
 /// call of the group can follow another in one activation. Where the known formulas are met and
@@ -79,7 +82,7 @@ fn group_closure<O: Oracle>(
     }
 }
 
-/// Two closures, the candidates of the second, and what stands of these.
+/// Two closures, the candidates of the second, and what the last round on these leaves.
 #[tactic(auto, using(posing::proofs::Following::following), unfolding(crate::specs::Close::closure_by_rounds))]
 fn closure_by_rounds<O: Oracle>(
     alloc: Global,
@@ -108,7 +111,7 @@ fn closure_by_rounds<O: Oracle>(
     )
 }
 
-/// What stands of the candidates of the closure of a table.
+/// What the last round on the candidates of the closure of a table leaves.
 #[tactic(auto, using(posing::proofs::Following::following), unfolding(crate::specs::Close::rounds_after))]
 fn rounds_after<O: Oracle>(
     alloc: Global,
@@ -137,7 +140,7 @@ fn rounds_after<O: Oracle>(
     rounds_over(alloc, program, procs, members, known, second, oracle, log)
 }
 
-/// What stands of the candidates of a table.
+/// What the last round on the candidates of a table leaves.
 #[tactic(auto, using(posing::proofs::Following::following), unfolding(crate::specs::Close::rounds_over))]
 fn rounds_over<O: Oracle>(
     alloc: Global,
@@ -160,8 +163,26 @@ fn rounds_over<O: Oracle>(
     ensures fits { IfOk result (AreSummaries (ends_of_members program.now procs.now)) }
 {
     let candidates = candidates_of(alloc, members, table, oracle, log)?;
-    let kept = kept_candidates(alloc, program, procs, known, candidates, oracle, log)?;
-    Ok(table_of(alloc, members, kept.as_slice())?)
+    let end = last_round(alloc, program, procs, known, candidates, oracle, log)?;
+    Ok(summaries_by_round(alloc, program.rule, members, end)?)
+}
+
+/// Under a rule with phases the formulas that the last round made, else the candidates as formulas.
+fn summaries_by_round(
+    alloc: Global,
+    rule: u32,
+    members: &[PairEnds],
+    end: RoundEnd,
+) -> Result<Items<Formula>, FormulaError>
+    requires members { AllByRecursion IsMember members.now }
+    requires candidates { AreCandidates members.now end.candidates }
+    ensures { IfOk result (λ table. table ≡ summaries_by_round rule members.now end) }
+{
+    if has_phases(rule) {
+        Ok(end.formulas)
+    } else {
+        table_of(alloc, members, end.candidates.as_slice())
+    }
 }
 
 /// The candidate of each procedure, by its formula.

@@ -6,16 +6,17 @@ ghost use Rattle.posing.specs.Follows.{Follows};
 ghost use Rattle.posing.specs.Logs.{Adds};
 ghost use Rattle.posing.specs.Posing.{each};
 ghost use Rattle.leaf_cases.specs.Conditions.{AreKnown, IsKnown};
-ghost use Rattle.newton_rounds.specs.Candidates.{dropped_notes, kept_candidates, kept_row, members_with, round, some_note, table_of, unfolded_formula, with_judged, with_round};
+ghost use Rattle.newton_rounds.specs.Candidates.{dropped_notes, end_of_round, judgements_and, kept_row, last_round, members_with, no_judgements, round, some_note, table_of, unfolded_formula, with_judged, with_round};
 ghost use Rattle.newton_rounds.specs.Closure.{ends_of_members, pair_ends};
 ghost use Rattle.newton_rounds.specs.Members.{members_of, with_table};
-ghost use Rattle.newton_rounds.specs.Between.{AreCandidates, IsFewer, IsMember, IsRowOver};
+ghost use Rattle.newton_rounds.specs.Between.{AreCandidates, AreSummaries, IsFewer, IsMember, IsRowOver};
 ghost use Rattle.newton_rounds.specs.Shapes.{IsRefutable};
 
 use crate::candidates::table_of;
 use crate::dropping::{JudgedRow, dropped_notes, kept_rows};
 use crate::ends::{PairEnds, ends_of_members};
 use crate::exits::exit_from;
+use crate::findings::{Judgements, RoundEnd};
 use crate::refuting::refutation;
 use crate::tables::with_table;
 use farkas_check::Oracle;
@@ -27,8 +28,8 @@ use std::alloc::{AllocError, Global};
 use syntax_tree::Program;
 use transition_formula::{Formula, FormulaError};
 
-/// Rounds until none drops a row.
-pub(crate) fn kept_candidates<O: Oracle>(
+/// The end of the last round, after rounds until none drops a row.
+pub(crate) fn last_round<O: Oracle>(
     alloc: Global,
     program: &Program,
     procs: &[u32],
@@ -36,18 +37,24 @@ pub(crate) fn kept_candidates<O: Oracle>(
     candidates: Items<Items<Row>>,
     oracle: &mut O,
     log: &mut Log,
-) -> Result<Items<Items<Row>>, WorkError>
+) -> Result<RoundEnd, WorkError>
     requires formed { IsWellFormed program.now }
     requires there { All (λ proc. proc < length program.now.procs) procs.now }
     requires few { length procs.now ≤ length program.now.procs }
     requires known { AreKnown program.now known.now }
     requires candidates { AreCandidates (ends_of_members program.now procs.now) candidates }
     ensures follows { Follows O.asking oracle.old oracle.new log.old log.new result
-        (kept_candidates program.now procs.now known.now candidates) }
-    ensures over { IfOk result (AreCandidates (ends_of_members program.now procs.now)) }
+        (last_round program.now procs.now known.now candidates) }
+    ensures over { IfOk result
+        (λ end. AreCandidates (ends_of_members program.now procs.now) end.candidates) }
+    ensures fits { IfOk result
+        (λ end. AreSummaries (ends_of_members program.now procs.now) end.formulas) }
 {
     let members = ends_of_members(alloc, program, procs)?;
-    let mut left = candidates;
+    let mut left = RoundEnd {
+        candidates,
+        formulas: Items::new(alloc),
+    };
     let mut dropped = true;
     while dropped {
         let (next, more) = round(
@@ -56,7 +63,7 @@ pub(crate) fn kept_candidates<O: Oracle>(
             procs,
             members.as_slice(),
             known,
-            left.as_slice(),
+            left.candidates.as_slice(),
             oracle,
             log,
         )?;
@@ -77,7 +84,7 @@ fn round<O: Oracle>(
     candidates: &[Items<Row>],
     oracle: &mut O,
     log: &mut Log,
-) -> Result<(Items<Items<Row>>, bool), WorkError>
+) -> Result<(RoundEnd, bool), WorkError>
     requires formed { IsWellFormed program.now }
     requires there { All (λ proc. proc < length program.now.procs) procs.now }
     requires few { length procs.now ≤ length program.now.procs }
@@ -86,13 +93,13 @@ fn round<O: Oracle>(
     requires candidates { AreCandidates members.now candidates.now }
     ensures follows { Follows O.asking oracle.old oracle.new log.old log.new result
         (round program.now procs.now known.now candidates.now) }
-    ensures over { IfOk result (λ next. AreCandidates members.now next.0) }
+    ensures over { IfOk result (λ next. AreCandidates members.now next.0.candidates) }
     ensures fewer { IfOk result (λ next. IsFewer candidates.now next) }
 {
     let all = known_formulas_with(alloc, procs, members, known, candidates)?;
     let all = all.as_slice();
     let judged = judgements_in(alloc, program, procs, all, candidates, oracle, log)?;
-    Ok(rows_left(alloc, judged.as_slice(), log)?)
+    Ok(round_end(alloc, judged, log)?)
 }
 
 /// The known formulas, with those of the candidates.
@@ -111,6 +118,28 @@ fn known_formulas_with(
 {
     let table = table_of(alloc, members, candidates)?;
     Ok(with_table(alloc, procs, table.as_slice(), known)?)
+}
+
+/// The rows that are left with the formulas by which they were judged, and whether any was dropped.
+fn round_end(
+    alloc: Global,
+    judged: Judgements,
+    log: &mut Log,
+) -> Result<(RoundEnd, bool), AllocError>
+    requires { length judged.rows < 2 ^ 32 }
+    ensures noted { Adds (dropped_notes judged.rows) log.old log.new result }
+    ensures exact { IfOk result
+        (λ left. left ≡ (end_of_round judged, some_note (dropped_notes judged.rows))) }
+{
+    let (candidates, dropped) = rows_left(alloc, judged.rows.as_slice(), log)?;
+    let formulas = judged.formulas;
+    Ok((
+        RoundEnd {
+            candidates,
+            formulas,
+        },
+        dropped,
+    ))
 }
 
 /// The rows that are left, and whether any was dropped; each that was is noted.
@@ -132,7 +161,7 @@ fn rows_left(
     Ok((kept, dropped))
 }
 
-/// The rows of all procedures with what refutes each.
+/// The rows of all procedures with what refutes each, and the formulas by which they are judged.
 #[tactic(auto, using(posing::proofs::Following::following))]
 fn judgements_in<O: Oracle>(
     alloc: Global,
@@ -142,16 +171,16 @@ fn judgements_in<O: Oracle>(
     candidates: &[Items<Row>],
     oracle: &mut O,
     log: &mut Log,
-) -> Result<Items<Items<JudgedRow>>, WorkError>
+) -> Result<Judgements, WorkError>
     requires formed { IsWellFormed program.now }
     requires there { All (λ proc. proc < length program.now.procs) procs.now }
     requires known { AreKnown program.now known.now }
     requires candidates { AreCandidates (ends_of_members program.now procs.now) candidates.now }
     ensures { Follows O.asking oracle.old oracle.new log.old log.new result
-        (each (with_round program.now known.now) []
+        (each (with_round program.now known.now) no_judgements
         (members_with (members_of program.now procs.now) candidates.now)) }
 {
-    let mut made = Items::new(alloc);
+    let mut made = no_judgements(alloc);
     for (place, rows) in candidates.iter().enumerate() {
         let proc = procs[place];
         let rows = rows.as_slice();
@@ -160,18 +189,27 @@ fn judgements_in<O: Oracle>(
     Ok(made)
 }
 
-/// The rows of one procedure with what refutes each.
+fn no_judgements(alloc: Global) -> Judgements
+    ensures { result ≡ no_judgements }
+{
+    Judgements {
+        rows: Items::new(alloc),
+        formulas: Items::new(alloc),
+    }
+}
+
+/// The rows of one procedure with what refutes each, and the formula by which they are judged.
 #[tactic(auto, using(posing::proofs::Following::following), unfolding(crate::specs::Candidates::with_round))]
 fn with_round<O: Oracle>(
     alloc: Global,
     program: &Program,
     known: &[Option<Formula>],
-    made: Items<Items<JudgedRow>>,
+    made: Judgements,
     proc: u32,
     rows: &[Row],
     oracle: &mut O,
     log: &mut Log,
-) -> Result<Items<Items<JudgedRow>>, WorkError>
+) -> Result<Judgements, WorkError>
     requires formed { IsWellFormed program.now }
     requires procedure { proc < length program.now.procs }
     requires known { AreKnown program.now known.now }
@@ -183,8 +221,19 @@ fn with_round<O: Oracle>(
 {
     let f = unfolded_formula(alloc, program, proc, known, oracle, log)?;
     let judged = judgements_by(alloc, &f, rows, oracle, log)?;
+    Ok(judgements_and(made, f, judged)?)
+}
+
+fn judgements_and(
+    made: Judgements,
+    f: Formula,
+    judged: Items<JudgedRow>,
+) -> Result<Judgements, AllocError>
+    ensures { IfOk result (λ all. all ≡ judgements_and made f judged) }
+{
     let mut all = made;
-    all.push(judged)?;
+    all.rows.push(judged)?;
+    all.formulas.push(f)?;
     Ok(all)
 }
 

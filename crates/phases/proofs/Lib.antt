@@ -1,5 +1,7 @@
 -- ---- the laws of phases
 pub mod Whole
+-- those of repetitions by any rule
+pub mod Repetitions
 -- the halves of a split
 pub mod Halved
 -- turns of one half, and then of the other

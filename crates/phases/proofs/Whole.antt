@@ -76,7 +76,7 @@ module _ (depth : ℕ) (body : Transition) (voc : Vocabulary) (is : IsRoomy dept
       (λ case h. let few = is.few_columns in let most = h.1 in both_true (nat_le (length case.rows) 64) (nat_le case.aux 64) (le-leb (length case.rows) 64 h.0) (le-leb case.aux 64 (omega arith)))
       g.cases (each-both (λ (case : Case). length case.rows ≤ 64) (λ (case : Case). case.aux ≤ body.to + 1) g.cases star.rows star.auxiliaries))
 
-  star-phased : Always (IsPhased voc.columns) (star_of body voc)
+  pub star-phased : Always (IsPhased voc.columns) (star_of body voc)
   star-phased =
       always_weaker (λ g. IsStar body.to g × StaysAt g) (IsPhased voc.columns) (star_of body voc)
       (λ g h. record {

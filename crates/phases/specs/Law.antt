@@ -1,4 +1,4 @@
--- The law of phases.
+-- The laws of phases, and of repetitions by any rule.
 use Rattle.std.specs.Prelude.{◌≡◌, ℕ, ◌≤◌}
 use Rattle.std.specs.List.{AllByRecursion}
 use Rattle.linear_terms.specs.declared.row.Case.{Case}
@@ -9,6 +9,7 @@ use Rattle.polyhedra.specs.Laws.{HaveCanonicalRows}
 use Rattle.polyhedra.specs.Vocabulary.{Vocabulary}
 use Rattle.recurrence.specs.Law.{IsStarred}
 use Rattle.phases.specs.Phases.{phases_of}
+use Rattle.phases.specs.Repetition.{repetition}
 
 -- the body and the vocabulary are over the same columns, at most 63, and the body's cases have few
 -- auxiliaries
@@ -36,3 +37,13 @@ pub record IsPhased (columns : ℕ) (g : Transition) : Type 0 where
 abbrev pub PhasesFit : Type 0
 PhasesFit = (body : Transition) (voc : Vocabulary) → IsPhasable body voc
     → Always (IsPhased body.to) (phases_of body voc)
+
+-- a repetition holds of these, whatever the rule is
+abbrev pub RepetitionsHold : Type 0
+RepetitionsHold = (body : Transition) (voc : Vocabulary) → IsPhasable body voc
+    → HaveCanonicalRows body.cases → Always (HoldsOfChains body) (repetition body voc)
+
+-- a repetition is small enough to go on with, whatever the rule is
+abbrev pub RepetitionsFit : Type 0
+RepetitionsFit = (body : Transition) (voc : Vocabulary) → IsPhasable body voc
+    → Always (IsPhased body.to) (repetition body voc)

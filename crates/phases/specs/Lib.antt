@@ -13,6 +13,8 @@ pub mod Rules
 pub mod Law
 -- one phase and then another
 pub mod Phases
+-- phases or star, by the rule
+pub mod Repetition
 -- the inequalities by which a body may split
 pub mod Splits
 -- ---- words of proofs

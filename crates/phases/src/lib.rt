@@ -5,9 +5,11 @@
 mod halving;
 mod law;
 mod phasing;
+mod repeating;
 mod rules;
 mod splitting;
 
-pub use law::law_of_phases;
+pub use law::{law_of_phases, law_of_repetition};
 pub use phasing::star;
+pub use repeating::repetition;
 pub use rules::has_phases;

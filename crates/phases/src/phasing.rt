@@ -46,7 +46,7 @@ pub fn star<O: Oracle>(
 
 /// Each case's rows have their monomials in print order, each once, with numbers that are not zero.
 /// It goes over the cases and has no part in an answer.
-fn see_cases(cases: &[Case])
+pub(crate) fn see_cases(cases: &[Case])
     ensures { HaveCanonicalRows cases.now }
 {
     for case in cases {

@@ -1,6 +1,7 @@
 -- Neither the shape of a program nor an execution knows the rule by which iterations are summed up.
 use Rattle.std.proofs.Common.{◌≡◌, ℕ, ◌+◌, ◌&&◌, Bool, List, [], ◌∷◌, Option, Some, Ok, length, refl, sym, ap, ◌∙◌, arith}
-use Rattle.std.specs.Prelude.{None}
+use Rattle.std.specs.Prelude.{None, nat_le}
+use Rattle.std.proofs.lemmas.Bool.{and_parts, leb-true}
 use Rattle.syntax_tree.specs.declared.program.Proc.{Proc}
 use Rattle.syntax_tree.specs.declared.program.Program.{Program}
 use Rattle.syntax_tree.specs.Code.{Statement, Set, Any, Call, Guard, Check, If, Loop, Break, Continue, Return, Code, End, Then, code_of}
@@ -63,8 +64,8 @@ module _ (program : Program) (rule : ℕ) where
     assertions = formed.assertions;
     main = formed.main;
     each = λ k d below. proc-fits _ (formed.each k d below);
-    first_rule = is.0;
-    last_rule = (let few = is.1 in omega (arith, few));
+    first_rule = leb-true 1 rule (and_parts (nat_le 1 rule) _ is).0;
+    last_rule = leb-true rule 4 (and_parts (nat_le rule 4) _ (and_parts (nat_le 1 rule) _ is).1).0;
     once = formed.once;
   }
 

@@ -230,6 +230,25 @@ const CERTIFICATES: [(&[u8], &[u8]); 2] = [
     ),
 ];
 
+// A loop of two phases, the product of two facts, and a recursion by two calls.
+const PROOFS: [(&[u8], u8, &[u8]); 3] = [
+    (
+        b"int main(void) { int t = 0; int h = 0;\n  while (t < 60) { if (t < 20) h = h + 3; else h = h - 1; t = t + 1; }\n  assert(h == 20); }\n",
+        0,
+        b"procedure main\ncase 1\n  $ret = $1\nassertion 1 at 3:3 proved\ntotal 1 proved, 0 unproved\n",
+    ),
+    (
+        b"int main(void) { int a = __VERIFIER_nondet_int(); int b = __VERIFIER_nondet_int();\n  assume(a >= 3); assume(b >= 0); assert(a * b >= 3 * b); assert(a * b >= 1); }\n",
+        1,
+        b"procedure main\ncase 1\n  -$1 + 3 <= 0\n  -$2 <= 0\n  -$1*$2 + 3*$2 <= 0\n  -$1*$2 + 1 <= 0\n  $ret = $3\nassertion 1 at 2:35 proved\nassertion 2 at 2:59 unproved\n  -$1 + 3 <= 0\n  -$2 <= 0\n  -$1*$2 + 3*$2 <= 0\n  $1*$2 <= 0\n  a = $1\n  b = $2\n  point $1*$2 = 0, $1 = 3, $2 = 0\ntotal 1 proved, 1 unproved\n",
+    ),
+    (
+        b"int f(int n) { if (n <= 1) return 1; int a = f(n - 1); int b = f(n - 2); return a + b; }\nint main(void) { int n = __VERIFIER_nondet_int(); int r = f(n); assert(r >= n); }\n",
+        0,
+        b"procedure f\ncase 1\n  n - 1 <= 0\n  $ret = 1\ncase 2\n  -n + 2 <= 0\n  -$1 + 1 <= 0\n  n - $1 - 1 <= 0\n  -$2 + 1 <= 0\n  n - $2 - 2 <= 0\n  $ret = $1 + $2\nnote dropped n - 3 <= 0 point n = 4, $1 = 4, $2 = 4\nnote dropped $ret - 4 <= 0 point n = 2, $1 = 4, $2 = 4\nprocedure main\ncase 1\n  $1 - 1 <= 0\n  $ret = $2\ncase 2\n  -$1 + 2 <= 0\n  -$2 + 1 <= 0\n  $1 - $2 - 1 <= 0\n  -$3 + 1 <= 0\n  $1 - $3 - 2 <= 0\n  $1 - $2 - $3 <= 0\n  $ret = $4\nassertion 1 at 2:65 proved\ntotal 1 proved, 0 unproved\n",
+    ),
+];
+
 /// How a run went: its status, and what its sink took.
 #[derive(Drop)]
 pub(crate) struct Ended {
@@ -410,6 +429,15 @@ fn edits(rt: HostRuntime) -> Result<(), Fail> {
 fn replays(rt: HostRuntime) -> Result<(), Fail> {
     for (input, status, text) in REPLAYS {
         ends(rt.alloc(), &rt, &["cra", "replay"], input, status, text)?;
+    }
+    Ok(())
+}
+
+// What an independent model of the rules proves of texts with phases and products.
+#[test]
+fn proofs(rt: HostRuntime) -> Result<(), Fail> {
+    for (input, status, text) in PROOFS {
+        ends(rt.alloc(), &rt, &["cra", "prove"], input, status, text)?;
     }
     Ok(())
 }

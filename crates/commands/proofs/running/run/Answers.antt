@@ -3,11 +3,11 @@ use Rattle.std.specs.Io.KnownBytes.{append_known}
 use Rattle.report.specs.Text.{text_of}
 use Rattle.commands.specs.declared.status.Status.{Status}
 use Rattle.commands.specs.declared.status.Status.TheVariants.{AllProved, SomeUnproved, NoneFailed, SomeFailed, Certified, CheckFailed, CheckPassed, CostsTold, NoGlobal, TooLong, WantOfMemory}
-use Rattle.commands.proofs.Complete.{complete, complete-certify, complete-replay}
+use Rattle.commands.proofs.Complete.{complete, complete-certify, complete-prove, complete-replay}
 use Rattle.commands.proofs.Costs.{complete-cost, sound-cost}
 use Rattle.commands.proofs.Edits.{complete-edit, sound-edit, true-end}
 use Rattle.commands.proofs.FilePasses.{certified-passes, certified-renewed, complete-check, complete-renew}
-use Rattle.commands.proofs.Sentences.{failing, sound, sound-check, true-text}
+use Rattle.commands.proofs.Sentences.{failing, proved-text, sound, sound-check, sound-prove, true-text}
 use Rattle.commands.proofs.running.run.Goals as goal
 
 or-memory : (status : Status) → (status ≡ AllProved) ⊎ (status ≡ SomeUnproved) → (status ≡ AllProved) ⊎ (status ≡ SomeUnproved) ⊎ (status ≡ WantOfMemory)
@@ -17,6 +17,10 @@ or-memory status (inr some) = inr (inl some)
 -- what was to be analysed has its report
 pub returns-in-Ok-write_all-clause-complete : goal.returns-in-Ok-write_all-clause-complete
 returns-in-Ok-write_all-clause-complete g c to_analyse source sink = or-memory c.in-Ok.reply.status (complete _ _ _ c.in-Ok.reply to_analyse c.in-Ok.ensures.answer)
+
+-- what was to be proved has its report
+pub returns-in-Ok-write_all-clause-complete_prove : goal.returns-in-Ok-write_all-clause-complete_prove
+returns-in-Ok-write_all-clause-complete_prove g c to_prove source sink = or-memory c.in-Ok.reply.status (complete-prove _ _ _ c.in-Ok.reply to_prove c.in-Ok.ensures.answer)
 
 -- what was to be edited has the report of its last version
 pub returns-in-Ok-write_all-clause-complete_edit : goal.returns-in-Ok-write_all-clause-complete_edit
@@ -73,6 +77,14 @@ returns-in-Ok-write_all-clause-passes_renew g c to_renew source sink =
 -- what the end says of executions
 pub returns-in-Ok-write_all-clause-sound : goal.returns-in-Ok-write_all-clause-sound
 returns-in-Ok-write_all-clause-sound g c asked is = sound _ _ _ c.in-Ok.reply asked c.in-Ok.ensures.answer is
+
+pub returns-in-Ok-write_all-clause-sound_prove : goal.returns-in-Ok-write_all-clause-sound_prove
+returns-in-Ok-write_all-clause-sound_prove g c asked is = sound-prove _ _ _ c.in-Ok.reply asked c.in-Ok.ensures.answer is
+
+pub returns-in-Ok-write_all-clause-told_prove : goal.returns-in-Ok-write_all-clause-told_prove
+returns-in-Ok-write_all-clause-told_prove g c asked is =
+    let written : g.W.Sink.taken c.write_all.new.sink ≡ append_known (g.W.Sink.taken c.args.sink.now) c.in-Ok.reply.text = search rules in
+    (c.in-Ok.reply.text, proved-text _ _ _ c.in-Ok.reply asked c.in-Ok.ensures.answer, written)
 
 pub returns-in-Ok-write_all-clause-sound_edit : goal.returns-in-Ok-write_all-clause-sound_edit
 returns-in-Ok-write_all-clause-sound_edit g c asked is = sound-edit _ _ _ c.in-Ok.reply asked c.in-Ok.ensures.answer is

@@ -15,7 +15,7 @@ pub returns-clause-follows : goal.returns-clause-follows
 unfolding failure_verdict_from
 returns-clause-follows g c =
     notes_first c.in_ok-failing.ensures.noted refl
-    (in_other_words (ap verdict_on_cases_from (c.cases.ensures.cases ∙ ap (λ (f : Transition). f.cases) c.in_ok-failing.ensures.exact)) c.verdict_on_cases.ensures.follows)
+    (in_other_words (λ i. verdict_on_cases_from (c.rule.ensures i) ((c.cases.ensures.cases ∙ ap (λ (f : Transition). f.cases) c.in_ok-failing.ensures.exact) i)) c.verdict_on_cases.ensures.follows)
 
 pub returns-clause-sound : goal.returns-clause-sound
 returns-clause-sound g c = λ e.

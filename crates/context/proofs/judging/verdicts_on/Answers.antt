@@ -14,7 +14,7 @@ pub loop-case-init : goal.loop-case-init
 loop-case-init g c =
     record {
       leads =
-          subst (λ made. Leads g.O.Oracle.asking c.args.oracle.now c.args.oracle.now c.args.log.now c.args.log.now (each with_verdict [] c.args.cases.now) (each with_verdict made c.args.cases.now))
+          subst (λ made. Leads g.O.Oracle.asking c.args.oracle.now c.args.oracle.now c.args.log.now c.args.log.now (each (with_verdict c.args.rule) [] c.args.cases.now) (each (with_verdict c.args.rule) made c.args.cases.now))
           (sym c.new-made.ensures) (leads_none _ _ _ _);
       known = subst (AreVerdictsOn []) (sym c.new-made.ensures) tt;
     }
@@ -23,7 +23,7 @@ pub with_verdict-requires : goal.with_verdict-requires
 with_verdict-requires g c = subst IsSolvable (sym c.case-item.is) (c.requires c.loop-case.case-index c.case-item.result c.loop-case-test.true)
 
 pub returns-in_err-made-clause-follows : goal.returns-in_err-made-clause-follows
-returns-in_err-made-clause-follows g c = each_fails with_verdict _ _ c.loop-case.invariant.leads c.loop-case-test.true c.case-item.is c.in_err-made.ensures.follows c.from_residual.ensures.1
+returns-in_err-made-clause-follows g c = each_fails (with_verdict c.args.rule) _ _ c.loop-case.invariant.leads c.loop-case-test.true c.case-item.is c.in_err-made.ensures.follows c.from_residual.ensures.1
 
 pub loop-case-preserved : goal.loop-case-preserved
 loop-case-preserved g c =
@@ -32,7 +32,7 @@ loop-case-preserved g c =
     let i = c.loop-case.case-index in
     let one : take (i + 1) cases ≡ take i cases ++ c.case-item.result ∷ [] = take-one cases i c.case-item.result c.loop-case-test.true c.case-item.is in
     record {
-      leads = each_next with_verdict _ _ c.loop-case.invariant.leads c.loop-case-test.true c.case-item.is c.in_ok-made.ensures.follows;
+      leads = each_next (with_verdict c.args.rule) _ _ c.loop-case.invariant.leads c.loop-case-test.true c.case-item.is c.in_ok-made.ensures.follows;
       known =
           subst (AreVerdictsOn (take (i + 1) cases)) (sym added.is)
           (subst (λ front. AreVerdictsOn front (c.loop-case.made ++ added.verdict ∷ [])) (sym one)

@@ -8,6 +8,6 @@ use Rattle.context.proofs.judging.verdicts_on.Given as goal
 abbrev pub invariant-loop-case : goal.invariant-loop-case
 invariant-loop-case g l =
     record {
-      leads : Leads g.O.Oracle.asking l.initial.oracle l.oracle l.initial.log l.log (each with_verdict [] l.cases) (each with_verdict l.made (drop l.case-index l.cases));
+      leads : Leads g.O.Oracle.asking l.initial.oracle l.oracle l.initial.log l.log (each (with_verdict l.rule) [] l.cases) (each (with_verdict l.rule) l.made (drop l.case-index l.cases));
       known : AreVerdictsOn (take l.case-index l.cases) l.made;
     }

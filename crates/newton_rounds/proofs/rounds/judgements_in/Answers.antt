@@ -1,4 +1,4 @@
-use Rattle.std.proofs.Common.{◌≡◌, ◌<◌, [], ◌+◌, ◌∙◌, List, drop, get_or, length, sym, ap, subst, refl, arith}
+use Rattle.std.proofs.Common.{◌≡◌, ◌<◌, ◌+◌, ◌∙◌, List, drop, get_or, length, sym, ap, subst, refl, arith}
 use Rattle.std.specs.List.{AllByRecursion}
 use Rattle.linear_terms.specs.declared.row.Row.{Row}
 use Rattle.std.proofs.lemmas.List.Elements.{recursion_from_All}
@@ -8,7 +8,7 @@ use Rattle.posing.proofs.Following.{leads_none}
 use Rattle.posing.proofs.Steps.{all_left, at_end, error_first, first_left, in_other_words}
 use Rattle.newton_rounds.specs.Between.{IsRowOver}
 use Rattle.newton_rounds.specs.Pairs.{PairEnds}
-use Rattle.newton_rounds.specs.Candidates.{members_with, with_round}
+use Rattle.newton_rounds.specs.Candidates.{members_with, no_judgements, with_round}
 use Rattle.newton_rounds.specs.Closure.{ends_of_members, pair_ends}
 use Rattle.newton_rounds.specs.Members.{members_of}
 use Rattle.newton_rounds.proofs.CratesBelow.{some_at}
@@ -21,7 +21,7 @@ pub loop-place-init : goal.loop-place-init
 loop-place-init g c =
     let step = with_round c.args.program.now c.args.known.now in
     let all = members_with (members_of c.args.program.now c.args.procs.now) c.args.candidates.now in
-    subst (λ made. Leads g.O.Oracle.asking c.args.oracle.now c.args.oracle.now c.args.log.now c.args.log.now (each step [] all) (each step made all)) (sym c.new-made.ensures) (leads_none _ _ _ _)
+    subst (λ made. Leads g.O.Oracle.asking c.args.oracle.now c.args.oracle.now c.args.log.now c.args.log.now (each step no_judgements all) (each step made all)) (sym c.no_judgements-made.ensures) (leads_none _ _ _ _)
 
 pub bounds-procs-place : goal.bounds-procs-place
 bounds-procs-place g c =

@@ -1,11 +1,11 @@
-use Rattle.std.proofs.Common.{[], drop}
+use Rattle.std.proofs.Common.{drop}
 use Rattle.posing.specs.Follows.{Leads}
 use Rattle.posing.specs.Posing.{each}
-use Rattle.newton_rounds.specs.Candidates.{members_with, with_round}
+use Rattle.newton_rounds.specs.Candidates.{members_with, no_judgements, with_round}
 use Rattle.newton_rounds.specs.Members.{members_of}
 use Rattle.newton_rounds.proofs.rounds.judgements_in.Given as goal
 
 abbrev pub invariant-loop-place : goal.invariant-loop-place
 invariant-loop-place g l =
-    Leads g.O.Oracle.asking l.initial.oracle l.oracle l.initial.log l.log (each (with_round l.program l.known) [] (members_with (members_of l.program l.procs) l.candidates))
+    Leads g.O.Oracle.asking l.initial.oracle l.oracle l.initial.log l.log (each (with_round l.program l.known) no_judgements (members_with (members_of l.program l.procs) l.candidates))
     (each (with_round l.program l.known) l.made (members_with (members_of l.program (drop l.place l.procs)) (drop l.place l.candidates)))

@@ -1,6 +1,6 @@
-use Rattle.std.proofs.Common.{◌≡◌, ◌<◌, [], ◌∙◌, length, map, sym, ap, subst, arith}
+use Rattle.std.proofs.Common.{◌≡◌, ◌<◌, ◌∙◌, Bool, length, refl, sym, ap, subst, arith}
 use Rattle.std.specs.Prelude.{All}
-use Rattle.std.specs.List.{AllByRecursion, AllZip, filter_map}
+use Rattle.std.specs.List.{AllByRecursion, AllZip}
 use Rattle.std.proofs.lemmas.List.Elements.{recursion_from_All}
 use Rattle.std.proofs.lemmas.Slice.Zip.{AllZip-long}
 use Rattle.posing.specs.Posing.{Done, Noted, each}
@@ -8,7 +8,9 @@ use Rattle.posing.proofs.Following.{stops}
 use Rattle.posing.proofs.Steps.{at_end, error_first, notes_first, value_first, value_has}
 use Rattle.leaf_cases.specs.Conditions.{AreKnown}
 use Rattle.newton_rounds.specs.Between.{AreCandidates, IsFewer, IsMember}
-use Rattle.newton_rounds.specs.Candidates.{dropped_notes, kept_row, members_with, round, some_note, table_of, with_round}
+use Rattle.newton_rounds.specs.declared.findings.Judgements.{Judgements}
+use Rattle.newton_rounds.specs.declared.findings.RoundEnd.{RoundEnd}
+use Rattle.newton_rounds.specs.Candidates.{dropped_notes, end_of_round, members_with, no_judgements, round, some_note, table_of, with_round}
 use Rattle.newton_rounds.specs.Closure.{ends_of_members}
 use Rattle.newton_rounds.specs.Members.{members_of, with_table}
 use Rattle.newton_rounds.proofs.GroupCalls.{ends-many, members-many}
@@ -42,8 +44,8 @@ judgements_in-requires-clause-known g c =
 pub judgements_in-requires-clause-candidates : goal.judgements_in-requires-clause-candidates
 judgements_in-requires-clause-candidates g c = subst (λ m. AreCandidates m c.args.candidates.now) c.requires.members c.requires.candidates
 
-pub rows_left-requires : goal.rows_left-requires
-rows_left-requires g c =
+pub round_end-requires : goal.round_end-requires
+round_end-requires g c =
     let program = c.args.program.now in
     let procs = c.args.procs.now in
     let candidates = c.args.candidates.now in
@@ -51,8 +53,8 @@ rows_left-requires g c =
     let members = ends_of_members program procs in
     let are = subst (λ m. AreCandidates m candidates) c.requires.members c.requires.candidates in
     let same : length candidates ≡ length (members_of program procs) = candidates-length members candidates are ∙ ends-many program procs there ∙ sym (members-many program procs there) in
-    let judged = value_has (AllZip AreOf candidates) c.in_ok-judged.ensures (rows-judged program c.as_slice-all.result.now (members_of program procs) candidates same) in
-    let long = ap length c.as_slice.ensures ∙ AllZip-long AreOf candidates c.in_ok-judged.judged judged ∙ same ∙ members-many program procs there in
+    let judged = value_has (λ (made : Judgements). AllZip AreOf candidates made.rows) c.in_ok-judged.ensures (rows-judged program c.as_slice-all.result.now (members_of program procs) candidates same) in
+    let long = AllZip-long AreOf candidates c.in_ok-judged.judged.rows judged ∙ same ∙ members-many program procs there in
     let few = few-procs program c.requires.formed procs there c.requires.few in
     omega (arith, long, few)
 
@@ -62,18 +64,18 @@ returns-in_err-judged-clause-follows g c =
     let procs = c.args.procs.now in
     let candidates = c.args.candidates.now in
     let known = c.as_slice-all.ensures ∙ c.in_ok-all.ensures ∙ ap (λ m. with_table procs (table_of m candidates) c.args.known.now) c.requires.members in
-    error_first (λ found. Noted (dropped_notes found) (Done (map (filter_map kept_row) found, some_note (dropped_notes found)))) c.in_err-judged.ensures
-    (ap (λ all. each (with_round c.args.program.now all) [] (members_with (members_of c.args.program.now procs) candidates)) known) c.from_residual-in_err-judged.ensures.1
+    error_first (λ (found : Judgements). Noted (dropped_notes found.rows) (Done (end_of_round found, some_note (dropped_notes found.rows)))) c.in_err-judged.ensures
+    (ap (λ all. each (with_round c.args.program.now all) no_judgements (members_with (members_of c.args.program.now procs) candidates)) known) c.from_residual-in_err-judged.ensures.1
 
-pub returns-in_err-rows_left-clause-follows : goal.returns-in_err-rows_left-clause-follows
+pub returns-in_err-round_end-clause-follows : goal.returns-in_err-round_end-clause-follows
 unfolding round
-returns-in_err-rows_left-clause-follows g c =
+returns-in_err-round_end-clause-follows g c =
     let procs = c.args.procs.now in
     let candidates = c.args.candidates.now in
     let known = c.as_slice-all.ensures ∙ c.in_ok-all.ensures ∙ ap (λ m. with_table procs (table_of m candidates) c.args.known.now) c.requires.members in
-    value_first (λ found. Noted (dropped_notes found) (Done (map (filter_map kept_row) found, some_note (dropped_notes found)))) c.in_ok-judged.ensures
-    (ap (λ all. each (with_round c.args.program.now all) [] (members_with (members_of c.args.program.now procs) candidates)) known)
-    (stops _ _ _ _ _ _ c.in_err-rows_left.ensures.noted c.from_residual-in_err-rows_left.ensures.1)
+    value_first (λ (found : Judgements). Noted (dropped_notes found.rows) (Done (end_of_round found, some_note (dropped_notes found.rows)))) c.in_ok-judged.ensures
+    (ap (λ all. each (with_round c.args.program.now all) no_judgements (members_with (members_of c.args.program.now procs) candidates)) known)
+    (stops _ _ _ _ _ _ c.in_err-round_end.ensures.noted c.from_residual-in_err-round_end.ensures.1)
 
 pub returns-clause-follows : goal.returns-clause-follows
 unfolding round
@@ -81,11 +83,9 @@ returns-clause-follows g c =
     let procs = c.args.procs.now in
     let candidates = c.args.candidates.now in
     let known = c.as_slice-all.ensures ∙ c.in_ok-all.ensures ∙ ap (λ m. with_table procs (table_of m candidates) c.args.known.now) c.requires.members in
-    let same = c.as_slice.ensures in
-    value_first (λ found. Noted (dropped_notes found) (Done (map (filter_map kept_row) found, some_note (dropped_notes found)))) c.in_ok-judged.ensures
-    (ap (λ all. each (with_round c.args.program.now all) [] (members_with (members_of c.args.program.now procs) candidates)) known)
-    (notes_first c.in_ok-rows_left.ensures.noted (ap dropped_notes same)
-    (at_end (c.in_ok-rows_left.ensures.exact ∙ ap (λ found. (map (filter_map kept_row) found, some_note (dropped_notes found))) same)))
+    value_first (λ (found : Judgements). Noted (dropped_notes found.rows) (Done (end_of_round found, some_note (dropped_notes found.rows)))) c.in_ok-judged.ensures
+    (ap (λ all. each (with_round c.args.program.now all) no_judgements (members_with (members_of c.args.program.now procs) candidates)) known)
+    (notes_first c.in_ok-round_end.ensures.noted refl (at_end c.in_ok-round_end.ensures.exact))
 
 pub returns-clause-over : goal.returns-clause-over
 returns-clause-over g c =
@@ -96,8 +96,8 @@ returns-clause-over g c =
     let members = ends_of_members program procs in
     let are = subst (λ m. AreCandidates m candidates) c.requires.members c.requires.candidates in
     let same : length candidates ≡ length (members_of program procs) = candidates-length members candidates are ∙ ends-many program procs there ∙ sym (members-many program procs there) in
-    let kept = value_has (λ next. AreCandidates members next.0 × IsFewer candidates next) (returns-clause-follows g c) (round-keeps program procs c.args.known.now candidates same are) in
-    subst (λ m. AreCandidates m c.in_ok-rows_left.field-0.0) (sym c.requires.members) kept.0
+    let kept = value_has (λ (next : RoundEnd × Bool). AreCandidates members next.0.candidates × IsFewer candidates next) (returns-clause-follows g c) (round-keeps program procs c.args.known.now candidates same are) in
+    subst (λ m. AreCandidates m c.in_ok-round_end.field-0.0.candidates) (sym c.requires.members) kept.0
 
 pub returns-clause-fewer : goal.returns-clause-fewer
 returns-clause-fewer g c =
@@ -108,5 +108,5 @@ returns-clause-fewer g c =
     let members = ends_of_members program procs in
     let are = subst (λ m. AreCandidates m candidates) c.requires.members c.requires.candidates in
     let same : length candidates ≡ length (members_of program procs) = candidates-length members candidates are ∙ ends-many program procs there ∙ sym (members-many program procs there) in
-    let kept = value_has (λ next. AreCandidates members next.0 × IsFewer candidates next) (returns-clause-follows g c) (round-keeps program procs c.args.known.now candidates same are) in
+    let kept = value_has (λ (next : RoundEnd × Bool). AreCandidates members next.0.candidates × IsFewer candidates next) (returns-clause-follows g c) (round-keeps program procs c.args.known.now candidates same are) in
     kept.1

@@ -1,9 +1,9 @@
-use Rattle.std.proofs.Common.{◌≡◌, ◌∷◌, [], ◌++◌, ◌∙◌, sym, refl}
+use Rattle.std.proofs.Common.{[], refl}
 use Rattle.items.proofs.Each.{each-more}
 use Rattle.posing.specs.Posing.{◌>>=◌, Done, each}
 use Rattle.posing.proofs.Steps.{at_end, value_first}
 use Rattle.newton_rounds.specs.Between.{IsRowOver}
-use Rattle.newton_rounds.specs.Candidates.{with_judged, with_round}
+use Rattle.newton_rounds.specs.Candidates.{judgements_and, with_judged, with_round}
 use Rattle.newton_rounds.specs.Closure.{pair_ends}
 use Rattle.newton_rounds.specs.Shapes.{IsRefutable}
 use Rattle.newton_rounds.proofs.CratesBelow.{some_at}
@@ -21,5 +21,5 @@ judgements_by-requires g c =
 pub returns : goal.returns
 unfolding with_round
 returns g c = λ p is.
-    value_first (λ f. each (with_judged f) [] c.args.rows.now >>= λ judged. Done (c.args.made ++ judged ∷ [])) (c.in_ok-f.ensures.follows p is) refl
-    (value_first (λ judged. Done (c.args.made ++ judged ∷ [])) c.in_ok-judged.ensures refl (at_end c.in_ok-push.ensures.ok))
+    value_first (λ f. each (with_judged f) [] c.args.rows.now >>= λ judged. Done (judgements_and c.args.made f judged)) (c.in_ok-f.ensures.follows p is) refl
+    (value_first (λ judged. Done (judgements_and c.args.made c.in_ok-f.f judged)) c.in_ok-judged.ensures refl (at_end c.in_ok-judgements_and.ensures))
