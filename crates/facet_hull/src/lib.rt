@@ -1,0 +1,12 @@
+//! The exact hull of the changes of a loop's body: its definition, its normals, and what rows along
+//! these say of many turns.
+#![tactic(auto)]
+
+mod case_cone;
+mod hull;
+mod images;
+mod laws;
+mod lines;
+
+pub use hull::normals;
+pub use laws::{law_of_images, law_of_normals, law_of_turns, law_of_two_spots};
