@@ -26,4 +26,5 @@ returns c =
     let fifth = c.in_ok-subcommand-5.ensures.shape (c.in_ok-sample.ensures.globals ∙ ap₂ (λ one other. one || other) c.new-2.ensures.local sample_global) ∙ ap₂ with_subcommand fourth (ap (λ (a : App). a.top) sample_is) in
     let sixth = c.in_ok-subcommand-6.ensures.shape (search rules) ∙ ap₂ with_subcommand fifth (ap (λ (a : App). a.top) c.new-10.ensures.app) in
     let seventh = c.in_ok-subcommand-7.ensures.shape (search rules) ∙ ap₂ with_subcommand sixth (ap (λ (a : App). a.top) c.new-11.ensures.app) in
-    c.in_ok-subcommand-8.ensures.shape (c.in_ok-cost.ensures.globals ∙ ap₂ (λ one other. one || other) c.new-4.ensures.local name_global) ∙ ap₂ with_subcommand seventh (ap (λ (a : App). a.top) cost_is)
+    let eighth = c.in_ok-subcommand-8.ensures.shape (c.in_ok-cost.ensures.globals ∙ ap₂ (λ one other. one || other) c.new-4.ensures.local name_global) ∙ ap₂ with_subcommand seventh (ap (λ (a : App). a.top) cost_is) in
+    c.in_ok-subcommand-9.ensures.shape (search rules) ∙ ap₂ with_subcommand eighth (ap (λ (a : App). a.top) c.new-12.ensures.app)
