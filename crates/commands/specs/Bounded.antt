@@ -1,6 +1,6 @@
 -- What the bounds that `cra cost NAME` prints say, in words of executions alone.
 use Rattle.std.specs.Prelude.{◌≡◌, ℕ, ℤ, List, ◌++◌, map, Option, Some, slice_get}
-use Rattle.std.specs.Io.KnownBytes.{append_known}
+use Rattle.std.specs.Io.KnownBytes.{Appends}
 use Rattle.linear_terms.specs.declared.row.Case.{Case}
 use Rattle.linear_terms.specs.declared.row.Row.{Row}
 use Rattle.transition_formula.specs.Meaning.{HoldsCase}
@@ -59,4 +59,4 @@ pub record AreTrueBounds (program : Program) (name text : List ℕ) : Type 0 whe
 -- a sink took true bounds behind what it had
 abbrev pub TellsTrueBounds : Program → List ℕ → Option (List ℕ) → Option (List ℕ) → Type 0
 TellsTrueBounds program name before after = (text : List ℕ) × AreTrueBounds program name text
-    × (after ≡ append_known before text)
+    × Appends before after text

@@ -1,7 +1,7 @@
 -- What a run answers to its words and its input: one word for each command, from the file of the
 -- command.
 use Rattle.std.specs.Prelude.{◌≡◌, ℕ, List, Option, None, Some}
-use Rattle.std.specs.Io.KnownBytes.{prepend_known}
+use Rattle.std.specs.Io.KnownBytes.{Consumes}
 use Rattle.summary_cache.specs.Limits.{most_bytes}
 use Rattle.commands.specs.declared.reply.Reply.{Reply}
 use Rattle.commands.specs.declared.words.Work.{Work}
@@ -25,7 +25,7 @@ pub record IsReplyToRead (limit : ℕ) (Answers : List ℕ → Reply → Type 0)
     (before after : Option (List ℕ)) (reply : Reply) : Type 0 where
   pub input : List ℕ
   pub is_input : IsInput limit before input
-  pub is_front : before ≡ prepend_known input after
+  pub is_front : Consumes before after input
   pub is_reply : Answers input reply
 
 -- the reply answers what the words ask for; where nothing is read, the source has left what it had

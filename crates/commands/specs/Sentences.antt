@@ -1,6 +1,6 @@
 -- What the end of a run says, in words of executions alone.
 use Rattle.std.specs.Prelude.{◌≡◌, ℕ, ◌+◌, ◌<◌, List, ◌++◌, Option, length}
-use Rattle.std.specs.Io.KnownBytes.{append_known}
+use Rattle.std.specs.Io.KnownBytes.{Appends}
 use Rattle.execution.specs.Execution.{Fails}
 use Rattle.syntax_tree.specs.declared.program.Program.{Program}
 use Rattle.report.specs.declared.blocks.Report.{Report}
@@ -32,9 +32,9 @@ IsTrueFile file program = IsTrueText program file.report
 -- what was written is a text that is true of the program
 abbrev pub TellsTrueText : Program → Option (List ℕ) → Option (List ℕ) → Type 0
 TellsTrueText program before now = (text : List ℕ) × IsTrueText program text
-    × (now ≡ append_known before text)
+    × Appends before now text
 
 -- what was written ends with a text that is true of the program
 abbrev pub EndsWithTrueText : Program → Option (List ℕ) → Option (List ℕ) → Type 0
 EndsWithTrueText program before now = (lines : List ℕ) × (text : List ℕ) × IsTrueText program text
-    × (now ≡ append_known before (lines ++ text))
+    × Appends before now (lines ++ text)

@@ -1,5 +1,5 @@
 ghost use Rattle.std.specs.Prelude.{◌≡◌, ◌≢◌, ◌+◌, ◌<◌, ◌≤◌, ◌^◌, ℕ, List, Option, true, false, Err, IfOk, length, vec_len};
-ghost use Rattle.std.specs.Io.KnownBytes.{prepend_known, IsAtEnd};
+ghost use Rattle.std.specs.Io.KnownBytes.{Consumes, IsAtEnd};
 ghost use Rattle.whole_numbers.specs.Counters.{Rose};
 ghost use Rattle.commands.specs.Input.{IsInput};
 
@@ -51,8 +51,8 @@ fn read_piece<S: Source>(
 ) -> Result<bool, InputError>
     requires { 0 < length piece.old }
     ensures told { IfOk result (λ _. (all : Option (List ℕ))
-        → all ≡ prepend_known bytes.old.items (S.left source.old)
-        → all ≡ prepend_known bytes.new.items (S.left source.new)) }
+        → Consumes all (S.left source.old) bytes.old.items
+        → Consumes all (S.left source.new) bytes.new.items) }
     ensures within { IfOk result (λ _. vec_len bytes.new ≤ vec_len bytes.old + length piece.old) }
     ensures more { IfOk result (λ came. came ≡ true → vec_len bytes.old < vec_len bytes.new) }
     ensures end { IfOk result (λ came. came ≡ false → IsAtEnd (S.left source.new)) }
@@ -76,7 +76,7 @@ pub fn read_input<S: Source>(
     requires piece { 0 < len }
     ensures input { IfOk result (λ bytes. IsInput limit (S.left source.old) bytes.items) }
     ensures rest { IfOk result
-        (λ bytes. S.left source.old ≡ prepend_known bytes.items (S.left source.new)) }
+        (λ bytes. Consumes (S.left source.old) (S.left source.new) bytes.items) }
     ensures failed { result ≡ Err InputError.Failed
         → Rose (S.faults source.old) (S.faults source.new) }
     ensures counted { result ≢ Err InputError.Failed → S.faults source.new ≡ S.faults source.old }

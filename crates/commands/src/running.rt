@@ -1,5 +1,5 @@
 ghost use Rattle.std.specs.Prelude.{◌≡◌, ◌≢◌, ◌⊎◌, false, Err, IfOk, map, string_bytes};
-ghost use Rattle.std.specs.Io.KnownBytes.{append_known};
+ghost use Rattle.std.specs.Io.KnownBytes.{Appends};
 ghost use Rattle.whole_numbers.specs.Counters.{Rose};
 ghost use Rattle.commands.specs.Output.{TookPart};
 ghost use Rattle.commands.specs.declared.reply.Reply.{Reply as Answer};
@@ -160,7 +160,7 @@ pub fn run<R: Source, W: Sink>(
     ensures answered { IsAnswer result → (reply : Answer)
         × IsReply (map string_bytes words.now) (R.left source.old) (R.left source.new) reply
         × (result ≡ reply.status)
-        × (W.taken sink.new ≡ append_known (W.taken sink.old) reply.text) }
+        × Appends (W.taken sink.old) (W.taken sink.new) reply.text }
     ensures unread { reads_source (work_of (map string_bytes words.now)) ≡ false
         → source.new ≡ source.old }
 

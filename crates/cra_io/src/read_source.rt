@@ -1,11 +1,11 @@
 ghost use Rattle.std.specs.Prelude.{◌≡◌};
-ghost use Rattle.cra_io.specs.Adapters.{read_faults};
+ghost use Rattle.cra_io.specs.Adapters.{read_faults, reader_of};
 
 use crate::traits::{Failed, Source};
 use std::io::Read;
 
-/// A source over a reader of std. It tells no content, and each error of the reader is a fault, an
-/// interrupted read too.
+/// A source over a reader of std, which has left what the reader has left, where that is known. Each
+/// error of the reader is a fault, an interrupted read too.
 #[derive(Debug, Drop)]
 pub struct ReadSource<R> {
     reader: R,
@@ -15,17 +15,17 @@ pub struct ReadSource<R> {
 impl<R: Read> ReadSource<R> {
     /// A source over this reader, with no fault so far.
     pub fn new(reader: R) -> ReadSource<R>
-        ensures { read_faults result ≡ 0 }
+        ensures reader { reader_of result ≡ reader }
+        ensures faults { read_faults result ≡ 0 }
     {
         ReadSource { reader, faults: 0 }
     }
 }
 
 impl<R: Read> Source for ReadSource<R> {
-    ghost use Rattle.std.specs.Prelude.{None};
-    ghost use Rattle.cra_io.specs.Adapters.{read_faults};
+    ghost use Rattle.cra_io.specs.Adapters.{read_faults, reader_of};
 
-    ghost left = { λ _. None };
+    ghost left = { λ s. R.remaining (reader_of s) };
 
     ghost faults = { read_faults };
 

@@ -1,5 +1,5 @@
 ghost use Rattle.std.specs.Prelude.{◌≡◌, ◌<◌, ◌≤◌, ℕ, List, Option, length, take, IfOk, OnErr};
-ghost use Rattle.std.specs.Io.KnownBytes.{prepend_known, append_known, IsAtEnd};
+ghost use Rattle.std.specs.Io.KnownBytes.{Appends, Consumes, IsAtEnd, Keeps};
 ghost use Rattle.cra_io.specs.Faults.{HasCause};
 
 /// A read or a write that failed. The count of faults of its source or sink rose.
@@ -19,9 +19,9 @@ pub trait Source {
     fn read(&mut self, into: &mut [u8]) -> Result<usize, Failed>
         ensures within { IfOk result (λ n. n ≤ length into.new) }
         ensures bytes { IfOk result
-            (λ n. left self.old ≡ prepend_known (take n into.new) (left self.new)) }
+            (λ n. Consumes (left self.old) (left self.new) (take n into.new)) }
         ensures end { IfOk result (λ n. n ≡ 0 → 0 < length into.new → IsAtEnd (left self.new)) }
-        ensures kept { OnErr result (left self.new ≡ left self.old) }
+        ensures kept { OnErr result (Keeps (left self.old) (left self.new)) }
         ensures cause { HasCause (faults self.old) (faults self.new) result };
 }
 
@@ -39,7 +39,7 @@ pub trait Sink {
         ensures within { IfOk result (λ n. n ≤ length piece.now) }
         ensures moves { IfOk result (λ n. 0 < length piece.now → 0 < n) }
         ensures bytes { IfOk result
-            (λ n. taken self.new ≡ append_known (taken self.old) (take n piece.now)) }
-        ensures kept { OnErr result (taken self.new ≡ taken self.old) }
+            (λ n. Appends (taken self.old) (taken self.new) (take n piece.now)) }
+        ensures kept { OnErr result (Keeps (taken self.old) (taken self.new)) }
         ensures cause { HasCause (faults self.old) (faults self.new) result };
 }

@@ -1,5 +1,5 @@
 use Rattle.std.proofs.Common.{◌≡◌, ◌+◌, ◌-◌, ◌≤◌, vec_len}
-use Rattle.std.specs.Io.KnownBytes.{prepend_known}
+use Rattle.std.specs.Io.KnownBytes.{Consumes}
 use Rattle.commands.proofs.input.read_input.Given as goal
 
 -- what was read stands before what is left, one byte past the limit at most, and no read failed so
@@ -10,7 +10,7 @@ invariant-loop-bytes g l =
     record {
       within : vec_len l.bytes ≤ l.limit + 1;
       room : vec_len l.piece ≡ l.len;
-      told : S.left l.fn.source ≡ prepend_known l.bytes.items (S.left l.source);
+      told : Consumes (S.left l.fn.source) (S.left l.source) l.bytes.items;
       counted : S.faults l.source ≡ S.faults l.fn.source;
     }
 

@@ -1,5 +1,5 @@
 use Rattle.std.proofs.Common.{◌≡◌, ◌-◌, ◌≤◌, length, take}
-use Rattle.std.specs.Io.KnownBytes.{append_known}
+use Rattle.std.specs.Io.KnownBytes.{Appends}
 use Rattle.commands.proofs.output.write_all.Given as goal
 
 -- what is done of the text is what the sink took, and no write failed so far
@@ -8,7 +8,7 @@ invariant-loop-done g l =
     let W = g.W.Sink in
     record {
       within : l.done ≤ length l.text;
-      told : W.taken l.sink ≡ append_known (W.taken l.fn.sink) (take l.done l.text);
+      told : Appends (W.taken l.fn.sink) (W.taken l.sink) (take l.done l.text);
       counted : W.faults l.sink ≡ W.faults l.fn.sink;
     }
 

@@ -1,5 +1,5 @@
-use Rattle.std.proofs.Common.{◌≡◌, ◌⊎◌, inl, inr, ap, ◌∙◌, rules}
-use Rattle.std.specs.Io.KnownBytes.{append_known}
+use Rattle.std.proofs.Common.{◌≡◌, ◌⊎◌, inl, inr, subst, rules}
+use Rattle.std.specs.Io.KnownBytes.{Appends}
 use Rattle.report.specs.Text.{text_of}
 use Rattle.commands.specs.declared.status.Status.{Status}
 use Rattle.commands.specs.declared.status.Status.TheVariants.{AllProved, SomeUnproved, NoneFailed, SomeFailed, Certified, CheckFailed, CheckPassed, CostsTold, NoGlobal, TooLong, WantOfMemory}
@@ -83,7 +83,7 @@ returns-in-Ok-write_all-clause-sound_prove g c asked is = sound-prove _ _ _ c.in
 
 pub returns-in-Ok-write_all-clause-told_prove : goal.returns-in-Ok-write_all-clause-told_prove
 returns-in-Ok-write_all-clause-told_prove g c asked is =
-    let written : g.W.Sink.taken c.write_all.new.sink ≡ append_known (g.W.Sink.taken c.args.sink.now) c.in-Ok.reply.text = search rules in
+    let written : Appends (g.W.Sink.taken c.args.sink.now) (g.W.Sink.taken c.write_all.new.sink) c.in-Ok.reply.text = search rules in
     (c.in-Ok.reply.text, proved-text _ _ _ c.in-Ok.reply asked c.in-Ok.ensures.answer, written)
 
 pub returns-in-Ok-write_all-clause-sound_edit : goal.returns-in-Ok-write_all-clause-sound_edit
@@ -91,9 +91,9 @@ returns-in-Ok-write_all-clause-sound_edit g c asked is = sound-edit _ _ _ c.in-O
 
 pub returns-in-Ok-write_all-clause-told_edit : goal.returns-in-Ok-write_all-clause-told_edit
 returns-in-Ok-write_all-clause-told_edit g c asked is =
-    let written : g.W.Sink.taken c.write_all.new.sink ≡ append_known (g.W.Sink.taken c.args.sink.now) c.in-Ok.reply.text = search rules in
+    let written : Appends (g.W.Sink.taken c.args.sink.now) (g.W.Sink.taken c.write_all.new.sink) c.in-Ok.reply.text = search rules in
     let end = true-end _ _ _ c.in-Ok.reply asked c.in-Ok.ensures.answer in
-    (end.lines, text_of end.report, end.true_text, written ∙ ap (append_known (g.W.Sink.taken c.args.sink.now)) end.is)
+    (end.lines, text_of end.report, end.true_text, subst (Appends (g.W.Sink.taken c.args.sink.now) (g.W.Sink.taken c.write_all.new.sink)) end.is written)
 
 pub returns-in-Ok-write_all-clause-sound_check : goal.returns-in-Ok-write_all-clause-sound_check
 returns-in-Ok-write_all-clause-sound_check g c asked is = sound-check _ _ _ c.in-Ok.reply asked c.in-Ok.ensures.answer is
@@ -103,13 +103,13 @@ returns-in-Ok-write_all-clause-failing g c asked is = failing _ _ _ c.in-Ok.repl
 
 pub returns-in-Ok-write_all-clause-told : goal.returns-in-Ok-write_all-clause-told
 returns-in-Ok-write_all-clause-told g c asked is =
-    let written : g.W.Sink.taken c.write_all.new.sink ≡ append_known (g.W.Sink.taken c.args.sink.now) c.in-Ok.reply.text = search rules in
+    let written : Appends (g.W.Sink.taken c.args.sink.now) (g.W.Sink.taken c.write_all.new.sink) c.in-Ok.reply.text = search rules in
     (c.in-Ok.reply.text, true-text _ _ _ c.in-Ok.reply asked c.in-Ok.ensures.answer, written)
 
 -- what is told of a global's change
 pub returns-in-Ok-write_all-clause-sound_cost : goal.returns-in-Ok-write_all-clause-sound_cost
 returns-in-Ok-write_all-clause-sound_cost g c asked is =
-    let written : g.W.Sink.taken c.write_all.new.sink ≡ append_known (g.W.Sink.taken c.args.sink.now) c.in-Ok.reply.text = search rules in
+    let written : Appends (g.W.Sink.taken c.args.sink.now) (g.W.Sink.taken c.write_all.new.sink) c.in-Ok.reply.text = search rules in
     (c.in-Ok.reply.text, sound-cost _ _ _ c.in-Ok.reply asked c.in-Ok.ensures.answer is, written)
 
 or-memory-costed : {P Q : Type 0} (status : Status) → ((status ≡ CostsTold) × P) ⊎ ((status ≡ NoGlobal) × Q) → ((status ≡ CostsTold) × P) ⊎ ((status ≡ NoGlobal) × Q) ⊎ (status ≡ WantOfMemory)
