@@ -37,9 +37,9 @@ stratum_if-tells : (asked : Bool) (body : Transition) (lower : _) → TellsAll (
 stratum_if-tells true body lower = stratum-tells body lower
 stratum_if-tells false body lower = tells-done None
 
-strata-tell : (body : Transition) → TellsAll (strata body)
+strata-tell : (body : Transition) (products : _) → TellsAll (strata body products)
 unfolding strata
-strata-tell body = tells-bind (stratum-tells body []) (λ v1. tells-bind (stratum_if-tells _ body _) (λ v2. tells-then _ (stratum_if-tells _ body _)))
+strata-tell body products = tells-bind (stratum-tells body []) (λ v1. tells-bind (stratum_if-tells _ body _) (λ v2. tells-then _ (stratum_if-tells _ body _)))
 
 rows-tell : (body : Transition) (voc : Vocabulary) (found : _) → TellsAll (rows_of body voc found)
 unfolding rows_of
@@ -51,7 +51,7 @@ rows-tell body voc found =
 
 turns-tell : (body : Transition) (voc : Vocabulary) → TellsAll (turns body voc)
 unfolding turns
-turns-tell body voc = tells-bind (tells-noted (losses-tell_none _) (strata-tell body)) (λ found. tells-then _ (rows-tell body voc found))
+turns-tell body voc = tells-bind (tells-noted (losses-tell_none _) (strata-tell body _)) (λ found. tells-then _ (rows-tell body voc found))
 
 star_by-tells : (body : Transition) (voc : Vocabulary) (cases : List Case) → TellsAll (star_by body voc cases)
 star_by-tells body voc [] = tells-done _

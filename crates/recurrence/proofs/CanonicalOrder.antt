@@ -31,7 +31,7 @@ use Rattle.polyhedra.specs.Finish as finish
 use Rattle.polyhedra.specs.Infeasibility.{infeasible}
 use Rattle.polyhedra.specs.Settle.{feasible, feasible_by, feasible_left, settled_formula, settled_case, settled_cases, unless, with_settled}
 use Rattle.polyhedra.specs.Thin.{thinned_case, thinned_rows}
-use Rattle.polyhedra.proofs.Thinned.{thinned_rows-keep}
+use Rattle.polyhedra.proofs.ThinLaws.{thinned_rows-keep}
 
 -- each row has its monomials in print order, each once
 abbrev pub IsCanonicalRow : Row → Type 0

@@ -24,10 +24,10 @@ use Rattle.polyhedra.specs.Finish.{finish_of_case}
 use Rattle.polyhedra.specs.Relations.{relations_of}
 use Rattle.polyhedra.specs.Squash.{are_same, change_after, changes_after, entries_of, fitted_formula, noted_squash, posts_after, change_relations, relation_row, squash_case, squash_rows, squashed_formula, squashed_case, with_bounds, with_differences, with_relation, with_relations}
 use Rattle.polyhedra.specs.Vocabulary.{Vocabulary, IsDirectionOver, IsVocabulary}
-use Rattle.polyhedra.proofs.Directed.{directions-over}
-use Rattle.polyhedra.proofs.Shaped.{HasIfMade, bounded-keeps, each-keeps, with_row-keeps}
+use Rattle.polyhedra.proofs.DirectionShapes.{directions-over}
+use Rattle.polyhedra.proofs.RowShapes.{HasIfMade, bounded-keeps, each-keeps, with_row-keeps}
 use Rattle.recurrence.specs.Star.{star_by, star_of, turns}
-use Rattle.recurrence.proofs.Shaped.{IsCanonicalIfMade, canonical-Ok, canonical-at_most, canonical-difference, canonical-put_in_for, turns-canonical}
+use Rattle.recurrence.proofs.ColumnShapes.{IsCanonicalIfMade, canonical-Ok, canonical-at_most, canonical-difference, canonical-put_in_for, turns-canonical}
 use Rattle.recurrence.proofs.CanonicalOrder.{AreCanonicalCases, IsCanonicalCase, IsCanonicalFormula, IsCanonicalIf, IsCanonicalRow, finished-canonical}
 
 -- ---- sums, and the rows of relations

@@ -4,20 +4,23 @@ pub mod Whole
 pub mod CanonicalOrder
 pub mod CanonicalStars
 -- ---- it holds of every run
-pub mod Starred
+pub mod StarLaws
 -- terms and progressions along a run
+pub mod SolvedColumns
+pub mod ProductGrowth
 pub mod Along
-pub mod Stratified
-pub mod Progressed
+pub mod StratumTerms
+pub mod ProgressionRows
 -- ---- the second case can be put in order
-pub mod Shaped
+pub mod ColumnShapes
 pub mod Within
-pub mod Numbered
+pub mod NumberedColumns
+pub mod KnownCoverage
 -- ---- the calls
 -- linear polynomials, and the columns of variables
 pub mod Linear
-pub mod Rising
+pub mod RisingNumbers
 -- computations part by part
 pub mod Parts
 -- ---- vocabularies of tests and benches
-pub mod Named
+pub mod NamedVariables

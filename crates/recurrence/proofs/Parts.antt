@@ -28,15 +28,16 @@ use Rattle.polyhedra.specs.Changes.{modified_variables}
 use Rattle.polyhedra.specs.Directions.{directions}
 use Rattle.polyhedra.specs.Squash as squash
 use Rattle.polyhedra.specs.Vocabulary.{Vocabulary, IsDirectionOver}
-use Rattle.polyhedra.proofs.Covering.{over-covered}
-use Rattle.polyhedra.proofs.Directed.{directions-over}
+use Rattle.polyhedra.proofs.Coverage.{over-covered}
+use Rattle.polyhedra.proofs.DirectionShapes.{directions-over}
 use Rattle.recurrence.specs.Law.{IsStarred}
 use Rattle.recurrence.specs.declared.terms.Term.{Term}
 use Rattle.recurrence.specs.declared.terms.Strata.{Strata}
+use Rattle.recurrence.specs.Products.{products}
 use Rattle.recurrence.specs.Progressions.{signs, open_variables, progressions_of, progressions, bounded_progression}
 use Rattle.transition_formula.specs.Composition.{identity_of, union_of}
 use Rattle.polyhedra.specs.Finish.{finish_of_case}
-use Rattle.recurrence.specs.Star.{after_from, count, change_over_turns, posts, moves, term_row, terms_once, some_turn, rows_of, turns, star_by, star_of}
+use Rattle.recurrence.specs.Star.{after_from, count, change_over_turns, posts, moves, term_row, terms_with_row, some_turn, rows_of, turns, star_by, star_of}
 use Rattle.recurrence.specs.Words.{rows_with_progression_bound, by_term, by_variable, bound_rows}
 
 -- ---- steps for lists that are put together
@@ -81,11 +82,11 @@ all-progressions body voc s rows e =
 
 -- bounds stand between the rows of terms and those of progressions
 pub rows-parts : (body : Transition) (voc : Vocabulary) (s : Strata)
-    → each (λ rows t. with_row rows (term_row body t)) [] (terms_once s) >>= (λ equations. bound_rows body voc (equations ++ some_turn body ∷ [])
+    → each (λ rows t. with_row rows (term_row (products body voc) body t)) [] (terms_with_row (products body voc) s) >>= (λ equations. bound_rows body voc (equations ++ some_turn body ∷ [])
     >>= (λ changes. each (bounded_progression body.cases (change_over_turns body) (count body)) changes (progressions body voc s))) ≡ rows_of body voc s
 unfolding rows_of bound_rows
 rows-parts body voc s =
-    λ i. each (λ rows t. with_row rows (term_row body t)) [] (terms_once s) >>= (λ equations. (
+    λ i. each (λ rows t. with_row rows (term_row (products body voc) body t)) [] (terms_with_row (products body voc) s) >>= (λ equations. (
     bind-assoc (each (rows_with_entry_bound body.cases) (equations ++ some_turn body ∷ []) (directions voc)) (λ before. each (rows_with_exit_bound body.cases (posts body)) before (directions voc)
     >>= (λ both. each (bounded_change body.cases (moves body) (Some (count body))) both (directions voc ++ voc.extra))) (λ changes. each (bounded_progression body.cases (change_over_turns body) (count body)) changes (progressions body voc s))
     ∙ (λ j. each (rows_with_entry_bound body.cases) (equations ++ some_turn body ∷ []) (directions voc) >>= (λ before.

@@ -19,17 +19,18 @@ use Rattle.posing.proofs.Paths.{always_weaker, always_any, always_bind}
 use Rattle.polyhedra.specs.Vocabulary.{Vocabulary, IsDirection, IsDirectionOver}
 use Rattle.polyhedra.specs.Directions.{directions}
 use Rattle.polyhedra.specs.Finish.{finish_of_case}
-use Rattle.polyhedra.proofs.Directed.{directions-over}
+use Rattle.polyhedra.proofs.DirectionShapes.{directions-over}
 use Rattle.polyhedra.specs.Changes.{modified_variables}
-use Rattle.polyhedra.proofs.Owned.{in_order-few}
-use Rattle.polyhedra.proofs.Finished.{FinishedLeft, finished-fits}
-use Rattle.polyhedra.proofs.Covering.{modified-few}
+use Rattle.polyhedra.proofs.OwnPosts.{in_order-few}
+use Rattle.polyhedra.proofs.FinishLaws.{FinishedLeft, finished-fits}
+use Rattle.polyhedra.proofs.Coverage.{modified-few}
+use Rattle.recurrence.specs.Products.{products}
 use Rattle.recurrence.specs.Strata.{strata}
 use Rattle.recurrence.specs.Star.{rows_of, turns, star_by, star_of}
 use Rattle.recurrence.specs.Law.{IsStarred, IsStar, StarHolds, StarFits}
-use Rattle.recurrence.proofs.Shaped.{RowsAreCanonical, turns-canonical}
-use Rattle.recurrence.proofs.Numbered.{IsFit, turns-fit}
-use Rattle.recurrence.proofs.Starred.{IsReady, always_both, star-holds}
+use Rattle.recurrence.proofs.ColumnShapes.{RowsAreCanonical, turns-canonical}
+use Rattle.recurrence.proofs.NumberedColumns.{IsFit, turns-fit}
+use Rattle.recurrence.proofs.StarLaws.{IsReady, always_both, star-holds}
 
 module _ (body : Transition) (voc : Vocabulary) (starred : IsStarred body voc) where
   -- the second case fits and can be put in order
@@ -49,7 +50,7 @@ module _ (body : Transition) (voc : Vocabulary) (starred : IsStarred body voc) w
   turns-aux : Always (λ (case : Case). case.aux ≡ length (modified_variables true body) + 1) (turns body voc)
   unfolding turns ◌>>=◌
   turns-aux =
-      always_bind (λ s. Unit {0}) (λ (case : Case). case.aux ≡ length (modified_variables true body) + 1) (strata body) _ (always_any (λ s. Unit {0}) (strata body) (λ s. tt)) (λ s any.
+      always_bind (λ s. Unit {0}) (λ (case : Case). case.aux ≡ length (modified_variables true body) + 1) (strata body (products body voc)) _ (always_any (λ s. Unit {0}) (strata body (products body voc)) (λ s. tt)) (λ s any.
       always_bind (λ rows. Unit {0}) (λ (case : Case). case.aux ≡ length (modified_variables true body) + 1) (rows_of body voc s) _ (always_any (λ rows. Unit {0}) (rows_of body voc s) (λ rows. tt)) (λ rows all. refl))
 
   pub record IsPut (case : Case) : Type 0 where

@@ -5,7 +5,7 @@ use Rattle.std.specs.List.{AllByRecursion}
 use Rattle.std.specs.Ordering.{int_eq}
 use Rattle.items.specs.Gives.{◌>>=◌}
 use Rattle.items.proofs.Gives.{on_ok}
-use Rattle.items.proofs.Each.{each-map}
+use Rattle.items.proofs.Each.{each-map, each-more}
 use Rattle.linear_terms.specs.declared.col.Col.{Col}
 use Rattle.linear_terms.specs.declared.col.Col.TheVariants.{At, Aux}
 use Rattle.linear_terms.specs.declared.error.TermError.{TermError}
@@ -13,13 +13,15 @@ use Rattle.linear_terms.specs.declared.row.Kind.TheVariants.{AtMost, Equal}
 use Rattle.linear_terms.specs.declared.row.Row.{Row}
 use Rattle.linear_terms.specs.Expressions.{Made, ◌⊠◌, ◌⊞◌, ◌⊟◌, whole, column, negative_of, at_most, or_zero, all_of, coefficients, sum_from, combination, when_made, when_all_made, put_into}
 use Rattle.linear_terms.specs.Operations.{sum_of_polys, multiple_of, difference_of_polys, product_of_polys, substituted_polynomial}
-use Rattle.linear_terms.specs.Polynomial.{Terms, Polynomial, constant_of, column_of}
+use Rattle.linear_terms.specs.Polynomial.{Terms, Polynomial, constant_of, column_of, mono_of}
+use Rattle.linear_terms.specs.Replacement.{put_in}
 use Rattle.linear_terms.proofs.Columns.{EachColumn, sum_of_polys-each, multiple_of-each, product_of_polys-each, substituted-each}
 use Rattle.closed_form.specs.ClosedRow.{closed_poly, closed_row, sum_row}
 use Rattle.farkas_check.specs.declared.stratum.Relation.{Relation}
 use Rattle.polyhedra.specs.Changes.{poly_at}
 use Rattle.polyhedra.specs.Bounds.{for_entries, put_in_for}
 use Rattle.recurrence.specs.declared.terms.Recurrence.{Recurrence}
+use Rattle.recurrence.specs.Products.{growth, grown, sequence_of}
 use Rattle.recurrence.specs.Strata.{steady, recurrence_of}
 
 -- ---- expressions whose columns have a property
@@ -190,9 +192,10 @@ module _ (P : Col → Type 0) where
     pub first : IsWithin r.first
     pub second : IsWithin r.second
     pub third : IsWithin r.third
+    pub fourth : IsWithin r.fourth
 
   pub steady-within : (v : ℕ) → P (At v) → IsRecurrenceWithin (steady v)
-  steady-within v h = record { start = ((h, tt), tt); first = within-whole (pos 0); second = within-whole (pos 0); third = within-whole (pos 0) }
+  steady-within v h = record { start = ((h, tt), tt); first = within-whole (pos 0); second = within-whole (pos 0); third = within-whole (pos 0); fourth = within-whole (pos 0) }
 
   pub recurrence-within : (vs : List ℕ) (lower : List Recurrence) (r : Relation) → AllByRecursion (λ v. P (At v)) vs → AllByRecursion IsRecurrenceWithin lower → IsRecurrenceWithin (recurrence_of vs lower r)
   recurrence-within vs lower r hv h = record {
@@ -201,4 +204,26 @@ module _ (P : Col → Type 0) where
         (within-combination r.b (map (λ (l : Recurrence). Ok l.start) lower) (each-map IsRecurrenceWithin IsWithin (λ (l : Recurrence). Ok l.start) (λ l k. within-Ok l.start k.start) lower h)) (within-whole r.c);
     second = within-combination r.b (map (λ (l : Recurrence). l.first) lower) (each-map IsRecurrenceWithin IsWithin (λ (l : Recurrence). l.first) (λ l k. k.first) lower h);
     third = within-combination r.b (map (λ (l : Recurrence). l.second) lower) (each-map IsRecurrenceWithin IsWithin (λ (l : Recurrence). l.second) (λ l k. k.second) lower h);
+    fourth = within-combination r.b (map (λ (l : Recurrence). l.third) lower) (each-map IsRecurrenceWithin IsWithin (λ (l : Recurrence). l.third) (λ l k. k.third) lower h);
   }
+
+  -- a product, where what is put in for columns is within
+  module _ (next : List Polynomial) (all : AllByRecursion (λ (p : Polynomial). EachColumn P p.terms) next) where
+    put-within : (c : Col) → EachColumn P (put_in next [] c).terms
+    put-within (At v) = within-at next v all
+    put-within (Aux n) = tt
+
+    pub growth-within : (p : Polynomial) → EachColumn P p.terms → IsWithin (growth next p)
+    growth-within p h = within-difference (substituted_polynomial (put_in next []) p) (Ok p)
+        (record { as_made = λ q e. substituted-each (λ c. Unit {0}) P (put_in next []) (λ c any. put-within c) p q e (each-more (λ t. AllByRecursion P t.0) (λ t. AllByRecursion (λ c. Unit {0}) t.0) (λ t k. each-more P (λ c. Unit {0}) (λ c l. tt) t.0 k) p.terms h) })
+        (within-Ok p h)
+
+    pub next-within : (m : Made) → IsWithin m → IsWithin (grown next m)
+    next-within m h = record { as_made = λ q e. on_ok m (growth next) q e (λ p f g. (growth-within p (h.as_made p f)).as_made q g) }
+
+    pub sequence-within : (m : List Col) → AllByRecursion P m → IsRecurrenceWithin (sequence_of next m)
+    sequence-within m h =
+        let first = growth-within (mono_of m) (h, tt) in
+        let second = next-within (growth next (mono_of m)) first in
+        let third = next-within (grown next (growth next (mono_of m))) second in
+        record { start = (h, tt); first = first; second = second; third = third; fourth = next-within (grown next (grown next (growth next (mono_of m)))) third }

@@ -11,6 +11,7 @@ pub mod Law
 pub mod Star
 -- its terms with their differences, and its progressions
 pub mod Strata
+pub mod Products
 pub mod Progressions
 -- ---- words of proofs
 pub mod Words

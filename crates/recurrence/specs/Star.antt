@@ -1,6 +1,6 @@
 -- Star: the identity, and a case for one and more turns of a body.
-use Rattle.std.specs.Prelude.{ℕ, ◌+◌, pos, negsuc, List, [], ◌∷◌, ◌++◌, length, map, Some, true, Bool, ◌==◌, if◌then◌else◌, Result, option_to_list}
-use Rattle.std.specs.List.{range_with_len}
+use Rattle.std.specs.Prelude.{ℕ, ◌+◌, pos, negsuc, List, [], ◌∷◌, ◌++◌, length, map, Some, true, Bool, ◌==◌, if◌then◌else◌, Result, Ok, Err, option_to_list}
+use Rattle.std.specs.List.{filter, range_with_len}
 use Rattle.std.specs.Cmp.Lexicographic.{pointwise}
 use Rattle.std.specs.Ordering.{int_eq}
 use Rattle.items.specs.Gives as gives
@@ -10,8 +10,9 @@ use Rattle.linear_terms.specs.declared.error.TermError.{TermError}
 use Rattle.linear_terms.specs.declared.row.Kind.TheVariants.{AtMost}
 use Rattle.linear_terms.specs.declared.row.Row.{Row}
 use Rattle.linear_terms.specs.declared.row.Case.{Case}
-use Rattle.linear_terms.specs.Expressions.{Made, ◌⊟◌, column, linear, or_zero}
-use Rattle.linear_terms.specs.Polynomial.{Polynomial, column_of}
+use Rattle.linear_terms.specs.Equality.{poly_eq}
+use Rattle.linear_terms.specs.Expressions.{Made, ◌⊟◌, column, whole, linear, or_zero}
+use Rattle.linear_terms.specs.Polynomial.{Polynomial, constant_of, column_of}
 use Rattle.transition_formula.specs.Composition.{identity_of, union_of}
 use Rattle.transition_formula.specs.Transition.{Transition}
 use Rattle.posing.specs.Posing.{Posing, Done, Noted, ◌>>=◌, each}
@@ -23,6 +24,7 @@ use Rattle.polyhedra.specs.Bounds.{with_row, rows_with_entry_bound, rows_with_ex
 use Rattle.polyhedra.specs.Finish.{finish_of_case}
 use Rattle.recurrence.specs.declared.terms.Term.{Term}
 use Rattle.recurrence.specs.declared.terms.Strata.{Strata}
+use Rattle.recurrence.specs.Products.{products}
 use Rattle.recurrence.specs.Strata.{strata, all_terms}
 use Rattle.recurrence.specs.Progressions.{progressions, bounded_progression}
 
@@ -56,13 +58,24 @@ moves body = map (λ v. or_zero (change_over_turns body v)) (range_with_len 0 bo
 
 -- ---- rows of the second case
 
+-- the difference that is zero where a term has a closed row: the fourth where there are products;
+-- else there is no need to look at it
+abbrev pub past_third : List (List Col) → Term → Made
+past_third [] t = whole (pos 0)
+past_third (m ∷ ms) t = t.recurrence.fourth
+
 -- the term after the turns by Newton's forward difference formula
-abbrev pub term_row : Transition → Term → Result Row TermError
-term_row body t =
-    gives.◌>>=◌ t.recurrence.first
+abbrev pub term_row : List (List Col) → Transition → Term → Result Row TermError
+term_row ms body t =
+    gives.◌>>=◌ (past_third ms t) (λ d4. gives.◌>>=◌ t.recurrence.first
     (λ d1. gives.◌>>=◌ t.recurrence.second (λ d2. gives.◌>>=◌ t.recurrence.third (λ d3.
     closed_row (linear t.relation.a (map (after body) (moving true body))) t.recurrence.start d1 d2
-    d3 (count body))))
+    d3 (count body)))))
+
+-- the polynomial is zero, or cannot be made
+abbrev pub is_none_or_lost : Made → Bool
+is_none_or_lost (Ok p) = poly_eq p (constant_of (pos 0))
+is_none_or_lost (Err e) = true
 
 -- the numbers of two terms are the same
 abbrev pub same_term : Term → Term → Bool
@@ -71,6 +84,10 @@ same_term t u = pointwise int_eq t.relation.a u.relation.a
 -- each term once
 abbrev pub terms_once : Strata → List Term
 terms_once s = distinct same_term (all_terms s)
+
+-- those that have a closed row, or of which a step to it is lost
+abbrev pub terms_with_row : List (List Col) → Strata → List Term
+terms_with_row ms s = filter (λ t. is_none_or_lost (past_third ms t)) (terms_once s)
 
 -- there is at least one turn
 abbrev pub some_turn : Transition → Row
@@ -82,7 +99,8 @@ some_turn body = record {
 -- the rows, kind by kind
 unfoldable pub rows_of : Transition → Vocabulary → Strata → Posing (List Row)
 rows_of body voc strata =
-    each (λ rows t. with_row rows (term_row body t)) [] (terms_once strata) >>= λ equations.
+    each (λ rows t. with_row rows (term_row (products body voc) body t)) []
+    (terms_with_row (products body voc) strata) >>= λ equations.
     each (rows_with_entry_bound body.cases) (equations ++ some_turn body ∷ []) (directions voc)
     >>= λ before.
     each (rows_with_exit_bound body.cases (posts body)) before (directions voc) >>= λ both.
@@ -94,7 +112,7 @@ rows_of body voc strata =
 -- the second case as it is put together; changes that are lost are noted before the first question
 unfoldable pub turns : Transition → Vocabulary → Posing Case
 turns body voc =
-    Noted (lost_changes true body) (strata body) >>= λ strata.
+    Noted (lost_changes true body) (strata body (products body voc)) >>= λ strata.
     rows_of body voc strata >>= λ rows.
     Done record { aux = length (modified_variables true body) + 1; rows = rows; post = posts body }
 

@@ -6,9 +6,10 @@ use Rattle.std.specs.Prelude.{ℕ, pos, List, [], ◌++◌, length, map, Option,
 use Rattle.std.specs.List.{list_any, filter}
 use Rattle.std.specs.Option.{option_map}
 use Rattle.std.specs.Ordering.{int_eq}
+use Rattle.linear_terms.specs.declared.col.Col.{Col}
 use Rattle.linear_terms.specs.declared.col.Col.TheVariants.{At}
 use Rattle.linear_terms.specs.Expressions.{Made, ◌⊞◌, whole, linear, combination}
-use Rattle.linear_terms.specs.Polynomial.{column_of}
+use Rattle.linear_terms.specs.Polynomial.{Polynomial, column_of}
 use Rattle.transition_formula.specs.Transition.{Transition}
 use Rattle.farkas_check.specs.declared.stratum.Relation.{Relation}
 use Rattle.posing.specs.Posing.{Posing, Done, ◌>>=◌}
@@ -18,15 +19,17 @@ use Rattle.recurrence.specs.declared.terms.Recurrence.{Recurrence}
 use Rattle.recurrence.specs.declared.terms.Term.{Term}
 use Rattle.recurrence.specs.declared.terms.Strata.{Strata}
 use Rattle.recurrence.specs.declared.terms.RecurrencePart.{RecurrencePart}
-use Rattle.recurrence.specs.declared.terms.RecurrencePart.TheVariants.{Start, First, Second}
+use Rattle.recurrence.specs.declared.terms.RecurrencePart.TheVariants.{Start, First, Second, Third}
+use Rattle.recurrence.specs.Products.{sequences, unchanged, with_terms}
 
 -- ---- difference equations
 
--- the number of a sequence, or its first or second difference, where the turns start
+-- the number of a sequence, or one of its first three differences, where the turns start
 abbrev pub part : RecurrencePart → Recurrence → Made
 part Start r = Ok r.start
 part First r = r.first
 part Second r = r.second
+part Third r = r.third
 
 -- a column that is not modified
 abbrev pub steady : ℕ → Recurrence
@@ -35,6 +38,7 @@ steady v = record {
   first = whole (pos 0);
   second = whole (pos 0);
   third = whole (pos 0);
+  fourth = whole (pos 0);
 }
 
 -- a term changes by a combination of the lower terms and a constant, its change by the same
@@ -45,6 +49,7 @@ recurrence_of variables lower r = record {
   first = combination r.b (map (λ l. Ok l.start) lower) ⊞ whole r.c;
   second = combination r.b (map (λ l. l.first) lower);
   third = combination r.b (map (λ l. l.second) lower);
+  fourth = combination r.b (map (λ l. l.third) lower);
 }
 
 -- the term of a relation, with its difference equation over the variables and the lower terms
@@ -68,9 +73,12 @@ stratum body lower =
 abbrev pub steady_columns : Transition → List ℕ
 steady_columns body = filter (λ v. not (is_modified true body.cases v)) (occurring true body)
 
--- these columns, and then the terms of a stratum
-abbrev pub over : Transition → Option (List Term) → List Recurrence
-over body below = map steady (steady_columns body) ++ map (λ t. t.recurrence) (unwrap_or below [])
+-- these columns, then the terms of a stratum, then the products of known columns
+abbrev pub over : Transition → List (List Col) → List (Option Polynomial) → Option (List Term)
+    → List Recurrence
+over body ms known below =
+    map steady (steady_columns body) ++ map (λ t. t.recurrence) (unwrap_or below [])
+    ++ sequences known ms
 
 -- a stratum, where it is asked
 abbrev pub stratum_if : Bool → Transition → List Recurrence → Posing (Option (List Term))
@@ -87,12 +95,15 @@ abbrev pub has_grown : Option (List Term) → Option (List Term) → Bool
 has_grown first second = nat_lt (length (unwrap_or first [])) (length (unwrap_or second []))
 
 -- The first has no lower terms. The second is asked where the first has fewer terms than there are
--- modified variables, and the third where the second has fewer too, and more than the first.
-unfoldable pub strata : Transition → Posing Strata
-strata body =
+-- modified variables, and the third where the second has fewer too, and more than the first. Terms
+-- of columns alone solve these, after each stratum.
+unfoldable pub strata : Transition → List (List Col) → Posing Strata
+strata body ms =
     stratum body [] >>= λ v1.
-    stratum_if (is_short (length (modified_variables true body)) v1) body (over body v1) >>= λ v2.
-    stratum_if (has_grown v1 v2 && is_short (length (modified_variables true body)) v2) body (over body v2)
+    stratum_if (is_short (length (modified_variables true body)) v1) body
+    (over body ms (with_terms body (unchanged body ms) v1) v1) >>= λ v2.
+    stratum_if (has_grown v1 v2 && is_short (length (modified_variables true body)) v2) body
+    (over body ms (with_terms body (with_terms body (unchanged body ms) v1) v2) v2)
     >>= λ v3.
     Done record { first = unwrap_or v1 []; second = unwrap_or v2 []; third = unwrap_or v3 [] }
 

@@ -1,10 +1,10 @@
 -- Words of the proofs of the calls.
-use Rattle.std.specs.Prelude.{◌≡◌, ℕ, ◌<◌, ◌^◌, ℤ, pos, negsuc, Result, Some, ◌++◌, List, [], ◌∷◌, length, map, Bool, true, ◌==◌}
-use Rattle.std.specs.List.{AllByRecursion, list_any}
+use Rattle.std.specs.Prelude.{◌≡◌, ℕ, ◌<◌, ◌^◌, ℤ, pos, negsuc, Result, Ok, Err, Option, None, Some, ◌++◌, List, [], ◌∷◌, length, map, All, Bool, true, ◌==◌, if◌then◌else◌}
+use Rattle.std.specs.List.{AllByRecursion, list_any, range_with_len}
 use Rattle.std.specs.declared.cmp.Ordering.TheVariants.{Greater}
 use Rattle.linear_terms.specs.declared.col.Col.{Col}
 use Rattle.linear_terms.specs.Mono.{mono_cmp}
-use Rattle.linear_terms.specs.Polynomial.{Polynomial}
+use Rattle.linear_terms.specs.Polynomial.{Polynomial, column_of}
 use Rattle.transition_formula.specs.Transition.{Transition}
 use Rattle.polyhedra.specs.declared.variables.Movement.{Movement}
 use Rattle.polyhedra.specs.Changes.{modified_variables, moving, changes_of, occurring}
@@ -13,7 +13,8 @@ use Rattle.linear_terms.specs.declared.row.Case.{Case}
 use Rattle.posing.specs.Posing.{Posing, ◌>>=◌, each}
 use Rattle.recurrence.specs.declared.terms.Term.{Term}
 use Rattle.recurrence.specs.Progressions.{Progression, signs, progressions_of, bounded_progression}
-use Rattle.recurrence.specs.Star.{after_from, count, posts, moves, rows_of}
+use Rattle.recurrence.specs.Products.{products, known_of, is_known}
+use Rattle.recurrence.specs.Star.{after_from, count, past_third, posts, moves, rows_of}
 use Rattle.recurrence.specs.Strata.{strata}
 use Rattle.linear_terms.specs.declared.col.Col.TheVariants.{At, Aux}
 use Rattle.linear_terms.specs.declared.error.TermError.{TermError}
@@ -23,7 +24,7 @@ use Rattle.items.specs.Gives as gives
 use Rattle.closed_form.specs.ClosedRow.{closed_row}
 use Rattle.polyhedra.specs.Vocabulary.{Vocabulary}
 use Rattle.polyhedra.specs.Directions.{directions}
-use Rattle.polyhedra.specs.Bounds.{rows_with_entry_bound, rows_with_exit_bound, bounded_change}
+use Rattle.polyhedra.specs.Bounds.{IsCovered, rows_with_entry_bound, rows_with_exit_bound, bounded_change}
 
 -- each number is less than those behind it
 abbrev pub Rise : List ℕ → Type 0
@@ -79,12 +80,12 @@ by_variable cases modified terms rows v =
 -- ---- rows
 
 -- the row of a term, by the modified variables and those whose change can be made
-abbrev pub row_of_term : List ℕ → List ℕ → Term → Result Row TermError
-row_of_term modified moving t =
-    gives.◌>>=◌ t.recurrence.first
+abbrev pub row_of_term : List (List Col) → List ℕ → List ℕ → Term → Result Row TermError
+row_of_term ms modified moving t =
+    gives.◌>>=◌ (past_third ms t) (λ d4. gives.◌>>=◌ t.recurrence.first
     (λ d1. gives.◌>>=◌ t.recurrence.second (λ d2. gives.◌>>=◌ t.recurrence.third (λ d3.
     closed_row (linear t.relation.a (map (after_from 0 modified) moving)) t.recurrence.start d1 d2
-    d3 (Aux (length modified)))))
+    d3 (Aux (length modified))))))
 
 -- a column is at least 1
 abbrev pub turn_row : Col → Row
@@ -103,10 +104,36 @@ bound_rows body voc rows =
 
 -- the rows by the strata of the body
 unfoldable pub rows_by_strata : Transition → Vocabulary → Posing (List Row)
-rows_by_strata body voc = strata body >>= rows_of body voc
+rows_by_strata body voc = strata body (products body voc) >>= rows_of body voc
 
 -- bounds before and after, behind other rows
 unfoldable pub bounds_at_ends : List Case → List Polynomial → List Polynomial → List Row
     → Posing (List Row)
 bounds_at_ends cases after along rows = each (rows_with_entry_bound cases) rows along
     >>= λ before. each (rows_with_exit_bound cases after) before along
+
+-- ---- products
+
+-- an unmodified column stays as it is, by the modified variables; nothing is looked at where there
+-- are no products
+abbrev pub unchanged_by : List ℕ → ℕ → List (List Col) → List (Option Polynomial)
+unchanged_by modified to [] = []
+unchanged_by modified to (m ∷ ms) =
+    map (λ v. if is_among modified v then None else Some (column_of (At v))) (range_with_len 0 to)
+
+-- the polynomial has known columns alone
+abbrev pub HasKnown : List (Option Polynomial) → Polynomial → Type 0
+HasKnown known p = AllByRecursion (λ t. AllByRecursion (λ c. is_known known c ≡ true) t.0) p.terms
+
+-- so has what a turn makes of each known column
+abbrev pub IsClosed : List (Option Polynomial) → Type 0
+IsClosed known = (c : Col) (p : Polynomial) → known_of known c ≡ Some p → HasKnown known p
+
+-- polynomials for columns have no columns but these
+abbrev pub AreCovered : List Polynomial → Type 0
+AreCovered next = All (IsCovered (length next)) next
+
+-- if it is made, it has no columns but the first so many entry columns
+abbrev pub IsCoveredIfMade : ℕ → Made → Type 0
+IsCoveredIfMade n (Ok p) = IsCovered n p
+IsCoveredIfMade n (Err e) = Unit {0}

@@ -116,7 +116,7 @@ fn is_alone(variables: &[u32], numbers: &[i128], v: u32) -> bool
     false
 }
 
-fn are_zero(numbers: &[i128]) -> bool
+pub(crate) fn are_zero(numbers: &[i128]) -> bool
     ensures { result ≡ list_all (λ m. int_eq m (pos 0)) numbers.now }
 {
     numbers.iter().all(|m| *m == 0)

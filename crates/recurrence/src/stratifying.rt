@@ -5,35 +5,49 @@ ghost use Rattle.farkas_check.specs.Relations.{have_equally_many};
 ghost use Rattle.polyhedra.specs.Changes.{is_modified, moving, occurring};
 ghost use Rattle.posing.specs.Follows.{Follows};
 ghost use Rattle.recurrence.specs.Strata.{term_of, has_terms, stratum, steady_columns, over, steady, stratum_if, is_short, has_grown, strata};
-ghost use Rattle.recurrence.specs.Words.{Rise, IsMovement, is_among};
+ghost use Rattle.recurrence.specs.Words.{Rise, IsMovement, IsClosed, is_among};
 
+use crate::growing::sequences;
+use crate::solving::{unchanged, with_terms};
 use crate::terms::{Recurrence, Strata, Term, has_terms, steady, term_of};
 use farkas_check::{Change, Oracle, Relation, Stratum};
 use items::Items;
-use linear_terms::Poly;
+use linear_terms::{Mono, Poly};
 use polyhedra::{Log, Movement, WorkError, relations_of};
 use std::alloc::{AllocError, Global};
 use transition_formula::Formula;
 
-/// The strata of a body.
+/// The strata of a body with these products.
 #[tactic(auto, using(posing::proofs::Following::following), unfolding(crate::specs::Strata::strata))]
 pub(crate) fn strata_of<O: Oracle>(
     alloc: Global,
     body: &Formula,
     movement: &Movement,
+    products: &[Mono],
     oracle: &mut O,
     log: &mut Log,
 ) -> Result<Strata, WorkError>
     requires ends { body.now.from ≡ body.now.to }
     requires movement { IsMovement body.now movement.now }
-    ensures { Follows O.asking oracle.old oracle.new log.old log.new result (strata body.now) }
+    ensures { Follows O.asking oracle.old oracle.new log.old log.new result
+        (strata body.now products.now) }
 {
     let most = movement.modified.len();
+    let moving = movement.moving.as_slice();
+    let unsolved = unchanged(alloc, movement.modified.as_slice(), body.to(), products)?;
     let first = one_stratum(alloc, body, movement, &[], oracle, log)?;
     let asked = is_short(most, &first);
-    let second = next_stratum(alloc, asked, body, movement, &first, oracle, log)?;
+    let known = with_terms(alloc, unsolved, moving, &first)?;
+    let solved = known.as_slice();
+    let second = next_stratum(
+        alloc, asked, body, movement, products, solved, &first, oracle, log,
+    )?;
     let again = asks_third(most, &first, &second);
-    let third = next_stratum(alloc, again, body, movement, &second, oracle, log)?;
+    let more = with_terms(alloc, known, moving, &second)?;
+    let all_solved = more.as_slice();
+    let third = next_stratum(
+        alloc, again, body, movement, products, all_solved, &second, oracle, log,
+    )?;
     Ok(Strata {
         first: terms_in(alloc, first),
         second: terms_in(alloc, second),
@@ -63,27 +77,30 @@ fn one_stratum<O: Oracle>(
     Ok(terms)
 }
 
-/// The next stratum where it is asked, over the columns that no turn changes and the terms of the
-/// stratum before.
+/// The next stratum where it is asked, over the columns that no turn changes, the terms of the
+/// stratum before, and the products of known columns.
 #[tactic(auto, using(posing::proofs::Following::stops))]
 fn next_stratum<O: Oracle>(
     alloc: Global,
     asked: bool,
     body: &Formula,
     movement: &Movement,
+    products: &[Mono],
+    known: &[Option<Poly>],
     below: &Option<Items<Term>>,
     oracle: &mut O,
     log: &mut Log,
 ) -> Result<Option<Items<Term>>, WorkError>
     requires ends { body.now.from ≡ body.now.to }
     requires movement { IsMovement body.now movement.now }
+    requires closed { IsClosed known.now }
     ensures { Follows O.asking oracle.old oracle.new log.old log.new result
-        (stratum_if asked body.now (over body.now below.now)) }
+        (stratum_if asked body.now (over body.now products.now known.now below.now)) }
 {
     if !asked {
         return Ok(None);
     }
-    let lower = over(alloc, body, movement, below)?;
+    let lower = over(alloc, body, movement, products, known, below)?;
     one_stratum(alloc, body, movement, lower.as_slice(), oracle, log)
 }
 
@@ -153,16 +170,20 @@ fn terms_from(
     Ok(terms)
 }
 
-/// The columns that no turn changes and that occur, and then the terms of a stratum.
+/// The columns that no turn changes and that occur, then the terms of a stratum, then the products
+/// of known columns.
 fn over(
     alloc: Global,
     body: &Formula,
     movement: &Movement,
+    products: &[Mono],
+    known: &[Option<Poly>],
     below: &Option<Items<Term>>,
 ) -> Result<Items<Recurrence>, AllocError>
     requires ends { body.now.from ≡ body.now.to }
     requires movement { IsMovement body.now movement.now }
-    ensures { IfOk result (λ lower. lower ≡ over body.now below.now) }
+    requires closed { IsClosed known.now }
+    ensures { IfOk result (λ lower. lower ≡ over body.now products.now known.now below.now) }
 {
     let columns = steady_columns(
         alloc,
@@ -171,6 +192,7 @@ fn over(
     )?;
     let mut lower = steadies(alloc, columns.as_slice())?;
     lower.append(recurrences_in(alloc, below)?)?;
+    lower.append(sequences(alloc, known, products)?)?;
     Ok(lower)
 }
 

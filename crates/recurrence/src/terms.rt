@@ -15,13 +15,14 @@ use polyhedra::entries_of;
 use std::alloc::{AllocError, Global};
 
 /// A sequence along the turns, over the state in which they start: its number there and its first
-/// three differences.
+/// four differences.
 #[derive(Drop)]
 pub(crate) struct Recurrence {
     pub(crate) start: Poly,
     pub(crate) first: Result<Poly, TermError>,
     pub(crate) second: Result<Poly, TermError>,
     pub(crate) third: Result<Poly, TermError>,
+    pub(crate) fourth: Result<Poly, TermError>,
 }
 
 /// A term, by the relation that determines its change.
@@ -45,6 +46,7 @@ pub(crate) enum RecurrencePart {
     Start,
     First,
     Second,
+    Third,
 }
 
 impl Clone for Recurrence {
@@ -55,11 +57,13 @@ impl Clone for Recurrence {
         let first = copy_of(&self.first)?;
         let second = copy_of(&self.second)?;
         let third = copy_of(&self.third)?;
+        let fourth = copy_of(&self.fourth)?;
         Ok(Recurrence {
             start,
             first,
             second,
             third,
+            fourth,
         })
     }
 }
@@ -99,6 +103,7 @@ pub(crate) fn steady(alloc: Global, v: u32) -> Result<Recurrence, AllocError>
         first: Ok(Poly::constant(alloc, 0)),
         second: Ok(Poly::constant(alloc, 0)),
         third: Ok(Poly::constant(alloc, 0)),
+        fourth: Ok(Poly::constant(alloc, 0)),
     })
 }
 
@@ -153,11 +158,18 @@ fn recurrence_of(
         lower,
         relation.b.as_slice(),
     ))?;
+    let fourth = term_or_step(combined_part(
+        alloc,
+        RecurrencePart::Third,
+        lower,
+        relation.b.as_slice(),
+    ))?;
     Ok(Recurrence {
         start,
         first,
         second,
         third,
+        fourth,
     })
 }
 
@@ -201,7 +213,9 @@ pub(crate) fn linear(alloc: Global, numbers: &[i128], columns: &[Poly]) -> Resul
 }
 
 /// What is made, or the step that cannot be made; want of memory is an error here.
-fn term_or_step(made: Result<Poly, TermError>) -> Result<Result<Poly, TermError>, AllocError>
+pub(crate) fn term_or_step(
+    made: Result<Poly, TermError>,
+) -> Result<Result<Poly, TermError>, AllocError>
     ensures { (stated : Made) → Gives cause (λ p. p) made stated
         → IfOk result (λ kept. kept ≡ stated) }
 {
@@ -258,6 +272,7 @@ fn part_of(which: RecurrencePart, recurrence: &Recurrence) -> Result<Poly, TermE
         }
         RecurrencePart::First => copy_of(&recurrence.first)?,
         RecurrencePart::Second => copy_of(&recurrence.second)?,
+        RecurrencePart::Third => copy_of(&recurrence.third)?,
     }
 }
 

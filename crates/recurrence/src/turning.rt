@@ -11,16 +11,18 @@ ghost use Rattle.polyhedra.specs.Bounds.{IsCovered, IsCoveredByPosts};
 ghost use Rattle.polyhedra.specs.Changes.{lost_changes, modified_variables};
 ghost use Rattle.polyhedra.specs.Directions.{with_new};
 ghost use Rattle.recurrence.specs.Law.{IsStarred};
-ghost use Rattle.recurrence.specs.Star.{after_from, term_row, same_term, terms_once, posts, rows_of, turns};
+ghost use Rattle.recurrence.specs.Products.{products};
+ghost use Rattle.recurrence.specs.Star.{after_from, past_third, is_none_or_lost, term_row, same_term, terms_once, terms_with_row, posts, rows_of, turns};
 ghost use Rattle.recurrence.specs.Words.{Ascend, IsMovement, AreModified, row_of_term, turn_row, bound_rows, bounds_at_ends, rows_by_strata};
 
+use crate::products::products;
 use crate::progressions::{after, turn_count, with_progressions};
 use crate::stratifying::strata_of;
 use crate::terms::{Strata, Term, column, linear};
 use closed_form::row;
 use farkas_check::Oracle;
 use items::Items;
-use linear_terms::{Case, Col, Kind, Poly, Row, TermError, difference};
+use linear_terms::{Case, Col, Kind, Mono, Poly, Row, TermError, difference};
 use polyhedra::{
     Log, Movement, Vocabulary, WorkError, add_row, bounds_after, bounds_before, bounds_on_changes,
     changes_after, directions, movement_of, posts_after,
@@ -99,8 +101,10 @@ fn rows_by_strata<O: Oracle>(
     ensures { Follows O.asking oracle.old oracle.new log.old log.new result
         (rows_by_strata body.now voc.now) }
 {
-    let strata = strata_of(alloc, body, movement, oracle, log)?;
-    rows_of(alloc, body, voc, movement, &strata, oracle, log)
+    let products = products(alloc, movement, voc)?;
+    let monos = products.as_slice();
+    let strata = strata_of(alloc, body, movement, monos, oracle, log)?;
+    rows_of(alloc, body, voc, movement, monos, &strata, oracle, log)
 }
 
 /// Its rows: what the terms are after the turns, that there is a turn, bounds, and progressions.
@@ -110,25 +114,51 @@ fn rows_of<O: Oracle>(
     body: &Formula,
     voc: &Vocabulary,
     movement: &Movement,
+    monos: &[Mono],
     strata: &Strata,
     oracle: &mut O,
     log: &mut Log,
 ) -> Result<Items<Row>, WorkError>
     requires starred { IsStarred body.now voc.now }
     requires movement { IsMovement body.now movement.now }
+    requires products { monos.now ≡ products body.now voc.now }
     ensures { Follows O.asking oracle.old oracle.new log.old log.new result
         (rows_of body.now voc.now strata.now) }
 {
     let modified = movement.modified.as_slice();
-    let terms = terms_once(alloc, strata)?;
+    let terms = terms_with_row(alloc, monos, strata)?;
     let moving = movement.moving.as_slice();
-    let equations = equations(alloc, terms.as_slice(), modified, moving, log)?;
+    let equations = equations(alloc, terms.as_slice(), monos, modified, moving, log)?;
     let started = with_some_turn(alloc, equations, modified)?;
     let bounds = bound_rows(alloc, body, voc, modified, started, oracle, log)?;
     with_progressions(alloc, bounds, body, movement, voc, strata, oracle, log)
 }
 
 // ---- rows of terms
+
+/// Each term once that has a closed row, or of which a step to it is lost.
+fn terms_with_row(alloc: Global, monos: &[Mono], strata: &Strata) -> Result<Items<Term>, AllocError>
+    ensures { IfOk result (λ terms. terms ≡ terms_with_row monos.now strata.now) }
+{
+    let terms = terms_once(alloc, strata)?;
+    let mut left = Items::new(alloc);
+    for term in terms {
+        if is_none_or_lost(alloc, monos, &term) {
+            left.push(term)?;
+        }
+    }
+    Ok(left)
+}
+
+/// Whether the fourth difference is zero or lost, where there are products.
+fn is_none_or_lost(alloc: Global, monos: &[Mono], term: &Term) -> bool
+    ensures { result ≡ is_none_or_lost (past_third monos.now term.now) }
+{
+    match (monos, &term.recurrence.fourth) {
+        ([_, ..], Ok(poly)) => *poly == Poly::constant(alloc, 0),
+        _ => true,
+    }
+}
 
 /// Each term once.
 fn terms_once(alloc: Global, strata: &Strata) -> Result<Items<Term>, AllocError>
@@ -177,6 +207,7 @@ fn is_same(term: &Term, other: &Term) -> bool
 fn equations(
     alloc: Global,
     terms: &[Term],
+    monos: &[Mono],
     modified: &[u32],
     moving: &[u32],
     log: &mut Log,
@@ -184,17 +215,17 @@ fn equations(
     requires few { length modified.now < 2 ^ 32 }
     requires ascending { Ascend (map (after_from 0 modified.now) moving.now) }
     ensures noted { Adds
-        (loss_notes (flat_map (λ t. losses_of (row_of_term modified.now moving.now t)) terms.now))
+        (loss_notes (flat_map (λ t. losses_of (row_of_term monos.now modified.now moving.now t)) terms.now))
         log.old log.new result }
     ensures exact { IfOk result
-        (λ rows. rows ≡ filter_map (λ t. answer_of (row_of_term modified.now moving.now t))
+        (λ rows. rows ≡ filter_map (λ t. answer_of (row_of_term monos.now modified.now moving.now t))
         terms.now) }
 {
     let columns = columns_after(alloc, modified, moving)?;
     let mut rows = Items::new(alloc);
     let mut losses = Items::new(alloc);
     for term in terms {
-        let row = term_row(alloc, term, columns.as_slice(), modified);
+        let row = term_row(alloc, monos, term, columns.as_slice(), modified);
         add_row(&mut rows, &mut losses, row)?;
     }
     log.add_losses(alloc, losses.as_slice())?;
@@ -221,6 +252,7 @@ fn columns_after(
 /// The term after the turns by Newton's forward difference formula.
 fn term_row(
     alloc: Global,
+    monos: &[Mono],
     term: &Term,
     columns: &[Poly],
     modified: &[u32],
@@ -228,8 +260,9 @@ fn term_row(
     requires { length modified.now < 2 ^ 32 }
     ensures { (moving : List ℕ) → Ascend (map (after_from 0 modified.now) moving)
         → columns.now ≡ map column_of (map (after_from 0 modified.now) moving) →
-        Gives cause (λ r. r) result (row_of_term modified.now moving term.now) }
+        Gives cause (λ r. r) result (row_of_term monos.now modified.now moving term.now) }
 {
+    let _fourth = past_third(alloc, monos, term)?;
     let first = made_part(&term.recurrence.first)?;
     let second = made_part(&term.recurrence.second)?;
     let third = made_part(&term.recurrence.third)?;
@@ -243,6 +276,19 @@ fn term_row(
         third,
         turn_count(modified),
     )
+}
+
+/// That the fourth difference can be made, where there are products.
+fn past_third(alloc: Global, monos: &[Mono], term: &Term) -> Result<Poly, TermError>
+    ensures { Gives cause (λ p. p) result (past_third monos.now term.now) }
+{
+    match monos {
+        [] => Ok(Poly::constant(alloc, 0)),
+        [_, ..] => {
+            let fourth = made_part(&term.recurrence.fourth)?.clone()?;
+            Ok(fourth)
+        }
+    }
 }
 
 /// What is made, or the step that cannot be made.

@@ -230,8 +230,9 @@ const CERTIFICATES: [(&[u8], &[u8]); 2] = [
     ),
 ];
 
-// A loop of two phases, the product of two facts, and a recursion by two calls.
-const PROOFS: [(&[u8], u8, &[u8]); 3] = [
+// A loop of two phases, the product of two facts, a recursion by two calls, a sum of products, and a
+// column whose change reads columns of which it is not known what a turn makes of them.
+const PROOFS: [(&[u8], u8, &[u8]); 5] = [
     (
         b"int main(void) { int t = 0; int h = 0;\n  while (t < 60) { if (t < 20) h = h + 3; else h = h - 1; t = t + 1; }\n  assert(h == 20); }\n",
         0,
@@ -246,6 +247,16 @@ const PROOFS: [(&[u8], u8, &[u8]); 3] = [
         b"int f(int n) { if (n <= 1) return 1; int a = f(n - 1); int b = f(n - 2); return a + b; }\nint main(void) { int n = __VERIFIER_nondet_int(); int r = f(n); assert(r >= n); }\n",
         0,
         b"procedure f\ncase 1\n  n - 1 <= 0\n  $ret = 1\ncase 2\n  -n + 2 <= 0\n  -$1 + 1 <= 0\n  n - $1 - 1 <= 0\n  -$2 + 1 <= 0\n  n - $2 - 2 <= 0\n  $ret = $1 + $2\nnote dropped n - 3 <= 0 point n = 4, $1 = 4, $2 = 4\nnote dropped $ret - 4 <= 0 point n = 2, $1 = 4, $2 = 4\nprocedure main\ncase 1\n  $1 - 1 <= 0\n  $ret = $2\ncase 2\n  -$1 + 2 <= 0\n  -$2 + 1 <= 0\n  $1 - $2 - 1 <= 0\n  -$3 + 1 <= 0\n  $1 - $3 - 2 <= 0\n  $1 - $2 - $3 <= 0\n  $ret = $4\nassertion 1 at 2:65 proved\ntotal 1 proved, 0 unproved\n",
+    ),
+    (
+        b"int main(void) { int w = __VERIFIER_nondet_int(); int n = __VERIFIER_nondet_int(); int i = 0; int a = 0;\n  assume(n >= 1); while (i < n) { a = a + w * i; i = i + 1; }\n  assert(2 * a == w * n * n - w * n); }\n",
+        0,
+        b"procedure main\ncase 1\n  -$3 + 1 <= 0\n  $1*$3*$3 - $1*$3 - 2*$2 = 0\n  $ret = $4\nassertion 1 at 3:3 proved\ntotal 1 proved, 0 unproved\n",
+    ),
+    (
+        b"int main(void) { int n = __VERIFIER_nondet_int(); int m = __VERIFIER_nondet_int();\n  int i = 0; int x = 0; int y = 0; int v = 0; int w = 0;\n  while (i < m) { int r = __VERIFIER_nondet_int();\n    w = w + v * n; v = v + x + y; x = x + r; y = y - r + 1; i = i + 1; }\n  assert(w == 0); }\n",
+        1,
+        b"procedure main\ncase 1\n  $1 <= 0\n  $ret = $2\ncase 2\n  $2*$2 - 2*$1 - $2 = 0\n  -$2 + 1 <= 0\n  $ret = $3\nassertion 1 at 5:3 unproved\n  $6*$6 - 2*$3 - $6 = 0\n  -$6 + 1 <= 0\n  $4 + 1 <= 0\n  n = $1\n  m = $6\n  i = $6\n  x = -$2 + $6\n  y = $2\n  v = $3\n  w = $4\n  r = $5\n  point $6*$6 = 1, $3 = 0, $4 = -1, $6 = 1\ntotal 0 proved, 1 unproved\n",
     ),
 ];
 
@@ -433,7 +444,7 @@ fn replays(rt: HostRuntime) -> Result<(), Fail> {
     Ok(())
 }
 
-// What an independent model of the rules proves of texts with phases and products.
+// What an independent model of the rules proves of texts with phases and with products.
 #[test]
 fn proofs(rt: HostRuntime) -> Result<(), Fail> {
     for (input, status, text) in PROOFS {

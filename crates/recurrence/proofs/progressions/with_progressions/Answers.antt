@@ -6,13 +6,13 @@ use Rattle.posing.specs.Posing.{each}
 use Rattle.posing.proofs.Following.{stops}
 use Rattle.posing.proofs.Steps.{at_end, in_other_words}
 use Rattle.polyhedra.specs.Changes.{modified_variables}
-use Rattle.polyhedra.proofs.Covering.{modified-few}
+use Rattle.polyhedra.proofs.Coverage.{modified-few}
 use Rattle.polyhedra.proofs.Lists.{each-filter}
 use Rattle.recurrence.specs.Progressions.{is_term, open_variables}
 use Rattle.recurrence.specs.Strata.{all_terms}
 use Rattle.recurrence.specs.Words.{is_among, by_variable}
 use Rattle.recurrence.proofs.Parts.{no-progressions, all-progressions}
-use Rattle.recurrence.proofs.Rising.{modified-below}
+use Rattle.recurrence.proofs.RisingNumbers.{modified-below}
 use Rattle.recurrence.proofs.progressions.with_progressions.Goals as goal
 
 pub returns-then-rule-le1 : goal.returns-then-rule-le1

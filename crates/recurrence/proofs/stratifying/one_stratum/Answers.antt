@@ -6,10 +6,10 @@ use Rattle.farkas_check.specs.Relations.{have_equally_many}
 use Rattle.posing.proofs.Following.{stops}
 use Rattle.posing.proofs.Steps.{value_first, error_first, at_end}
 use Rattle.polyhedra.specs.Relations.{relations_of}
-use Rattle.polyhedra.proofs.Covering.{equally_many}
+use Rattle.polyhedra.proofs.Coverage.{equally_many}
 use Rattle.recurrence.specs.Strata.{term_of, has_terms, stratum}
 use Rattle.recurrence.specs.Words.{Rise}
-use Rattle.recurrence.proofs.Rising.{moving-rises}
+use Rattle.recurrence.proofs.RisingNumbers.{moving-rises}
 use Rattle.recurrence.proofs.stratifying.one_stratum.Goals as goal
 
 pub question_of-question-requires : goal.question_of-question-requires

@@ -2,7 +2,7 @@ use Rattle.std.proofs.Common.{map, refl, sym, ◌∙◌}
 use Rattle.linear_terms.specs.declared.col.Col.TheVariants.{At}
 use Rattle.linear_terms.specs.Polynomial.{column_of}
 use Rattle.recurrence.proofs.Along.{maps-twice}
-use Rattle.recurrence.proofs.Rising.{entries-ascend}
+use Rattle.recurrence.proofs.RisingNumbers.{entries-ascend}
 use Rattle.recurrence.proofs.terms.start_of.Goals as goal
 
 pub returns : goal.returns

@@ -12,7 +12,7 @@ use Rattle.posing.proofs.Steps.{value_first, error_first, in_other_words}
 use Rattle.polyhedra.specs.Bounds.{IsCovered, IsCoveredByPosts, rows_with_entry_bound, rows_with_exit_bound, bounded_change}
 use Rattle.polyhedra.specs.Directions.{directions}
 use Rattle.polyhedra.specs.Squash.{after_from, change_after}
-use Rattle.polyhedra.proofs.Covering.{directions-covered, directions-covered_by_posts, posts-long}
+use Rattle.polyhedra.proofs.Coverage.{directions-covered, directions-covered_by_posts, posts-long}
 use Rattle.polyhedra.specs.Vocabulary.{Vocabulary}
 use Rattle.recurrence.specs.Star.{count, posts, moves}
 use Rattle.recurrence.specs.Words.{bound_rows, bounds_at_ends}

@@ -7,6 +7,6 @@ use Rattle.recurrence.proofs.turning.equations.Given as goal
 abbrev pub invariant-loop-term : goal.invariant-loop-term
 invariant-loop-term l =
     record {
-      rows : l.rows ++ filter_map (λ t. answer_of (row_of_term l.modified l.moving t)) (drop l.term-index l.terms) ≡ filter_map (λ t. answer_of (row_of_term l.modified l.moving t)) l.terms;
-      losses : l.losses ++ flat_map (λ t. losses_of (row_of_term l.modified l.moving t)) (drop l.term-index l.terms) ≡ flat_map (λ t. losses_of (row_of_term l.modified l.moving t)) l.terms;
+      rows : l.rows ++ filter_map (λ t. answer_of (row_of_term l.monos l.modified l.moving t)) (drop l.term-index l.terms) ≡ filter_map (λ t. answer_of (row_of_term l.monos l.modified l.moving t)) l.terms;
+      losses : l.losses ++ flat_map (λ t. losses_of (row_of_term l.monos l.modified l.moving t)) (drop l.term-index l.terms) ≡ flat_map (λ t. losses_of (row_of_term l.monos l.modified l.moving t)) l.terms;
     }

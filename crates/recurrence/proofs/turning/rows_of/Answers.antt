@@ -5,11 +5,12 @@ use Rattle.posing.proofs.Following.{stops}
 use Rattle.posing.proofs.Steps.{value_first, error_first, in_other_words}
 use Rattle.polyhedra.specs.Bounds.{with_row}
 use Rattle.polyhedra.specs.Changes.{modified_variables, moving}
-use Rattle.polyhedra.proofs.Covering.{modified-few}
-use Rattle.recurrence.specs.Star.{after_from, terms_once}
+use Rattle.polyhedra.proofs.Coverage.{modified-few}
+use Rattle.recurrence.specs.Products.{products}
+use Rattle.recurrence.specs.Star.{after_from, terms_with_row}
 use Rattle.recurrence.specs.Words.{Ascend, row_of_term, turn_row, bound_rows}
 use Rattle.recurrence.proofs.Parts.{rows-parts, noted_rows}
-use Rattle.recurrence.proofs.Rising.{moving-ascends}
+use Rattle.recurrence.proofs.RisingNumbers.{moving-ascends}
 use Rattle.recurrence.proofs.turning.rows_of.Goals as goal
 
 pub equations-requires-clause-few : goal.equations-requires-clause-few
@@ -50,10 +51,10 @@ returns-in_err-started g c =
     let body = c.args.body.now in
     let us : c.as_slice-modified.result.now ≡ modified_variables true body = c.as_slice-modified.ensures ∙ c.requires.movement.modified in
     let vs : c.as_slice-moving.result.now ≡ moving true body = c.as_slice-moving.ensures ∙ c.requires.movement.moving in
-    let ts : c.as_slice.result.now ≡ terms_once c.args.strata.now = c.as_slice.ensures ∙ c.in_ok-terms.ensures in
+    let ts : c.as_slice.result.now ≡ terms_with_row (products body c.args.voc.now) c.args.strata.now = c.as_slice.ensures ∙ c.in_ok-terms.ensures ∙ ap (λ ms. terms_with_row ms c.args.strata.now) c.requires.products in
     in_other_words (rows-parts body c.args.voc.now c.args.strata.now)
-    (value_first _ (noted_rows (row_of_term c.as_slice-modified.result.now c.as_slice-moving.result.now) g.O.Oracle.asking _ c.as_slice.result.now _ _ c.in_ok-equations.equations c.in_ok-equations.ensures.noted c.in_ok-equations.ensures.exact)
-    (λ i. each (λ rows t. with_row rows (row_of_term (us i) (vs i) t)) [] (ts i))
+    (value_first _ (noted_rows (row_of_term c.args.monos.now c.as_slice-modified.result.now c.as_slice-moving.result.now) g.O.Oracle.asking _ c.as_slice.result.now _ _ c.in_ok-equations.equations c.in_ok-equations.ensures.noted c.in_ok-equations.ensures.exact)
+    (λ i. each (λ rows t. with_row rows (row_of_term (c.requires.products i) (us i) (vs i) t)) [] (ts i))
     (stops _ _ _ _ _ _ refl c.from_residual-in_err-started.ensures.1))
 
 pub returns-in_err-bounds : goal.returns-in_err-bounds
@@ -61,11 +62,11 @@ returns-in_err-bounds g c =
     let body = c.args.body.now in
     let us : c.as_slice-modified.result.now ≡ modified_variables true body = c.as_slice-modified.ensures ∙ c.requires.movement.modified in
     let vs : c.as_slice-moving.result.now ≡ moving true body = c.as_slice-moving.ensures ∙ c.requires.movement.moving in
-    let ts : c.as_slice.result.now ≡ terms_once c.args.strata.now = c.as_slice.ensures ∙ c.in_ok-terms.ensures in
+    let ts : c.as_slice.result.now ≡ terms_with_row (products body c.args.voc.now) c.args.strata.now = c.as_slice.ensures ∙ c.in_ok-terms.ensures ∙ ap (λ ms. terms_with_row ms c.args.strata.now) c.requires.products in
     let started = c.in_ok-started.ensures ∙ (λ i. c.in_ok-equations.equations ++ turn_row (Aux (length (us i))) ∷ []) in
     in_other_words (rows-parts body c.args.voc.now c.args.strata.now)
-    (value_first _ (noted_rows (row_of_term c.as_slice-modified.result.now c.as_slice-moving.result.now) g.O.Oracle.asking _ c.as_slice.result.now _ _ c.in_ok-equations.equations c.in_ok-equations.ensures.noted c.in_ok-equations.ensures.exact)
-    (λ i. each (λ rows t. with_row rows (row_of_term (us i) (vs i) t)) [] (ts i))
+    (value_first _ (noted_rows (row_of_term c.args.monos.now c.as_slice-modified.result.now c.as_slice-moving.result.now) g.O.Oracle.asking _ c.as_slice.result.now _ _ c.in_ok-equations.equations c.in_ok-equations.ensures.noted c.in_ok-equations.ensures.exact)
+    (λ i. each (λ rows t. with_row rows (row_of_term (c.requires.products i) (us i) (vs i) t)) [] (ts i))
     (error_first _ c.in_err-bounds.ensures (ap (bound_rows body c.args.voc.now) started) c.from_residual-in_err-bounds.ensures.1))
 
 pub returns : goal.returns
@@ -73,9 +74,9 @@ returns g c =
     let body = c.args.body.now in
     let us : c.as_slice-modified.result.now ≡ modified_variables true body = c.as_slice-modified.ensures ∙ c.requires.movement.modified in
     let vs : c.as_slice-moving.result.now ≡ moving true body = c.as_slice-moving.ensures ∙ c.requires.movement.moving in
-    let ts : c.as_slice.result.now ≡ terms_once c.args.strata.now = c.as_slice.ensures ∙ c.in_ok-terms.ensures in
+    let ts : c.as_slice.result.now ≡ terms_with_row (products body c.args.voc.now) c.args.strata.now = c.as_slice.ensures ∙ c.in_ok-terms.ensures ∙ ap (λ ms. terms_with_row ms c.args.strata.now) c.requires.products in
     let started = c.in_ok-started.ensures ∙ (λ i. c.in_ok-equations.equations ++ turn_row (Aux (length (us i))) ∷ []) in
     in_other_words (rows-parts body c.args.voc.now c.args.strata.now)
-    (value_first _ (noted_rows (row_of_term c.as_slice-modified.result.now c.as_slice-moving.result.now) g.O.Oracle.asking _ c.as_slice.result.now _ _ c.in_ok-equations.equations c.in_ok-equations.ensures.noted c.in_ok-equations.ensures.exact)
-    (λ i. each (λ rows t. with_row rows (row_of_term (us i) (vs i) t)) [] (ts i))
+    (value_first _ (noted_rows (row_of_term c.args.monos.now c.as_slice-modified.result.now c.as_slice-moving.result.now) g.O.Oracle.asking _ c.as_slice.result.now _ _ c.in_ok-equations.equations c.in_ok-equations.ensures.noted c.in_ok-equations.ensures.exact)
+    (λ i. each (λ rows t. with_row rows (row_of_term (c.requires.products i) (us i) (vs i) t)) [] (ts i))
     (value_first _ c.in_ok-bounds.ensures (ap (bound_rows body c.args.voc.now) started) c.with_progressions.ensures))

@@ -7,7 +7,8 @@ use Rattle.posing.proofs.Paths.{bind-assoc}
 use Rattle.posing.proofs.Steps.{value_first, error_first, notes_first, at_end, in_other_words}
 use Rattle.polyhedra.specs.Changes.{lost_changes, modified_variables}
 use Rattle.polyhedra.specs.Vocabulary.{Vocabulary}
-use Rattle.polyhedra.proofs.Covering.{modified-few}
+use Rattle.polyhedra.proofs.Coverage.{modified-few}
+use Rattle.recurrence.specs.Products.{products}
 use Rattle.recurrence.specs.Star.{posts, rows_of, turns}
 use Rattle.recurrence.specs.Strata.{strata}
 use Rattle.recurrence.specs.Words.{rows_by_strata}
@@ -18,7 +19,7 @@ rows-first : (body : Transition) (voc : Vocabulary)
 unfolding turns rows_by_strata ◌>>=◌
 rows-first body voc =
     ap (λ (p : Posing Case). Noted (lost_changes true body) p)
-    (bind-assoc (strata body) (rows_of body voc) (λ rows. Done record { aux = length (modified_variables true body) + 1; rows = rows; post = posts body }))
+    (bind-assoc (strata body (products body voc)) (rows_of body voc) (λ rows. Done record { aux = length (modified_variables true body) + 1; rows = rows; post = posts body }))
 
 pub overflow_cast-aux : goal.overflow_cast-aux
 overflow_cast-aux g c =

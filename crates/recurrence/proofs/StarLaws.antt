@@ -10,7 +10,7 @@ use Rattle.std.proofs.lemmas.List.{length-map}
 use Rattle.std.proofs.lemmas.List.FromFn.{fill_by_all, length-map-range_with_len}
 use Rattle.std.proofs.lemmas.Option.{unwrap_or-slice_get, slice_get_past}
 use Rattle.items.specs.Gives as gives
-use Rattle.items.proofs.Each.{each-append}
+use Rattle.items.proofs.Each.{each-append, each-both}
 use Rattle.linear_terms.specs.declared.col.Col.{Col}
 use Rattle.linear_terms.specs.declared.col.Col.TheVariants.{At, Aux}
 use Rattle.linear_terms.specs.declared.row.Case.{Case}
@@ -35,18 +35,19 @@ use Rattle.polyhedra.specs.Directions.{directions}
 use Rattle.polyhedra.specs.Changes.{poly_at, is_modified, modified_variables}
 use Rattle.polyhedra.specs.Bounds.{with_row, rows_with_entry_bound, rows_with_exit_bound, bounded_change}
 use Rattle.polyhedra.specs.Finish.{finish_of_case}
-use Rattle.polyhedra.proofs.Lists.{same_number, unfound}
-use Rattle.polyhedra.proofs.Directed.{each-distinct}
-use Rattle.polyhedra.proofs.Settled.{KeepsLeft}
-use Rattle.polyhedra.proofs.Finished.{finished-covers}
+use Rattle.polyhedra.proofs.Lists.{same_number, unfound, each-filter, filter-passes}
+use Rattle.polyhedra.proofs.DirectionShapes.{each-distinct}
+use Rattle.polyhedra.proofs.SettleLaws.{KeepsLeft}
+use Rattle.polyhedra.proofs.FinishLaws.{finished-covers}
 use Rattle.polyhedra.proofs.Turns.{number_in, by_some, IsRunOf, unmodified-along}
-use Rattle.polyhedra.proofs.Bounded.{IsOver, each-true, with_row-true, before-true, after-true, change-true}
+use Rattle.polyhedra.proofs.RunBounds.{IsOver, each-true, with_row-true, before-true, after-true, change-true}
 use Rattle.recurrence.specs.declared.terms.Strata.{Strata}
+use Rattle.recurrence.specs.Products.{products}
 use Rattle.recurrence.specs.Strata.{strata, all_terms}
 use Rattle.recurrence.specs.Progressions.{open_variables, progressions, bounded_progression}
-use Rattle.recurrence.specs.Star.{after_from, after, count, change_over_turns, posts, moves, term_row, same_term, terms_once, some_turn, rows_of, turns, star_by, star_of}
-use Rattle.recurrence.proofs.Stratified.{IsTermAlong, IsFirstTerm, AreStrata, strata-along, all-along, IsAfter, term_row-true}
-use Rattle.recurrence.proofs.Progressed.{progression-true, each-progression}
+use Rattle.recurrence.specs.Star.{after_from, after, count, change_over_turns, posts, moves, past_third, term_row, is_none_or_lost, same_term, terms_once, terms_with_row, some_turn, rows_of, turns, star_by, star_of}
+use Rattle.recurrence.proofs.StratumTerms.{IsTermAlong, IsFirstTerm, AreStrata, strata-along, all-along, IsAfter, term_row-true}
+use Rattle.recurrence.proofs.ProgressionRows.{progression-true, each-progression}
 use Rattle.items.proofs.Each.{each-any}
 
 -- ---- more laws of `Always`
@@ -155,9 +156,9 @@ module _ (body : Transition) (steps : ℕ) (states : ℕ → List ℤ) (run : Is
   over_run : Valuation
   over_run = numbers (states 0) auxiliaries
 
-  is_after : HasEnds → IsAfter body steps states run over_run
+  is_after : (ms : List (List Col)) → HasEnds → IsAfter ms body steps states run over_run
   unfolding over_run auxiliaries
-  is_after ends = record {
+  is_after ms ends = record {
     starts = record { each = λ v. refl };
     ends = λ v. after_from-value (number_in (states steps)) (pos steps) over_run v 0 (modified_variables true body) (λ i. ap auxiliaries (none i)) (λ unmodified. stays v unmodified (nat_lt v body.to) refl);
     turns = held-count (number_in (states steps)) (modified_variables true body) (pos steps);
@@ -175,10 +176,10 @@ module _ (body : Transition) (steps : ℕ) (states : ℕ → List ℤ) (run : Is
 
   is_over : HasEnds → IsOver body steps states run over_run (posts body) (moves body) (Some (count body))
   is_over ends = record {
-    starts = (is_after ends).starts;
+    starts = (is_after [] ends).starts;
     ends = λ v. ended v (nat_lt v body.to) refl;
     moves = λ v. changed v (nat_lt v body.to) refl;
-    so_many = λ most. IsWorth-product (IsWorth-whole over_run most) (IsWorth-same (is_after ends).turns (IsWorth-column over_run (count body)));
+    so_many = λ most. IsWorth-product (IsWorth-whole over_run most) (IsWorth-same (is_after [] ends).turns (IsWorth-column over_run (count body)));
     some = ends.some;
   }
     where
@@ -192,7 +193,7 @@ module _ (body : Transition) (steps : ℕ) (states : ℕ → List ℤ) (run : Is
       last_past v past = number_past (states steps) v (subst (λ n. n ≤ v) (sym ends.last) past)
 
       ended : (v : ℕ) (b : Bool) → nat_lt v body.to ≡ b → value_of over_run (poly_at (posts body) v) ≡ number_in (states steps) v
-      ended v true e = ap (value_of over_run) (mapped-first (λ k. column_of (after body k)) body.to v (grind arith)) ∙ column_of-value over_run (after body v) ∙ (is_after ends).ends v
+      ended v true e = ap (value_of over_run) (mapped-first (λ k. column_of (after body k)) body.to v (grind arith)) ∙ column_of-value over_run (after body v) ∙ (is_after [] ends).ends v
       ended v false e =
           let past : body.to ≤ v = grind arith in
           ap (value_of over_run) (mapped-past (λ k. column_of (after body k)) body.to v past) ∙ at_zero ∙ sym (last_past v past)
@@ -201,7 +202,7 @@ module _ (body : Transition) (steps : ℕ) (states : ℕ → List ℤ) (run : Is
       moved-value v =
           let made = columns-made (after body v) (At v) in
           ap (λ m. value_of over_run (or_zero m)) made.1
-          ∙ (IsWorth-difference (IsWorth-same ((is_after ends).ends v) (IsWorth-column over_run (after body v))) (IsWorth-same ((is_after ends).starts.each v) (IsWorth-column over_run (At v)))).as_made made.0 made.1
+          ∙ (IsWorth-difference (IsWorth-same ((is_after [] ends).ends v) (IsWorth-column over_run (after body v))) (IsWorth-same ((is_after [] ends).starts.each v) (IsWorth-column over_run (At v)))).as_made made.0 made.1
 
       none : (x y : ℤ) → x ≡ pos 0 → y ≡ pos 0 → pos 0 ≡ x -ℤ y
       none x y e f = omega (arith, ints)
@@ -223,14 +224,17 @@ module _ (body : Transition) (steps : ℕ) (states : ℕ → List ℤ) (run : Is
         low : (x k : ℤ) → x ≡ k → pos 1 ≤ℤ k → (negsuc 0 *ℤ (x *ℤ pos 1) +ℤ pos 0 +ℤ pos 1) ≤ℤ pos 0
         low x k e f = omega (arith, ints)
 
-    rows-true : (s : Strata) → AreStrata body steps states run s → Always (RowsHold over_run) (rows_of body voc s)
+    rows-true : (s : Strata) → AreStrata (products body voc) body steps states run s → Always (RowsHold over_run) (rows_of body voc s)
     unfolding rows_of
     rows-true s are =
         let over = is_over ends in
-        always_bind (RowsHold over_run) (RowsHold over_run) (each (λ rows t. with_row rows (term_row body t)) [] (terms_once s)) _
-        (each-true (IsTermAlong body steps states run 3) over_run (λ rows t. with_row rows (term_row body t)) [] (terms_once s)
-        (λ rows t h hold. with_row-true over_run rows (term_row body t) (term_row-true body steps states run over_run (is_after ends) t h) hold)
-        (each-distinct (IsTermAlong body steps states run 3) same_term (all_terms s) (all-along body steps states run s are)) tt) (λ equations h1.
+        let ms = products body voc in
+        always_bind (RowsHold over_run) (RowsHold over_run) (each (λ rows t. with_row rows (term_row ms body t)) [] (terms_with_row ms s)) _
+        (each-true (λ t. IsTermAlong ms body steps states run 3 t × IsTrue (is_none_or_lost (past_third ms t))) over_run (λ rows t. with_row rows (term_row ms body t)) [] (terms_with_row ms s)
+        (λ rows t h hold. with_row-true over_run rows (term_row ms body t) (term_row-true ms body steps states run over_run (is_after ms ends) t h.0 h.1) hold)
+        (each-both (IsTermAlong ms body steps states run 3) (λ t. IsTrue (is_none_or_lost (past_third ms t))) (terms_with_row ms s)
+        (each-filter (IsTermAlong ms body steps states run 3) (λ t. is_none_or_lost (past_third ms t)) (terms_once s) (each-distinct (IsTermAlong ms body steps states run 3) same_term (all_terms s) (all-along ms body steps states run s are)))
+        (filter-passes (λ t. is_none_or_lost (past_third ms t)) (terms_once s))) tt) (λ equations h1.
         always_bind (RowsHold over_run) (RowsHold over_run) (each (rows_with_entry_bound body.cases) (equations ++ some_turn body ∷ []) (directions voc)) _
         (each-true IsDirection over_run (rows_with_entry_bound body.cases) (equations ++ some_turn body ∷ []) (directions voc)
         (λ rows d direction. before-true body steps states run over_run (posts body) (moves body) (Some (count body)) over rows d direction) straight
@@ -241,20 +245,20 @@ module _ (body : Transition) (steps : ℕ) (states : ℕ → List ℤ) (run : Is
         always_bind (RowsHold over_run) (RowsHold over_run) (each (bounded_change body.cases (moves body) (Some (count body))) after_too (directions voc ++ voc.extra)) _
         (each-true IsDirection over_run (bounded_change body.cases (moves body) (Some (count body))) after_too (directions voc ++ voc.extra)
         (λ rows d direction. change-true body steps states run over_run (posts body) (moves body) (Some (count body)) over rows d direction) (each-append IsDirection (directions voc) voc.extra straight more_straight) h3) (λ changes h4.
-        each-true (λ p. Unit {0} × IsFirstTerm body steps states run p.term) over_run (bounded_progression body.cases (change_over_turns body) (count body)) changes (progressions body voc s)
-        (λ rows p h. progression-true body steps states run over_run (is_after ends) rows p h.1)
-        (each-progression body voc s (IsFirstTerm body steps states run) (λ v. Unit {0}) are.first (each-any (λ v. Unit {0}) (λ v. tt) (open_variables body voc s))) h4))))
+        each-true (λ p. Unit {0} × IsFirstTerm ms body steps states run p.term) over_run (bounded_progression body.cases (change_over_turns body) (count body)) changes (progressions body voc s)
+        (λ rows p h. progression-true ms body steps states run over_run (is_after ms ends) rows p h.1)
+        (each-progression body voc s (IsFirstTerm ms body steps states run) (λ v. Unit {0}) are.first (each-any (λ v. Unit {0}) (λ v. tt) (open_variables body voc s))) h4))))
 
     -- the second case as it is put together holds of the run's ends
     pub turns-hold : Always (λ case. HoldsCase case (states 0) (states steps)) (turns body voc)
     unfolding turns over_run ◌>>=◌
     turns-hold =
-        always_bind (AreStrata body steps states run) (λ case. HoldsCase case (states 0) (states steps)) (strata body) _ (strata-along body steps states run) (λ s are.
+        always_bind (AreStrata (products body voc) body steps states run) (λ case. HoldsCase case (states 0) (states steps)) (strata body (products body voc)) _ (strata-along (products body voc) body steps states run) (λ s are.
         always_bind (RowsHold over_run) (λ case. HoldsCase case (states 0) (states steps)) (rows_of body voc s) _ (rows-true s are) (λ rows h.
         (auxiliaries, record { rows = h; posts = same_posts })))
       where
         read : (k : ℕ) → get_or (states steps) k (pos 0) ≡ over_run (after body k)
-        read k = sym (unwrap_or-slice_get (states steps) k (pos 0)) ∙ sym ((is_after ends).ends k)
+        read k = sym (unwrap_or-slice_get (states steps) k (pos 0)) ∙ sym ((is_after [] ends).ends k)
 
         same_posts : map (value_of over_run) (map (λ v. column_of (after body v)) (range_with_len 0 body.to)) ≡ states steps
         same_posts = mapped-columns over_run (after body) 0 body.to ∙ sym (fill_by_all (λ k. over_run (after body k)) (states steps) body.to (pos 0) ends.last (λ k lt. read k))

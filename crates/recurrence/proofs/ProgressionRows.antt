@@ -7,6 +7,7 @@ use Rattle.whole_numbers.proofs.Ring.{ring}
 use Rattle.items.specs.Gives as gives
 use Rattle.items.proofs.Gives.{on_ok}
 use Rattle.items.proofs.Each.{each-any, each-map, each-flat_map}
+use Rattle.linear_terms.specs.declared.col.Col.{Col}
 use Rattle.linear_terms.specs.declared.col.Col.TheVariants.{At}
 use Rattle.linear_terms.specs.declared.row.Row.{Row}
 use Rattle.linear_terms.specs.Expressions.{◌⊠◌, whole}
@@ -23,22 +24,22 @@ use Rattle.closed_form.specs.Progressions.{Climb, IsClimb}
 use Rattle.closed_form.proofs.Progressions.{sum_row-climb}
 use Rattle.polyhedra.specs.Vocabulary.{Vocabulary}
 use Rattle.polyhedra.proofs.Turns.{number_in, reads-numbers, change-worth, IsRunOf}
-use Rattle.polyhedra.proofs.Bounded.{IsWorthAlong, IsBelow, bounded-true}
+use Rattle.polyhedra.proofs.RunBounds.{IsWorthAlong, IsBelow, bounded-true}
 use Rattle.recurrence.specs.declared.terms.Term.{Term}
 use Rattle.recurrence.specs.declared.terms.Strata.{Strata}
 use Rattle.recurrence.specs.Progressions.{Progression, signs, open_variables, progressions_of, progressions, excess, progression_row, bounded_progression}
 use Rattle.recurrence.specs.Star.{after, count, change_over_turns}
-use Rattle.recurrence.proofs.Stratified.{IsFirstTerm, IsAfter}
+use Rattle.recurrence.proofs.StratumTerms.{IsFirstTerm, IsAfter}
 
 apart : (u x y : ℤ) → u *ℤ (x -ℤ y) ≡ u *ℤ x -ℤ u *ℤ y
 apart u x y = simp ring (omega (arith, ints))
 
-module _ (body : Transition) (steps : ℕ) (states : ℕ → List ℤ) (run : IsRunOf body steps states) where
+module _ (ms : List (List Col)) (body : Transition) (steps : ℕ) (states : ℕ → List ℤ) (run : IsRunOf body steps states) where
   -- by how much the variable changes, up to a sign, over the term
-  over_term : (p : Progression) → IsFirstTerm body steps states run p.term → ℕ → ℤ
+  over_term : (p : Progression) → IsFirstTerm ms body steps states run p.term → ℕ → ℤ
   over_term p h i = p.up *ℤ (number_in (states (i + 1)) p.variable -ℤ number_in (states i) p.variable) -ℤ p.by *ℤ h.term.ladder 0 i
 
-  excess-worth : (p : Progression) (h : IsFirstTerm body steps states run p.term) → IsWorthAlong body steps states run (excess p) (over_term p h)
+  excess-worth : (p : Progression) (h : IsFirstTerm ms body steps states run p.term) → IsWorthAlong body steps states run (excess p) (over_term p h)
   unfolding over_term
   excess-worth p h = record {
     each = λ case i aux within holds.
@@ -47,7 +48,7 @@ module _ (body : Transition) (steps : ℕ) (states : ℕ → List ℤ) (run : Is
         (IsWorth-same (h.term.along.start i (omega arith) (numbers (states i) aux) (reads-numbers (states i) aux)) (IsWorth-Ok (numbers (states i) aux) p.term.recurrence.start)));
   }
 
-  climb_of : (p : Progression) → IsFirstTerm body steps states run p.term → ℤ → Climb
+  climb_of : (p : Progression) → IsFirstTerm ms body steps states run p.term → ℤ → Climb
   climb_of p h most = record {
     turns = steps;
     numbers = λ i. p.up *ℤ number_in (states i) p.variable;
@@ -56,7 +57,7 @@ module _ (body : Transition) (steps : ℕ) (states : ℕ → List ℤ) (run : Is
     constant = most;
   }
 
-  is_climb : (p : Progression) (h : IsFirstTerm body steps states run p.term) (most : ℤ) → IsBelow body steps states run (over_term p h) most → IsClimb (climb_of p h most)
+  is_climb : (p : Progression) (h : IsFirstTerm ms body steps states run p.term) (most : ℤ) → IsBelow body steps states run (over_term p h) most → IsClimb (climb_of p h most)
   unfolding over_term climb_of
   is_climb p h most bound = record {
     numbers_grow = λ i within. below p.up (number_in (states (i + 1)) p.variable) (number_in (states i) p.variable) (p.by *ℤ h.term.ladder 0 i) most (bound i within);
@@ -66,8 +67,8 @@ module _ (body : Transition) (steps : ℕ) (states : ℕ → List ℤ) (run : Is
       below : (u x y s most : ℤ) → (u *ℤ (x -ℤ y) -ℤ s) ≤ℤ most → (u *ℤ x -ℤ u *ℤ y) ≤ℤ (s +ℤ most)
       below u x y s most e = let split = apart u x y in omega (arith, ints)
 
-  module _ (at : Valuation) (over : IsAfter body steps states run at) where
-    row-true : (p : Progression) (h : IsFirstTerm body steps states run p.term) (most : ℤ) → IsBelow body steps states run (over_term p h) most → IsTrueIfMade at (progression_row (change_over_turns body) (count body) p most)
+  module _ (at : Valuation) (over : IsAfter ms body steps states run at) where
+    row-true : (p : Progression) (h : IsFirstTerm ms body steps states run p.term) (most : ℤ) → IsBelow body steps states run (over_term p h) most → IsTrueIfMade at (progression_row (change_over_turns body) (count body) p most)
     unfolding climb_of
     row-true p h most bound = record {
       holds = λ r e.
@@ -91,7 +92,7 @@ module _ (body : Transition) (steps : ℕ) (states : ℕ → List ℤ) (run : Is
         start_is : IsWorth at (whole p.by ⊠ Ok p.term.recurrence.start) (p.by *ℤ h.term.ladder 0 0)
         start_is = IsWorth-product (IsWorth-whole at p.by) (IsWorth-same (h.term.along.start 0 (omega arith) at over.starts) (IsWorth-Ok at p.term.recurrence.start))
 
-    pub progression-true : (rows : List Row) (p : Progression) → IsFirstTerm body steps states run p.term → RowsHold at rows
+    pub progression-true : (rows : List Row) (p : Progression) → IsFirstTerm ms body steps states run p.term → RowsHold at rows
         → Always (RowsHold at) (bounded_progression body.cases (change_over_turns body) (count body) rows p)
     progression-true rows p h hold = bounded-true body steps states run at (excess p) (progression_row (change_over_turns body) (count body) p) (over_term p h) rows (excess-worth p h) (row-true p h) hold
 

@@ -1,7 +1,7 @@
 -- Variables rise, and their columns stand in print order, before and after the turns; which columns
 -- are not modified.
 use Rattle.std.proofs.Common.{◌≡◌, ℕ, zero, suc, ◌+◌, ◌<◌, ◌≤◌, List, [], ◌∷◌, Bool, true, false, map, refl, sym, ap, subst, ◌∙◌, arith}
-use Rattle.std.specs.Prelude.{if◌then◌else◌, ◌==◌, ◌||◌, not}
+use Rattle.std.specs.Prelude.{Option, None, Some, if◌then◌else◌, ◌==◌, ◌||◌, not}
 use Rattle.std.specs.Cmp.{nat_cmp_is}
 use Rattle.std.specs.List.{AllByRecursion, filter, range_with_len}
 use Rattle.std.specs.Ordering.{ordering_then}
@@ -10,12 +10,14 @@ use Rattle.items.proofs.Each.{each-more, each-map, each-both}
 use Rattle.linear_terms.specs.declared.col.Col.{Col}
 use Rattle.linear_terms.specs.declared.col.Col.TheVariants.{At, Aux}
 use Rattle.linear_terms.specs.Mono.{mono_cmp}
+use Rattle.linear_terms.specs.Polynomial.{Polynomial, column_of}
 use Rattle.transition_formula.specs.Transition.{Transition}
 use Rattle.polyhedra.specs.Changes.{is_modified, is_exact, modified_variables, moving, occurs_in, changes_of, occurring}
 use Rattle.polyhedra.proofs.Lists.{each-filter, filter-passes, unfound, same_number}
 use Rattle.recurrence.specs.Star.{after_from, after}
 use Rattle.recurrence.specs.Strata.{steady_columns}
-use Rattle.recurrence.specs.Words.{Rise, Ascend, is_among}
+use Rattle.recurrence.specs.Products.{unchanged}
+use Rattle.recurrence.specs.Words.{Rise, Ascend, is_among, unchanged_by}
 
 -- ---- numbers
 
@@ -151,3 +153,14 @@ steady-same body same =
 
 pub modified-below : (body : Transition) → AllByRecursion (λ v. v < body.to) (modified_variables true body)
 modified-below body = each-filter (λ v. v < body.to) (is_modified true body.cases) (range_with_len 0 body.to) (range-below body.to 0 body.to (omega arith))
+
+maps-alike : (f g : ℕ → Option Polynomial) (vs : List ℕ) → AllByRecursion (λ v. f v ≡ g v) vs → map f vs ≡ map g vs
+maps-alike f g [] h = refl
+maps-alike f g (v ∷ vs) h = λ i. h.0 i ∷ maps-alike f g vs h.1 i
+
+pub unchanged-same : (body : Transition) (ms : List (List Col)) → unchanged_by (modified_variables true body) body.to ms ≡ unchanged body ms
+unchanged-same body [] = refl
+unchanged-same body (m ∷ ms) =
+    maps-alike (λ v. if is_among (modified_variables true body) v then None else Some (column_of (At v))) (λ v. if is_modified true body.cases v then None else Some (column_of (At v))) (range_with_len 0 body.to)
+    (each-more (λ v. v < body.to) (λ v. (if is_among (modified_variables true body) v then None else Some (column_of (At v))) ≡ (if is_modified true body.cases v then None else Some (column_of (At v))))
+    (λ v low. ap (λ b. if b then None else Some (column_of (At v))) (among-passes (is_modified true body.cases) body.to v low)) (range_with_len 0 body.to) (range-below body.to 0 body.to (omega arith)))

@@ -7,7 +7,7 @@ use Rattle.std.proofs.lemmas.List.FromFn.{length-map-range_with_len}
 use Rattle.std.proofs.lemmas.Bool.Decides.{Decides-eqb}
 use Rattle.items.specs.Gives.{◌>>=◌}
 use Rattle.items.proofs.Gives.{on_ok}
-use Rattle.items.proofs.Each.{each-append, each-map, each-any, each-more, test_from_each}
+use Rattle.items.proofs.Each.{each-append, each-map, each-any, each-more, each_from_test, test_from_each}
 use Rattle.linear_terms.specs.declared.col.Col.{Col}
 use Rattle.linear_terms.specs.declared.col.Col.TheVariants.{At, Aux}
 use Rattle.linear_terms.specs.declared.row.Row.{Row}
@@ -29,19 +29,22 @@ use Rattle.polyhedra.specs.Directions.{directions}
 use Rattle.polyhedra.specs.Changes.{change, is_modified, is_exact, modified_variables, moving, occurs_in, changes_of, occurring}
 use Rattle.polyhedra.specs.Bounds.{for_entries, put_in_for, with_row, before_row, after_row, change_row, rows_with_entry_bound, rows_with_exit_bound, bounded_change}
 use Rattle.polyhedra.specs.Relations.{relations_of}
-use Rattle.polyhedra.proofs.Lists.{each-filter}
-use Rattle.polyhedra.proofs.Owned.{is_post, same_post, owns, IsOwned}
+use Rattle.polyhedra.proofs.Lists.{each-filter, filter-passes}
+use Rattle.polyhedra.proofs.OwnPosts.{is_post, same_post, owns, IsOwned}
 use Rattle.polyhedra.proofs.Places.{any-range}
-use Rattle.polyhedra.proofs.Shaped.{with_row-keeps, bounded-keeps, each-keeps}
-use Rattle.polyhedra.proofs.Directed.{each-distinct}
+use Rattle.polyhedra.proofs.RowShapes.{with_row-keeps, bounded-keeps, each-keeps}
+use Rattle.polyhedra.proofs.DirectionShapes.{each-distinct}
 use Rattle.recurrence.specs.declared.terms.Recurrence.{Recurrence}
 use Rattle.recurrence.specs.declared.terms.Term.{Term}
 use Rattle.recurrence.specs.declared.terms.Strata.{Strata}
+use Rattle.recurrence.specs.Products.{is_known, turned, sequence_of, known_products, sequences, unchanged, with_terms, products}
+use Rattle.recurrence.specs.Words.{IsClosed}
 use Rattle.recurrence.specs.Strata.{steady, term_of, has_terms, stratum, steady_columns, over, stratum_if, is_short, has_grown, strata, all_terms}
 use Rattle.recurrence.specs.Progressions.{Progression, progressions, excess, progression_row, bounded_progression}
-use Rattle.recurrence.specs.Star.{after_from, after, count, change_over_turns, posts, moves, same_term, term_row, terms_once, some_turn, rows_of, turns}
-use Rattle.recurrence.proofs.Progressed.{each-progression}
-use Rattle.recurrence.proofs.Within.{IsWithin, within-Ok, within-whole, within-column, within-product, within-difference, within-or_zero, within-put_in_for, within-coefficients, IsRowWithin, within-at_most, within-closed_row, within-sum_row, IsRecurrenceWithin, steady-within, recurrence-within}
+use Rattle.recurrence.specs.Star.{after_from, after, count, change_over_turns, posts, moves, past_third, is_none_or_lost, same_term, term_row, terms_once, terms_with_row, some_turn, rows_of, turns}
+use Rattle.recurrence.proofs.ProgressionRows.{each-progression}
+use Rattle.recurrence.proofs.Within.{IsWithin, within-Ok, within-whole, within-column, within-product, within-difference, within-or_zero, within-put_in_for, within-coefficients, IsRowWithin, within-at_most, within-closed_row, within-sum_row, IsRecurrenceWithin, steady-within, recurrence-within, sequence-within}
+use Rattle.recurrence.proofs.SolvedColumns.{unchanged-closed, unchanged-long, terms-closed, terms-long, known-low, turned-each}
 
 range-below : (b a n : ℕ) → a + n ≤ b → AllByRecursion (λ v. v < b) (range_with_len a n)
 range-below b a zero h = tt
@@ -179,11 +182,27 @@ module _ (body : Transition) where
   of_unwrapped (Some terms) h = h
 
   module _ (same_ends : body.from ≡ body.to) where
-    over-within : (v : Option (List Term)) → OfSome v → AllByRecursion (IsRecurrenceWithin Below) (over body v)
-    over-within v h =
-        each-append (IsRecurrenceWithin Below) (map steady (steady_columns body)) (map (λ (t : Term). t.recurrence) (unwrap_or v []))
+    -- known columns are entry columns, and so is what is known of them
+    sequences-within : (known : List (Option Polynomial)) → IsClosed known → length known ≤ body.to → (ms : List (List Col)) → AllByRecursion (IsRecurrenceWithin Below) (sequences known ms)
+    sequences-within known closed few ms =
+        each-map (λ m. list_all (is_known known) m ≡ true) (IsRecurrenceWithin Below) (sequence_of (turned known))
+        (λ m k. sequence-within Below (turned known) next m (each_from_test (is_known known) Below known-below m k)) (known_products known ms) (filter-passes (list_all (is_known known)) ms)
+      where
+        known-below : (c : Col) → IsTrue (is_known known c) → Below c
+        known-below (At v) h = column-below v (let low = known-low known v h in omega arith)
+        known-below (Aux n) h = cc
+
+        next : AllByRecursion (λ (p : Polynomial). EachColumn Below p.terms) (turned known)
+        next = turned-each known (λ p. EachColumn Below p.terms) tt (λ v p e.
+            each-more (λ t. AllByRecursion (λ c. IsTrue (is_known known c)) t.0) (λ t. AllByRecursion Below t.0) (λ t k. each-more (λ c. IsTrue (is_known known c)) Below known-below t.0 k) p.terms (closed (At v) p e))
+
+    over-within : (known : List (Option Polynomial)) → IsClosed known → length known ≤ body.to → (ms : List (List Col)) (v : Option (List Term)) → OfSome v → AllByRecursion (IsRecurrenceWithin Below) (over body ms known v)
+    over-within known closed few ms v h =
+        each-append (IsRecurrenceWithin Below) (map steady (steady_columns body) ++ map (λ (t : Term). t.recurrence) (unwrap_or v [])) (sequences known ms)
+        (each-append (IsRecurrenceWithin Below) (map steady (steady_columns body)) (map (λ (t : Term). t.recurrence) (unwrap_or v []))
         (each-map (λ v. v < body.to) (IsRecurrenceWithin Below) steady (λ v k. steady-within Below v (column-below v k)) (steady_columns body) (steady-below same_ends))
-        (each-map TermWithin (IsRecurrenceWithin Below) (λ (t : Term). t.recurrence) (λ t k. k) (unwrap_or v []) (of_unwrapped v h))
+        (each-map TermWithin (IsRecurrenceWithin Below) (λ (t : Term). t.recurrence) (λ t k. k) (unwrap_or v []) (of_unwrapped v h)))
+        (sequences-within known closed few ms)
 
     stratum-within : (lower : List Recurrence) → AllByRecursion (IsRecurrenceWithin Below) lower → Always OfSome (stratum body lower)
     unfolding stratum
@@ -207,13 +226,22 @@ module _ (body : Transition) where
       pub second : AllByRecursion TermWithin s.second
       pub third : AllByRecursion TermWithin s.third
 
-    strata-within : Always AreWithin (strata body)
+    strata-within : (ms : List (List Col)) → Always AreWithin (strata body ms)
     unfolding strata
-    strata-within =
+    strata-within ms =
+        let closed0 = unchanged-closed body ms in
+        let few0 = unchanged-long body ms in
         always_bind OfSome AreWithin (stratum body []) _ (stratum-within [] tt) (λ v1 h1.
-        always_bind OfSome AreWithin (stratum_if (is_short (length (modified_variables true body)) v1) body (over body v1)) _ (stratum_if-within (is_short (length (modified_variables true body)) v1) (over body v1) (over-within v1 h1)) (λ v2 h2.
-        always_bind OfSome AreWithin (stratum_if (has_grown v1 v2 && is_short (length (modified_variables true body)) v2) body (over body v2)) _
-        (stratum_if-within (has_grown v1 v2 && is_short (length (modified_variables true body)) v2) (over body v2) (over-within v2 h2)) (λ v3 h3.
+        let known1 = with_terms body (unchanged body ms) v1 in
+        let closed1 = terms-closed body (unchanged body ms) v1 closed0 in
+        let few1 = terms-long body (unchanged body ms) v1 body.to few0 in
+        always_bind OfSome AreWithin (stratum_if (is_short (length (modified_variables true body)) v1) body (over body ms known1 v1)) _
+        (stratum_if-within (is_short (length (modified_variables true body)) v1) (over body ms known1 v1) (over-within known1 closed1 few1 ms v1 h1)) (λ v2 h2.
+        let known2 = with_terms body known1 v2 in
+        let closed2 = terms-closed body known1 v2 closed1 in
+        let few2 = terms-long body known1 v2 body.to few1 in
+        always_bind OfSome AreWithin (stratum_if (has_grown v1 v2 && is_short (length (modified_variables true body)) v2) body (over body ms known2 v2)) _
+        (stratum_if-within (has_grown v1 v2 && is_short (length (modified_variables true body)) v2) (over body ms known2 v2) (over-within known2 closed2 few2 ms v2 h2)) (λ v3 h3.
         record { first = of_unwrapped v1 h1; second = of_unwrapped v2 h2; third = of_unwrapped v3 h3 })))
 
     -- ---- rows
@@ -224,15 +252,16 @@ module _ (body : Transition) where
     abbrev pub RowsWithin : List Row → Type 0
     RowsWithin rows = AllByRecursion (λ row. EachColumn Below row.poly.terms) rows
 
-    term_row-within : (t : Term) → TermWithin t → IsRowWithin Below (term_row body t)
-    term_row-within t h = record {
+    term_row-within : (ms : List (List Col)) (t : Term) → TermWithin t → IsRowWithin Below (term_row ms body t)
+    term_row-within ms t h = record {
       as_made = λ r e.
-          on_ok t.recurrence.first (λ d1. t.recurrence.second >>= λ d2. t.recurrence.third >>= λ d3. closed_row (linear t.relation.a (map (after body) (moving true body))) t.recurrence.start d1 d2 d3 (count body)) r e (λ d1 e1 f.
+          on_ok (past_third ms t) (λ d4. t.recurrence.first >>= λ d1. t.recurrence.second >>= λ d2. t.recurrence.third >>= λ d3. closed_row (linear t.relation.a (map (after body) (moving true body))) t.recurrence.start d1 d2 d3 (count body)) r e (λ d4 e4 e0.
+          on_ok t.recurrence.first (λ d1. t.recurrence.second >>= λ d2. t.recurrence.third >>= λ d3. closed_row (linear t.relation.a (map (after body) (moving true body))) t.recurrence.start d1 d2 d3 (count body)) r e0 (λ d1 e1 f.
           on_ok t.recurrence.second (λ d2. t.recurrence.third >>= λ d3. closed_row (linear t.relation.a (map (after body) (moving true body))) t.recurrence.start d1 d2 d3 (count body)) r f (λ d2 e2 g.
           on_ok t.recurrence.third (λ d3. closed_row (linear t.relation.a (map (after body) (moving true body))) t.recurrence.start d1 d2 d3 (count body)) r g (λ d3 e3 k.
           (within-closed_row Below (linear t.relation.a (map (after body) (moving true body))) t.recurrence.start d1 d2 d3 (count body)
           (within-coefficients Below t.relation.a (map (after body) (moving true body)) (each-map (λ v. v < body.to) Below (after body) after-below (moving true body) moving-below))
-          h.start (h.first.as_made d1 e1) (h.second.as_made d2 e2) (h.third.as_made d3 e3) count-below).as_made r k)));
+          h.start (h.first.as_made d1 e1) (h.second.as_made d2 e2) (h.third.as_made d3 e3) count-below).as_made r k))));
     }
 
     abbrev ProgressionWithin : Progression → Type 0
@@ -267,10 +296,11 @@ module _ (body : Transition) where
       rows-within : (s : Strata) → AreWithin s → Always RowsWithin (rows_of body voc s)
       unfolding rows_of
       rows-within s are =
-          always_bind RowsWithin RowsWithin (each (λ rows t. with_row rows (term_row body t)) [] (terms_once s)) _
-          (each-keeps RowWithin TermWithin (λ rows t. with_row rows (term_row body t)) [] (terms_once s) (λ rows t k fine. with_row-keeps RowWithin rows (term_row body t) (term_row-within t k).as_made fine)
-          (each-distinct TermWithin same_term (all_terms s)
-          (each-append TermWithin (s.first ++ s.second) s.third (each-append TermWithin s.first s.second are.first are.second) are.third)) tt) (λ equations h1.
+          always_bind RowsWithin RowsWithin (each (λ rows t. with_row rows (term_row (products body voc) body t)) [] (terms_with_row (products body voc) s)) _
+          (each-keeps RowWithin TermWithin (λ rows t. with_row rows (term_row (products body voc) body t)) [] (terms_with_row (products body voc) s)
+          (λ rows t k fine. with_row-keeps RowWithin rows (term_row (products body voc) body t) (term_row-within (products body voc) t k).as_made fine)
+          (each-filter TermWithin (λ t. is_none_or_lost (past_third (products body voc) t)) (terms_once s) (each-distinct TermWithin same_term (all_terms s)
+          (each-append TermWithin (s.first ++ s.second) s.third (each-append TermWithin s.first s.second are.first are.second) are.third))) tt) (λ equations h1.
           always_bind RowsWithin RowsWithin (each (rows_with_entry_bound body.cases) (equations ++ some_turn body ∷ []) (directions voc)) _
           (each-keeps RowWithin (λ (d : Polynomial). EachColumn Entry d.terms) (rows_with_entry_bound body.cases) (equations ++ some_turn body ∷ []) (directions voc)
           (λ rows d k fine. bounded-keeps RowWithin body.cases (λ case. Ok d) (before_row d) rows (λ most. (within-at_most Below (Ok d ⊟ whole most) (within-difference Below (Ok d) (whole most) (within-Ok Below d (each-below d k)) (within-whole Below most))).as_made) fine)
@@ -331,7 +361,7 @@ module _ (body : Transition) where
       pub turns-fit : Always IsFit (turns body voc)
       unfolding turns ◌>>>◌
       turns-fit =
-          always_bind AreWithin IsFit (strata body) _ strata-within (λ s are.
+          always_bind AreWithin IsFit (strata body (products body voc)) _ (strata-within (products body voc)) (λ s are.
           always_bind RowsWithin IsFit (rows_of body voc s) _ (rows-within s are) (λ rows h.
           record {
             fits = both_true (length (posts body) == body.to) _ ((Decides-eqb _ body.to).1 (length-map-range_with_len (λ v. column_of (after body v)) 0 body.to))

@@ -19,14 +19,15 @@ use Rattle.posing.specs.Posing.{◌>>=◌ as ◌>>>◌, each, Always}
 use Rattle.posing.proofs.Paths.{always_bind, always_any}
 use Rattle.closed_form.specs.ClosedRow.{closed_poly, closed_row, sum_poly, sum_row}
 use Rattle.polyhedra.specs.Vocabulary.{Vocabulary}
-use Rattle.polyhedra.proofs.Shaped.{with_row-keeps, bounded-keeps, each-keeps}
+use Rattle.polyhedra.proofs.RowShapes.{with_row-keeps, bounded-keeps, each-keeps}
 use Rattle.polyhedra.specs.Directions.{directions}
 use Rattle.polyhedra.specs.Changes.{poly_at, change, moving}
 use Rattle.polyhedra.specs.Bounds.{for_entries, put_in_for, with_row, before_row, after_row, change_row, rows_with_entry_bound, rows_with_exit_bound, bounded_change}
 use Rattle.recurrence.specs.declared.terms.Term.{Term}
+use Rattle.recurrence.specs.Products.{products}
 use Rattle.recurrence.specs.Strata.{strata}
 use Rattle.recurrence.specs.Progressions.{Progression, excess, progression_row, progressions, bounded_progression}
-use Rattle.recurrence.specs.Star.{after, count, change_over_turns, posts, moves, term_row, terms_once, some_turn, rows_of, turns}
+use Rattle.recurrence.specs.Star.{after, count, change_over_turns, posts, moves, past_third, term_row, terms_with_row, some_turn, rows_of, turns}
 
 -- ---- expressions
 
@@ -106,13 +107,14 @@ Canonical row = IsCanonical row.poly.terms
 abbrev pub RowsAreCanonical : List Row → Type 0
 RowsAreCanonical rows = AllByRecursion (λ row. IsCanonical row.poly.terms) rows
 
-term_row-canonical : (body : Transition) (t : Term) → IsCanonicalRow (term_row body t)
-term_row-canonical body t = record {
+term_row-canonical : (ms : List (List Col)) (body : Transition) (t : Term) → IsCanonicalRow (term_row ms body t)
+term_row-canonical ms body t = record {
   as_made = λ r e.
-      on_ok t.recurrence.first (λ d1. t.recurrence.second >>= λ d2. t.recurrence.third >>= λ d3. closed_row (linear t.relation.a (map (after body) (moving true body))) t.recurrence.start d1 d2 d3 (count body)) r e (λ d1 e1 f.
+      on_ok (past_third ms t) (λ d4. t.recurrence.first >>= λ d1. t.recurrence.second >>= λ d2. t.recurrence.third >>= λ d3. closed_row (linear t.relation.a (map (after body) (moving true body))) t.recurrence.start d1 d2 d3 (count body)) r e (λ d4 e4 e0.
+      on_ok t.recurrence.first (λ d1. t.recurrence.second >>= λ d2. t.recurrence.third >>= λ d3. closed_row (linear t.relation.a (map (after body) (moving true body))) t.recurrence.start d1 d2 d3 (count body)) r e0 (λ d1 e1 f.
       on_ok t.recurrence.second (λ d2. t.recurrence.third >>= λ d3. closed_row (linear t.relation.a (map (after body) (moving true body))) t.recurrence.start d1 d2 d3 (count body)) r f (λ d2 e2 g.
       on_ok t.recurrence.third (λ d3. closed_row (linear t.relation.a (map (after body) (moving true body))) t.recurrence.start d1 d2 d3 (count body)) r g (λ d3 e3 k.
-      (canonical-closed_row (linear t.relation.a (map (after body) (moving true body))) t.recurrence.start d1 d2 d3 (count body)).as_made r k)));
+      (canonical-closed_row (linear t.relation.a (map (after body) (moving true body))) t.recurrence.start d1 d2 d3 (count body)).as_made r k))));
 }
 
 sum_row-canonical : (d s : Polynomial) (g most : ℤ) (k : Col) → IsCanonicalRow (sum_row d s g most k)
@@ -137,10 +139,10 @@ some_turn-canonical body = IsCanonical-cons (count body ∷ [], negsuc 0) [] tt 
 pub turns-canonical : (body : Transition) (voc : Vocabulary) → AllByRecursion (λ d. IsCanonical d.terms) (directions voc) → Always (λ case. RowsAreCanonical case.rows) (turns body voc)
 unfolding turns rows_of ◌>>>◌
 turns-canonical body voc canonical =
-    always_bind (λ s. Unit {0}) (λ case. RowsAreCanonical case.rows) (strata body) _ (always_any (λ s. Unit {0}) (strata body) (λ s. tt)) (λ s any.
+    always_bind (λ s. Unit {0}) (λ case. RowsAreCanonical case.rows) (strata body (products body voc)) _ (always_any (λ s. Unit {0}) (strata body (products body voc)) (λ s. tt)) (λ s any.
     always_bind RowsAreCanonical (λ case. RowsAreCanonical case.rows) (rows_of body voc s) _
-    (always_bind RowsAreCanonical RowsAreCanonical (each (λ rows t. with_row rows (term_row body t)) [] (terms_once s)) _
-    (each-keeps Canonical (λ t. Unit {0}) (λ rows t. with_row rows (term_row body t)) [] (terms_once s) (λ rows t k fine. with_row-keeps Canonical rows (term_row body t) (term_row-canonical body t).as_made fine) (each-any (λ t. Unit {0}) (λ t. tt) (terms_once s)) tt) (λ equations h1.
+    (always_bind RowsAreCanonical RowsAreCanonical (each (λ rows t. with_row rows (term_row (products body voc) body t)) [] (terms_with_row (products body voc) s)) _
+    (each-keeps Canonical (λ t. Unit {0}) (λ rows t. with_row rows (term_row (products body voc) body t)) [] (terms_with_row (products body voc) s) (λ rows t k fine. with_row-keeps Canonical rows (term_row (products body voc) body t) (term_row-canonical (products body voc) body t).as_made fine) (each-any (λ t. Unit {0}) (λ t. tt) (terms_with_row (products body voc) s)) tt) (λ equations h1.
     always_bind RowsAreCanonical RowsAreCanonical (each (rows_with_entry_bound body.cases) (equations ++ some_turn body ∷ []) (directions voc)) _
     (each-keeps Canonical (λ d. IsCanonical d.terms) (rows_with_entry_bound body.cases) (equations ++ some_turn body ∷ []) (directions voc)
     (λ rows d k fine. bounded-keeps Canonical body.cases (λ case. Ok d) (before_row d) rows (λ most. (canonical-at_most (Ok d ⊟ whole most) (canonical-difference (Ok d) (whole most) (canonical-Ok d k))).as_made) fine)
