@@ -102,7 +102,7 @@ highest form first (second ∷ more) h = whole (highest form second more h.1)
 
 -- ---- from that point the form grows in no direction
 
-lowest_at_most : (line form : List ℤ) → dot line form ≤ℤ pos 0 → dot (lowest line) form ≤ℤ pos 0
+pub lowest_at_most : (line form : List ℤ) → dot line form ≤ℤ pos 0 → dot (lowest line) form ≤ℤ pos 0
 lowest_at_most line form h = whole (lowest-is line)
   where
     whole : IsLowestOf line (lowest line) → dot (lowest line) form ≤ℤ pos 0

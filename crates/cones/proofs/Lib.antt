@@ -1,7 +1,6 @@
 -- ---- numbers and vectors
 pub mod Numbers
 pub mod Signs
-pub mod Steps
 pub mod Dots
 pub mod Widths
 -- ---- what vectors span, and what is left of it where lines are made 0
@@ -17,5 +16,12 @@ pub mod Hulls
 pub mod Splitting
 pub mod PivotSearch
 pub mod Units
+-- ---- what is found has no common divisor, and the lines on which it is 0 leave nothing else
+pub mod Primitive
+pub mod Extreme
+pub mod Proportional
 -- ---- the directions from a point
 pub mod Tangency
+-- ---- steps of 128 bits
+pub mod Bits
+pub mod Making

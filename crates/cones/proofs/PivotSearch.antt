@@ -13,7 +13,7 @@ use Rattle.cones.proofs.Splitting.{units-pivots, units-split}
 
 -- ---- tests
 
-abbrev IsZeroOn : List (List ℤ) → List ℤ → Type 0
+abbrev pub IsZeroOn : List (List ℤ) → List ℤ → Type 0
 IsZeroOn vs line = AllByRecursion (λ v. dot line v ≡ pos 0) vs
 
 zero_on-test : (line : List ℤ) (vs : List (List ℤ)) → IsZeroOn vs line → is_zero_on line vs ≡ true
@@ -33,12 +33,12 @@ test-some : (z : ℤ) → not (int_eq z (pos 0)) ≡ true → z ≢ pos 0
 test-some z h e = false≢true (sym (ap not ((Decides-int_eq z (pos 0)).1 e)) ∙ h)
 
 -- a line that sees a vector and is 0 on the others
-record IsPivot (v : List ℤ) (before behind : List (List ℤ)) (line : List ℤ) : Type 0 where
-  seen : dot line v ≢ pos 0
-  before_zero : IsZeroOn before line
-  behind_zero : IsZeroOn behind line
+pub record IsPivot (v : List ℤ) (before behind : List (List ℤ)) (line : List ℤ) : Type 0 where
+  pub seen : dot line v ≢ pos 0
+  pub before_zero : IsZeroOn before line
+  pub behind_zero : IsZeroOn behind line
 
-pivot-test : (v : List ℤ) (before behind : List (List ℤ)) (line : List ℤ) → IsPivot v before behind line → is_pivot v before behind line ≡ true
+pub pivot-test : (v : List ℤ) (before behind : List (List ℤ)) (line : List ℤ) → IsPivot v before behind line → is_pivot v before behind line ≡ true
 pivot-test v before behind line p =
     and_from (not (int_eq (dot line v) (pos 0)) && is_zero_on line before) (is_zero_on line behind)
     (and_from (not (int_eq (dot line v) (pos 0))) (is_zero_on line before) (some-test (dot line v) p.seen) (zero_on-test line before p.before_zero))

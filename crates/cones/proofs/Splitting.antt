@@ -136,7 +136,7 @@ units_span (suc n) (x ∷ xs) e = (
         step : (p s q : ℤ) → q ≡ p → s ≡ p +ℤ s -ℤ q
         step p s q e = omega (arith, ints)
 
-zeros_dot : (n : ℕ) (v : List ℤ) → dot (zeros n) v ≡ pos 0
+pub zeros_dot : (n : ℕ) (v : List ℤ) → dot (zeros n) v ≡ pos 0
 zeros_dot zero v = refl
 zeros_dot (suc n) [] = refl
 zeros_dot (suc n) (y ∷ ys) = none (pos 0 *ℤ y) (dot (zeros n) ys) (zero-*ℤ y) (zeros_dot n ys)
@@ -188,6 +188,9 @@ private_independent [] (v ∷ vs) p = absurd p
 private_independent (q ∷ qs) [] p = absurd p
 private_independent (q ∷ qs) (v ∷ vs) p = (record { line = q; seen = p.0; others = p.1 }, private_independent qs vs p.3)
 
+pub units-independent : (count : ℕ) → IsIndependent (units count)
+units-independent count = private_independent (units count) (units count) (units_private count)
+
 -- ---- what is cleared keeps private lines
 
 record HasRest (qs : List (List ℤ)) (pivot : List ℤ) (rest : List (List ℤ)) : Type 0 where
@@ -208,7 +211,7 @@ all_among : (qs : List (List ℤ)) → AllByRecursion (IsAmong qs) qs
 all_among [] = tt
 all_among (q ∷ qs) = (inl refl, one_more q qs qs (all_among qs))
 
-at_among : (P : List ℤ → Type 0) (ps : List (List ℤ)) (q : List ℤ) → AllByRecursion P ps → IsAmong ps q → P q
+pub at_among : (P : List ℤ → Type 0) (ps : List (List ℤ)) (q : List ℤ) → AllByRecursion P ps → IsAmong ps q → P q
 at_among P [] q h k = absurd k
 at_among P (p ∷ ps) q h k = ⊎_elim (λ (e : q ≡ p). subst P (sym e) h.0) (λ m. at_among P ps q h.1 m) k
 
@@ -297,11 +300,8 @@ units-split lines pivots count p = record {
       split pivots (clearing_by_all lines (units count)) (units count) (clearing_by_all pivots (units count)) [] p flat.inside tt (λ g t m n. rest.all g t n) (λ l. dot l v) (units_span count v e) tt;
 }
   where
-    independent : IsIndependent (units count)
-    independent = private_independent (units count) (units count) (units_private count)
-
     flat : IsAllCleared lines (units count) (clearing_by_all lines (units count))
-    flat = all_cleared lines (units count) independent
+    flat = all_cleared lines (units count) (units-independent count)
 
     rest : IsAllCleared pivots (units count) (clearing_by_all pivots (units count))
-    rest = all_cleared pivots (units count) independent
+    rest = all_cleared pivots (units count) (units-independent count)

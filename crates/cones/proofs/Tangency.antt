@@ -3,10 +3,7 @@ use Rattle.std.proofs.Common.{◌≡◌, ℕ, zero, suc, ◌+◌, ◌<◌, List,
 use Rattle.std.specs.Prelude.{neg_ℤ}
 use Rattle.std.specs.BTreeSet.{insert_key}
 use Rattle.std.specs.Cmp.Lexicographic.{slice_cmp}
-use Rattle.std.specs.List.{flat_map}
 use Rattle.std.specs.Ordering.{int_cmp}
-use Rattle.std.proofs.lemmas.List.{drop_more}
-use Rattle.std.proofs.lemmas.List.Sums.{fold-append}
 use Rattle.items.proofs.Each.{each-append, each-map}
 use Rattle.cones.specs.Cones.{AreWide}
 use Rattle.cones.specs.Tangents.{ArePoints, Point, difference, direction, directions}
@@ -21,9 +18,6 @@ directions-wide count points rays p h k e =
     (each-map (λ (q : Point). length q.numbers ≡ count) (λ (v : List ℤ). length v ≡ count) (direction p) (λ q f. direction-length p q (e ∙ sym f) ∙ f) points h)
     k
 
-pub directions_of-wide : (count : ℕ) (points : List Point) (rays : List (List ℤ)) (p : Point) (made : List (List ℤ)) → ArePoints count points → AreWide count rays → length p.numbers ≡ count → made ≡ directions points rays p → AreWide count made
-directions_of-wide count points rays p made h k e f = subst (AreWide count) (sym f) (directions-wide count points rays p h k e)
-
 pub point-length : (count : ℕ) (points : List Point) (i : ℕ) (p : Point) → ArePoints count points → i < length points → p ≡ get_or points i p → length p.numbers ≡ count
 point-length count [] i p h lt e = absurd (omega arith)
 point-length count (q ∷ points) zero p h lt e = ap (λ (x : Point). length x.numbers) e ∙ h.0
@@ -32,20 +26,7 @@ point-length count (q ∷ points) (suc i) p h lt e = point-length count points i
 pub point-same_length : (count : ℕ) (points : List Point) (i : ℕ) (p q : Point) → ArePoints count points → length p.numbers ≡ count → i < length points → q ≡ get_or points i q → length p.numbers ≡ length q.numbers
 point-same_length count points i p q h e lt f = e ∙ sym (point-length count points i q h lt f)
 
--- ---- facets through one point more
+-- ---- facets put into a set
 
-abbrev put_all : List (List ℤ) → List (List ℤ) → List (List ℤ)
+abbrev pub put_all : List (List ℤ) → List (List ℤ) → List (List ℤ)
 put_all keys vectors = fold (insert_key (slice_cmp int_cmp)) keys vectors
-
-pub put_all-next : (f : Point → List (List ℤ)) (points : List Point) (i : ℕ) (p : Point) (found more start through : List (List ℤ)) → i < length points → p ≡ get_or points i p
-    → through ≡ f p → more ≡ put_all found through → put_all found (flat_map f (drop i points)) ≡ start → put_all more (flat_map f (drop (i + 1) points)) ≡ start
-put_all-next f points i p found more start through h e t m k =
-    ap (λ keys. put_all keys (flat_map f (drop (i + 1) points))) (m ∙ ap (put_all found) t)
-    ∙ sym (fold-append (insert_key (slice_cmp int_cmp)) found (f p) (flat_map f (drop (i + 1) points)))
-    ∙ ap (λ ps. put_all found (flat_map f ps)) (sym at_index)
-    ∙ k
-  where
-    at_index : drop i points ≡ p ∷ drop (i + 1) points
-    at_index = drop_more points i p h ∙ ap (λ q. q ∷ drop (i + 1) points) (sym e)
-
-pub ruleset pointing = (directions_of-wide, point-length, point-same_length, put_all-next)

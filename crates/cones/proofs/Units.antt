@@ -1,10 +1,10 @@
 -- Units, made one after another, and the lengths of what is made of them.
-use Rattle.std.proofs.Common.{◌≡◌, ℕ, zero, suc, ◌+◌, ◌-◌, ◌<◌, Bool, true, false, cond, List, [], ◌∷◌, ◌++◌, get_or, length, map, take, drop, refl, sym, ap, subst, ◌∙◌, arith, append_assoc, ℤ, pos}
-use Rattle.std.specs.Prelude.{Option, None, Some}
+use Rattle.std.proofs.Common.{◌≡◌, ℕ, zero, suc, ◌+◌, ◌-◌, ◌<◌, Bool, true, false, cond, List, [], ◌∷◌, ◌++◌, length, map, refl, sym, ap, subst, ◌∙◌, arith, append_assoc, ℤ, pos}
+use Rattle.std.specs.Prelude.{Some}
 use Rattle.std.specs.List.{cons_option, find}
-use Rattle.std.proofs.lemmas.List.{append-nil, drop_more, take_more}
+use Rattle.std.proofs.lemmas.List.{append-nil}
 use Rattle.cones.specs.Cones.{AreWide, Cleared, Given, IsWide, Kept, clearing}
-use Rattle.cones.specs.Split.{zeros, units, remainder, is_pivot, pivots_behind, pivots}
+use Rattle.cones.specs.Split.{zeros, units, remainder, is_pivot, pivots_behind}
 use Rattle.cones.proofs.Widths.{clearing-wide}
 
 -- ---- units
@@ -91,30 +91,6 @@ pub pivots_behind-wide : (count : ℕ) (lines before vs : List (List ℤ)) → A
 pivots_behind-wide count lines before [] h = tt
 pivots_behind-wide count lines before (v ∷ vs) h = found-wide count (is_pivot v before vs) lines (pivots_behind lines (before ++ v ∷ []) vs) h (pivots_behind-wide count lines (before ++ v ∷ []) vs h)
 
--- ---- pivots, one after another
-
-pub option-behind : {A : Type 0} (made : List A) (found : Option A) (rest : List A) → (made ++ cons_option found []) ++ rest ≡ made ++ cons_option found rest
-option-behind made None rest = ap (λ us. us ++ rest) (append-nil made)
-option-behind made (Some x) rest = append_assoc made (x ∷ []) rest
-
--- what is found of a vector, and then of those behind it
-pub pivots_next : (lines vs : List (List ℤ)) (i : ℕ) (v : List ℤ) (made more start : List (List ℤ)) (found : Option (List ℤ)) → i < length vs → v ≡ get_or vs i v
-    → found ≡ find (is_pivot v (take i vs) (drop (i + 1) vs)) lines → more ≡ made ++ cons_option found []
-    → made ++ pivots_behind lines (take i vs) (drop i vs) ≡ start → more ++ pivots_behind lines (take (i + 1) vs) (drop (i + 1) vs) ≡ start
-pivots_next lines vs i v made more start found h e f g k =
-    ap (λ us. us ++ pivots_behind lines (take (i + 1) vs) (drop (i + 1) vs)) g
-    ∙ option-behind made found (pivots_behind lines (take (i + 1) vs) (drop (i + 1) vs))
-    ∙ ap (λ us. made ++ cons_option found (pivots_behind lines us (drop (i + 1) vs))) before
-    ∙ ap (λ o. made ++ cons_option o (pivots_behind lines (take i vs ++ v ∷ []) (drop (i + 1) vs))) f
-    ∙ ap (λ us. made ++ pivots_behind lines (take i vs) us) (sym behind)
-    ∙ k
-  where
-    before : take (i + 1) vs ≡ take i vs ++ v ∷ []
-    before = take_more vs i v h ∙ ap (λ u. take i vs ++ u ∷ []) (sym e)
-
-    behind : drop i vs ≡ v ∷ drop (i + 1) vs
-    behind = drop_more vs i v h ∙ ap (λ u. u ∷ drop (i + 1) vs) (sym e)
-
 pub remainder-wide : (count : ℕ) (line : List ℤ) (basis left : List (List ℤ)) → left ≡ remainder basis (clearing line basis) → AreWide count basis → AreWide count left
 remainder-wide count line basis left e h = subst (AreWide count) (sym e) (go (clearing line basis) (clearing-wide count line basis h))
   where
@@ -125,9 +101,4 @@ remainder-wide count line basis left e h = subst (AreWide count) (sym e) (go (cl
 pub units_of-wide : (count : ℕ) (us : List (List ℤ)) → us ≡ units count → AreWide count us
 units_of-wide count us e = subst (AreWide count) (sym e) (units-wide count)
 
-pub pivots_of-wide : (count : ℕ) (us vs ps : List (List ℤ)) → us ≡ units count → ps ≡ pivots us vs → AreWide count ps
-pivots_of-wide count us vs ps e f = subst (AreWide count) (sym f) (pivots_behind-wide count us [] vs (units_of-wide count us e))
-
 pub ruleset unit_steps = (units-from_first, units-next, units-end, zeros_next)
-
-pub ruleset widths = (units_of-wide, pivots_of-wide, remainder-wide)

@@ -51,15 +51,3 @@ wide_front count (suc n) (v ∷ vs) h = (h.0, wide_front count n vs h.1)
 
 pub wide_behind : (count n : ℕ) (vs : List (List ℤ)) → AreWide count vs → AreWide count (take n (drop 1 vs))
 wide_behind count n vs h = wide_front count n (drop 1 vs) (wide_tail count vs h)
-
-pub cleared_behind-wide : (count n : ℕ) (line : List ℤ) (vs : List (List ℤ)) (c : Cleared) → c ≡ clearing line (take n (drop 1 vs)) → AreWide count vs → IsWide count c
-cleared_behind-wide count n line vs c e h = subst (IsWide count) (sym e) (clearing-wide count line (take n (drop 1 vs)) (wide_behind count n vs h))
-
-pub cleared_of-wide : (count : ℕ) (line : List ℤ) (vs : List (List ℤ)) (c : Cleared) → c ≡ clearing line vs → AreWide count vs → IsWide count c
-cleared_of-wide count line vs c e h = subst (IsWide count) (sym e) (clearing-wide count line vs h)
-
-pub given_wide : (count : ℕ) (line : List ℤ) (basis : List (List ℤ)) (c : Cleared) (pivot : List ℤ) (vs ws : List (List ℤ)) → c ≡ clearing line basis → c ≡ Given pivot vs → ws ≡ vs → AreWide count basis → AreWide count ws
-given_wide count line basis c pivot vs ws e f g h = subst (AreWide count) (sym g) (part (subst (IsWide count) f (cleared_of-wide count line basis c e h)))
-  where
-    part : IsWide count (Given pivot vs) → AreWide count vs
-    part k = k.1

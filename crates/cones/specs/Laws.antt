@@ -2,10 +2,13 @@
 use Rattle.std.specs.Prelude.{◌≡◌, ◌⊎◌, ℕ, length, ℤ, pos, ◌<ℤ◌, ◌≤ℤ◌, List, [], ◌∷◌, ◌++◌}
 use Rattle.std.specs.List.{AllByRecursion}
 use Rattle.whole_numbers.specs.Dot.{dot}
-use Rattle.cones.specs.Cones.{extremes}
-use Rattle.cones.specs.Split.{units, clearing_by_all, flat, rest_basis, ArePrivate, IsAmong}
-use Rattle.cones.specs.Tangents.{Point, difference, directions, facets_at}
+use Rattle.cones.specs.Cones.{projection, clearing, are_at_most, extremes}
+use Rattle.cones.specs.InBits as in_bits
+use Rattle.cones.specs.InBits.{IsOrLeaves}
+use Rattle.cones.specs.Split.{units, clearing_by_all, flat, pivots, rest_basis, ArePrivate, IsAmong}
+use Rattle.cones.specs.Tangents.{Point, difference, directions, facets_at, facets}
 use Rattle.cones.specs.Spans.{Values, IsSpanned, IsIndependent, IsPointed, AreAtMost, IsAboveAt}
+use Rattle.cones.specs.Vectors.{combination, opposite}
 
 -- A form that is above 0 anywhere in the cone is so on a vector that is found. Values stand for any
 -- rational vector that the basis spans.
@@ -101,3 +104,30 @@ UnitsArePivots = (lines : List (List ℤ)) (count : ℕ)
 abbrev pub FlatAndRestSplit : Type 0
 FlatAndRestSplit = (lines : List (List ℤ)) (count : ℕ)
     → IsSplit lines count (flat lines count) (rest_basis (flat lines count) count)
+
+-- ---- steps of 128 bits
+
+-- what is made in 128 bits is what is defined, and where nothing is made a step leaves them
+pub record StepsMakeWhatIsDefined : Type 0 where
+  pub dots : (line v : List ℤ) → IsOrLeaves (dot line v) (in_bits.dot line v)
+  pub combinations : (a : ℤ) (v : List ℤ) (b : ℤ) (u : List ℤ)
+      → IsOrLeaves (combination a v b u) (in_bits.combination a v b u)
+  pub opposites : (v : List ℤ) → IsOrLeaves (opposite v) (in_bits.opposite v)
+  pub projections : (line pivot v : List ℤ)
+      → IsOrLeaves (projection line pivot v) (in_bits.projection line pivot v)
+  pub clearings : (line : List ℤ) (basis : List (List ℤ))
+      → IsOrLeaves (clearing line basis) (in_bits.clearing line basis)
+  pub tests : (lines : List (List ℤ)) (v : List ℤ)
+      → IsOrLeaves (are_at_most lines v) (in_bits.are_at_most lines v)
+  pub searches : (lines rest basis : List (List ℤ))
+      → IsOrLeaves (extremes lines rest basis) (in_bits.extremes lines rest basis)
+  pub flats : (lines : List (List ℤ)) (count : ℕ)
+      → IsOrLeaves (flat lines count) (in_bits.flat lines count)
+  pub pivots_too : (lines vs : List (List ℤ)) → IsOrLeaves (pivots lines vs) (in_bits.pivots lines vs)
+  pub rests : (vs : List (List ℤ)) (count : ℕ)
+      → IsOrLeaves (rest_basis vs count) (in_bits.rest_basis vs count)
+  pub differences : (p q : Point) → IsOrLeaves (difference p q) (in_bits.difference p q)
+  pub ways : (points : List Point) (rays : List (List ℤ)) (p : Point)
+      → IsOrLeaves (directions points rays p) (in_bits.directions points rays p)
+  pub facets_too : (basis : List (List ℤ)) (points : List Point) (rays : List (List ℤ))
+      → IsOrLeaves (facets basis points rays) (in_bits.facets basis points rays)

@@ -4,6 +4,7 @@ pub mod Cones
 pub mod Refusal
 pub mod Tangents
 pub mod Split
+pub mod InBits
 -- ---- the laws and their words
 pub mod Spans
 pub mod Laws

@@ -1,5 +1,5 @@
 //! Each law is the contract of a function that does nothing.
-ghost use Rattle.cones.specs.Laws.{FindsAbove, FindsInside, FindsSpanned, FindsAboveFlat, FacetsAreComplete, Splits, UnitsArePivots, FlatAndRestSplit};
+ghost use Rattle.cones.specs.Laws.{FindsAbove, FindsInside, FindsSpanned, FindsAboveFlat, FacetsAreComplete, Splits, UnitsArePivots, FlatAndRestSplit, StepsMakeWhatIsDefined};
 
 /// A form that is above 0 anywhere in a cone is so on an extreme vector that the search finds; what
 /// it finds lies in the cone and is spanned by the basis.
@@ -24,4 +24,9 @@ pub fn law_of_splitting()
     ensures splits { Splits }
     ensures pivots { UnitsArePivots }
     ensures both { FlatAndRestSplit }
+{}
+
+/// What is made in 128 bits is what is defined, and where nothing is made a step leaves them.
+pub fn law_of_steps()
+    ensures { StepsMakeWhatIsDefined }
 {}

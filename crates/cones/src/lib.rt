@@ -10,7 +10,7 @@ mod stop;
 mod tangents;
 mod vectors;
 
-pub use laws::{law_of_extremes, law_of_flats, law_of_hulls, law_of_splitting};
+pub use laws::{law_of_extremes, law_of_flats, law_of_hulls, law_of_splitting, law_of_steps};
 pub use point::Point;
 pub use projecting::{Cleared, clearing, lowest, projection};
 pub use searching::{extremes, opposite};

@@ -1,9 +1,10 @@
-ghost use Rattle.std.specs.Prelude.{◌≡◌, ◌≤◌, ◌<◌, ◌^◌, pos, neg_ℤ, ◌∷◌, int_div, map, length, unsigned_abs, IfOk, IfErr};
+ghost use Rattle.std.specs.Prelude.{◌≡◌, ◌<◌, pos, ◌∷◌, int_div, map, length, IfOk};
+ghost use Rattle.items.specs.Gives.{Gives};
 ghost use Rattle.whole_numbers.specs.Divisors.{gcd_of_all};
-ghost use Rattle.cones.specs.Cones.{along_sign, projection, clearing, clearing_with, AreWide, IsWide, Kept};
-ghost use Rattle.cones.specs.Refusal.{LeavesBits, IsRefusal};
-ghost use Rattle.cones.specs.Vectors.{combination, lowest};
-ghost use Rattle.whole_numbers.specs.Dot.{dot};
+ghost use Rattle.cones.specs.Cones.{AreWide, IsWide, Kept};
+ghost use Rattle.cones.specs.InBits as in_bits;
+ghost use Rattle.cones.specs.Refusal.{cause};
+ghost use Rattle.cones.specs.Vectors.{lowest};
 
 use crate::ConeStop;
 use crate::stop::step_product;
@@ -55,10 +56,8 @@ fn quotients(alloc: Global, numbers: &[i128], divisor: u128) -> Result<Items<i12
 }
 
 /// The number without its sign.
-#[tactic(auto, using(crate::proofs::Steps::steps, crate::proofs::Signs::signs))]
 fn magnitude(number: &i128) -> Result<i128, Wide>
-    ensures value { IfOk result (λ z. z ≡ pos (unsigned_abs number.now)) }
-    ensures width { IfErr result LeavesBits }
+    ensures { result ≡ in_bits.magnitude number.now }
 {
     if *number < 0 {
         step_product(number, &-1)
@@ -68,10 +67,8 @@ fn magnitude(number: &i128) -> Result<i128, Wide>
 }
 
 /// The opposite of a number, where the sign is not negative; else the number.
-#[tactic(auto, using(crate::proofs::Steps::steps, crate::proofs::Signs::signs))]
 fn opposite_along(sign: &i128, number: &i128) -> Result<i128, Wide>
-    ensures value { IfOk result (λ z. z ≡ along_sign sign.now (neg_ℤ number.now)) }
-    ensures width { IfErr result LeavesBits }
+    ensures { result ≡ in_bits.opposite_along sign.now number.now }
 {
     if *sign < 0 {
         Ok(*number)
@@ -88,8 +85,7 @@ pub fn projection(
     v: &[i128],
 ) -> Result<Items<i128>, ConeStop>
     requires { length pivot.now ≡ length v.now }
-    ensures value { IfOk result (λ made. made ≡ projection line.now pivot.now v.now) }
-    ensures refusal { IfErr result IsRefusal }
+    ensures { Gives cause (λ made. made) result (in_bits.projection line.now pivot.now v.now) }
 {
     let own = dot(line, pivot)?;
     let value = dot(line, v)?;
@@ -102,8 +98,7 @@ pub fn projection(
 /// The last vector on which the line is not 0 is given up, and those before it are moved along it.
 pub fn clearing(alloc: Global, line: &[i128], basis: &[Items<i128>]) -> Result<Cleared, ConeStop>
     requires wide { AreWide (length line.now) basis.now }
-    ensures value { IfOk result (λ c. c ≡ clearing line.now basis.now) }
-    ensures refusal { IfErr result IsRefusal }
+    ensures { Gives cause (λ made. made) result (in_bits.clearing line.now basis.now) }
 {
     let [v, vs @ ..] = basis else {
         return Ok(Cleared::Kept);
@@ -121,8 +116,7 @@ fn clearing_with(
 ) -> Result<Cleared, ConeStop>
     requires own { length v.now ≡ length line.now }
     requires behind { IsWide (length line.now) behind }
-    ensures value { IfOk result (λ c. c ≡ clearing_with line.now v.now vs.now behind) }
-    ensures refusal { IfErr result IsRefusal }
+    ensures { Gives cause (λ made. made) result (in_bits.clearing_with line.now v.now vs.now behind) }
 {
     match behind {
         Cleared::Kept => first_clearing(alloc, line, v, vs),
@@ -141,8 +135,7 @@ fn first_clearing(
     v: &[i128],
     vs: &[Items<i128>],
 ) -> Result<Cleared, ConeStop>
-    ensures value { IfOk result (λ c. c ≡ clearing_with line.now v.now vs.now Kept) }
-    ensures refusal { IfErr result IsRefusal }
+    ensures { Gives cause (λ made. made) result (in_bits.clearing_with line.now v.now vs.now Kept) }
 {
     let value = dot(line, v)?;
     if value == 0 {

@@ -1,7 +1,8 @@
-ghost use Rattle.std.specs.Prelude.{◌≡◌, neg_ℤ, [], ◌∷◌, ◌++◌, length, IfOk, IfErr};
-ghost use Rattle.cones.specs.Cones.{ends, at_end, extremes_at_zero, extremes, AreWide, IsWide};
-ghost use Rattle.cones.specs.Refusal.{LeavesBits, IsRefusal};
-ghost use Rattle.cones.specs.Vectors.{opposite};
+ghost use Rattle.std.specs.Prelude.{◌≡◌, [], ◌∷◌, ◌++◌, IfOk};
+ghost use Rattle.items.specs.Gives.{Gives};
+ghost use Rattle.cones.specs.Cones.{AreWide};
+ghost use Rattle.cones.specs.InBits as in_bits;
+ghost use Rattle.cones.specs.Refusal.{cause};
 
 use crate::ConeStop;
 use crate::projecting::{Cleared, clearing};
@@ -22,8 +23,7 @@ pub fn extremes(
 ) -> Result<Items<Items<i128>>, ConeStop>
     requires rest { AreWide count rest.now }
     requires basis { AreWide count basis.now }
-    ensures value { IfOk result (λ found. found ≡ extremes lines.now rest.now basis.now) }
-    ensures refusal { IfErr result IsRefusal }
+    ensures { Gives cause (λ made. made) result (in_bits.extremes lines.now rest.now basis.now) }
 {
     let [line, more @ ..] = rest else {
         return at_end(alloc, lines, basis);
@@ -50,8 +50,7 @@ fn at_end(
     lines: &[Items<i128>],
     basis: &[Items<i128>],
 ) -> Result<Items<Items<i128>>, ConeStop>
-    ensures value { IfOk result (λ found. found ≡ at_end lines.now basis.now) }
-    ensures refusal { IfErr result IsRefusal }
+    ensures { Gives cause (λ made. made) result (in_bits.at_end lines.now basis.now) }
 {
     match basis {
         [w] => ends(alloc, lines, w.as_slice()),
@@ -61,8 +60,7 @@ fn at_end(
 
 /// The vector or its opposite, where it lies in the cone.
 fn ends(alloc: Global, lines: &[Items<i128>], w: &[i128]) -> Result<Items<Items<i128>>, ConeStop>
-    ensures value { IfOk result (λ found. found ≡ ends lines.now w.now) }
-    ensures refusal { IfErr result IsRefusal }
+    ensures { Gives cause (λ made. made) result (in_bits.ends lines.now w.now) }
 {
     let along = are_at_most(lines, w)?;
     if along {
@@ -87,8 +85,7 @@ fn alone(alloc: Global, vector: Items<i128>) -> Result<Items<Items<i128>>, Alloc
 
 /// Each number with its sign turned.
 pub fn opposite(alloc: Global, numbers: &[i128]) -> Result<Items<i128>, ConeStop>
-    ensures value { IfOk result (λ made. made ≡ opposite numbers.now) }
-    ensures refusal { IfErr result IsRefusal }
+    ensures { Gives cause (λ made. made) result (in_bits.opposite numbers.now) }
 {
     let mut made = Items::from_vec(Vec::with_capacity(alloc, numbers.len())?);
     for number in numbers {
@@ -97,10 +94,8 @@ pub fn opposite(alloc: Global, numbers: &[i128]) -> Result<Items<i128>, ConeStop
     Ok(made)
 }
 
-#[tactic(auto, using(crate::proofs::Steps::steps, crate::proofs::Signs::signs))]
 pub(crate) fn opposite_number(number: &i128) -> Result<i128, Wide>
-    ensures value { IfOk result (λ z. z ≡ neg_ℤ number.now) }
-    ensures width { IfErr result LeavesBits }
+    ensures { result ≡ in_bits.opposite_number number.now }
 {
     step_product(number, &-1)
 }

@@ -1,8 +1,10 @@
-ghost use Rattle.std.specs.Prelude.{◌≡◌, ◌<◌, ◌+◌, ◌-◌, pos, [], ◌∷◌, ◌++◌, length, IfOk, IfErr, OnOk};
-ghost use Rattle.std.specs.List.{cons_option, find};
-ghost use Rattle.cones.specs.Cones.{clearing, AreWide};
-ghost use Rattle.cones.specs.Refusal.{LeavesBits, IsRefusal};
-ghost use Rattle.cones.specs.Split.{zeros, units, remainder, clearing_by_all, flat, is_zero_on, is_pivot, pivots, rest_basis};
+ghost use Rattle.std.specs.Prelude.{◌≡◌, ◌<◌, ◌-◌, pos, [], ◌∷◌, ◌++◌, IfOk, OnOk};
+ghost use Rattle.std.specs.List.{cons_option};
+ghost use Rattle.items.specs.Gives.{Gives};
+ghost use Rattle.cones.specs.Cones.{AreWide};
+ghost use Rattle.cones.specs.InBits as in_bits;
+ghost use Rattle.cones.specs.Refusal.{cause};
+ghost use Rattle.cones.specs.Split.{zeros, units, remainder};
 
 use crate::ConeStop;
 use crate::projecting::{Cleared, clearing};
@@ -13,29 +15,27 @@ use whole_numbers::Wide;
 
 /// The vectors of so many numbers on which all lines are 0: what is left of the units where each
 /// line is made 0, one after another.
-#[tactic(auto, using(crate::proofs::Units::widths))]
+#[tactic(auto, using(crate::proofs::Making::widths))]
 pub fn flat(
     alloc: Global,
     lines: &[Items<i128>],
     count: usize,
 ) -> Result<Items<Items<i128>>, ConeStop>
     requires { AreWide count lines.now }
-    ensures value { IfOk result (λ vectors. vectors ≡ flat lines.now count) }
-    ensures refusal { IfErr result IsRefusal }
+    ensures { Gives cause (λ made. made) result (in_bits.flat lines.now count) }
 {
     let units = units(alloc, count)?;
     clearing_by_all(alloc, lines, units, count)
 }
 
 /// A basis of the rest: the vectors on which the pivots of flat ones are 0.
-#[tactic(auto, using(crate::proofs::Units::widths))]
+#[tactic(auto, using(crate::proofs::Making::widths))]
 pub fn rest_basis(
     alloc: Global,
     vectors: &[Items<i128>],
     count: usize,
 ) -> Result<Items<Items<i128>>, ConeStop>
-    ensures value { IfOk result (λ basis. basis ≡ rest_basis vectors.now count) }
-    ensures refusal { IfErr result IsRefusal }
+    ensures { Gives cause (λ made. made) result (in_bits.rest_basis vectors.now count) }
 {
     let units = units(alloc, count)?;
     let pivots = pivots(alloc, units.as_slice(), vectors)?;
@@ -43,7 +43,7 @@ pub fn rest_basis(
 }
 
 /// What is left of a basis where each line is made 0, one after another.
-#[tactic(auto, using(crate::proofs::Units::widths))]
+#[tactic(auto, using(crate::proofs::Making::widths))]
 fn clearing_by_all(
     alloc: Global,
     lines: &[Items<i128>],
@@ -52,29 +52,23 @@ fn clearing_by_all(
 ) -> Result<Items<Items<i128>>, ConeStop>
     requires lines { AreWide count lines.now }
     requires basis { AreWide count basis }
-    ensures value { IfOk result (λ left. left ≡ clearing_by_all lines.now basis) }
-    ensures refusal { IfErr result IsRefusal }
+    ensures { Gives cause (λ made. made) result (in_bits.clearing_by_all lines.now basis) }
 {
     let [line, more @ ..] = lines else {
         return Ok(basis);
     };
-    let left = remainder(alloc, line.as_slice(), basis)?;
+    let made = clearing(alloc, line.as_slice(), basis.as_slice())?;
+    let left = remainder(basis, made);
     clearing_by_all(alloc, more, left, count)
 }
 
-/// What is left of a basis where a line is made 0.
-fn remainder(
-    alloc: Global,
-    line: &[i128],
-    basis: Items<Items<i128>>,
-) -> Result<Items<Items<i128>>, ConeStop>
-    requires { AreWide (length line.now) basis }
-    ensures value { IfOk result (λ left. left ≡ remainder basis (clearing line.now basis)) }
-    ensures refusal { IfErr result IsRefusal }
+/// The vectors of a basis that are left by clearing.
+fn remainder(basis: Items<Items<i128>>, made: Cleared) -> Items<Items<i128>>
+    ensures { result ≡ remainder basis made }
 {
-    match clearing(alloc, line, basis.as_slice())? {
-        Cleared::Kept => Ok(basis),
-        Cleared::Given(_pivot, rest) => Ok(rest),
+    match made {
+        Cleared::Kept => basis,
+        Cleared::Given(_pivot, rest) => rest,
     }
 }
 
@@ -113,14 +107,13 @@ fn push_zeros(made: &mut Items<i128>, count: usize) -> Result<(), AllocError>
 
 /// For each vector the first of the lines that is not 0 on it, and is 0 on all others, if there is
 /// one.
-#[tactic(auto, using(crate::proofs::Units::pivots_next))]
+#[tactic(auto, using(crate::proofs::Making::pivoting))]
 pub fn pivots(
     alloc: Global,
     lines: &[Items<i128>],
     vectors: &[Items<i128>],
 ) -> Result<Items<Items<i128>>, ConeStop>
-    ensures value { IfOk result (λ found. found ≡ pivots lines.now vectors.now) }
-    ensures refusal { IfErr result IsRefusal }
+    ensures { Gives cause (λ made. made) result (in_bits.pivots lines.now vectors.now) }
 {
     let mut made = Items::new(alloc);
     for (place, v) in vectors.iter().enumerate() {
@@ -153,9 +146,7 @@ fn pivot(
     before: &[Items<i128>],
     behind: &[Items<i128>],
 ) -> Result<Option<Items<i128>>, ConeStop>
-    ensures value { IfOk result
-        (λ found. found ≡ find (is_pivot v.now before.now behind.now) lines.now) }
-    ensures refusal { IfErr result IsRefusal }
+    ensures { Gives cause (λ made. made) result (in_bits.first_of (in_bits.is_pivot v.now before.now behind.now) lines.now) }
 {
     let [line, more @ ..] = lines else {
         return Ok(None);
@@ -173,8 +164,7 @@ fn is_pivot(
     before: &[Items<i128>],
     behind: &[Items<i128>],
 ) -> Result<bool, Wide>
-    ensures value { IfOk result (λ b. b ≡ is_pivot v.now before.now behind.now line.now) }
-    ensures width { IfErr result LeavesBits }
+    ensures { result ≡ in_bits.is_pivot v.now before.now behind.now line.now }
 {
     let value = dot(line, v)?;
     if value == 0 {
@@ -189,8 +179,7 @@ fn is_pivot(
 
 /// Whether a line is 0 on each vector.
 fn is_zero_on(line: &[i128], vectors: &[Items<i128>]) -> Result<bool, Wide>
-    ensures value { IfOk result (λ b. b ≡ is_zero_on line.now vectors.now) }
-    ensures width { IfErr result LeavesBits }
+    ensures { result ≡ in_bits.is_zero_on line.now vectors.now }
 {
     let [v, more @ ..] = vectors else {
         return Ok(true);

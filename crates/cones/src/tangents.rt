@@ -1,10 +1,12 @@
-ghost use Rattle.std.specs.Prelude.{◌≡◌, neg_ℤ, ◌++◌, length, map, fold, IfOk, IfErr, OnOk};
+ghost use Rattle.std.specs.Prelude.{◌≡◌, length, fold, IfOk, OnOk};
 ghost use Rattle.std.specs.BTreeSet.{insert_key};
 ghost use Rattle.std.specs.Cmp.Lexicographic.{slice_cmp};
 ghost use Rattle.std.specs.Ordering.{int_cmp};
+ghost use Rattle.items.specs.Gives.{Gives};
 ghost use Rattle.cones.specs.Cones.{AreWide};
-ghost use Rattle.cones.specs.Refusal.{IsRefusal};
-ghost use Rattle.cones.specs.Tangents.{difference, direction, directions, facets_at, facets, ArePoints};
+ghost use Rattle.cones.specs.InBits as in_bits;
+ghost use Rattle.cones.specs.Refusal.{cause};
+ghost use Rattle.cones.specs.Tangents.{ArePoints};
 
 use crate::projecting::{copies_of, lowest};
 use crate::searching::{extremes, opposite_number};
@@ -15,7 +17,7 @@ use std::alloc::{AllocError, Global};
 use std::collections::BTreeSet;
 
 /// The facets through each of the points, in ascending order, each once.
-#[tactic(auto, using(crate::proofs::Tangency::pointing))]
+#[tactic(auto, using(crate::proofs::Making::pointing))]
 pub fn facets(
     alloc: Global,
     basis: &[Items<i128>],
@@ -26,8 +28,7 @@ pub fn facets(
     requires basis { AreWide count basis.now }
     requires points { ArePoints count points.now }
     requires rays { AreWide count rays.now }
-    ensures value { IfOk result (λ found. found ≡ facets basis.now points.now rays.now) }
-    ensures refusal { IfErr result IsRefusal }
+    ensures { Gives cause (λ made. made) result (in_bits.facets basis.now points.now rays.now) }
 {
     let mut found = BTreeSet::new(alloc);
     for point in points {
@@ -38,7 +39,7 @@ pub fn facets(
 }
 
 /// The facets through a point.
-#[tactic(auto, using(crate::proofs::Tangency::pointing))]
+#[tactic(auto, using(crate::proofs::Making::pointing))]
 fn facets_at(
     alloc: Global,
     basis: &[Items<i128>],
@@ -51,8 +52,7 @@ fn facets_at(
     requires points { ArePoints count points.now }
     requires rays { AreWide count rays.now }
     requires point { length point.now.numbers ≡ count }
-    ensures value { IfOk result (λ found. found ≡ facets_at basis.now points.now rays.now point.now) }
-    ensures refusal { IfErr result IsRefusal }
+    ensures { Gives cause (λ made. made) result (in_bits.facets_at basis.now points.now rays.now point.now) }
 {
     let lines = directions(alloc, points, rays, point, count)?;
     extremes(alloc, lines.as_slice(), lines.as_slice(), basis, count)
@@ -68,8 +68,7 @@ pub fn directions(
 ) -> Result<Items<Items<i128>>, ConeStop>
     requires points { ArePoints count points.now }
     requires point { length point.now.numbers ≡ count }
-    ensures value { IfOk result (λ made. made ≡ directions points.now rays.now point.now) }
-    ensures refusal { IfErr result IsRefusal }
+    ensures { Gives cause (λ made. made) result (in_bits.directions points.now rays.now point.now) }
 {
     let mut made = directions_to(alloc, points, point, count)?;
     let rays = copies_of(alloc, rays)?;
@@ -77,7 +76,7 @@ pub fn directions(
     Ok(made)
 }
 
-#[tactic(auto, using(crate::proofs::Tangency::pointing))]
+#[tactic(auto, using(crate::proofs::Making::pointing))]
 fn directions_to(
     alloc: Global,
     points: &[Point],
@@ -86,8 +85,7 @@ fn directions_to(
 ) -> Result<Items<Items<i128>>, ConeStop>
     requires points { ArePoints count points.now }
     requires point { length point.now.numbers ≡ count }
-    ensures value { IfOk result (λ made. made ≡ map (direction point.now) points.now) }
-    ensures refusal { IfErr result IsRefusal }
+    ensures { Gives cause (λ made. made) result (in_bits.each (in_bits.direction point.now) points.now) }
 {
     let mut made = Items::new(alloc);
     for other in points {
@@ -98,8 +96,7 @@ fn directions_to(
 
 fn direction(alloc: Global, p: &Point, q: &Point) -> Result<Items<i128>, ConeStop>
     requires { length p.now.numbers ≡ length q.now.numbers }
-    ensures value { IfOk result (λ made. made ≡ direction p.now q.now) }
-    ensures refusal { IfErr result IsRefusal }
+    ensures { Gives cause (λ made. made) result (in_bits.direction p.now q.now) }
 {
     let made = difference(alloc, p, q)?;
     Ok(lowest(alloc, made)?)
@@ -108,8 +105,7 @@ fn direction(alloc: Global, p: &Point, q: &Point) -> Result<Items<i128>, ConeSto
 /// From one point to another, times both denominators.
 pub fn difference(alloc: Global, p: &Point, q: &Point) -> Result<Items<i128>, ConeStop>
     requires { length p.now.numbers ≡ length q.now.numbers }
-    ensures value { IfOk result (λ made. made ≡ difference p.now q.now) }
-    ensures refusal { IfErr result IsRefusal }
+    ensures { Gives cause (λ made. made) result (in_bits.difference p.now q.now) }
 {
     let by = opposite_number(&q.over)?;
     combination(alloc, &p.over, &q.numbers, &by, &p.numbers)

@@ -1,12 +1,12 @@
 -- The bounds of all cases of a body, and its points.
-use Rattle.std.proofs.Common.{◌≡◌, ℕ, zero, suc, refl, sym, ap, subst, ◌∙◌, List, [], ◌∷◌, ◌++◌, length, Bool, true, false, cond, ℤ, pos, ◌*ℤ◌, ◌≤ℤ◌, ◌<ℤ◌}
+use Rattle.std.proofs.Common.{◌≡◌, ℕ, zero, suc, refl, sym, subst, List, [], ◌∷◌, ◌++◌, length, Bool, true, false, cond, ℤ, pos, ◌≤ℤ◌, ◌<ℤ◌}
 use Rattle.std.specs.Prelude.{All, ◌↔◌, slice_get, Some}
 use Rattle.std.specs.List.{AllByRecursion, flat_map}
 use Rattle.std.proofs.lemmas.List.Elements.{recursion_from_All}
 use Rattle.items.proofs.Each.{each-append, each-front, each-back, each-any, each-flat_map}
 use Rattle.whole_numbers.specs.Dot.{dot}
 use Rattle.farkas_check.specs.Kept.{IsCanonicalChange}
-use Rattle.farkas_check.specs.Rational.{RationalPoint, Meets}
+use Rattle.farkas_check.specs.Rational.{Meets}
 use Rattle.farkas_check.specs.Relations.{entry}
 use Rattle.farkas_check.specs.declared.stratum.Change.{Change}
 use Rattle.cones.specs.Spans.{AreAtMost}

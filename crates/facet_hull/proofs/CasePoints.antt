@@ -1,8 +1,7 @@
 -- The rational points of a case as vectors of its cone, and the other way round.
-use Rattle.std.proofs.Common.{◌≡◌, ℕ, zero, suc, ◌+◌, false, cond, refl, sym, ap, subst, ◌∙◌, arith, List, [], ◌∷◌, ◌++◌, get_or, length, map, ℤ, pos, negsuc, ◌+ℤ◌, ◌*ℤ◌, ◌≤ℤ◌, ◌<ℤ◌}
-use Rattle.std.specs.Prelude.{neg_ℤ, take, All, slice_get, Some}
+use Rattle.std.proofs.Common.{◌≡◌, ℕ, zero, suc, ◌+◌, false, cond, refl, sym, ap, subst, ◌∙◌, arith, List, [], ◌∷◌, ◌++◌, length, map, ℤ, pos, negsuc, ◌+ℤ◌, ◌*ℤ◌, ◌≤ℤ◌, ◌<ℤ◌}
+use Rattle.std.specs.Prelude.{neg_ℤ, take}
 use Rattle.std.specs.List.{AllByRecursion, flat_map}
-use Rattle.std.specs.Map.{keys_of}
 use Rattle.std.specs.Ordering.{eq_by_cmp, is_eq}
 use Rattle.std.specs.declared.cmp.Ordering.TheVariants.{Less}
 use Rattle.std.proofs.lemmas.Int.{ints}
@@ -19,15 +18,14 @@ use Rattle.linear_terms.specs.Polynomial.{Polynomial, IsCanonical, coefficient_i
 use Rattle.linear_terms.specs.Row.{IsWithin}
 use Rattle.farkas_check.specs.Frames.{line_of}
 use Rattle.farkas_check.specs.Kept.{IsCanonicalChange}
-use Rattle.farkas_check.specs.Rational.{RationalPoint, sum_at, IsTrueAt, Meets}
-use Rattle.farkas_check.specs.Relations.{case_monos, entry, stratum_columns}
+use Rattle.farkas_check.specs.Rational.{RationalPoint, sum_at, Meets}
+use Rattle.farkas_check.specs.Relations.{case_monos, entry}
 use Rattle.farkas_check.specs.declared.stratum.Change.{Change}
 use Rattle.farkas_check.proofs.Differences.{IsOver}
-use Rattle.farkas_check.proofs.Spreads.{itself, AreAmong, RowsAmong, spread, terms_at-spread}
+use Rattle.farkas_check.proofs.Spreads.{itself, RowsAmong, spread, terms_at-spread}
 use Rattle.farkas_check.proofs.Vanishing.{PolysAmong, IsCaseAmong, cases_among}
 use Rattle.farkas_check.proofs.Walks.{IsBefore, IsOrdered, IsOrdered-columns}
 use Rattle.cones.specs.Spans.{AreAtMost}
-use Rattle.cones.specs.Split.{zeros}
 use Rattle.cones.specs.Vectors.{opposite}
 use Rattle.cones.proofs.Dots.{dot-opposite}
 use Rattle.cones.proofs.Hulls.{dot_comm}

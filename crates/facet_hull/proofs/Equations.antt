@@ -1,16 +1,15 @@
 -- The equations of a body: they are constant on its changes, and each form that is so is a
 -- combination of them.
-use Rattle.std.proofs.Common.{◌≡◌, ◌≢◌, ℕ, zero, suc, inl, refl, sym, ap, subst, ◌∙◌, arith, List, [], ◌∷◌, ◌++◌, length, map, ℤ, pos, negsuc, ◌+ℤ◌, ◌-ℤ◌, ◌*ℤ◌, ◌≤ℤ◌, ◌<ℤ◌}
+use Rattle.std.proofs.Common.{◌≡◌, ◌≢◌, ℕ, inl, refl, sym, ap, subst, ◌∙◌, arith, List, [], ◌∷◌, ◌++◌, map, ℤ, pos, ◌+ℤ◌, ◌-ℤ◌, ◌*ℤ◌, ◌≤ℤ◌, ◌<ℤ◌}
 use Rattle.std.specs.Prelude.{All, neg_ℤ}
-use Rattle.std.specs.List.{AllByRecursion, flat_map}
+use Rattle.std.specs.List.{AllByRecursion}
 use Rattle.std.proofs.lemmas.Int.{ints, by_lt_z}
 use Rattle.std.proofs.lemmas.List.Elements.{recursion_from_All}
-use Rattle.std.proofs.Math.IntN.{*ℤ_comm}
 use Rattle.items.proofs.Each.{each-any, each-append, each-map, each-more}
 use Rattle.whole_numbers.specs.Dot.{dot}
 use Rattle.whole_numbers.proofs.Ring.{ring, one-*ℤ, neg_ℤ-*ℤ, *ℤ-positive}
 use Rattle.farkas_check.specs.Kept.{IsCanonicalChange}
-use Rattle.farkas_check.specs.Rational.{RationalPoint, Meets}
+use Rattle.farkas_check.specs.Rational.{RationalPoint}
 use Rattle.farkas_check.specs.Relations.{entry, places, term_count}
 use Rattle.farkas_check.specs.Stratum.{IsCombination, combination_at}
 use Rattle.farkas_check.specs.declared.stratum.Change.{Change}
@@ -29,7 +28,7 @@ use Rattle.facet_hull.specs.Hull.{AreEquations}
 use Rattle.facet_hull.specs.Images.{points_of, rays_of}
 use Rattle.facet_hull.specs.Laws.{IsAtMostAt, Bounds}
 use Rattle.facet_hull.specs.Normals.{equations_at, equations}
-use Rattle.facet_hull.proofs.Bodies.{bounds_of_cases, cases_of_bounds, change_brings, points-positive}
+use Rattle.facet_hull.proofs.Bodies.{bounds_of_cases, change_brings, points-positive}
 use Rattle.facet_hull.proofs.Exact.{IsAmong, IsGreatestAt, most_at, supremum-is, still_both_ways}
 use Rattle.facet_hull.proofs.Generators.{near, near-is, IsFlatVector, seen_from, two_each}
 use Rattle.facet_hull.proofs.Origins.{dots_keep_sums, flat_along}
@@ -208,10 +207,10 @@ equation-constant cases h e g k same_point = record {
 
 -- ---- the equations of a body
 
-abbrev HasEquationsAt : List Change → List Point → List (List ℤ) → Type 0
+abbrev pub HasEquationsAt : List Change → List Point → List (List ℤ) → Type 0
 HasEquationsAt cases points rays = points_of cases ≡ points → rays_of cases ≡ rays → (points ≡ [] → ⊥) → AreEquations (term_count cases) cases (equations_at (term_count cases) points rays)
 
-equations_are : (cases : List Change) → AllByRecursion IsCanonicalChange cases → (points : List Point) (rays : List (List ℤ)) → HasEquationsAt cases points rays
+pub equations_are : (cases : List Change) → AllByRecursion IsCanonicalChange cases → (points : List Point) (rays : List (List ℤ)) → HasEquationsAt cases points rays
 equations_are cases h [] rays e f some = absurd (some refl)
 equations_are cases h (p ∷ points) rays e f some = record {
   constant = each-more (IsFlatVector (directions (p ∷ points) rays p)) (IsConstant cases) (λ v k. still_constant v k) (flat (directions (p ∷ points) rays p) (term_count cases)) flats;

@@ -1,5 +1,5 @@
 -- The normals of a body are exact.
-use Rattle.std.proofs.Common.{◌≡◌, ℕ, refl, sym, ap, subst, ◌∙◌, arith, ⊎_elim, inl, inr, List, [], ◌∷◌, ◌++◌, fold, length, map, ℤ, pos, ◌+ℤ◌, ◌*ℤ◌, ◌≤ℤ◌, ◌<ℤ◌}
+use Rattle.std.proofs.Common.{◌≡◌, ℕ, refl, sym, ap, subst, ◌∙◌, arith, ⊎_elim, inl, inr, List, [], ◌∷◌, fold, length, map, ℤ, pos, ◌+ℤ◌, ◌*ℤ◌, ◌≤ℤ◌, ◌<ℤ◌}
 use Rattle.std.specs.Prelude.{◌⊎◌, All, neg_ℤ}
 use Rattle.std.specs.BTreeSet.{insert_key}
 use Rattle.std.specs.Cmp.Lexicographic.{slice_cmp}
@@ -14,12 +14,10 @@ use Rattle.std.proofs.Math.IntN.{*ℤ_comm}
 use Rattle.items.proofs.Each.{each-append, each-front, each-back, each-flat_map, each-more}
 use Rattle.whole_numbers.specs.Dot.{dot}
 use Rattle.whole_numbers.proofs.Ring.{*ℤ_right_comm, *ℤ-≤ℤ, ≤ℤ-*ℤ, neg_ℤ-*ℤ}
-use Rattle.linear_terms.specs.Polynomial.{Polynomial}
-use Rattle.farkas_check.specs.Kept.{IsCanonicalChange, IsCanonicalStratum}
+use Rattle.farkas_check.specs.Kept.{IsCanonicalChange}
 use Rattle.farkas_check.specs.Relations.{term_count}
 use Rattle.farkas_check.specs.declared.stratum.Change.{Change}
 use Rattle.cones.specs.Laws.{IsSplit, IsTangentAt, MeetsAt, HasAsMuch}
-use Rattle.cones.specs.Spans.{AreAtMost}
 use Rattle.cones.specs.Split.{flat, rest_basis}
 use Rattle.cones.specs.Tangents.{difference, direction, directions, facets_at, facets_of, facets}
 use Rattle.cones.specs.Vectors.{opposite}
@@ -28,7 +26,7 @@ use Rattle.cones.proofs.Dots.{dot-opposite}
 use Rattle.cones.proofs.Hulls.{dot_comm, facets-complete}
 use Rattle.cones.proofs.PivotSearch.{flat_and_rest-split}
 use Rattle.cones.proofs.Searches.{extremes-inside}
-use Rattle.facet_hull.specs.Changes.{HasChange, Rational, IsBound, IsSupremum}
+use Rattle.facet_hull.specs.Changes.{HasChange, Rational, IsSupremum}
 use Rattle.facet_hull.specs.Hull.{Place, IsAtMost, Facet, MeetsFacet, AreSuprema, AreExact, both_signs}
 use Rattle.facet_hull.specs.Images.{points_of, rays_of}
 use Rattle.facet_hull.specs.Laws.{IsAtMostAt, Bounds}
@@ -43,11 +41,11 @@ abbrev pub IsAmong : Point → List Point → Type 0
 IsAmong q [] = ⊥
 IsAmong q (p ∷ points) = (q ≡ p) ⊎ IsAmong q points
 
-of_one : (T : Point → Type 0) (q : Point) (points : List Point) → IsAmong q points → AllByRecursion T points → T q
+pub of_one : (T : Point → Type 0) (q : Point) (points : List Point) → IsAmong q points → AllByRecursion T points → T q
 of_one T q [] m h = absurd m
 of_one T q (p ∷ points) m h = ⊎_elim (λ (e : q ≡ p). subst T (sym e) h.0) (λ k. of_one T q points k h.1) m
 
-all_among : (points : List Point) → AllByRecursion (λ q. IsAmong q points) points
+pub all_among : (points : List Point) → AllByRecursion (λ q. IsAmong q points) points
 all_among [] = tt
 all_among (p ∷ points) = (inl refl, each-more (λ q. IsAmong q points) (λ q. IsAmong q (p ∷ points)) (λ q m. inr m) points (all_among points))
 
@@ -70,7 +68,7 @@ falls p numbers over form h =
     links : (x y m n : ℤ) → (x +ℤ y) ≤ℤ pos 0 → m ≡ x → y ≡ neg_ℤ n → m ≤ℤ n
     links x y m n h e f = omega (arith, ints)
 
-fallen : (p : Point) (numbers : List ℤ) (over : ℤ) (form : List ℤ) → IsUpToAt form numbers over p → dot (difference p (record { numbers = numbers; over = over })) form ≤ℤ pos 0
+pub fallen : (p : Point) (numbers : List ℤ) (over : ℤ) (form : List ℤ) → IsUpToAt form numbers over p → dot (difference p (record { numbers = numbers; over = over })) form ≤ℤ pos 0
 fallen p numbers over form h =
     subst (λ z. z ≤ℤ pos 0) (sym (grown p numbers over form))
     (links (p.over *ℤ dot numbers form) (neg_ℤ over *ℤ dot p.numbers form) (dot form numbers *ℤ p.over) (dot form p.numbers *ℤ over) h
@@ -84,7 +82,7 @@ weak : (z : ℤ) → pos 0 <ℤ z → pos 0 ≤ℤ z
 weak z h = omega (arith, ints)
 
 -- a / x is at most b / y, which is at most c / z
-between : (a x b y c z : ℤ) → pos 0 <ℤ x → pos 0 <ℤ y → pos 0 <ℤ z → (a *ℤ y) ≤ℤ (b *ℤ x) → (b *ℤ z) ≤ℤ (c *ℤ y) → (a *ℤ z) ≤ℤ (c *ℤ x)
+pub between : (a x b y c z : ℤ) → pos 0 <ℤ x → pos 0 <ℤ y → pos 0 <ℤ z → (a *ℤ y) ≤ℤ (b *ℤ x) → (b *ℤ z) ≤ℤ (c *ℤ y) → (a *ℤ z) ≤ℤ (c *ℤ x)
 between a x b y c z px py pz h k =
     *ℤ-≤ℤ (a *ℤ z) (c *ℤ x) y py
     (links (a *ℤ y *ℤ z) (b *ℤ x *ℤ z) (b *ℤ z *ℤ x) (c *ℤ y *ℤ x) (a *ℤ z *ℤ y) (c *ℤ x *ℤ y)
@@ -175,10 +173,10 @@ vectors_tie (x ∷ v) (y ∷ w) h =
     let others = vectors_tie v w both.1 in
     λ i. first i ∷ others i
 
-abbrev with_vector : List (List ℤ) → List ℤ → List (List ℤ)
+abbrev pub with_vector : List (List ℤ) → List ℤ → List (List ℤ)
 with_vector = insert_key (slice_cmp int_cmp)
 
-each_inserted : (Q : List ℤ → Type 0) (vs : List (List ℤ)) (v : List ℤ) → AllByRecursion Q vs → Q v → AllByRecursion Q (with_vector vs v)
+pub each_inserted : (Q : List ℤ → Type 0) (vs : List (List ℤ)) (v : List ℤ) → AllByRecursion Q vs → Q v → AllByRecursion Q (with_vector vs v)
 each_inserted Q [] v h q = (q, tt)
 each_inserted Q (w ∷ vs) v h q = go (slice_cmp int_cmp v w) (each_inserted Q vs v h.1 q)
   where
@@ -196,7 +194,7 @@ inserted_each Q (w ∷ vs) v h = go (slice_cmp int_cmp v w) refl h (λ k. insert
     go Equal e k ih = (k, subst Q (sym (vectors_tie v w e)) k.0)
     go Greater e k ih = ((k.0, (ih k.1).0), (ih k.1).1)
 
-abbrev as_set : List (List ℤ) → List (List ℤ) → List (List ℤ)
+abbrev pub as_set : List (List ℤ) → List (List ℤ) → List (List ℤ)
 as_set made vs = fold (insert_key (slice_cmp int_cmp)) made vs
 
 pub each_in_set : (Q : List ℤ → Type 0) (made vs : List (List ℤ)) → AllByRecursion Q made → AllByRecursion Q vs → AllByRecursion Q (as_set made vs)
@@ -300,10 +298,10 @@ module _ (count : ℕ) (p : Point) (points : List Point) (rays : List (List ℤ)
 
 -- ---- the normals of a body
 
-abbrev AreExactAt : List Change → List Point → List (List ℤ) → Type 0
+abbrev pub AreExactAt : List Change → List Point → List (List ℤ) → Type 0
 AreExactAt cases points rays = points_of cases ≡ points → rays_of cases ≡ rays → (points ≡ [] → ⊥) → AreExact (term_count cases) cases (normals_at (term_count cases) points rays)
 
-exact_at : (cases : List Change) → AllByRecursion IsCanonicalChange cases → (points : List Point) (rays : List (List ℤ)) → AreExactAt cases points rays
+pub exact_at : (cases : List Change) → AllByRecursion IsCanonicalChange cases → (points : List Point) (rays : List (List ℤ)) → AreExactAt cases points rays
 exact_at cases h [] rays e f some = absurd (some refl)
 exact_at cases h (p ∷ points) rays e f some = record {
   bounds = with_suprema (p ∷ points) rays (normals_at (term_count cases) (p ∷ points) rays) greatest;
@@ -332,8 +330,3 @@ normals-exact cases h c = exact_at cases each (points_of cases) (rays_of cases) 
   where
     each : AllByRecursion IsCanonicalChange cases
     each = recursion_from_All IsCanonicalChange cases h
-
-pub exact_of : (cases : List Change) (lower : List Polynomial) (made : List (List ℤ)) → made ≡ normals cases → IsCanonicalStratum cases lower → HasChange cases → AreExact (term_count cases) cases made
-exact_of cases lower made e h c = subst (AreExact (term_count cases) cases) (sym e) (normals-exact cases h.cases_too c)
-
-pub ruleset exactness = (exact_of)

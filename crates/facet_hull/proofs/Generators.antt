@@ -1,12 +1,12 @@
 -- The points and rays of the changes of a case have the bounds that its rational points have.
-use Rattle.std.proofs.Common.{◌≡◌, ℕ, zero, suc, ◌+◌, Bool, true, false, cond, refl, sym, ap, subst, ◌∙◌, arith, ⊎_elim, List, [], ◌∷◌, ◌++◌, length, map, ℤ, pos, negsuc, ◌+ℤ◌, ◌*ℤ◌, ◌≤ℤ◌, ◌<ℤ◌}
-use Rattle.std.specs.Prelude.{neg_ℤ, unsigned_abs, int_lt, ◌⊎◌}
+use Rattle.std.proofs.Common.{◌≡◌, ℕ, zero, suc, ◌+◌, Bool, true, false, cond, refl, sym, ap, subst, ◌∙◌, arith, ⊎_elim, List, [], ◌∷◌, ◌++◌, length, map, ℤ, pos, ◌+ℤ◌, ◌*ℤ◌, ◌≤ℤ◌, ◌<ℤ◌}
+use Rattle.std.specs.Prelude.{neg_ℤ, int_lt, ◌⊎◌}
 use Rattle.std.specs.List.{AllByRecursion, flat_map}
 use Rattle.std.proofs.lemmas.Int.{ints, by_lt_z}
 use Rattle.std.proofs.Math.IntN.{*ℤ_comm, zero-*ℤ}
-use Rattle.items.proofs.Each.{each-append, each-front, each-back, each-both, each-flat_map, each-more}
+use Rattle.items.proofs.Each.{each-front, each-back, each-both, each-more}
 use Rattle.whole_numbers.specs.Dot.{dot}
-use Rattle.whole_numbers.proofs.Ring.{one-*ℤ, *ℤ-neg_ℤ, ≤ℤ-*ℤ}
+use Rattle.whole_numbers.proofs.Ring.{one-*ℤ, *ℤ-neg_ℤ}
 use Rattle.linear_terms.specs.declared.col.Col.{Col}
 use Rattle.linear_terms.specs.declared.row.Row.{Row}
 use Rattle.linear_terms.specs.Polynomial.{Polynomial}
@@ -14,24 +14,22 @@ use Rattle.farkas_check.specs.Frames.{line_of}
 use Rattle.farkas_check.specs.Rational.{RationalPoint, Meets}
 use Rattle.farkas_check.specs.Relations.{entry}
 use Rattle.farkas_check.specs.declared.stratum.Change.{Change}
-use Rattle.cones.specs.Cones.{extremes, AreWide}
 use Rattle.cones.specs.Laws.{AreFlat, IsSplit}
-use Rattle.cones.specs.Spans.{Values, IsSpanned, AreAtMost, IsAboveAt}
-use Rattle.cones.specs.Split.{zeros, flat, rest_basis}
+use Rattle.cones.specs.Spans.{AreAtMost, IsAboveAt}
+use Rattle.cones.specs.Split.{zeros, rest_basis}
 use Rattle.cones.specs.Vectors.{combination, lowest, opposite}
 use Rattle.cones.specs.declared.point.Point.{Point}
 use Rattle.cones.proofs.Dots.{dot-combined, dot-opposite, IsLowestOf, lowest-is}
 use Rattle.cones.proofs.Flats.{extremes-above_flat}
 use Rattle.cones.proofs.Hulls.{dot_comm, not_above}
-use Rattle.cones.proofs.Numbers.{factor_not_above, product_not_above, vanishes_above}
+use Rattle.cones.proofs.Numbers.{product_not_above}
 use Rattle.cones.proofs.PivotSearch.{flat_and_rest-split}
 use Rattle.cones.proofs.Searches.{extremes-inside}
-use Rattle.cones.proofs.Widths.{combination-length}
-use Rattle.facet_hull.specs.Changes.{changes_at, Rational, IsBoundIn}
-use Rattle.facet_hull.specs.Images.{far, row_lines, cone_lines, flat_vectors, extreme_vectors, image, is_corner, point_of, ray_of, points_in, line_ways, all_rays_in, rays_from, rays_in}
+use Rattle.facet_hull.specs.Changes.{Rational, IsBoundIn}
+use Rattle.facet_hull.specs.Images.{far, cone_lines, flat_vectors, extreme_vectors, image, is_corner, point_of, ray_of, points_in, line_ways, all_rays_in, rays_from, rays_in}
 use Rattle.facet_hull.specs.Laws.{IsAtMostAt, Bounds}
-use Rattle.facet_hull.proofs.CasePoints.{IsReady, vector_of, image-changes, far-is, denominator, cone-holds, rows-meet, IsPointOf, vector-point}
-use Rattle.facet_hull.proofs.Wide.{extremes-wide, flat-wide, rest_basis-wide}
+use Rattle.facet_hull.proofs.CasePoints.{IsReady, vector_of, image-changes, far-is, denominator, cone-holds}
+use Rattle.facet_hull.proofs.Wide.{extremes-wide, rest_basis-wide}
 
 -- ---- forms pulled back to the vectors of a case
 

@@ -1,7 +1,7 @@
 -- How many numbers the lines, points and rays of a case have.
-use Rattle.std.proofs.Common.{◌≡◌, ℕ, zero, suc, ◌+◌, Bool, true, false, cond, refl, sym, ap, subst, ◌∙◌, arith, List, [], ◌∷◌, ◌++◌, length, map, ℤ, pos, negsuc}
+use Rattle.std.proofs.Common.{◌≡◌, ℕ, zero, suc, ◌+◌, Bool, true, false, cond, refl, sym, ap, subst, ◌∙◌, arith, List, [], ◌∷◌, length, ℤ}
 use Rattle.std.specs.Prelude.{IsTrue}
-use Rattle.std.specs.List.{AllByRecursion, flat_map, list_all}
+use Rattle.std.specs.List.{AllByRecursion, flat_map}
 use Rattle.std.proofs.lemmas.Bool.{eqb-true}
 use Rattle.items.proofs.Each.{each-append, each-any, each-flat_map, each_from_test}
 use Rattle.linear_terms.specs.declared.col.Col.{Col}
@@ -13,15 +13,14 @@ use Rattle.farkas_check.specs.Frames.{line_of}
 use Rattle.farkas_check.specs.Relations.{entry, term_count, has_count, have_equally_many}
 use Rattle.farkas_check.specs.declared.stratum.Change.{Change}
 use Rattle.cones.specs.Cones.{AreWide}
-use Rattle.cones.specs.Split.{zeros, flat, rest_basis}
+use Rattle.cones.specs.Split.{rest_basis}
 use Rattle.cones.specs.Tangents.{ArePoints, directions}
-use Rattle.cones.specs.Vectors.{lowest, opposite}
+use Rattle.cones.specs.Vectors.{lowest}
 use Rattle.cones.specs.declared.point.Point.{Point}
 use Rattle.cones.proofs.Tangency.{directions-wide}
 use Rattle.cones.proofs.Widths.{lowest-length}
-use Rattle.facet_hull.specs.Hull.{both_signs}
 use Rattle.facet_hull.specs.Images.{columns_of, far, lines_by, row_lines, cone_lines, flat_vectors, extreme_vectors, image, is_corner, point_of, ray_of, points_in, line_ways, all_rays_in, rays_from, rays_in, points_of, rays_of}
-use Rattle.facet_hull.proofs.Wide.{opposite-length, flat-wide, rest_basis-wide}
+use Rattle.facet_hull.proofs.Wide.{opposite-length, rest_basis-wide}
 
 -- ---- lines
 

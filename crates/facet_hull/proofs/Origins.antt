@@ -1,13 +1,12 @@
 -- Forms seen from one point of a list and from another one: where one is 0 on all directions from
 -- the one, it is so on those from the other.
-use Rattle.std.proofs.Common.{◌≡◌, ℕ, refl, sym, ap, subst, ◌∙◌, arith, List, [], ◌∷◌, ◌++◌, map, ℤ, pos, ◌+ℤ◌, ◌-ℤ◌, ◌*ℤ◌, ◌≤ℤ◌, ◌<ℤ◌}
+use Rattle.std.proofs.Common.{◌≡◌, ℕ, refl, ap, ◌∙◌, arith, List, [], ◌∷◌, map, ℤ, pos, ◌+ℤ◌, ◌-ℤ◌, ◌*ℤ◌, ◌<ℤ◌}
 use Rattle.std.specs.Prelude.{neg_ℤ}
 use Rattle.std.specs.List.{AllByRecursion}
 use Rattle.std.proofs.lemmas.Int.{ints}
-use Rattle.std.proofs.Math.IntN.{*ℤ_comm, zero-*ℤ}
 use Rattle.items.proofs.Each.{each-append, each-front, each-back, each-map, each-more}
 use Rattle.whole_numbers.specs.Dot.{dot}
-use Rattle.whole_numbers.proofs.Ring.{ring, *ℤ_right_comm, *ℤ-≤ℤ, ≤ℤ-*ℤ, neg_ℤ-*ℤ}
+use Rattle.whole_numbers.proofs.Ring.{ring, neg_ℤ-*ℤ}
 use Rattle.cones.specs.Laws.{AreFlat, IsSplit, IsTangentAt}
 use Rattle.cones.specs.Spans.{Values, IsSpanned}
 use Rattle.cones.specs.Split.{flat, rest_basis}
@@ -16,9 +15,9 @@ use Rattle.cones.specs.Vectors.{lowest}
 use Rattle.cones.specs.declared.point.Point.{Point}
 use Rattle.cones.proofs.Dots.{IsLowestOf, lowest-is}
 use Rattle.cones.proofs.Hulls.{dot_comm}
-use Rattle.cones.proofs.Numbers.{times_zero, vanishes, vanishes_above, factor_not_above}
+use Rattle.cones.proofs.Numbers.{times_zero, vanishes, vanishes_above}
 use Rattle.cones.proofs.PivotSearch.{flat_and_rest-split}
-use Rattle.facet_hull.proofs.Generators.{dot_of_combined, lowest_above, IsFlatVector, seen_from, two_each}
+use Rattle.facet_hull.proofs.Generators.{dot_of_combined, IsFlatVector, seen_from, two_each}
 
 -- ---- values go along with sums of vectors
 

@@ -1,5 +1,5 @@
 -- Rows along exact normals, over many turns.
-use Rattle.std.proofs.Common.{◌≡◌, ℕ, zero, suc, sym, subst, List, [], ◌∷◌, length, map, ℤ, pos, ◌*ℤ◌, ◌≤ℤ◌, ◌<ℤ◌}
+use Rattle.std.proofs.Common.{◌≡◌, ℕ, zero, suc, sym, subst, List, [], ◌∷◌, map, ℤ, pos, ◌*ℤ◌, ◌≤ℤ◌, ◌<ℤ◌}
 use Rattle.std.specs.Prelude.{slice_get, Some}
 use Rattle.std.specs.List.{AllByRecursion}
 use Rattle.std.proofs.lemmas.Int.{ints}
@@ -8,7 +8,7 @@ use Rattle.whole_numbers.proofs.Ring.{*ℤ_right_comm, ≤ℤ-*ℤ, *ℤ-≤ℤ}
 use Rattle.whole_numbers.specs.Dot.{dot}
 use Rattle.farkas_check.specs.declared.stratum.Change.{Change}
 use Rattle.facet_hull.specs.Changes.{changes_at, Rational, IsBoundIn, IsBound, IsSupremum}
-use Rattle.facet_hull.specs.Hull.{Place, Facet, MeetsFacet, AreSuprema, AreExact}
+use Rattle.facet_hull.specs.Hull.{Facet, MeetsFacet, AreSuprema, AreExact}
 use Rattle.facet_hull.specs.Laws.{IsReachedBy, IsTurnRow, IsBoundOver}
 
 weak : (x : ℤ) → pos 0 <ℤ x → pos 0 ≤ℤ x

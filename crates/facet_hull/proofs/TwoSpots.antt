@@ -1,12 +1,12 @@
 -- The tableau of a frame of two spots.
-use Rattle.std.proofs.Common.{◌≡◌, ℕ, zero, suc, ◌+◌, ◌<◌, Bool, true, false, cond, refl, sym, ap, ◌∙◌, arith, ⊎_elim, List, [], ◌∷◌, nat_eq, ℤ, pos, negsuc, ◌+ℤ◌, ◌*ℤ◌, ◌<ℤ◌}
+use Rattle.std.proofs.Common.{◌≡◌, ℕ, zero, suc, ◌+◌, ◌<◌, true, false, refl, sym, ◌∙◌, arith, ⊎_elim, List, [], ◌∷◌, nat_eq, ℤ, pos, negsuc, ◌+ℤ◌, ◌*ℤ◌, ◌<ℤ◌}
 use Rattle.std.specs.Prelude.{neg_ℤ, nat_lt}
 use Rattle.std.proofs.lemmas.Int.{ints}
 use Rattle.std.proofs.lemmas.Bool.{cases_lt, cases_eq}
 use Rattle.std.proofs.Math.IntN.{*ℤ_comm, zero-*ℤ}
 use Rattle.whole_numbers.proofs.Ring.{ring, neg_ℤ-*ℤ, *ℤ-one}
 use Rattle.farkas_check.specs.Relations.{entry}
-use Rattle.farkas_check.specs.Frames.{Frame, IsTableau, number_in, sum_below}
+use Rattle.farkas_check.specs.Frames.{IsTableau, number_in}
 use Rattle.facet_hull.specs.Spots.{frame_of_two, multiple_of_two}
 
 lt_yes : (a b : ℕ) → a < b → nat_lt a b ≡ true

@@ -1,7 +1,5 @@
 -- How many numbers the vectors have that the search finds.
-use Rattle.std.proofs.Common.{◌≡◌, ℕ, suc, Bool, true, false, cond, refl, sym, ap, subst, ◌∙◌, List, [], ◌∷◌, ◌++◌, length, ℤ}
-use Rattle.std.proofs.lemmas.List.{length-map}
-use Rattle.std.specs.Prelude.{neg_ℤ}
+use Rattle.std.proofs.Common.{◌≡◌, ℕ, suc, Bool, true, false, cond, refl, ap, ◌∙◌, List, [], ◌∷◌, length, ℤ}
 use Rattle.items.proofs.Each.{each-append}
 use Rattle.cones.specs.declared.projecting.Cleared.{Cleared}
 use Rattle.cones.specs.declared.projecting.Cleared.TheVariants.{Kept, Given}

@@ -2,7 +2,7 @@
 -- the case's columns, and last the denominator. The rows are lines, which are at most 0 on them, and
 -- what the search finds in this cone is pushed through the terms.
 use Rattle.std.specs.Prelude.{ℕ, ◌+◌, ℤ, pos, negsuc, List, [], ◌∷◌, ◌++◌, map, length, Bool, int_lt, if◌then◌else◌}
-use Rattle.std.specs.List.{flat_map, list_any}
+use Rattle.std.specs.List.{flat_map}
 use Rattle.whole_numbers.specs.Dot.{dot}
 use Rattle.linear_terms.specs.Polynomial.{Polynomial}
 use Rattle.linear_terms.specs.declared.col.Col.{Col}
@@ -15,7 +15,7 @@ use Rattle.farkas_check.specs.declared.stratum.Change.{Change}
 use Rattle.cones.specs.Cones.{extremes}
 use Rattle.cones.specs.Split.{zeros, flat, rest_basis}
 use Rattle.cones.specs.declared.point.Point.{Point}
-use Rattle.cones.specs.Vectors.{lowest, opposite}
+use Rattle.cones.specs.Vectors.{lowest}
 use Rattle.facet_hull.specs.Hull.{both_signs}
 
 -- ---- the cone of a case

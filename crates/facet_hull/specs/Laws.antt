@@ -2,18 +2,25 @@
 -- that rows along exact normals bound many turns as well as any rows can.
 --
 -- Source: Farzan and Kincaid, Compositional Recurrence Analysis, FMCAD 2015.
-use Rattle.std.specs.Prelude.{◌≡◌, ◌↔◌, ℕ, ℤ, pos, ◌*ℤ◌, ◌<ℤ◌, ◌≤ℤ◌, List, [], length, slice_get, Some, All}
+use Rattle.std.specs.Prelude.{◌≡◌, ◌↔◌, ℕ, ℤ, pos, ◌*ℤ◌, ◌<ℤ◌, ◌≤ℤ◌, List, [], length, slice_get, Some, All, true}
 use Rattle.std.specs.List.{AllByRecursion}
 use Rattle.whole_numbers.specs.Dot.{dot}
 use Rattle.farkas_check.specs.Kept.{IsCanonicalChange}
 use Rattle.farkas_check.specs.Rational.{RationalPoint, Meets}
 use Rattle.farkas_check.specs.Relations.{term_count}
 use Rattle.farkas_check.specs.declared.stratum.Change.{Change}
+use Rattle.cones.specs.InBits.{IsOrLeaves}
 use Rattle.cones.specs.declared.point.Point.{Point}
+use Rattle.linear_terms.specs.Polynomial.{Polynomial}
+use Rattle.transition_formula.specs.Transition.{Transition}
+use Rattle.polyhedra.specs.Changes.{modified_variables, moving}
 use Rattle.facet_hull.specs.Changes.{changes_at, HasChange, Rational, IsBound}
-use Rattle.facet_hull.specs.Hull.{AreExact, AreEquations}
+use Rattle.facet_hull.specs.Hull.{AreExact, AreEquations, IsHull}
 use Rattle.facet_hull.specs.Images.{points_of, rays_of}
+use Rattle.facet_hull.specs.Facets.{facets_of}
+use Rattle.facet_hull.specs.InBits as in_bits
 use Rattle.facet_hull.specs.Normals.{equations, normals}
+use Rattle.facet_hull.specs.declared.outcome.Facets.TheVariants.{Normals}
 
 -- ---- bounds of points and rays
 
@@ -51,6 +58,11 @@ abbrev pub EquationsAreAll : Type 0
 EquationsAreAll = (cases : List Change) → All IsCanonicalChange cases
     → HasChange cases → AreEquations (term_count cases) cases (equations cases)
 
+-- the normals of a body are the hull of its changes, none of them too many
+abbrev pub NormalsAreHull : Type 0
+NormalsAreHull = (cases : List Change) → All IsCanonicalChange cases
+    → HasChange cases → IsHull (term_count cases) cases (normals cases)
+
 -- ---- many turns
 
 -- at some point of some case the form gets as far as a whole number: what a tight bound says
@@ -82,3 +94,14 @@ IsRelativelyComplete = (count : ℕ) (cases : List Change) (normals : List (List
     → AreExact count cases normals → (change : List ℤ) (turns : ℤ) → pos 0 <ℤ turns
     → AllByRecursion (IsTurnRow cases change turns) normals
     → IsBoundOver count cases change turns
+
+-- ---- outcomes
+
+-- where the outcome of a body is its normals, each change of a modified variable is made
+abbrev pub KnowsAllChanges : Type 0
+KnowsAllChanges = (body : Transition) (polys : List Polynomial)
+    → facets_of body ≡ Normals polys → moving true body ≡ modified_variables true body
+
+-- what is made in 128 bits is what is defined, and where nothing is made a step leaves them
+abbrev pub StepsMakeNormals : Type 0
+StepsMakeNormals = (cases : List Change) → IsOrLeaves (normals cases) (in_bits.normals cases)

@@ -3,6 +3,8 @@ pub mod Changes
 pub mod Hull
 pub mod Images
 pub mod Normals
+pub mod InBits
+pub mod Facets
 -- ---- the laws and their words
 pub mod Laws
 pub mod Spots

@@ -1,5 +1,5 @@
 -- The direction from one spot to another is the line of a tableau of their frame.
-use Rattle.std.specs.Prelude.{◌≡◌, ℕ, ◌+◌, ◌==◌, ℤ, pos, negsuc, ◌+ℤ◌, ◌*ℤ◌, ◌<ℤ◌, neg_ℤ, List, [], ◌∷◌, nat_lt, if◌then◌else◌}
+use Rattle.std.specs.Prelude.{ℕ, ◌+◌, ◌==◌, ℤ, pos, negsuc, ◌+ℤ◌, ◌*ℤ◌, ◌<ℤ◌, neg_ℤ, List, [], ◌∷◌, nat_lt, if◌then◌else◌}
 use Rattle.farkas_check.specs.Frames.{Frame, IsTableau}
 use Rattle.farkas_check.specs.Relations.{entry}
 

@@ -1,6 +1,8 @@
-ghost use Rattle.std.specs.Prelude.{◌≡◌, IfOk, IfErr};
-ghost use Rattle.cones.specs.Refusal.{IsRefusal};
-ghost use Rattle.facet_hull.specs.Images.{flat_vectors, extreme_vectors};
+ghost use Rattle.std.specs.Prelude.{◌≡◌};
+ghost use Rattle.items.specs.Gives.{Gives};
+ghost use Rattle.cones.specs.Cones.{AreWide};
+ghost use Rattle.cones.specs.Refusal.{cause};
+ghost use Rattle.facet_hull.specs.InBits as in_bits;
 
 use crate::lines::cone_lines;
 use cones::{ConeStop, extremes, flat, rest_basis};
@@ -17,22 +19,22 @@ pub(crate) struct CaseCone {
 }
 
 /// The search in the cone of a case.
-#[tactic(auto, using(crate::proofs::Lengths::lengths))]
+#[tactic(auto, using(crate::proofs::Making::lengths))]
 pub(crate) fn case_cone(alloc: Global, columns: &[Mono], rows: &[Row]) -> Result<CaseCone, ConeStop>
-    ensures flats { IfOk result (λ cone. cone.flats ≡ flat_vectors columns.now rows.now) }
-    ensures extremes { IfOk result (λ cone. cone.extremes ≡ extreme_vectors columns.now rows.now) }
-    ensures refusal { IfErr result IsRefusal }
+    ensures { Gives cause (λ made. made) result (in_bits.case_cone columns.now rows.now) }
 {
     let lines = cone_lines(alloc, columns, rows)?;
-    let count = columns.len() + 1;
-    let flats = flat(alloc, lines.as_slice(), count)?;
+    cone_from(alloc, lines.as_slice(), columns.len() + 1)
+}
+
+/// The search in the cone that lines bound, in vectors of so many numbers.
+#[tactic(auto, using(crate::proofs::Making::lengths))]
+fn cone_from(alloc: Global, lines: &[Items<i128>], count: usize) -> Result<CaseCone, ConeStop>
+    requires { AreWide count lines.now }
+    ensures { Gives cause (λ made. made) result (in_bits.cone_from lines.now count) }
+{
+    let flats = flat(alloc, lines, count)?;
     let basis = rest_basis(alloc, flats.as_slice(), count)?;
-    let extremes = extremes(
-        alloc,
-        lines.as_slice(),
-        lines.as_slice(),
-        basis.as_slice(),
-        count,
-    )?;
+    let extremes = extremes(alloc, lines, lines, basis.as_slice(), count)?;
     Ok(CaseCone { flats, extremes })
 }

@@ -1,16 +1,17 @@
-ghost use Rattle.std.specs.Prelude.{◌≡◌, ◌++◌, length, IfOk, IfErr, OnOk};
-ghost use Rattle.std.specs.List.{flat_map};
+ghost use Rattle.std.specs.Prelude.{◌≡◌, length, IfOk, IfErr};
+ghost use Rattle.items.specs.Gives.{Gives};
 ghost use Rattle.farkas_check.specs.Relations.{term_count};
 ghost use Rattle.cones.specs.Cones.{AreWide};
-ghost use Rattle.cones.specs.Refusal.{IsRefusal};
-ghost use Rattle.cones.specs.Split.{flat};
-ghost use Rattle.cones.specs.Tangents.{ArePoints, directions};
+ghost use Rattle.cones.specs.InBits.{all_of};
+ghost use Rattle.cones.specs.Refusal.{cause, IsRefusal};
+ghost use Rattle.cones.specs.Tangents.{ArePoints};
 ghost use Rattle.facet_hull.specs.Changes.{HasChange};
-ghost use Rattle.facet_hull.specs.Hull.{AreExact, both_signs};
-ghost use Rattle.facet_hull.specs.Normals.{normals_beside, normals_at, normals};
+ghost use Rattle.facet_hull.specs.Hull.{IsHull};
+ghost use Rattle.facet_hull.specs.InBits as in_bits;
+ghost use Rattle.facet_hull.specs.Normals.{normals};
 
 use crate::images::images_of;
-use crate::lines::push_both_signs;
+use crate::lines::both_signs;
 use cones::{ConeStop, Point, directions, facets, flat, rest_basis};
 use farkas_check::{Change, Stratum, canonical_stratum};
 use items::Items;
@@ -18,24 +19,22 @@ use std::alloc::Global;
 
 /// The normals of the hull of the changes of a body: of the cases of a question that has no lower
 /// terms.
-#[tactic(auto, using(crate::proofs::Exact::exactness))]
 pub fn normals(alloc: Global, body: &Stratum) -> Result<Items<Items<i128>>, ConeStop>
+    ensures stated { Gives cause (λ made. made) result (in_bits.normals body.now.cases) }
     ensures value { IfOk result (λ made. made ≡ normals body.now.cases) }
-    ensures exact { IfOk result
+    ensures hull { IfOk result
         (λ made. HasChange body.now.cases
-        → AreExact (term_count body.now.cases) body.now.cases made) }
+        → IsHull (term_count body.now.cases) body.now.cases made) }
     ensures refusal { IfErr result IsRefusal }
 {
     canonical_stratum(body);
-    let made = stated_normals(alloc, body)?;
-    Ok(made)
+    stated_normals(alloc, body)
 }
 
 /// The same without what the normals say of the changes.
-#[tactic(auto, using(crate::proofs::Lengths::lengths))]
+#[tactic(auto, using(crate::proofs::Making::lengths))]
 fn stated_normals(alloc: Global, body: &Stratum) -> Result<Items<Items<i128>>, ConeStop>
-    ensures value { IfOk result (λ made. made ≡ normals body.now.cases) }
-    ensures refusal { IfErr result IsRefusal }
+    ensures { Gives cause (λ made. made) result (in_bits.normals body.now.cases) }
 {
     let images = images_of(alloc, body.cases())?;
     normals_at(
@@ -65,8 +64,7 @@ fn normals_at(
 ) -> Result<Items<Items<i128>>, ConeStop>
     requires points { ArePoints count points.now }
     requires rays { AreWide count rays.now }
-    ensures value { IfOk result (λ made. made ≡ normals_at count points.now rays.now) }
-    ensures refusal { IfErr result IsRefusal }
+    ensures { Gives cause (λ made. made) result (in_bits.normals_at count points.now rays.now) }
 {
     let [first, ..] = points else {
         return Ok(Items::new(alloc));
@@ -76,7 +74,7 @@ fn normals_at(
 }
 
 /// The forms that are 0 on all directions from a point.
-#[tactic(auto, using(crate::proofs::Lengths::lengths))]
+#[tactic(auto, using(crate::proofs::Making::lengths))]
 fn equations_from(
     alloc: Global,
     first: &Point,
@@ -87,16 +85,15 @@ fn equations_from(
     requires first { length first.now.numbers ≡ count }
     requires points { ArePoints count points.now }
     requires rays { AreWide count rays.now }
-    ensures value { IfOk result
-        (λ made. made ≡ flat (directions points.now rays.now first.now) count) }
-    ensures refusal { IfErr result IsRefusal }
+    ensures { Gives cause (λ made. made) result
+        (in_bits.equations_from first.now count points.now rays.now) }
 {
     let lines = directions(alloc, points, rays, first, count)?;
     flat(alloc, lines.as_slice(), count)
 }
 
 /// The equations with both signs, and the facets beside them.
-#[tactic(auto, using(crate::proofs::Lengths::lengths))]
+#[tactic(auto, using(crate::proofs::Making::lengths))]
 fn normals_beside(
     alloc: Global,
     equations: &[Items<i128>],
@@ -106,29 +103,23 @@ fn normals_beside(
 ) -> Result<Items<Items<i128>>, ConeStop>
     requires points { ArePoints count points.now }
     requires rays { AreWide count rays.now }
-    ensures value { IfOk result
-        (λ made. made ≡ normals_beside equations.now count points.now rays.now) }
-    ensures refusal { IfErr result IsRefusal }
+    ensures { Gives cause (λ made. made) result
+        (in_bits.normals_beside equations.now count points.now rays.now) }
 {
-    let mut made = Items::new(alloc);
-    push_equations(alloc, &mut made, equations)?;
+    let mut made = signed_forms(alloc, equations)?;
     let basis = rest_basis(alloc, equations, count)?;
     made.append(facets(alloc, basis.as_slice(), points, rays, count)?)?;
     Ok(made)
 }
 
-fn push_equations(
-    alloc: Global,
-    normals: &mut Items<Items<i128>>,
-    equations: &[Items<i128>],
-) -> Result<(), ConeStop>
-    ensures value { OnOk result (normals.new ≡ normals.old ++ flat_map both_signs equations.now) }
-    ensures refusal { IfErr result IsRefusal }
+/// Each form with both signs.
+fn signed_forms(alloc: Global, forms: &[Items<i128>]) -> Result<Items<Items<i128>>, ConeStop>
+    ensures { Gives cause (λ made. made) result (all_of in_bits.both_signs forms.now) }
 {
-    let [equation, more @ ..] = equations else {
-        return Ok(());
-    };
-    let form = Items::from_slice(alloc, equation.as_slice())?;
-    push_both_signs(alloc, normals, form)?;
-    push_equations(alloc, normals, more)
+    let mut made = Items::new(alloc);
+    for form in forms {
+        let copy = Items::from_slice(alloc, form.as_slice())?;
+        made.append(both_signs(alloc, copy)?)?;
+    }
+    Ok(made)
 }

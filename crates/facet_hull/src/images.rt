@@ -1,16 +1,17 @@
-ghost use Rattle.std.specs.Prelude.{◌≡◌, ◌++◌, length, IfOk, IfErr, OnOk};
-ghost use Rattle.std.specs.List.{flat_map};
+ghost use Rattle.std.specs.Prelude.{◌≡◌, length, IfOk};
+ghost use Rattle.items.specs.Gives.{Gives};
 ghost use Rattle.farkas_check.specs.Relations.{entry};
-ghost use Rattle.cones.specs.Refusal.{IsRefusal};
-ghost use Rattle.facet_hull.specs.Images.{columns_of, image, point_of, ray_of, points_in, line_ways, all_rays_in, rays_in, points_of, rays_of};
+ghost use Rattle.cones.specs.InBits.{all_of};
+ghost use Rattle.cones.specs.Refusal.{cause};
+ghost use Rattle.facet_hull.specs.InBits as in_bits;
 
 use crate::case_cone::{CaseCone, case_cone};
-use crate::lines::{columns_of, line_of, push_both_signs};
+use crate::lines::{alone, both_signs, columns_of, line_of};
 use cones::{ConeStop, Point, dot, lowest};
 use farkas_check::Change;
 use items::Items;
 use linear_terms::{Mono, Poly};
-use std::alloc::Global;
+use std::alloc::{AllocError, Global};
 
 /// The points and rays of the changes of a body.
 #[derive(Drop)]
@@ -21,175 +22,179 @@ pub(crate) struct Images {
 
 /// The points and rays of all cases.
 pub(crate) fn images_of(alloc: Global, cases: &[Change]) -> Result<Images, ConeStop>
-    ensures points { IfOk result (λ images. images.points ≡ points_of cases.now) }
-    ensures rays { IfOk result (λ images. images.rays ≡ rays_of cases.now) }
-    ensures refusal { IfErr result IsRefusal }
+    ensures { Gives cause (λ made. made) result (in_bits.images_of cases.now) }
 {
-    let mut points = Items::new(alloc);
-    let mut rays = Items::new(alloc);
-    push_cases(alloc, &mut points, &mut rays, cases)?;
-    Ok(Images { points, rays })
-}
-
-fn push_cases(
-    alloc: Global,
-    points: &mut Items<Point>,
-    rays: &mut Items<Items<i128>>,
-    cases: &[Change],
-) -> Result<(), ConeStop>
-    ensures points { OnOk result (points.new ≡ points.old ++ points_of cases.now) }
-    ensures rays { OnOk result (rays.new ≡ rays.old ++ rays_of cases.now) }
-    ensures refusal { IfErr result IsRefusal }
-{
-    let [case, more @ ..] = cases else {
-        return Ok(());
+    let [case, others @ ..] = cases else {
+        let points = Items::new(alloc);
+        let rays = Items::new(alloc);
+        return Ok(Images { points, rays });
     };
-    push_case(alloc, points, rays, case)?;
-    push_cases(alloc, points, rays, more)
-}
-
-fn push_case(
-    alloc: Global,
-    points: &mut Items<Point>,
-    rays: &mut Items<Items<i128>>,
-    case: &Change,
-) -> Result<(), ConeStop>
-    ensures points { OnOk result
-        (points.new ≡ points.old ++ points_in (columns_of case.now) case.now) }
-    ensures rays { OnOk result (rays.new ≡ rays.old ++ rays_in (columns_of case.now) case.now) }
-    ensures refusal { IfErr result IsRefusal }
-{
     let columns = columns_of(alloc, case)?;
     let own = images_in(alloc, columns.as_slice(), case)?;
-    points.append(own.points)?;
-    rays.append(own.rays)?;
-    Ok(())
+    let more = images_of(alloc, others)?;
+    Ok(both_images(own, more)?)
+}
+
+fn both_images(own: Images, more: Images) -> Result<Images, AllocError>
+    ensures { IfOk result (λ made. made ≡ in_bits.both_images own more) }
+{
+    let Images {
+        mut points,
+        mut rays,
+    } = own;
+    points.append(more.points)?;
+    rays.append(more.rays)?;
+    Ok(Images { points, rays })
 }
 
 fn images_in(alloc: Global, columns: &[Mono], case: &Change) -> Result<Images, ConeStop>
-    ensures points { IfOk result (λ images. images.points ≡ points_in columns.now case.now) }
-    ensures rays { IfOk result (λ images. images.rays ≡ rays_in columns.now case.now) }
-    ensures refusal { IfErr result IsRefusal }
+    ensures { Gives cause (λ made. made) result (in_bits.images_in columns.now case.now) }
 {
     let cone = case_cone(alloc, columns, case.rows.as_slice())?;
-    let terms = case.terms.as_slice();
-    let mut points = Items::new(alloc);
-    push_points(alloc, &mut points, columns, terms, cone.extremes.as_slice())?;
-    let mut rays = Items::new(alloc);
-    if !points.is_empty() {
-        push_all_rays(alloc, &mut rays, columns, terms, &cone)?;
-    }
-    Ok(Images { points, rays })
+    images_from(alloc, columns, case.terms.as_slice(), &cone)
 }
 
-fn push_all_rays(
+/// The points and rays of what the search found.
+fn images_from(
     alloc: Global,
-    rays: &mut Items<Items<i128>>,
     columns: &[Mono],
     terms: &[Poly],
     cone: &CaseCone,
-) -> Result<(), ConeStop>
-    ensures value { OnOk result
-        (rays.new ≡ rays.old ++ (flat_map (ray_of columns.now terms.now) cone.now.extremes
-        ++ flat_map (line_ways columns.now terms.now) cone.now.flats)) }
-    ensures refusal { IfErr result IsRefusal }
+) -> Result<Images, ConeStop>
+    ensures { Gives cause (λ made. made) result
+        (in_bits.images_from columns.now terms.now cone.now) }
 {
-    push_rays(alloc, rays, columns, terms, cone.extremes.as_slice())?;
-    push_lines(alloc, rays, columns, terms, cone.flats.as_slice())
+    let points = points_of(alloc, columns, terms, cone.extremes.as_slice())?;
+    let rays = rays_from(alloc, points.as_slice(), columns, terms, cone)?;
+    Ok(Images { points, rays })
+}
+
+/// Rays where there is a point that goes along them.
+fn rays_from(
+    alloc: Global,
+    points: &[Point],
+    columns: &[Mono],
+    terms: &[Poly],
+    cone: &CaseCone,
+) -> Result<Items<Items<i128>>, ConeStop>
+    ensures { Gives cause (λ made. made) result
+        (in_bits.rays_from points.now (in_bits.all_rays columns.now terms.now cone.now)) }
+{
+    match points {
+        [] => Ok(Items::new(alloc)),
+        [_first, ..] => all_rays(alloc, columns, terms, cone),
+    }
+}
+
+fn all_rays(
+    alloc: Global,
+    columns: &[Mono],
+    terms: &[Poly],
+    cone: &CaseCone,
+) -> Result<Items<Items<i128>>, ConeStop>
+    ensures { Gives cause (λ made. made) result
+        (in_bits.all_rays columns.now terms.now cone.now) }
+{
+    let mut rays = rays_of(alloc, columns, terms, cone.extremes.as_slice())?;
+    rays.append(ways_of(alloc, columns, terms, cone.flats.as_slice())?)?;
+    Ok(rays)
 }
 
 /// The points of the corners among the vectors.
-fn push_points(
+fn points_of(
     alloc: Global,
-    points: &mut Items<Point>,
     columns: &[Mono],
     terms: &[Poly],
     vectors: &[Items<i128>],
-) -> Result<(), ConeStop>
-    ensures value { OnOk result
-        (points.new ≡ points.old ++ flat_map (point_of columns.now terms.now) vectors.now) }
-    ensures refusal { IfErr result IsRefusal }
+) -> Result<Items<Point>, ConeStop>
+    ensures { Gives cause (λ made. made) result
+        (all_of (in_bits.point_of columns.now terms.now) vectors.now) }
 {
-    let [v, more @ ..] = vectors else {
-        return Ok(());
-    };
-    push_point(alloc, points, columns, terms, v.as_slice())?;
-    push_points(alloc, points, columns, terms, more)
+    let mut points = Items::new(alloc);
+    for v in vectors {
+        points.append(point_of(alloc, columns, terms, v.as_slice())?)?;
+    }
+    Ok(points)
 }
 
-fn push_point(
+fn point_of(
     alloc: Global,
-    points: &mut Items<Point>,
     columns: &[Mono],
     terms: &[Poly],
     v: &[i128],
-) -> Result<(), ConeStop>
-    ensures value { OnOk result (points.new ≡ points.old ++ point_of columns.now terms.now v.now) }
-    ensures refusal { IfErr result IsRefusal }
+) -> Result<Items<Point>, ConeStop>
+    ensures { Gives cause (λ made. made) result (in_bits.point_of columns.now terms.now v.now) }
 {
     let over = denominator(columns, v);
+    let mut points = Items::new(alloc);
     if 0 < over {
         let numbers = image(alloc, columns, terms, v)?;
         points.push(Point { numbers, over })?;
     }
-    Ok(())
+    Ok(points)
 }
 
 /// The rays of the other vectors.
-fn push_rays(
+fn rays_of(
     alloc: Global,
-    rays: &mut Items<Items<i128>>,
     columns: &[Mono],
     terms: &[Poly],
     vectors: &[Items<i128>],
-) -> Result<(), ConeStop>
-    ensures value { OnOk result
-        (rays.new ≡ rays.old ++ flat_map (ray_of columns.now terms.now) vectors.now) }
-    ensures refusal { IfErr result IsRefusal }
+) -> Result<Items<Items<i128>>, ConeStop>
+    ensures { Gives cause (λ made. made) result
+        (all_of (in_bits.ray_of columns.now terms.now) vectors.now) }
 {
-    let [v, more @ ..] = vectors else {
-        return Ok(());
-    };
-    push_ray(alloc, rays, columns, terms, v.as_slice())?;
-    push_rays(alloc, rays, columns, terms, more)
+    let mut rays = Items::new(alloc);
+    for v in vectors {
+        rays.append(ray_of(alloc, columns, terms, v.as_slice())?)?;
+    }
+    Ok(rays)
 }
 
-fn push_ray(
+fn ray_of(
     alloc: Global,
-    rays: &mut Items<Items<i128>>,
     columns: &[Mono],
     terms: &[Poly],
     v: &[i128],
-) -> Result<(), ConeStop>
-    ensures value { OnOk result (rays.new ≡ rays.old ++ ray_of columns.now terms.now v.now) }
-    ensures refusal { IfErr result IsRefusal }
+) -> Result<Items<Items<i128>>, ConeStop>
+    ensures { Gives cause (λ made. made) result (in_bits.ray_of columns.now terms.now v.now) }
 {
-    let over = denominator(columns, v);
-    if !(0 < over) {
-        let numbers = image(alloc, columns, terms, v)?;
-        rays.push(lowest(alloc, numbers)?)?;
+    if 0 < denominator(columns, v) {
+        return Ok(Items::new(alloc));
     }
-    Ok(())
+    let numbers = image(alloc, columns, terms, v)?;
+    let ray = lowest(alloc, numbers)?;
+    Ok(alone(alloc, ray)?)
 }
 
 /// The rays of flat vectors, both ways.
-fn push_lines(
+fn ways_of(
     alloc: Global,
-    rays: &mut Items<Items<i128>>,
     columns: &[Mono],
     terms: &[Poly],
     vectors: &[Items<i128>],
-) -> Result<(), ConeStop>
-    ensures value { OnOk result
-        (rays.new ≡ rays.old ++ flat_map (line_ways columns.now terms.now) vectors.now) }
-    ensures refusal { IfErr result IsRefusal }
+) -> Result<Items<Items<i128>>, ConeStop>
+    ensures { Gives cause (λ made. made) result
+        (all_of (in_bits.line_ways columns.now terms.now) vectors.now) }
 {
-    let [v, more @ ..] = vectors else {
-        return Ok(());
-    };
-    let numbers = image(alloc, columns, terms, v.as_slice())?;
-    push_both_signs(alloc, rays, lowest(alloc, numbers)?)?;
-    push_lines(alloc, rays, columns, terms, more)
+    let mut rays = Items::new(alloc);
+    for v in vectors {
+        rays.append(line_ways(alloc, columns, terms, v.as_slice())?)?;
+    }
+    Ok(rays)
+}
+
+fn line_ways(
+    alloc: Global,
+    columns: &[Mono],
+    terms: &[Poly],
+    v: &[i128],
+) -> Result<Items<Items<i128>>, ConeStop>
+    ensures { Gives cause (λ made. made) result (in_bits.line_ways columns.now terms.now v.now) }
+{
+    let numbers = image(alloc, columns, terms, v)?;
+    let ray = lowest(alloc, numbers)?;
+    both_signs(alloc, ray)
 }
 
 /// The number behind those at the columns; 0 where there is none.
@@ -210,8 +215,7 @@ fn image(
     terms: &[Poly],
     v: &[i128],
 ) -> Result<Items<i128>, ConeStop>
-    ensures value { IfOk result (λ numbers. numbers ≡ image columns.now terms.now v.now) }
-    ensures refusal { IfErr result IsRefusal }
+    ensures { Gives cause (λ made. made) result (in_bits.image columns.now terms.now v.now) }
 {
     let mut made = Items::new(alloc);
     for term in terms {

@@ -1,10 +1,10 @@
-ghost use Rattle.std.specs.Prelude.{◌≡◌, ◌++◌, OnOk, IfOk, IfErr};
-ghost use Rattle.std.specs.List.{flat_map};
+ghost use Rattle.std.specs.Prelude.{◌≡◌, [], ◌∷◌, ◌++◌, OnOk, IfOk};
+ghost use Rattle.items.specs.Gives.{Gives};
 ghost use Rattle.farkas_check.specs.Frames.{line_of};
-ghost use Rattle.cones.specs.Refusal.{IsRefusal};
+ghost use Rattle.cones.specs.Refusal.{cause};
 ghost use Rattle.cones.specs.Split.{zeros};
-ghost use Rattle.facet_hull.specs.Hull.{both_signs};
-ghost use Rattle.facet_hull.specs.Images.{columns_of, far, row_lines, cone_lines};
+ghost use Rattle.facet_hull.specs.Images.{columns_of, far};
+ghost use Rattle.facet_hull.specs.InBits as in_bits;
 
 use cones::{ConeStop, opposite};
 use farkas_check::{Change, Stratum, stratum_columns};
@@ -30,63 +30,45 @@ pub(crate) fn cone_lines(
     columns: &[Mono],
     rows: &[Row],
 ) -> Result<Items<Items<i128>>, ConeStop>
-    ensures value { IfOk result (λ lines. lines ≡ cone_lines columns.now rows.now) }
-    ensures refusal { IfErr result IsRefusal }
+    ensures { Gives cause (λ made. made) result (in_bits.cone_lines columns.now rows.now) }
 {
     let mut lines = Items::new(alloc);
     lines.push(far(alloc, columns.len())?)?;
-    push_rows(alloc, &mut lines, columns, rows)?;
+    for row in rows {
+        lines.append(row_lines(alloc, columns, row)?)?;
+    }
     Ok(lines)
 }
 
-fn push_rows(
-    alloc: Global,
-    lines: &mut Items<Items<i128>>,
-    columns: &[Mono],
-    rows: &[Row],
-) -> Result<(), ConeStop>
-    ensures value { OnOk result (lines.new ≡ lines.old ++ flat_map (row_lines columns.now) rows.now) }
-    ensures refusal { IfErr result IsRefusal }
-{
-    let [row, more @ ..] = rows else {
-        return Ok(());
-    };
-    push_row(alloc, lines, columns, row)?;
-    push_rows(alloc, lines, columns, more)
-}
-
-fn push_row(
-    alloc: Global,
-    lines: &mut Items<Items<i128>>,
-    columns: &[Mono],
-    row: &Row,
-) -> Result<(), ConeStop>
-    ensures value { OnOk result (lines.new ≡ lines.old ++ row_lines columns.now row.now) }
-    ensures refusal { IfErr result IsRefusal }
+/// The line of a row, and for an equation its opposite too.
+fn row_lines(alloc: Global, columns: &[Mono], row: &Row) -> Result<Items<Items<i128>>, ConeStop>
+    ensures { Gives cause (λ made. made) result (in_bits.row_lines columns.now row.now) }
 {
     let line = line_of(alloc, columns, &row.poly)?;
     match row.kind {
-        Kind::AtMost => {
-            lines.push(line)?;
-            Ok(())
-        }
-        Kind::Equal => push_both_signs(alloc, lines, line),
+        Kind::AtMost => Ok(alone(alloc, line)?),
+        Kind::Equal => both_signs(alloc, line),
     }
 }
 
-/// Puts a vector behind others, and then its opposite.
-pub(crate) fn push_both_signs(
-    alloc: Global,
-    vectors: &mut Items<Items<i128>>,
-    vector: Items<i128>,
-) -> Result<(), ConeStop>
-    ensures value { OnOk result (vectors.new ≡ vectors.old ++ both_signs vector) }
-    ensures refusal { IfErr result IsRefusal }
+/// One vector as a list.
+pub(crate) fn alone(alloc: Global, vector: Items<i128>) -> Result<Items<Items<i128>>, AllocError>
+    ensures { IfOk result (λ made. made ≡ vector ∷ []) }
 {
-    let turned = opposite(alloc, vector.as_slice())?;
-    vectors.push(vector)?;
-    vectors.push(turned)?;
-    Ok(())
+    let mut made = Items::new(alloc);
+    made.push(vector)?;
+    Ok(made)
+}
+
+/// A form, and the same with each sign turned.
+pub(crate) fn both_signs(alloc: Global, form: Items<i128>) -> Result<Items<Items<i128>>, ConeStop>
+    ensures { Gives cause (λ made. made) result (in_bits.both_signs form) }
+{
+    let turned = opposite(alloc, form.as_slice())?;
+    let mut forms = Items::new(alloc);
+    forms.push(form)?;
+    forms.push(turned)?;
+    Ok(forms)
 }
 
 /// The coefficients of a polynomial at the columns, and its constant.

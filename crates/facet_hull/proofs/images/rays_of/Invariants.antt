@@ -1,0 +1,7 @@
+use Rattle.std.proofs.Common.{◌≡◌, drop}
+use Rattle.cones.specs.InBits.{behind, all_of}
+use Rattle.facet_hull.specs.InBits as in_bits
+use Rattle.facet_hull.proofs.images.rays_of.Given as goal
+
+abbrev pub invariant-loop-v : goal.invariant-loop-v
+invariant-loop-v l = behind l.rays (all_of (in_bits.ray_of l.columns l.terms) (drop l.v-index l.vectors)) ≡ all_of (in_bits.ray_of l.columns l.terms) l.vectors
