@@ -4,6 +4,8 @@ pub mod NotesApart
 pub mod Puts
 -- loops
 pub mod ListLoops
+-- the kinds of groups
+pub mod GroupKinds
 -- what the procedures of a group call
 pub mod BodyCalls
 pub mod NextGroups
@@ -15,7 +17,7 @@ pub mod GroupFindings
 -- assertions, and blocks
 pub mod ChecksStand
 pub mod AssertionParts
-pub mod BlocksKnown
+pub mod KnownBlocks
 -- that nothing is left out
 pub mod ReportCover
 pub mod ReportParts

@@ -131,7 +131,7 @@ module _ (program : Program) where
       kind-ready : IsWellFormed program → (kind : GroupKind) → IsKindOf program group kind → KnowsFor kind program group.procs found.known × IsLinearIf kind program group.procs
       kind-ready formed Plain plain = (know-all formed plain, tt)
       kind-ready formed Linear linear = (know-others formed, linear.1)
-      kind-ready formed Rounds rounds = (know-others formed, tt)
+      kind-ready formed Rounds rounds = (know-others formed, rounds.1)
 
     pub group-ready : (found : Found) → HasFound come found → IsWellFormed program → (planned : Planned) → IsPlannedOf program group planned → IsReadyGroup program planned found.known
     group-ready found has formed planned of =

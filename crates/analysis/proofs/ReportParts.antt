@@ -17,7 +17,7 @@ use Rattle.analysis.specs.declared.found.Found.{Found}
 use Rattle.analysis.specs.Analysis.{blocks_by}
 use Rattle.analysis.specs.Claims.{FitsFound, FoundIsMet, HasAll}
 use Rattle.analysis.specs.Found.{flows_in}
-use Rattle.analysis.proofs.BlocksKnown.{block-known, flow-known, flows-long}
+use Rattle.analysis.proofs.KnownBlocks.{block-known, flow-known, flows-long}
 use Rattle.analysis.proofs.ReportCover.{blocks-cover}
 
 module _ (program : Program) (found : Found) (fits : FitsFound program found) (all : HasAll program found) where

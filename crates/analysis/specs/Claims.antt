@@ -46,14 +46,14 @@ KnowsFor Plain program procs known = KnowAllCallees program procs known
 KnowsFor Linear program procs known = KnowsOthers program procs known
 KnowsFor Rounds program procs known = KnowsOthers program procs known
 
--- the group is linear where its kind says so
+-- a recursive group is linear where its kind says so, and not where it says rounds
 abbrev pub IsLinearIf : GroupKind → Program → List ℕ → Type 0
 IsLinearIf Plain program procs = Unit {0}
 IsLinearIf Linear program procs = IsLinear program procs
-IsLinearIf Rounds program procs = Unit {0}
+IsLinearIf Rounds program procs = ¬ IsLinear program procs
 
--- it is a group of procedures of the program whose callees outside are known, and it is linear
--- where the plan says so
+-- it is a group of procedures of the program whose callees outside are known, and linear or
+-- not as the plan says
 pub record IsReadyGroup (program : Program) (planned : Planned)
     (known : List (Option Transition)) : Type 0 where
   pub there : All (λ proc. proc < length program.procs) planned.procs

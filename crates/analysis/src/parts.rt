@@ -1,4 +1,4 @@
-ghost use Rattle.std.specs.Prelude.{◌≡◌, ◌<◌, ◌≤◌, ◌++◌, All, Some, [], false, true, length, map, slice_get, IfOk, IsTrue};
+ghost use Rattle.std.specs.Prelude.{◌≡◌, ◌<◌, ◌≤◌, ◌++◌, All, Some, [], false, true, length, map, slice_get, IfOk};
 ghost use Rattle.std.specs.List.{Contains, slice_index_or};
 ghost use Rattle.syntax_tree.specs.WellFormed.{IsWellFormed};
 ghost use Rattle.syntax_tree.specs.declared.program.Proc.{Proc as Procedure};
@@ -7,10 +7,10 @@ ghost use Rattle.posing.specs.Posing.{each};
 ghost use Rattle.leaf_cases.specs.Conditions.{AreKnown};
 ghost use Rattle.leaf_cases.specs.Summaries.{AreMet};
 ghost use Rattle.proc_summary.specs.Claims.{KnowsCallees};
-ghost use Rattle.newton_rounds.specs.Claims.{AreKnownMembers, AreMetMembers};
+ghost use Rattle.newton_rounds.specs.Claims.{AreKnownMembers, AreMetMembers, TellsLinear};
 ghost use Rattle.newton_rounds.specs.Close.{group_closure};
 ghost use Rattle.newton_rounds.specs.Laws.{KnowsOthers};
-ghost use Rattle.newton_rounds.specs.Members.{IsLinear, members_of};
+ghost use Rattle.newton_rounds.specs.Members.{members_of};
 ghost use Rattle.analysis.specs.Apart.{apart};
 ghost use Rattle.analysis.specs.Claims.{AddsFlow, AddsSummary, AreFlowsOf, FitFlows, FitsGroup, GroupIsMet, IsReadyGroup, KnowAllCallees};
 ghost use Rattle.analysis.specs.Parts.{note_in, part_of, part_with, plain_part, recursive_part, summaries_by, with_flow, with_plain};
@@ -115,7 +115,7 @@ pub fn summaries_apart<O: Oracle>(
     Ok((result?, notes))
 }
 
-#[tactic(auto, unfolding(crate::specs::Parts::summaries_by))]
+#[tactic(auto, using(crate::proofs::GroupKinds::linear_told, crate::proofs::GroupKinds::rounds_told), unfolding(crate::specs::Parts::summaries_by))]
 fn summaries_by<O: Oracle>(
     alloc: Global,
     program: &Program,
@@ -224,7 +224,7 @@ fn recursive_part<O: Oracle>(
     requires few { length procs.now ≤ length program.now.procs }
     requires known { AreKnown program.now known.now }
     requires callees { KnowsOthers program.now procs.now known.now }
-    requires linear { IsTrue linear → IsLinear program.now procs.now }
+    requires linear { TellsLinear program.now procs.now linear }
     ensures follows { Follows O.asking oracle.old oracle.new log.old log.new result
         (recursive_part program.now procs.now known.now
         (group_closure linear program.now procs.now known.now)) }

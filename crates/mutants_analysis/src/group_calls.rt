@@ -3,7 +3,7 @@ ghost use Rattle.syntax_tree.specs.WellFormed.{IsWellFormed};
 ghost use Rattle.posing.specs.Follows.{Follows};
 ghost use Rattle.leaf_cases.specs.Conditions.{AreKnown};
 ghost use Rattle.leaf_cases.specs.Summaries.{AreMet};
-ghost use Rattle.newton_rounds.specs.Claims.{AreKnownMembers, AreMetMembers};
+ghost use Rattle.newton_rounds.specs.Claims.{AreKnownMembers, AreMetMembers, TellsLinear};
 ghost use Rattle.newton_rounds.specs.Close.{group_closure};
 ghost use Rattle.newton_rounds.specs.Laws.{KnowsOthers};
 ghost use Rattle.newton_rounds.specs.Members.{IsLinear};
@@ -39,11 +39,11 @@ pub fn close<O: Oracle>(
     requires there { All (λ proc. proc < length program.now.procs) procs.now }
     requires few { length procs.now ≤ length program.now.procs }
     requires known { AreKnown program.now known.now }
+    requires linear { TellsLinear program.now procs.now linear }
     ensures follows { Follows O.asking oracle.old oracle.new log.old log.new result
         (group_closure linear program.now procs.now known.now) }
     ensures known { IfOk result (AreKnownMembers program.now procs.now) }
     ensures met { AreMet program.now known.now → KnowsOthers program.now procs.now known.now
-        → (IsTrue linear → IsLinear program.now procs.now)
         → IfOk result (AreMetMembers program.now procs.now) }
 {
     newton_rounds::close(alloc, program, procs, known, linear, oracle, log)

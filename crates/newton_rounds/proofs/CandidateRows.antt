@@ -19,7 +19,7 @@ use Rattle.polyhedra.specs.Bounds.{after_row, rows_with_exit_bound, put_in_for}
 use Rattle.polyhedra.specs.Directions.{directions}
 use Rattle.polyhedra.proofs.Places.{range-first}
 use Rattle.polyhedra.proofs.Rows.{IsSound, at_most-sound, difference-sound, put_in_for-sound, whole-sound}
-use Rattle.polyhedra.proofs.Shaped.{HasIfMade, bounded-keeps, each-keeps}
+use Rattle.polyhedra.proofs.RowShapes.{HasIfMade, bounded-keeps, each-keeps}
 use Rattle.leaf_cases.specs.Guard.{columns_of}
 use Rattle.newton_rounds.specs.Candidates.{candidate_by, candidate_of, paired_case}
 use Rattle.newton_rounds.specs.Pairs.{PairEnds}

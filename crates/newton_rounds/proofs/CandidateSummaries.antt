@@ -13,7 +13,7 @@ use Rattle.posing.specs.Posing.{Done, each, Always}
 use Rattle.posing.proofs.Paths.{always_weaker}
 use Rattle.polyhedra.specs.Bounds.{IsCovered, IsCoveredByPosts, rows_with_exit_bound}
 use Rattle.polyhedra.specs.Directions.{directions}
-use Rattle.polyhedra.proofs.Covering.{directions-covered, directions-covered_by_posts}
+use Rattle.polyhedra.proofs.Coverage.{directions-covered, directions-covered_by_posts}
 use Rattle.leaf_cases.specs.Guard.{columns_of}
 use Rattle.newton_rounds.specs.Between.{AreCandidates, AreSummaries, GoesBetween, IsMember, IsRowOver, IsSummary}
 use Rattle.newton_rounds.specs.Candidates.{candidate_by, candidate_formula, candidate_of, paired_case, table_of}

@@ -13,7 +13,7 @@ use Rattle.path_expr.specs.Walks.{IsWalk}
 use Rattle.posing.specs.Logs.{loss_notes}
 use Rattle.posing.specs.Posing.{Noted, Always}
 use Rattle.posing.proofs.Paths.{always_bind, always_weaker}
-use Rattle.recurrence.proofs.Starred.{always_both}
+use Rattle.recurrence.proofs.StarLaws.{always_both}
 use Rattle.polyhedra.specs.Vocabulary.{Vocabulary}
 use Rattle.polyhedra.proofs.Lists.{same_number}
 use Rattle.transition_formula.specs.Meaning.{Covers, Holds, HoldsSome}

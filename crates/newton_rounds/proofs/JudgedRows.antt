@@ -10,7 +10,7 @@ use Rattle.linear_terms.specs.Row.{RowHolds}
 use Rattle.posing.specs.declared.note.Witness.{Witness}
 use Rattle.posing.specs.Posing.{Done, ◌>>=◌, each, Always, AlwaysPassing, IsPassing}
 use Rattle.polyhedra.specs.Vocabulary.{Vocabulary}
-use Rattle.recurrence.proofs.Starred.{always_every}
+use Rattle.recurrence.proofs.StarLaws.{always_every}
 use Rattle.syntax_tree.specs.declared.program.Proc.{Proc}
 use Rattle.syntax_tree.specs.declared.program.Program.{Program}
 use Rattle.syntax_tree.specs.Value.{State}

@@ -22,7 +22,7 @@ use Rattle.transition_formula.proofs.Fitting.{true-below}
 use Rattle.transition_formula.proofs.HiddenColumns.{hidden-fits, hidden-holds}
 use Rattle.transition_formula.proofs.PostsAsEntries.{StandFrom, equated-holds, raised-holds, stand-behind}
 use Rattle.transition_formula.proofs.SomePosts.{with_posts-holds}
-use Rattle.recurrence.proofs.Shaped.{canonical-column, canonical-difference}
+use Rattle.recurrence.proofs.ColumnShapes.{canonical-column, canonical-difference}
 use Rattle.proc_summary.specs.Claims.{FitsIf, HoldsIf}
 use Rattle.proc_summary.specs.Summary.{exit_formula, exit_places}
 use Rattle.newton_rounds.specs.Pairs.{PairEnds, base_from, entry_told}

@@ -23,7 +23,7 @@ use Rattle.leaf_cases.specs.Conditions.{AreKnown, KnownCalls}
 use Rattle.leaf_cases.specs.Summaries.{exit_values}
 use Rattle.posing.specs.Posing.{Always}
 use Rattle.posing.proofs.Paths.{always_bind, always_weaker}
-use Rattle.recurrence.proofs.Starred.{always_both}
+use Rattle.recurrence.proofs.StarLaws.{always_both}
 use Rattle.vocabularies.specs.Ends.{entry_of, entry_width, full_of}
 use Rattle.vocabularies.specs.Ends as ends
 use Rattle.checked_tree.specs.Evaluation.{evaluated_cells, settled_and_fitted}

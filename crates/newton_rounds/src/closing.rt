@@ -1,16 +1,15 @@
-ghost use Rattle.std.specs.Prelude.{◌≡◌, ◌<◌, ◌≤◌, [], All, length, IfOk, IsTrue};
+ghost use Rattle.std.specs.Prelude.{◌≡◌, ◌<◌, ◌≤◌, [], All, length, IfOk};
 ghost use Rattle.std.specs.List.{AllByRecursion};
 ghost use Rattle.syntax_tree.specs.WellFormed.{IsWellFormed};
 ghost use Rattle.posing.specs.Follows.{Follows};
 ghost use Rattle.posing.specs.Posing.{each};
 ghost use Rattle.leaf_cases.specs.Conditions.{AreKnown};
 ghost use Rattle.leaf_cases.specs.Summaries.{AreMet};
-ghost use Rattle.newton_rounds.specs.Claims.{AreKnownMembers, AreMetMembers};
+ghost use Rattle.newton_rounds.specs.Claims.{AreKnownMembers, AreMetMembers, TellsLinear};
 ghost use Rattle.newton_rounds.specs.Candidates.{summaries_by_round};
 ghost use Rattle.newton_rounds.specs.Close.{closure_by_rounds, group_closure, pairs_of, rounds_after, rounds_over, with_candidate};
 ghost use Rattle.newton_rounds.specs.Closure.{ends_of_members};
 ghost use Rattle.newton_rounds.specs.Laws.{KnowsOthers};
-ghost use Rattle.newton_rounds.specs.Members.{IsLinear};
 ghost use Rattle.newton_rounds.specs.Between.{AreBases, AreCandidates, AreSummaries, FitTable, IsMember, IsSummary};
 
 use crate::bases::bases_of;
@@ -44,11 +43,11 @@ pub fn close<O: Oracle>(
     requires there { All (λ proc. proc < length program.now.procs) procs.now }
     requires few { length procs.now ≤ length program.now.procs }
     requires known { AreKnown program.now known.now }
+    requires linear { TellsLinear program.now procs.now linear }
     ensures follows { Follows O.asking oracle.old oracle.new log.old log.new result
         (group_closure linear program.now procs.now known.now) }
     ensures known { IfOk result (AreKnownMembers program.now procs.now) }
     ensures met { AreMet program.now known.now → KnowsOthers program.now procs.now known.now
-        → (IsTrue linear → IsLinear program.now procs.now)
         → IfOk result (AreMetMembers program.now procs.now) }
 {
     group_closure(alloc, program, procs, known, linear, oracle, log)

@@ -34,7 +34,7 @@ pub returns-clause-met : goal.returns-clause-met
 returns-clause-met g c = λ met.
     let procs = c.args.procs.now in
     let same = c.as_slice-2.ensures ∙ c.in_ok-all.ensures ∙ ap (λ table. with_table procs table c.args.known.now) c.as_slice.ensures in
-    let own = c.in_ok-formulas.ensures.met met c.requires.callees c.requires.linear in
+    let own = c.in_ok-formulas.ensures.met met c.requires.callees in
     record {
       summaries = own;
       hold = c.in_ok-flows.ensures.holds (subst (AreMet c.args.program.now) (sym same)
