@@ -6,6 +6,7 @@
 
 mod error;
 mod reader;
+mod reading;
 
 pub use error::PolynomialError;
 pub use reader::{case, poly, row};

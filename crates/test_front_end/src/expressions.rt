@@ -1,24 +1,13 @@
 //! Expressions: their values, their counts; and names.
 use crate::programs::program_of;
-use crate::words::{op_text, show_name};
+use crate::told::Told;
+use crate::words::op_text;
 use items::Items;
 use std::alloc::{AllocError, Global};
-use std::fmt::Write;
 use syntax_tree::{
     Core, EvalWide, Name, Program, Stmt, count_cases, count_operators, eval, has_columns_below,
     joint_cases,
 };
-
-/// A program that returns the value of an expression over one variable.
-fn returning(alloc: Global, text: &[u8]) -> Option<Program> {
-    let mut whole = Vec::new(alloc);
-    whole
-        .extend_from_slice(b"int x;int main(void){return ")
-        .ok()?;
-    whole.extend_from_slice(text).ok()?;
-    whole.extend_from_slice(b";}").ok()?;
-    program_of(alloc, &whole)
-}
 
 /// The expression that the first statement of a program sets a column to.
 fn expression_of(program: &Program) -> Option<&Core> {
@@ -29,36 +18,53 @@ fn expression_of(program: &Program) -> Option<&Core> {
     }
 }
 
-/// What is told of an expression over one variable.
-pub(crate) fn expression_text(alloc: Global, kind: &str, text: &[u8]) -> Option<String> {
-    let program = returning(alloc, text)?;
-    expression_answer(alloc, kind, expression_of(&program)?)
+/// What is told of an expression over one variable, which a program returns.
+pub(crate) fn show_text(out: &mut Told, alloc: Global, kind: &str, text: &[u8]) {
+    let mut whole = Told::new(alloc);
+    whole.word("int x;int main(void){return ");
+    whole.letters(text);
+    whole.word(";}");
+    match program_of(alloc, whole.text().as_bytes()) {
+        Ok(program) => show_first(out, alloc, kind, &program),
+        Err(_) => out.lose(),
+    }
 }
 
-fn expression_answer(alloc: Global, kind: &str, e: &Core) -> Option<String> {
+fn show_first(out: &mut Told, alloc: Global, kind: &str, program: &Program) {
+    match expression_of(program) {
+        Some(e) => show_expression(out, alloc, kind, e),
+        None => out.lose(),
+    }
+}
+
+fn show_expression(out: &mut Told, alloc: Global, kind: &str, e: &Core) {
     match kind {
-        "value" => value_text(alloc, e),
-        "cases" => cases_text(alloc, e),
-        _ => joint_text(alloc, e),
+        "value" => show_value(out, e),
+        "cases" => show_cases(out, e),
+        _ => show_joint(out, alloc, e),
     }
 }
 
 /// The value of an expression where the variable is 0, or what stops its evaluation.
-fn value_text(alloc: Global, e: &Core) -> Option<String> {
+fn show_value(out: &mut Told, e: &Core) {
     let state = [0i128, 0];
     if !has_columns_below(e, state.len()) {
-        return None;
+        return out.lose();
     }
     match eval(e, &state) {
-        Ok(Some(value)) => format!(in alloc; "{value}").ok(),
-        Ok(None) => format!(in alloc; "none").ok(),
-        Err(wide) => wide_text(alloc, &wide),
+        Ok(Some(value)) => out.number(value),
+        Ok(None) => out.word("none"),
+        Err(wide) => show_wide(out, &wide),
     }
 }
 
-fn wide_text(alloc: Global, wide: &EvalWide) -> Option<String> {
-    let op = op_text(wide.op);
-    format!(in alloc; "wide {} {op} {}", wide.left, wide.right).ok()
+fn show_wide(out: &mut Told, wide: &EvalWide) {
+    out.word("wide ");
+    out.number(wide.left);
+    out.word(" ");
+    out.word(op_text(wide.op));
+    out.word(" ");
+    out.number(wide.right);
 }
 
 /// How many columns an expression needs, of at most 64.
@@ -68,29 +74,28 @@ fn width_of(e: &Core) -> usize {
         .unwrap_or(64)
 }
 
+/// A word and a count.
+fn show_count(out: &mut Told, word: &str, count: usize) {
+    out.word(word);
+    out.number(count as i128);
+}
+
 /// The cases of an expression, its operators, and how many columns it needs.
-fn cases_text(alloc: Global, e: &Core) -> Option<String> {
-    let mut out = String::new(alloc);
-    write_cases(&mut out, e).ok()?;
-    Some(out)
-}
-
-fn write_cases(out: &mut String, e: &Core) -> Result<(), AllocError> {
+fn show_cases(out: &mut Told, e: &Core) {
     let cases = count_cases(e);
-    let (value, truth, falsity) = (cases.value, cases.truth, cases.falsity);
-    write!(out, "value {value} truth {truth} falsity {falsity}")?;
-    write_width(out, e)
-}
-
-fn write_width(out: &mut String, e: &Core) -> Result<(), AllocError> {
-    let (operators, columns) = (count_operators(e), width_of(e));
-    write!(out, " operators {operators} columns {columns}")
+    show_count(out, "value ", cases.value);
+    show_count(out, " truth ", cases.truth);
+    show_count(out, " falsity ", cases.falsity);
+    show_count(out, " operators ", count_operators(e));
+    show_count(out, " columns ", width_of(e));
 }
 
 /// The cases of a list with an expression twice, and a number between.
-fn joint_text(alloc: Global, e: &Core) -> Option<String> {
-    let list = doubled_expression(alloc, e).ok()?;
-    format!(in alloc; "{}", joint_cases(list.as_slice())).ok()
+fn show_joint(out: &mut Told, alloc: Global, e: &Core) {
+    match doubled_expression(alloc, e) {
+        Ok(list) => show_count(out, "", joint_cases(list.as_slice())),
+        Err(_) => out.lose(),
+    }
 }
 
 /// An expression twice, and a number between.
@@ -103,16 +108,16 @@ fn doubled_expression(alloc: Global, e: &Core) -> Result<Items<Core>, AllocError
 }
 
 /// The name that a text is, if it is one.
-pub(crate) fn name_text(alloc: Global, text: &[u8]) -> Option<String> {
-    let name = Name::new(Items::from_slice(alloc, text).ok()?);
-    let mut out = String::new(alloc);
-    write_name(&mut out, &name).ok()?;
-    Some(out)
+pub(crate) fn show_name(out: &mut Told, alloc: Global, text: &[u8]) {
+    match Items::from_slice(alloc, text) {
+        Ok(letters) => show_named(out, &Name::new(letters)),
+        Err(_) => out.lose(),
+    }
 }
 
-fn write_name(out: &mut String, name: &Option<Name>) -> Result<(), AllocError> {
+fn show_named(out: &mut Told, name: &Option<Name>) {
     match name {
-        Some(name) => show_name(out, name),
-        None => out.push_str("none"),
+        Some(name) => out.letters(name.as_slice()),
+        None => out.word("none"),
     }
 }

@@ -9,45 +9,58 @@ mod program_text;
 mod programs;
 mod rows;
 mod tokens;
+mod told;
 mod tree_text;
 mod trees;
 mod words;
 
 use std::alloc::Global;
 use std::io;
+use told::Told;
 
-/// What a row of a kind comes to; none where it is no row or memory is wanting.
-fn row_answer(alloc: Global, kind: &str, text: &[u8]) -> Option<String> {
+/// What a row of a kind comes to.
+fn show_row(out: &mut Told, alloc: Global, kind: &str, text: &[u8]) {
     match kind {
-        "length" => tokens::length_text(alloc, text),
-        "tokens" => tokens::tokens_text(alloc, text),
-        "tree" => trees::tree_text(alloc, text),
-        "program" => programs::program_text(alloc, text),
-        "nodes" => programs::nodes_text(alloc, text),
-        "value" | "cases" | "joint" => expressions::expression_text(alloc, kind, text),
-        "name" => expressions::name_text(alloc, text),
-        _ => None,
-    }
-}
-
-/// What a line comes to; a heading stays as it is. Of a text of many parts the first two words are
-/// told.
-fn outcome(alloc: Global, line: &str) -> Option<String> {
-    if line.starts_with('#') {
-        return format!(in alloc; "{line}").ok();
-    }
-    let (kind, text) = line.split_once(' ')?;
-    match kind.strip_suffix('*') {
-        Some(kind) => short_answer(alloc, kind, text),
-        None => row_answer(alloc, kind, &rows::bytes_of(alloc, text)?),
+        "length" => tokens::show_length(out, alloc, text),
+        "tokens" => tokens::show_text(out, alloc, text),
+        "tree" => trees::show_text(out, alloc, text),
+        "program" => programs::show_text(out, alloc, text),
+        "nodes" => programs::show_nodes(out, alloc, text),
+        "value" | "cases" | "joint" => expressions::show_text(out, alloc, kind, text),
+        "name" => expressions::show_name(out, alloc, text),
+        _ => out.lose(),
     }
 }
 
 /// The first two words of what a text of many parts comes to.
-fn short_answer(alloc: Global, kind: &str, text: &str) -> Option<String> {
-    let made = rows::text_of_parts(alloc, text)?;
-    let told = row_answer(alloc, kind, made.as_bytes())?;
-    rows::first_words(alloc, told.as_str().trim())
+fn show_short(out: &mut Told, alloc: Global, kind: &str, text: &str) {
+    let mut parts = Told::new(alloc);
+    rows::put_parts(&mut parts, text);
+    let mut whole = Told::new(alloc);
+    show_row(&mut whole, alloc, kind, parts.text().as_bytes());
+    rows::show_first_words(out, whole.text().trim());
+}
+
+/// What a text of a kind comes to. Of a text of many parts the first two words are told.
+fn show_given(out: &mut Told, alloc: Global, kind: &str, text: &str) {
+    if let Some(kind) = kind.strip_suffix('*') {
+        return show_short(out, alloc, kind, text);
+    }
+    match rows::bytes_of(alloc, text) {
+        Some(bytes) => show_row(out, alloc, kind, &bytes),
+        None => out.lose(),
+    }
+}
+
+/// What a line comes to; a heading stays as it is.
+fn show_line(out: &mut Told, alloc: Global, line: &str) {
+    if line.starts_with('#') {
+        return out.word(line);
+    }
+    match line.split_once(' ') {
+        Some((kind, text)) => show_given(out, alloc, kind, text),
+        None => out.lose(),
+    }
 }
 
 fn call_laws() {
@@ -60,10 +73,9 @@ fn main(rt: HostRuntime) -> io::Result<()> {
     call_laws();
     let text = io::read_to_string(rt.alloc(), rt.stdin())?;
     for line in text.as_str().lines() {
-        match outcome(rt.alloc(), line) {
-            Some(told) => println!(rt; "{}", told.as_str().trim())?,
-            None => println!(rt; "no row")?,
-        }
+        let mut out = Told::new(rt.alloc());
+        show_line(&mut out, rt.alloc(), line);
+        println!(rt; "{}", out.text().trim())?;
     }
     Ok(())
 }

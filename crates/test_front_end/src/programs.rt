@@ -1,50 +1,51 @@
 //! Programs of texts, and why texts with a tree have none.
 use crate::program_text::{show_fault, show_program};
-use c_lexer::lex;
-use c_parser::{ends_once, parse};
-use std::alloc::{AllocError, Global};
-use syntax_tree::{Program, Tree, count_nodes};
-use typing::{elaborate, elaborations_are_answered, elaborations_are_unique};
+use crate::told::Told;
+use crate::trees::tree_of;
+use std::alloc::Global;
+use syntax_tree::{Program, count_nodes};
+use typing::{TypeError, elaborate, elaborations_are_answered, elaborations_are_unique};
 
-fn tree_of(alloc: Global, text: &[u8]) -> Option<Tree> {
-    let tokens = lex(alloc, text.get(..1_048_576).unwrap_or(text)).ok()?;
-    if !ends_once(tokens.as_slice()) {
-        return None;
+/// The program of a text, or the fault that is told of it. A text without a tree has none, as where
+/// memory is wanting.
+pub(crate) fn program_of(alloc: Global, text: &[u8]) -> Result<Program, TypeError> {
+    let length = u32::try_from(text.len()).unwrap_or(u32::MAX);
+    match tree_of(alloc, text) {
+        Ok(tree) => elaborate(alloc, &tree, length),
+        Err(_) => Err(TypeError::Memory),
     }
-    parse(alloc, tokens.as_slice()).ok()
-}
-
-/// The program of a text.
-pub(crate) fn program_of(alloc: Global, text: &[u8]) -> Option<Program> {
-    let tree = tree_of(alloc, text)?;
-    elaborate(alloc, &tree, u32::try_from(text.len()).ok()?).ok()
 }
 
 /// The program, by a copy of it, which has to be equal, and well formed.
-fn show_copy(alloc: Global, out: &mut String, program: &Program) -> Result<(), AllocError> {
-    let copy = program.copy(alloc)?;
-    if copy != *program || !copy.is_well_formed() {
-        out.push_str("another copy ")?;
+fn show_copy(out: &mut Told, alloc: Global, program: &Program) {
+    match program.copy(alloc) {
+        Ok(copy) if copy == *program && copy.is_well_formed() => show_program(out, &copy),
+        _ => out.lose(),
     }
-    show_program(out, &copy)
 }
 
 /// The program of a text that has a tree, or the fault that is told of it.
-pub(crate) fn program_text(alloc: Global, text: &[u8]) -> Option<String> {
-    let tree = tree_of(alloc, text)?;
-    let mut out = String::new(alloc);
-    match elaborate(alloc, &tree, u32::try_from(text.len()).ok()?) {
-        Ok(program) => show_copy(alloc, &mut out, &program).ok()?,
-        Err(fault) => show_fault(&mut out, fault).ok()?,
+pub(crate) fn show_text(out: &mut Told, alloc: Global, text: &[u8]) {
+    match program_of(alloc, text) {
+        Ok(program) => show_copy(out, alloc, &program),
+        Err(fault) => show_fault(out, fault),
     }
-    Some(out)
+}
+
+/// How many nodes the first procedure of a program has.
+fn show_first_nodes(out: &mut Told, program: &Program) {
+    match program.procs.as_slice() {
+        [first, ..] => out.number(count_nodes(first.body.as_slice()) as i128),
+        [] => out.lose(),
+    }
 }
 
 /// How many nodes the first procedure of a text has.
-pub(crate) fn nodes_text(alloc: Global, text: &[u8]) -> Option<String> {
-    let program = program_of(alloc, text)?;
-    let main = program.procs.as_slice().first()?;
-    format!(in alloc; "{}", count_nodes(main.body.as_slice())).ok()
+pub(crate) fn show_nodes(out: &mut Told, alloc: Global, text: &[u8]) {
+    match program_of(alloc, text) {
+        Ok(program) => show_first_nodes(out, &program),
+        Err(_) => out.lose(),
+    }
 }
 
 pub(crate) fn laws() {

@@ -1,55 +1,67 @@
 //! What texts are cut into, and where they are refused. A token is told by a letter (`w` a word,
 //! `k` a keyword, `m` a mark, `e` the end) or by its number and `@`, its place and its length.
-use crate::words::show_place;
+use crate::told::Told;
 use c_lexer::{
     LexError, Token, TokenKind, lex, refusal_is_one, tokens_are_not_refused, tokens_are_one,
     tokens_ascend,
 };
-use std::alloc::{AllocError, Global};
-use std::fmt::Write;
+use items::Items;
+use std::alloc::Global;
 
-fn show_kind(out: &mut String, kind: &TokenKind) -> Result<(), AllocError> {
+fn show_kind(out: &mut Told, kind: &TokenKind) {
     match kind {
-        TokenKind::Word(_) => out.push_str("w"),
-        TokenKind::Keyword(_) => out.push_str("k"),
-        TokenKind::Number(value) => write!(out, "{value}@"),
-        TokenKind::Mark(_) => out.push_str("m"),
-        TokenKind::End => out.push_str("e"),
+        TokenKind::Word(_) => out.word("w"),
+        TokenKind::Keyword(_) => out.word("k"),
+        TokenKind::Number(value) => {
+            out.number(*value);
+            out.word("@");
+        }
+        TokenKind::Mark(_) => out.word("m"),
+        TokenKind::End => out.word("e"),
     }
 }
 
-fn show_tokens(out: &mut String, tokens: &[Token]) -> Result<(), AllocError> {
+fn show_tokens(out: &mut Told, tokens: &[Token]) {
     for token in tokens {
-        show_kind(out, &token.kind)?;
-        write!(out, "{}+{} ", token.at, token.len)?;
+        show_kind(out, &token.kind);
+        out.place("", token.at);
+        out.place("+", token.len);
+        out.word(" ");
     }
-    Ok(())
 }
 
-fn show_fault(out: &mut String, fault: LexError) -> Result<(), AllocError> {
+fn show_fault(out: &mut Told, fault: LexError) {
     match fault {
-        LexError::Byte(at) => show_place(out, "byte", at),
-        LexError::Comment(at) => show_place(out, "comment", at),
-        LexError::Literal(at) => show_place(out, "literal", at),
-        LexError::TooManyTokens(at) => show_place(out, "tokens", at),
-        LexError::Memory => out.push_str("memory"),
+        LexError::Byte(at) => out.place("byte ", at),
+        LexError::Comment(at) => out.place("comment ", at),
+        LexError::Literal(at) => out.place("literal ", at),
+        LexError::TooManyTokens(at) => out.place("tokens ", at),
+        LexError::Memory => out.lose(),
     }
+}
+
+/// The tokens of the first 1,048,576 bytes of a text.
+pub(crate) fn tokens_of(alloc: Global, text: &[u8]) -> Result<Items<Token>, LexError> {
+    lex(alloc, text.get(..1_048_576).unwrap_or(text))
 }
 
 /// The tokens of a text, or why it is refused.
-pub(crate) fn tokens_text(alloc: Global, text: &[u8]) -> Option<String> {
-    let mut out = String::new(alloc);
-    match lex(alloc, text.get(..1_048_576).unwrap_or(text)) {
-        Ok(tokens) => show_tokens(&mut out, tokens.as_slice()).ok()?,
-        Err(fault) => show_fault(&mut out, fault).ok()?,
+pub(crate) fn show_text(out: &mut Told, alloc: Global, text: &[u8]) {
+    match tokens_of(alloc, text) {
+        Ok(tokens) => show_tokens(out, tokens.as_slice()),
+        Err(fault) => show_fault(out, fault),
     }
-    Some(out)
 }
 
 /// How many tokens a text has.
-pub(crate) fn length_text(alloc: Global, text: &[u8]) -> Option<String> {
-    let tokens = lex(alloc, text.get(..1_048_576).unwrap_or(text)).ok()?;
-    format!(in alloc; "{} tokens", tokens.len()).ok()
+pub(crate) fn show_length(out: &mut Told, alloc: Global, text: &[u8]) {
+    match tokens_of(alloc, text) {
+        Ok(tokens) => {
+            out.number(tokens.len() as i128);
+            out.word(" tokens");
+        }
+        Err(_) => out.lose(),
+    }
 }
 
 pub(crate) fn laws() {

@@ -1,30 +1,12 @@
-//! Names, places and operators, printed.
-use std::alloc::AllocError;
-use std::fmt::Write;
+//! Names and operators.
+use crate::told::Told;
 use syntax_tree::{Name, Op, Sign};
 
-pub(crate) fn show_name(out: &mut String, name: &Name) -> Result<(), AllocError> {
-    for letter in name.as_slice() {
-        out.push(char::from(*letter))?;
-    }
-    Ok(())
-}
-
 /// A word, a name and its place.
-pub(crate) fn show_named(
-    out: &mut String,
-    word: &str,
-    name: &Name,
-    at: u32,
-) -> Result<(), AllocError> {
-    write!(out, "{word} ")?;
-    show_name(out, name)?;
-    write!(out, "@{at}")
-}
-
-/// A word and a place.
-pub(crate) fn show_place(out: &mut String, word: &str, at: u32) -> Result<(), AllocError> {
-    write!(out, "{word} {at}")
+pub(crate) fn show_named(out: &mut Told, word: &str, name: &Name, at: u32) {
+    out.word(word);
+    out.letters(name.as_slice());
+    out.place("@", at);
 }
 
 pub(crate) fn op_text(op: Op) -> &'static str {
