@@ -13,7 +13,7 @@ use Rattle.c_parser.specs.Lines.{Local, Declared, Simple, Init, Line, Block, Emp
 use Rattle.c_parser.specs.Spots.{Spot, mark, keyword}
 use Rattle.c_parser.specs.Statements.{begins_with_keyword, block, block_by, condition, do_by, entries, entry, for_by, for_condition, for_step, if_by, init, keyword_at, keyword_by, keyword_or, line_in, line_read, lines_left, local, one_entry, otherwise, past_keyword, return_by, return_value, single_by, stands_open, while_by}
 use Rattle.c_parser.proofs.FirstTokens.{both}
-use Rattle.c_parser.proofs.Found.{deeper-level, ok_one, past-mark}
+use Rattle.c_parser.proofs.Derivations.{deeper-level, ok_one, past-mark}
 use Rattle.c_parser.proofs.Lines.{line_at}
 use Rattle.c_parser.proofs.Repeats.{by_choice, repeat-keeps}
 use Rattle.c_parser.proofs.SoundLines.{begins_at, begins_at_keyword, cond_found, condition_found, init_found, keyword_at-keyword, local_found, past_keyword-keyword, simple_line_found, step_found, steps, value_found}

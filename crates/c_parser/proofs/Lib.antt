@@ -2,7 +2,7 @@
 -- once, and how many operators a tree has.
 pub mod Readings
 pub mod Refusals
-pub mod Lexed
+pub mod TokenForms
 pub mod FewOperators
 -- Texts: what is read is derived, and what is derived is read.
 pub mod SoundTexts
@@ -17,9 +17,9 @@ pub mod LineLoops
 pub mod Lines
 pub mod Parts
 -- The same of expressions.
-pub mod Sound
+pub mod Soundness
 pub mod Complete
-pub mod Found
+pub mod Derivations
 pub mod FirstTokens
 pub mod Loops
 pub mod Equations

@@ -17,7 +17,7 @@ use Rattle.c_parser.specs.Spots.{Spot, end, ends_once, is_end, spots_of}
 use Rattle.c_parser.specs.Texts.{at_end, goes_on, items_left, one_declaration, text}
 use Rattle.c_parser.proofs.CompleteTexts.{text_reads}
 use Rattle.c_parser.proofs.FirstTokens.{both}
-use Rattle.c_parser.proofs.Found.{ok_one}
+use Rattle.c_parser.proofs.Derivations.{ok_one}
 use Rattle.c_parser.proofs.Repeats.{repeat-ends}
 use Rattle.c_parser.proofs.SoundTexts.{text_found}
 

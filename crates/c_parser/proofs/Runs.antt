@@ -11,7 +11,7 @@ use Rattle.c_parser.specs.Repeat.{go_on, repeat}
 use Rattle.c_parser.specs.Spots.{Spot, ends_once, is_end, mark}
 use Rattle.c_parser.proofs.CompleteLines.{bind_ok}
 use Rattle.c_parser.proofs.FirstTokens.{both}
-use Rattle.c_parser.proofs.Found.{is_mark-kind}
+use Rattle.c_parser.proofs.Derivations.{is_mark-kind}
 use Rattle.c_parser.proofs.Repeats.{chosen, left_out, repeat-done, repeat-more, repeat-once}
 
 -- a limit that is larger by so much

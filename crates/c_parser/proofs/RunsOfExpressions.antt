@@ -20,10 +20,10 @@ use Rattle.c_parser.specs.Spots.{Spot, ends_once, is_end, mark, number}
 use Rattle.c_parser.proofs.Complete.{EndsAt, call_reads, expression_reads, operand_reads}
 use Rattle.c_parser.proofs.CompleteLines.{bind_ok}
 use Rattle.c_parser.proofs.Equations.{joined-none, joined-suc, operand_at}
-use Rattle.c_parser.proofs.Found.{begins_with-mark, ok_one, one_less-rest, op_at-mark}
+use Rattle.c_parser.proofs.Derivations.{begins_with-mark, ok_one, one_less-rest, op_at-mark}
 use Rattle.c_parser.proofs.Repeats.{chosen, left_out}
 use Rattle.c_parser.proofs.Runs.{Finished, Behaves, Run, Shape, bind_err, run-chooses, run-deep, nothing-behaves, run-same, loop-run, loop-short, behaves-map, mark-is, mark-no_end, run-past, limit, limit-sum, run-refuses, behaves-same, run-skips, run-stays, behaves-then, run-then}
-use Rattle.c_parser.proofs.Sound.{expression_found}
+use Rattle.c_parser.proofs.Soundness.{expression_found}
 use Rattle.c_parser.proofs.SoundLines.{steps}
 
 -- ---- values and what is left behind them

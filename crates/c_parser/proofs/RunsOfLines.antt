@@ -19,7 +19,7 @@ use Rattle.c_parser.specs.Lines.{Line, Block, Empty, If, While, DoWhile, For, In
 use Rattle.c_parser.specs.Spots.{Spot, ends_once, mark, keyword}
 use Rattle.c_parser.specs.Statements.{begins_with_keyword, block, condition, entries, entry, for_condition, for_step, init, is_keyword, line_read, lines_left, local, one_entry, otherwise, past_keyword, return_value, simple_line, stands_open}
 use Rattle.c_parser.proofs.CompleteLines.{line-begins, line_reads}
-use Rattle.c_parser.proofs.Found.{begins_with-mark, ok_one}
+use Rattle.c_parser.proofs.Derivations.{begins_with-mark, ok_one}
 use Rattle.c_parser.proofs.FoundLines.{lines_found}
 use Rattle.c_parser.proofs.LineLoops.{line-block, line-empty, line-other}
 use Rattle.c_parser.proofs.Repeats.{by_choice, left_out}

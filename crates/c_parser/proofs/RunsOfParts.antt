@@ -19,7 +19,7 @@ use Rattle.c_parser.specs.Lines as grammar
 use Rattle.c_parser.specs.Lines.{Line, Block, Empty, If, While, DoWhile, For, InitSimple, NoLines}
 use Rattle.c_parser.specs.Spots.{Spot, ends_once, is_end, mark, keyword, word}
 use Rattle.c_parser.specs.Statements.{Word, call_statement, assignment_line, behind_name, begins_with_keyword, comma_stands, compound_at, compound_in, compound_or, condition, count_at, count_in, increment, counted_or, compound_assignment, for_condition, for_step, init, initialisation, is_keyword, lines_left, local, one_variable, past_keyword, return_value, simple, simple_line, variable, variables, word_at}
-use Rattle.c_parser.proofs.Found.{begins_with-mark, ok_one}
+use Rattle.c_parser.proofs.Derivations.{begins_with-mark, ok_one}
 use Rattle.c_parser.proofs.Repeats.{chosen, left_out}
 use Rattle.c_parser.proofs.Runs.{Behaves, Run, Shape, bind_err, run-chooses, nothing-behaves, run-same, run-looser, loop-run, loop-short, behaves-map, run-map, mark-no_end, behaves-next, mark-behaves, limit, run-refuses, run-skips, run-stays}
 use Rattle.c_parser.proofs.RunsOfExpressions.{StartsWith, Stop, by_stop, call-run, expr_shape, nought, pair_shape, rest_at, round-stops, semi-stops, smaller-run, value_shape, whole-run}

@@ -18,7 +18,7 @@ use Rattle.c_parser.specs.Statements.{Word, begins_with_keyword, block, is_keywo
 use Rattle.c_parser.specs.Texts.{Head, Signature, Slots, at_end, behind_name, behind_signature, behind_type, behind_word, body, body_or, comma_stands, constant, declaration, globals, goes_on, initial, items_left, may_have_body, more_slots, name_at, negative_at, next_shared, no_slots, number_at, one_declaration, one_shared, one_slot, procedure, global_item, shared_list, signature, signature_of, slot, slot_list, slots_go_on, slots_left, text, typed_declaration}
 use Rattle.c_parser.proofs.CompleteLines.{bind_ok, entries_read}
 use Rattle.c_parser.proofs.CompleteTexts.{declaration-begins}
-use Rattle.c_parser.proofs.Found.{begins_with-mark, ok_one}
+use Rattle.c_parser.proofs.Derivations.{begins_with-mark, ok_one}
 use Rattle.c_parser.proofs.Repeats.{left_out}
 use Rattle.c_parser.proofs.Runs.{Behaves, Run, Shape, bind_err, run-chooses, run-deep, nothing-behaves, run-looser, loop-run, loop-short, behaves-map, run-map, mark-no_end, behaves-next, mark-behaves, limit, run-refuses, run-skips, run-stays}
 use Rattle.c_parser.proofs.RunsOfExpressions.{StartsWith, Stop, by_stop, pair_shape, round-stops}

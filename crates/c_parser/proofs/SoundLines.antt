@@ -25,9 +25,9 @@ use Rattle.c_parser.specs.Operators.{Compound, PlusEqual, MinusEqual, StarEqual,
 use Rattle.c_parser.specs.Spots.{Spot, mark, keyword, word}
 use Rattle.c_parser.specs.Statements.{Word, call_statement, assignment_line, begins_with_keyword, behind_name, comma_stands, compound_at, compound_in, compound_of, compound_or, condition, count_at, count_in, count_of, increment, increment_before, counted_or, compound_assignment, for_condition, for_step, init, initialisation, is_keyword, keyword_at, keyword_in, lines_left, local, one_variable, past_keyword, return_value, simple, simple_by, simple_line, variable, variables, word_at, word_by}
 use Rattle.c_parser.proofs.FirstTokens.{both}
-use Rattle.c_parser.proofs.Found.{is_mark-kind, ok_one, past-mark}
+use Rattle.c_parser.proofs.Derivations.{is_mark-kind, ok_one, past-mark}
 use Rattle.c_parser.proofs.Repeats.{by_choice, repeat-keeps}
-use Rattle.c_parser.proofs.Sound.{call_found, expression_found, operands_found}
+use Rattle.c_parser.proofs.Soundness.{call_found, expression_found, operands_found}
 
 -- the steps to a value
 pub steps : {A B E : Type 0} (r : Result A E) (f : A → Result B E) (y : B) → r >>= f ≡ Ok y → (x : A) × (r ≡ Ok x) × (f x ≡ Ok y)

@@ -19,7 +19,7 @@ use Rattle.c_parser.specs.Statements.{Word, begins_with_keyword, block, line_rea
 use Rattle.c_parser.specs.Texts.{Head, Signature, Slots, behind_name, behind_type, body, body_or, comma_stands, constant, declaration, globals, goes_on, initial, items_left, may_have_body, more_slots, name_at, negative_at, next_shared, no_slots, number_at, number_by, one_declaration, one_shared, one_slot, opposite, procedure, global_item, shared_list, signature, signature_of, slot, slot_list, slots_go_on, slots_left, text, typed_declaration}
 use Rattle.c_parser.proofs.CompleteTexts.{count_parameters, head_of}
 use Rattle.c_parser.proofs.FirstTokens.{both}
-use Rattle.c_parser.proofs.Found.{deeper-level, ok_one, past-mark}
+use Rattle.c_parser.proofs.Derivations.{deeper-level, ok_one, past-mark}
 use Rattle.c_parser.proofs.FoundLines.{block_found, lines_found}
 use Rattle.c_parser.proofs.Repeats.{by_choice, repeat-keeps}
 use Rattle.c_parser.proofs.SoundLines.{begins_at, begins_at_keyword, past_keyword-keyword, steps, word_at-word}

@@ -26,10 +26,10 @@ use Rattle.polyhedra.specs.Laws.{HaveCanonicalRows, IsBetween, IsSmall}
 use Rattle.polyhedra.specs.Settle.{settled_formula, settled_cases}
 use Rattle.polyhedra.specs.Squash.{fitted_formula}
 use Rattle.polyhedra.specs.Vocabulary.{Vocabulary}
-use Rattle.polyhedra.proofs.Fitted.{fitted-covers, fitted-small}
-use Rattle.polyhedra.proofs.Settled.{settled-covers, settled_cases-fit}
+use Rattle.polyhedra.proofs.FitLaws.{fitted-covers, fitted-small}
+use Rattle.polyhedra.proofs.SettleLaws.{settled-covers, settled_cases-fit}
 use Rattle.recurrence.specs.Law.{IsStarred}
-use Rattle.recurrence.proofs.Starred.{always_both}
+use Rattle.recurrence.proofs.StarLaws.{always_both}
 use Rattle.phases.specs.Law.{IsPhasable, IsPhased}
 use Rattle.phases.specs.Repetition.{repetition}
 use Rattle.phases.proofs.Repetitions.{repetitions-fit}

@@ -20,7 +20,7 @@ use Rattle.polyhedra.specs.Laws.{HaveCanonicalRows}
 use Rattle.polyhedra.specs.Settle.{settled_formula}
 use Rattle.polyhedra.specs.Squash.{fitted_formula}
 use Rattle.polyhedra.specs.Vocabulary.{Vocabulary, IsVocabulary}
-use Rattle.recurrence.proofs.Starred.{always_both}
+use Rattle.recurrence.proofs.StarLaws.{always_both}
 use Rattle.checked_tree.specs.Graph.{Graph, nothing, leaf_at, link_at, end_vocabulary, start_vocabulary, vocabulary_at}
 use Rattle.checked_tree.specs.Evaluation.{Made, cell_of, cells_of, evaluated_cells, evaluation, formula_at, join_formula, leaf_formula, own, paths_of, sequence_formula, settled_and_fitted, with_entry, with_made}
 use Rattle.checked_tree.specs.Law.{AreCanonicalMade, AreFittedCells, CellsHold, HaveCanonicalLeaves, HoldsAlong, HoldsCell, IsEvaluated, IsRun}
@@ -29,7 +29,7 @@ use Rattle.checked_tree.specs.UnderWay.{IsKnown}
 use Rattle.checked_tree.proofs.Between.{sequence-canonical}
 use Rattle.checked_tree.proofs.Cells.{cells-fit, cells-found}
 use Rattle.checked_tree.proofs.Entries.{known-more, latest-has, paths-entry}
-use Rattle.checked_tree.proofs.Swept.{operations-ready}
+use Rattle.checked_tree.proofs.EliminationSteps.{operations-ready}
 use Rattle.checked_tree.proofs.Whole.{AllAlong, AllKnown, Keeps, cell-holds, link-within, own-along, own-known}
 use Rattle.recurrence.proofs.CanonicalOrder.{IsCanonicalCase, IsCanonicalFormula, IsCanonicalRow, settled-canonical}
 use Rattle.recurrence.proofs.CanonicalStars.{directions-canonical, fitted-canonical, joined-canonical}

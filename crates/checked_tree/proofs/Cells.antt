@@ -7,7 +7,7 @@ use Rattle.path_expr.specs.declared.cell.Cell.{Cell}
 use Rattle.transition_formula.specs.Transition.{Transition}
 use Rattle.posing.specs.Posing.{Done, Always}
 use Rattle.posing.proofs.Paths.{always_bind}
-use Rattle.polyhedra.proofs.Tabled.{first_got}
+use Rattle.polyhedra.proofs.ChangeTables.{first_got}
 use Rattle.checked_tree.specs.Graph.{Graph, vocabulary_at}
 use Rattle.checked_tree.specs.Evaluation.{Made, cell_at, cells_of, evaluation, evaluated_cells}
 use Rattle.checked_tree.specs.Law.{IsEvaluated, FitsCell, AreFittedCells}

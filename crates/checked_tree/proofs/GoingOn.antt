@@ -12,7 +12,7 @@ use Rattle.checked_tree.specs.Ready.{AreReady}
 use Rattle.checked_tree.specs.UnderWay.{IsKnown, IsUnderWay, PlansGoOn, PlansBegin}
 use Rattle.checked_tree.proofs.Entries.{paths-entry, known-more}
 use Rattle.checked_tree.proofs.SameByNumber.{same-formula, agrees-more, agrees-first}
-use Rattle.checked_tree.proofs.Swept.{operations-ready}
+use Rattle.checked_tree.proofs.EliminationSteps.{operations-ready}
 use Rattle.checked_tree.proofs.Whole.{own-known}
 
 pub plans-go-on : PlansGoOn

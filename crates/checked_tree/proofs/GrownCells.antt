@@ -27,10 +27,10 @@ use Rattle.checked_tree.specs.Ready.{IsAmong}
 use Rattle.checked_tree.specs.Tree.{Tree, own_of, formula_of, path_of, tree_of}
 use Rattle.checked_tree.specs.Grown.{cell_map, trees_of, formulas_of, IsTreeAt, StandsAt, AreGrown}
 use Rattle.checked_tree.specs.Growing.{growth_at, grown_tree, formula_in, entries_in, no_tree, tree_cell, IsGrownAs, IsGrownCell, AreGrownCells, AreGrowing}
-use Rattle.checked_tree.proofs.Growing.{entry_at-growth}
+use Rattle.checked_tree.proofs.Growths.{entry_at-growth}
 use Rattle.checked_tree.proofs.SameByNumber.{path-within}
 use Rattle.checked_tree.proofs.Stands.{Stands}
-use Rattle.checked_tree.proofs.Swept.{path_at-stands}
+use Rattle.checked_tree.proofs.EliminationSteps.{path_at-stands}
 use Rattle.checked_tree.proofs.Trees.{trees-fit, trees-hold, runs-are-related}
 
 same-some : {X : Type 0} (x y : X) → Some x ≡ Some y → x ≡ y

@@ -12,12 +12,12 @@ pub mod Along
 pub mod Entries
 -- ---- the evaluation of a plan
 pub mod GoingOn
-pub mod Growing
+pub mod Growths
 pub mod GrownCells
-pub mod Kept
+pub mod LogGains
 pub mod SameByNumber
-pub mod Numbered
+pub mod NumberedKeys
 pub mod ReadyPlans
 -- ---- each operation is ready where it stands
-pub mod Swept
+pub mod EliminationSteps
 pub mod Stands

@@ -18,9 +18,9 @@ use Rattle.checked_tree.specs.Plan.{IsPlanned}
 use Rattle.checked_tree.specs.ByNumber.{evaluated_cells_by}
 use Rattle.checked_tree.specs.Grown.{trees_of, AreGrown}
 use Rattle.checked_tree.specs.Growing.{bare_growth, tree_cell, AreGrowing, AreGrownCells, IsPlantable}
-use Rattle.checked_tree.proofs.Growing.{growing-first}
+use Rattle.checked_tree.proofs.Growths.{growing-first}
 use Rattle.checked_tree.proofs.GrownCells.{all-grown, cells-grown, planned-same}
-use Rattle.checked_tree.proofs.Numbered.{key_eq}
+use Rattle.checked_tree.proofs.NumberedKeys.{key_eq}
 use Rattle.checked_tree.proofs.SameByNumber.{distinct_places, plans-evaluate}
 
 pub record IsReadyPlan (links : List Link) (leaves : List Transition) (nodes shared : List Vocabulary) (source : ℕ) (keys : List Key) (order : List ℕ) (cells : List (Cell ℕ)) : Type 0 where

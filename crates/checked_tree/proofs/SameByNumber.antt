@@ -26,9 +26,9 @@ use Rattle.checked_tree.specs.Plan.{IsPathOf, ArePathsOf, AreDistinct, IsCellOf,
 use Rattle.checked_tree.specs.ByNumber.{Entry, Entries, blank, entry_at, key_at, formula_by, entry_of, with_number, entries_of, cell_by, evaluated_cells_by, PlansEvaluate}
 use Rattle.checked_tree.specs.UnderWay.{entry_for, Agrees}
 use Rattle.checked_tree.proofs.Entries.{paths-entry, known-more}
-use Rattle.checked_tree.proofs.Numbered.{key_eq}
+use Rattle.checked_tree.proofs.NumberedKeys.{key_eq}
 use Rattle.checked_tree.proofs.Stands.{Stands}
-use Rattle.checked_tree.proofs.Swept.{operations-ready, path_at-stands}
+use Rattle.checked_tree.proofs.EliminationSteps.{operations-ready, path_at-stands}
 
 -- ---- one number for a path, and one path for a number
 

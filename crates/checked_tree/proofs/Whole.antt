@@ -20,7 +20,7 @@ use Rattle.posing.proofs.Paths.{always_bind, always_weaker, always_each}
 use Rattle.polyhedra.specs.Laws.{HaveCanonicalRows}
 use Rattle.polyhedra.specs.Squash.{fitted_formula}
 use Rattle.phases.specs.Repetition.{repetition}
-use Rattle.recurrence.proofs.Starred.{always_both}
+use Rattle.recurrence.proofs.StarLaws.{always_both}
 use Rattle.phases.proofs.Repetitions.{repetitions-hold}
 use Rattle.checked_tree.specs.Graph.{Graph, nothing, link_at, leaf_at, vocabulary_at, start_of, end_of, start_vocabulary, end_vocabulary}
 use Rattle.checked_tree.specs.Evaluation.{Made, formula_at, settled_and_fitted, leaf_formula, sequence_formula, join_formula, own, with_entry, with_made, evaluation, cell_of, cell_at, paths_of}
@@ -31,7 +31,7 @@ use Rattle.checked_tree.proofs.Along.{edge-along, sequence-along, join-along, st
 use Rattle.checked_tree.proofs.Between.{fitted-between, fitted-covered, settled_and_fitted-between, settled_and_fitted-covers, sequence-from, sequence-solvable, sequence-canonical, joined-from, phasable, repetition-between}
 use Rattle.checked_tree.proofs.Entries.{paths-entry, latest-has, known-more}
 use Rattle.checked_tree.proofs.Stands.{Stands}
-use Rattle.checked_tree.proofs.Swept.{operations-ready, path_at-stands}
+use Rattle.checked_tree.proofs.EliminationSteps.{operations-ready, path_at-stands}
 
 -- what follows from a premise at every end holds at every end if the premise does
 always_if : {A C : Type 0} (P : A → Type 0) (p : Posing A) → (C → Always P p) → Always (λ x. C → P x) p

@@ -38,7 +38,7 @@ use Rattle.flow_graph.proofs.Theorems.{calls_are_edges}
 use Rattle.transition_formula.specs.Meaning.{Holds, numbers}
 use Rattle.transition_formula.specs.Transition.{Transition}
 use Rattle.transition_formula.proofs.Meanings.{identity-holds}
-use Rattle.leaf_cases.proofs.Made.{constant-value}
+use Rattle.leaf_cases.proofs.StepCases.{constant-value}
 use Rattle.vocabularies.specs.Ends.{entry_of, entry_width, start_of}
 use Rattle.posing.specs.Posing.{Always, Done}
 use Rattle.posing.proofs.Paths.{always_any, always_bind}
@@ -59,7 +59,7 @@ use Rattle.context.proofs.CallLeaves.{leaf-holds}
 use Rattle.context.proofs.EntryGraph.{entry-columns, entry-graph-evaluated, few-nodes, no_vocabulary, node-found, none-columns}
 use Rattle.context.proofs.AssertionPlaces.{proc-fit}
 use Rattle.context.proofs.PlaceColumns.{got}
-use Rattle.context.proofs.Sound.{stands-top}
+use Rattle.context.proofs.Soundness.{stands-top}
 use Rattle.context.proofs.Ways.{call-place, found-mapped, way-found, ways-found}
 use Rattle.context.proofs.WaysFit.{IsCalling, callings-fit, few-ways, main-is, ways-fit, widths-fit}
 

@@ -8,7 +8,7 @@ pub mod Ways
 pub mod Loops
 -- ---- where an assertion stands
 pub mod AssertionPlaces
-pub mod Sound
+pub mod Soundness
 pub mod PlaceColumns
 pub mod CheckPlaces
 -- ---- the way to an assertion
@@ -18,4 +18,4 @@ pub mod Few
 -- ---- the verdicts on cases
 pub mod GoodAnswers
 pub mod SecondQuestions
-pub mod Chosen
+pub mod CaseVerdicts

@@ -30,7 +30,7 @@ pub(crate) fn second_verdict<O: Oracle>(
         return Ok(verdict);
     }
     let answer = answer_on(alloc, rows, oracle, log)?;
-    Ok(proved_by(answer, verdict))
+    Ok(verdict_with_products(answer, verdict))
 }
 
 /// The rows that are asked about; none where the verdict is proved.
@@ -71,7 +71,7 @@ fn answer_on<O: Oracle>(
 }
 
 /// Proved where the answer is Yes; else the verdict stands.
-fn proved_by(answer: Answer, verdict: Verdict) -> Verdict
+fn verdict_with_products(answer: Answer, verdict: Verdict) -> Verdict
     ensures { result ≡ proved_if (is_yes answer) verdict }
 {
     match answer {

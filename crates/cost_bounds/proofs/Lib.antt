@@ -1,10 +1,10 @@
 -- ---- code: lists without one element
 mod Divisors
 mod Lists
-mod Asked
+mod QuestionRows
 -- ---- laws
 mod Bounds
 mod OverEntry
 mod Wide
-mod Grown
-mod Sound
+mod RayGrowth
+mod Soundness

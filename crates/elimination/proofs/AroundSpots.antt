@@ -38,7 +38,7 @@ use Rattle.farkas_check.proofs.PointValues.{Stands-lowest}
 use Rattle.farkas_check.proofs.Spreads.{AreAmong, is_among, itself}
 use Rattle.farkas_check.proofs.Walks.{IsOrdered}
 use Rattle.simplex.proofs.SpotLines.{value_at-sum}
-use Rattle.simplex.proofs.Standing.{numbered, within_back}
+use Rattle.simplex.proofs.RowCorners.{numbered, within_back}
 use Rattle.simplex.proofs.Tame.{few_terms, ratio_each, numbered_small, IsSmallPoly, value-fits}
 use Rattle.simplex.proofs.Widths.{IsRatio}
 use Rattle.elimination.specs.declared.inner.Inner.{Inner}

@@ -17,7 +17,7 @@ use Rattle.elimination.specs.Echelon.{number_in, IsSpanned, Zero, Own, Sum, IsEc
 use Rattle.elimination.specs.Spaces.{coordinate, vector_dot, IsZero, IsIn, IsOver, IsRowIn, IsSpanOf, HasWidth, IsRatioOf, IsBasisOf}
 use Rattle.elimination.proofs.Extensions.{one_some, zero_of_product, cross_self, IsProportional, proportional}
 use Rattle.elimination.proofs.Magnitudes.{past_third, one_positive, positive_each}
-use Rattle.elimination.proofs.Spanning.{row_in, zeros}
+use Rattle.elimination.proofs.RowSpans.{row_in, zeros}
 
 -- ---- three ratios, cut to a width
 

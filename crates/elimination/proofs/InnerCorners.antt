@@ -23,7 +23,7 @@ use Rattle.simplex.proofs.CalmPoints.{tableau_is, row-inside, lines-none, row_ta
 use Rattle.simplex.proofs.Moves.{shift, shift_chosen}
 use Rattle.simplex.proofs.Numerators.{IsRatioBelow}
 use Rattle.simplex.proofs.SpotPoints.{corner_each}
-use Rattle.simplex.proofs.Standing.{find_choice}
+use Rattle.simplex.proofs.RowCorners.{find_choice}
 use Rattle.elimination.specs.Descents.{AreRatiosBelow}
 use Rattle.elimination.proofs.Frames.{has_units, writes_of}
 use Rattle.elimination.proofs.Multiples.{HasColumn, column_of_tableau}

@@ -29,7 +29,7 @@ use Rattle.simplex.specs.declared.supremum.Supremum.{Supremum}
 use Rattle.simplex.specs.declared.supremum.Supremum.TheVariants as supremum
 use Rattle.simplex.proofs.CalmGoals.{goal_small}
 use Rattle.simplex.proofs.Emptiness.{no_point_of}
-use Rattle.simplex.proofs.Framing.{kinds-length}
+use Rattle.simplex.proofs.RowTableaux.{kinds-length}
 use Rattle.simplex.proofs.Objectives.{more_rows}
 use Rattle.simplex.proofs.Tame.{fits_twice}
 use Rattle.elimination.specs.Descents.{AreSmallLines, IsBelow, HasNoDescent, line_poly, line_row, line_goal, point_of, IsLineCorner}

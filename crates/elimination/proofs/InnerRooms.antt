@@ -27,7 +27,7 @@ use Rattle.farkas_check.specs.Ratios.{whole}
 use Rattle.farkas_check.specs.Sizes.{HasNumbersUpTo}
 use Rattle.farkas_check.proofs.PointValues.{Stands-whole}
 use Rattle.farkas_check.proofs.Spreads.{AreAmong, spread, terms_at-spread, rows_among}
-use Rattle.simplex.proofs.Standing.{all_at, each_row, within_back, numbered, spread-numbered}
+use Rattle.simplex.proofs.RowCorners.{all_at, each_row, within_back, numbered, spread-numbered}
 use Rattle.elimination.specs.declared.inner.Inner.{Inner}
 use Rattle.elimination.specs.Descents.{AreSmallLines, IsBelow, IsDescent, HasNoDescent, HasColumns, is_at_most, is_open_with, is_open, line_unless, over_line, deep_lines}
 use Rattle.elimination.specs.Narrow.{IsSmallCase}

@@ -22,7 +22,7 @@ mod Pigeons
 -- of a basis; there is one.
 pub mod Magnitudes
 pub mod Extensions
-pub mod Spanning
+pub mod RowSpans
 pub mod Bases
 pub mod Uniqueness
 -- Null vectors of regular equations: one is small, and all are proportional; the equations as rows
@@ -51,9 +51,9 @@ pub mod WeightSizes
 -- stage with one unknown more.
 pub mod Regular
 pub mod Sides
-pub mod Chosen
+pub mod ChosenNumbers
 pub mod Few
-pub mod Reducing
+pub mod ReducedRelations
 pub mod OwnRelations
 pub mod Steps
 -- Inner points: numbers on which each of a few small lines is negative, and rows as such lines.

@@ -10,10 +10,10 @@ use Rattle.whole_numbers.proofs.Ring.{ring, one-*ℤ, *ℤ_assoc}
 use Rattle.farkas_check.specs.Frames.{sum_below}
 use Rattle.simplex.specs.Choices.{count_to}
 use Rattle.simplex.specs.Frames.{is_chosen}
-use Rattle.simplex.proofs.Choosing.{is_chosen-at, chosen_by, count_to-more, count_to-chosen}
+use Rattle.simplex.proofs.ColumnChoices.{is_chosen-at, chosen_by, count_to-more, count_to-chosen}
 use Rattle.simplex.proofs.Corners.{none, single}
 use Rattle.simplex.proofs.Exchanges.{times_zero, zero_factor}
-use Rattle.simplex.proofs.Standing.{sum_below-plus}
+use Rattle.simplex.proofs.RowCorners.{sum_below-plus}
 use Rattle.simplex.proofs.Sums.{sum_below-same}
 use Rattle.elimination.proofs.Counts.{count_to-plus, count_to-not, count_to-all}
 use Rattle.elimination.proofs.DoubleSums.{sum_below-order, sum_below-times, sum_of_pair, sum_of_products-small}

@@ -23,10 +23,10 @@ use Rattle.elimination.specs.declared.kernel.ProbeStage.{ProbeStage}
 use Rattle.elimination.specs.declared.probes.Probe.{Probe}
 use Rattle.elimination.specs.Probes.{side_at, difference_at, probe_at, IsRegular, IsNullLine, IsNothing, IsDual, IsKernel}
 use Rattle.elimination.specs.Stages.{IsSmallKernel, IsRisingFrom, unknowns_from, free_from, probe_number, spread, chosen_value, VanishesAtAll, IsApart, AreChosenNumbers, IsOwnRelation, IsStage, AreDuals}
-use Rattle.elimination.proofs.Chosen.{AreApart, chosen-sum, spread-length, spread-entry, spread-own, spread-elsewhere, spread-small, spread-primitive}
+use Rattle.elimination.proofs.ChosenNumbers.{AreApart, chosen-sum, spread-length, spread-entry, spread-own, spread-elsewhere, spread-small, spread-primitive}
 use Rattle.elimination.proofs.Few.{each_at, each_from, rising-from, rising-less, free-few}
 use Rattle.elimination.proofs.Magnitudes.{product_up_to}
-use Rattle.elimination.proofs.Reducing.{pivot-at, reduced-more, free-more, free-less, free-apart}
+use Rattle.elimination.proofs.ReducedRelations.{pivot-at, reduced-more, free-more, free-less, free-apart}
 use Rattle.elimination.proofs.Regular.{regular-none, regular-more}
 use Rattle.elimination.proofs.Sides.{side_at-past, difference_sum}
 

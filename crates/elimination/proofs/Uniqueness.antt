@@ -17,7 +17,7 @@ use Rattle.farkas_check.proofs.Lowest.{IsLowest-whole}
 use Rattle.simplex.proofs.Exchanges.{times_zero}
 use Rattle.elimination.specs.Echelon.{number_in, width, pivot_in, IsSpanned, Zero, Own, Sum, HasUnitPivot, StandsBefore, IsEchelon, OneReducedBasis}
 use Rattle.elimination.proofs.Extensions.{one_some, zero_of_product}
-use Rattle.elimination.proofs.Spanning.{multiples}
+use Rattle.elimination.proofs.RowSpans.{multiples}
 
 -- ---- ratios in lowest terms
 

@@ -15,7 +15,9 @@ use crate::around::{spots_around, weights};
 use crate::inner::Inner;
 use crate::kernel::Kernel;
 use crate::probes::Probe;
-use farkas_check::{Answer, Change, Ratio, Relation, Spot, Stratum, Tie, positivity};
+use farkas_check::{
+    Answer, Change, Ratio, Relation, Spot, Stratum, Tie, entry, positivity, term_count,
+};
 use items::Items;
 use linear_terms::{Mono, Poly, Row};
 use std::alloc::{AllocError, Global};
@@ -129,27 +131,6 @@ fn tied_relation(
         c: entry(numbers, terms + lower.len()),
         ties,
     })
-}
-
-/// How many terms each case has; none without cases.
-fn term_count(cases: &[Change]) -> usize
-    ensures { result ≡ term_count cases.now }
-{
-    match cases {
-        [case, ..] => case.terms.len(),
-        [] => 0,
-    }
-}
-
-/// The number at a place; 0 past the last.
-fn entry(numbers: &[i128], place: usize) -> i128
-    ensures { result ≡ entry numbers.now place }
-{
-    if place < numbers.len() {
-        numbers[place]
-    } else {
-        0
-    }
 }
 
 fn zero_ties(alloc: Global, cases: &[Change]) -> Result<Items<Tie>, AllocError>

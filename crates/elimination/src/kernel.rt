@@ -7,7 +7,7 @@ ghost use Rattle.elimination.specs.Stages.{HasSmallTerms, IsSmallKernel, AreLine
 
 use crate::null_vectors::null_vector;
 use crate::probes::{Probe, probe_value};
-use farkas_check::{Change, Stratum};
+use farkas_check::{Change, Stratum, unknown_count};
 use items::Items;
 use linear_terms::{Mono, Poly};
 use std::alloc::{AllocError, Global};
@@ -91,22 +91,6 @@ fn last_stage(
         stage = with_unknown(alloc, columns, cases, lower, count - 1 - taken, stage)?;
     }
     Ok(stage)
-}
-
-/// How many unknowns there are: one for each term and lower term, and one more.
-fn unknown_count(cases: &[Change], lower: &[Poly]) -> usize
-    ensures { result ≡ unknown_count cases.now lower.now }
-{
-    match cases {
-        [case, ..] => count_of(case.terms.as_slice(), lower),
-        [] => lower.len() + 1,
-    }
-}
-
-fn count_of(terms: &[Poly], lower: &[Poly]) -> usize
-    ensures { result ≡ length terms.now + length lower.now + 1 }
-{
-    terms.len() + lower.len() + 1
 }
 
 /// The unknown before those of a stage: where its own relation is one in each case, it is kept, and

@@ -28,4 +28,4 @@ pub use passing::{
 };
 pub use question::{Goal, Question};
 pub use ratio::{Ratio, common_multiple, exactness_of_ratios};
-pub use stratum::{Change, Relation, Spot, Stratum, Tie};
+pub use stratum::{Change, Relation, Spot, Stratum, Tie, entry, term_count, unknown_count};

@@ -1,1 +1,1 @@
-mod Founding
+mod CalmQuestions

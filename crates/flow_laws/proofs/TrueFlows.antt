@@ -31,7 +31,7 @@ use Rattle.leaf_cases.specs.Summaries.{AreMet, KnowsCallee}
 use Rattle.posing.specs.Posing.{Always, Done}
 use Rattle.posing.proofs.Paths.{always_any, always_bind, always_weaker}
 use Rattle.posing.proofs.Under.{passing-always}
-use Rattle.recurrence.proofs.Starred.{always_both}
+use Rattle.recurrence.proofs.StarLaws.{always_both}
 use Rattle.vocabularies.specs.Ends.{full_of}
 use Rattle.checked_tree.specs.Evaluation.{Made, cell_of, cells_of, evaluated_cells, evaluation}
 use Rattle.checked_tree.proofs.Cells.{cells-found, cells-one_each}

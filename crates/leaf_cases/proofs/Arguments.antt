@@ -33,7 +33,7 @@ use Rattle.leaf_cases.specs.Steps.{operand, value_at, cases_of_step, cases_by, w
 use Rattle.leaf_cases.proofs.Expressions.{ValueIs, expression-means}
 use Rattle.leaf_cases.proofs.Meant.{Means, means-as, means-together}
 use Rattle.leaf_cases.proofs.Ready.{sit, are_ready, width_of, columns_below-more}
-use Rattle.leaf_cases.proofs.Sitting.{Sits, sits-more, sits-both}
+use Rattle.leaf_cases.proofs.CaseColumns.{Sits, sits-more, sits-both}
 use Rattle.leaf_cases.proofs.Together.{Both}
 
 -- ---- how many posts

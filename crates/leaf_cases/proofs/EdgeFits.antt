@@ -20,7 +20,7 @@ use Rattle.leaf_cases.specs.Expression.{lists_of}
 use Rattle.leaf_cases.specs.Guard.{columns_of, with_posts}
 use Rattle.leaf_cases.specs.Steps.{operand}
 use Rattle.leaf_cases.proofs.Arguments.{arguments-sit, value-fits}
-use Rattle.leaf_cases.proofs.Sitting.{Sits, got-covered, column_passes}
+use Rattle.leaf_cases.proofs.CaseColumns.{Sits, got-covered, column_passes}
 
 -- ---- parts of lists
 

@@ -30,7 +30,7 @@ use Rattle.leaf_cases.proofs.Arguments.{arguments-mean, arguments-fit}
 use Rattle.leaf_cases.proofs.EdgeFits.{entering_fits, cut_fits}
 use Rattle.leaf_cases.proofs.Expressions.{expression-means}
 use Rattle.leaf_cases.proofs.Guards.{columns-read}
-use Rattle.leaf_cases.proofs.Stepped.{got}
+use Rattle.leaf_cases.proofs.StepClaims.{got}
 
 -- ---- cases with other posts
 

@@ -24,10 +24,10 @@ use Rattle.leaf_cases.specs.declared.step.Step.{Step}
 use Rattle.leaf_cases.specs.declared.step.Step.TheVariants.{Value, Divide, Test}
 use Rattle.leaf_cases.specs.Expression.{Lists, by, one_case, number_cases, of_number, of_test, sign_lists, calculation_lists, comparison_list, comparison, opposite, tests_of, operator_lists, lists_of}
 use Rattle.leaf_cases.specs.Listed.{Listed, together, either}
-use Rattle.leaf_cases.proofs.Made.{Stepped, Numbered, SomeGives, constant-value}
+use Rattle.leaf_cases.proofs.StepCases.{Stepped, Numbered, SomeGives, constant-value}
 use Rattle.leaf_cases.proofs.Meant.{Means, OneOf, Known, means-as, means-together, means-either, means-by, means-numbered, means-known}
 use Rattle.leaf_cases.proofs.Ready.{sit}
-use Rattle.leaf_cases.proofs.Stepped.{StepGives, first_of, second_of}
+use Rattle.leaf_cases.proofs.StepClaims.{StepGives, first_of, second_of}
 use Rattle.leaf_cases.proofs.Together.{Both}
 
 -- ---- the values of an expression

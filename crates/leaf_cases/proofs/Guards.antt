@@ -27,7 +27,7 @@ use Rattle.leaf_cases.specs.declared.expression.Sought.TheVariants as sought
 use Rattle.leaf_cases.specs.Listed.{AreFew}
 use Rattle.leaf_cases.proofs.Expressions.{expression-means}
 use Rattle.leaf_cases.proofs.Ready.{sit, found_few}
-use Rattle.leaf_cases.proofs.Sitting.{Sits}
+use Rattle.leaf_cases.proofs.CaseColumns.{Sits}
 
 unchanged-fits : (n : ℕ) (case : Case) → IsTrue (every_column_of (is_below n case.aux) case) → IsTrue (fits n n (with_posts (columns_of n) case))
 unchanged-fits n case h =

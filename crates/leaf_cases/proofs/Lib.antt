@@ -11,17 +11,17 @@ pub mod Graphs
 pub mod Guards
 pub mod Expressions
 pub mod Meant
-pub mod Made
-pub mod Stepped
+pub mod StepCases
+pub mod StepClaims
 pub mod StepsTell
 pub mod Together
 pub mod Quotients
 -- ---- how many cases and auxiliaries there are, and which columns they have
 pub mod Counts
 pub mod Ready
-pub mod Sitting
-pub mod Moved
+pub mod CaseColumns
+pub mod AuxiliaryMoves
 pub mod Shapes
-pub mod Stated
+pub mod StatedPolys
 -- ---- rows of edges are canonical
 pub mod CanonicalLeaves

@@ -11,8 +11,8 @@ use Rattle.leaf_cases.specs.declared.step.Step.{Step}
 use Rattle.leaf_cases.specs.Expression.{by, one_case, number_cases}
 use Rattle.leaf_cases.specs.Listed.{Listed, together, either}
 use Rattle.leaf_cases.specs.Steps.{losses_by_steps, with_number}
-use Rattle.leaf_cases.proofs.Made.{Stepped, Numbered, steps-hold, steps-held, numbered-hold, numbered-held}
-use Rattle.leaf_cases.proofs.Sitting.{Sits, sits-more, sits-both, sits-cases_by, sits-numbered}
+use Rattle.leaf_cases.proofs.StepCases.{Stepped, Numbered, steps-hold, steps-held, numbered-hold, numbered-held}
+use Rattle.leaf_cases.proofs.CaseColumns.{Sits, sits-more, sits-both, sits-cases_by, sits-numbered}
 use Rattle.leaf_cases.proofs.Together.{Both, both-hold, both-held}
 use Rattle.leaf_cases.specs.Listed as listed
 

@@ -28,7 +28,7 @@ use Rattle.leaf_cases.specs.Expression.{Lists, of_number, of_test, sign_lists, c
 use Rattle.leaf_cases.specs.Listed.{Listed, AreFew, AreReady, is_ready}
 use Rattle.leaf_cases.specs.Listed as listed
 use Rattle.leaf_cases.specs.Steps.{cases_by, with_number}
-use Rattle.leaf_cases.proofs.Sitting.{Sits, sits-more, sits-both, sits-cases_by, sits-numbered, column_passes}
+use Rattle.leaf_cases.proofs.CaseColumns.{Sits, sits-more, sits-both, sits-cases_by, sits-numbered, column_passes}
 
 -- ---- the cases of an expression
 

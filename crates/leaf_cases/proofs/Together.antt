@@ -20,7 +20,7 @@ use Rattle.transition_formula.proofs.Values.{rows-agree, posts-agree}
 use Rattle.syntax_tree.specs.Value.{State}
 use Rattle.leaf_cases.specs.Listed.{beside}
 use Rattle.leaf_cases.specs.Listed as listed
-use Rattle.leaf_cases.proofs.Sitting.{Sits}
+use Rattle.leaf_cases.proofs.CaseColumns.{Sits}
 
 -- ---- numbers for more auxiliaries
 

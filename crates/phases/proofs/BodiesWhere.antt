@@ -25,7 +25,7 @@ use Rattle.transition_formula.proofs.Values.{value-agrees}
 use Rattle.posing.specs.Posing.{Always}
 use Rattle.posing.proofs.Paths.{always_weaker}
 use Rattle.polyhedra.specs.Settle.{settled_formula}
-use Rattle.polyhedra.proofs.Settled.{settled-covers}
+use Rattle.polyhedra.proofs.SettleLaws.{settled-covers}
 use Rattle.phases.specs.Phases.{body_where, case_where, turns_where}
 use Rattle.phases.specs.Splits.{contrary, inequality}
 use Rattle.phases.specs.Words.{IsHalvable, IsOverEntries}

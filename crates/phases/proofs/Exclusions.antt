@@ -27,7 +27,7 @@ use Rattle.transition_formula.proofs.Ordering.{in_order-holds}
 use Rattle.posing.specs.Posing.{Done, ◌>>=◌, Always}
 use Rattle.posing.proofs.Paths.{always_bind, always_weaker}
 use Rattle.polyhedra.specs.Infeasibility.{assent}
-use Rattle.polyhedra.proofs.Settled.{Excluded, infeasible-excludes}
+use Rattle.polyhedra.proofs.SettleLaws.{Excluded, infeasible-excludes}
 use Rattle.phases.specs.Phases.{case_excludes, case_excludes_by, case_where, cases_exclude, left_excludes, rows_exclude}
 use Rattle.phases.specs.Splits.{inequality}
 use Rattle.phases.specs.Words.{AreExcludable, IsExcludable}

@@ -3,7 +3,7 @@ pub mod Whole
 -- those of repetitions by any rule
 pub mod Repetitions
 -- the halves of a split
-pub mod Halved
+pub mod SplitHalves
 -- turns of one half, and then of the other
 pub mod Chains
 -- no turn of the second half ends in the first

@@ -30,7 +30,7 @@ use Rattle.transition_formula.proofs.Carried.{passes, tidied-passes}
 use Rattle.transition_formula.proofs.Fitting.{below-true, true-below}
 use Rattle.transition_formula.proofs.Covered.{both, both_true, columns_from_test, test_from_columns}
 use Rattle.polyhedra.specs.Directions.{distinct, with_new}
-use Rattle.polyhedra.proofs.Directed.{each-distinct}
+use Rattle.polyhedra.proofs.DirectionShapes.{each-distinct}
 use Rattle.phases.specs.Limits.{most_splits}
 use Rattle.phases.specs.Splits.{all_splits, contrary, inequality, normal_polynomial, normal_polynomials, offers, polynomial_in, splits, splits_of}
 use Rattle.phases.specs.Words.{IsOverEntries, with_split, with_splits}

@@ -19,11 +19,11 @@ use Rattle.polyhedra.specs.Laws.{IsBetween, IsSmall}
 use Rattle.polyhedra.specs.Settle.{settled_formula, settled_cases}
 use Rattle.polyhedra.specs.Squash.{fitted_formula}
 use Rattle.polyhedra.specs.Vocabulary.{Vocabulary}
-use Rattle.polyhedra.proofs.Fitted.{fitted-covers, fitted-small}
-use Rattle.polyhedra.proofs.Settled.{settled-covers, settled_cases-fit}
+use Rattle.polyhedra.proofs.FitLaws.{fitted-covers, fitted-small}
+use Rattle.polyhedra.proofs.SettleLaws.{settled-covers, settled_cases-fit}
 use Rattle.recurrence.specs.Law.{IsStar}
 use Rattle.recurrence.specs.Star.{star_by, star_of, turns}
-use Rattle.recurrence.proofs.Starred.{always_both}
+use Rattle.recurrence.proofs.StarLaws.{always_both}
 use Rattle.recurrence.proofs.Whole.{star-fits, star-holds-of-chains}
 use Rattle.phases.specs.declared.halving.Halves.{Halves}
 use Rattle.phases.specs.Law.{IsPhasable, IsPhased, PhasesFit, PhasesHold}
@@ -35,7 +35,7 @@ use Rattle.phases.proofs.CanonicalForms.{formula-canonical, rows-canonical, sequ
 use Rattle.recurrence.proofs.CanonicalOrder.{IsCanonicalFormula, settled-canonical}
 use Rattle.recurrence.proofs.CanonicalStars.{directions-canonical, fitted-canonical, star-canonical}
 use Rattle.phases.proofs.Chains.{halves-sequence}
-use Rattle.phases.proofs.Halved.{AreTrueHalves, roomy-splittable, split-roomy, split-true}
+use Rattle.phases.proofs.SplitHalves.{AreTrueHalves, roomy-splittable, split-roomy, split-true}
 
 -- ---- a formula that is small enough
 

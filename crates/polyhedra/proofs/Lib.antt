@@ -1,29 +1,29 @@
 -- ---- what is kept, whatever true answers are given
-pub mod Settled
-pub mod Thinned
-pub mod Finished
-pub mod Squashed
-pub mod Fitted
+pub mod SettleLaws
+pub mod ThinLaws
+pub mod FinishLaws
+pub mod SquashLaws
+pub mod FitLaws
 -- how many auxiliaries are left of a case in order
-pub mod Owned
+pub mod OwnPosts
 -- ---- bounds and relations
 pub mod Turns
-pub mod Bounded
-pub mod Related
-pub mod Shaped
+pub mod RunBounds
+pub mod RelationTerms
+pub mod RowShapes
 pub mod Rows
 pub mod RelationRows
 -- ---- directions
-pub mod Directed
-pub mod Found
-pub mod Covering
+pub mod DirectionShapes
+pub mod DirectionSets
+pub mod Coverage
 -- ---- steps of calls
 pub mod Lists
 pub mod Objectives
-pub mod Kept
+pub mod GoalObjectives
 pub mod PutIn
 pub mod Same
 pub mod Places
 pub mod Results
-pub mod Tabled
-pub mod Varying
+pub mod ChangeTables
+pub mod ModifiedVariables

@@ -20,7 +20,7 @@ use Rattle.transition_formula.specs.Transition.{every_column}
 use Rattle.transition_formula.proofs.Covered.{test_from_columns}
 use Rattle.polyhedra.specs.Bounds.{put_in_for}
 use Rattle.polyhedra.proofs.PutIn.{put_in_for-substituted}
-use Rattle.polyhedra.proofs.Shaped.{HasIfMade}
+use Rattle.polyhedra.proofs.RowShapes.{HasIfMade}
 
 module _ (test : Col → Bool) where
   abbrev pub Passes : Polynomial → Type 0

@@ -19,7 +19,7 @@ ghost use Rattle.polyhedra.specs.Squash.{relation_row, relation_rows, relation_l
 use crate::infeasible::answer_once;
 use crate::losses::loss_of;
 use crate::{Log, WorkError};
-use farkas_check::{Answer, Change, Oracle, Question, Relation, Stratum};
+use farkas_check::{Answer, Change, Oracle, Question, Relation, Stratum, term_count};
 use items::Items;
 use linear_terms::{Kind, Poly, Row, TermError, combination, difference};
 use std::alloc::{AllocError, Global};
@@ -41,16 +41,6 @@ pub fn relations_of<O: Oracle>(
     let lower = stratum.lower().len();
     let answer = answer_once(alloc, Question::Stratum(stratum), oracle, log)?;
     Ok(relations_in(alloc, answer, terms, lower)?)
-}
-
-/// How many terms each case has; none without cases.
-fn term_count(cases: &[Change]) -> usize
-    ensures { result ≡ term_count cases.now }
-{
-    match cases {
-        [case, ..] => case.terms.len(),
-        [] => 0,
-    }
 }
 
 /// The relations of a basis that have so many numbers for terms and so many for lower terms.

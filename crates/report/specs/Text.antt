@@ -2,7 +2,6 @@
 use Rattle.std.specs.Prelude.{ℕ, ℤ, pos, ◌+◌, ◌-◌, Bool, true, false, ◌&&◌, nat_lt, decimal, Option, None, Some, List, [], ◌∷◌, ◌++◌, length, codes, map, take, if◌then◌else◌, slice_get, slice_index_or}
 use Rattle.std.specs.List.{flat_map, count_by, list_any, range_with_len}
 use Rattle.std.specs.Str.{bytes_eq}
-use Rattle.std.specs.Ordering.{int_eq}
 use Rattle.std.specs.Fmt.{signed_decimal}
 use Rattle.linear_terms.specs.declared.col.Col.{Col}
 use Rattle.linear_terms.specs.declared.col.Col.TheVariants.{At, Aux}
@@ -15,7 +14,7 @@ use Rattle.transition_formula.specs.declared.loss.Loss.TheVariants as loss
 use Rattle.farkas_check.specs.declared.answer.Limit.{Limit}
 use Rattle.farkas_check.specs.declared.answer.Limit.TheVariants as limit
 use Rattle.farkas_check.specs.Columns.{columns}
-use Rattle.farkas_check.specs.Ratios.{Fraction}
+use Rattle.farkas_check.specs.Ratios.{Fraction, ratio_text}
 use Rattle.posing.specs.declared.note.Note.{Note}
 use Rattle.posing.specs.declared.note.Note.TheVariants as note
 use Rattle.posing.specs.declared.note.Witness.{Witness}
@@ -42,11 +41,6 @@ column_text names (At number) = name_at names number
 column_text names (Aux number) = codes "$" ++ decimal (number + 1)
 
 -- ---- points and limits
-
--- a ratio in lowest terms; a whole number has no denominator
-abbrev pub ratio_text : Fraction → List ℕ
-ratio_text z =
-    signed_decimal z.num ++ (if int_eq z.den (pos 1) then [] else codes "/" ++ signed_decimal z.den)
 
 -- a monomial and its number
 abbrev pub value_text : Names → List Col → Fraction → List ℕ

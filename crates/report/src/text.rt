@@ -1,6 +1,7 @@
 ghost use Rattle.std.specs.Prelude.{◌≡◌, [], IsUtf8, decimal};
 ghost use Rattle.std.specs.Fmt.{signed_decimal};
-ghost use Rattle.report.specs.Text.{ratio_text, wide_text};
+ghost use Rattle.farkas_check.specs.Ratios.{ratio_text};
+ghost use Rattle.report.specs.Text.{wide_text};
 ghost use Rattle.report.specs.Appends.{Appends};
 
 use farkas_check::Ratio;

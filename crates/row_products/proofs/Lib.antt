@@ -1,4 +1,4 @@
 -- ---- rows gathered one by one are the first of all new ones
-pub mod Gathered
+pub mod FirstRows
 -- ---- whole numbers make products true
 pub mod Truth

@@ -19,7 +19,7 @@ use std::alloc::{AllocError, Global};
 /// monomials, where the product has one of these monomials. A row that cannot be made in 128 bits
 /// is left out, and so is one that is always true; one that never is becomes `1 <= 0`. The first 64
 /// are answered. The one error is want of memory.
-#[tactic(auto, using(crate::proofs::Gathered::gathered))]
+#[tactic(auto, using(crate::proofs::FirstRows::gathered))]
 pub fn products(alloc: Global, rows: &[Row]) -> Result<Items<Row>, AllocError>
     ensures { IfOk result (λ made. made ≡ products rows.now) }
 {
@@ -54,7 +54,7 @@ fn is_high(columns: &[Col]) -> bool
 }
 
 /// The rows of squares and of products, as far as they are new and there is room.
-#[tactic(auto, using(crate::proofs::Gathered::gathered))]
+#[tactic(auto, using(crate::proofs::FirstRows::gathered))]
 fn first_offers(alloc: Global, rows: &[Row], monos: &[Mono]) -> Result<Items<Row>, AllocError>
     ensures { IfOk result
         (λ made. made ≡ with_offers most_products rows.now [] (offers_of monos.now rows.now)) }
@@ -67,7 +67,7 @@ fn first_offers(alloc: Global, rows: &[Row], monos: &[Mono]) -> Result<Items<Row
 }
 
 /// Adds the rows of each square among monomials.
-#[tactic(auto, using(crate::proofs::Gathered::gathered))]
+#[tactic(auto, using(crate::proofs::FirstRows::gathered))]
 fn add_squares(
     alloc: Global,
     rows: &[Row],
@@ -121,7 +121,7 @@ fn add_rows_of_square(
 }
 
 /// Adds the rows of the products of each two factors.
-#[tactic(auto, using(crate::proofs::Gathered::gathered))]
+#[tactic(auto, using(crate::proofs::FirstRows::gathered))]
 fn add_products(
     alloc: Global,
     rows: &[Row],
@@ -162,7 +162,7 @@ fn add_products_with(
 }
 
 /// Adds the row of a product; where there is no room, it is not made.
-#[tactic(auto, using(crate::proofs::Gathered::gathered))]
+#[tactic(auto, using(crate::proofs::FirstRows::gathered))]
 fn add_product(
     alloc: Global,
     rows: &[Row],

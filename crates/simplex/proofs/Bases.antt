@@ -35,7 +35,7 @@ use Rattle.simplex.proofs.BasisLeaves.{stratum-leaves}
 use Rattle.simplex.proofs.CalmBases.{found_calm}
 use Rattle.simplex.proofs.Cases.{at_place}
 use Rattle.simplex.proofs.Emptiness.{no_point_over}
-use Rattle.simplex.proofs.Framing.{kinds-length}
+use Rattle.simplex.proofs.RowTableaux.{kinds-length}
 use Rattle.simplex.proofs.Leaves.{limit_of}
 use Rattle.simplex.proofs.Objectives.{more_rows}
 use Rattle.simplex.proofs.SpotPoints.{all_honest, spots_honest}

@@ -6,7 +6,7 @@ use Rattle.std.proofs.lemmas.List.{append_assoc, append-nil, get_or_push, drop_m
 use Rattle.items.specs.Gives.{◌>>=◌}
 use Rattle.whole_numbers.specs.declared.wide.Wide as Step
 use Rattle.simplex.specs.Exchange.{behind, sum_of_products, sum_of_lines}
-use Rattle.simplex.proofs.Framing.{at_front, long}
+use Rattle.simplex.proofs.RowTableaux.{at_front, long}
 
 -- what is made and one element more, and what is left without it
 pub behind-next : {X : Type 0} (front made : List X) (x : X) (first : Result X Step.Wide) (rest : Result (List X) Step.Wide) → made ≡ front ++ x ∷ [] → first ≡ Ok x

@@ -12,7 +12,7 @@ use Rattle.simplex.proofs.Sums.{weighted_multiple}
 use Rattle.simplex.proofs.Exchanges.{times_zero, product, difference, IsCombination-difference, exchanged_is, zero_difference}
 use Rattle.simplex.proofs.Corners.{none, single}
 use Rattle.simplex.proofs.Ranks.{count_to-none}
-use Rattle.simplex.proofs.Choosing.{count_to-more}
+use Rattle.simplex.proofs.ColumnChoices.{count_to-more}
 
 -- a combination of the frame's lines that stands for a line, with numbers up to a size
 pub record HasSmall (size lines units columns : ℕ) (frame : ℕ → ℕ → ℤ) (chosen : ℕ → ℕ) (i : ℕ) : Type 0 where

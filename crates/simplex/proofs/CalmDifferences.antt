@@ -23,7 +23,7 @@ use Rattle.simplex.specs.Refusal.{IsSmallFrame}
 use Rattle.simplex.specs.Suprema.{with_goal, frame_over}
 use Rattle.simplex.proofs.Calmness.{small_frame}
 use Rattle.simplex.proofs.Corners.{factored}
-use Rattle.simplex.proofs.Framing.{at_front, after_front, long}
+use Rattle.simplex.proofs.RowTableaux.{at_front, after_front, long}
 use Rattle.simplex.proofs.Objectives.{more_rows}
 use Rattle.simplex.proofs.Sums.{sum_below-same}
 

@@ -40,16 +40,16 @@ use Rattle.simplex.specs.Rows.{kinds_of, framed_tableau}
 use Rattle.simplex.specs.Search.{IsMet, IsCornerOf}
 use Rattle.simplex.specs.Suprema.{with_goal, goal_frame, IsOpened, SlopeAt, IsRayOf}
 use Rattle.simplex.specs.declared.tableau.Tableau.{Tableau}
-use Rattle.simplex.proofs.Bounded.{IsCertificate}
+use Rattle.simplex.proofs.BoundCertificates.{IsCertificate}
 use Rattle.simplex.proofs.Calmness.{small_frame, small_column, HasSmallColumn, moved_part, moved_parts}
 use Rattle.simplex.proofs.Corners.{moved}
-use Rattle.simplex.proofs.Framing.{kinds-length}
+use Rattle.simplex.proofs.RowTableaux.{kinds-length}
 use Rattle.simplex.proofs.Moves.{shift_own}
 use Rattle.simplex.proofs.Objectives.{more_rows}
 use Rattle.simplex.proofs.Rays.{ray_shift, slope_stands, IsRayColumn, ray_column}
-use Rattle.simplex.proofs.Reached.{slice_before, slice_goal}
+use Rattle.simplex.proofs.GoalCorners.{slice_before, slice_goal}
 use Rattle.simplex.proofs.Small.{HasValue, bind_value, product-small, product_of-fits, sum_of-fits}
-use Rattle.simplex.proofs.Standing.{over-positive, numbered, all_at, each_row}
+use Rattle.simplex.proofs.RowCorners.{over-positive, numbered, all_at, each_row}
 use Rattle.simplex.proofs.Tame.{own_small, column_small, constants_small, sums_at-fits, all_entries, products_small, second_part, no_error, ratio_each, numbered_small, IsSmallPoly, small_poly, value-fits, meets-fit, corner_ratio, bottom_above}
 use Rattle.simplex.proofs.Widths.{IsRatio, EachRatio, IsShare, shared, factor_small, sum_from-fits, slope-ratio}
 

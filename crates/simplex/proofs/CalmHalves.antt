@@ -36,7 +36,7 @@ use Rattle.simplex.proofs.Cases.{at_place}
 use Rattle.simplex.proofs.Further.{IsGiven, case_given}
 use Rattle.simplex.proofs.Numerators.{HasValueWith}
 use Rattle.simplex.proofs.Objectives.{more_rows}
-use Rattle.simplex.proofs.Reached.{slice_goal}
+use Rattle.simplex.proofs.GoalCorners.{slice_goal}
 use Rattle.simplex.proofs.Small.{product_of-fits}
 use Rattle.simplex.proofs.SmallPoints.{more_room, corner_small, ray_sums}
 use Rattle.simplex.proofs.SmallSides.{value_below}

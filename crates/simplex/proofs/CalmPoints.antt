@@ -32,13 +32,13 @@ use Rattle.simplex.proofs.Calmness.{whole_over, multiple_of, is_tableau, row_num
 use Rattle.simplex.proofs.CalmRelations.{at_chosen-none, at_chosen-one, among-none}
 use Rattle.simplex.proofs.Eliminations.{choose_apart}
 use Rattle.simplex.proofs.Exchanges.{times_zero}
-use Rattle.simplex.proofs.Framing.{at_front, kinds-length}
+use Rattle.simplex.proofs.RowTableaux.{at_front, kinds-length}
 use Rattle.simplex.proofs.LeastShares.{number_listed, choice_listed, listed-length}
 use Rattle.simplex.proofs.Moves.{shift, shift_chosen, shift_free, shift_own}
 use Rattle.simplex.proofs.Objectives.{more_rows}
 use Rattle.simplex.proofs.Rays.{ray_shift}
 use Rattle.simplex.proofs.SpotPoints.{above, corner_stands, ray_stands, IsGrowing, growing}
-use Rattle.simplex.proofs.Standing.{numbered, find_choice}
+use Rattle.simplex.proofs.RowCorners.{numbered, find_choice}
 use Rattle.simplex.proofs.Sums.{sum_below-same}
 
 -- ---- the tableau of the rows alone

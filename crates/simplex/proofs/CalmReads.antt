@@ -22,7 +22,7 @@ use Rattle.simplex.proofs.Numerators.{IsRatioBelow}
 use Rattle.simplex.proofs.Rays.{ray_shift, slope_stands}
 use Rattle.simplex.proofs.Small.{HasValue, bind_value, product-small, product_of-fits}
 use Rattle.simplex.proofs.SmallPoints.{stands_less, bottom_positive}
-use Rattle.simplex.proofs.Standing.{over-positive}
+use Rattle.simplex.proofs.RowCorners.{over-positive}
 
 pub spots_small : (count : ℕ) (spots : Spots) → AreSpots count spots → IsCalmUpTo 1048576 (frame_of_lines count spots.lines) → HasSmallLines 1048576 spots.tableau
 spots_small count spots k calm = small_spots 1048576 count spots.lines calm spots.tableau k.tableau.many k.tableau.tableau k.tableau.primitive

@@ -23,7 +23,7 @@ use Rattle.simplex.proofs.CalmSpots.{spot_numbers}
 use Rattle.simplex.proofs.Corners.{share-over}
 use Rattle.simplex.proofs.Eliminations.{choose_apart}
 use Rattle.simplex.proofs.LeastShares.{past_zero, HasShare, primitive_share, divides_each, divides_at, divides_factor, factor_divides, divisor_is, number_listed, listed-length, listed}
-use Rattle.simplex.proofs.Standing.{over-positive, find_choice}
+use Rattle.simplex.proofs.RowCorners.{over-positive, find_choice}
 use Rattle.simplex.proofs.Tame.{all_entries}
 use Rattle.simplex.proofs.Widths.{quotient_is}
 

@@ -23,7 +23,7 @@ use Rattle.farkas_check.specs.declared.stratum.Tie.{Tie}
 use Rattle.farkas_check.proofs.Farkas.{bool_ok, numbers_ok, form_ok, both_true}
 use Rattle.simplex.specs.SmallBasis.{AreAtMost, IsSmallTie, IsSmallRelation}
 use Rattle.simplex.proofs.Calmness.{small_frame}
-use Rattle.simplex.proofs.Framing.{long}
+use Rattle.simplex.proofs.RowTableaux.{long}
 use Rattle.simplex.proofs.Small.{HasValue, product-small, product_of-fits, sum_of-fits}
 use Rattle.simplex.proofs.SmallSums.{coefficient-small}
 use Rattle.simplex.proofs.Tame.{own_small, multiples-fit}

@@ -38,7 +38,7 @@ use Rattle.simplex.proofs.Calmness.{small_frame}
 use Rattle.simplex.proofs.CalmTies.{IsSmallCase, both-fit, second-fits, all_of-fits, then-value}
 use Rattle.simplex.proofs.Denominators.{AreLowest, AreNumerators, numerators_of, denominator-positive}
 use Rattle.simplex.proofs.Small.{HasValue, product-small, product_of-fits}
-use Rattle.simplex.proofs.Standing.{numbered, each_row, all_at}
+use Rattle.simplex.proofs.RowCorners.{numbered, each_row, all_at}
 use Rattle.simplex.proofs.Tame.{IsSmallPoly, small_poly, own_small, ratio_each, numbered_small}
 use Rattle.simplex.proofs.Units.{IsPositiveAt, sides_at, sides-lowest, part_stands}
 use Rattle.simplex.proofs.Widths.{IsRatio, IsRatio-nothing, IsShare, shared, factor_small, sum-ratio, value-ratio}

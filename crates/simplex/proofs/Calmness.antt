@@ -26,9 +26,9 @@ use Rattle.simplex.specs.Rows.{coefficients, units_to, lines_from, framed_tablea
 use Rattle.simplex.specs.declared.tableau.Tableau.{Tableau}
 use Rattle.simplex.proofs.Corners.{over, share, part, moved, moved-sum, moved-solves}
 use Rattle.simplex.proofs.Eliminations.{choose_apart}
-use Rattle.simplex.proofs.Framing.{at_front, front-length, numbers-unit}
+use Rattle.simplex.proofs.RowTableaux.{at_front, front-length, numbers-unit}
 use Rattle.simplex.proofs.Primitive.{divides_all}
-use Rattle.simplex.proofs.Standing.{over-positive, share-positive, find_choice, part-none, part-one}
+use Rattle.simplex.proofs.RowCorners.{over-positive, share-positive, find_choice, part-none, part-one}
 use Rattle.simplex.proofs.Sums.{sum_below-same}
 
 -- ---- lists by places

@@ -35,14 +35,14 @@ use Rattle.simplex.specs.declared.stop.SearchStop.TheVariants.{Wide, Memory}
 use Rattle.simplex.specs.declared.tableau.Tableau.{Tableau}
 use Rattle.simplex.specs.declared.supremum.Supremum.{Supremum}
 use Rattle.simplex.specs.declared.supremum.Supremum.TheVariants as supremum
-use Rattle.simplex.proofs.Bounded.{IsCertified, certified, certificate-is}
+use Rattle.simplex.proofs.BoundCertificates.{IsCertified, certified, certificate-is}
 use Rattle.simplex.proofs.CalmGoals.{goal_small, cert_small, floor-small, cert-calm, point-calm, reached-calm, ray-calm, IsSmallCert}
 use Rattle.simplex.proofs.Emptiness.{no_point_of}
-use Rattle.simplex.proofs.Framing.{kinds-length, long}
+use Rattle.simplex.proofs.RowTableaux.{kinds-length, long}
 use Rattle.simplex.proofs.Leaves.{goals-leaves, limit_of}
 use Rattle.simplex.proofs.Objectives.{more_rows}
 use Rattle.simplex.proofs.Rays.{ray_honest}
-use Rattle.simplex.proofs.Reached.{goal_point_honest, reached_honest}
+use Rattle.simplex.proofs.GoalCorners.{goal_point_honest, reached_honest}
 use Rattle.simplex.proofs.Roundings.{certificate-floor, cert-honest}
 use Rattle.simplex.proofs.Tame.{fits_twice}
 

@@ -26,7 +26,7 @@ use Rattle.farkas_check.specs.Frames.{sum_below}
 use Rattle.simplex.specs.Rows.{kinds_of, kind_at, whole_line, lines_from, framed_tableau, frame_of_rows}
 use Rattle.simplex.specs.Search.{IsRefuted}
 use Rattle.simplex.proofs.Exchanges.{times_zero, factor_positive}
-use Rattle.simplex.proofs.Framing.{whole_line-column, whole_line-constant, kinds-length}
+use Rattle.simplex.proofs.RowTableaux.{whole_line-column, whole_line-constant, kinds-length}
 use Rattle.simplex.proofs.Sums.{sum_below-same, weighted_multiple}
 
 -- ---- tests of numbers

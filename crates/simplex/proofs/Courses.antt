@@ -38,10 +38,10 @@ use Rattle.simplex.specs.declared.strata.KnownRelations.{KnownRelations}
 use Rattle.simplex.specs.declared.tableau.Tableau.{Tableau}
 use Rattle.simplex.proofs.Echelons.{no_relations, relations-skip, relations-more, relations-reduced}
 use Rattle.simplex.proofs.Eliminations.{choose_apart}
-use Rattle.simplex.proofs.Framing.{long}
+use Rattle.simplex.proofs.RowTableaux.{long}
 use Rattle.simplex.proofs.HonestTies.{relation_honest}
-use Rattle.simplex.proofs.Independent.{independent_more, relation_level}
-use Rattle.simplex.proofs.Signed.{terms_at}
+use Rattle.simplex.proofs.Independence.{independent_more, relation_level}
+use Rattle.simplex.proofs.RaisedDifferences.{terms_at}
 use Rattle.simplex.proofs.SpotFrames.{numerators-length}
 use Rattle.simplex.proofs.SpotPoints.{spot_positive}
 use Rattle.simplex.proofs.Units.{IsPositiveAt, HasUnits, free_honest}

@@ -21,11 +21,11 @@ use Rattle.simplex.specs.Suprema.{SlopeAt, IsRayOf}
 use Rattle.whole_numbers.specs.Divisors.{gcd_of_all}
 use Rattle.simplex.specs.declared.tableau.Tableau.{Tableau}
 use Rattle.simplex.proofs.Certificates.{lt_true as int_lt_true}
-use Rattle.simplex.proofs.Choosing.{is_chosen-at, chosen_by}
+use Rattle.simplex.proofs.ColumnChoices.{is_chosen-at, chosen_by}
 use Rattle.simplex.proofs.Denominators.{AreLowest, AreNumerators, numerators_of, denominator-positive, numerators-primitive}
 use Rattle.simplex.proofs.Divisors.{exchange-primitive}
 use Rattle.simplex.proofs.Exchanges.{times_zero, vanishes, both_zero}
-use Rattle.simplex.proofs.Framing.{at_front, after_front, long}
+use Rattle.simplex.proofs.RowTableaux.{at_front, after_front, long}
 use Rattle.simplex.proofs.Lines.{upright-length}
 use Rattle.simplex.proofs.Numbers.{ExchangeAt, exchange-is, exchange-keeps}
 use Rattle.simplex.proofs.SpotFrames.{numerators-length}

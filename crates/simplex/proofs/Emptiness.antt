@@ -28,10 +28,10 @@ use Rattle.simplex.specs.Rows.{kinds_of, kind_at, framed_tableau}
 use Rattle.simplex.specs.Search.{IsRefuted}
 use Rattle.simplex.specs.Suprema.{with_goal, frame_over, goal_frame}
 use Rattle.simplex.specs.declared.tableau.Tableau.{Tableau}
-use Rattle.simplex.proofs.Bounded.{each_before, kind_before}
+use Rattle.simplex.proofs.BoundCertificates.{each_before, kind_before}
 use Rattle.simplex.proofs.Certificates.{each_of, total-is, all_multipliers, framed-column, framed-constant}
 use Rattle.simplex.proofs.Exchanges.{times_zero}
-use Rattle.simplex.proofs.Framing.{kinds-length}
+use Rattle.simplex.proofs.RowTableaux.{kinds-length}
 use Rattle.simplex.proofs.Objectives.{more_rows}
 use Rattle.simplex.proofs.Sums.{sum_below-same, weighted_multiple}
 

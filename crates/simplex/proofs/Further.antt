@@ -36,17 +36,17 @@ use Rattle.simplex.specs.declared.differences.StrataQuestion.{StrataQuestion}
 use Rattle.simplex.specs.declared.supremum.Supremum.TheVariants as supremum
 use Rattle.simplex.specs.declared.tableau.Tableau.{Tableau}
 use Rattle.simplex.proofs.Apart.{difference-among, apart_at}
-use Rattle.simplex.proofs.Bounded.{certificate-is}
+use Rattle.simplex.proofs.BoundCertificates.{certificate-is}
 use Rattle.simplex.proofs.Cases.{at_place}
 use Rattle.simplex.proofs.Corners.{share}
 use Rattle.simplex.proofs.Exchanges.{times_zero, zero_factor, product}
-use Rattle.simplex.proofs.Framing.{kinds-length}
+use Rattle.simplex.proofs.RowTableaux.{kinds-length}
 use Rattle.simplex.proofs.Moves.{shift, shift_own, shift_free, moved_row, goal_slope}
 use Rattle.simplex.proofs.Objectives.{more_rows}
 use Rattle.simplex.proofs.Rays.{ray_shift, terms_at-times, column_free}
-use Rattle.simplex.proofs.Reached.{slice_goal, whole_of}
+use Rattle.simplex.proofs.GoalCorners.{slice_goal, whole_of}
 use Rattle.simplex.proofs.SpotPoints.{above as above_zero, corner_stands, ray_stands, terms_at-plus}
-use Rattle.simplex.proofs.Standing.{numbered, share-positive}
+use Rattle.simplex.proofs.RowCorners.{numbered, share-positive}
 
 -- ---- what is known of a case
 

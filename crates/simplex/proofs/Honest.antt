@@ -20,7 +20,7 @@ use Rattle.farkas_check.proofs.Farkas.{bool_ok}
 use Rattle.simplex.specs.Answers.{AnswerOf, IsHonestOf, IsFoundFor, IsRefusalFor, IsRowsAnswer, PivotsOf, IsWide}
 use Rattle.simplex.specs.Refusal.{LeavesBits, IsRefusalIn}
 use Rattle.simplex.specs.declared.stop.SearchStop.TheVariants as stop
-use Rattle.simplex.proofs.Framing.{kinds-length}
+use Rattle.simplex.proofs.RowTableaux.{kinds-length}
 use Rattle.simplex.proofs.Calmness.{small_frame}
 use Rattle.simplex.proofs.Tame.{fits_twice, calm_found, more_choices}
 use Rattle.simplex.proofs.Leaves.{outcome-leaves, limit_of}
@@ -29,7 +29,7 @@ use Rattle.simplex.specs.Rows.{kinds_of, framed_tableau, frame_of_rows}
 use Rattle.simplex.specs.declared.stop.SearchStop.{SearchStop}
 use Rattle.simplex.specs.declared.tableau.Tableau.{Tableau}
 use Rattle.simplex.proofs.Certificates.{yes-honest}
-use Rattle.simplex.proofs.Standing.{no-honest}
+use Rattle.simplex.proofs.RowCorners.{no-honest}
 
 honest : (rows : List Row) (budget : ℕ) (a : Answer) → AreCanonical rows → AnswerOf (frame_of_rows (columns rows []) rows) (length (columns rows [])) (kinds_of rows) budget a → IsHonestOf rows a
 honest rows budget (answer.Yes by) k h b e = yes-honest rows h.0 h.1.0 by b h.1.1.0 h.1.1.1 e

@@ -29,10 +29,10 @@ use Rattle.simplex.specs.Differences.{IsDifferenceOf}
 use Rattle.simplex.specs.Suprema.{IsSupremumOver}
 use Rattle.simplex.specs.Ties.{IsHonestHalf, IsHonestTie, AreTies}
 use Rattle.simplex.specs.declared.supremum.Supremum.TheVariants as supremum
-use Rattle.simplex.proofs.Bounded.{equal_lists, IsCertifiedOver, certified_over}
+use Rattle.simplex.proofs.BoundCertificates.{equal_lists, IsCertifiedOver, certified_over}
 use Rattle.simplex.proofs.Cases.{one_more}
 use Rattle.simplex.proofs.Certificates.{le_true}
-use Rattle.simplex.proofs.Framing.{long}
+use Rattle.simplex.proofs.RowTableaux.{long}
 use Rattle.simplex.proofs.SpotPoints.{all_honest}
 
 -- a certificate of a multiple of the difference

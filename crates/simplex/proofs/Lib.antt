@@ -1,7 +1,7 @@
 -- The answer: no part of its test is false, and on calm questions no step of it leaves 128 bits.
 pub mod Honest
 pub mod Certificates
-pub mod Standing
+pub mod RowCorners
 pub mod Points
 pub mod Leaves
 pub mod Tame
@@ -15,13 +15,13 @@ pub mod Widths
 pub mod BasisLeaves
 pub mod Bases
 pub mod SpotPoints
-pub mod Related
+pub mod RelationParts
 pub mod Courses
 pub mod HonestTies
-pub mod Signed
+pub mod RaisedDifferences
 pub mod Coefficients
 pub mod Units
-pub mod Independent
+pub mod Independence
 pub mod Apart
 pub mod Further
 -- Calm: tableaux of a calm frame are small, and a step that leaves 128 bits shows that a frame is
@@ -42,18 +42,18 @@ pub mod SmallPoints
 pub mod Numerators
 pub mod SmallSums
 pub mod SmallSides
-pub mod CalmKnown
+pub mod CalmSearches
 pub mod CalmSteps
 pub mod CalmHalves
 pub mod CalmReads
-pub mod Refusing
+pub mod Overruns
 pub mod Primitive
 pub mod Bounds
 pub mod Small
 pub mod Comparisons
 pub mod Memory
 -- The search: equations, inequalities and turns, from the frame of the rows on.
-pub mod Framing
+pub mod RowTableaux
 pub mod Behind
 pub mod SpotFrames
 pub mod Denominators
@@ -62,8 +62,8 @@ pub mod Eliminations
 pub mod Settles
 -- Suprema: what an objective comes to at the corners and along the rays of its rows.
 pub mod Objectives
-pub mod Bounded
-pub mod Reached
+pub mod BoundCertificates
+pub mod GoalCorners
 pub mod Moves
 pub mod Swaps
 pub mod OtherGoals
@@ -79,10 +79,10 @@ pub mod OwnColumns
 pub mod Beginnings
 pub mod Raises
 pub mod Growth
-pub mod Leaving
+pub mod LeavingLines
 pub mod Turns
 pub mod Runs
-pub mod Choosing
+pub mod ColumnChoices
 pub mod Ranks
 -- Exchanges: a tableau stays one of its frame.
 pub mod Exchanges

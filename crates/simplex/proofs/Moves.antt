@@ -25,9 +25,9 @@ use Rattle.simplex.specs.Search.{IsMet}
 use Rattle.simplex.proofs.Certificates.{framed-column, framed-constant}
 use Rattle.simplex.proofs.Corners.{single, over, share, part, moved, moved-solves}
 use Rattle.simplex.proofs.Eliminations.{choose_apart}
-use Rattle.simplex.proofs.Framing.{numbers-unit}
+use Rattle.simplex.proofs.RowTableaux.{numbers-unit}
 use Rattle.simplex.proofs.Sums.{sum_below-same}
-use Rattle.simplex.proofs.Standing.{numbered, spread-numbered, sum_below-plus, at_row, row_within, find_choice, part-none, part-one, share-positive}
+use Rattle.simplex.proofs.RowCorners.{numbered, spread-numbered, sum_below-plus, at_row, row_within, find_choice, part-none, part-one, share-positive}
 
 -- the numbers at all columns where one has moved by the common denominator
 abbrev pub shift : Tableau → ℕ → ℕ → ℤ

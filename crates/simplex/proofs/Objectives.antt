@@ -14,7 +14,7 @@ use Rattle.simplex.specs.Suprema.{with_goal, frame_over, SupremumAt, IsSupremumO
 use Rattle.simplex.specs.declared.stop.SearchStop.{SearchStop}
 use Rattle.simplex.specs.declared.supremum.Supremum.{Supremum}
 use Rattle.simplex.specs.declared.tableau.Tableau.{Tableau}
-use Rattle.simplex.proofs.Framing.{solving, kinds-length, lines_from-length, long}
+use Rattle.simplex.proofs.RowTableaux.{solving, kinds-length, lines_from-length, long}
 
 pub more_rows : (rows : List Row) (p : Polynomial) → length (with_goal rows p) ≡ length rows + 1
 more_rows rows p = long rows (record { poly = p; kind = AtMost } ∷ [])

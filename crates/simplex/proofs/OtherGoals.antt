@@ -20,7 +20,7 @@ use Rattle.simplex.specs.Search.{IsFixed, IsMet}
 use Rattle.simplex.specs.Suprema.{with_goal, frame_over}
 use Rattle.simplex.specs.declared.tableau.Tableau.{Tableau}
 use Rattle.simplex.proofs.Divisors.{one-primitive, line_without-primitive}
-use Rattle.simplex.proofs.Framing.{at_front, after_front, long, kinds-length, lines_from-length, whole_line-length, whole_line-unit, numbers-unit, framed-is}
+use Rattle.simplex.proofs.RowTableaux.{at_front, after_front, long, kinds-length, lines_from-length, whole_line-length, whole_line-unit, numbers-unit, framed-is}
 use Rattle.simplex.proofs.Numbers.{line_without-is, line_without-length}
 use Rattle.simplex.proofs.Objectives.{more_rows}
 use Rattle.simplex.proofs.Swaps.{HasGoal, IsClearedTo, cleared_first, cleared_more, swapped_is}

@@ -36,15 +36,15 @@ use Rattle.simplex.specs.Rows.{kinds_of, kind_at}
 use Rattle.simplex.specs.Search.{IsMet, IsUnit}
 use Rattle.simplex.specs.Suprema.{with_goal, goal_frame, IsOpened, SlopeAt, IsRayOf}
 use Rattle.simplex.specs.declared.tableau.Tableau.{Tableau}
-use Rattle.simplex.proofs.Bounded.{kind_before}
+use Rattle.simplex.proofs.BoundCertificates.{kind_before}
 use Rattle.simplex.proofs.Certificates.{lt_true}
 use Rattle.simplex.proofs.Corners.{over, share, share-over}
 use Rattle.simplex.proofs.Exchanges.{times_zero, product, factor_positive}
-use Rattle.simplex.proofs.Framing.{kinds-length}
+use Rattle.simplex.proofs.RowTableaux.{kinds-length}
 use Rattle.simplex.proofs.Moves.{not_above_times, zero_within, shift, moved_row, shift_chosen, shift_free, shift_own, level_ray, goal_slope}
 use Rattle.simplex.proofs.Objectives.{more_rows}
-use Rattle.simplex.proofs.Reached.{slice_before, slice_goal, whole_of}
-use Rattle.simplex.proofs.Standing.{numbered, stands_each, row_within, all_at, each_row, kind_row, within_back, meets-honest, find_choice, share-positive, over-positive}
+use Rattle.simplex.proofs.GoalCorners.{slice_before, slice_goal, whole_of}
+use Rattle.simplex.proofs.RowCorners.{numbered, stands_each, row_within, all_at, each_row, kind_row, within_back, meets-honest, find_choice, share-positive, over-positive}
 
 -- the numbers of the ray at all columns, times the common denominator
 abbrev pub ray_shift : Tableau → ℕ → Bool → ℕ → ℤ

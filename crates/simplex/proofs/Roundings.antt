@@ -19,7 +19,7 @@ use Rattle.farkas_check.specs.declared.answer.Cert.{Cert}
 use Rattle.farkas_check.specs.declared.question.Goal.{Goal}
 use Rattle.farkas_check.proofs.Farkas.{bool_ok}
 use Rattle.simplex.specs.Goals.{whole_bound}
-use Rattle.simplex.proofs.Bounded.{IsCertified}
+use Rattle.simplex.proofs.BoundCertificates.{IsCertified}
 use Rattle.simplex.proofs.Certificates.{le_true}
 
 -- a number between the products of its quotient rounded down, and of the next one

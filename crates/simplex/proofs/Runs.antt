@@ -13,7 +13,7 @@ use Rattle.simplex.specs.Frames.{IsWholeTableau, is_chosen, lexical_view, IsLexP
 use Rattle.simplex.specs.History.{lead, with_sign, HasRun}
 use Rattle.simplex.proofs.Exchanges.{product, times_zero}
 use Rattle.simplex.proofs.Growth.{lex_sum, lex_multiple, not_lex_zero}
-use Rattle.simplex.proofs.Choosing.{count_to-chosen, same_line}
+use Rattle.simplex.proofs.ColumnChoices.{count_to-chosen, same_line}
 use Rattle.simplex.proofs.Ranks.{rank-below, rank-same}
 
 -- ---- what the lexicographic order sees of sums

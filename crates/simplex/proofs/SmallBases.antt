@@ -25,7 +25,7 @@ use Rattle.simplex.specs.declared.differences.StrataQuestion.{StrataQuestion}
 use Rattle.simplex.specs.declared.spots.Spots.{Spots}
 use Rattle.simplex.specs.declared.stop.SearchStop.{SearchStop}
 use Rattle.simplex.specs.declared.strata.KnownRelations.{KnownRelations}
-use Rattle.simplex.proofs.CalmKnown.{known_calm, known_scales, relation_calm}
+use Rattle.simplex.proofs.CalmSearches.{known_calm, known_scales, relation_calm}
 use Rattle.simplex.proofs.CalmSpots.{small_spots}
 use Rattle.simplex.proofs.Cases.{at_place}
 use Rattle.simplex.proofs.Courses.{few_spots, lines_long}

@@ -36,7 +36,7 @@ use Rattle.simplex.proofs.Moves.{shift, shift_chosen, shift_free, shift_own}
 use Rattle.simplex.proofs.Numerators.{AreSums, sums-ratio}
 use Rattle.simplex.proofs.Rays.{ray_shift, slope_stands}
 use Rattle.simplex.proofs.SpotPoints.{above, corner_each, IsGrowing, growing}
-use Rattle.simplex.proofs.Standing.{find_choice}
+use Rattle.simplex.proofs.RowCorners.{find_choice}
 use Rattle.simplex.proofs.Widths.{IsRatio}
 
 -- ---- one column

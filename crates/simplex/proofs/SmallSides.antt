@@ -17,7 +17,7 @@ use Rattle.farkas_check.proofs.Walks.{IsOrdered}
 use Rattle.simplex.proofs.Numerators.{IsRatioBelow, HasValueWith, minus-with}
 use Rattle.simplex.proofs.Small.{product-small}
 use Rattle.simplex.proofs.SmallPoints.{IsSmallPoint}
-use Rattle.simplex.proofs.Standing.{numbered}
+use Rattle.simplex.proofs.RowCorners.{numbered}
 use Rattle.simplex.proofs.Tame.{few_terms, ratio_each, numbered_small}
 use Rattle.simplex.proofs.Widths.{IsRatio, EachRatio, slope-ratio, value-ratio}
 

@@ -15,12 +15,12 @@ use Rattle.simplex.specs.Strata.{IsCaseOf}
 use Rattle.simplex.specs.Suprema.{with_goal, IsSupremumOver}
 use Rattle.simplex.specs.declared.differences.StrataQuestion.{StrataQuestion}
 use Rattle.simplex.specs.declared.supremum.Supremum.TheVariants as supremum
-use Rattle.simplex.proofs.Bounded.{certificate-is, certified_over}
+use Rattle.simplex.proofs.BoundCertificates.{certificate-is, certified_over}
 use Rattle.simplex.proofs.CalmDifferences.{difference_small}
 use Rattle.simplex.proofs.CalmGoals.{IsSmallCert, cert_small}
 use Rattle.simplex.proofs.Cases.{at_place}
 use Rattle.simplex.proofs.Courses.{all_more}
-use Rattle.simplex.proofs.Framing.{kinds-length}
+use Rattle.simplex.proofs.RowTableaux.{kinds-length}
 use Rattle.simplex.proofs.Objectives.{more_rows}
 
 pub half_multipliers : (s : StrataQuestion) (case : Change) (numbers : List ℤ) (up : Bool) (p : Polynomial) (budget : ℕ) (cert : Cert) (point : List Fraction) → IsCaseOf s case → IsCalmRelation s numbers → IsDifferenceOf case.terms s.lower.now numbers up p → IsSupremumOver s.columns.now case.rows p budget (supremum.Bound cert point)

@@ -18,7 +18,7 @@ use Rattle.simplex.specs.Rows.{units_to}
 use Rattle.simplex.specs.Spots.{entries_to, spot_row, spot_rows, spots_framed, IsSpotTableau, numerators_over}
 use Rattle.simplex.proofs.Corners.{none, single}
 use Rattle.simplex.proofs.Divisors.{one-primitive}
-use Rattle.simplex.proofs.Framing.{at_front, after_front, long, units_to-length, units_to-at, units_from-length, units_from-at}
+use Rattle.simplex.proofs.RowTableaux.{at_front, after_front, long, units_to-length, units_to-at, units_from-length, units_from-at}
 
 pub entries_to-length : (line : List ℤ) (n : ℕ) → length (entries_to line n) ≡ n
 entries_to-length line zero = refl

@@ -30,10 +30,10 @@ use Rattle.simplex.proofs.Apart.{AreStanding, sides-standing, sides-length}
 use Rattle.simplex.proofs.Certificates.{sum_below-first}
 use Rattle.simplex.proofs.Denominators.{AreLowest, AreNumerators, numerators_of, denominator-positive, numerators-primitive_to}
 use Rattle.simplex.proofs.Echelons.{numerator_at}
-use Rattle.simplex.proofs.Framing.{after_front, long}
+use Rattle.simplex.proofs.RowTableaux.{after_front, long}
 use Rattle.simplex.proofs.LeastShares.{past_zero, HasShare, primitive_share, divides_each, divides_at, divides_factor, factor_divides, divisor_is, quotients_are}
 use Rattle.simplex.proofs.SpotFrames.{numerators-length}
-use Rattle.simplex.proofs.Standing.{numbered, spread-numbered}
+use Rattle.simplex.proofs.RowCorners.{numbered, spread-numbered}
 use Rattle.simplex.proofs.Units.{sides-lowest}
 
 -- ---- values at a point

@@ -43,15 +43,15 @@ use Rattle.simplex.specs.Spots.{sums_of}
 use Rattle.simplex.specs.Suprema.{with_goal, frame_over, IsOpened, IsSupremumOver}
 use Rattle.simplex.specs.declared.supremum.Supremum.TheVariants as supremum
 use Rattle.simplex.specs.declared.tableau.Tableau.{Tableau}
-use Rattle.simplex.proofs.Bounded.{kind_before}
+use Rattle.simplex.proofs.BoundCertificates.{kind_before}
 use Rattle.simplex.proofs.Cases.{at_place}
 use Rattle.simplex.proofs.Exchanges.{times_zero}
-use Rattle.simplex.proofs.Framing.{kinds-length}
+use Rattle.simplex.proofs.RowTableaux.{kinds-length}
 use Rattle.simplex.proofs.Moves.{shift, shift_own, shift_free, moved_row, corner_within}
 use Rattle.simplex.proofs.Objectives.{more_rows}
 use Rattle.simplex.proofs.Rays.{ray_shift, terms_at-times, column_free, slope_stands, ray_within}
-use Rattle.simplex.proofs.Reached.{slice_before, whole_of}
-use Rattle.simplex.proofs.Standing.{numbered, stands_each, stands-at, row_within, all_at, each_row, kind_row, within_back, meets-honest, over-positive}
+use Rattle.simplex.proofs.GoalCorners.{slice_before, whole_of}
+use Rattle.simplex.proofs.RowCorners.{numbered, stands_each, stands-at, row_within, all_at, each_row, kind_row, within_back, meets-honest, over-positive}
 
 -- numbers over one denominator for which a point stands, and at which the rows are true
 pub record IsTrueAt (cs : List (List Col)) (rows : List Row) (at : List Fraction) : Type 0 where

@@ -44,9 +44,9 @@ use Rattle.simplex.specs.Search.{IsCornerOf, CornerAt, IsRefuted, IsMet}
 use Rattle.simplex.specs.declared.tableau.Tableau.{Tableau}
 use Rattle.simplex.proofs.Calmness.{small_frame, small_column, HasSmallColumn, moved_part, moved_parts, whole_over}
 use Rattle.simplex.proofs.Certificates.{each_of, framed-column, framed-constant}
-use Rattle.simplex.proofs.Framing.{framed-is, framed-primitive, lines_from-length, kinds-length}
+use Rattle.simplex.proofs.RowTableaux.{framed-is, framed-primitive, lines_from-length, kinds-length}
 use Rattle.simplex.proofs.Small.{HasValue, bind_value, product-small}
-use Rattle.simplex.proofs.Standing.{over-positive, numbered, stands-at, each_row, all_at}
+use Rattle.simplex.proofs.RowCorners.{over-positive, numbered, stands-at, each_row, all_at}
 use Rattle.simplex.proofs.Corners.{moved}
 use Rattle.simplex.proofs.Widths.{IsRatio, EachRatio, IsRatio-nothing, sum_from-fits, value-ratio}
 

@@ -33,7 +33,7 @@ use Rattle.simplex.specs.Spots.{values_of, AreSideValues, IsSpotLine, AreSpotLin
 use Rattle.simplex.specs.declared.spots.Spots.{Spots}
 use Rattle.simplex.specs.declared.tableau.Tableau.{Tableau}
 use Rattle.simplex.proofs.Certificates.{sum_below-first}
-use Rattle.simplex.proofs.Choosing.{is_chosen-at, chosen_by}
+use Rattle.simplex.proofs.ColumnChoices.{is_chosen-at, chosen_by}
 use Rattle.simplex.proofs.Denominators.{AreLowest, numerators_of, denominator-positive}
 use Rattle.simplex.proofs.Echelons.{numerator_at}
 use Rattle.simplex.proofs.SpotFrames.{framed-number}

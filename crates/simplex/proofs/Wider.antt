@@ -15,7 +15,7 @@ use Rattle.simplex.specs.Frames.{IsOwnCombination, IsWholeTableau}
 use Rattle.simplex.specs.declared.tableau.Tableau.{Tableau}
 use Rattle.simplex.proofs.Corners.{none, single, plus, factored}
 use Rattle.simplex.proofs.Skips.{put, skip, put-length, put-here, put-skip, skip-less, skip-unit, skipped, sum_skip, primitive-put}
-use Rattle.simplex.proofs.Standing.{sum_below-plus}
+use Rattle.simplex.proofs.RowCorners.{sum_below-plus}
 use Rattle.simplex.proofs.Sums.{sum_below-same}
 
 -- a frame with one column more at a place before the unit columns

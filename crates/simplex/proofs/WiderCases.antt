@@ -30,7 +30,7 @@ use Rattle.simplex.specs.declared.supremum.Supremum.TheVariants as supremum
 use Rattle.simplex.specs.declared.tableau.Tableau.{Tableau}
 use Rattle.simplex.proofs.Calmness.{no_line, nothing_small}
 use Rattle.simplex.proofs.Certificates.{each_of}
-use Rattle.simplex.proofs.Framing.{at_line, kinds-length, long, numbers-unit, whole_line-length}
+use Rattle.simplex.proofs.RowTableaux.{at_line, kinds-length, long, numbers-unit, whole_line-length}
 use Rattle.simplex.proofs.Objectives.{more_rows}
 use Rattle.simplex.proofs.Skips.{put, skip, put-front, put-here, put-skip}
 use Rattle.simplex.proofs.Wider.{HasMore, wider, now-many, numbers_now, tableau_now, primitive_now}

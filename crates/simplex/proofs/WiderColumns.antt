@@ -23,7 +23,7 @@ use Rattle.simplex.specs.Wider.{widened_numbers, unit_ray, widened_supremum, Are
 use Rattle.simplex.specs.declared.stop.SearchStop.{SearchStop}
 use Rattle.simplex.specs.declared.supremum.Supremum.{Supremum}
 use Rattle.simplex.specs.declared.supremum.Supremum.TheVariants as supremum
-use Rattle.simplex.proofs.Framing.{long}
+use Rattle.simplex.proofs.RowTableaux.{long}
 use Rattle.simplex.proofs.WiderCases.{HasNothing, HasCorner, Part, done, keep, besides, not_eq, widened-besides, widened-keep, corner_put, open_put, ray_step, put_all, refusal_wider, found_wider, empty_wider, pivots_wider}
 
 -- ---- monomials before others

@@ -19,12 +19,11 @@ ghost use Rattle.simplex.specs.Ties.{IsHonestHalf};
 ghost use Rattle.simplex.specs.declared.differences.StrataQuestion.{StrataQuestion};
 
 use crate::next_supremum::supremum_from;
-use crate::spots::entry;
 use crate::supremum::Supremum;
 use crate::tableau::line_multiple;
 use crate::values::{sums_of, value_at};
 use crate::{Endings, SearchStop};
-use farkas_check::{Cert, Change, Ratio, Tie};
+use farkas_check::{Cert, Change, Ratio, Tie, entry};
 use items::Items;
 use linear_terms::{Mono, Poly, add, scale};
 use std::alloc::Global;

@@ -246,7 +246,7 @@ pub(crate) fn leaving(
 }
 
 /// The least of the lines before one, and of that one.
-#[tactic(auto, using(crate::proofs::Leaving::running_least))]
+#[tactic(auto, using(crate::proofs::LeavingLines::running_least))]
 fn least_with(
     t: &Tableau,
     constants: usize,

@@ -18,7 +18,7 @@ use crate::frame::{units_from, with_units};
 use crate::steps::step_product;
 use crate::values::{common_denominator, numerators_over, value_at};
 use crate::{SearchStop, Tableau};
-use farkas_check::{Ratio, Spot};
+use farkas_check::{Ratio, Spot, entry};
 use items::Items;
 use linear_terms::{Mono, Poly};
 use std::alloc::{AllocError, Global};
@@ -117,17 +117,6 @@ fn side_values(
     let mut others = lower_values(alloc, columns, point, lower)?;
     others.push(Ratio::whole(-1))?;
     Ok(both_values(own, others.as_slice())?)
-}
-
-/// The number at a place; 0 past the last.
-pub(crate) fn entry(numbers: &[i128], place: usize) -> i128
-    ensures { result ≡ entry numbers.now place }
-{
-    if place < numbers.len() {
-        numbers[place]
-    } else {
-        0
-    }
 }
 
 /// The line of a spot in its frame.

@@ -22,11 +22,11 @@ use crate::answering::limit_of;
 use crate::corner::line_choosing;
 use crate::differences::{Bond, StrataQuestion, bond_of};
 use crate::goals::case_number;
-use crate::spots::{Spots, entry, no_spots, relation_of, relations_of, unit_lists, with_spot};
+use crate::spots::{Spots, no_spots, relation_of, relations_of, unit_lists, with_spot};
 use crate::{Endings, SearchStop};
 use farkas_check::{
-    Answer, Change, Limit, Ratio, Relation, Spot, Stratum, Tie, canonical_stratum, positivity,
-    stratum_columns, stratum_outcome, truth_of_passing,
+    Answer, Change, Limit, Ratio, Relation, Spot, Stratum, Tie, canonical_stratum, entry,
+    positivity, stratum_columns, stratum_outcome, truth_of_passing,
 };
 use items::Items;
 use linear_terms::{Mono, Poly};

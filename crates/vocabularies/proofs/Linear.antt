@@ -34,7 +34,7 @@ use Rattle.transition_formula.specs.Transition.{is_below}
 use Rattle.transition_formula.proofs.Fitting.{below-true, true-below}
 use Rattle.polyhedra.specs.Directions.{distinct}
 use Rattle.polyhedra.specs.Vocabulary.{IsDirection, IsDirectionOver}
-use Rattle.polyhedra.proofs.Directed.{each-distinct}
+use Rattle.polyhedra.proofs.DirectionShapes.{each-distinct}
 use Rattle.syntax_tree.specs.declared.program.Proc.{Proc}
 use Rattle.syntax_tree.specs.declared.program.Program.{Program}
 use Rattle.syntax_tree.specs.declared.stmt.Stmt.{Stmt}

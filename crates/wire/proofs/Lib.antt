@@ -4,6 +4,6 @@ pub mod JsonTexts
 pub mod RatioTexts
 pub mod Places
 pub mod PlainData
-pub mod Replaying
+pub mod AnswersLeft
 pub mod DistinctAnswers
 pub mod Newlines

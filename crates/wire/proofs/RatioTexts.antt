@@ -15,12 +15,12 @@ use Rattle.std.proofs.lemmas.List.Sums.{position_or_len_is}
 use Rattle.std.proofs.lemmas.Str.Parse.{digit_at}
 use Rattle.std.proofs.Math.ListN.{get_or-append}
 use Rattle.std.proofs.Math.Seq.{drop-append-add, get_or-append_seam, take-append_seam}
-use Rattle.farkas_check.specs.Ratios.{Fraction, IsLowest, is_lowest, whole}
+use Rattle.farkas_check.specs.Ratios.{Fraction, IsLowest, is_lowest, ratio_text, whole}
 use Rattle.serde_json.specs.Data.{string}
 use Rattle.serde_json.specs.View.{view}
 use Rattle.serde_json.specs.declared.value.Value.{Value}
 use Rattle.wire.specs.Shapes.{or_wrong}
-use Rattle.wire.specs.Numbers.{is_slash, number_of, ratio, ratio_cut, ratio_of, ratio_of_two, ratio_over, ratio_text}
+use Rattle.wire.specs.Numbers.{is_slash, number_of, ratio, ratio_cut, ratio_of, ratio_of_two, ratio_over}
 use Rattle.wire.proofs.NumberTexts.{number_of-signed_decimal}
 
 int_lt-true : (x y : ℤ) → x <ℤ y → int_lt x y ≡ true

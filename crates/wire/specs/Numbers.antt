@@ -50,8 +50,3 @@ ratio_of t = ratio_cut (position is_slash t) t
 -- a ratio, which stands as its text
 abbrev pub ratio : Reading Fraction
 ratio d = text d >>= λ t. or_wrong (ratio_of t)
-
--- what is written for a ratio
-abbrev pub ratio_text : Fraction → List ℕ
-ratio_text r =
-    signed_decimal r.num ++ (if int_eq r.den (pos 1) then [] else 47 ∷ signed_decimal r.den)

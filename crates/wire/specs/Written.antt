@@ -11,11 +11,10 @@ use Rattle.farkas_check.specs.declared.answer.Limit.TheVariants.{Wide, Pivots}
 use Rattle.farkas_check.specs.declared.stratum.Relation.{Relation}
 use Rattle.farkas_check.specs.declared.stratum.Spot.{Spot}
 use Rattle.farkas_check.specs.declared.stratum.Tie.{Tie}
-use Rattle.farkas_check.specs.Ratios.{Fraction}
+use Rattle.farkas_check.specs.Ratios.{Fraction, ratio_text}
 use Rattle.serde_json.specs.Data.{Data, number, unsigned, string, boolean, array, object, no_members, member}
 use Rattle.serde_json.specs.View.{items_of}
 use Rattle.items.specs.Gives.{◌>>=◌}
-use Rattle.wire.specs.Numbers.{ratio_text}
 use Rattle.wire.specs.Shapes.{Path, Reading, items_from}
 use Rattle.wire.specs.declared.certificate.Certificate.{Certificate}
 use Rattle.wire.specs.declared.certificate.Version.{Version}

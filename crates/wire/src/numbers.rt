@@ -1,6 +1,7 @@
 ghost use Rattle.std.specs.Prelude.{◌≡◌, ◌∷◌, ◌++◌, IfOk, OnOk, string_bytes};
 ghost use Rattle.std.specs.Fmt.{signed_decimal};
-ghost use Rattle.wire.specs.Numbers.{number_of, ratio_of, ratio_of_two, ratio_over, ratio_text};
+ghost use Rattle.farkas_check.specs.Ratios.{ratio_text};
+ghost use Rattle.wire.specs.Numbers.{number_of, ratio_of, ratio_of_two, ratio_over};
 
 use crate::error::Wrong;
 use crate::shape::{Shape, Written};

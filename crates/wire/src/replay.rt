@@ -67,7 +67,7 @@ impl ListedAnswers {
     }
 
     /// How many are left.
-    #[tactic(auto, using(crate::proofs::Replaying::replays))]
+    #[tactic(auto, using(crate::proofs::AnswersLeft::replays))]
     pub fn left_count(&self) -> usize
         ensures { result ≡ length self.now.left }
     {
@@ -131,7 +131,7 @@ impl Oracle for ListedAnswers {
       left = λ r. Some r.left;
     } };
 
-    #[tactic(auto, using(crate::proofs::Replaying::replays))]
+    #[tactic(auto, using(crate::proofs::AnswersLeft::replays))]
     fn ask(&mut self, alloc: Global, question: &Question) -> Result<Answer, AskError>
         ensures passes { IfOk result (λ answer. Passes question.now answer) }
         ensures sound { IfOk result (λ answer. IsTrueAnswer question.now answer) }

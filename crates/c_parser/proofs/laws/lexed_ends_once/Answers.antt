@@ -1,4 +1,4 @@
-use Rattle.c_parser.proofs.Lexed as lexed
+use Rattle.c_parser.proofs.TokenForms as lexed
 use Rattle.c_parser.proofs.laws.lexed_ends_once.Goals as goal
 
 pub returns : goal.returns

@@ -2,7 +2,7 @@ use Rattle.std.proofs.Common.{ap, sym, ◌∙◌, List}
 use Rattle.std.proofs.lemmas.Result.{err_from_is_err_and}
 use Rattle.c_parser.specs.SourceItem.{SourceItem}
 use Rattle.c_parser.specs.Spots.{Spot}
-use Rattle.c_parser.proofs.Found.{ok_one}
+use Rattle.c_parser.proofs.Derivations.{ok_one}
 use Rattle.c_parser.proofs.Readings.{no_other_error, read_is_reading, within_is_read}
 use Rattle.c_parser.proofs.Refusals.{error_is_refused, error_stated, reading_is_not_refused, refusal_is_one}
 use Rattle.c_parser.proofs.parsing.parse.Goals as goal

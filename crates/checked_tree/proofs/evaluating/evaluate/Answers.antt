@@ -8,7 +8,7 @@ use Rattle.checked_tree.specs.ByNumber.{cell_by, evaluated_cells_by}
 use Rattle.checked_tree.specs.Grown.{formulas_of}
 use Rattle.checked_tree.specs.Growing.{tree_cell, AreGrownCells}
 use Rattle.checked_tree.proofs.GrownCells.{formulas-same, grown-hold, grown-fit}
-use Rattle.checked_tree.proofs.Kept.{wanting, first_fails}
+use Rattle.checked_tree.proofs.LogGains.{wanting, first_fails}
 use Rattle.checked_tree.proofs.ReadyPlans.{plan-ready, plan-growing, plan-evaluated, plan-cells, plan-grown}
 use Rattle.checked_tree.proofs.evaluating.evaluate.Goals as goal
 

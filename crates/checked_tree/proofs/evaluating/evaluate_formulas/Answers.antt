@@ -2,7 +2,7 @@ use Rattle.std.proofs.Common.{refl, sym, ap, subst, ◌∙◌}
 use Rattle.checked_tree.specs.Graph.{Graph}
 use Rattle.checked_tree.specs.Grown.{formulas_of}
 use Rattle.checked_tree.specs.Law.{AreFittedCells, CellsHold}
-use Rattle.checked_tree.proofs.Kept.{error_in_other_words, as_value, halts_plain}
+use Rattle.checked_tree.proofs.LogGains.{error_in_other_words, as_value, halts_plain}
 use Rattle.checked_tree.proofs.evaluating.evaluate_formulas.Goals as goal
 
 pub returns-in_err-cells-clause-follows : goal.returns-in_err-cells-clause-follows

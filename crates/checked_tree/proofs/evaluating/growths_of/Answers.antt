@@ -6,7 +6,7 @@ use Rattle.posing.proofs.Steps.{in_other_words}
 use Rattle.checked_tree.specs.Graph.{Graph}
 use Rattle.checked_tree.specs.ByNumber.{Entries, with_number, entries_of}
 use Rattle.checked_tree.specs.Growing.{entries_in, AreUnderWay, KeepsGrowing}
-use Rattle.checked_tree.proofs.Growing.{entries-bare}
+use Rattle.checked_tree.proofs.Growths.{entries-bare}
 use Rattle.checked_tree.proofs.evaluating.growths_of.Goals as goal
 
 pub with_numbers-requires : goal.with_numbers-requires

@@ -7,8 +7,8 @@ use Rattle.posing.proofs.Steps.{each_next}
 use Rattle.checked_tree.specs.Graph.{Graph}
 use Rattle.checked_tree.specs.ByNumber.{with_number}
 use Rattle.checked_tree.specs.Growing.{entries_in, AreGrowing}
-use Rattle.checked_tree.proofs.Growing.{next-growth, growing-next}
-use Rattle.checked_tree.proofs.Kept.{step_fails}
+use Rattle.checked_tree.proofs.Growths.{next-growth, growing-next}
+use Rattle.checked_tree.proofs.LogGains.{step_fails}
 use Rattle.checked_tree.proofs.evaluating.with_numbers.Goals as goal
 
 -- the default counts for nothing where there is an element

@@ -11,7 +11,7 @@ use Rattle.checked_tree.specs.Evaluation.{leaf_formula}
 use Rattle.checked_tree.specs.Law.{IsEnd, IsFrom}
 use Rattle.checked_tree.specs.Tree.{Leaf, own_of, tree_of}
 use Rattle.checked_tree.specs.Growing.{IsLeafOf}
-use Rattle.checked_tree.proofs.Kept.{if_all}
+use Rattle.checked_tree.proofs.LogGains.{if_all}
 use Rattle.checked_tree.proofs.making.of_link.Goals as goal
 
 pub leaf-requires-clause-between : goal.leaf-requires-clause-between

@@ -10,8 +10,8 @@ use Rattle.checked_tree.specs.Graph.{Graph, bare_links}
 use Rattle.checked_tree.specs.ByNumber.{Entries, ends_by, formula_by, key_at, with_number}
 use Rattle.checked_tree.specs.Tree.{formula_of, tree_of}
 use Rattle.checked_tree.specs.Growing.{entries_in, IsGrowable, IsTreeBy}
-use Rattle.checked_tree.proofs.Growing.{entries-set}
-use Rattle.checked_tree.proofs.Kept.{first_fails}
+use Rattle.checked_tree.proofs.Growths.{entries-set}
+use Rattle.checked_tree.proofs.LogGains.{first_fails}
 use Rattle.checked_tree.proofs.making.with_number.Goals as goal
 
 -- the nodes of a key's path are those of the links alone

@@ -1,7 +1,7 @@
 use Rattle.std.proofs.Common.{[], subst, sym}
 use Rattle.path_expr.specs.Elimination.{path_at}
 use Rattle.checked_tree.specs.Plan.{ArePathsOf}
-use Rattle.checked_tree.proofs.Numbered.{cell-of}
+use Rattle.checked_tree.proofs.NumberedKeys.{cell-of}
 use Rattle.checked_tree.proofs.plan.elimination_plan.Goals as goal
 
 pub returns-in-Ok : goal.returns-in-Ok

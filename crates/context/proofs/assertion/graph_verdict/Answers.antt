@@ -14,7 +14,7 @@ use Rattle.context.specs.Verdicts.{verdict_of}
 use Rattle.context.proofs.CheckPlaces.{check-within, cond-fits, cond-is, stand-fits}
 use Rattle.context.proofs.AssertionPlaces.{some-one}
 use Rattle.context.proofs.PlaceColumns.{got}
-use Rattle.context.proofs.Sound.{never-fails}
+use Rattle.context.proofs.Soundness.{never-fails}
 use Rattle.context.proofs.assertion.graph_verdict.Goals as goal
 
 pub bounds-as_slice-check-2 : goal.bounds-as_slice-check-2

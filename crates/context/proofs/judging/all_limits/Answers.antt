@@ -1,4 +1,4 @@
-use Rattle.context.proofs.Chosen.{limits-all}
+use Rattle.context.proofs.CaseVerdicts.{limits-all}
 use Rattle.context.proofs.judging.all_limits.Goals as goal
 
 pub returns : goal.returns

@@ -1,7 +1,7 @@
 use Rattle.std.proofs.Common.{refl, sym, ap, ◌∙◌}
 use Rattle.posing.proofs.Steps.{at_end, in_other_words, notes_first}
 use Rattle.context.specs.Verdicts.{case_verdict, verdict_left}
-use Rattle.context.proofs.Chosen.{left-known, none-known}
+use Rattle.context.proofs.CaseVerdicts.{left-known, none-known}
 use Rattle.context.proofs.judging.case_verdict.Goals as goal
 
 pub returns-in-None-clause-follows : goal.returns-in-None-clause-follows

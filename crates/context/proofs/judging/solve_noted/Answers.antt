@@ -1,4 +1,4 @@
-use Rattle.context.proofs.Chosen.{kept-known, false-known}
+use Rattle.context.proofs.CaseVerdicts.{kept-known, false-known}
 use Rattle.context.proofs.judging.solve_noted.Goals as goal
 
 pub returns-in-Kept-clause-known : goal.returns-in-Kept-clause-known

@@ -1,4 +1,4 @@
-use Rattle.context.proofs.Chosen.{one-behind}
+use Rattle.context.proofs.CaseVerdicts.{one-behind}
 use Rattle.context.proofs.judging.verdict_from.Goals as goal
 
 pub loop-verdict-preserved : goal.loop-verdict-preserved

@@ -3,7 +3,7 @@ use Rattle.posing.specs.Posing.{Done, Noted}
 use Rattle.posing.proofs.Steps.{at_end, notes_first, value_first}
 use Rattle.context.specs.Judging.{IsVerdictOnAll}
 use Rattle.context.specs.Verdicts.{verdict_on_cases_from, limits_of, verdict_from}
-use Rattle.context.proofs.Chosen.{all-known}
+use Rattle.context.proofs.CaseVerdicts.{all-known}
 use Rattle.context.proofs.judging.verdict_on_cases.Goals as goal
 
 pub returns-clause-follows : goal.returns-clause-follows

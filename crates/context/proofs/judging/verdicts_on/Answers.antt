@@ -7,7 +7,7 @@ use Rattle.context.specs.Judging.{AreVerdictsOn}
 use Rattle.context.specs.Verdicts.{with_verdict}
 use Rattle.posing.proofs.Following.{leads_none}
 use Rattle.posing.proofs.Steps.{each_next, each_fails}
-use Rattle.context.proofs.Chosen.{one-more, take-one}
+use Rattle.context.proofs.CaseVerdicts.{one-more, take-one}
 use Rattle.context.proofs.judging.verdicts_on.Goals as goal
 
 pub loop-case-init : goal.loop-case-init

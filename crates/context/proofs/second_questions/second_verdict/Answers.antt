@@ -30,4 +30,4 @@ unfolding second_verdict
 returns g c =
     in_other_words
     (asked-after c.in_ok-rows.rows c.args.verdict (λ none. let e = c.is_empty.ensures.1 none in let f = c.if-is_empty.false in cc) ∙ ap (λ rows. verdict_after rows c.args.verdict) c.in_ok-rows.ensures)
-    (value_first (λ answer. Done (proved_if (is_yes answer) c.args.verdict)) c.in_ok-answer.ensures refl (at_end c.proved_by.ensures))
+    (value_first (λ answer. Done (proved_if (is_yes answer) c.args.verdict)) c.in_ok-answer.ensures refl (at_end c.verdict_with_products.ensures))

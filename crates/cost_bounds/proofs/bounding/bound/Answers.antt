@@ -5,7 +5,7 @@ use Rattle.cost_bounds.specs.declared.cost.Cost.{Cost}
 use Rattle.cost_bounds.specs.Says.{IsMetByCase, Says}
 use Rattle.posing.specs.Follows.{IsGood}
 use Rattle.posing.proofs.Under.{under-result}
-use Rattle.cost_bounds.proofs.Sound.{IsSound, case_cost-sound}
+use Rattle.cost_bounds.proofs.Soundness.{IsSound, case_cost-sound}
 use Rattle.cost_bounds.proofs.bounding.bound.Goals as goal
 
 weaker : (P Q : Cost → Type 0) → ((made : Cost) → P made → Q made) → (r : Result Cost WorkError) → IfOk r P → IfOk r Q

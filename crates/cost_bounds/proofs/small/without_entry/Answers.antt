@@ -2,7 +2,7 @@ use Rattle.std.proofs.Common.{ℕ, ◌≤◌, ◌<◌, length, refl, sym, ap, ar
 use Rattle.std.proofs.lemmas.Option.{slice_get_past}
 use Rattle.posing.proofs.Steps.{at_end, in_other_words}
 use Rattle.cost_bounds.specs.Small.{entry_trial, without_entry}
-use Rattle.cost_bounds.proofs.Asked.{entry-there}
+use Rattle.cost_bounds.proofs.QuestionRows.{entry-there}
 use Rattle.cost_bounds.proofs.small.without_entry.Goals as goal
 
 pub returns-then-place-len : goal.returns-then-place-len

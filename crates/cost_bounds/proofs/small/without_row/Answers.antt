@@ -2,7 +2,7 @@ use Rattle.std.proofs.Common.{true, false, ◌≤◌, length, refl, sym, ap, ari
 use Rattle.std.proofs.lemmas.Option.{slice_get_past}
 use Rattle.posing.proofs.Steps.{at_end, in_other_words}
 use Rattle.cost_bounds.specs.Small.{row_trial, without_row}
-use Rattle.cost_bounds.proofs.Asked.{row-there}
+use Rattle.cost_bounds.proofs.QuestionRows.{row-there}
 use Rattle.cost_bounds.proofs.small.without_row.Goals as goal
 
 pub returns-then-place-len : goal.returns-then-place-len

@@ -2,7 +2,7 @@ use Rattle.std.proofs.Common.{◌≡◌, ◌≤◌, ◌<◌, length, sym, subst,
 use Rattle.std.specs.Prelude.{◌^◌, unsigned_abs}
 use Rattle.farkas_check.specs.Relations.{entry}
 use Rattle.simplex.proofs.CalmRelations.{at_chosen-none}
-use Rattle.elimination.proofs.Chosen.{at_chosen-first}
+use Rattle.elimination.proofs.ChosenNumbers.{at_chosen-first}
 use Rattle.elimination.proofs.Few.{each_at}
 use Rattle.elimination.proofs.Magnitudes.{read}
 use Rattle.elimination.proofs.kernel.number_of.Goals as goal

@@ -3,7 +3,7 @@ use Rattle.std.specs.Int.{w128}
 use Rattle.farkas_check.specs.Calm.{at_chosen}
 use Rattle.farkas_check.specs.Relations.{entry}
 use Rattle.elimination.specs.Stages.{spread}
-use Rattle.elimination.proofs.Chosen.{spread-more}
+use Rattle.elimination.proofs.ChosenNumbers.{spread-more}
 use Rattle.elimination.proofs.Magnitudes.{read}
 use Rattle.elimination.proofs.kernel.spread.Goals as goal
 

@@ -3,7 +3,7 @@ use Rattle.std.proofs.lemmas.Result.{IfOk-weaker}
 use Rattle.farkas_check.specs.Ratios.{Fraction}
 use Rattle.elimination.specs.Echelon.{IsReducedOf}
 use Rattle.elimination.specs.Spaces.{HasWidth, IsBasisOf}
-use Rattle.elimination.proofs.Spanning.{width_of, reduced_of}
+use Rattle.elimination.proofs.RowSpans.{width_of, reduced_of}
 use Rattle.elimination.proofs.reduction.reduced_basis.Goals as goal
 
 pub basis-requires-clause-width : goal.basis-requires-clause-width

@@ -1,7 +1,7 @@
 use Rattle.std.proofs.Common.{List, arith, subst}
 use Rattle.farkas_check.specs.Ratios.{Fraction}
 use Rattle.elimination.specs.Spaces.{IsClearing}
-use Rattle.elimination.proofs.Spanning.{none_yet, next_row, few_at}
+use Rattle.elimination.proofs.RowSpans.{none_yet, next_row, few_at}
 use Rattle.elimination.proofs.reduction.span_of.Goals as goal
 
 pub loop-row-init : goal.loop-row-init

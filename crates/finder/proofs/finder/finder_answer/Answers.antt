@@ -1,4 +1,4 @@
-use Rattle.finder.proofs.Founding.{found_elsewhere}
+use Rattle.finder.proofs.CalmQuestions.{found_elsewhere}
 use Rattle.finder.proofs.finder.finder_answer.Goals as goal
 
 pub returns-in_default : goal.returns-in_default

@@ -1,5 +1,5 @@
 use Rattle.std.proofs.Common.{◌∙◌}
-use Rattle.leaf_cases.proofs.Stated.{one_copied, all_copied}
+use Rattle.leaf_cases.proofs.StatedPolys.{one_copied, all_copied}
 use Rattle.leaf_cases.proofs.call.copies.Goals as goal
 
 pub loop-post-preserved : goal.loop-post-preserved

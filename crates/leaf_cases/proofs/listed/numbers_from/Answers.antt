@@ -1,5 +1,5 @@
 use Rattle.std.proofs.Common.{arith}
-use Rattle.leaf_cases.proofs.Moved.{range-more}
+use Rattle.leaf_cases.proofs.AuxiliaryMoves.{range-more}
 use Rattle.leaf_cases.proofs.listed.numbers_from.Goals as goal
 
 pub loop-number-preserved : goal.loop-number-preserved

@@ -3,7 +3,7 @@ use Rattle.std.specs.List.{flat_map}
 use Rattle.transition_formula.proofs.Loops.{one_gathered, all_gathered}
 use Rattle.leaf_cases.specs.Steps.{cases_of_step, losses_at}
 use Rattle.leaf_cases.specs.Steps as steps
-use Rattle.leaf_cases.proofs.Stated.{default_free}
+use Rattle.leaf_cases.proofs.StatedPolys.{default_free}
 use Rattle.leaf_cases.proofs.step.cases_by.Goals as goal
 
 pub loop-step-preserved : goal.loop-step-preserved

@@ -3,7 +3,7 @@ use Rattle.items.proofs.Gives.{Gives-Ok}
 use Rattle.linear_terms.specs.TermError.{cause}
 use Rattle.posing.proofs.Following.{stops}
 use Rattle.phases.specs.Splits.{contrary}
-use Rattle.phases.proofs.Halved.{contrary-over}
+use Rattle.phases.proofs.SplitHalves.{contrary-over}
 use Rattle.phases.proofs.halving.halves_at.Goals as goal
 
 pub halves_by-requires-clause-opposite : goal.halves_by-requires-clause-opposite

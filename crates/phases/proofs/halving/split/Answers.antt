@@ -1,7 +1,7 @@
 use Rattle.std.proofs.Common.{subst, sym, ◌∙◌}
 use Rattle.std.specs.List.{AllByRecursion}
 use Rattle.phases.specs.Words.{IsOverEntries}
-use Rattle.phases.proofs.Halved.{splits-over}
+use Rattle.phases.proofs.SplitHalves.{splits-over}
 use Rattle.phases.proofs.halving.split.Goals as goal
 
 pub first_halves-requires-clause-tried : goal.first_halves-requires-clause-tried

@@ -1,7 +1,7 @@
 use Rattle.transition_formula.specs.Transition.{Transition}
 use Rattle.posing.proofs.Steps.{value_has}
 use Rattle.phases.specs.Words.{AreExcludable}
-use Rattle.phases.proofs.Halved.{turns_where-excludable}
+use Rattle.phases.proofs.SplitHalves.{turns_where-excludable}
 use Rattle.phases.proofs.halving.with_first.Goals as goal
 
 pub halves_of-requires : goal.halves_of-requires

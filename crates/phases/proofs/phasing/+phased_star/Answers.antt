@@ -4,7 +4,7 @@ use Rattle.posing.proofs.Steps.{error_first, in_other_words, value_first, value_
 use Rattle.phases.specs.Law.{IsPhased}
 use Rattle.phases.specs.Phases.{in_turn, phased_star, star_by_halves}
 use Rattle.phases.specs.Words.{AreRoomy, IfFound, IsRoomy}
-use Rattle.phases.proofs.Halved.{split-roomy}
+use Rattle.phases.proofs.SplitHalves.{split-roomy}
 use Rattle.phases.proofs.Whole.{in_turn-ready, phased-small}
 use Rattle.phases.proofs.phasing.+phased_star.Goals as goal
 

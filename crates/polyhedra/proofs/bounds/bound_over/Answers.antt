@@ -6,7 +6,7 @@ use Rattle.polyhedra.specs.Bounds.{bound_by}
 use Rattle.polyhedra.specs.Kept.{with_objectives, objectives_of}
 use Rattle.posing.proofs.Following.{stops}
 use Rattle.posing.proofs.Steps.{notes_first, at_end, in_other_words}
-use Rattle.polyhedra.proofs.Kept.{AreOver-next, goals_of-kept}
+use Rattle.polyhedra.proofs.GoalObjectives.{AreOver-next, goals_of-kept}
 use Rattle.polyhedra.proofs.bounds.bound_over.Goals as goal
 
 pub returns-in-Ok-clause-follows : goal.returns-in-Ok-clause-follows

@@ -3,7 +3,7 @@ use Rattle.posing.proofs.Following.{leads_none, loop_ends, stops}
 use Rattle.posing.proofs.Steps.{each_next, each_fails}
 use Rattle.polyhedra.specs.Bounds.{IsCoveredByPosts, rows_with_exit_bound}
 use Rattle.polyhedra.specs.Kept.{AreOver}
-use Rattle.polyhedra.proofs.Kept.{AreOver-first}
+use Rattle.polyhedra.proofs.GoalObjectives.{AreOver-first}
 use Rattle.polyhedra.proofs.bounds.bounds_after.Goals as goal
 
 pub loop-d-init : goal.loop-d-init

@@ -4,7 +4,7 @@ use Rattle.polyhedra.specs.Changes.{change}
 use Rattle.polyhedra.specs.Bounds.{for_entries}
 use Rattle.polyhedra.specs.Kept.{objectives_of}
 use Rattle.polyhedra.proofs.Objectives.{objectives_of-next}
-use Rattle.polyhedra.proofs.Tabled.{table-at, table-covers}
+use Rattle.polyhedra.proofs.ChangeTables.{table-at, table-covers}
 use Rattle.polyhedra.proofs.bounds.objectives_on_changes.Goals as goal
 
 pub objective-requires : goal.objective-requires

@@ -5,7 +5,7 @@ use Rattle.linear_terms.specs.Expressions.{Made, column}
 use Rattle.linear_terms.specs.Polynomial.{Polynomial}
 use Rattle.polyhedra.specs.Directions.{both_signs}
 use Rattle.polyhedra.specs.Keys.{with_each}
-use Rattle.polyhedra.proofs.Found.{with_each-next}
+use Rattle.polyhedra.proofs.DirectionSets.{with_each-next}
 use Rattle.polyhedra.proofs.candidates.add_columns.Goals as goal
 
 unfoldable of_column : ℕ → List Made

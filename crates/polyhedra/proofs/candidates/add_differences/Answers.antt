@@ -3,7 +3,7 @@ use Rattle.std.specs.List.{flat_map}
 use Rattle.linear_terms.specs.Polynomial.{Polynomial}
 use Rattle.polyhedra.specs.Directions.{less_others}
 use Rattle.polyhedra.specs.Keys.{with_each}
-use Rattle.polyhedra.proofs.Found.{with_each-next}
+use Rattle.polyhedra.proofs.DirectionSets.{with_each-next}
 use Rattle.polyhedra.proofs.candidates.add_differences.Goals as goal
 
 pub loop-u-preserved : goal.loop-u-preserved

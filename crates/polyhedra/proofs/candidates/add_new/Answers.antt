@@ -1,6 +1,6 @@
 use Rattle.std.proofs.Common.{sym, subst, ◌∙◌}
 use Rattle.polyhedra.specs.Keys.{TellsMade}
-use Rattle.polyhedra.proofs.Found.{is_new, is_there, tells-new}
+use Rattle.polyhedra.proofs.DirectionSets.{is_new, is_there, tells-new}
 use Rattle.polyhedra.proofs.candidates.add_new.Goals as goal
 
 pub returns-in_ok-push-clause-known : goal.returns-in_ok-push-clause-known

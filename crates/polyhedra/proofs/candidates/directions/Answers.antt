@@ -4,7 +4,7 @@ use Rattle.linear_terms.specs.declared.col.Col.TheVariants.{At}
 use Rattle.linear_terms.specs.Expressions.{Made, column}
 use Rattle.polyhedra.specs.Directions.{both_signs, less_others, directions}
 use Rattle.polyhedra.specs.Keys.{with_each}
-use Rattle.polyhedra.proofs.Found.{with_each-append}
+use Rattle.polyhedra.proofs.DirectionSets.{with_each-append}
 use Rattle.polyhedra.proofs.candidates.directions.Goals as goal
 
 joined : (xs ys zs : List Made) → with_each [] (xs ++ ys ++ zs) ≡ with_each (with_each (with_each [] xs) ys) zs

@@ -1,5 +1,5 @@
 use Rattle.polyhedra.specs.Changes.{change}
-use Rattle.polyhedra.proofs.Tabled.{table_of-none, table_of-more}
+use Rattle.polyhedra.proofs.ChangeTables.{table_of-none, table_of-more}
 use Rattle.polyhedra.proofs.changes.moves_of.Goals as goal
 
 pub loop-v-init : goal.loop-v-init

@@ -8,7 +8,7 @@ use Rattle.polyhedra.specs.Bounds.{IsCovered, for_entries}
 use Rattle.polyhedra.specs.Changes.{change}
 use Rattle.polyhedra.specs.Tables.{first_fault}
 use Rattle.linear_terms.specs.Expressions.{put_into}
-use Rattle.polyhedra.proofs.Tabled.{put_into-fault, put_into-made, fails_by-same}
+use Rattle.polyhedra.proofs.ChangeTables.{put_into-fault, put_into-made, fails_by-same}
 use Rattle.polyhedra.proofs.changes.objective.Goals as goal
 
 pub returns-in-Some : goal.returns-in-Some

@@ -4,7 +4,7 @@ use Rattle.posing.proofs.Following.{stops}
 use Rattle.posing.proofs.Steps.{value_first, error_first}
 use Rattle.polyhedra.specs.Bounds.{rows_with_entry_bound}
 use Rattle.polyhedra.specs.Squash.{with_bounds}
-use Rattle.polyhedra.proofs.Covering.{modified-few}
+use Rattle.polyhedra.proofs.Coverage.{modified-few}
 use Rattle.polyhedra.proofs.Same.{same-ends}
 use Rattle.polyhedra.proofs.fitting.bounds.Goals as goal
 

@@ -6,7 +6,7 @@ use Rattle.polyhedra.specs.Relations.{relations_of}
 use Rattle.polyhedra.specs.Squash.{change_after, entries_of, with_relations, change_relations}
 use Rattle.posing.proofs.Following.{stops}
 use Rattle.posing.proofs.Steps.{value_first, error_first, at_end, in_other_words}
-use Rattle.polyhedra.proofs.Covering.{equally_many}
+use Rattle.polyhedra.proofs.Coverage.{equally_many}
 use Rattle.polyhedra.proofs.RelationRows.{noted_rows}
 use Rattle.polyhedra.proofs.fitting.change_relations.Goals as goal
 

@@ -1,4 +1,4 @@
-use Rattle.polyhedra.proofs.Fitted.{fitted-covers}
+use Rattle.polyhedra.proofs.FitLaws.{fitted-covers}
 use Rattle.polyhedra.proofs.fitting.coverage_of_fitting.Goals as goal
 
 pub returns : goal.returns

@@ -10,7 +10,7 @@ use Rattle.polyhedra.specs.Bounds.{IsCovered, bounded_change}
 use Rattle.polyhedra.specs.Changes.{modified_variables}
 use Rattle.polyhedra.specs.Squash.{change_after, changes_after, with_differences}
 use Rattle.polyhedra.specs.Vocabulary.{Vocabulary}
-use Rattle.polyhedra.proofs.Covering.{directions-covered}
+use Rattle.polyhedra.proofs.Coverage.{directions-covered}
 use Rattle.polyhedra.proofs.fitting.differences.Goals as goal
 
 none_asked : (b : Bool) (f : Transition) (voc : Vocabulary) (rows : List Row) → b ≡ false → Done rows ≡ with_differences b f voc rows

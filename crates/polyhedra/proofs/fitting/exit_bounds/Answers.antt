@@ -7,7 +7,7 @@ use Rattle.posing.proofs.Steps.{in_other_words}
 use Rattle.polyhedra.specs.Bounds.{IsCovered, IsCoveredByPosts, rows_with_exit_bound}
 use Rattle.polyhedra.specs.Directions.{directions}
 use Rattle.polyhedra.specs.Squash.{after_from, posts_after}
-use Rattle.polyhedra.proofs.Covering.{directions-covered, directions-covered_by_posts}
+use Rattle.polyhedra.proofs.Coverage.{directions-covered, directions-covered_by_posts}
 use Rattle.polyhedra.proofs.fitting.exit_bounds.Goals as goal
 
 pub posts_after-requires : goal.posts_after-requires

@@ -1,6 +1,6 @@
 use Rattle.transition_formula.specs.Meaning.{Covers}
 use Rattle.polyhedra.specs.Laws.{IsSmall}
-use Rattle.polyhedra.proofs.Fitted.{fitted-covers, fitted-small}
+use Rattle.polyhedra.proofs.FitLaws.{fitted-covers, fitted-small}
 use Rattle.polyhedra.proofs.Results.{result_has}
 use Rattle.polyhedra.proofs.fitting.fit.Goals as goal
 

@@ -1,4 +1,4 @@
-use Rattle.polyhedra.proofs.Fitted.{fitted-small}
+use Rattle.polyhedra.proofs.FitLaws.{fitted-small}
 use Rattle.polyhedra.proofs.fitting.size_of_fitting.Goals as goal
 
 pub returns : goal.returns

@@ -2,8 +2,8 @@ use Rattle.std.proofs.Common.{ap, ◌∙◌, refl}
 use Rattle.posing.proofs.Following.{stops}
 use Rattle.posing.proofs.Steps.{value_first, error_first, at_end, in_other_words, value_has}
 use Rattle.polyhedra.specs.Squash.{squashed_case, squashed_formula}
-use Rattle.polyhedra.proofs.Finished.{FinishedLeft}
-use Rattle.polyhedra.proofs.Fitted.{IsSquash, case-squash, squash-solvable, squash-left, left-small}
+use Rattle.polyhedra.proofs.FinishLaws.{FinishedLeft}
+use Rattle.polyhedra.proofs.FitLaws.{IsSquash, case-squash, squash-solvable, squash-left, left-small}
 use Rattle.polyhedra.proofs.Same.{same-decided}
 use Rattle.polyhedra.proofs.fitting.squash.Goals as goal
 

@@ -1,7 +1,7 @@
 use Rattle.std.proofs.Common.{length, refl, ap, ◌∙◌, arith}
 use Rattle.posing.proofs.Steps.{value_first, error_first}
 use Rattle.polyhedra.specs.Squash.{squash_rows}
-use Rattle.polyhedra.proofs.Covering.{modified-few}
+use Rattle.polyhedra.proofs.Coverage.{modified-few}
 use Rattle.polyhedra.proofs.fitting.squash_rows.Goals as goal
 
 pub change_relations-requires : goal.change_relations-requires

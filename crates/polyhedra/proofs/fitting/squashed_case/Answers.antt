@@ -2,7 +2,7 @@ use Rattle.std.proofs.Common.{length, refl, ap, ◌∙◌, arith}
 use Rattle.posing.proofs.Following.{stops}
 use Rattle.posing.proofs.Steps.{value_first, error_first, notes_first, at_end}
 use Rattle.polyhedra.specs.Squash.{squashed_case}
-use Rattle.polyhedra.proofs.Covering.{modified-few}
+use Rattle.polyhedra.proofs.Coverage.{modified-few}
 use Rattle.polyhedra.proofs.fitting.squashed_case.Goals as goal
 
 pub overflow_cast-aux : goal.overflow_cast-aux

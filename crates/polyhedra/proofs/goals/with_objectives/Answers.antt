@@ -1,7 +1,7 @@
 use Rattle.std.proofs.Common.{◌≡◌, ◌+◌, ◌<◌, length, sym, ap, ◌∙◌}
 use Rattle.std.proofs.Math.Seq.{take-append_seam}
 use Rattle.std.proofs.lemmas.List.{set-get_or}
-use Rattle.polyhedra.proofs.Kept.{put_from, put_from-start, put_from-next, put_from-none, put_from-end}
+use Rattle.polyhedra.proofs.GoalObjectives.{put_from, put_from-start, put_from-next, put_from-none, put_from-end}
 use Rattle.polyhedra.proofs.goals.with_objectives.Goals.{in-Some, in_default}
 use Rattle.polyhedra.proofs.goals.with_objectives.Goals as goal
 

@@ -1,6 +1,6 @@
 use Rattle.std.proofs.Common.{◌≡◌}
 use Rattle.polyhedra.specs.Kept.{with_objectives}
-use Rattle.polyhedra.proofs.Kept.{put_from}
+use Rattle.polyhedra.proofs.GoalObjectives.{put_from}
 use Rattle.polyhedra.proofs.goals.with_objectives.Given as goal
 
 abbrev pub invariant-loop-goal : goal.invariant-loop-goal

@@ -1,4 +1,4 @@
-use Rattle.polyhedra.proofs.Settled.{settled-covers}
+use Rattle.polyhedra.proofs.SettleLaws.{settled-covers}
 use Rattle.polyhedra.proofs.settling.coverage_of_settling.Goals as goal
 
 pub returns : goal.returns

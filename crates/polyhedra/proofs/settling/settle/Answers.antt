@@ -4,7 +4,7 @@ use Rattle.transition_formula.specs.Transition.{IsTransition}
 use Rattle.polyhedra.specs.Laws.{HaveCanonicalRows}
 use Rattle.polyhedra.specs.Settle.{settled_formula, settled_cases}
 use Rattle.posing.proofs.Steps.{value_first, error_first, at_end, value_has}
-use Rattle.polyhedra.proofs.Settled.{settled-covers, settled_cases-fit}
+use Rattle.polyhedra.proofs.SettleLaws.{settled-covers, settled_cases-fit}
 use Rattle.polyhedra.proofs.settling.settle.Goals as goal
 
 pub returns-in_err-cases-clause-follows : goal.returns-in_err-cases-clause-follows

@@ -3,7 +3,7 @@ use Rattle.std.specs.Prelude.{IfOk}
 use Rattle.linear_terms.specs.declared.row.Case.{Case}
 use Rattle.polyhedra.specs.Laws.{IsWider}
 use Rattle.polyhedra.proofs.Results.{result_has}
-use Rattle.polyhedra.proofs.Thinned.{thinned-covers}
+use Rattle.polyhedra.proofs.ThinLaws.{thinned-covers}
 use Rattle.polyhedra.proofs.thinning.thin.Goals as goal
 
 pub returns-clause-covers : goal.returns-clause-covers

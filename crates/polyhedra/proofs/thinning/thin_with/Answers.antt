@@ -8,7 +8,7 @@ use Rattle.polyhedra.specs.Infeasibility.{assent}
 use Rattle.polyhedra.specs.Thin.{without_if, thinning_with}
 use Rattle.posing.proofs.Following.{stops}
 use Rattle.posing.proofs.Steps.{value_first, error_first, at_end}
-use Rattle.polyhedra.proofs.Thinned.{put_back}
+use Rattle.polyhedra.proofs.ThinLaws.{put_back}
 use Rattle.polyhedra.proofs.thinning.thin_with.Goals as goal
 
 pub with_row_unless-requires : goal.with_row_unless-requires

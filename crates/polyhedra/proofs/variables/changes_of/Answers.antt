@@ -1,5 +1,5 @@
 use Rattle.std.proofs.Common.{◌<◌, sym, subst}
-use Rattle.polyhedra.proofs.Varying.{changes_from-next}
+use Rattle.polyhedra.proofs.ModifiedVariables.{changes_from-next}
 use Rattle.polyhedra.proofs.variables.changes_of.Goals as goal
 
 pub loop-place-preserved : goal.loop-place-preserved

@@ -1,6 +1,6 @@
 use Rattle.std.proofs.Common.{sym, ◌∙◌}
 use Rattle.polyhedra.specs.Tables.{is_moved_in}
-use Rattle.polyhedra.proofs.Varying.{filtered-with, filtered-without}
+use Rattle.polyhedra.proofs.ModifiedVariables.{filtered-with, filtered-without}
 use Rattle.polyhedra.proofs.variables.modified_variables.Goals as goal
 use Rattle.polyhedra.proofs.variables.modified_variables.Goals.{then-is_moved_in+in_ok-push, else-is_moved_in}
 

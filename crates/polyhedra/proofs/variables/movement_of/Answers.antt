@@ -5,8 +5,8 @@ use Rattle.linear_terms.specs.declared.row.Case.{Case}
 use Rattle.posing.specs.Logs.{loss_notes}
 use Rattle.polyhedra.specs.Changes.{occurs_in}
 use Rattle.polyhedra.specs.Tables.{table_of, is_moved_in, is_made_in, first_of, losses_at, changes_from}
-use Rattle.polyhedra.proofs.Covering.{posts-long}
-use Rattle.polyhedra.proofs.Varying.{modified-tables, moving-tables, losses-tables, changes-tables}
+use Rattle.polyhedra.proofs.Coverage.{posts-long}
+use Rattle.polyhedra.proofs.ModifiedVariables.{modified-tables, moving-tables, losses-tables, changes-tables}
 use Rattle.polyhedra.proofs.variables.movement_of.Goals as goal
 
 pub tables_of-requires : goal.tables_of-requires

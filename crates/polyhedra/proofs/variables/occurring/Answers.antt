@@ -1,6 +1,6 @@
 use Rattle.std.proofs.Common.{sym, ◌∙◌}
 use Rattle.polyhedra.specs.Changes.{occurs_in}
-use Rattle.polyhedra.proofs.Varying.{filtered-with, filtered-without}
+use Rattle.polyhedra.proofs.ModifiedVariables.{filtered-with, filtered-without}
 use Rattle.polyhedra.proofs.variables.occurring.Goals as goal
 use Rattle.polyhedra.proofs.variables.occurring.Goals.{then-occurs_in+in_ok-push, else-occurs_in}
 

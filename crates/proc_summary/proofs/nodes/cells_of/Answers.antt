@@ -1,7 +1,7 @@
 use Rattle.std.proofs.Common.{refl, sym, ap, subst, ◌∙◌}
 use Rattle.checked_tree.specs.Grown.{formulas_of}
 use Rattle.checked_tree.specs.Law.{AreFittedCells}
-use Rattle.checked_tree.proofs.Kept.{error_in_other_words, as_value, halts_plain}
+use Rattle.checked_tree.proofs.LogGains.{error_in_other_words, as_value, halts_plain}
 use Rattle.proc_summary.specs.Claims.{HoldsOfWalks}
 use Rattle.proc_summary.specs.Subject.{graph_by, subject_of}
 use Rattle.proc_summary.proofs.nodes.cells_of.Goals as goal

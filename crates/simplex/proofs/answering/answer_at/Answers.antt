@@ -7,7 +7,7 @@ use Rattle.simplex.specs.declared.search.SearchEnd.{SearchEnd}
 use Rattle.simplex.specs.declared.search.SearchEnd.TheVariants as found
 use Rattle.simplex.proofs.Points.{multipliers-are}
 use Rattle.simplex.specs.Refusal.{IsRefusalIn}
-use Rattle.simplex.proofs.Refusing.{refused}
+use Rattle.simplex.proofs.Overruns.{refused}
 use Rattle.simplex.proofs.answering.answer_at.Goals as goal
 
 pub returns-in_err-corner-in-Corner-clause-refusal : goal.returns-in_err-corner-in-Corner-clause-refusal

@@ -1,7 +1,7 @@
 use Rattle.std.proofs.Common.{arith, refl, ap, ◌∙◌, ◌≡◌, [], length, rules}
 use Rattle.farkas_check.specs.Columns.{columns}
 use Rattle.simplex.specs.Rows.{framed_tableau, kinds_of}
-use Rattle.simplex.proofs.Framing.{kinds-length, solving-at}
+use Rattle.simplex.proofs.RowTableaux.{kinds-length, solving-at}
 use Rattle.simplex.proofs.Honest.{found_at, refusal_at}
 use Rattle.simplex.proofs.answering.searched_rows.Goals as goal
 

@@ -6,7 +6,7 @@ use Rattle.simplex.specs.CalmStrata.{IsRefusalOf}
 use Rattle.simplex.specs.Differences.{with_multiples}
 use Rattle.simplex.proofs.CalmHalves.{IsReady, first_sum, second_sum, third_sum}
 use Rattle.simplex.proofs.CalmSteps.{refusal_error}
-use Rattle.simplex.proofs.Signed.{asked_difference}
+use Rattle.simplex.proofs.RaisedDifferences.{asked_difference}
 use Rattle.simplex.proofs.differences.difference_with.Goals as goal
 
 pub returns-clause-difference : goal.returns-clause-difference

@@ -8,7 +8,7 @@ use Rattle.simplex.specs.Wider.{widened_numbers, unit_ray}
 use Rattle.simplex.specs.declared.supremum.Supremum.TheVariants as supremum
 use Rattle.simplex.proofs.OtherGoals.{many}
 use Rattle.simplex.proofs.OwnColumns.{refused_over, opened_wide}
-use Rattle.simplex.proofs.Refusing.{refused}
+use Rattle.simplex.proofs.Overruns.{refused}
 use Rattle.simplex.proofs.next_supremum.ray_supremum.Goals as goal
 
 pub returns-in_err-point-clause-refusal : goal.returns-in_err-point-clause-refusal

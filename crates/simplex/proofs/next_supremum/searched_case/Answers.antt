@@ -4,7 +4,7 @@ use Rattle.simplex.specs.Refusal.{IsRefusalIn}
 use Rattle.simplex.specs.Rows.{framed_tableau, kinds_of}
 use Rattle.simplex.specs.Search.{FoundAt}
 use Rattle.simplex.specs.Suprema.{with_goal, frame_over}
-use Rattle.simplex.proofs.Framing.{kinds-length}
+use Rattle.simplex.proofs.RowTableaux.{kinds-length}
 use Rattle.simplex.proofs.Objectives.{more_rows, solving_goal_at}
 use Rattle.simplex.proofs.SameCases.{of_beginning}
 use Rattle.simplex.proofs.next_supremum.searched_case.Goals as goal

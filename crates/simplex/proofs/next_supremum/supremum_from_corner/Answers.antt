@@ -5,7 +5,7 @@ use Rattle.simplex.specs.Refusal.{IsRefusalIn}
 use Rattle.simplex.specs.Rows.{kinds_of}
 use Rattle.simplex.specs.Search.{IsMet}
 use Rattle.simplex.specs.Suprema.{with_goal, frame_over, SupremumAt}
-use Rattle.simplex.proofs.Framing.{kinds-length}
+use Rattle.simplex.proofs.RowTableaux.{kinds-length}
 use Rattle.simplex.proofs.Objectives.{more_rows}
 use Rattle.simplex.proofs.OtherGoals.{many}
 use Rattle.simplex.proofs.OwnColumns.{left_ends}

@@ -1,7 +1,7 @@
 use Rattle.std.proofs.Common.{rules, refl, length}
 use Rattle.std.specs.Prelude.{IfErr}
 use Rattle.simplex.specs.Refusal.{IsOverrun}
-use Rattle.simplex.proofs.Refusing.{refused_step}
+use Rattle.simplex.proofs.Overruns.{refused_step}
 use Rattle.simplex.proofs.raise.exchange_column.Goals as goal
 
 pub returns-in_err-leaving-clause-refusal : goal.returns-in_err-leaving-clause-refusal

@@ -4,7 +4,7 @@ use Rattle.farkas_check.specs.Relations.{entry}
 use Rattle.std.proofs.lemmas.Int.{ints}
 use Rattle.std.proofs.lemmas.List.{get_or_read}
 use Rattle.simplex.specs.Raise.{LeavingOf, NoneLeaves, leaves_at}
-use Rattle.simplex.proofs.Leaving.{LeavingOf-first}
+use Rattle.simplex.proofs.LeavingLines.{LeavingOf-first}
 use Rattle.simplex.proofs.raise.least_with.Goals as goal
 
 pub returns-in-None-clause-least : goal.returns-in-None-clause-least

@@ -1,7 +1,7 @@
 use Rattle.std.proofs.Common.{rules, ◌≡◌, ◌<◌, length, get_or, [], false, sym, ◌∙◌}
 use Rattle.std.proofs.lemmas.List.{get_or_read}
 use Rattle.simplex.specs.Raise.{sign_of}
-use Rattle.simplex.proofs.Refusing.{came_moved}
+use Rattle.simplex.proofs.Overruns.{came_moved}
 use Rattle.simplex.proofs.raise.one_turn.Goals as goal
 
 pub returns-clause-came : goal.returns-clause-came

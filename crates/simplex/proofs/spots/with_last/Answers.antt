@@ -7,7 +7,7 @@ use Rattle.simplex.specs.Exchange.{numbers_of, exchange, HasShape}
 use Rattle.simplex.proofs.CalmSpots.{small_spots}
 use Rattle.simplex.proofs.CalmSteps.{error_under}
 use Rattle.simplex.proofs.Echelons.{spot-exchanged}
-use Rattle.simplex.proofs.Independent.{some_unknown}
+use Rattle.simplex.proofs.Independence.{some_unknown}
 use Rattle.simplex.proofs.spots.with_last.Goals as goal
 
 pub exchange-requires : goal.exchange-requires

@@ -1,7 +1,7 @@
 use Rattle.std.proofs.Common.{rules, refl}
 use Rattle.std.specs.Prelude.{IfErr}
 use Rattle.simplex.specs.CalmStrata.{IsRefusalOf}
-use Rattle.simplex.proofs.CalmKnown.{known_calm, known_scales}
+use Rattle.simplex.proofs.CalmSearches.{known_calm, known_scales}
 use Rattle.simplex.proofs.CalmSteps.{under_error}
 use Rattle.simplex.proofs.Courses.{basis_of_known}
 use Rattle.simplex.proofs.SmallBases.{basis_small}

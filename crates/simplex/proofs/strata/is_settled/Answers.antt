@@ -1,4 +1,4 @@
-use Rattle.simplex.proofs.CalmKnown.{known_calm}
+use Rattle.simplex.proofs.CalmSearches.{known_calm}
 use Rattle.simplex.proofs.CalmSteps.{under_error}
 use Rattle.simplex.proofs.strata.is_settled.Goals as goal
 

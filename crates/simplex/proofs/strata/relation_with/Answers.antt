@@ -1,5 +1,5 @@
 use Rattle.std.proofs.Common.{rules, length, refl}
-use Rattle.simplex.proofs.Related.{relation_of_parts}
+use Rattle.simplex.proofs.RelationParts.{relation_of_parts}
 use Rattle.simplex.proofs.strata.relation_with.Goals as goal
 use mir.Val.{to_z, of_z}
 use mir.Syntax.{w128}

@@ -5,7 +5,7 @@ use Rattle.std.proofs.lemmas.Option.{slice_get_read}
 use Rattle.std.specs.Prelude.{IfErr}
 use Rattle.simplex.specs.CalmStrata.{IsStray, IsCalmSpot}
 use Rattle.simplex.specs.Spots.{HasMoreLine, IsNewPoint}
-use Rattle.simplex.proofs.CalmKnown.{new_spot_calm}
+use Rattle.simplex.proofs.CalmSearches.{new_spot_calm}
 use Rattle.simplex.proofs.CalmSteps.{far_error}
 use Rattle.simplex.proofs.Courses.{known-spot, terms_found}
 use Rattle.simplex.proofs.SpotPoints.{in_cases}

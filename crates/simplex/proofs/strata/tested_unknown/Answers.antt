@@ -2,7 +2,7 @@ use Rattle.std.proofs.Common.{rules, refl, ◌≡◌, List, ℤ, sym, subst}
 use Rattle.std.specs.Prelude.{IfErr}
 use Rattle.simplex.specs.CalmStrata.{IsRefusalOf, IsCalmRelation}
 use Rattle.simplex.specs.Spots.{IsRelationOf}
-use Rattle.simplex.proofs.CalmKnown.{known_calm, relation_calm}
+use Rattle.simplex.proofs.CalmSearches.{known_calm, relation_calm}
 use Rattle.simplex.proofs.CalmSteps.{under_error}
 use Rattle.simplex.proofs.strata.tested_unknown.Goals as goal
 

@@ -2,7 +2,7 @@ use Rattle.std.proofs.Common.{rules, refl, length, IfErr, ◌≡◌, get_or, [],
 use Rattle.std.proofs.lemmas.List.{get_or_read}
 use Rattle.simplex.specs.Calm.{IsSmallLine}
 use Rattle.simplex.specs.Refusal.{IsRefusalIn}
-use Rattle.simplex.proofs.Refusing.{refused}
+use Rattle.simplex.proofs.Overruns.{refused}
 use Rattle.simplex.proofs.supremum.bound_of.Goals as goal
 
 pub returns-in_err-cert-clause-refusal : goal.returns-in_err-cert-clause-refusal

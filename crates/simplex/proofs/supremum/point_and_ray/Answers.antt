@@ -1,6 +1,6 @@
 use Rattle.std.proofs.Common.{rules, refl, length, IfErr}
 use Rattle.simplex.specs.Refusal.{IsRefusalIn}
-use Rattle.simplex.proofs.Refusing.{refused}
+use Rattle.simplex.proofs.Overruns.{refused}
 use Rattle.simplex.proofs.supremum.point_and_ray.Goals as goal
 
 pub returns-in_err-point-clause-refusal : goal.returns-in_err-point-clause-refusal

@@ -1,7 +1,7 @@
 use Rattle.std.proofs.Common.{rules, refl, arith, ap, ◌∙◌, ◌≡◌, ◌+◌, length}
 use Rattle.simplex.specs.Rows.{framed_tableau, kinds_of}
 use Rattle.simplex.specs.Suprema.{with_goal}
-use Rattle.simplex.proofs.Framing.{kinds-length}
+use Rattle.simplex.proofs.RowTableaux.{kinds-length}
 use Rattle.simplex.proofs.Objectives.{more_rows, solving_goal_at, case_at, refusal_case}
 use Rattle.simplex.proofs.supremum.supremum_over.Goals as goal
 

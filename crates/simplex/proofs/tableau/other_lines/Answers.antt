@@ -2,7 +2,7 @@ use Rattle.std.proofs.Common.{◌≡◌, ℕ, ◌++◌, ◌∷◌, ◌+◌, [], 
 use Rattle.std.specs.Vec.Iter.{into_iter_items}
 use Rattle.simplex.specs.Exchange.{behind, line_without_at, lines_without}
 use Rattle.simplex.proofs.Behind.{behind-next}
-use Rattle.simplex.proofs.Framing.{long}
+use Rattle.simplex.proofs.RowTableaux.{long}
 use Rattle.simplex.proofs.tableau.other_lines.Goals as goal
 
 pub loop-own-preserved : goal.loop-own-preserved

@@ -1,4 +1,4 @@
-use Rattle.recurrence.proofs.Named.{so-many-named}
+use Rattle.recurrence.proofs.NamedVariables.{so-many-named}
 use Rattle.test_formulas.proofs.vocabularies.first_named.Goals as goal
 
 pub from_parts-requires : goal.from_parts-requires

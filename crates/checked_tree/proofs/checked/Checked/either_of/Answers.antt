@@ -3,7 +3,7 @@ use Rattle.posing.proofs.Steps.{in_other_words}
 use Rattle.polyhedra.specs.Laws.{HaveCanonicalRows}
 use Rattle.checked_tree.specs.Evaluation.{join_formula}
 use Rattle.checked_tree.specs.Tree.{tree_of}
-use Rattle.checked_tree.proofs.Kept.{join-operands, error_in_other_words}
+use Rattle.checked_tree.proofs.LogGains.{join-operands, error_in_other_words}
 use Rattle.checked_tree.proofs.checked.Checked.either_of.Goals as goal
 
 pub either-requires : goal.either-requires

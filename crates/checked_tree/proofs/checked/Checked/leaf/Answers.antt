@@ -7,7 +7,7 @@ use Rattle.checked_tree.specs.Law.{IsEnd, IsFrom}
 use Rattle.checked_tree.specs.declared.mark.LogMark.{LogMark}
 use Rattle.checked_tree.specs.Tree.{own_of, formula_of, tree_of}
 use Rattle.checked_tree.specs.Tree as tree
-use Rattle.checked_tree.proofs.Kept.{made-by, new-by, notes-within, answers-within, fails, halts, as_value}
+use Rattle.checked_tree.proofs.LogGains.{made-by, new-by, notes-within, answers-within, fails, halts, as_value}
 use Rattle.checked_tree.proofs.checked.Checked.leaf.Goals as goal
 
 pub leaf-requires-clause-between : goal.leaf-requires-clause-between

@@ -3,7 +3,7 @@ use Rattle.std.proofs.Common.{refl, sym, ap, subst, ◌∙◌}
 use Rattle.checked_tree.specs.declared.mark.LogMark.{LogMark}
 use Rattle.checked_tree.specs.Tree.{own_of, formula_of, tree_of}
 use Rattle.checked_tree.specs.Tree as tree
-use Rattle.checked_tree.proofs.Kept.{made-by, new-by, notes-within, answers-within, fails, halts, as_value}
+use Rattle.checked_tree.proofs.LogGains.{made-by, new-by, notes-within, answers-within, fails, halts, as_value}
 use Rattle.checked_tree.proofs.checked.Checked.seq.Goals as goal
 
 pub of_seq-requires-clause-step : goal.of_seq-requires-clause-step

@@ -3,7 +3,7 @@ use Rattle.posing.proofs.Steps.{in_other_words}
 use Rattle.polyhedra.specs.Laws.{HaveCanonicalRows}
 use Rattle.checked_tree.specs.Evaluation.{sequence_formula}
 use Rattle.checked_tree.specs.Tree.{tree_of}
-use Rattle.checked_tree.proofs.Kept.{seq-operands, error_in_other_words}
+use Rattle.checked_tree.proofs.LogGains.{seq-operands, error_in_other_words}
 use Rattle.checked_tree.proofs.checked.Checked.sequence_of.Goals as goal
 
 pub sequence-requires : goal.sequence-requires

@@ -3,7 +3,7 @@ use Rattle.posing.proofs.Steps.{in_other_words}
 use Rattle.polyhedra.specs.Laws.{HaveCanonicalRows}
 use Rattle.phases.specs.Repetition.{repetition}
 use Rattle.checked_tree.specs.Tree.{tree_of}
-use Rattle.checked_tree.proofs.Kept.{star-operand, error_in_other_words}
+use Rattle.checked_tree.proofs.LogGains.{star-operand, error_in_other_words}
 use Rattle.checked_tree.proofs.checked.Checked.turns_of.Goals as goal
 
 pub repetition-requires : goal.repetition-requires

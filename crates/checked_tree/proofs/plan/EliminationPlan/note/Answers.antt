@@ -1,4 +1,4 @@
-use Rattle.checked_tree.proofs.Numbered.{noted-of}
+use Rattle.checked_tree.proofs.NumberedKeys.{noted-of}
 use Rattle.checked_tree.proofs.plan.EliminationPlan.note.Goals as goal
 
 pub returns-in-Ok-clause-noted : goal.returns-in-Ok-clause-noted

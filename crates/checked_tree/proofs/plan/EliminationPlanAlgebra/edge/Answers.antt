@@ -1,7 +1,7 @@
 use Rattle.std.proofs.Common.{arith}
 use Rattle.path_expr.specs.PathExpr.{Edge}
 use Rattle.checked_tree.specs.declared.key.Key.TheVariants as key
-use Rattle.checked_tree.proofs.Numbered.{path-kept, paths-made, edge-path}
+use Rattle.checked_tree.proofs.NumberedKeys.{path-kept, paths-made, edge-path}
 use Rattle.checked_tree.proofs.plan.EliminationPlanAlgebra.edge.Goals as goal
 
 pub returns-clause-keeps : goal.returns-clause-keeps

@@ -1,7 +1,7 @@
 use Rattle.std.proofs.Common.{[], ◌∷◌, sym, append-nil}
 use Rattle.linear_terms.specs.declared.row.Kind.TheVariants.{AtMost, Equal}
 use Rattle.leaf_cases.specs.Division.{equation, divisor_sign, dividend_sign, lower_bound, upper_bound}
-use Rattle.leaf_cases.proofs.Stated.{claim_made, claim_noted}
+use Rattle.leaf_cases.proofs.StatedPolys.{claim_made, claim_noted}
 use Rattle.leaf_cases.proofs.division.Division.push_rows.Goals as goal
 
 pub returns-clause-made : goal.returns-clause-made

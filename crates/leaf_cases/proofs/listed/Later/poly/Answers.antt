@@ -1,4 +1,4 @@
-use Rattle.leaf_cases.proofs.Moved.{moved_numbered, moved_order, moved_made}
+use Rattle.leaf_cases.proofs.AuxiliaryMoves.{moved_numbered, moved_order, moved_made}
 use Rattle.leaf_cases.proofs.listed.Later.poly.Goals as goal
 
 pub renumbered_poly-requires-clause-numbered : goal.renumbered_poly-requires-clause-numbered

@@ -1,7 +1,7 @@
 use Rattle.std.proofs.Common.{rules, ◌≡◌}
 use Rattle.std.specs.Prelude.{FitsSigned}
 use Rattle.std.specs.Int.{w128}
-use Rattle.wire.specs.Numbers.{ratio_text}
+use Rattle.farkas_check.specs.Ratios.{ratio_text}
 use Rattle.wire.proofs.RatioTexts.{ratio-string, ratio_of-ratio_text}
 use Rattle.wire.proofs.numbers.RatioWritten.write.Goals as goal
 

@@ -12,9 +12,9 @@ use Rattle.simplex.specs.Spots.{IsRelationOf, IsSpotTableau, AreIndependent, inn
 use Rattle.simplex.specs.declared.tableau.Tableau.{Tableau}
 use Rattle.simplex.proofs.Corners.{none, single, plus, swapped, factored}
 use Rattle.simplex.proofs.Exchanges.{times_zero, zero_factor}
-use Rattle.simplex.proofs.Framing.{at_front, after_front, long}
+use Rattle.simplex.proofs.RowTableaux.{at_front, after_front, long}
 use Rattle.simplex.proofs.SpotFrames.{framed-number}
-use Rattle.simplex.proofs.Standing.{find_choice}
+use Rattle.simplex.proofs.RowCorners.{find_choice}
 use Rattle.simplex.proofs.Sums.{sum_below-same}
 
 pub independent_none : (count : ℕ) (lines : List (List ℤ)) → lines ≡ [] → AreIndependent count lines

@@ -19,7 +19,7 @@ use Rattle.polyhedra.specs.Bounds.{IsCovered, IsCoveredByPosts}
 use Rattle.polyhedra.specs.Changes.{change, is_modified, modified_variables, moving, changes_in, changes_of}
 use Rattle.polyhedra.specs.Directions.{directions}
 use Rattle.polyhedra.specs.Vocabulary.{Vocabulary, IsDirectionOver, IsVocabulary}
-use Rattle.polyhedra.proofs.Directed.{directions-over}
+use Rattle.polyhedra.proofs.DirectionShapes.{directions-over}
 
 -- ---- directions
 

@@ -15,8 +15,8 @@ use Rattle.posing.specs.Posing.{Done, ◌>>=◌, Always}
 use Rattle.posing.proofs.Paths.{always_any, always_bind, always_weaker}
 use Rattle.polyhedra.specs.Settle.{settled_formula, settled_cases}
 use Rattle.polyhedra.specs.Vocabulary.{Vocabulary}
-use Rattle.polyhedra.proofs.Settled.{settled_cases-fit}
-use Rattle.recurrence.proofs.Starred.{always_both}
+use Rattle.polyhedra.proofs.SettleLaws.{settled_cases-fit}
+use Rattle.recurrence.proofs.StarLaws.{always_both}
 use Rattle.phases.specs.declared.halving.Halves.{Halves}
 use Rattle.phases.specs.Phases.{body_where, case_where, cases_exclude, first_halves, halves_at, halves_by, halves_if, halves_of, has_cases, is_apart, or_next, split, turns_where, with_first}
 use Rattle.phases.specs.Splits.{contrary, splits}

@@ -28,7 +28,7 @@ use Rattle.polyhedra.specs.Vocabulary.{IsDirection}
 use Rattle.polyhedra.specs.Changes.{poly_at, change}
 use Rattle.polyhedra.specs.Bounds.{for_entries, goals_of, bound_in, bound_by, bound_of, with_row, with_row_for, rows_with_bound, before_row, put_in_for, after_row, so_often, change_row, rows_with_entry_bound, rows_with_exit_bound, bounded_change}
 use Rattle.linear_terms.proofs.Worth.{IsWorth, IsTrueIfMade, IsWorth-Ok, IsWorth-same, IsWorth-whole, IsWorth-difference, IsTrueIfMade-at_most, IsWorth-put_into}
-use Rattle.polyhedra.proofs.Shaped.{with_row-keeps, each-keeps}
+use Rattle.polyhedra.proofs.RowShapes.{with_row-keeps, each-keeps}
 use Rattle.polyhedra.proofs.Turns.{number_in, Reads, post-worth, change-worth, by_some, IsRunOf}
 
 -- ---- directions

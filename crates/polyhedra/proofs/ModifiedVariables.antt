@@ -19,7 +19,7 @@ use Rattle.polyhedra.specs.declared.changes.Moves.{Moves}
 use Rattle.polyhedra.specs.Changes.{poly_at, change, is_zero, is_modified, is_exact, modified_variables, moving, changes_in, changes_of}
 use Rattle.polyhedra.specs.Tables.{fault_of, fault_at, or_else, table_of, is_moved, is_moved_in, is_made, is_made_in, first_of, losses_at, change_of, changes_from}
 use Rattle.polyhedra.proofs.Lists.{each-filter}
-use Rattle.polyhedra.proofs.Tabled.{first_got}
+use Rattle.polyhedra.proofs.ChangeTables.{first_got}
 
 -- ---- variables that move
 

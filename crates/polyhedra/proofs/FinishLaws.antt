@@ -21,8 +21,8 @@ use Rattle.posing.proofs.Paths.{always_bind}
 use Rattle.polyhedra.specs.Finish.{cut_case, cut, finished_left, finish_of_case}
 use Rattle.polyhedra.specs.Laws.{IsWider}
 use Rattle.polyhedra.specs.Thin.{thinned_case}
-use Rattle.polyhedra.proofs.Settled.{KeepsLeft}
-use Rattle.polyhedra.proofs.Thinned.{IsThinned, thinned-covers, thinned-tested}
+use Rattle.polyhedra.proofs.SettleLaws.{KeepsLeft}
+use Rattle.polyhedra.proofs.ThinLaws.{IsThinned, thinned-covers, thinned-tested}
 
 -- ---- what is left holds of all that the case holds of
 

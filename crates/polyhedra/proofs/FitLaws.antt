@@ -35,16 +35,16 @@ use Rattle.polyhedra.specs.Relations.{relations_of}
 use Rattle.polyhedra.specs.Squash.{unmodified_post, after_from, change_after, posts_after, changes_after, entries_of, relation_row, with_relation, with_relations, change_relations, with_differences, with_bounds, squash_rows, squash_case, squashed_case, are_same, squashed_formula, noted_squash, fitted_formula}
 use Rattle.polyhedra.specs.Vocabulary.{Vocabulary, IsDirectionOver, IsVocabulary}
 use Rattle.polyhedra.specs.Laws.{IsBetween, FittingCovers, IsSmall, FittingFits}
-use Rattle.polyhedra.proofs.Covering.{modified-few}
-use Rattle.polyhedra.proofs.Directed.{directions-over}
-use Rattle.polyhedra.proofs.Finished.{FinishedLeft, finished-covers, finished-fits}
+use Rattle.polyhedra.proofs.Coverage.{modified-few}
+use Rattle.polyhedra.proofs.DirectionShapes.{directions-over}
+use Rattle.polyhedra.proofs.FinishLaws.{FinishedLeft, finished-covers, finished-fits}
 use Rattle.polyhedra.proofs.Lists.{each-filter}
-use Rattle.polyhedra.proofs.Owned.{is_post, same_post, owns, IsOwned, in_order-few}
+use Rattle.polyhedra.proofs.OwnPosts.{is_post, same_post, owns, IsOwned, in_order-few}
 use Rattle.polyhedra.proofs.Places.{range-first, any-range}
 use Rattle.polyhedra.proofs.Rows.{IsSound, constant-sound, sound-Ok, whole-sound, difference-sound, or_zero-sound, weighted-sound, put_in_for-sound, IsSoundRow, at_most-sound, equation-sound}
-use Rattle.polyhedra.proofs.Settled.{KeepsLeft, of_left}
-use Rattle.polyhedra.proofs.Shaped.{bounded-keeps, with_row-keeps, each-keeps}
-use Rattle.polyhedra.proofs.Squashed.{squash_rows-hold}
+use Rattle.polyhedra.proofs.SettleLaws.{KeepsLeft, of_left}
+use Rattle.polyhedra.proofs.RowShapes.{bounded-keeps, with_row-keeps, each-keeps}
+use Rattle.polyhedra.proofs.SquashLaws.{squash_rows-hold}
 
 -- ---- the posts of the squashed case
 

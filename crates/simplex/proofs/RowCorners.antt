@@ -41,7 +41,7 @@ use Rattle.simplex.proofs.Certificates.{le_true, each_of, framed-column, framed-
 use Rattle.simplex.proofs.Corners.{none, single, over, share, share-over, part, moved, moved-solves}
 use Rattle.simplex.proofs.Eliminations.{choose_apart}
 use Rattle.simplex.proofs.Exchanges.{vanishes, product}
-use Rattle.simplex.proofs.Framing.{numbers-unit, kinds-length}
+use Rattle.simplex.proofs.RowTableaux.{numbers-unit, kinds-length}
 use Rattle.simplex.proofs.Sums.{sum_below-same}
 
 -- ---- rows by places

@@ -25,7 +25,7 @@ use Rattle.checked_tree.specs.Grown.{IsBuilt, AreBuilt}
 use Rattle.checked_tree.specs.Growing.{bare_growth, IsDueLink, growth_at, grown_tree, entry_of_growth, entries_in, HasTree, IsGrowable, IsNextGrowth, IsTreeBy, HasGrown, IsTreeOf, IsGrownAs, IsPlantable, AreGrowing, IsLeafOf}
 use Rattle.checked_tree.proofs.SameByNumber.{found_key, path-within, one-number, one-path, read-same, read-other, length-set, length-same}
 use Rattle.checked_tree.proofs.Stands.{among-left, among-last, among-right}
-use Rattle.checked_tree.proofs.Swept.{operations-ready}
+use Rattle.checked_tree.proofs.EliminationSteps.{operations-ready}
 use Rattle.checked_tree.proofs.Whole.{link-within, leaf-canonical}
 
 -- ---- growths by their formulas

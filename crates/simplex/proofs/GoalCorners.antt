@@ -30,8 +30,8 @@ use Rattle.simplex.specs.Search.{IsMet, IsCornerOf}
 use Rattle.simplex.proofs.Certificates.{le_true}
 use Rattle.simplex.proofs.Corners.{over, share, share-over}
 use Rattle.simplex.proofs.Exchanges.{product}
-use Rattle.simplex.proofs.Framing.{kinds-length}
-use Rattle.simplex.proofs.Standing.{numbered, row_within, share-positive, over-positive}
+use Rattle.simplex.proofs.RowTableaux.{kinds-length}
+use Rattle.simplex.proofs.RowCorners.{numbered, row_within, share-positive, over-positive}
 use Rattle.farkas_check.specs.Kept.{IsCanonicalGoal}
 use Rattle.items.proofs.Gives.{on_ok}
 use Rattle.std.specs.Prelude.{int_le}
@@ -44,8 +44,8 @@ use Rattle.farkas_check.specs.Tested.{goal_columns, tested_point, tested_reached
 use Rattle.farkas_check.specs.declared.question.Goal.{Goal}
 use Rattle.farkas_check.proofs.Spreads.{terms_among}
 use Rattle.simplex.specs.Suprema.{with_goal, goal_frame}
-use Rattle.simplex.proofs.Standing.{stands_each, stands-at, all_at, each_row, within_back, meets-honest, kind_row}
-use Rattle.simplex.proofs.Bounded.{kind_before, IsCertificate}
+use Rattle.simplex.proofs.RowCorners.{stands_each, stands-at, all_at, each_row, within_back, meets-honest, kind_row}
+use Rattle.simplex.proofs.BoundCertificates.{kind_before, IsCertificate}
 use Rattle.simplex.proofs.Moves.{shift, moved_row, shift_own, corner_within, goal_slope}
 use Rattle.simplex.proofs.Objectives.{more_rows}
 

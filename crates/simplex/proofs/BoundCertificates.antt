@@ -30,7 +30,7 @@ use Rattle.simplex.specs.Rows.{kinds_of, kind_at, framed_tableau}
 use Rattle.simplex.specs.Suprema.{with_goal, frame_over, goal_frame, certificate_of, IsTopped}
 use Rattle.simplex.specs.declared.tableau.Tableau.{Tableau}
 use Rattle.simplex.proofs.Certificates.{each_of, total-is, all_multipliers, framed-column, framed-constant}
-use Rattle.simplex.proofs.Framing.{kinds-length}
+use Rattle.simplex.proofs.RowTableaux.{kinds-length}
 use Rattle.simplex.proofs.Lines.{line_multiple-length}
 use Rattle.simplex.proofs.Numbers.{line_multiple-number}
 use Rattle.simplex.proofs.Objectives.{more_rows}

@@ -42,7 +42,7 @@ use Rattle.cost_bounds.specs.Says.{change_between, entry_value, IsMet, IsMetByCa
 use Rattle.cost_bounds.proofs.Lists.{each-remove}
 use Rattle.cost_bounds.proofs.Bounds.{bound-met, scale-positive}
 use Rattle.cost_bounds.proofs.OverEntry.{IsOverEntry, IsOverEntry-test, IsEntryRow, entry_rows-are, flat_rows, bound-over, entry-value}
-use Rattle.cost_bounds.proofs.Grown.{grows}
+use Rattle.cost_bounds.proofs.RayGrowth.{grows}
 use Rattle.farkas_check.proofs.LowestMultipliers.{yes-lowest_multipliers, coprime-lowest_multipliers}
 use Rattle.cost_bounds.proofs.Wide.{difference_of_polys-wide, negation-wide, bound-wide}
 

@@ -25,7 +25,7 @@ use Rattle.simplex.proofs.CalmRelations.{relation_framed, relation_small}
 use Rattle.simplex.proofs.CalmSpots.{small_spots}
 use Rattle.simplex.proofs.CalmSteps.{spot_line_made}
 use Rattle.simplex.proofs.Courses.{all_more, lines_more, terms_found, few_spots, fewer_spots, lines_long}
-use Rattle.simplex.proofs.Framing.{long}
+use Rattle.simplex.proofs.RowTableaux.{long}
 use Rattle.simplex.proofs.Further.{IsGiven, case_given}
 use Rattle.simplex.proofs.SpotFrames.{framed-number, spots_framed-is}
 use Rattle.simplex.proofs.SpotLines.{line_framed, HasLastNumber, last_of}

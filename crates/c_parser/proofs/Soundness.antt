@@ -24,7 +24,7 @@ use Rattle.c_parser.specs.Spots.{Spot, mark, number, word}
 use Rattle.c_parser.proofs.Complete.{argument_list, argument_list-trees, call_tail, more_list}
 use Rattle.c_parser.proofs.Equations.{joined-none, joined-suc, operand_at}
 use Rattle.c_parser.proofs.FirstTokens.{both, expression-place}
-use Rattle.c_parser.proofs.Found.{behind-mark, begins_with-mark, deeper-level, ok_one, one_less-rest, op_at-mark, sign_of-mark}
+use Rattle.c_parser.proofs.Derivations.{behind-mark, begins_with-mark, deeper-level, ok_one, one_less-rest, op_at-mark, sign_of-mark}
 use Rattle.c_parser.proofs.Repeats.{by_choice, repeat-keeps}
 
 abbrev state : List Spot → ℕ → Rest

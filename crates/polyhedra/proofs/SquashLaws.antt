@@ -30,11 +30,11 @@ use Rattle.polyhedra.specs.Directions.{directions}
 use Rattle.polyhedra.specs.Relations.{relations_of}
 use Rattle.polyhedra.specs.Squash.{unmodified_post, after_from, change_after, posts_after, changes_after, entries_of, relation_row, with_relation, with_relations, change_relations, with_differences, with_bounds, squash_rows, squash_case}
 use Rattle.polyhedra.specs.Vocabulary.{Vocabulary, IsDirection, IsDirectionOver, IsVocabulary}
-use Rattle.polyhedra.proofs.Bounded.{IsOver, before-true, after-true, change-true, with_row-true, each-true}
-use Rattle.polyhedra.proofs.Directed.{directions-over}
+use Rattle.polyhedra.proofs.RunBounds.{IsOver, before-true, after-true, change-true, with_row-true, each-true}
+use Rattle.polyhedra.proofs.DirectionShapes.{directions-over}
 use Rattle.polyhedra.proofs.Lists.{each-filter, each-unmap, filter-passes, each-tested, unfound}
 use Rattle.polyhedra.proofs.Places.{listed-first, mapped, poly_at-first, poly_at-past, number_in-past, range-first}
-use Rattle.polyhedra.proofs.Related.{IsTrueIn, IsTrueRelation, AreTrueRelations, relations-true}
+use Rattle.polyhedra.proofs.RelationTerms.{IsTrueIn, IsTrueRelation, AreTrueRelations, relations-true}
 use Rattle.polyhedra.proofs.Turns.{number_in, moved_by, change-value, by_some, unmodified-unmoved, IsRunOf}
 
 -- ---- what stands for a variable has the form of a column

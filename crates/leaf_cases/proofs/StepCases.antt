@@ -27,9 +27,9 @@ use Rattle.leaf_cases.specs.Division.{all_signs}
 use Rattle.leaf_cases.specs.Steps as steps
 use Rattle.leaf_cases.specs.Steps.{operand, value_at, test_at, test_claim, division_at, part_at, cases_of_step, losses_at, with_number}
 use Rattle.leaf_cases.proofs.Quotients.{IsDivision, Falls, division_falls, splits-divide}
-use Rattle.leaf_cases.proofs.Sitting.{Sits}
+use Rattle.leaf_cases.proofs.CaseColumns.{Sits}
 use Rattle.leaf_cases.proofs.StepsTell.{value_at-tells, test_at-tells, division-tells}
-use Rattle.leaf_cases.proofs.Stepped.{AllSay, AllWithin, claims-hold, claims-held, first_of, second_of, operand-value, calculated_number, tested_number, part_number, StepGives, value-says, test-says, division_numbers, division-says, splits-within, within-splits}
+use Rattle.leaf_cases.proofs.StepClaims.{AllSay, AllWithin, claims-hold, claims-held, first_of, second_of, operand-value, calculated_number, tested_number, part_number, StepGives, value-says, test-says, division_numbers, division-says, splits-within, within-splits}
 use Rattle.leaf_cases.proofs.Together.{extended, extended-more, extended-holds}
 
 -- ---- a case with more rows and other posts
