@@ -7,8 +7,8 @@ change of a constant in the middle one that leaves its summary as it was, and a 
 usage: time_edits.py [--only SIZE] PROGRAM [MODEL_FOLDER]
 
 The second version's time is that of `edit` with one edit less that of `edit` without one; each is the least of three runs. With the
-folder of an independent model of the rules, the questions that a fresh analysis poses and those that the second version asks anew are
-told too, as the model counts them; that takes minutes for the long chains.
+folder of an independent model of the rules, the questions of a fresh analysis are told too, which are those that `certify` lists (0 where
+its file would be too long), and those that the second version asks anew, as the model counts them; that takes minutes for the long chains.
 """
 import json, os, re, sys
 
@@ -54,24 +54,35 @@ def least(program, word, given):
     return min(took for took, _ in runs), runs[-1][1]
 
 
+def listed(program, text):
+    """How many questions `certify` lists for a text; 0 where its file would be too long."""
+    _, told = seconds([program, "certify"], text.encode())
+    return len(json.loads(told)["order"]) if told.startswith(b"{") else 0
+
+
 class Model:
     """The model's session of a text, which counts questions."""
 
     def __init__(self, folder, text):
         sys.path.insert(0, folder)
         import session, solve
-        self.text, self.fresh = text, lambda: (session.Session(), solve.Finder())
+        self.held, self.finder = session.Session(), solve.Finder()
+        self.held.submit(text.encode(), self.finder)
 
-    def asked(self, *texts):
-        """How many questions are asked for the last of the texts."""
-        held, finder = self.fresh()
-        for text in texts:
-            before = finder.asked
-            held.submit(text.encode(), finder)
-        return finder.asked - before
-
-    def told(self, text):
-        return "%9d %9d" % (self.asked(text), self.asked(self.text, text))
+    def asked(self, text):
+        """How many questions are asked for a text behind the first one; the session stays as it is."""
+        ours, theirs = os.pipe()
+        child = os.fork()
+        if child == 0:
+            before = self.finder.asked
+            self.held.submit(text.encode(), self.finder)
+            os.write(theirs, b"%d" % (self.finder.asked - before))
+            os._exit(0)
+        os.close(theirs)
+        with os.fdopen(ours) as told:
+            count = int(told.read())
+        os.waitpid(child, 0)
+        return count
 
 
 def main():
@@ -90,7 +101,8 @@ def main():
             fresh, _ = least(program, "analyse", after(text, edit).encode())
             took, told = least(program, "edit", script(text, edit))
             work = re.search(rb"version 1 work (\d+ of \d+) ", told)[1].decode()
-            more = model.told(after(text, edit)) if model else ""
+            edited = after(text, edit)
+            more = "%9d %9d" % (listed(program, edited), model.asked(edited)) if model else ""
             print("%6d %-9s %11s %9.2f %9.2f %6.0f%% %s" % (count, name, work, fresh, took - begun, 100 * (took - begun) / max(fresh, 0.01), more), flush=True)
 
 
