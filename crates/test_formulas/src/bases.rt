@@ -1,59 +1,57 @@
 //! Reduced bases of rows of ratios.
 
-use crate::ratios::ratio;
+use crate::ratios::{ratio_of, show_ratio};
 use elimination::{are_small_ratios, reduced_basis};
 use farkas_check::Ratio;
 use items::Items;
-use std::alloc::{AllocError, Global};
-use std::fmt::Write;
+use row_texts::Told;
 
-fn row(alloc: Global, text: &str) -> Option<Items<Ratio>> {
-    let mut numbers = Items::new(alloc);
+fn row_of(out: &mut Told, text: &str) -> Items<Ratio> {
+    let mut numbers = Items::new(out.alloc());
     for word in text.split_whitespace() {
-        numbers.push(ratio(word)?).ok()?;
+        let number = ratio_of(out, word);
+        out.lose_unless(numbers.push(number).is_ok());
     }
-    Some(numbers)
+    numbers
 }
 
 /// Rows, parted by semicolons; `none` stands for no row.
-fn rows(alloc: Global, text: &str) -> Option<Items<Items<Ratio>>> {
-    let mut rows = Items::new(alloc);
-    if text == "none" {
-        return Some(rows);
+fn rows_of(out: &mut Told, text: &str) -> Items<Items<Ratio>> {
+    let mut rows = Items::new(out.alloc());
+    if text != "none" {
+        for part in text.split(';') {
+            let row = row_of(out, part);
+            out.lose_unless(rows.push(row).is_ok());
+        }
     }
-    for part in text.split(';') {
-        rows.push(row(alloc, part)?).ok()?;
-    }
-    Some(rows)
+    rows
 }
 
-fn write_line(text: &mut String, line: &[Ratio]) -> Result<(), AllocError> {
+fn show_line(out: &mut Told, line: &[Ratio]) {
     for number in line {
-        write!(text, " {}/{}", number.num(), number.den())?;
+        out.word(" ");
+        show_ratio(out, number);
     }
-    text.push_str(";")
+    out.word(";");
 }
 
-fn lines_text(alloc: Global, lines: &[Items<Ratio>]) -> Option<String> {
-    let mut text = String::new(alloc);
-    write_lines(&mut text, lines).ok()?;
-    Some(text)
-}
-
-fn write_lines(text: &mut String, lines: &[Items<Ratio>]) -> Result<(), AllocError> {
-    write!(text, "{} lines:", lines.len())?;
+fn show_lines(out: &mut Told, lines: &[Items<Ratio>]) {
+    out.count("", lines.len());
+    out.word(" lines:");
     for line in lines {
-        write_line(text, line.as_slice())?;
+        show_line(out, line.as_slice());
     }
-    Ok(())
 }
 
 /// The lines of the reduced basis, or that the rows are not small.
-pub(crate) fn reduced_text(alloc: Global, given: &str) -> Option<String> {
-    let rows = rows(alloc, given)?;
+pub(crate) fn show_reduced(out: &mut Told, given: &str) {
+    let rows = rows_of(out, given);
     if !are_small_ratios(rows.as_slice()) {
-        return format!(in alloc; "not small").ok();
+        out.word("not small");
+        return;
     }
-    let lines = reduced_basis(alloc, rows.as_slice()).ok()?;
-    lines_text(alloc, lines.as_slice())
+    match reduced_basis(out.alloc(), rows.as_slice()) {
+        Ok(lines) => show_lines(out, lines.as_slice()),
+        Err(_) => out.lose(),
+    }
 }

@@ -3,75 +3,64 @@
 //! come the answers, as a certificate file. What is told is the formula that comes of it, and what
 //! the log has.
 
-use crate::calls::{finish_text, fit_text, settle_text, star_text, thin_text};
-use crate::columns::small_numbers;
-use crate::formulas::formula;
-use crate::logs::write_log;
+use crate::calls::{show_finish, show_fit, show_settle, show_star, show_thin};
+use crate::formulas::formula_between;
+use crate::logs::show_log;
+use crate::readers::{answers_of, small_numbers_of};
 use crate::vocabularies::first_named;
 use polyhedra::{Log, Vocabulary};
-use std::alloc::Global;
+use row_texts::Told;
 use transition_formula::Formula;
-use wire::{ListedAnswers, read_certificate};
+use wire::ListedAnswers;
 
-/// The oracle that hands out the answers of a certificate file.
-fn oracle(alloc: Global, text: &str) -> Option<ListedAnswers> {
-    let file = read_certificate(alloc, text.as_bytes()).ok()?;
-    Some(ListedAnswers::new(file.answers))
-}
-
-fn call_text(
-    alloc: Global,
+fn show_made(
+    out: &mut Told,
     kind: &str,
     given: &Formula,
     voc: &Vocabulary,
     oracle: &mut ListedAnswers,
     log: &mut Log,
-) -> Option<String> {
+) {
     match kind {
-        "settle" => settle_text(alloc, given, oracle, log),
-        "thin" => thin_text(alloc, given, oracle, log),
-        "finish" => finish_text(alloc, given, oracle, log),
-        "fit" => fit_text(alloc, given, voc, oracle, log),
-        "star" => star_text(alloc, given, voc, oracle, log),
-        _ => None,
+        "settle" => show_settle(out, given, oracle, log),
+        "thin" => show_thin(out, given, oracle, log),
+        "finish" => show_finish(out, given, oracle, log),
+        "fit" => show_fit(out, given, voc, oracle, log),
+        "star" => show_star(out, given, voc, oracle, log),
+        _ => out.lose(),
     }
 }
 
 /// What a call comes to, how many answers it took, how many it left, and what it noted.
-fn call_answer(
-    alloc: Global,
+fn show_call(
+    out: &mut Told,
     kind: &str,
     given: &Formula,
     voc: &Vocabulary,
     oracle: &mut ListedAnswers,
-) -> Option<String> {
-    let mut log = Log::new(alloc);
-    let mut text = call_text(alloc, kind, given, voc, oracle, &mut log)?;
-    write_log(&mut text, &log, oracle.left_count()).ok()?;
-    Some(text)
+) {
+    let mut log = Log::new(out.alloc());
+    show_made(out, kind, given, voc, oracle, &mut log);
+    show_log(out, &log, oracle.left_count());
 }
 
 /// A call between so many columns.
-fn call(
-    alloc: Global,
-    kind: &str,
-    sizes: &[u32],
-    given: &str,
-    oracle: &mut ListedAnswers,
-) -> Option<String> {
+fn show_sized(out: &mut Told, kind: &str, sizes: &[u32], given: &str, oracle: &mut ListedAnswers) {
     let [from, to, named, rule] = sizes else {
-        return None;
+        return out.lose();
     };
-    let given = formula(alloc, *from, *to, given)?;
-    let voc = first_named(alloc, *to, *named, *rule).ok()?;
-    call_answer(alloc, kind, &given, &voc, oracle)
+    let given = formula_between(out, *from, *to, given);
+    match first_named(out.alloc(), *to, *named, *rule) {
+        Ok(voc) => show_call(out, kind, &given, &voc, oracle),
+        Err(_) => out.lose(),
+    }
 }
 
-/// What a row comes to: none where it is no row or memory is wanting.
-pub(crate) fn outcome(alloc: Global, head: &str, rest: &str) -> Option<String> {
-    let (given, answers) = rest.split_once('\n')?;
-    let (kind, sizes) = head.split_once(' ')?;
-    let sizes = small_numbers(alloc, sizes)?;
-    let mut oracle = oracle(alloc, answers)?;
-    call(alloc, kind, sizes.as_slice(), given, &mut oracle)
+/// What a row comes to.
+pub(crate) fn show(out: &mut Told, head: &str, rest: &str) {
+    let (given, answers) = out.halves(rest, "\n");
+    let (kind, sizes) = out.halves(head, " ");
+    let sizes = small_numbers_of(out, sizes);
+    let mut oracle = ListedAnswers::new(answers_of(out, answers));
+    show_sized(out, kind, sizes.as_slice(), given, &mut oracle);
 }

@@ -1,108 +1,102 @@
 //! The calls, each on a formula of few columns and parts.
 
-use crate::logs::{case_text, cases_text};
+use crate::formulas::{show_case, show_cases};
 use polyhedra::{Log, Vocabulary, finish, fit, settle, thin};
 use recurrence::star;
-use std::alloc::Global;
+use row_texts::Told;
 use transition_formula::Formula;
 use wire::ListedAnswers;
 
-pub(crate) fn settle_text(
-    alloc: Global,
-    f: &Formula,
-    oracle: &mut ListedAnswers,
-    log: &mut Log,
-) -> Option<String> {
+pub(crate) fn show_settle(out: &mut Told, f: &Formula, oracle: &mut ListedAnswers, log: &mut Log) {
     let _cases = f.cases();
     if f.to() > 63 {
-        return None;
+        return out.lose();
     }
     if !f.is_fitted() {
-        return None;
+        return out.lose();
     }
-    let made = settle(alloc, f, oracle, log).ok()?;
-    cases_text(alloc, &made)
+    match settle(out.alloc(), f, oracle, log) {
+        Ok(made) => show_cases(out, &made),
+        Err(_) => out.lose(),
+    }
 }
 
 /// Of the one case of a formula.
-pub(crate) fn thin_text(
-    alloc: Global,
-    f: &Formula,
-    oracle: &mut ListedAnswers,
-    log: &mut Log,
-) -> Option<String> {
+pub(crate) fn show_thin(out: &mut Told, f: &Formula, oracle: &mut ListedAnswers, log: &mut Log) {
     let [full] = f.cases() else {
-        return None;
+        return out.lose();
     };
-    let made = thin(alloc, full, oracle, log).ok()?;
-    case_text(alloc, &made)
+    match thin(out.alloc(), full, oracle, log) {
+        Ok(made) => show_case(out, &made),
+        Err(_) => out.lose(),
+    }
 }
 
 /// Of the one case of a formula.
-pub(crate) fn finish_text(
-    alloc: Global,
-    f: &Formula,
-    oracle: &mut ListedAnswers,
-    log: &mut Log,
-) -> Option<String> {
+pub(crate) fn show_finish(out: &mut Told, f: &Formula, oracle: &mut ListedAnswers, log: &mut Log) {
     let cases = f.cases();
     if f.to() > 63 {
-        return None;
+        return out.lose();
     }
     if !f.is_fitted() {
-        return None;
+        return out.lose();
     }
     let [full] = cases else {
-        return None;
+        return out.lose();
     };
-    match finish(alloc, full, oracle, log).ok()? {
-        Some(left) => case_text(alloc, &left),
-        None => format!(in alloc; "false").ok(),
+    match finish(out.alloc(), full, oracle, log) {
+        Ok(Some(left)) => show_case(out, &left),
+        Ok(None) => out.word("false"),
+        Err(_) => out.lose(),
     }
 }
 
 /// Between two ends of one vocabulary.
-pub(crate) fn fit_text(
-    alloc: Global,
+pub(crate) fn show_fit(
+    out: &mut Told,
     f: &Formula,
     voc: &Vocabulary,
     oracle: &mut ListedAnswers,
     log: &mut Log,
-) -> Option<String> {
+) {
     let _cases = f.cases();
     let columns = voc.columns();
     if columns > 63 {
-        return None;
+        return out.lose();
     }
     if columns != f.from() {
-        return None;
+        return out.lose();
     }
     if columns != f.to() {
-        return None;
+        return out.lose();
     }
-    let made = fit(alloc, f, voc, voc, oracle, log).ok()?;
-    cases_text(alloc, &made)
+    match fit(out.alloc(), f, voc, voc, oracle, log) {
+        Ok(made) => show_cases(out, &made),
+        Err(_) => out.lose(),
+    }
 }
 
 /// Of a body.
-pub(crate) fn star_text(
-    alloc: Global,
+pub(crate) fn show_star(
+    out: &mut Told,
     body: &Formula,
     voc: &Vocabulary,
     oracle: &mut ListedAnswers,
     log: &mut Log,
-) -> Option<String> {
+) {
     let _cases = body.cases();
     let columns = voc.columns();
     if columns > 63 {
-        return None;
+        return out.lose();
     }
     if columns != body.from() {
-        return None;
+        return out.lose();
     }
     if columns != body.to() {
-        return None;
+        return out.lose();
     }
-    let made = star(alloc, body, voc, oracle, log).ok()?;
-    cases_text(alloc, &made)
+    match star(out.alloc(), body, voc, oracle, log) {
+        Ok(made) => show_cases(out, &made),
+        Err(_) => out.lose(),
+    }
 }

@@ -1,50 +1,53 @@
 //! Certificate files: what is read, where a file is wrong, and what is written.
+ghost use Rattle.wire.specs.Written.{IsWritable};
 
-use crate::faults::write_error;
-use std::alloc::{AllocError, Global};
-use std::fmt::Write;
-use wire::{Certificate, FileText, Version, read_certificate, write_certificate};
+use crate::faults::show_error;
+use row_texts::Told;
+use wire::{Certificate, Version, read_certificate, write_certificate};
 
 /// What is read of a file, or why it is not.
-pub(crate) fn certificate_text(alloc: Global, file: &str) -> Option<String> {
-    let mut out = String::new(alloc);
-    match read_certificate(alloc, file.as_bytes()) {
-        Ok(file) => write_parts(&mut out, &file).ok()?,
-        Err(error) => write_error(&mut out, &error)?,
+pub(crate) fn show_certificate(out: &mut Told, file: &str) {
+    match read_certificate(out.alloc(), file.as_bytes()) {
+        Ok(file) => show_parts(out, &file),
+        Err(error) => show_error(out, &error),
     }
-    Some(out)
 }
 
-fn write_parts(out: &mut String, file: &Certificate) -> Result<(), AllocError> {
-    write_head(out, file.version, file.answers.len())?;
-    write_order(out, file.order.as_slice())?;
-    write_lengths(out, file.text.as_str().len(), file.report.as_str().len())
+fn show_parts(out: &mut Told, file: &Certificate) {
+    out.word(match file.version {
+        Version::First => "version 1",
+        Version::Second => "version 2",
+    });
+    out.count(", answers ", file.answers.len());
+    show_order(out, file.order.as_slice());
+    out.count(", text ", file.text.as_str().len());
+    out.count(", report ", file.report.as_str().len());
 }
 
-fn write_head(out: &mut String, version: Version, answers: usize) -> Result<(), AllocError> {
-    let version = match version {
-        Version::First => 1,
-        Version::Second => 2,
-    };
-    write!(out, "version {version}, answers {answers}, order ")
-}
-
-fn write_order(out: &mut String, order: &[usize]) -> Result<(), AllocError> {
-    let mut mark = "";
+fn show_order(out: &mut Told, order: &[usize]) {
+    let mut mark = ", order ";
+    if order.is_empty() {
+        out.word(mark);
+    }
     for place in order {
-        write!(out, "{mark}{place}")?;
+        out.count(mark, *place);
         mark = ",";
     }
-    Ok(())
-}
-
-fn write_lengths(out: &mut String, text: usize, report: usize) -> Result<(), AllocError> {
-    write!(out, ", text {text}, report {report}")
 }
 
 /// A file that is read and written again.
-pub(crate) fn written_text(alloc: Global, file: &str) -> Option<String> {
-    let file = read_certificate(alloc, file.as_bytes()).ok()?;
-    let text: FileText = write_certificate(alloc, &file).ok()?;
-    format!(in alloc; "{}", text.as_str()).ok()
+pub(crate) fn show_written(out: &mut Told, file: &str) {
+    match read_certificate(out.alloc(), file.as_bytes()) {
+        Ok(file) => show_file(out, &file),
+        Err(_) => out.lose(),
+    }
+}
+
+fn show_file(out: &mut Told, file: &Certificate)
+    requires { IsWritable file.now }
+{
+    match write_certificate(out.alloc(), file) {
+        Ok(text) => out.word(text.as_str()),
+        Err(_) => out.lose(),
+    }
 }

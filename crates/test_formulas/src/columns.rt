@@ -1,51 +1,49 @@
 //! Rows of formulas over other entry columns, and with other posts.
 ghost use Rattle.std.specs.Prelude.{◌≡◌, IfOk};
 
-use crate::formulas::{formula, formula_of, write_formula, write_losses};
+use crate::formulas::{formula_between, formula_of, show_formula};
 use crate::numbered::{are_below, hide_few};
+use crate::readers::small_numbers_of;
 use items::Items;
 use linear_terms::Case;
+use row_texts::Told;
 use std::alloc::{AllocError, Global};
-use std::fmt::Write;
 use transition_formula::{
     Formula, Loss, equated_formula, hidden, raised_formula, with_entries, with_posts,
 };
 
-/// Numbers with blanks between them.
-pub(crate) fn small_numbers(alloc: Global, text: &str) -> Option<Vec<u32>> {
-    let mut made = Vec::new(alloc);
-    for part in text.split(' ') {
-        made.push(part.parse::<u32>().ok()?).ok()?;
-    }
-    Some(made)
-}
-
 /// The columns before and after, what the operation takes, and the cases: what comes of the
 /// formula.
-pub(crate) fn outcome(alloc: Global, kind: &str, given: &str) -> Option<String> {
-    let (head, cases) = given.split_once(" : ")?;
-    let head = small_numbers(alloc, head)?;
-    match head.as_slice() {
+pub(crate) fn show(out: &mut Told, kind: &str, given: &str) {
+    let (head, cases) = out.halves(given, " : ");
+    let head = small_numbers_of(out, head);
+    show_between(out, kind, head.as_slice(), cases);
+}
+
+fn show_between(out: &mut Told, kind: &str, head: &[u32], cases: &str) {
+    match head {
         [from, to, rest @ ..] => {
-            let f = formula(alloc, *from, *to, cases)?;
-            changed_text(alloc, kind, &f, rest)
+            let f = formula_between(out, *from, *to, cases);
+            show_changed(out, kind, &f, rest);
         }
-        _ => None,
+        _ => out.lose(),
     }
 }
 
-fn changed_text(alloc: Global, kind: &str, f: &Formula, rest: &[u32]) -> Option<String> {
-    let mut losses = Items::new(alloc);
-    let made = changed_formula(alloc, kind, f, rest, &mut losses)?;
-    let mut text = String::new(alloc);
-    write_changed(&mut text, &made, losses.as_slice()).ok()?;
-    Some(text)
+fn show_changed(out: &mut Told, kind: &str, f: &Formula, rest: &[u32]) {
+    let mut losses = Items::new(out.alloc());
+    match changed_formula(out.alloc(), kind, f, rest, &mut losses) {
+        Some(made) => show_made(out, &made, losses.as_slice()),
+        None => out.lose(),
+    }
 }
 
-fn write_changed(text: &mut String, made: &Formula, losses: &[Loss]) -> Result<(), AllocError> {
-    write!(text, "{} {} : ", made.from(), made.to())?;
-    write_formula(text, made)?;
-    write_losses(text, losses)
+/// The columns before and after, and the formula.
+fn show_made(out: &mut Told, made: &Formula, losses: &[Loss]) {
+    out.place("", made.from());
+    out.place(" ", made.to());
+    out.word(" : ");
+    show_formula(out, made, losses);
 }
 
 fn changed_formula(
@@ -158,28 +156,27 @@ fn copy_of(alloc: Global, f: &Formula) -> Option<Formula> {
     Some(Formula::from_cases(f.from(), f.to(), cases))
 }
 
-fn answer_text(alloc: Global, answer: bool) -> Option<String> {
-    let word = if answer { "yes" } else { "no" };
-    format!(in alloc; "{word}").ok()
+/// The formula between columns that stand before it.
+fn formula_behind(out: &mut Told, given: &str) -> Formula {
+    let (head, cases) = out.halves(given, " : ");
+    let (from, to) = out.halves(head, " ");
+    formula_of(out, from, to, cases)
 }
 
-/// The formula between columns that stand before it.
-fn formula_between(alloc: Global, given: &str) -> Option<Formula> {
-    let (head, cases) = given.split_once(" : ")?;
-    let (from, to) = head.split_once(' ')?;
-    formula_of(alloc, from, to, cases)
+fn show_answer(out: &mut Told, answer: bool) {
+    out.word(if answer { "yes" } else { "no" });
 }
 
 /// Whether two formulas are one.
-pub(crate) fn sameness(alloc: Global, given: &str) -> Option<String> {
-    let (first, second) = given.split_once(" == ")?;
-    let first = formula_between(alloc, first)?;
-    let second = formula_between(alloc, second)?;
-    answer_text(alloc, first.same(&second))
+pub(crate) fn show_sameness(out: &mut Told, given: &str) {
+    let (first, second) = out.halves(given, " == ");
+    let first = formula_behind(out, first);
+    let second = formula_behind(out, second);
+    show_answer(out, first.same(&second));
 }
 
 /// Whether a formula is fitted.
-pub(crate) fn fitness(alloc: Global, given: &str) -> Option<String> {
-    let f = formula_between(alloc, given)?;
-    answer_text(alloc, f.is_fitted())
+pub(crate) fn show_fitness(out: &mut Told, given: &str) {
+    let f = formula_behind(out, given);
+    show_answer(out, f.is_fitted());
 }

@@ -1,54 +1,59 @@
 //! By how much a case changes a global, where the finder answers; and whether the multipliers of a
 //! bound pass the test of what is left of its question.
 
-use crate::searches::write_limit;
+use crate::readers::case_of;
+use crate::searches::show_limit;
 use cost_bounds::{Cost, bound};
 use farkas_check::{Answer, Question, test};
 use finder::Finder;
 use items::Items;
 use linear_terms::{Case, Poly, Row};
-use polynomial_texts::case;
 use posing::Log;
-use std::alloc::{AllocError, Global};
-use std::fmt::Write;
+use row_texts::Told;
+use std::alloc::Global;
 
-fn write_bound(text: &mut String, scale: i128, by: &Poly) -> Result<(), AllocError> {
-    if scale == 1 {
-        return write!(text, "change <= {by}");
+fn show_bound(out: &mut Told, scale: i128, by: &Poly) {
+    if scale != 1 {
+        out.number(scale);
+        out.word("*");
     }
-    write!(text, "{scale}*change <= {by}")
+    out.word("change <= ");
+    out.value(by);
 }
 
-fn write_multipliers(text: &mut String, multipliers: &[i128]) -> Result<(), AllocError> {
-    text.push_str(" by")?;
+fn show_multipliers(out: &mut Told, multipliers: &[i128]) {
+    out.word(" by");
     for number in multipliers {
-        write!(text, " {number}")?;
+        out.word(" ");
+        out.number(*number);
     }
-    Ok(())
 }
 
-fn passes(kept: Items<Row>, multipliers: Items<i128>) -> bool {
-    test(&Question::Infeasible(kept), &Answer::Yes(multipliers))
+/// Whether multipliers pass the test of a question.
+fn show_test(out: &mut Told, kept: Items<Row>, multipliers: Items<i128>) {
+    show_multipliers(out, multipliers.as_slice());
+    let passes = test(&Question::Infeasible(kept), &Answer::Yes(multipliers));
+    out.word(if passes { " passes" } else { " fails" });
 }
 
-fn write_cost(text: &mut String, cost: Cost) -> Result<(), AllocError> {
+fn show_exact(out: &mut Told, by: &Poly) {
+    out.word("change = ");
+    out.value(by);
+}
+
+fn show_cost(out: &mut Told, cost: Cost) {
     match cost {
-        Cost::Exact(by) => write!(text, "change = {by}"),
-        Cost::Unbounded(_) => text.push_str("no bound"),
-        Cost::Limit(limit) => write_limit(text, limit),
+        Cost::Exact(by) => show_exact(out, &by),
+        Cost::Unbounded(_) => out.word("no bound"),
+        Cost::Limit(limit) => show_limit(out, limit),
         Cost::Bound {
             scale,
             by,
             kept,
             multipliers,
         } => {
-            write_bound(text, scale, &by)?;
-            write_multipliers(text, multipliers.as_slice())?;
-            text.push_str(if passes(kept, multipliers) {
-                " passes"
-            } else {
-                " fails"
-            })
+            show_bound(out, scale, &by);
+            show_test(out, kept, multipliers);
         }
     }
 }
@@ -64,12 +69,12 @@ fn cost_of(alloc: Global, case: &Case, number: u32) -> Option<Cost> {
 }
 
 /// The number of a global, a colon and a case.
-pub(crate) fn outcome(alloc: Global, given: &str) -> Option<String> {
-    let (number, given) = given.split_once(':')?;
-    let number = number.trim().parse::<u32>().ok()?;
-    let case = case(alloc, given.trim()).ok()?;
-    let cost = cost_of(alloc, &case, number)?;
-    let mut text = String::new(alloc);
-    write_cost(&mut text, cost).ok()?;
-    Some(text)
+pub(crate) fn show(out: &mut Told, given: &str) {
+    let (number, given) = out.halves(given, ":");
+    let number = out.small_number_of(number.trim());
+    let case = case_of(out, given.trim());
+    match cost_of(out.alloc(), &case, number) {
+        Some(cost) => show_cost(out, cost),
+        None => out.lose(),
+    }
 }

@@ -1,79 +1,74 @@
 //! Calls over an oracle that hands out listed answers.
 
-use crate::questions::{answers, rows};
-use farkas_check::Answer;
+use crate::readers::{answers_of, rows_of};
 use items::Items;
 use linear_terms::Row;
 use posing::{Log, WorkError};
 use question_examples::{Listed, exclusions, first_excluded};
-use std::alloc::{AllocError, Global};
-use std::fmt::Write;
+use row_texts::Told;
 
 /// Lists of rows, parted by bars.
-fn lists(alloc: Global, text: &str) -> Option<Items<Items<Row>>> {
-    let mut made = Items::new(alloc);
+fn lists_of(out: &mut Told, text: &str) -> Items<Items<Row>> {
+    let mut lists = Items::new(out.alloc());
     for part in text.split('|') {
-        made.push(rows(alloc, part)?).ok()?;
+        let rows = rows_of(out, part);
+        out.lose_unless(lists.push(rows).is_ok());
     }
-    Some(made)
+    lists
 }
 
-/// The oracle that hands out the answers of a certificate file, the last of them first.
-fn oracle(alloc: Global, text: &str) -> Option<Listed> {
-    let answers: Items<Answer> = answers(alloc, text)?;
-    Some(Listed::new(answers))
+fn show_log(out: &mut Told, log: &Log) {
+    out.count("", log.answers.len());
+    out.count(" taken, ", log.notes.len());
+    out.word(" noted");
 }
 
-fn write_log(text: &mut String, log: &Log) -> Result<(), AllocError> {
-    let (taken, notes) = (log.answers.len(), log.notes.len());
-    write!(text, "{taken} taken, {notes} noted")
-}
-
-fn bools_text(alloc: Global, made: &[bool]) -> Option<String> {
-    let mut text = String::new(alloc);
-    for one in made {
-        write!(text, "{one}, ").ok()?;
+fn show_each_truth(out: &mut Told, made: &[bool]) {
+    for holds in made {
+        out.truth(*holds);
+        out.word(", ");
     }
-    Some(text)
 }
 
-/// Whether each list of rows is infeasible.
-pub(crate) fn each_text(alloc: Global, given: &str) -> Option<String> {
-    let (asked, answered) = given.split_once('\n')?;
-    let lists = lists(alloc, asked)?;
-    let mut oracle = oracle(alloc, answered)?;
-    text_of_each(alloc, lists.as_slice(), &mut oracle)
+/// Whether each list of rows is infeasible. The last answer of the certificate file is handed out
+/// first.
+pub(crate) fn show_each(out: &mut Told, given: &str) {
+    let (asked, answered) = out.halves(given, "\n");
+    let lists = lists_of(out, asked);
+    let mut oracle = Listed::new(answers_of(out, answered));
+    show_exclusions(out, lists.as_slice(), &mut oracle);
 }
 
-fn text_of_each(alloc: Global, lists: &[Items<Row>], oracle: &mut Listed) -> Option<String> {
-    let mut log = Log::new(alloc);
-    let made = exclusions(alloc, lists, oracle, &mut log).ok()?;
-    let mut text = bools_text(alloc, made.as_slice())?;
-    write_log(&mut text, &log).ok()?;
-    Some(text)
+fn show_exclusions(out: &mut Told, lists: &[Items<Row>], oracle: &mut Listed) {
+    let mut log = Log::new(out.alloc());
+    match exclusions(out.alloc(), lists, oracle, &mut log) {
+        Ok(made) => show_each_truth(out, made.as_slice()),
+        Err(_) => out.lose(),
+    }
+    show_log(out, &log);
 }
 
-fn place_text(alloc: Global, made: Result<Option<usize>, WorkError>) -> Option<String> {
+fn show_place(out: &mut Told, made: Result<Option<usize>, WorkError>) {
     match made {
-        Ok(Some(place)) => format!(in alloc; "{place}, ").ok(),
-        Ok(None) => format!(in alloc; "none, ").ok(),
-        Err(WorkError::Refused) => format!(in alloc; "refused, ").ok(),
-        Err(_) => None,
+        Ok(Some(place)) => out.count("", place),
+        Ok(None) => out.word("none"),
+        Err(WorkError::Refused) => out.word("refused"),
+        Err(_) => out.lose(),
     }
+    out.word(", ");
 }
 
 /// The place of the first list that is infeasible.
-pub(crate) fn first_text(alloc: Global, given: &str) -> Option<String> {
-    let (asked, answered) = given.split_once('\n')?;
-    let lists = lists(alloc, asked)?;
-    let mut oracle = oracle(alloc, answered)?;
-    text_of_first(alloc, lists.as_slice(), &mut oracle)
+pub(crate) fn show_first(out: &mut Told, given: &str) {
+    let (asked, answered) = out.halves(given, "\n");
+    let lists = lists_of(out, asked);
+    let mut oracle = Listed::new(answers_of(out, answered));
+    show_first_excluded(out, lists.as_slice(), &mut oracle);
 }
 
-fn text_of_first(alloc: Global, lists: &[Items<Row>], oracle: &mut Listed) -> Option<String> {
-    let mut log = Log::new(alloc);
-    let made = first_excluded(alloc, lists, oracle, &mut log);
-    let mut text = place_text(alloc, made)?;
-    write_log(&mut text, &log).ok()?;
-    Some(text)
+fn show_first_excluded(out: &mut Told, lists: &[Items<Row>], oracle: &mut Listed) {
+    let mut log = Log::new(out.alloc());
+    let made = first_excluded(out.alloc(), lists, oracle, &mut log);
+    show_place(out, made);
+    show_log(out, &log);
 }

@@ -1,25 +1,23 @@
 //! What is told of a file that is not read.
 
-use std::alloc::AllocError;
-use std::fmt::Write;
+use row_texts::Told;
 use wire::WireError;
 
-fn write_shape(out: &mut String, path: &[u8]) -> Option<()> {
-    let path = str::from_utf8(path).ok()?;
-    write!(out, "shape {path}").ok()
+fn show_shape(out: &mut Told, path: &[u8]) {
+    out.word("shape ");
+    out.letters(path);
 }
 
-fn write_numbered(out: &mut String, word: &str, number: u64) -> Result<(), AllocError> {
-    write!(out, "{word} {number}")
-}
-
-/// Writes an error in words.
-pub(crate) fn write_error(out: &mut String, error: &WireError) -> Option<()> {
+/// An error in words.
+pub(crate) fn show_error(out: &mut Told, error: &WireError) {
     match error {
-        WireError::Json => out.push_str("json").ok(),
-        WireError::Shape(path) => write_shape(out, path.as_slice()),
-        WireError::Version(number) => write_numbered(out, "version", *number).ok(),
-        WireError::Edit(number) => write_numbered(out, "edit", *number as u64).ok(),
-        WireError::Memory => out.push_str("memory").ok(),
+        WireError::Json => out.word("json"),
+        WireError::Shape(path) => show_shape(out, path.as_slice()),
+        WireError::Version(number) => {
+            out.word("version ");
+            out.number(i128::from(*number));
+        }
+        WireError::Edit(number) => out.place("edit ", *number),
+        WireError::Memory => out.word("memory"),
     }
 }

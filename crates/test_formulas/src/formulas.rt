@@ -1,105 +1,103 @@
 //! Rows of cases and formulas.
 
 use crate::numbered::{are_few, posts_are_numbered, rows_are_numbered};
+use crate::readers::case_of;
+use crate::texts::show_step;
 use items::Items;
 use linear_terms::Case;
-use polynomial_texts::case;
-use std::alloc::{AllocError, Global};
-use std::fmt::Write;
+use row_texts::Told;
+use std::alloc::Global;
 use transition_formula::{Formula, Loss, Solved, identity, join, seq, solve};
 
-pub(crate) fn outcome(alloc: Global, kind: &str, given: &str) -> Option<String> {
-    match kind {
-        "order" => in_order(alloc, given),
-        "sequence" => in_sequence(alloc, given),
-        _ => choice(alloc, given),
-    }
-}
-
-/// The formula between so many columns whose cases stand between slashes; `-` has none.
-pub(crate) fn formula(alloc: Global, from: u32, to: u32, text: &str) -> Option<Formula> {
-    let mut cases = Items::new(alloc);
+/// The cases that stand between slashes; `-` is none.
+fn cases_of(out: &mut Told, text: &str) -> Items<Case> {
+    let mut cases = Items::new(out.alloc());
     if text != "-" {
         for part in text.split('/') {
-            cases.push(case(alloc, part).ok()?).ok()?;
+            let case = case_of(out, part);
+            out.lose_unless(cases.push(case).is_ok());
         }
     }
-    Formula::new(from, to, cases)
+    cases
 }
 
-pub(crate) fn write_case(text: &mut String, case: &Case) -> Result<(), AllocError> {
-    write!(text, "{}", case.aux)?;
-    for row in case.rows.as_slice() {
-        write!(text, " | {row}")?;
-    }
-    for post in case.post.as_slice() {
-        write!(text, " ; {post}")?;
-    }
-    Ok(())
-}
-
-fn write_loss(text: &mut String, loss: Loss) -> Result<(), AllocError> {
-    match loss {
-        Loss::Wide { left, right, times } => {
-            let mark = if times { "*" } else { "+" };
-            write!(text, " ! {left} {mark} {right}")
+/// The formula between so many columns.
+pub(crate) fn formula_between(out: &mut Told, from: u32, to: u32, text: &str) -> Formula {
+    let cases = cases_of(out, text);
+    match Formula::new(from, to, cases) {
+        Some(formula) => formula,
+        None => {
+            out.lose();
+            Formula::from_cases(0, 0, Items::new(out.alloc()))
         }
-        Loss::Degree => write!(text, " ! degree"),
     }
-}
-
-pub(crate) fn write_losses(text: &mut String, losses: &[Loss]) -> Result<(), AllocError> {
-    for loss in losses {
-        write_loss(text, *loss)?;
-    }
-    Ok(())
-}
-
-pub(crate) fn write_formula(text: &mut String, formula: &Formula) -> Result<(), AllocError> {
-    let mut mark = "";
-    for case in formula.cases() {
-        write!(text, "{mark}")?;
-        write_case(text, case)?;
-        mark = " / ";
-    }
-    Ok(())
 }
 
 /// The formula between columns whose numbers are texts.
-pub(crate) fn formula_of(alloc: Global, from: &str, to: &str, cases: &str) -> Option<Formula> {
-    let from = from.parse::<u32>().ok()?;
-    let to = to.parse::<u32>().ok()?;
-    formula(alloc, from, to, cases)
+pub(crate) fn formula_of(out: &mut Told, from: &str, to: &str, cases: &str) -> Formula {
+    let from = out.small_number_of(from);
+    let to = out.small_number_of(to);
+    formula_between(out, from, to, cases)
 }
 
-/// A formula and what was lost.
-fn formula_text(alloc: Global, formula: &Formula, losses: &[Loss]) -> Option<String> {
-    let mut text = String::new(alloc);
-    write_formula(&mut text, formula).ok()?;
-    write_losses(&mut text, losses).ok()?;
-    Some(text)
-}
-
-/// A case, put in order.
-fn in_order(alloc: Global, given: &str) -> Option<String> {
-    let case = case(alloc, given).ok()?;
-    let mut losses = Items::new(alloc);
-    let made = case_in_order(alloc, &case, &mut losses)?;
-    solved_text(alloc, &made, losses.as_slice())
-}
-
-fn write_solved(text: &mut String, made: &Solved) -> Result<(), AllocError> {
-    match made {
-        Solved::Kept(case) => write_case(text, case),
-        Solved::False => write!(text, "false"),
+pub(crate) fn show_case(out: &mut Told, case: &Case) {
+    out.place("", case.aux);
+    for row in case.rows.as_slice() {
+        out.word(" | ");
+        out.value(row);
+    }
+    for post in case.post.as_slice() {
+        out.word(" ; ");
+        out.value(post);
     }
 }
 
-fn solved_text(alloc: Global, made: &Solved, losses: &[Loss]) -> Option<String> {
-    let mut text = String::new(alloc);
-    write_solved(&mut text, made).ok()?;
-    write_losses(&mut text, losses).ok()?;
-    Some(text)
+fn show_loss(out: &mut Told, loss: Loss) {
+    out.word(" ! ");
+    match loss {
+        Loss::Wide { left, right, times } => show_step(out, left, right, times),
+        Loss::Degree => out.word("degree"),
+    }
+}
+
+fn show_losses(out: &mut Told, losses: &[Loss]) {
+    for loss in losses {
+        show_loss(out, *loss);
+    }
+}
+
+/// The cases of a formula, with slashes between them.
+pub(crate) fn show_cases(out: &mut Told, formula: &Formula) {
+    let mut mark = "";
+    for case in formula.cases() {
+        out.word(mark);
+        show_case(out, case);
+        mark = " / ";
+    }
+}
+
+/// A formula and what was lost.
+pub(crate) fn show_formula(out: &mut Told, formula: &Formula, losses: &[Loss]) {
+    show_cases(out, formula);
+    show_losses(out, losses);
+}
+
+/// A case, put in order.
+pub(crate) fn show_order(out: &mut Told, given: &str) {
+    let case = case_of(out, given);
+    let mut losses = Items::new(out.alloc());
+    match case_in_order(out.alloc(), &case, &mut losses) {
+        Some(made) => show_solved(out, &made, losses.as_slice()),
+        None => out.lose(),
+    }
+}
+
+fn show_solved(out: &mut Told, made: &Solved, losses: &[Loss]) {
+    match made {
+        Solved::Kept(case) => show_case(out, case),
+        Solved::False => out.word("false"),
+    }
+    show_losses(out, losses);
 }
 
 fn case_in_order(alloc: Global, case: &Case, losses: &mut Items<Loss>) -> Option<Solved> {
@@ -116,20 +114,22 @@ fn case_in_order(alloc: Global, case: &Case, losses: &mut Items<Loss>) -> Option
 }
 
 /// The columns before, between and after, and two formulas: one and then the other.
-fn in_sequence(alloc: Global, given: &str) -> Option<String> {
-    let (ends, formulas) = given.split_once(" : ")?;
-    let (first, second) = formulas.split_once(" : ")?;
-    let (from, rest) = ends.split_once(' ')?;
-    let (middle, to) = rest.split_once(' ')?;
-    let first = formula_of(alloc, from, middle, first)?;
-    let second = formula_of(alloc, middle, to, second)?;
-    sequence_text(alloc, &first, &second)
+pub(crate) fn show_sequence(out: &mut Told, given: &str) {
+    let (ends, formulas) = out.halves(given, " : ");
+    let (first, second) = out.halves(formulas, " : ");
+    let (from, rest) = out.halves(ends, " ");
+    let (middle, to) = out.halves(rest, " ");
+    let first = formula_of(out, from, middle, first);
+    let second = formula_of(out, middle, to, second);
+    show_both(out, &first, &second);
 }
 
-fn sequence_text(alloc: Global, first: &Formula, second: &Formula) -> Option<String> {
-    let mut losses = Items::new(alloc);
-    let made = sequence(alloc, first, second, &mut losses)?;
-    formula_text(alloc, &made, losses.as_slice())
+fn show_both(out: &mut Told, first: &Formula, second: &Formula) {
+    let mut losses = Items::new(out.alloc());
+    match sequence(out.alloc(), first, second, &mut losses) {
+        Some(made) => show_formula(out, &made, losses.as_slice()),
+        None => out.lose(),
+    }
 }
 
 fn sequence(
@@ -145,20 +145,26 @@ fn sequence(
 }
 
 /// The identity of so many columns, or else a formula between them.
-fn choice(alloc: Global, given: &str) -> Option<String> {
-    let (columns, given) = given.split_once(" : ")?;
-    let columns = columns.parse::<u32>().ok()?;
-    let other = formula(alloc, columns, columns, given)?;
-    let made = same_or(alloc, columns, &other)?;
-    let losses = Items::new(alloc);
-    formula_text(alloc, &made, losses.as_slice())
+pub(crate) fn show_choice(out: &mut Told, given: &str) {
+    let (columns, given) = out.halves(given, " : ");
+    let columns = out.small_number_of(columns);
+    let other = formula_between(out, columns, columns, given);
+    match identity(out.alloc(), columns) {
+        Ok(same) => show_either(out, &same, &other),
+        Err(_) => out.lose(),
+    }
 }
 
-/// The choice of the identity of so many columns and a formula.
-fn same_or(alloc: Global, columns: u32, other: &Formula) -> Option<Formula> {
-    let same = identity(alloc, columns).ok()?;
-    if same.from() == other.from() && same.to() == other.to() {
-        return join(alloc, &same, other).ok();
+fn show_either(out: &mut Told, first: &Formula, second: &Formula) {
+    match choice(out.alloc(), first, second) {
+        Some(made) => show_cases(out, &made),
+        None => out.lose(),
+    }
+}
+
+fn choice(alloc: Global, first: &Formula, second: &Formula) -> Option<Formula> {
+    if first.from() == second.from() && first.to() == second.to() {
+        return join(alloc, first, second).ok();
     }
     None
 }

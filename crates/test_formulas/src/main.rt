@@ -27,6 +27,7 @@ mod parts;
 mod polynomials;
 mod questions;
 mod ratios;
+mod readers;
 mod replays;
 mod scripts;
 mod searches;
@@ -35,74 +36,77 @@ mod verdicts;
 mod vocabularies;
 
 use closed_form::forward_differences;
-use std::alloc::Global;
+use row_texts::Told;
 use std::io;
 
-/// What a row comes to: none where it is no row or memory is wanting. A heading stays as it is.
-fn outcome(alloc: Global, row: &str) -> Option<String> {
+/// What a row comes to. A heading stays as it is.
+fn show_row(out: &mut Told, row: &str) {
     if row.starts_with('#') {
-        return format!(in alloc; "{row}").ok();
+        return out.word(row);
     }
     match row.split_once('\n') {
-        Some((head, rest)) => answer_of_lines(alloc, head, rest),
-        None => answer_of_line(alloc, row),
+        Some((head, rest)) => show_lines(out, head, rest),
+        None => show_line(out, row),
     }
 }
 
 /// What a row of more lines comes to.
-fn answer_of_lines(alloc: Global, head: &str, rest: &str) -> Option<String> {
+fn show_lines(out: &mut Told, head: &str, rest: &str) {
     match head {
-        "certificate" => certificates::certificate_text(alloc, rest),
-        "written" => certificates::written_text(alloc, rest),
-        "script" => scripts::script_text(alloc, rest),
-        "input" => inputs::input_text(alloc, rest),
-        "in turn" => replays::turns_text(alloc, rest),
-        "twice" => replays::twice_text(alloc, rest),
-        "shared" => replays::shared_text(alloc, rest),
-        "infeasible" | "supremum" | "stratum" => verdicts::verdicts_text(alloc, head, rest),
-        _ => answer_of_numbers(alloc, head, rest),
+        "certificate" => certificates::show_certificate(out, rest),
+        "written" => certificates::show_written(out, rest),
+        "script" => scripts::show(out, rest),
+        "input" => inputs::show(out, rest),
+        "in turn" => replays::show_turns(out, rest),
+        "twice" => replays::show_twice(out, rest),
+        "shared" => replays::show_shared(out, rest),
+        "infeasible" | "supremum" | "stratum" => verdicts::show(out, head, rest),
+        _ => show_numbers(out, head, rest),
     }
 }
 
 /// What a row of ratios, of a search or of listed answers comes to.
-fn answer_of_numbers(alloc: Global, head: &str, rest: &str) -> Option<String> {
+fn show_numbers(out: &mut Told, head: &str, rest: &str) {
     match head {
-        "lowest terms" => ratios::lowest_text(alloc, rest),
-        "ratios" => ratios::ratios_text(alloc, rest),
-        "reduced" => bases::reduced_text(alloc, rest),
-        "search of rows" => searches::rows_text(alloc, rest),
-        "search of a supremum" => searches::supremum_text(alloc, rest),
-        "search of relations" => searches::relations_text(alloc, rest),
-        "relations of a narrow question" => searches::narrow_relations_text(alloc, rest),
-        "narrow" => searches::narrow_text(alloc, rest),
-        "each list" => exclusions::each_text(alloc, rest),
-        "first list" => exclusions::first_text(alloc, rest),
-        _ => call_rows::outcome(alloc, head, rest),
+        "lowest terms" => ratios::show_lowest(out, rest),
+        "ratios" => ratios::show_ratios(out, rest),
+        "reduced" => bases::show_reduced(out, rest),
+        "search of rows" => searches::show_rows(out, rest),
+        "search of a supremum" => searches::show_supremum(out, rest),
+        "search of relations" => searches::show_relations(out, rest),
+        "relations of a narrow question" => searches::show_narrow_relations(out, rest),
+        "narrow" => searches::show_narrow(out, rest),
+        "each list" => exclusions::show_each(out, rest),
+        "first list" => exclusions::show_first(out, rest),
+        _ => call_rows::show(out, head, rest),
     }
 }
 
 /// What a row of one line comes to.
-fn answer_of_line(alloc: Global, row: &str) -> Option<String> {
+fn show_line(out: &mut Told, row: &str) {
     if row == "directions" {
-        return vocabularies::directions_text(alloc);
+        return vocabularies::show_directions(out);
     }
-    let (kind, given) = row.split_once(':')?;
-    answer_of_kind(alloc, kind, given.trim())
+    let (kind, given) = out.halves(row, ":");
+    show_kind(out, kind, given.trim());
 }
 
 /// What a row of a kind comes to.
-fn answer_of_kind(alloc: Global, kind: &str, given: &str) -> Option<String> {
+fn show_kind(out: &mut Told, kind: &str, given: &str) {
     match kind {
-        "closed form" | "sum bound" => closed_forms::outcome(alloc, kind, given),
-        "order" | "sequence" | "choice" => formulas::outcome(alloc, kind, given),
+        "closed form" => closed_forms::show_closed_form(out, given),
+        "sum bound" => closed_forms::show_sum_bound(out, given),
+        "order" => formulas::show_order(out, given),
+        "sequence" => formulas::show_sequence(out, given),
+        "choice" => formulas::show_choice(out, given),
         "hidden" | "posts" | "entries" | "raised" | "equated" | "copy" => {
-            columns::outcome(alloc, kind, given)
+            columns::show(out, kind, given)
         }
-        "same" => columns::sameness(alloc, given),
-        "fitted" => columns::fitness(alloc, given),
-        "cost" => costs::outcome(alloc, given),
-        "monomial" | "parts" | "equal rows" | "equal cases" => parts::outcome(alloc, kind, given),
-        _ => polynomials::outcome(alloc, kind, given),
+        "same" => columns::show_sameness(out, given),
+        "fitted" => columns::show_fitness(out, given),
+        "cost" => costs::show(out, given),
+        "monomial" | "parts" | "equal rows" | "equal cases" => parts::show(out, kind, given),
+        _ => polynomials::show(out, kind, given),
     }
 }
 
@@ -110,10 +114,9 @@ fn main(rt: HostRuntime) -> io::Result<()> {
     forward_differences();
     let text = io::read_to_string(rt.alloc(), rt.stdin())?;
     for row in text.as_str().split("\n\n") {
-        match outcome(rt.alloc(), row.trim()) {
-            Some(text) => println!(rt; "{text}")?,
-            None => println!(rt; "no row")?,
-        }
+        let mut out = Told::new(rt.alloc());
+        show_row(&mut out, row.trim());
+        println!(rt; "{}", out.text())?;
     }
     Ok(())
 }

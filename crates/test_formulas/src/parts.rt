@@ -1,104 +1,128 @@
 //! Rows of the parts of polynomials, and of equality.
 
+use crate::readers::{case_at_fault, case_of, poly_of, row_at_fault, row_of};
+use items::Items;
 use linear_terms::{Case, Col, Mono, Poly, Row};
-use polynomial_texts::{case, poly, row};
-use std::alloc::{AllocError, Global};
-use std::fmt::Write;
+use row_texts::Told;
 
-pub(crate) fn outcome(alloc: Global, kind: &str, given: &str) -> Option<String> {
+pub(crate) fn show(out: &mut Told, kind: &str, given: &str) {
     match kind {
-        "monomial" => monomial(alloc, given),
-        "parts" => parts(alloc, given),
-        "equal rows" => equal_rows(alloc, given),
-        _ => equal_cases(alloc, given),
+        "monomial" => show_monomial(out, given),
+        "parts" => show_parts(out, given),
+        "equal rows" => show_equal_rows(out, given),
+        _ => show_equal_cases(out, given),
     }
 }
 
 /// Entry columns by their numbers.
-fn columns(alloc: Global, text: &str) -> Option<Vec<Col>> {
-    let mut made = Vec::new(alloc);
+fn columns_of(out: &mut Told, text: &str) -> Items<Col> {
+    let mut columns = Items::new(out.alloc());
     for part in text.split_whitespace() {
-        made.push(Col::At(part.parse::<u32>().ok()?)).ok()?;
+        let number = out.small_number_of(part);
+        out.lose_unless(columns.push(Col::At(number)).is_ok());
     }
-    Some(made)
+    columns
 }
 
 /// The columns of a monomial.
-fn monomial(alloc: Global, given: &str) -> Option<String> {
-    let columns = columns(alloc, given)?;
+fn show_monomial(out: &mut Told, given: &str) {
+    let columns = columns_of(out, given);
     match Mono::new(columns.as_slice()) {
-        Some(mono) => format!(in alloc; "{mono}").ok(),
-        None => format!(in alloc; "none").ok(),
+        Some(mono) => out.value(&mono),
+        None => out.word("none"),
     }
 }
 
 /// A polynomial: its terms without the constant; the numbers at x0*x1 and at $2; which of the
 /// columns x0 to x2 and of two auxiliaries it has; and its first and its fourth term.
-fn parts(alloc: Global, given: &str) -> Option<String> {
-    let a = poly(alloc, given).ok()?;
-    let parts = parts_text(alloc, &a)?;
-    format!(in alloc; "{}{parts}", a.without_constant()).ok()
+fn show_parts(out: &mut Told, given: &str) {
+    let a = poly_of(out, given);
+    show_terms(out, given);
+    show_numbers(out, &a);
+    show_columns(out, &a);
+    show_term(out, &a, 0);
+    show_term(out, &a, 3);
 }
 
-fn parts_text(alloc: Global, a: &Poly) -> Option<String> {
-    let product = Mono::new(&[Col::At(0), Col::At(1)])?;
-    let mut text = String::new(alloc);
-    write_parts(&mut text, a, &product).ok()?;
-    Some(text)
+fn show_terms(out: &mut Told, given: &str) {
+    let terms = poly_of(out, given).without_constant();
+    out.value(&terms);
 }
 
-fn write_parts(text: &mut String, a: &Poly, product: &Mono) -> Result<(), AllocError> {
-    write_numbers(text, a, product)?;
-    write_columns(text, a)?;
-    write_term(text, a, 0)?;
-    write_term(text, a, 3)
+fn show_numbers(out: &mut Told, a: &Poly) {
+    out.word(" ; ");
+    match Mono::new(&[Col::At(0), Col::At(1)]) {
+        Some(product) => out.number(a.coefficient(&product)),
+        None => out.lose(),
+    }
+    out.word(" ");
+    out.number(a.column_coefficient(Col::Aux(1)));
 }
 
-fn write_numbers(text: &mut String, a: &Poly, product: &Mono) -> Result<(), AllocError> {
-    let of_product = a.coefficient(product);
-    let of_column = a.column_coefficient(Col::Aux(1));
-    write!(text, " ; {of_product} {of_column}")
+fn show_columns(out: &mut Told, a: &Poly) {
+    out.word(" ;");
+    for number in 0..3 {
+        out.word(" ");
+        out.truth(a.has_entry(number));
+    }
+    for number in 0..2 {
+        out.word(" ");
+        out.truth(a.has_auxiliary(number));
+    }
 }
 
-fn write_columns(text: &mut String, a: &Poly) -> Result<(), AllocError> {
-    let (x0, x1, x2) = (a.has_entry(0), a.has_entry(1), a.has_entry(2));
-    let (first, second) = (a.has_auxiliary(0), a.has_auxiliary(1));
-    write!(text, " ; {x0} {x1} {x2} {first} {second}")
-}
-
-fn write_term(text: &mut String, a: &Poly, place: usize) -> Result<(), AllocError> {
+fn show_term(out: &mut Told, a: &Poly, place: usize) {
+    out.word(" ; ");
     match a.term(place) {
-        Some((mono, number)) => write!(text, " ; {number}*{mono}"),
-        None => write!(text, " ; none"),
+        Some((mono, number)) => {
+            out.number(number);
+            out.word("*");
+            out.value(&mono);
+        }
+        None => out.word("none"),
     }
 }
 
 /// Two rows, of which the second may be a copy.
-fn equal_rows(alloc: Global, given: &str) -> Option<String> {
-    let (first, second) = given.split_once('|')?;
-    let first = row(alloc, first).ok()?;
-    let second = row_or_copy(alloc, &first, second.trim())?;
-    format!(in alloc; "{}", first.same(&second)).ok()
+fn show_equal_rows(out: &mut Told, given: &str) {
+    let (first, second) = out.halves(given, "|");
+    let first = row_of(out, first);
+    let second = row_or_copy(out, &first, second.trim());
+    out.truth(first.same(&second));
 }
 
-fn row_or_copy(alloc: Global, first: &Row, text: &str) -> Option<Row> {
+fn row_or_copy(out: &mut Told, first: &Row, text: &str) -> Row {
     match text {
-        "copy" => first.clone().ok(),
-        _ => row(alloc, text).ok(),
+        "copy" => row_copy(out, first),
+        _ => row_of(out, text),
+    }
+}
+
+fn row_copy(out: &mut Told, row: &Row) -> Row {
+    match row.clone() {
+        Ok(copy) => copy,
+        Err(_) => row_at_fault(out),
     }
 }
 
 /// Two cases, of which the second may be a copy.
-fn equal_cases(alloc: Global, given: &str) -> Option<String> {
-    let (first, second) = given.split_once('/')?;
-    let first = case(alloc, first).ok()?;
-    let second = case_or_copy(alloc, &first, second.trim())?;
-    format!(in alloc; "{}", first.same(&second)).ok()
+fn show_equal_cases(out: &mut Told, given: &str) {
+    let (first, second) = out.halves(given, "/");
+    let first = case_of(out, first);
+    let second = case_or_copy(out, &first, second.trim());
+    out.truth(first.same(&second));
 }
 
-fn case_or_copy(alloc: Global, first: &Case, text: &str) -> Option<Case> {
+fn case_or_copy(out: &mut Told, first: &Case, text: &str) -> Case {
     match text {
-        "copy" => first.clone().ok(),
-        _ => case(alloc, text).ok(),
+        "copy" => case_copy(out, first),
+        _ => case_of(out, text),
+    }
+}
+
+fn case_copy(out: &mut Told, case: &Case) -> Case {
+    match case.clone() {
+        Ok(copy) => copy,
+        Err(_) => case_at_fault(out),
     }
 }

@@ -1,103 +1,111 @@
 //! Rows of polynomials.
 
-use crate::texts::{answer_text, number, numbers, polys, two_polys};
+use crate::readers::{numbers_of, poly_of, polys_of, row_of};
+use crate::texts::show_answer;
 use linear_terms::{
-    Normal, Poly, TermError, add, combination, difference, mul, negation, normal, scale, subst,
-    subst_aux, without,
+    Normal, Poly, add, combination, difference, mul, negation, normal, scale, subst, subst_aux,
+    without,
 };
-use polynomial_texts::{poly, row};
-use std::alloc::Global;
-use std::fmt::Write;
+use row_texts::Told;
 
-pub(crate) fn outcome(alloc: Global, kind: &str, given: &str) -> Option<String> {
+pub(crate) fn show(out: &mut Told, kind: &str, given: &str) {
     match kind {
-        "sum" | "product" | "difference" => of_two(alloc, kind, given),
-        "multiple" => multiple(alloc, given),
-        "substitution" => substitution(alloc, given),
-        "auxiliary" => auxiliary(alloc, given),
-        "normal form" => normal_form(alloc, given),
-        "combination" => sum_of_multiples(alloc, given),
-        "negation" => opposite(alloc, given),
-        _ => None,
+        "sum" | "product" | "difference" => show_of_two(out, kind, given),
+        "multiple" => show_multiple(out, given),
+        "substitution" => show_substitution(out, given),
+        "auxiliary" => show_auxiliary(out, given),
+        "normal form" => show_normal_form(out, given),
+        "combination" => show_combination(out, given),
+        "negation" => show_negation(out, given),
+        _ => out.lose(),
     }
 }
 
-fn of_two(alloc: Global, kind: &str, given: &str) -> Option<String> {
-    let (a, b) = two_polys(alloc, given)?;
+fn show_of_two(out: &mut Told, kind: &str, given: &str) {
+    let (first, second) = out.halves(given, "|");
+    let a = poly_of(out, first);
+    let b = poly_of(out, second);
+    show_operation(out, kind, &a, &b);
+}
+
+fn show_operation(out: &mut Told, kind: &str, a: &Poly, b: &Poly) {
     let made = match kind {
-        "sum" => add(alloc, &a, &b),
-        "product" => mul(alloc, &a, &b),
-        _ => difference(alloc, &a, &b),
+        "sum" => add(out.alloc(), a, b),
+        "product" => mul(out.alloc(), a, b),
+        _ => difference(out.alloc(), a, b),
     };
-    answer_text(alloc, made)
+    show_answer(out, made);
 }
 
 /// A polynomial and a number.
-fn multiple(alloc: Global, given: &str) -> Option<String> {
-    let (text, by) = given.split_once('|')?;
-    let by = number(by)?;
-    let a = poly(alloc, text).ok()?;
-    answer_text(alloc, scale(alloc, &a, by))
+fn show_multiple(out: &mut Told, given: &str) {
+    let (text, by) = out.halves(given, "|");
+    let by = out.number_of(by.trim());
+    let a = poly_of(out, text);
+    let made = scale(out.alloc(), &a, by);
+    show_answer(out, made);
 }
 
 /// A polynomial, what is put in for its entry columns, and what for its auxiliaries.
-fn substitution(alloc: Global, given: &str) -> Option<String> {
-    let (text, rest) = given.split_once(';')?;
-    let (at, aux) = rest.split_once(';')?;
-    let a = poly(alloc, text).ok()?;
-    let at = polys(alloc, at)?;
-    let aux = polys(alloc, aux)?;
-    put_in(alloc, &a, at.as_slice(), aux.as_slice())
+fn show_substitution(out: &mut Told, given: &str) {
+    let (text, rest) = out.halves(given, ";");
+    let (at, aux) = out.halves(rest, ";");
+    let a = poly_of(out, text);
+    let at = polys_of(out, at, "|");
+    let aux = polys_of(out, aux, "|");
+    show_put_in(out, &a, at.as_slice(), aux.as_slice());
 }
 
-fn put_in(alloc: Global, a: &Poly, at: &[Poly], aux: &[Poly]) -> Option<String> {
-    if !a.is_covered(at.len(), aux.len()) {
-        return None;
+fn show_put_in(out: &mut Told, a: &Poly, at: &[Poly], aux: &[Poly]) {
+    if a.is_covered(at.len(), aux.len()) {
+        let made = subst(out.alloc(), a, at, aux);
+        show_answer(out, made);
+    } else {
+        out.lose();
     }
-    answer_text(alloc, subst(alloc, a, at, aux))
 }
 
 /// A polynomial, and what is put in for its second auxiliary; behind a semicolon its terms without
 /// that.
-fn auxiliary(alloc: Global, given: &str) -> Option<String> {
-    let (a, by) = two_polys(alloc, given)?;
-    let mut text = answer_text(alloc, subst_aux(alloc, &a, 1, &by))?;
-    write_rest(alloc, &mut text, &a)?;
-    Some(text)
+fn show_auxiliary(out: &mut Told, given: &str) {
+    let (first, second) = out.halves(given, "|");
+    let a = poly_of(out, first);
+    let by = poly_of(out, second);
+    let made = subst_aux(out.alloc(), &a, 1, &by);
+    show_answer(out, made);
+    show_rest(out, &a);
 }
 
-fn write_rest(alloc: Global, text: &mut String, a: &Poly) -> Option<()> {
-    let rest = without(alloc, a, 1).ok()?;
-    write!(text, " ; {rest}").ok()
+fn show_rest(out: &mut Told, a: &Poly) {
+    out.word(" ; ");
+    match without(out.alloc(), a, 1) {
+        Ok(rest) => out.value(&rest),
+        Err(_) => out.lose(),
+    }
 }
 
 /// A row.
-fn normal_form(alloc: Global, given: &str) -> Option<String> {
-    let given = row(alloc, given).ok()?;
-    normal_text(alloc, normal(alloc, &given))
-}
-
-fn normal_text(alloc: Global, made: Result<Normal, TermError>) -> Option<String> {
-    match made {
-        Ok(Normal::Constant(holds)) => format!(in alloc; "{holds}").ok(),
-        Ok(Normal::Kept(row)) => format!(in alloc; "{row}").ok(),
-        Err(error) => answer_text::<Poly>(alloc, Err(error)),
+fn show_normal_form(out: &mut Told, given: &str) {
+    let given = row_of(out, given);
+    match normal(out.alloc(), &given) {
+        Ok(Normal::Constant(holds)) => out.truth(holds),
+        Ok(Normal::Kept(row)) => out.value(&row),
+        Err(error) => show_answer::<Poly>(out, Err(error)),
     }
 }
 
 /// Numbers and polynomials.
-fn sum_of_multiples(alloc: Global, given: &str) -> Option<String> {
-    let (factors, parts) = given.split_once(':')?;
-    let factors = numbers(alloc, factors)?;
-    let parts = polys(alloc, parts)?;
-    answer_text(
-        alloc,
-        combination(alloc, factors.as_slice(), parts.as_slice()),
-    )
+fn show_combination(out: &mut Told, given: &str) {
+    let (factors, parts) = out.halves(given, ":");
+    let factors = numbers_of(out, factors);
+    let parts = polys_of(out, parts, "|");
+    let made = combination(out.alloc(), factors.as_slice(), parts.as_slice());
+    show_answer(out, made);
 }
 
 /// A polynomial.
-fn opposite(alloc: Global, given: &str) -> Option<String> {
-    let a = poly(alloc, given).ok()?;
-    answer_text(alloc, negation(alloc, &a))
+fn show_negation(out: &mut Told, given: &str) {
+    let a = poly_of(out, given);
+    let made = negation(out.alloc(), &a);
+    show_answer(out, made);
 }

@@ -1,86 +1,73 @@
-//! Readers of the short texts of questions, and of the answers in certificate files.
+//! Readers of the short texts of questions.
 
-use farkas_check::{Answer, Change, Goal, Question, Stratum};
+use crate::readers::{poly_of, polys_of, rows_of};
+use farkas_check::{Change, Goal, Question, Stratum};
 use items::Items;
-use linear_terms::{Poly, Row};
-use polynomial_texts::{poly, row};
-use std::alloc::Global;
-use wire::read_certificate;
+use row_texts::Told;
 
-fn polys(alloc: Global, text: &str) -> Option<Items<Poly>> {
-    let mut made = Items::new(alloc);
-    if !text.trim().is_empty() {
-        for part in text.split(';') {
-            made.push(poly(alloc, part).ok()?).ok()?;
-        }
-    }
-    Some(made)
-}
-
-pub(crate) fn rows(alloc: Global, text: &str) -> Option<Items<Row>> {
-    let mut made = Items::new(alloc);
-    if !text.trim().is_empty() {
-        for part in text.split(';') {
-            made.push(row(alloc, part).ok()?).ok()?;
-        }
-    }
-    Some(made)
-}
-
-fn goal(alloc: Global, text: &str) -> Option<Goal> {
-    let (before, after) = text.split_once(':')?;
-    let rows = rows(alloc, before)?;
-    let objective = poly(alloc, after).ok()?;
-    Some(Goal { rows, objective })
+fn goal_of(out: &mut Told, text: &str) -> Goal {
+    let (before, after) = out.halves(text, ":");
+    let rows = rows_of(out, before);
+    let objective = poly_of(out, after);
+    Goal { rows, objective }
 }
 
 /// Goals; `none` stands for no goal.
-pub(crate) fn goals(alloc: Global, text: &str) -> Option<Items<Goal>> {
-    let mut made = Items::new(alloc);
+pub(crate) fn goals_of(out: &mut Told, text: &str) -> Items<Goal> {
+    let mut goals = Items::new(out.alloc());
     if text != "none" {
         for part in text.split('%') {
-            made.push(goal(alloc, part)?).ok()?;
+            let goal = goal_of(out, part);
+            out.lose_unless(goals.push(goal).is_ok());
         }
     }
-    Some(made)
+    goals
 }
 
-fn change(alloc: Global, text: &str) -> Option<Change> {
-    let (before, after) = text.split_once(':')?;
-    let rows = rows(alloc, before)?;
-    let terms = polys(alloc, after)?;
-    Some(Change { rows, terms })
+fn change_of(out: &mut Told, text: &str) -> Change {
+    let (before, after) = out.halves(text, ":");
+    let rows = rows_of(out, before);
+    let terms = polys_of(out, after, ";");
+    Change { rows, terms }
 }
 
-fn changes(alloc: Global, text: &str) -> Option<Items<Change>> {
-    let mut made = Items::new(alloc);
+fn changes_of(out: &mut Told, text: &str) -> Items<Change> {
+    let mut changes = Items::new(out.alloc());
     if !text.trim().is_empty() {
         for part in text.split('%') {
-            made.push(change(alloc, part)?).ok()?;
+            let change = change_of(out, part);
+            out.lose_unless(changes.push(change).is_ok());
         }
     }
-    Some(made)
+    changes
 }
 
-fn stratum(alloc: Global, text: &str) -> Option<Stratum> {
-    let (before, after) = text.split_once('|')?;
-    let cases = changes(alloc, before)?;
-    let lower = polys(alloc, after)?;
+fn stratum_of(out: &mut Told, text: &str) -> Option<Stratum> {
+    let (before, after) = out.halves(text, "|");
+    let cases = changes_of(out, before);
+    let lower = polys_of(out, after, ";");
     Stratum::new(cases, lower)
 }
 
-/// The question of a kind.
-pub(crate) fn question(alloc: Global, kind: &str, text: &str) -> Option<Question> {
-    match kind {
-        "infeasible" => Some(Question::Infeasible(rows(alloc, text)?)),
-        "supremum" => Some(Question::Sup(goals(alloc, text)?)),
-        "stratum" => Some(Question::Stratum(stratum(alloc, text)?)),
-        _ => None,
+/// The question about relations that a text is.
+pub(crate) fn stratum_question_of(out: &mut Told, text: &str) -> Question {
+    match stratum_of(out, text) {
+        Some(stratum) => Question::Stratum(stratum),
+        None => question_at_fault(out),
     }
 }
 
-/// The answers of a certificate file.
-pub(crate) fn answers(alloc: Global, text: &str) -> Option<Items<Answer>> {
-    let file = read_certificate(alloc, text.as_bytes()).ok()?;
-    Some(file.answers)
+fn question_at_fault(out: &mut Told) -> Question {
+    out.lose();
+    Question::Infeasible(Items::new(out.alloc()))
+}
+
+/// The question of a kind.
+pub(crate) fn question_of(out: &mut Told, kind: &str, text: &str) -> Question {
+    match kind {
+        "infeasible" => Question::Infeasible(rows_of(out, text)),
+        "supremum" => Question::Sup(goals_of(out, text)),
+        "stratum" => stratum_question_of(out, text),
+        _ => question_at_fault(out),
+    }
 }

@@ -1,42 +1,56 @@
 //! Ratios in lowest terms, their sums and products.
 
+use crate::texts::show_worded_step;
 use farkas_check::Ratio;
-use std::alloc::{AllocError, Global};
-use std::fmt::Write;
+use row_texts::Told;
 use whole_numbers::Wide;
 
-/// A numerator and a denominator.
-pub(crate) fn ratio(text: &str) -> Option<Ratio> {
+/// The ratio that a numerator and a denominator are, if they are in lowest terms.
+fn ratio(text: &str) -> Option<Ratio> {
     let (num, den) = text.trim().split_once('/')?;
     let num = num.parse::<i128>().ok()?;
     let den = den.parse::<i128>().ok()?;
     Ratio::new(num, den)
 }
 
-/// Whether a ratio is in lowest terms.
-pub(crate) fn lowest_text(alloc: Global, given: &str) -> Option<String> {
-    let is_lowest = ratio(given).is_some();
-    format!(in alloc; "{is_lowest}").ok()
+pub(crate) fn ratio_of(out: &mut Told, text: &str) -> Ratio {
+    match ratio(text) {
+        Some(ratio) => ratio,
+        None => {
+            out.lose();
+            Ratio::whole(0)
+        }
+    }
 }
 
-fn write_made(text: &mut String, made: Result<Ratio, Wide>) -> Result<(), AllocError> {
+/// Whether a ratio is in lowest terms.
+pub(crate) fn show_lowest(out: &mut Told, given: &str) {
+    out.truth(ratio(given).is_some());
+}
+
+/// A numerator, a slash and a denominator.
+pub(crate) fn show_ratio(out: &mut Told, ratio: &Ratio) {
+    out.number(ratio.num());
+    out.word("/");
+    out.number(ratio.den());
+}
+
+fn show_made(out: &mut Told, made: Result<Ratio, Wide>) {
     match made {
-        Ok(made) => write!(text, "{}/{}", made.num(), made.den()),
+        Ok(made) => show_ratio(out, &made),
         Err(Wide { left, right, times }) => {
-            let mark = if times { "times" } else { "plus" };
-            write!(text, "wide {left} {mark} {right}")
+            out.word("wide ");
+            show_worded_step(out, left, right, times);
         }
     }
 }
 
 /// The sum and the product of two ratios.
-pub(crate) fn ratios_text(alloc: Global, given: &str) -> Option<String> {
-    let (left, right) = given.split_once('|')?;
-    let left = ratio(left)?;
-    let right = ratio(right)?;
-    let mut text = String::new(alloc);
-    write_made(&mut text, left.sum(&right)).ok()?;
-    text.push_str("; ").ok()?;
-    write_made(&mut text, left.product(&right)).ok()?;
-    Some(text)
+pub(crate) fn show_ratios(out: &mut Told, given: &str) {
+    let (left, right) = out.halves(given, "|");
+    let left = ratio_of(out, left);
+    let right = ratio_of(out, right);
+    show_made(out, left.sum(&right));
+    out.word("; ");
+    show_made(out, left.product(&right));
 }

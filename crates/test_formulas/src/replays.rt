@@ -1,16 +1,13 @@
 //! The oracle that hands out listed answers. Each question is one without rows, which every limit
 //! of no further step passes, and no multipliers.
+ghost use Rattle.std.specs.Prelude.{◌<◌, length};
 
+use crate::ratios::show_ratio;
+use crate::readers::answers_of;
 use farkas_check::{Answer, AskError, Oracle, Question, Ratio};
 use items::Items;
-use std::alloc::{AllocError, Global};
-use std::fmt::Write;
-use wire::{ListedAnswers, read_certificate, share};
-
-fn answers(alloc: Global, file: &str) -> Option<Items<Answer>> {
-    let file = read_certificate(alloc, file.as_bytes()).ok()?;
-    Some(file.answers)
-}
+use row_texts::Told;
+use wire::{ListedAnswers, share};
 
 fn word(made: Result<Answer, AskError>) -> &'static str {
     match made {
@@ -21,82 +18,94 @@ fn word(made: Result<Answer, AskError>) -> &'static str {
 }
 
 /// What comes of the next question.
-fn next_word(alloc: Global, replay: &mut ListedAnswers) -> &'static str {
-    word(replay.ask(alloc, &Question::Infeasible(Items::new(alloc))))
+fn show_next(out: &mut Told, replay: &mut ListedAnswers) {
+    let question = Question::Infeasible(Items::new(out.alloc()));
+    out.word(word(replay.ask(out.alloc(), &question)));
 }
 
 /// What comes of two questions, and how many answers were taken and are left.
-fn two_text(alloc: Global, replay: &mut ListedAnswers) -> Option<String> {
-    let first = next_word(alloc, replay);
-    let second = next_word(alloc, replay);
-    let (taken, left) = (replay.taken_count(), replay.left_count());
-    format!(in alloc; "{first}, {second}; {taken} taken, {left} left").ok()
+fn show_two(out: &mut Told, replay: &mut ListedAnswers) {
+    show_next(out, replay);
+    out.word(", ");
+    show_next(out, replay);
+    out.count("; ", replay.taken_count());
+    out.count(" taken, ", replay.left_count());
+    out.word(" left");
 }
 
 /// Two questions to the answers of a file in turn.
-pub(crate) fn turns_text(alloc: Global, file: &str) -> Option<String> {
-    let mut replay = ListedAnswers::new(answers(alloc, file)?);
-    two_text(alloc, &mut replay)
-}
-
-fn first_twice(alloc: Global, answers: Items<Answer>) -> Option<ListedAnswers> {
-    if answers.is_empty() {
-        return None;
-    }
-    let mut order = Items::new(alloc);
-    order.push(0).ok()?;
-    order.push(0).ok()?;
-    Some(ListedAnswers::with_order(answers, order))
+pub(crate) fn show_turns(out: &mut Told, file: &str) {
+    let mut replay = ListedAnswers::new(answers_of(out, file));
+    show_two(out, &mut replay);
 }
 
 /// Three questions to the first answer of a file, which is handed out twice.
-pub(crate) fn twice_text(alloc: Global, file: &str) -> Option<String> {
-    let mut replay = first_twice(alloc, answers(alloc, file)?)?;
-    let mut text = two_text(alloc, &mut replay)?;
-    write!(text, "; {}", next_word(alloc, &mut replay)).ok()?;
-    Some(text)
+pub(crate) fn show_twice(out: &mut Told, file: &str) {
+    let answers = answers_of(out, file);
+    if answers.is_empty() {
+        out.lose();
+    } else {
+        show_first_twice(out, answers);
+    }
 }
 
-fn write_multipliers(out: &mut String, by: &[i128]) -> Result<(), AllocError> {
-    out.push_str("yes")?;
+fn show_first_twice(out: &mut Told, answers: Items<Answer>)
+    requires { 0 < length answers }
+{
+    match Items::from_slice(out.alloc(), &[0, 0]) {
+        Ok(order) => show_three(out, ListedAnswers::with_order(answers, order)),
+        Err(_) => out.lose(),
+    }
+}
+
+fn show_three(out: &mut Told, replay: ListedAnswers) {
+    let mut replay = replay;
+    show_two(out, &mut replay);
+    out.word("; ");
+    show_next(out, &mut replay);
+}
+
+fn show_multipliers(out: &mut Told, by: &[i128]) {
+    out.word("yes");
     for number in by {
-        write!(out, " {number}")?;
+        out.word(" ");
+        out.number(*number);
     }
-    out.push_str("; ")
 }
 
-fn write_point(out: &mut String, point: &[Ratio]) -> Result<(), AllocError> {
-    out.push_str("no")?;
+fn show_point(out: &mut Told, point: &[Ratio]) {
+    out.word("no");
     for number in point {
-        write!(out, " {}/{}", number.num(), number.den())?;
+        out.word(" ");
+        show_ratio(out, number);
     }
-    out.push_str("; ")
 }
 
-fn write_answers(out: &mut String, answers: &[Answer]) -> Result<(), AllocError> {
-    for answer in answers {
-        match answer {
-            Answer::Yes(by) => write_multipliers(out, by.as_slice())?,
-            Answer::No(point) => write_point(out, point.as_slice())?,
-            _ => out.push_str("another; ")?,
-        }
+fn show_answer(out: &mut Told, answer: &Answer) {
+    match answer {
+        Answer::Yes(by) => show_multipliers(out, by.as_slice()),
+        Answer::No(point) => show_point(out, point.as_slice()),
+        _ => out.word("another"),
     }
-    Ok(())
+    out.word("; ");
 }
 
-fn write_places(out: &mut String, order: &[usize]) -> Result<(), AllocError> {
-    out.push_str("order")?;
+/// Answers, and the places of all.
+fn show_order(out: &mut Told, distinct: &[Answer], order: &[usize]) {
+    for answer in distinct {
+        show_answer(out, answer);
+    }
+    out.word("order");
     for place in order {
-        write!(out, " {place}")?;
+        out.count(" ", *place);
     }
-    Ok(())
 }
 
 /// The answers of a file, each once, and the places of all.
-pub(crate) fn shared_text(alloc: Global, file: &str) -> Option<String> {
-    let (distinct, order) = share(alloc, answers(alloc, file)?).ok()?;
-    let mut out = String::new(alloc);
-    write_answers(&mut out, distinct.as_slice()).ok()?;
-    write_places(&mut out, order.as_slice()).ok()?;
-    Some(out)
+pub(crate) fn show_shared(out: &mut Told, file: &str) {
+    let answers = answers_of(out, file);
+    match share(out.alloc(), answers) {
+        Ok((distinct, order)) => show_order(out, distinct.as_slice(), order.as_slice()),
+        Err(_) => out.lose(),
+    }
 }

@@ -1,36 +1,33 @@
 //! Edit scripts, and the texts that they give.
-
 ghost use Rattle.std.specs.Prelude.{◌≤◌, length};
 ghost use Rattle.wire.specs.Files.{most_edits};
 
-use crate::faults::write_error;
-use std::alloc::{AllocError, Global};
-use std::fmt::Write;
+use crate::faults::show_error;
+use row_texts::Told;
 use wire::{FileText, Script, read_script, texts};
 
 /// The texts of a script, or why it has none.
-pub(crate) fn script_text(alloc: Global, file: &str) -> Option<String> {
-    let mut out = String::new(alloc);
-    match read_script(alloc, file.as_bytes()) {
-        Ok(script) => write_script(alloc, &mut out, &script)?,
-        Err(error) => write_error(&mut out, &error)?,
+pub(crate) fn show(out: &mut Told, file: &str) {
+    match read_script(out.alloc(), file.as_bytes()) {
+        Ok(script) => show_script(out, &script),
+        Err(error) => show_error(out, &error),
     }
-    Some(out)
 }
 
-fn write_script(alloc: Global, out: &mut String, script: &Script) -> Option<()>
+fn show_script(out: &mut Told, script: &Script)
     requires { length script.now.edits ≤ most_edits }
 {
-    match texts(alloc, script) {
-        Ok(texts) => write_texts(out, texts.as_slice()).ok(),
-        Err(error) => write_error(out, &error),
+    match texts(out.alloc(), script) {
+        Ok(texts) => show_texts(out, texts.as_slice()),
+        Err(error) => show_error(out, &error),
     }
 }
 
-fn write_texts(out: &mut String, texts: &[FileText]) -> Result<(), AllocError> {
-    out.push_str("texts")?;
+fn show_texts(out: &mut Told, texts: &[FileText]) {
+    out.word("texts");
     for text in texts {
-        write!(out, " [{}]", text.as_str())?;
+        out.word(" [");
+        out.word(text.as_str());
+        out.word("]");
     }
-    Ok(())
 }

@@ -1,119 +1,126 @@
 //! What the simplex method finds: the kind of an answer, and whether it passes the test.
 
-use crate::questions::{goals, question, rows};
+use crate::questions::{goals_of, question_of, stratum_question_of};
+use crate::readers::rows_of;
+use crate::texts::show_worded_step;
 use elimination::narrow;
 use farkas_check::{Answer, Limit, Question, Relation, test};
+use row_texts::Told;
 use simplex::{answer, infeasible, sup};
-use std::alloc::{AllocError, Global};
-use std::fmt::Write;
 
 /// A limit in words.
-pub(crate) fn write_limit(text: &mut String, limit: Limit) -> Result<(), AllocError> {
+pub(crate) fn show_limit(out: &mut Told, limit: Limit) {
     match limit {
-        Limit::Pivots => text.push_str("pivots"),
+        Limit::Pivots => out.word("pivots"),
         Limit::Wide { left, right, times } => {
-            let mark = if times { "times" } else { "plus" };
-            write!(text, "limit {left} {mark} {right}")
+            out.word("limit ");
+            show_worded_step(out, left, right, times);
         }
     }
 }
 
-fn write_bound(text: &mut String, at: i128, case: u32) -> Result<(), AllocError> {
-    write!(text, "bound {at} at {case}")
+fn show_bound(out: &mut Told, at: i128, case: u32) {
+    out.word("bound ");
+    out.number(at);
+    out.place(" at ", case);
 }
 
-fn write_kind(text: &mut String, answer: &Answer) -> Result<(), AllocError> {
+fn show_kind(out: &mut Told, answer: &Answer) {
     match answer {
-        Answer::Yes(_) => text.push_str("yes"),
-        Answer::No(_) => text.push_str("no"),
-        Answer::Bound { at, case, .. } => write_bound(text, *at, *case),
-        Answer::Unbounded { case, .. } => write!(text, "unbounded at {case}"),
-        Answer::Limit(limit) => write_limit(text, *limit),
-        Answer::Basis { .. } => text.push_str("basis"),
+        Answer::Yes(_) => out.word("yes"),
+        Answer::No(_) => out.word("no"),
+        Answer::Bound { at, case, .. } => show_bound(out, *at, *case),
+        Answer::Unbounded { case, .. } => out.place("unbounded at ", *case),
+        Answer::Limit(limit) => show_limit(out, *limit),
+        Answer::Basis { .. } => out.word("basis"),
     }
 }
 
-fn answer_text(alloc: Global, question: &Question, answer: &Answer) -> Option<String> {
-    let mut text = String::new(alloc);
-    write_kind(&mut text, answer).ok()?;
-    let passes = test(question, answer);
-    write!(text, ", {passes}").ok()?;
-    Some(text)
+fn show_answer(out: &mut Told, question: &Question, answer: &Answer) {
+    show_kind(out, answer);
+    out.word(", ");
+    out.truth(test(question, answer));
 }
 
 /// Rows; `none` stands for no row.
-pub(crate) fn rows_text(alloc: Global, given: &str) -> Option<String> {
-    let text = if given == "none" { "" } else { given };
-    let rows = rows(alloc, text)?;
-    let answer = infeasible(alloc, rows.as_slice()).ok()?;
-    answer_text(alloc, &Question::Infeasible(rows), &answer)
+pub(crate) fn show_rows(out: &mut Told, given: &str) {
+    let rows = rows_of(out, if given == "none" { "" } else { given });
+    match infeasible(out.alloc(), rows.as_slice()) {
+        Ok(answer) => show_answer(out, &Question::Infeasible(rows), &answer),
+        Err(_) => out.lose(),
+    }
 }
 
 /// Goals.
-pub(crate) fn supremum_text(alloc: Global, given: &str) -> Option<String> {
-    let goals = goals(alloc, given)?;
-    let answer = sup(alloc, goals.as_slice()).ok()?;
-    answer_text(alloc, &Question::Sup(goals), &answer)
+pub(crate) fn show_supremum(out: &mut Told, given: &str) {
+    let goals = goals_of(out, given);
+    match sup(out.alloc(), goals.as_slice()) {
+        Ok(answer) => show_answer(out, &Question::Sup(goals), &answer),
+        Err(_) => out.lose(),
+    }
 }
 
-fn write_numbers(text: &mut String, numbers: &[i128]) -> Result<(), AllocError> {
+fn show_numbers(out: &mut Told, numbers: &[i128]) {
     for number in numbers {
-        write!(text, "{number} ")?;
+        out.number(*number);
+        out.word(" ");
     }
-    Ok(())
 }
 
 /// The numbers of the terms, those of the lower terms, and the constant.
-fn write_relation(text: &mut String, relation: &Relation) -> Result<(), AllocError> {
-    write_numbers(text, relation.a.as_slice())?;
-    text.push_str("| ")?;
-    write_numbers(text, relation.b.as_slice())?;
-    let constant = relation.c;
-    write!(text, "| {constant}; ")
+fn show_relation(out: &mut Told, relation: &Relation) {
+    show_numbers(out, relation.a.as_slice());
+    out.word("| ");
+    show_numbers(out, relation.b.as_slice());
+    out.word("| ");
+    out.number(relation.c);
+    out.word("; ");
 }
 
-fn write_relations(text: &mut String, relations: &[Relation]) -> Result<(), AllocError> {
+fn show_each_relation(out: &mut Told, relations: &[Relation]) {
     for relation in relations {
-        write_relation(text, relation)?;
+        show_relation(out, relation);
     }
-    Ok(())
 }
 
 /// The relations of a basis, or the kind of another answer.
-fn write_found(text: &mut String, answer: &Answer) -> Result<(), AllocError> {
+fn show_found(out: &mut Told, answer: &Answer) {
     match answer {
-        Answer::Basis { relations, .. } => write_relations(text, relations.as_slice()),
-        other => write_kind(text, other),
+        Answer::Basis { relations, .. } => show_each_relation(out, relations.as_slice()),
+        other => show_kind(out, other),
     }
 }
 
 /// The relations of an answer to a question, and whether it passes.
-fn basis_text(alloc: Global, asked: &Question, found: &Answer) -> Option<String> {
-    let mut text = String::new(alloc);
-    write_found(&mut text, found).ok()?;
-    let passes = test(asked, found);
-    write!(text, "{passes}").ok()?;
-    Some(text)
+fn show_basis(out: &mut Told, asked: &Question, found: &Answer) {
+    show_found(out, found);
+    out.truth(test(asked, found));
 }
 
 /// A question about relations.
-pub(crate) fn relations_text(alloc: Global, given: &str) -> Option<String> {
-    let asked = question(alloc, "stratum", given)?;
-    let found = answer(alloc, &asked).ok()?;
-    basis_text(alloc, &asked, &found)
+pub(crate) fn show_relations(out: &mut Told, given: &str) {
+    let asked = stratum_question_of(out, given);
+    match answer(out.alloc(), &asked) {
+        Ok(found) => show_basis(out, &asked, &found),
+        Err(_) => out.lose(),
+    }
 }
 
 /// A narrow question about relations.
-pub(crate) fn narrow_relations_text(alloc: Global, given: &str) -> Option<String> {
-    let asked = question(alloc, "stratum", given)?;
-    let found = elimination::answer(alloc, &asked).ok()?;
-    basis_text(alloc, &asked, &found)
+pub(crate) fn show_narrow_relations(out: &mut Told, given: &str) {
+    let asked = stratum_question_of(out, given);
+    match elimination::answer(out.alloc(), &asked) {
+        Ok(found) => show_basis(out, &asked, &found),
+        Err(_) => out.lose(),
+    }
 }
 
 /// Whether a question is narrow; the first line is its kind.
-pub(crate) fn narrow_text(alloc: Global, given: &str) -> Option<String> {
-    let (kind, text) = given.split_once('\n')?;
-    let asked = question(alloc, kind, text)?;
-    let is_narrow = narrow(alloc, &asked).ok()?;
-    format!(in alloc; "{is_narrow}").ok()
+pub(crate) fn show_narrow(out: &mut Told, given: &str) {
+    let (kind, text) = out.halves(given, "\n");
+    let asked = question_of(out, kind, text);
+    match narrow(out.alloc(), &asked) {
+        Ok(is_narrow) => out.truth(is_narrow),
+        Err(_) => out.lose(),
+    }
 }

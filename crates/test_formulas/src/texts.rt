@@ -1,58 +1,38 @@
-//! Readers of what rows are made of, and the text of what comes of them.
+//! What operations answer, and the steps that leave 128 bits.
 
-use linear_terms::{Poly, TermError};
-use polynomial_texts::poly;
-use std::alloc::Global;
+use linear_terms::TermError;
+use row_texts::Told;
 use std::fmt::Display;
 
-/// Polynomials with bars between them.
-pub(crate) fn polys(alloc: Global, text: &str) -> Option<Vec<Poly>> {
-    let mut made = Vec::new(alloc);
-    for part in text.split('|') {
-        made.push(poly(alloc, part).ok()?).ok()?;
-    }
-    Some(made)
-}
-
-/// Two polynomials with a bar between them.
-pub(crate) fn two_polys(alloc: Global, text: &str) -> Option<(Poly, Poly)> {
-    let (first, second) = text.split_once('|')?;
-    let first = poly(alloc, first).ok()?;
-    let second = poly(alloc, second).ok()?;
-    Some((first, second))
-}
-
-pub(crate) fn number(text: &str) -> Option<i128> {
-    text.trim().parse::<i128>().ok()
-}
-
-/// Numbers with blanks between them.
-pub(crate) fn numbers(alloc: Global, text: &str) -> Option<Vec<i128>> {
-    let mut made = Vec::new(alloc);
-    for part in text.trim().split(' ') {
-        made.push(number(part)?).ok()?;
-    }
-    Some(made)
-}
-
 /// What an operation answers. What cannot be made stands behind `!`.
-pub(crate) fn answer_text<T: Display + Drop>(
-    alloc: Global,
-    made: Result<T, TermError>,
-) -> Option<String> {
+pub(crate) fn show_answer<T: Display + Drop>(out: &mut Told, made: Result<T, TermError>) {
     match made {
-        Ok(value) => format!(in alloc; "{value}").ok(),
-        Err(error) => fault(alloc, error),
+        Ok(value) => out.value(&value),
+        Err(error) => show_fault(out, error),
     }
 }
 
-fn fault(alloc: Global, error: TermError) -> Option<String> {
+fn show_fault(out: &mut Told, error: TermError) {
     match error {
         TermError::Wide { left, right, times } => {
-            let mark = if times { "*" } else { "+" };
-            format!(in alloc; "! {left} {mark} {right}").ok()
+            out.word("! ");
+            show_step(out, left, right, times);
         }
-        TermError::Degree => format!(in alloc; "! degree").ok(),
-        TermError::Memory => None,
+        TermError::Degree => out.word("! degree"),
+        TermError::Memory => out.lose(),
     }
+}
+
+/// A sum or a product, by its mark.
+pub(crate) fn show_step(out: &mut Told, left: i128, right: i128, times: bool) {
+    out.number(left);
+    out.word(if times { " * " } else { " + " });
+    out.number(right);
+}
+
+/// A sum or a product, in words.
+pub(crate) fn show_worded_step(out: &mut Told, left: i128, right: i128, times: bool) {
+    out.number(left);
+    out.word(if times { " times " } else { " plus " });
+    out.number(right);
 }

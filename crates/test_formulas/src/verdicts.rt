@@ -1,80 +1,68 @@
 //! What the test says of answers.
 
-use crate::questions::{answers, question};
+use crate::questions::question_of;
+use crate::readers::answers_of;
+use crate::texts::show_worded_step;
 use farkas_check::{Answer, Limit, Question, test, test_width};
-use std::alloc::{AllocError, Global};
-use std::fmt::Write;
+use row_texts::Told;
 
 /// Whether the answer passes, and the step of the test that is wide.
-fn write_verdict(
-    text: &mut String,
-    question: &Question,
-    answer: &Answer,
-) -> Result<(), AllocError> {
-    text.push_str(if test(question, answer) {
+fn show_verdict(out: &mut Told, question: &Question, answer: &Answer) {
+    out.word(if test(question, answer) {
         "passes"
     } else {
         "fails"
-    })?;
-    write_width(text, test_width(question, answer))?;
-    text.push_str("; ")
+    });
+    show_width(out, test_width(question, answer));
+    out.word("; ");
 }
 
-fn write_width(text: &mut String, width: Option<Limit>) -> Result<(), AllocError> {
+fn show_width(out: &mut Told, width: Option<Limit>) {
     match width {
         Some(Limit::Wide { left, right, times }) => {
-            let mark = if times { "times" } else { "plus" };
-            write!(text, ", wide {left} {mark} {right}")
+            out.word(", wide ");
+            show_worded_step(out, left, right, times);
         }
-        Some(Limit::Pivots) => text.push_str(", pivots"),
-        None => Ok(()),
+        Some(Limit::Pivots) => out.word(", pivots"),
+        None => (),
     }
-}
-
-fn write_verdicts(
-    text: &mut String,
-    question: &Question,
-    answers: &[Answer],
-) -> Result<(), AllocError> {
-    for answer in answers {
-        write_verdict(text, question, answer)?;
-    }
-    Ok(())
 }
 
 /// Whether a copy of a question is equal to it.
-fn is_copied(question: &Question) -> Option<bool> {
-    let copy = question.clone().ok()?;
-    Some(copy == *question)
-}
-
-fn is_answer_copied(answer: &Answer) -> Option<bool> {
-    let copy = answer.clone().ok()?;
-    Some(copy == *answer)
-}
-
-/// Whether copies of answers are equal to them.
-fn are_copied(answers: &[Answer]) -> Option<bool> {
-    for answer in answers {
-        if !is_answer_copied(answer)? {
-            return Some(false);
+fn is_copied(out: &mut Told, question: &Question) -> bool {
+    match question.clone() {
+        Ok(copy) => copy == *question,
+        Err(_) => {
+            out.lose();
+            false
         }
     }
-    Some(true)
+}
+
+fn is_answer_copied(out: &mut Told, answer: &Answer) -> bool {
+    match answer.clone() {
+        Ok(copy) => copy == *answer,
+        Err(_) => {
+            out.lose();
+            false
+        }
+    }
 }
 
 /// A question and answers: what the test says of each, and whether their copies are equal.
-pub(crate) fn verdicts_text(alloc: Global, kind: &str, given: &str) -> Option<String> {
-    let (asked, answered) = given.split_once('\n')?;
-    let question = question(alloc, kind, asked)?;
-    let answers = answers(alloc, answered)?;
-    text_of(alloc, &question, answers.as_slice())
+pub(crate) fn show(out: &mut Told, kind: &str, given: &str) {
+    let (asked, answered) = out.halves(given, "\n");
+    let question = question_of(out, kind, asked);
+    let answers = answers_of(out, answered);
+    show_verdicts(out, &question, answers.as_slice());
 }
 
-fn text_of(alloc: Global, question: &Question, answers: &[Answer]) -> Option<String> {
-    let copied = is_copied(question)? && are_copied(answers)?;
-    let mut text = String::new(alloc);
-    write_verdicts(&mut text, question, answers).ok()?;
-    write!(text, "copies {copied}").ok()?;
-    Some(text)
+fn show_verdicts(out: &mut Told, question: &Question, answers: &[Answer]) {
+    let mut are_copied = is_copied(out, question);
+    for answer in answers {
+        show_verdict(out, question, answer);
+        are_copied = is_answer_copied(out, answer) && are_copied;
+    }
+    out.word("copies ");
+    out.truth(are_copied);
 }

@@ -4,10 +4,11 @@ ghost use Rattle.std.specs.List.{range_with_len};
 ghost use Rattle.polyhedra.specs.Vocabulary.{Vocabulary};
 
 use items::Items;
+use linear_terms::Poly;
 use polyhedra::{Vocabulary, directions};
 use polynomial_texts::PolynomialError;
+use row_texts::Told;
 use std::alloc::{AllocError, Global};
-use std::fmt::Write;
 
 /// The first of so many columns are named.
 pub(crate) fn first_named(
@@ -40,12 +41,23 @@ fn two_of_three(alloc: Global) -> Result<Vocabulary, AllocError> {
 }
 
 /// The directions of the first and the last of three columns.
-pub(crate) fn directions_text(alloc: Global) -> Option<String> {
-    let voc = two_of_three(alloc).ok()?;
-    let made = directions(alloc, &voc).ok()?;
-    let mut text = String::new(alloc);
-    for direction in made.as_slice() {
-        write!(text, "{direction} ;").ok()?;
+pub(crate) fn show_directions(out: &mut Told) {
+    match two_of_three(out.alloc()) {
+        Ok(voc) => show_directions_of(out, &voc),
+        Err(_) => out.lose(),
     }
-    Some(text)
+}
+
+fn show_directions_of(out: &mut Told, voc: &Vocabulary) {
+    match directions(out.alloc(), voc) {
+        Ok(made) => show_each(out, made.as_slice()),
+        Err(_) => out.lose(),
+    }
+}
+
+fn show_each(out: &mut Told, directions: &[Poly]) {
+    for direction in directions {
+        out.value(direction);
+        out.word(" ;");
+    }
 }

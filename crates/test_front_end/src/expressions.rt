@@ -1,8 +1,8 @@
 //! Expressions: their values, their counts; and names.
 use crate::programs::program_of;
-use crate::told::Told;
 use crate::words::op_text;
 use items::Items;
+use row_texts::Told;
 use std::alloc::{AllocError, Global};
 use syntax_tree::{
     Core, EvalWide, Name, Program, Stmt, count_cases, count_operators, eval, has_columns_below,
@@ -74,26 +74,20 @@ fn width_of(e: &Core) -> usize {
         .unwrap_or(64)
 }
 
-/// A word and a count.
-fn show_count(out: &mut Told, word: &str, count: usize) {
-    out.word(word);
-    out.number(count as i128);
-}
-
 /// The cases of an expression, its operators, and how many columns it needs.
 fn show_cases(out: &mut Told, e: &Core) {
     let cases = count_cases(e);
-    show_count(out, "value ", cases.value);
-    show_count(out, " truth ", cases.truth);
-    show_count(out, " falsity ", cases.falsity);
-    show_count(out, " operators ", count_operators(e));
-    show_count(out, " columns ", width_of(e));
+    out.count("value ", cases.value);
+    out.count(" truth ", cases.truth);
+    out.count(" falsity ", cases.falsity);
+    out.count(" operators ", count_operators(e));
+    out.count(" columns ", width_of(e));
 }
 
 /// The cases of a list with an expression twice, and a number between.
 fn show_joint(out: &mut Told, alloc: Global, e: &Core) {
     match doubled_expression(alloc, e) {
-        Ok(list) => show_count(out, "", joint_cases(list.as_slice())),
+        Ok(list) => out.count("", joint_cases(list.as_slice())),
         Err(_) => out.lose(),
     }
 }

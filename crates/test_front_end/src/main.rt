@@ -9,14 +9,13 @@ mod program_text;
 mod programs;
 mod rows;
 mod tokens;
-mod told;
 mod tree_text;
 mod trees;
 mod words;
 
+use row_texts::Told;
 use std::alloc::Global;
 use std::io;
-use told::Told;
 
 /// What a row of a kind comes to.
 fn show_row(out: &mut Told, alloc: Global, kind: &str, text: &[u8]) {

@@ -1,7 +1,7 @@
 //! Programs and their faults, printed.
-use crate::told::Told;
 use crate::words::{op_text, sign_text};
 use items::Items;
+use row_texts::Told;
 use syntax_tree::{Column, Core, GlobalVar, Proc, Program, Stmt};
 use typing::{Limited, TypeError};
 

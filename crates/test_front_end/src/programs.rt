@@ -1,7 +1,7 @@
 //! Programs of texts, and why texts with a tree have none.
 use crate::program_text::{show_fault, show_program};
-use crate::told::Told;
 use crate::trees::tree_of;
+use row_texts::Told;
 use std::alloc::Global;
 use syntax_tree::{Program, count_nodes};
 use typing::{TypeError, elaborate, elaborations_are_answered, elaborations_are_unique};

@@ -1,5 +1,5 @@
 //! The texts of rows.
-use crate::told::Told;
+use row_texts::Told;
 use std::alloc::Global;
 
 /// Puts the byte behind bytes that the first two letters of a part are, and the rest of the part.

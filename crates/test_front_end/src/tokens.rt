@@ -1,11 +1,11 @@
 //! What texts are cut into, and where they are refused. A token is told by a letter (`w` a word,
 //! `k` a keyword, `m` a mark, `e` the end) or by its number and `@`, its place and its length.
-use crate::told::Told;
 use c_lexer::{
     LexError, Token, TokenKind, lex, refusal_is_one, tokens_are_not_refused, tokens_are_one,
     tokens_ascend,
 };
 use items::Items;
+use row_texts::Told;
 use std::alloc::Global;
 
 fn show_kind(out: &mut Told, kind: &TokenKind) {

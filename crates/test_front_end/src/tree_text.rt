@@ -1,7 +1,7 @@
 //! Trees, printed: an expression as an operator and its operands, each with the place of its token.
-use crate::told::Told;
 use crate::words::{op_text, show_named, sign_text};
 use items::Items;
+use row_texts::Told;
 use syntax_tree::{Expr, Item, Line, Name, Param};
 
 fn show_operator(out: &mut Told, mark: &str, at: u32) {

@@ -1,8 +1,8 @@
 //! Trees of texts, and where texts without one are refused.
 use crate::tokens::tokens_of;
-use crate::told::Told;
 use crate::tree_text::show_item;
 use c_parser::{ParseError, ends_once, lexed_ends_once, parse, reading_is_one, readings_are_short};
+use row_texts::Told;
 use std::alloc::Global;
 use syntax_tree::{Item, Tree};
 

@@ -1,5 +1,5 @@
 //! Names and operators.
-use crate::told::Told;
+use row_texts::Told;
 use syntax_tree::{Name, Op, Sign};
 
 /// A word, a name and its place.

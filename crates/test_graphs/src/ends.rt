@@ -2,66 +2,78 @@
 ghost use Rattle.std.specs.Prelude.{◌<◌, length};
 ghost use Rattle.syntax_tree.specs.WellFormed.{IsWellFormed};
 
-use crate::programs::program_of;
+use linear_terms::Poly;
 use polyhedra::Vocabulary;
-use std::alloc::{AllocError, Global};
-use std::fmt::Write;
+use row_texts::Told;
+use std::alloc::AllocError;
 use syntax_tree::Program;
 use vocabularies::{entry, exit, full, harvest, pair, start};
 
-/// A line for a vocabulary: the columns, those that are named, and the terms. There is no space at
-/// its end.
-fn write_voc(text: &mut String, kind: &str, voc: &Vocabulary) -> Result<(), AllocError> {
-    write!(text, "{kind} {}:", voc.columns())?;
+/// The columns, those that are named, and the terms. There is no space at the end.
+fn show_voc(out: &mut Told, voc: &Vocabulary) {
+    out.place("", voc.columns());
+    out.word(":");
     for number in voc.named_columns() {
-        write!(text, " {number}")?;
+        out.place(" ", *number);
     }
-    write!(text, ":")?;
-    let mut mark = "";
+    let mut mark = ": ";
+    if voc.harvested_terms().is_empty() {
+        out.word(":");
+    }
     for term in voc.harvested_terms() {
-        write!(text, "{mark} {term}")?;
-        mark = " ;";
+        out.word(mark);
+        out.value(term);
+        mark = " ; ";
     }
-    Ok(())
+}
+
+/// A line for a vocabulary.
+fn show_made(out: &mut Told, kind: &str, made: Result<Vocabulary, AllocError>) {
+    out.word(kind);
+    match made {
+        Ok(voc) => show_voc(out, &voc),
+        Err(_) => out.lose(),
+    }
 }
 
 /// The vocabularies of a procedure.
-fn write_ends(alloc: Global, text: &mut String, program: &Program, proc: u32) -> Option<()>
+fn show_ends(out: &mut Told, program: &Program, proc: u32)
     requires formed { IsWellFormed program.now }
     requires there { proc < length program.now.procs }
 {
-    write_voc(text, "full", &full(alloc, program, proc).ok()?).ok()?;
-    write_voc(text, "\nentry", &entry(alloc, program, proc).ok()?).ok()?;
-    write_voc(text, "\npair", &pair(alloc, program, proc).ok()?).ok()?;
-    write_voc(text, "\nexit", &exit(alloc, program, proc).ok()?).ok()?;
-    writeln!(text).ok()
+    show_made(out, "full ", full(out.alloc(), program, proc));
+    show_made(out, "\nentry ", entry(out.alloc(), program, proc));
+    show_made(out, "\npair ", pair(out.alloc(), program, proc));
+    show_made(out, "\nexit ", exit(out.alloc(), program, proc));
+    out.word("\n");
 }
 
 /// The vocabularies of each procedure, and the first one.
-fn program_text(alloc: Global, program: &Program) -> Option<String> {
-    if !program.is_well_formed() {
-        return None;
-    }
-    let mut text = String::new(alloc);
+pub(crate) fn show(out: &mut Told, program: &Program)
+    requires { IsWellFormed program.now }
+{
     for number in 0..program.procs.len() {
-        write_ends(alloc, &mut text, program, number as u32)?;
+        show_ends(out, program, number as u32);
     }
-    write_voc(&mut text, "start", &start(alloc, program).ok()?).ok()?;
-    Some(text)
-}
-
-pub(crate) fn ends_text(alloc: Global, given: &str) -> Option<String> {
-    let program = program_of(alloc, given)?;
-    program_text(alloc, &program)
+    show_made(out, "start ", start(out.alloc(), program));
 }
 
 /// How many terms the one procedure of a program has, and the last of them.
-pub(crate) fn terms_text(alloc: Global, given: &str) -> Option<String> {
-    let program = program_of(alloc, given)?;
+pub(crate) fn show_terms(out: &mut Told, program: &Program) {
     if program.procs.len() != 1 {
-        return None;
+        return out.lose();
     }
-    let terms = harvest(alloc, &program, 0).ok()?;
-    let last = terms.last()?;
-    format!(in alloc; "{} {last}", terms.len()).ok()
+    match harvest(out.alloc(), program, 0) {
+        Ok(terms) => show_last(out, terms.as_slice()),
+        Err(_) => out.lose(),
+    }
+}
+
+fn show_last(out: &mut Told, terms: &[Poly]) {
+    out.count("", terms.len());
+    out.word(" ");
+    match terms.last() {
+        Some(last) => out.value(last),
+        None => out.lose(),
+    }
 }

@@ -1,12 +1,12 @@
 //! Flow graphs and groups of procedures.
-use crate::programs::program_of;
+ghost use Rattle.syntax_tree.specs.WellFormed.{IsWellFormed};
+
 use flow_graph::{
-    Act, Graph, Group, calls_are_walks, checks_are_walks, graph, groups, groups_are_determined,
-    returns_are_walks, returns_have_heights, stacks_are_chains,
+    Act, Edge, Graph, Group, calls_are_walks, checks_are_walks, graph, groups,
+    groups_are_determined, returns_are_walks, returns_have_heights, stacks_are_chains,
 };
-use std::alloc::{AllocError, Global};
-use std::fmt::Write;
-use syntax_tree::{Core, Sign};
+use row_texts::Told;
+use syntax_tree::{Core, Program, Sign};
 
 fn kind_of(act: &Act) -> &'static str {
     match act {
@@ -19,60 +19,68 @@ fn kind_of(act: &Act) -> &'static str {
     }
 }
 
+fn show_edge(out: &mut Told, edge: &Edge) {
+    out.place("", edge.from);
+    out.place("-", edge.to);
+    out.word(" ");
+    out.word(kind_of(&edge.act));
+}
+
 /// How many nodes, the edges, and where the assertions stand.
-fn show_graph(out: &mut String, graph: &Graph) -> Result<(), AllocError> {
-    write!(out, "{}:", graph.nodes)?;
+fn show_parts(out: &mut Told, graph: &Graph) {
+    out.place("", graph.nodes);
+    out.word(":");
     let mut mark = " ";
     for edge in graph.edges.as_slice() {
-        write!(
-            out,
-            "{mark}{}-{} {}",
-            edge.from,
-            edge.to,
-            kind_of(&edge.act)
-        )?;
+        out.word(mark);
+        show_edge(out, edge);
         mark = ", ";
     }
     for check in graph.checks.as_slice() {
-        write!(out, ", assertion {} at {}", check.number, check.node)?;
+        out.place(", assertion ", check.number);
+        out.place(" at ", check.node);
     }
-    Ok(())
 }
 
-/// The graph of the procedure `f`, which stands between the global `x` and `main`.
-pub(crate) fn graph_text(alloc: Global, procedure: &str) -> Option<String> {
-    let text = format!(in alloc; "int x; {procedure} void main(void) {{}}").ok()?;
-    let program = program_of(alloc, text.as_str())?;
-    if !program.is_well_formed() || program.procs.is_empty() {
-        return None;
+/// The graph of the first procedure.
+pub(crate) fn show_graph(out: &mut Told, program: &Program)
+    requires { IsWellFormed program.now }
+{
+    if program.procs.is_empty() {
+        return out.lose();
     }
-    let graph = graph(alloc, &program, 0).ok()?;
-    let mut out = String::new(alloc);
-    show_graph(&mut out, &graph).ok()?;
-    Some(out)
+    match graph(out.alloc(), program, 0) {
+        Ok(made) => show_parts(out, &made),
+        Err(_) => out.lose(),
+    }
 }
 
-fn show_group(out: &mut String, group: &Group) -> Result<(), AllocError> {
+fn show_group(out: &mut Told, group: &Group) {
     let mut mark = "";
     for proc in group.procs.as_slice() {
-        write!(out, "{mark}{proc}")?;
+        out.place(mark, *proc);
         mark = " ";
     }
-    write!(out, "{}", if group.recursive { " recursive" } else { "" })
+    if group.recursive {
+        out.word(" recursive");
+    }
+}
+
+fn show_each(out: &mut Told, groups: &[Group]) {
+    let mut comma = "";
+    for group in groups {
+        out.word(comma);
+        show_group(out, group);
+        comma = ", ";
+    }
 }
 
 /// The groups of procedures in order: a procedure stands by its place in the text.
-pub(crate) fn groups_text(alloc: Global, given: &str) -> Option<String> {
-    let program = program_of(alloc, given)?;
-    let groups = groups(alloc, &program).ok()?;
-    let mut out = String::new(alloc);
-    let mut comma = "";
-    for group in groups.as_slice() {
-        write!(out, "{comma}").ok()?;
-        show_group(&mut out, group).ok()?;
-        comma = ", ";
+pub(crate) fn show_groups(out: &mut Told, program: &Program) {
+    match groups(out.alloc(), program) {
+        Ok(groups) => show_each(out, groups.as_slice()),
+        Err(_) => out.lose(),
     }
-    Some(out)
 }
 
 pub(crate) fn laws() {

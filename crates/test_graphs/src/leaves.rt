@@ -5,80 +5,83 @@ ghost use Rattle.flow_graph.specs.Plain.{statement_of_act};
 ghost use Rattle.syntax_tree.specs.WellFormed.{IsWellFormed};
 ghost use Rattle.leaf_cases.specs.Conditions.{AreKnown, IsActOf, IsKnown};
 
-use crate::programs::program_of;
 use flow_graph::{Act, graph};
 use items::Items;
 use leaf_cases::{falsity, leaf, met_calls_are_known, truth};
 use linear_terms::{Case, Poly};
 use polynomial_texts::case;
-use std::alloc::{AllocError, Global};
-use std::fmt::Write;
+use row_texts::Told;
 use syntax_tree::{Core, Proc, Program};
-use transition_formula::{Formula, Loss};
+use transition_formula::{Formula, FormulaError, Loss};
 
 /// A post, unless it is the column.
-fn show_post(
-    alloc: Global,
-    out: &mut String,
-    column: usize,
-    post: &Poly,
-) -> Result<(), AllocError> {
-    let text = format!(in alloc; "{post}")?;
-    let own = format!(in alloc; "x{column}")?;
-    if text.as_str() != own.as_str() {
-        write!(out, " ; x{column} = {text}")?;
+fn show_post(out: &mut Told, column: usize, post: &Poly) {
+    let mut own = Told::new(out.alloc());
+    own.count("x", column);
+    let mut text = Told::new(out.alloc());
+    text.value(post);
+    if text.text() != own.text() {
+        show_equation(out, own.text(), text.text());
     }
-    Ok(())
+}
+
+fn show_equation(out: &mut Told, left: &str, right: &str) {
+    out.word(" ; ");
+    out.word(left);
+    out.word(" = ");
+    out.word(right);
 }
 
 /// How many auxiliaries a case has, its rows, and its posts but for those that are their column.
-fn show_case(alloc: Global, out: &mut String, case: &Case) -> Result<(), AllocError> {
-    write!(out, "{}", case.aux)?;
+fn show_case(out: &mut Told, case: &Case) {
+    out.place("", case.aux);
     for row in case.rows.as_slice() {
-        write!(out, " | {row}")?;
+        out.word(" | ");
+        out.value(row);
     }
     for column in 0..case.post.len() {
-        show_post(alloc, out, column, &case.post[column])?;
+        show_post(out, column, &case.post[column]);
     }
-    Ok(())
 }
 
-fn show_loss(out: &mut String, loss: Loss) -> Result<(), AllocError> {
+fn show_loss(out: &mut Told, loss: Loss) {
     match loss {
         Loss::Wide { left, right, times } => {
-            let mark = if times { "*" } else { "+" };
-            write!(out, " ! {left} {mark} {right}")
+            out.word(" ! ");
+            out.number(left);
+            out.word(if times { " * " } else { " + " });
+            out.number(right);
         }
-        Loss::Degree => write!(out, " ! degree"),
+        Loss::Degree => out.word(" ! degree"),
     }
 }
 
-fn show_cases(alloc: Global, out: &mut String, cases: &[Case]) -> Result<(), AllocError> {
+fn show_cases(out: &mut Told, cases: &[Case]) {
+    if cases.is_empty() {
+        out.word("nothing");
+    }
     let mut mark = "";
     for case in cases {
-        write!(out, "{mark}")?;
-        show_case(alloc, out, case)?;
+        out.word(mark);
+        show_case(out, case);
         mark = " or ";
     }
-    Ok(())
 }
 
 /// A formula and what was lost.
-fn show_formula(
-    alloc: Global,
-    out: &mut String,
-    formula: &Formula,
-    losses: &[Loss],
-) -> Result<(), AllocError> {
-    let cases = formula.cases();
-    if cases.is_empty() {
-        write!(out, "nothing")?;
-    }
-    show_cases(alloc, out, cases)?;
+fn show_formula(out: &mut Told, formula: &Formula, losses: &[Loss]) {
+    show_cases(out, formula.cases());
     for loss in losses {
-        show_loss(out, *loss)?;
+        show_loss(out, *loss);
     }
-    Ok(())
+}
+
+/// What a call made of a formula, and what was lost.
+fn show_made(out: &mut Told, made: Result<Formula, FormulaError>, losses: &[Loss]) {
+    match made {
+        Ok(formula) => show_formula(out, &formula, losses),
+        Err(_) => out.lose(),
+    }
 }
 
 fn have_few(cases: &[Case]) -> bool
@@ -131,21 +134,15 @@ pub(crate) fn are_known(program: &Program, known: &[Option<Formula>]) -> bool
 }
 
 /// The formula of an edge of the first procedure.
-fn show_edge(
-    alloc: Global,
-    out: &mut String,
-    program: &Program,
-    act: &Act,
-    known: &[Option<Formula>],
-) -> Option<()>
+fn show_edge(out: &mut Told, program: &Program, act: &Act, known: &[Option<Formula>])
     requires formed { IsWellFormed program.now }
     requires procedure { 0 < length program.now.procs }
     requires edge { IsActOf program.now 0 (statement_of_act act.now) }
     requires known { AreKnown program.now known.now }
 {
-    let mut losses = Items::new(alloc);
-    let formula = leaf(alloc, program, 0, act, known, &mut losses).ok()?;
-    show_formula(alloc, out, &formula, losses.as_slice()).ok()
+    let mut losses = Items::new(out.alloc());
+    let made = leaf(out.alloc(), program, 0, act, known, &mut losses);
+    show_made(out, made, losses.as_slice());
 }
 
 fn is_skip(act: &Act) -> bool {
@@ -153,81 +150,93 @@ fn is_skip(act: &Act) -> bool {
 }
 
 /// The formulas of the edges of the first procedure, but for those that do nothing.
-fn edges(alloc: Global, program: &Program, known: &[Option<Formula>]) -> Option<String> {
-    if !program.is_well_formed() || program.procs.is_empty() || !are_known(program, known) {
-        return None;
+fn show_edges(out: &mut Told, program: &Program, known: &[Option<Formula>])
+    requires { IsWellFormed program.now }
+{
+    if program.procs.is_empty() || !are_known(program, known) {
+        return out.lose();
     }
-    let Ok(graph) = graph(alloc, program, 0) else {
-        return None;
+    let Ok(graph) = graph(out.alloc(), program, 0) else {
+        return out.lose();
     };
-    let mut out = String::new(alloc);
+    let mut is_first = true;
     for edge_of in graph.edges.as_slice() {
         if !is_skip(&edge_of.act) {
-            if !out.is_empty() {
-                write!(out, " / ").ok()?;
-            }
-            show_edge(alloc, &mut out, program, &edge_of.act, known)?;
+            out.word(if is_first { "" } else { " / " });
+            show_edge(out, program, &edge_of.act, known);
+            is_first = false;
         }
     }
-    Some(out)
 }
 
 /// What is known of the procedures: of the second, this case.
-fn known_formulas(alloc: Global, program: &Program, text: &str) -> Option<Items<Option<Formula>>> {
-    let mut known = Items::new(alloc);
+fn formulas_of(out: &mut Told, program: &Program, text: &str) -> Items<Option<Formula>> {
+    let mut known = Items::new(out.alloc());
     for n in 0..program.procs.len() {
         let formula = if n == 1 && text != "-" {
-            Some(formula_of(alloc, program, &program.procs[n], text)?)
+            formula_of(out, program, &program.procs[n], text)
         } else {
             None
         };
-        known.push(formula).ok()?;
+        out.lose_unless(known.push(formula).is_ok());
     }
-    Some(known)
+    known
 }
 
-fn formula_of(alloc: Global, program: &Program, proc: &Proc, text: &str) -> Option<Formula> {
+/// How many columns a procedure has at its entry and at its return.
+fn columns_of(program: &Program, proc: &Proc) -> Option<(u32, u32)> {
     let globals = u32::try_from(program.globals.len()).ok()?;
     let from = globals.checked_add(proc.params)?;
-    let exits = if proc.returns { 1 } else { 0 };
-    let to = globals.checked_add(exits)?;
-    let case = case(alloc, text).ok()?;
-    let mut cases = Items::new(alloc);
-    cases.push(case).ok()?;
-    Formula::new(from, to, cases)
+    let to = globals.checked_add(if proc.returns { 1 } else { 0 })?;
+    Some((from, to))
 }
 
-/// Procedures, and the one case of the known formula of the second, if there is one.
-pub(crate) fn edges_text(alloc: Global, given: &str, known: &str) -> Option<String> {
-    let program = program_of(alloc, given)?;
-    let known = known_formulas(alloc, &program, known)?;
-    edges(alloc, &program, known.as_slice())
+/// The one case that a text is.
+fn cases_of(out: &mut Told, text: &str) -> Items<Case> {
+    let mut cases = Items::new(out.alloc());
+    match case(out.alloc(), text) {
+        Ok(case) => out.lose_unless(cases.push(case).is_ok()),
+        Err(_) => out.lose(),
+    }
+    cases
+}
+
+fn formula_of(out: &mut Told, program: &Program, proc: &Proc, text: &str) -> Option<Formula> {
+    let (from, to) = columns_of(program, proc).unwrap_or((0, 0));
+    let formula = Formula::new(from, to, cases_of(out, text));
+    out.lose_unless(formula.is_some());
+    formula
+}
+
+/// The formulas of edges; the one case of the known formula of the second procedure, if there is
+/// one.
+pub(crate) fn show(out: &mut Told, program: &Program, known: &str)
+    requires { IsWellFormed program.now }
+{
+    let known = formulas_of(out, program, known);
+    show_edges(out, program, known.as_slice());
 }
 
 /// Where a number is true.
-fn truth_text(alloc: Global, number: i128) -> Option<String> {
-    let mut losses = Items::new(alloc);
-    let made = truth(alloc, &Core::Lit(number), 0, &mut losses).ok()?;
-    let mut out = String::new(alloc);
-    show_formula(alloc, &mut out, &made, losses.as_slice()).ok()?;
-    Some(out)
+fn show_truth(out: &mut Told, number: i128) {
+    let mut losses = Items::new(out.alloc());
+    let made = truth(out.alloc(), &Core::Lit(number), 0, &mut losses);
+    show_made(out, made, losses.as_slice());
 }
 
 /// Where a number is false.
-fn falsity_text(alloc: Global, number: i128) -> Option<String> {
-    let mut losses = Items::new(alloc);
-    let made = falsity(alloc, &Core::Lit(number), 0, &mut losses).ok()?;
-    let mut out = String::new(alloc);
-    show_formula(alloc, &mut out, &made, losses.as_slice()).ok()?;
-    Some(out)
+fn show_falsity(out: &mut Told, number: i128) {
+    let mut losses = Items::new(out.alloc());
+    let made = falsity(out.alloc(), &Core::Lit(number), 0, &mut losses);
+    show_made(out, made, losses.as_slice());
 }
 
 /// Where a number is true, and where it is false.
-pub(crate) fn literal_text(alloc: Global, given: &str) -> Option<String> {
-    let number = given.parse::<i128>().ok()?;
-    let is_true = truth_text(alloc, number)?;
-    let is_false = falsity_text(alloc, number)?;
-    format!(in alloc; "{is_true} / {is_false}").ok()
+pub(crate) fn show_literal(out: &mut Told, given: &str) {
+    let number = out.number_of(given);
+    show_truth(out, number);
+    out.word(" / ");
+    show_falsity(out, number);
 }
 
 pub(crate) fn laws() {

@@ -15,36 +15,65 @@ mod programs;
 mod runs;
 mod trees;
 
-use std::alloc::Global;
+use row_texts::Told;
 use std::io;
+use syntax_tree::Program;
 
-/// What a row of a kind comes to; none where it is no row or memory is wanting.
-fn row_answer(alloc: Global, kind: &str, with: &str, given: &str) -> Option<String> {
+/// What a program comes to.
+fn show_program(out: &mut Told, kind: &str, with: &str, program: &Program) {
+    if !program.is_well_formed() {
+        return out.lose();
+    }
     match kind {
-        "trace" => runs::trace_text(alloc, given, with),
-        "graph" => graphs::graph_text(alloc, given),
-        "groups" => graphs::groups_text(alloc, given),
-        "ends" => ends::ends_text(alloc, given),
-        "terms" => ends::terms_text(alloc, given),
-        "edges" => leaves::edges_text(alloc, given, with),
-        "literal" => leaves::literal_text(alloc, given),
-        "plain" => paths::plain_text(alloc, given),
-        "reach" => paths::reach_text(alloc, given, with),
-        "plan" => plans::plan_text(alloc, given),
-        "trees" => trees::trees_text(alloc, given, with),
-        _ => None,
+        "trace" => runs::show(out, program, with),
+        "graph" => graphs::show_graph(out, program),
+        "groups" => graphs::show_groups(out, program),
+        "ends" => ends::show(out, program),
+        "terms" => ends::show_terms(out, program),
+        "edges" => leaves::show(out, program, with),
+        "trees" => trees::show(out, program, with),
+        _ => out.lose(),
+    }
+}
+
+/// What the program of a text comes to.
+fn show_text(out: &mut Told, kind: &str, with: &str, text: &str) {
+    match programs::program_of(out.alloc(), text) {
+        Some(program) => show_program(out, kind, with, &program),
+        None => out.lose(),
+    }
+}
+
+/// The graph of the procedure `f`, which stands between the global `x` and `main`.
+fn show_procedure(out: &mut Told, procedure: &str) {
+    let mut text = Told::new(out.alloc());
+    text.word("int x; ");
+    text.word(procedure);
+    text.word(" void main(void) {}");
+    show_text(out, "graph", "", text.text());
+}
+
+/// What a row of a kind comes to.
+fn show_kind(out: &mut Told, kind: &str, with: &str, given: &str) {
+    match kind {
+        "graph" => show_procedure(out, given),
+        "literal" => leaves::show_literal(out, given),
+        "plain" => paths::show_plain(out, given),
+        "reach" => paths::show_reach(out, given, with),
+        "plan" => plans::show(out, given),
+        _ => show_text(out, kind, with, given),
     }
 }
 
 /// What a row comes to; a heading stays as it is.
-fn outcome(alloc: Global, row: &str) -> Option<String> {
+fn show_row(out: &mut Told, row: &str) {
     if row.starts_with('#') {
-        return format!(in alloc; "{row}").ok();
+        return out.word(row);
     }
-    let (head, given) = row.split_once('\n')?;
+    let (head, given) = out.halves(row, "\n");
     match head.split_once(' ') {
-        Some((kind, with)) => row_answer(alloc, kind, with, given),
-        None => row_answer(alloc, head, "", given),
+        Some((kind, with)) => show_kind(out, kind, with, given),
+        None => show_kind(out, head, "", given),
     }
 }
 
@@ -62,10 +91,9 @@ fn main(rt: HostRuntime) -> io::Result<()> {
     call_laws();
     let text = io::read_to_string(rt.alloc(), rt.stdin())?;
     for row in text.as_str().split("\n\n") {
-        match outcome(rt.alloc(), row.trim()) {
-            Some(text) => println!(rt; "{text}")?,
-            None => println!(rt; "no row")?,
-        }
+        let mut out = Told::new(rt.alloc());
+        show_row(&mut out, row.trim());
+        println!(rt; "{}", out.text())?;
     }
     Ok(())
 }

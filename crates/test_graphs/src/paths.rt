@@ -3,9 +3,11 @@ ghost use Rattle.std.specs.Prelude.{◌≡◌, ◌≤◌, false, IsSome, IfErr};
 ghost use Rattle.whole_numbers.specs.Counters.{Rose};
 
 use crate::links::{is_graph, links_of};
-use path_expr::{Algebra, Cell, Link, Path, PlainPaths, ReachError, paths_are_walks, reach};
-use std::alloc::{AllocError, Global};
-use std::fmt::Write;
+use path_expr::{
+    Algebra, Cell, Link, Path, PathError, PlainPaths, ReachError, paths_are_walks, reach,
+};
+use row_texts::Told;
+use std::alloc::Global;
 
 // An algebra of expressions as texts. It refuses each call after so many, and keeps what the first
 // of these was to make.
@@ -84,96 +86,145 @@ impl Algebra for Texts {
     }
 }
 
-fn show_cell(out: &mut String, cell: &Cell<String>) -> Result<(), AllocError> {
+fn show_cell(out: &mut Told, cell: &Cell<String>) {
     match cell {
-        Cell::Zero => write!(out, "0 "),
-        Cell::One => write!(out, "1 "),
-        Cell::Item(text) => write!(out, "{text} "),
+        Cell::Zero => out.word("0"),
+        Cell::One => out.word("1"),
+        Cell::Item(text) => out.word(text.as_str()),
     }
+    out.word(" ");
 }
 
-fn cells_text(alloc: Global, cells: &[Cell<String>]) -> Option<String> {
-    let mut out = String::new(alloc);
+fn show_cells(out: &mut Told, cells: &[Cell<String>]) {
     for cell in cells {
-        show_cell(&mut out, cell).ok()?;
+        show_cell(out, cell);
     }
-    Some(out)
 }
 
 /// The texts of the nodes of a graph, or the call that was refused.
-fn texts_of(alloc: Global, texts: &mut Texts, links: &[Link], source: u32) -> Option<String> {
+fn show_texts(out: &mut Told, texts: &mut Texts, links: &[Link], source: u32) {
     if !is_graph(4, links) || source >= 4 || links.len() > 9 {
-        return None;
+        return out.lose();
     }
-    match reach(alloc, texts, 4, links, source) {
-        Ok(cells) => cells_text(alloc, cells.as_slice()),
-        Err(ReachError::Algebra(false)) => refusal_text(alloc, texts),
-        Err(_) => None,
+    match reach(out.alloc(), texts, 4, links, source) {
+        Ok(cells) => show_cells(out, cells.as_slice()),
+        Err(ReachError::Algebra(false)) => show_refusal(out, texts),
+        Err(_) => out.lose(),
     }
 }
 
-fn refusal_text(alloc: Global, texts: &Texts) -> Option<String> {
-    let refused = texts.refused.as_deref()?;
-    format!(in alloc; "refused {refused}, {}", texts.faults).ok()
+fn show_refusal(out: &mut Told, texts: &Texts) {
+    out.word("refused ");
+    match &texts.refused {
+        Some(refused) => out.word(refused.as_str()),
+        None => out.lose(),
+    }
+    out.word(", ");
+    out.number(i128::from(texts.faults));
 }
 
 /// A source and links of a graph of four nodes, and how many calls are answered.
-pub(crate) fn reach_text(alloc: Global, given: &str, calls: &str) -> Option<String> {
-    let calls = calls.parse::<u32>().ok()?;
-    let (source, links) = given.split_once(": ")?;
-    let links = links_of(alloc, links)?;
-    let source = source.parse::<u32>().ok()?;
+pub(crate) fn show_reach(out: &mut Told, given: &str, calls: &str) {
+    let calls = out.small_number_of(calls);
+    let (source, links) = out.halves(given, ": ");
+    let links = links_of(out, links);
+    let source = out.small_number_of(source);
     let mut texts = Texts::new(calls);
-    texts_of(alloc, &mut texts, links.as_slice(), source)
+    show_texts(out, &mut texts, links.as_slice(), source);
+}
+
+/// What a call made; none is no path.
+fn path_of(out: &mut Told, made: Result<Path, PathError>) -> Path {
+    match made {
+        Ok(path) => path,
+        Err(_) => {
+            out.lose();
+            Path::Zero
+        }
+    }
+}
+
+fn edge(out: &mut Told, number: u32) -> Path {
+    let made = PlainPaths.edge(out.alloc(), number);
+    path_of(out, made)
+}
+
+fn seq(out: &mut Told, first: &Path, second: &Path) -> Path {
+    let made = PlainPaths.seq(out.alloc(), first, second);
+    path_of(out, made)
+}
+
+fn join(out: &mut Told, left: &Path, right: &Path) -> Path {
+    let made = PlainPaths.join(out.alloc(), left, right);
+    path_of(out, made)
+}
+
+fn star(out: &mut Told, turn: &Path) -> Path {
+    let made = PlainPaths.star(out.alloc(), turn);
+    path_of(out, made)
+}
+
+fn copy(out: &mut Told, path: &Path) -> Path {
+    let made = PlainPaths.copy(out.alloc(), path);
+    path_of(out, made)
 }
 
 /// A loop's turns, and then the way out of it.
-fn round_and_out(alloc: Global, body: &Path, out: &Path) -> Option<Path> {
-    let mut plain = PlainPaths;
-    let turns = plain.star(alloc, body).ok()?;
-    plain.seq(alloc, &turns, out).ok()
+fn round_and_out(out: &mut Told) -> Path {
+    let body = edge(out, 0);
+    let turns = star(out, &body);
+    let after = edge(out, 1);
+    seq(out, &turns, &after)
 }
 
 /// Whether copies are equal, and others are not.
-fn are_copied(alloc: Global) -> Option<bool> {
-    let mut plain = PlainPaths;
-    let body = plain.edge(alloc, 0).ok()?;
-    let out = plain.edge(alloc, 1).ok()?;
-    let round = round_and_out(alloc, &body, &out)?;
-    let either = plain.join(alloc, &round, &body).ok()?;
-    let again = plain.copy(alloc, &either).ok()?;
-    Some(again == either && again != round && Path::Zero != Path::One)
+fn show_copies(out: &mut Told) {
+    let round = round_and_out(out);
+    let body = edge(out, 0);
+    let either = join(out, &round, &body);
+    let again = copy(out, &either);
+    out.truth(again == either && again != round && Path::Zero != Path::One);
 }
 
-/// The paths into the head of a loop by link 0, round its body by link 1, and out of it by link 2.
-fn loop_paths(alloc: Global) -> Option<(Path, Path)> {
-    let mut plain = PlainPaths;
-    let into = plain.edge(alloc, 0).ok()?;
-    let body = plain.edge(alloc, 1).ok()?;
-    let out = plain.edge(alloc, 2).ok()?;
-    let turns = plain.star(alloc, &body).ok()?;
-    let head = plain.seq(alloc, &into, &turns).ok()?;
-    let after = plain.seq(alloc, &head, &out).ok()?;
-    Some((head, after))
+/// The paths into the head of a loop by link 0 and round its body by link 1.
+fn head_paths(out: &mut Told) -> Path {
+    let into = edge(out, 0);
+    let body = edge(out, 1);
+    let turns = star(out, &body);
+    seq(out, &into, &turns)
+}
+
+/// The same paths, and out of the loop by link 2.
+fn after_paths(out: &mut Told) -> Path {
+    let head = head_paths(out);
+    let after = edge(out, 2);
+    seq(out, &head, &after)
 }
 
 /// Whether the nodes of such a graph have these paths; node 3 is never reached.
-fn are_loop_paths(alloc: Global, links: &[Link]) -> Option<bool> {
+fn show_loop(out: &mut Told, links: &[Link]) {
     if !is_graph(4, links) || links.len() > 9 {
-        return None;
+        return out.lose();
     }
-    let (head, after) = loop_paths(alloc)?;
-    let cells = reach(alloc, &mut PlainPaths, 4, links, 0).ok()?;
+    match reach(out.alloc(), &mut PlainPaths, 4, links, 0) {
+        Ok(cells) => show_sameness(out, cells.as_slice()),
+        Err(_) => out.lose(),
+    }
+}
+
+fn show_sameness(out: &mut Told, cells: &[Cell<Path>]) {
+    let head = head_paths(out);
+    let after = after_paths(out);
     let wanted = [Cell::One, Cell::Item(head), Cell::Item(after), Cell::Zero];
-    Some(cells.as_slice() == wanted.as_slice())
+    out.truth(cells == wanted.as_slice());
 }
 
 /// Links of a loop.
-pub(crate) fn plain_text(alloc: Global, given: &str) -> Option<String> {
-    let links = links_of(alloc, given)?;
-    let copied = are_copied(alloc)?;
-    let reached = are_loop_paths(alloc, links.as_slice())?;
-    format!(in alloc; "{copied} {reached}").ok()
+pub(crate) fn show_plain(out: &mut Told, given: &str) {
+    let links = links_of(out, given);
+    show_copies(out);
+    out.word(" ");
+    show_loop(out, links.as_slice());
 }
 
 pub(crate) fn laws() {

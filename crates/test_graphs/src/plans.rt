@@ -2,77 +2,84 @@
 //! cells.
 
 use crate::links::{is_graph, links_of};
-use checked_tree::{EliminationPlan, Key, elimination_plan, law_of_evaluation, law_of_plans};
+use checked_tree::{
+    EliminationPlan, Key, elimination_plan, evaluation_covers_walks, plans_evaluate_graphs,
+};
 use path_expr::{Cell, Link};
-use std::alloc::Global;
-use std::fmt::Write;
+use row_texts::Told;
 
-fn keys_text(alloc: Global, keys: &[Key]) -> Option<String> {
-    let mut out = String::new(alloc);
-    for key in keys {
-        match key {
-            Key::Edge(link) => write!(out, "e{link} ").ok()?,
-            Key::Seq(first, second) => write!(out, "s{first},{second} ").ok()?,
-            Key::Join(left, right) => write!(out, "j{left},{right} ").ok()?,
-            Key::Star(turn) => write!(out, "t{turn} ").ok()?,
-        }
-    }
-    Some(out)
+/// A letter and two numbers.
+fn show_pair(out: &mut Told, letter: &str, left: usize, right: usize) {
+    out.count(letter, left);
+    out.count(",", right);
 }
 
-fn order_text(alloc: Global, order: &[usize]) -> Option<String> {
-    let mut out = String::new(alloc);
+fn show_key(out: &mut Told, key: &Key) {
+    match key {
+        Key::Edge(link) => out.place("e", *link),
+        Key::Seq(first, second) => show_pair(out, "s", *first, *second),
+        Key::Join(left, right) => show_pair(out, "j", *left, *right),
+        Key::Star(turn) => out.count("t", *turn),
+    }
+    out.word(" ");
+}
+
+fn show_cell(out: &mut Told, cell: &Cell<usize>) {
+    match cell {
+        Cell::Zero => out.word("none"),
+        Cell::One => out.word("stay"),
+        Cell::Item(number) => out.count("", *number),
+    }
+    out.word(" ");
+}
+
+fn show_order(out: &mut Told, order: &[usize]) {
+    out.word("; ");
     for number in order {
-        write!(out, "{number} ").ok()?;
+        out.count("", *number);
+        out.word(" ");
     }
-    Some(out)
 }
 
-fn cells_text(alloc: Global, cells: &[Cell<usize>]) -> Option<String> {
-    let mut out = String::new(alloc);
+fn show_cells(out: &mut Told, cells: &[Cell<usize>]) {
+    out.word("; ");
     for cell in cells {
-        match cell {
-            Cell::Zero => write!(out, "none ").ok()?,
-            Cell::One => write!(out, "stay ").ok()?,
-            Cell::Item(number) => write!(out, "{number} ").ok()?,
-        }
+        show_cell(out, cell);
     }
-    Some(out)
+}
+
+fn show_plan(out: &mut Told, plan: &EliminationPlan) {
+    for key in plan.keys.iter() {
+        show_key(out, key);
+    }
+    show_order(out, plan.order.as_slice());
 }
 
 /// The plan of a graph and its cells.
-fn plan_of(
-    alloc: Global,
-    nodes: u32,
-    links: &[Link],
-    source: u32,
-) -> Option<(EliminationPlan, Vec<Cell<usize>>)> {
+fn show_made(out: &mut Told, nodes: u32, links: &[Link], source: u32) {
     if !is_graph(nodes, links) || source >= nodes || links.len() > 9 {
-        return None;
+        return out.lose();
     }
-    elimination_plan(alloc, nodes, links, source).ok()
-}
-
-fn text_of(alloc: Global, plan: EliminationPlan, found: &[Cell<usize>]) -> Option<String> {
-    let order = order_text(alloc, plan.order.as_slice())?;
-    let keys = plan.keys.into_iter().collect::<Vec<Key>>(alloc).ok()?;
-    let keys = keys_text(alloc, keys.as_slice())?;
-    let cells = cells_text(alloc, found)?;
-    format!(in alloc; "{keys}; {order}; {cells}").ok()
+    match elimination_plan(out.alloc(), nodes, links, source) {
+        Ok((plan, cells)) => {
+            show_plan(out, &plan);
+            show_cells(out, cells.as_slice());
+        }
+        Err(_) => out.lose(),
+    }
 }
 
 /// A number of nodes, a source and links.
-pub(crate) fn plan_text(alloc: Global, given: &str) -> Option<String> {
-    let (counts, links) = given.split_once(": ")?;
-    let (nodes, source) = counts.split_once(' ')?;
-    let nodes = nodes.parse::<u32>().ok()?;
-    let source = source.parse::<u32>().ok()?;
-    let links = links_of(alloc, links)?;
-    let (plan, found) = plan_of(alloc, nodes, links.as_slice(), source)?;
-    text_of(alloc, plan, found.as_slice())
+pub(crate) fn show(out: &mut Told, given: &str) {
+    let (counts, links) = out.halves(given, ": ");
+    let (nodes, source) = out.halves(counts, " ");
+    let nodes = out.small_number_of(nodes);
+    let source = out.small_number_of(source);
+    let links = links_of(out, links);
+    show_made(out, nodes, links.as_slice(), source);
 }
 
 pub(crate) fn laws() {
-    law_of_evaluation();
-    law_of_plans();
+    evaluation_covers_walks();
+    plans_evaluate_graphs();
 }

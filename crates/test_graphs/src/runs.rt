@@ -1,94 +1,106 @@
 //! Traces of programs on values.
-use crate::programs::program_of;
+ghost use Rattle.syntax_tree.specs.WellFormed.{IsWellFormed};
+
 use execution::{
-    Event, chosen_steps, chosen_stops, columns_determine_step, executions_join, failed_check_stops,
-    frames_below_stay, globals_stay, step_is_determined, straight_line, worked_examples,
+    Event, chosen_execution_steps, chosen_execution_stops, columns_determine_step, executions_join,
+    failed_check_stops, frames_below_stay, globals_stay, step_is_determined, straight_lines_run,
+    worked_examples_run,
 };
+use items::Items;
 use replay::{
     Trace, TraceStop, choices_take_values, chosen_is_an_execution, failed_stop_fails, follow,
     traces_are_determined,
 };
-use std::alloc::{AllocError, Global};
-use std::fmt::Write;
-use syntax_tree::Op;
+use row_texts::Told;
+use syntax_tree::{Op, Program};
 
-fn show_event(out: &mut String, event: &Event) -> Result<(), AllocError> {
-    match event {
-        Event::Call { proc, args } => {
-            write!(out, "call {proc}(")?;
-            for (i, value) in args.as_slice().iter().enumerate() {
-                if i > 0 {
-                    write!(out, ", ")?;
-                }
-                write!(out, "{value}")?;
-            }
-            write!(out, ")")?;
-        }
-        Event::Any(value) => write!(out, "any {value}")?,
-        Event::Holds(number) => write!(out, "holds {number}")?,
-        Event::Return { proc, value } => write!(out, "return {proc} {value}")?,
+fn show_call(out: &mut Told, proc: u32, args: &[i128]) {
+    out.place("call ", proc);
+    out.word("(");
+    let mut mark = "";
+    for value in args {
+        out.word(mark);
+        out.number(*value);
+        mark = ", ";
     }
-    Ok(())
+    out.word(")");
+}
+
+/// A word and a number.
+fn show_numbered(out: &mut Told, word: &str, number: i128) {
+    out.word(word);
+    out.number(number);
+}
+
+fn show_return(out: &mut Told, proc: u32, value: i128) {
+    out.place("return ", proc);
+    show_numbered(out, " ", value);
+}
+
+fn show_event(out: &mut Told, event: &Event) {
+    match event {
+        Event::Call { proc, args } => show_call(out, *proc, args.as_slice()),
+        Event::Any(value) => show_numbered(out, "any ", *value),
+        Event::Holds(number) => out.place("holds ", *number),
+        Event::Return { proc, value } => show_return(out, *proc, *value),
+    }
+    out.word("; ");
 }
 
 fn mark(op: Op) -> &'static str {
     match op {
-        Op::Add => "+",
-        Op::Sub => "-",
-        Op::Mul => "*",
-        Op::Div => "/",
-        _ => "another",
+        Op::Add => " + ",
+        Op::Sub => " - ",
+        Op::Mul => " * ",
+        Op::Div => " / ",
+        _ => " another ",
     }
 }
 
-fn show_stop(out: &mut String, stop: TraceStop) -> Result<(), AllocError> {
+fn show_stop(out: &mut Told, stop: TraceStop) {
     match stop {
-        TraceStop::Done(value) => write!(out, "done {value}")?,
-        TraceStop::Failed(number) => write!(out, "failed {number}")?,
-        TraceStop::Guard => write!(out, "guard")?,
-        TraceStop::Zero => write!(out, "zero")?,
-        TraceStop::Dry => write!(out, "dry")?,
+        TraceStop::Done(value) => show_numbered(out, "done ", value),
+        TraceStop::Failed(number) => out.place("failed ", number),
+        TraceStop::Guard => out.word("guard"),
+        TraceStop::Zero => out.word("zero"),
+        TraceStop::Dry => out.word("dry"),
         TraceStop::Wide { left, right, op } => {
-            let mark = mark(op);
-            write!(out, "wide {left} {mark} {right}")?
+            show_numbered(out, "wide ", left);
+            show_numbered(out, mark(op), right);
         }
-        TraceStop::Spent => write!(out, "spent")?,
+        TraceStop::Spent => out.word("spent"),
     }
-    Ok(())
 }
 
-fn show(alloc: Global, trace: &Trace) -> Result<String, AllocError> {
-    let mut out = String::new(alloc);
+/// What the steps show, why there are no more, and how many.
+fn show_trace(out: &mut Told, trace: &Trace) {
     for event in trace.events.as_slice() {
-        show_event(&mut out, event)?;
-        write!(out, "; ")?;
+        show_event(out, event);
     }
-    show_stop(&mut out, trace.stop)?;
-    let steps = trace.steps;
-    write!(out, " after {steps}")?;
-    Ok(out)
+    show_stop(out, trace.stop);
+    out.place(" after ", trace.steps);
 }
 
 /// The values behind the number of turns.
-fn values_of(alloc: Global, numbers: &str) -> Option<Vec<i128>> {
-    let mut values = Vec::new(alloc);
+fn values_of(out: &mut Told, numbers: &str) -> Items<i128> {
+    let mut values = Items::new(out.alloc());
     for word in numbers.split(' ').skip(1) {
-        values.push(word.parse::<i128>().ok()?).ok()?;
+        let value = out.number_of(word);
+        out.lose_unless(values.push(value).is_ok());
     }
-    Some(values)
+    values
 }
 
-/// The trace of a program, for a number of turns and values that have a blank between two: what the
-/// steps show, why there are no more, and how many.
-pub(crate) fn trace_text(alloc: Global, given: &str, numbers: &str) -> Option<String> {
-    let program = program_of(alloc, given)?;
-    if !program.is_well_formed() {
-        return None;
+/// The trace of a program, for a number of turns and values that have a blank between two.
+pub(crate) fn show(out: &mut Told, program: &Program, numbers: &str)
+    requires { IsWellFormed program.now }
+{
+    let turns = out.small_number_of(numbers.split(' ').next().unwrap_or(""));
+    let values = values_of(out, numbers);
+    match follow(out.alloc(), program, values.as_slice(), turns) {
+        Ok(trace) => show_trace(out, &trace),
+        Err(_) => out.lose(),
     }
-    let turns = numbers.split(' ').next()?.parse::<u32>().ok()?;
-    let values = values_of(alloc, numbers)?;
-    let trace = follow(alloc, &program, values.as_slice(), turns).ok()?;
-    show(alloc, &trace).ok()
 }
 
 pub(crate) fn laws_of_executions() {
@@ -98,10 +110,10 @@ pub(crate) fn laws_of_executions() {
     failed_check_stops();
     frames_below_stay();
     globals_stay();
-    straight_line();
-    chosen_steps();
-    chosen_stops();
-    worked_examples();
+    straight_lines_run();
+    chosen_execution_steps();
+    chosen_execution_stops();
+    worked_examples_run();
 }
 
 pub(crate) fn laws_of_traces() {

@@ -1,48 +1,48 @@
 //! Trees of procedures: what each step is made of, and how many answers it keeps.
-ghost use Rattle.std.specs.Prelude.{◌≡◌, ◌<◌, Some, length, slice_get, IsTrue};
+ghost use Rattle.std.specs.Prelude.{◌≡◌, ◌<◌, length, IsTrue};
 ghost use Rattle.syntax_tree.specs.WellFormed.{IsWellFormed};
 ghost use Rattle.syntax_tree.specs.declared.program.Proc.{Proc as Procedure};
+ghost use Rattle.vocabularies.specs.Procs.{IsProcOf};
 ghost use Rattle.proc_summary.specs.Subject.{own_graph};
 
 use crate::leaves::are_known;
-use crate::programs::program_of;
-use checked_tree::{Checked, Node, TreeStep, law_of_trees};
+use checked_tree::{Checked, Node, TreeStep, trees_cover_runs};
 use finder::Finder;
 use flow_graph::graph;
 use items::Items;
 use path_expr::Cell;
 use posing::Log;
 use proc_summary::trees;
-use std::alloc::{AllocError, Global};
-use std::fmt::Write;
+use row_texts::Told;
+use std::alloc::Global;
 use syntax_tree::Program;
+use transition_formula::Formula;
 
 /// The operation of a step with its operands, and behind a colon how many answers it keeps.
-fn show_step(out: &mut String, step: &TreeStep) -> Result<(), AllocError> {
+fn show_step(out: &mut Told, step: &TreeStep) {
     match &step.node {
-        Node::Leaf(link, _) => write!(out, "e{link}")?,
+        Node::Leaf(link, _) => out.place("e", *link),
         Node::Seq(first, second) => {
-            write!(out, "s(")?;
-            show_step(out, first)?;
-            write!(out, " ")?;
-            show_step(out, second)?;
-            write!(out, ")")?;
+            out.word("s(");
+            show_step(out, first);
+            out.word(" ");
+            show_step(out, second);
+            out.word(")");
         }
         Node::Join(left, right) => {
-            write!(out, "j(")?;
-            show_step(out, left)?;
-            write!(out, " ")?;
-            show_step(out, right)?;
-            write!(out, ")")?;
+            out.word("j(");
+            show_step(out, left);
+            out.word(" ");
+            show_step(out, right);
+            out.word(")");
         }
         Node::Star(turn) => {
-            write!(out, "t(")?;
-            show_step(out, turn)?;
-            write!(out, ")")?;
+            out.word("t(");
+            show_step(out, turn);
+            out.word(")");
         }
     }
-    let answers = step.log.answers.len();
-    write!(out, ":{answers}")
+    out.count(":", step.log.answers.len());
 }
 
 /// Whether paths lead to a node: none, the empty one alone, or those of a tree.
@@ -54,31 +54,27 @@ fn mark(cell: &Cell<Checked>) -> &'static str {
     }
 }
 
-fn show_last(out: &mut String, cells: &[Cell<Checked>]) -> Result<(), AllocError> {
+fn show_last(out: &mut Told, cells: &[Cell<Checked>]) {
     if let [.., Cell::Item(tree)] = cells {
-        show_step(out, tree.root())?;
+        show_step(out, tree.root());
     }
-    Ok(())
 }
 
 /// What stands at each node, the tree of the last, and how many answers the log has.
-fn cells_text(alloc: Global, cells: &[Cell<Checked>], log: &Log) -> Result<String, AllocError> {
-    let mut out = String::new(alloc);
+fn show_cells(out: &mut Told, cells: &[Cell<Checked>], log: &Log) {
     for cell in cells {
-        out.push_str(mark(cell))?;
+        out.word(mark(cell));
     }
-    write!(out, "; ")?;
-    show_last(&mut out, cells)?;
-    let answers = log.answers.len();
-    write!(out, " ; {answers}")?;
-    Ok(out)
+    out.word("; ");
+    show_last(out, cells);
+    out.count(" ; ", log.answers.len());
 }
 
 /// Whether a node is one of a procedure's graph.
 fn has_node(alloc: Global, program: &Program, proc: u32, node: u32) -> bool
     requires formed { IsWellFormed program.now }
     requires procedure { proc < length program.now.procs }
-    ensures { (p : Procedure) → slice_get program.now.procs proc ≡ Some p → IsTrue result
+    ensures { (p : Procedure) → IsProcOf program.now proc p → IsTrue result
         → node < (own_graph p).nodes }
 {
     match graph(alloc, program, proc) {
@@ -87,42 +83,52 @@ fn has_node(alloc: Global, program: &Program, proc: u32, node: u32) -> bool
     }
 }
 
-/// The trees of a procedure without callees.
-fn trees_of(alloc: Global, program: &Program, proc: u32, source: u32) -> Option<String>
-    requires { IsWellFormed program.now }
-{
-    let mut known = Items::new(alloc);
+/// No formula for any procedure.
+fn none_of(out: &mut Told, program: &Program) -> Items<Option<Formula>> {
+    let mut known = Items::new(out.alloc());
     for _proc in program.procs.as_slice() {
-        known.push(None).ok()?;
+        out.lose_unless(known.push(None).is_ok());
     }
-    let known = known.as_slice();
-    if proc as usize >= program.procs.len()
-        || !are_known(program, known)
-        || !has_node(alloc, program, proc, source)
-    {
-        return None;
-    }
-    let mut log = Log::new(alloc);
-    let mut finder = Finder::new(alloc);
-    let Ok(cells) = trees(alloc, program, proc, known, source, &mut finder, &mut log) else {
-        return None;
-    };
-    cells_text(alloc, cells.as_slice(), &log).ok()
+    known
 }
 
-/// The trees of a procedure of a text from a node: the procedure's number, the node's, and the
-/// text.
-pub(crate) fn trees_text(alloc: Global, given: &str, with: &str) -> Option<String> {
-    let (proc, source) = with.split_once(' ')?;
-    let proc = proc.parse::<u32>().ok()?;
-    let source = source.parse::<u32>().ok()?;
-    let program = program_of(alloc, given)?;
-    if !program.is_well_formed() {
-        return None;
+/// The trees of a procedure from a node.
+fn show_trees(out: &mut Told, program: &Program, proc: u32, known: &[Option<Formula>], source: u32)
+    requires { IsWellFormed program.now }
+{
+    if proc as usize >= program.procs.len()
+        || !are_known(program, known)
+        || !has_node(out.alloc(), program, proc, source)
+    {
+        return out.lose();
     }
-    trees_of(alloc, &program, proc, source)
+    let mut log = Log::new(out.alloc());
+    let mut finder = Finder::new(out.alloc());
+    match trees(
+        out.alloc(),
+        program,
+        proc,
+        known,
+        source,
+        &mut finder,
+        &mut log,
+    ) {
+        Ok(cells) => show_cells(out, cells.as_slice(), &log),
+        Err(_) => out.lose(),
+    }
+}
+
+/// The trees of a procedure without callees from a node: the procedure's number and the node's.
+pub(crate) fn show(out: &mut Told, program: &Program, with: &str)
+    requires { IsWellFormed program.now }
+{
+    let (proc, source) = out.halves(with, " ");
+    let proc = out.small_number_of(proc);
+    let source = out.small_number_of(source);
+    let known = none_of(out, program);
+    show_trees(out, program, proc, known.as_slice(), source);
 }
 
 pub(crate) fn laws() {
-    law_of_trees();
+    trees_cover_runs();
 }

@@ -1,7 +1,7 @@
 use Rattle.std.proofs.Common.{arith, subst, sym, ◌∙◌}
 use Rattle.transition_formula.specs.Transition.{IsTransition}
 use Rattle.polyhedra.specs.Laws.{IsBetween}
-use Rattle.test_formulas.proofs.calls.fit_text.Goals as goal
+use Rattle.test_formulas.proofs.calls.show_fit.Goals as goal
 
 pub fit-requires : goal.fit-requires
 fit-requires c =

@@ -1,6 +1,6 @@
 use Rattle.std.proofs.Common.{arith, subst, sym, ◌∙◌}
 use Rattle.transition_formula.specs.Transition.{IsTransition}
-use Rattle.test_formulas.proofs.calls.star_text.Goals as goal
+use Rattle.test_formulas.proofs.calls.show_star.Goals as goal
 
 pub star-requires : goal.star-requires
 star-requires c =

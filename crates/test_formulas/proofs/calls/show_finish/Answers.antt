@@ -1,7 +1,7 @@
 use Rattle.std.proofs.Common.{arith, subst, sym}
 use Rattle.transition_formula.specs.Transition.{IsFitted, IsSolvable}
-use Rattle.transition_formula.proofs.Fitted.{fitted-solvable}
-use Rattle.test_formulas.proofs.calls.finish_text.Goals as goal
+use Rattle.transition_formula.proofs.FittedFormulas.{fitted-solvable}
+use Rattle.test_formulas.proofs.calls.show_finish.Goals as goal
 
 pub finish-requires : goal.finish-requires
 finish-requires c =

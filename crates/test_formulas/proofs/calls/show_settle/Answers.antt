@@ -1,7 +1,7 @@
 use Rattle.std.proofs.Common.{arith, subst, sym}
 use Rattle.transition_formula.specs.Transition.{IsTransition}
-use Rattle.transition_formula.proofs.Fitted.{fitted-solvable}
-use Rattle.test_formulas.proofs.calls.settle_text.Goals as goal
+use Rattle.transition_formula.proofs.FittedFormulas.{fitted-solvable}
+use Rattle.test_formulas.proofs.calls.show_settle.Goals as goal
 
 pub settle-requires : goal.settle-requires
 settle-requires c =

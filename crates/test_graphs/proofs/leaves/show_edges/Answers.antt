@@ -1,5 +1,5 @@
 use Rattle.leaf_cases.proofs.Graphs.{act_of_edge}
-use Rattle.test_graphs.proofs.leaves.edges.Goals as goal
+use Rattle.test_graphs.proofs.leaves.show_edges.Goals as goal
 
 pub show_edge-requires-clause-edge : goal.show_edge-requires-clause-edge
 show_edge-requires-clause-edge c =
